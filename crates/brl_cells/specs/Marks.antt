@@ -1,0 +1,25 @@
+-- The characters that are written for a cell: a mark of North American Braille ASCII, or a character of the Unicode block
+-- Braille Patterns. That these two are written is the project's own choice.
+use Rattle.std.specs.Prelude.{ℕ, ◌+◌, List, [], ◌∷◌, map, Option, Some}
+use Rattle.std.specs.List.{slice_get}
+use Rattle.brl_cells.specs.declared.marks.TheConstants.{ASCII_MARKS}
+
+-- the mark of a cell, of which the cells with dot 7 or 8 have none
+unfoldable pub ascii_mark : ℕ → Option ℕ
+ascii_mark cell = slice_get ASCII_MARKS cell
+
+-- the cells of the first ten letters: dots 1, 12, 14, 145, 15, 124, 1245, 125, 24, 245
+abbrev pub first_decade : List ℕ
+first_decade = 1 ∷ 3 ∷ 9 ∷ 25 ∷ 17 ∷ 11 ∷ 27 ∷ 19 ∷ 10 ∷ 26 ∷ []
+
+-- the marks of these cells
+abbrev pub ascii_marks : List ℕ → List (Option ℕ)
+ascii_marks cells = map ascii_mark cells
+
+-- these marks
+abbrev pub marked : List ℕ → List (Option ℕ)
+marked marks = map (λ m. Some m) marks
+
+-- the code point of a cell
+abbrev pub unicode_mark : ℕ → ℕ
+unicode_mark cell = 0x2800 + cell

@@ -1,0 +1,103 @@
+//! Dots operands: cells as the numbers of their dots, joined by hyphens.
+ghost use Rattle.std.specs.Prelude.{◌≡◌, ℕ, ◌<◌, ◌≤◌, ◌++◌, IsTrue, length, Ok, IfOk, IfErr, OnOk, string_bytes};
+ghost use Rattle.brl_cells.specs.Dots.{AreCells, cell_reading, cell_spelling, dot_marks, has_dot, reading, spelling, stands_in, IsFaultOf};
+
+use crate::{Cell, Cells, DotsFault};
+use std::alloc::{AllocError, Global};
+
+/// Whether a mark is one of the digits 1 to 8.
+fn is_dot(mark: u8) -> bool
+    ensures { result ≡ stands_in dot_marks mark }
+{
+    matches!(mark, b'1'..=b'8')
+}
+
+/// Whether a cell has the dot of this mark.
+fn has_dot(cell: Cell, mark: u8) -> bool
+    requires { IsTrue (stands_in dot_marks mark) }
+    ensures { result ≡ has_dot cell mark }
+{
+    (cell.0 >> (mark - b'1')) % 2 == 1
+}
+
+/// The cell that marks spell.
+fn read_cell(marks: &[u8]) -> Result<Cell, DotsFault>
+    ensures { result ≡ cell_reading marks.now }
+{
+    if marks.is_empty() {
+        return Err(DotsFault::EmptyCell);
+    }
+    if marks == b"0".as_slice() {
+        return Ok(Cell(0));
+    }
+    let mut cell = Cell(0);
+    for mark in marks {
+        if !is_dot(*mark) {
+            return Err(DotsFault::BadDot);
+        }
+        if has_dot(cell, *mark) {
+            return Err(DotsFault::RepeatedDot);
+        }
+        cell.0 |= 1 << (*mark - b'1');
+    }
+    Ok(cell)
+}
+
+/// The cells that a dots operand spells: cells are joined by `-`, and each is one or more of the digits 1 to 8 in any
+/// order, none twice, or `0` alone, the blank cell. At most `most` cells, from 1 to 1,024, are taken.
+///
+/// The first fault decides, cell by cell and mark by mark: `EmptyCell`, `BadDot`, `RepeatedDot`. Where there is none,
+/// more than `most` cells are `TooManyCells`. `Memory` where more than eight cells find no memory.
+pub fn read_dots(alloc: Global, text: &str, most: usize) -> Result<Cells, DotsFault>
+    requires least { 1 ≤ most }
+    requires limit { most ≤ 1024 }
+    ensures cells { IfOk result (λ cells. reading most text.now ≡ Ok cells) }
+    ensures some { IfOk result (λ cells. 1 ≤ length cells) }
+    ensures limited { IfOk result (λ cells. length cells ≤ most) }
+    ensures in_range { IfOk result AreCells }
+    ensures fault { IfErr result (IsFaultOf (reading most text.now)) }
+{
+    let mut cells = Cells::new(alloc);
+    for marks in text.split('-') {
+        cells.push(read_cell(marks.as_bytes())?)?;
+    }
+    if cells.len() > most {
+        return Err(DotsFault::TooManyCells);
+    }
+    Ok(cells)
+}
+
+/// Writes the marks of a cell behind a text.
+fn push_cell(text: &mut String, cell: Cell) -> Result<(), AllocError>
+    ensures written { OnOk result (string_bytes text.new ≡ string_bytes text.old ++ cell_spelling cell) }
+    ensures in_range { cell < 256 }
+{
+    if cell == Cell(0) {
+        return text.push('0');
+    }
+    for mark in *b"12345678" {
+        if has_dot(cell, mark) {
+            text.push(char::from(mark))?;
+        }
+    }
+    Ok(())
+}
+
+/// The text that spells cells: the dots of each in ascending order, `0` for the blank cell, joined by `-`. No cells
+/// give the empty text. `AllocError` where the text finds no memory.
+pub fn write_dots(alloc: Global, cells: &[Cell]) -> Result<String, AllocError>
+    ensures spelled { IfOk result (λ text. string_bytes text ≡ spelling cells.now) }
+    // One cell or more are read back from the text, by each limit that they keep to.
+    ensures read_back { (most : ℕ) → 1 ≤ length cells.now → length cells.now ≤ most
+        → IfOk result (λ text. reading most (string_bytes text) ≡ Ok cells.now) }
+    ensures in_range { OnOk result (AreCells cells.now) }
+{
+    let mut text = String::new(alloc);
+    for (place, cell) in cells.iter().enumerate() {
+        if place > 0 {
+            text.push('-')?;
+        }
+        push_cell(&mut text, *cell)?;
+    }
+    Ok(text)
+}
