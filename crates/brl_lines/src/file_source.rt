@@ -1,0 +1,94 @@
+//! A source over a file system.
+ghost use Rattle.std.specs.Prelude.{◌≡◌, ◌≢◌, ◌<◌, ◌≤◌, length, IfOk, IfErr, IfSome};
+ghost use Rattle.brl_lines.specs.Answer.{most_file_bytes};
+
+use crate::{MOST_FILE_BYTES, Source, SourceFault};
+use std::alloc::Global;
+use std::fs::File;
+use std::io::{ErrorKind, Read};
+use std::rt::Files;
+
+/// The files of a system. Nothing is known of what they hold.
+#[derive(Drop)]
+pub struct FileSource<R> {
+    pub system: R,
+    pub faults: u64,
+}
+
+impl<R: Files> FileSource<R> {
+    /// A source over the files of `system`, which has not failed yet.
+    pub fn new(system: R) -> Self
+        ensures none_yet { result.faults ≡ 0 }
+        ensures system { result.system ≡ system }
+    {
+        FileSource { system, faults: 0 }
+    }
+}
+
+/// How many bytes are asked for at once.
+const CHUNK: usize = 65_536;
+
+/// Room for one chunk.
+fn room_for_a_chunk(alloc: Global) -> Result<Vec<u8>, SourceFault>
+    ensures ok { IfOk result (λ v. length v.items ≡ 65536) }
+    ensures err { IfErr result (λ e. e ≡ SourceFault.Memory) }
+{
+    vec![in alloc; 0u8; CHUNK].map_err(|_| SourceFault::Memory)
+}
+
+/// All bytes of a reader, if they are at most `MOST_FILE_BYTES`, read a chunk at a time. At most one byte
+/// more is read to tell. An interrupted read is a failed one.
+pub(crate) fn read_whole<R: Read>(
+    alloc: Global,
+    reader: &mut R,
+    chunk: &mut [u8],
+) -> Result<Vec<u8>, SourceFault>
+    requires { 0 < length chunk.old }
+    ensures whole { IfOk result (λ v. IfSome (R.remaining reader.old) (λ bytes. v.items ≡ bytes)) }
+    ensures most { IfOk result (λ v. length v.items ≤ most_file_bytes) }
+    ensures large { IfErr result (λ e. e ≡ SourceFault.TooLarge → IfSome (R.remaining reader.old) (λ bytes. most_file_bytes < length bytes)) }
+    ensures found { IfErr result (λ e. e ≢ SourceFault.NotFound) }
+{
+    let mut bytes = Vec::new(alloc);
+    while bytes.len() <= MOST_FILE_BYTES {
+        let want = (MOST_FILE_BYTES + 1 - bytes.len()).min(chunk.len());
+        let Ok(count) = reader.read(&mut chunk[..want]) else {
+            return Err(SourceFault::Failed);
+        };
+        if count == 0 {
+            return Ok(bytes);
+        }
+        if bytes.extend_from_slice(&chunk[..count]).is_err() {
+            return Err(SourceFault::Memory);
+        }
+    }
+    Err(SourceFault::TooLarge)
+}
+
+/// All bytes of a file that was opened.
+fn read_file<R: Read>(alloc: Global, file: &mut R) -> Result<Vec<u8>, SourceFault> {
+    let mut room = room_for_a_chunk(alloc)?;
+    read_whole(alloc, file, room.as_mut_slice())
+}
+
+impl<R: Files> Source for FileSource<R> {
+    ghost gives = { λ _ _ _. Unit {0} };
+
+    ghost faults = { λ s. s.faults };
+
+    fn read(&mut self, alloc: Global, path: &str) -> Result<Vec<u8>, SourceFault> {
+        let outcome = match File::open(&self.system, path) {
+            Ok(mut file) => read_file(alloc, &mut file),
+            Err(error) if error.kind() == ErrorKind::NotFound => Err(SourceFault::NotFound),
+            Err(_) => Err(SourceFault::Failed),
+        };
+        if let Err(SourceFault::Failed) = &outcome {
+            self.faults = self.faults.saturating_add(1);
+        }
+        outcome
+    }
+
+    fn failures(&self) -> u64 {
+        self.faults
+    }
+}

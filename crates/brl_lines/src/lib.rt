@@ -1,0 +1,26 @@
+//! The files of a table, cut into lines and tokens.
+//!
+//! A `Source` gives the bytes of a file by its path: `MapSource` from memory, `FileSource` from a file system.
+//! `load` reads and checks a table's file, and `Loaded::lines` gives the lines that do something, each
+//! as tokens that are slices of the file's text. `chars_of` reads the characters that a token spells.
+#![tactic(auto)]
+
+mod cut;
+mod fault;
+mod file_source;
+mod line;
+mod loaded;
+mod map_source;
+mod operand;
+mod source;
+
+pub use fault::{LoadFault, Place, Refused};
+pub use file_source::FileSource;
+pub use line::{Line, Token};
+pub use loaded::{Loaded, load};
+pub use map_source::MapSource;
+pub use operand::{CharsFault, chars_of};
+pub use source::{MOST_FILE_BYTES, Source, SourceFault};
+
+#[cfg(test)]
+mod tests;

@@ -1,0 +1,49 @@
+//! A source over files in memory.
+use crate::{MOST_FILE_BYTES, Source, SourceFault};
+use std::alloc::Global;
+use std::collections::BTreeMap;
+
+/// Files in memory, by path.
+#[derive(Drop)]
+pub struct MapSource {
+    pub files: BTreeMap<String, Vec<u8>>,
+}
+
+impl MapSource {
+    ghost use Rattle.std.specs.Prelude.{◌≡◌};
+
+    /// A source that has these files and no others. It never fails.
+    pub fn new(files: BTreeMap<String, Vec<u8>>) -> Self
+        ensures { result.files ≡ files }
+    {
+        MapSource { files }
+    }
+}
+
+impl Source for MapSource {
+    ghost use Rattle.std.specs.Prelude.{◌≡◌};
+    ghost use Rattle.std.specs.Option.{option_map};
+    ghost use Rattle.std.specs.BTreeMap.{get_by_text};
+    ghost use Rattle.brl_lines.specs.Answer.{answer_of};
+
+    ghost gives = { λ s p a. a ≡ answer_of (option_map (λ v. v.items) (get_by_text s.files p)) };
+
+    ghost faults = { λ _. 0 };
+
+    fn read(&mut self, alloc: Global, path: &str) -> Result<Vec<u8>, SourceFault> {
+        let Some(bytes) = self.files.get(path) else {
+            return Err(SourceFault::NotFound);
+        };
+        if bytes.len() > MOST_FILE_BYTES {
+            return Err(SourceFault::TooLarge);
+        }
+        match Vec::from_slice(alloc, bytes) {
+            Ok(copy) => Ok(copy),
+            Err(_) => Err(SourceFault::Memory),
+        }
+    }
+
+    fn failures(&self) -> u64 {
+        0
+    }
+}

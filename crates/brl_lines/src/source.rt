@@ -1,0 +1,47 @@
+//! Where the files of a table come from.
+
+use std::alloc::Global;
+use thiserror::Error;
+
+/// The most bytes that a file may have.
+pub const MOST_FILE_BYTES: usize = 16_777_216;
+
+/// Why a source gave no bytes.
+#[derive(Clone, Copy, Debug, PartialEq, Eq, Error)]
+pub enum SourceFault {
+    /// There is no file at the path.
+    #[error("not found")]
+    NotFound,
+    /// The file is there and could not be read.
+    #[error("failed")]
+    Failed,
+    /// The file has more than `MOST_FILE_BYTES`.
+    #[error("too large")]
+    TooLarge,
+    /// A growth was refused.
+    #[error("out of memory")]
+    Memory,
+}
+
+/// Gives the bytes of files by their paths.
+pub trait Source {
+    ghost use Rattle.std.specs.Prelude.{◌≡◌, ℕ, ◌↔◌, List};
+    ghost use Rattle.brl_lines.specs.Answer.{Answer, IsAnswer, failures_after, read_failed};
+
+    // what it may answer for a path, which reading doesn't change
+    ghost gives: { Self → List ℕ → Answer → Type 0 };
+
+    // how often it has failed
+    ghost faults: { Self → ℕ };
+
+    /// All bytes of the file at `path`. `NotFound` where there is none, `TooLarge` where it has more than
+    /// `MOST_FILE_BYTES`, `Failed` where it could not be read, and `Memory`.
+    fn read(&mut self, alloc: Global, path: &str) -> Result<Vec<u8>, SourceFault>
+        ensures answer { IsAnswer (gives self.old path.now) result }
+        ensures same { (p : List ℕ) (a : Answer) → gives self.new p a ↔ gives self.old p a }
+        ensures count { faults self.new ≡ failures_after (faults self.old) (read_failed result) };
+
+    /// How often `read` answered `Failed`. At `u64::MAX` it stays.
+    fn failures(&self) -> u64
+        ensures { result ≡ faults self.now };
+}
