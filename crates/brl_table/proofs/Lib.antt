@@ -1,0 +1,11 @@
+pub mod Ranking
+pub mod Entries
+pub mod Taken
+pub mod Bridge
+pub mod Positions
+pub mod Chosen
+pub mod Ranked
+pub mod SaidSteps
+pub mod SaidParts
+pub mod FileNames
+pub mod ReadSteps

@@ -1,0 +1,113 @@
+-- A rule fits in front of a text's rest exactly where it fits at that position of the text.
+use Rattle.std.proofs.Common.{ℕ, zero, suc, ◌+◌, ◌<◌, ◌≤◌, ◌≡◌, ◌↔◌, Bool, true, ◌&&◌, IsTrue, List, [], ◌∷◌, length, drop, nat_eq, refl, arith, sym, ◌∙◌, ap, length-drop}
+use Rattle.std.specs.Prelude.{slice_index, slice_get}
+use Rattle.std.specs.List.{starts_with}
+use Rattle.std.specs.Option.{option_map_or}
+use Rattle.std.specs.Cmp.{first_so, second_so}
+use Rattle.std.proofs.lemmas.Bool.Decides.{nat_tests}
+use Rattle.std.proofs.lemmas.List.{get_or-drop}
+use Rattle.brl_table.specs.declared.rule.Rule.{Rule}
+use Rattle.brl_table.specs.TableView.{TableView}
+use Rattle.brl_table.specs.Places.{space, holds, before_of, after_of}
+use Rattle.brl_table.specs.Text.{fold_of, classes_of, classes_at, classes_before}
+use Rattle.brl_table.specs.Choice.{matches, fits}
+use Rattle.brl_table.specs.Position.{FitsAt}
+use Rattle.brl_table.proofs.Taken.{matches-Takes}
+
+same : (m n : ℕ) → nat_eq m n ≡ true → m ≡ n
+same m n h = grind (arith, nat_tests)
+
+tested : (m n : ℕ) → m ≡ n → nat_eq m n ≡ true
+tested m n h = grind (arith, nat_tests)
+
+both_so : (a b : Bool) → a ≡ true → b ≡ true → (a && b) ≡ true
+both_so a b ea eb = rw (ea, eb) refl
+
+-- the items of a prefix are those of the list
+starts_with-items : (ys xs : List ℕ) → starts_with nat_eq ys xs ≡ true → (k : ℕ) → k < length xs → slice_index ys k ≡ slice_index xs k
+starts_with-items ys [] h k within = absurd (omega (arith, within))
+starts_with-items [] (x ∷ xs) h k within = cc
+starts_with-items (y ∷ ys) (x ∷ xs) h zero within = sym (same x y (first_so (nat_eq x y) (starts_with nat_eq ys xs) h))
+starts_with-items (y ∷ ys) (x ∷ xs) h (suc k) within =
+    starts_with-items ys xs (second_so (nat_eq x y) (starts_with nat_eq ys xs) h) k (omega (arith, within))
+
+-- and a list with the items of a shorter one begins with it
+items-starts_with : (ys xs : List ℕ) → length xs ≤ length ys → ((k : ℕ) → k < length xs → slice_index ys k ≡ slice_index xs k) → starts_with nat_eq ys xs ≡ true
+items-starts_with ys [] room h = refl
+items-starts_with [] (x ∷ xs) room h = absurd (omega (arith, room))
+items-starts_with (y ∷ ys) (x ∷ xs) room h =
+    both_so (nat_eq x y) (starts_with nat_eq ys xs) (tested x y (sym (h 0 (omega arith))))
+    (items-starts_with ys xs (omega (arith, room)) (λ k within. h (suc k) (omega (arith, within))))
+
+-- the characters of a rule stand in front of this rest, item by item
+record MatchesItems (t : TableView) (rest chars : List ℕ) : Type 0 where
+  some : 1 ≤ length chars
+  room : length chars ≤ length rest
+  first : fold_of t (slice_index rest 0) ≡ slice_index chars 0
+  others : (k : ℕ) → 1 ≤ k → k < length chars → slice_index rest k ≡ slice_index chars k
+
+items_from_matches : (t : TableView) (rest chars : List ℕ) → matches t rest chars ≡ true → MatchesItems t rest chars
+items_from_matches t [] chars h = cc
+items_from_matches t (c ∷ rest) [] h = cc
+items_from_matches t (c ∷ rest) (x ∷ xs) h =
+    let takes = matches-Takes t (c ∷ rest) (x ∷ xs) h in
+    let tail = starts_with-items rest xs (second_so (nat_eq (fold_of t c) x) (starts_with nat_eq rest xs) h) in
+    record {
+      some = takes.some;
+      room = takes.room;
+      first = same (fold_of t c) x (first_so (nat_eq (fold_of t c) x) (starts_with nat_eq rest xs) h);
+      others = later tail;
+    }
+  where
+    later : ((k : ℕ) → k < length xs → slice_index rest k ≡ slice_index xs k) → (k : ℕ) → 1 ≤ k → k < length (x ∷ xs) → slice_index (c ∷ rest) k ≡ slice_index (x ∷ xs) k
+    later tail zero some within = absurd (omega (arith, some))
+    later tail (suc k) some within = tail k (omega (arith, within))
+
+matches_from_items : (t : TableView) (rest chars : List ℕ) → MatchesItems t rest chars → matches t rest chars ≡ true
+matches_from_items t [] chars h = absurd (omega (arith, h.some, h.room))
+matches_from_items t (c ∷ rest) [] h = absurd (omega (arith, h.some))
+matches_from_items t (c ∷ rest) (x ∷ xs) h =
+    both_so (nat_eq (fold_of t c) x) (starts_with nat_eq rest xs) (tested (fold_of t c) x h.first)
+    (items-starts_with rest xs (omega (arith, h.room)) (λ k within. h.others (suc k) (omega arith) (omega (arith, within))))
+
+-- an item behind the first i ones
+slice_get-drop : (i : ℕ) (text : List ℕ) (k : ℕ) → slice_get (drop i text) k ≡ slice_get text (i + k)
+slice_get-drop zero text k = let e : k ≡ 0 + k = omega arith in ap (slice_get text) e
+slice_get-drop (suc i) [] k = refl
+slice_get-drop (suc i) (y ∷ ys) k = let e : suc (i + k) ≡ suc i + k = omega arith in slice_get-drop i ys k ∙ ap (slice_get (y ∷ ys)) e
+
+classes_at-drop : (t : TableView) (i : ℕ) (text : List ℕ) (k : ℕ) → classes_at t (drop i text) k ≡ classes_at t text (i + k)
+classes_at-drop t i text k = ap (λ o. option_map_or (classes_of t) o space) (slice_get-drop i text k)
+
+fits_at : (t : TableView) (text : List ℕ) (i : ℕ) (r : Rule) → fits t (classes_before t text i) (drop i text) r ≡ true → FitsAt t text i r
+fits_at t text i r h =
+    let m = matches t (drop i text) r.chars in
+    let b = holds (before_of r.place) (classes_before t text i) in
+    let a = holds (after_of r.place (classes_before t text i)) (classes_at t (drop i text) (length r.chars)) in
+    let items = items_from_matches t (drop i text) r.chars (first_so m b (first_so (m && b) a h)) in
+    record {
+      some = items.some;
+      room = omega (arith, items.room, items.some, length-drop i text);
+      first = ap (fold_of t) (let e : i ≡ i + 0 = omega arith in ap (λ k. slice_index text k) e ∙ sym (get_or-drop i text 0 0)) ∙ items.first;
+      others = λ k some within. sym (get_or-drop i text k 0) ∙ items.others k some within;
+      before = second_so m b (first_so (m && b) a h);
+      after = ap (holds (after_of r.place (classes_before t text i))) (sym (classes_at-drop t i text (length r.chars))) ∙ second_so (m && b) a h;
+    }
+
+at_fits : (t : TableView) (text : List ℕ) (i : ℕ) (r : Rule) → FitsAt t text i r → fits t (classes_before t text i) (drop i text) r ≡ true
+at_fits t text i r h =
+    let m = matches t (drop i text) r.chars in
+    let b = holds (before_of r.place) (classes_before t text i) in
+    let a = holds (after_of r.place (classes_before t text i)) (classes_at t (drop i text) (length r.chars)) in
+    let e : i ≡ i + 0 = omega arith in
+    let stand : m ≡ true = matches_from_items t (drop i text) r.chars (record {
+      some = h.some;
+      room = omega (arith, h.room, h.some, length-drop i text);
+      first = ap (fold_of t) (get_or-drop i text 0 0 ∙ sym (ap (λ k. slice_index text k) e)) ∙ h.first;
+      others = λ k some within. get_or-drop i text k 0 ∙ h.others k some within;
+    }) in
+    both_so (m && b) a (both_so m b stand h.before)
+    (ap (holds (after_of r.place (classes_before t text i))) (classes_at-drop t i text (length r.chars)) ∙ h.after)
+
+pub fits-FitsAt : (t : TableView) (text : List ℕ) (i : ℕ) (r : Rule) → IsTrue (fits t (classes_before t text i) (drop i text) r) ↔ FitsAt t text i r
+fits-FitsAt t text i r = (fits_at t text i r, at_fits t text i r)

@@ -1,0 +1,13 @@
+use Rattle.brl_table.proofs.Chosen.{chosen-rule, chosen-own}
+use Rattle.brl_table.proofs.Positions.{fits-FitsAt}
+use Rattle.brl_table.proofs.Taken.{chosen-takes}
+use Rattle.brl_table.proofs.laws.choice_laws.Goals as goal
+
+pub returns : goal.returns
+returns c = record {
+  fitting = fits-FitsAt;
+  first = chosen-rule;
+  none = chosen-own;
+  some = λ t before rest h. (chosen-takes t before rest h).some;
+  room = λ t before rest h. (chosen-takes t before rest h).room;
+}

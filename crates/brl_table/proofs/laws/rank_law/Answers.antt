@@ -1,0 +1,5 @@
+use Rattle.brl_table.proofs.Ranked.{ranking-unique}
+use Rattle.brl_table.proofs.laws.rank_law.Goals as goal
+
+pub returns : goal.returns
+returns c = ranking-unique

@@ -1,0 +1,12 @@
+use Rattle.std.proofs.Common.{refl}
+use Rattle.brl_table.specs.Translation.{translation}
+use Rattle.brl_table.proofs.tests.worked_theorems.Goals as goal
+
+pub returns : goal.returns
+unfolding translation
+returns c = record {
+  contraction = refl;
+  words = refl;
+  numbers = refl;
+  clash = record { left_text = refl; right_text = refl; differ = λ e. cc; left_cells = refl; right_cells = refl };
+}

@@ -1,0 +1,22 @@
+-- The opcodes of the profile: one table of their words, what their lines do, and the classes that they give. The manual has
+-- them in section "Character-Definition Opcodes".
+use Rattle.std.specs.Prelude.{ℕ, List, [], ◌∷◌, codes, Option, Some, None, if◌then◌else◌}
+use Rattle.std.specs.Str.{bytes_eq}
+use Rattle.brl_table.specs.declared.opcode.Opcode.{Opcode}
+use Rattle.brl_table.specs.declared.opcode.Opcode.TheVariants.{Plain}
+use Rattle.brl_table.specs.Places.{space, punctuation, letter}
+
+abbrev pub opcodes : List (List ℕ × Opcode)
+opcodes =
+    (codes "space", Plain space)
+    ∷ (codes "punctuation", Plain punctuation)
+    ∷ (codes "letter", Plain letter)
+    ∷ []
+
+-- the entry of a word
+abbrev pub entry_of : List (List ℕ × Opcode) → List ℕ → Option Opcode
+entry_of [] word = None
+entry_of (entry ∷ others) word = if bytes_eq word entry.0 then Some entry.1 else entry_of others word
+
+abbrev pub opcode_of : List ℕ → Option Opcode
+opcode_of word = entry_of opcodes word

@@ -1,0 +1,24 @@
+-- When a rule fits, said by position over a whole text; and which rule is chosen, said by place in rank.
+use Rattle.std.specs.Prelude.{ℕ, ◌+◌, ◌<◌, ◌≤◌, ◌≡◌, false, IsTrue, List, length, slice_get, slice_index, Some}
+use Rattle.brl_table.specs.declared.class.Class.{Class}
+use Rattle.brl_table.specs.declared.rule.Rule.{Rule}
+use Rattle.brl_table.specs.TableView.{TableView}
+use Rattle.brl_table.specs.Places.{holds, before_of, after_of}
+use Rattle.brl_table.specs.Text.{fold_of, classes_at, classes_before}
+use Rattle.brl_table.specs.Choice.{fits}
+
+-- Rule r fits at position i: it has characters and room; its first character equals the fold of the text's, its others equal
+-- the text's exactly; and the classes before and behind it meet what its place asks.
+pub record FitsAt (t : TableView) (text : List ℕ) (i : ℕ) (r : Rule) : Type 0 where
+  pub some : 1 ≤ length r.chars
+  pub room : i + length r.chars ≤ length text
+  pub first : fold_of t (slice_index text i) ≡ slice_index r.chars 0
+  pub others : (k : ℕ) → 1 ≤ k → k < length r.chars → slice_index text (i + k) ≡ slice_index r.chars k
+  pub before : IsTrue (holds (before_of r.place) (classes_before t text i))
+  pub after : IsTrue (holds (after_of r.place (classes_before t text i)) (classes_at t text (i + length r.chars)))
+
+-- the rule at this place fits in front of `rest`, and no rule of an earlier place does
+pub record IsFirstThatFits (t : TableView) (before : Class) (rest : List ℕ) (place : ℕ) (r : Rule) : Type 0 where
+  pub there : slice_get t.rules place ≡ Some r
+  pub fitting : IsTrue (fits t before rest r)
+  pub none_earlier : (earlier : ℕ) (q : Rule) → earlier < place → slice_get t.rules earlier ≡ Some q → fits t before rest q ≡ false

@@ -1,0 +1,18 @@
+-- Rank: which of two rules is tried first. The manual, section "Translation Opcodes": of several eligible entries the one with
+-- the longest character string is used, and of those for one string the one defined first is tested first. That the earlier
+-- line goes first among all rules of one length is this project's own choice: at one position they differ in case alone.
+use Rattle.std.specs.Prelude.{ℕ, ◌≡◌, ◌≤◌, ◌==◌, AllPairs, List, length, filter}
+use Rattle.brl_table.specs.declared.rule.Rule.{Rule}
+
+-- rules of more weight are tried first: the weight of a rule is how many characters it has
+abbrev pub weight : Rule → ℕ
+weight r = length r.chars
+
+-- no rule has more weight than the one before it
+abbrev pub IsInRank : List Rule → Type 0
+IsInRank rules = AllPairs (λ r s. weight s ≤ weight r) rules
+
+-- these rules in rank: in rank, and the rules of each weight stand in the order of their lines
+pub record IsRanking (lines ranked : List Rule) : Type 0 where
+  pub heavier_first : IsInRank ranked
+  pub in_lines_order : (n : ℕ) → filter (λ r. weight r == n) ranked ≡ filter (λ r. weight r == n) lines

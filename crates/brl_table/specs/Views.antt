@@ -1,0 +1,16 @@
+-- The parts of a table, seen as a table whose rules stand in the order that the parts have.
+use Rattle.std.specs.Prelude.{map}
+use Rattle.std.specs.String.{string_bytes}
+use Rattle.brl_table.specs.declared.parts.TableParts.{TableParts}
+use Rattle.brl_table.specs.TableView.{TableView}
+
+abbrev pub parts_view : TableParts → TableView
+parts_view p = record {
+  characters = p.characters.entries;
+  rules = p.rules.items;
+  caps_letter = p.caps_letter;
+  num_sign = p.num_sign;
+  no_contract_sign = p.no_contract_sign;
+  files = map string_bytes p.files.items;
+  notices = p.notices.items;
+}

@@ -1,0 +1,48 @@
+//! Laws of the definitions, for proofs in the crates above: each function has an empty body, and its contract is the law.
+ghost use Rattle.std.specs.Prelude.{◌≡◌, ◌++◌, ◌+◌, ◌<◌, ◌≤◌, ◌↔◌, ℕ, false, IsTrue, [], List, length, take, drop, slice_get, Some};
+ghost use Rattle.brl_table.specs.declared.class.Class.{Class};
+ghost use Rattle.brl_table.specs.declared.context.Context.{Context};
+ghost use Rattle.brl_table.specs.declared.rule.Rule.{Rule};
+ghost use Rattle.brl_table.specs.Choice.{fits, by_rule, own, chosen};
+ghost use Rattle.brl_table.specs.Position.{FitsAt, IsFirstThatFits};
+ghost use Rattle.brl_table.specs.Rank.{IsRanking};
+ghost use Rattle.brl_table.specs.Rest.{translation_of_rest, TakesOneRule};
+ghost use Rattle.brl_table.specs.TableView.{TableView};
+ghost use Rattle.brl_table.specs.Text.{at_start, classes_before, context_at, context_behind_all};
+ghost use Rattle.brl_table.specs.Translation.{indicators_at, chosen_at, translation_from, translation};
+
+/// The same rules are put in rank in one way only.
+pub fn rank_law()
+    ensures { (lines one other : List Rule) → IsRanking lines one → IsRanking lines other → one ≡ other }
+{}
+
+/// Which rule is chosen. A rule fits in front of a text's rest exactly where it fits at that position of the text; the
+/// chosen rule is the first in rank that fits, and the own definition where none does; and it takes at least one
+/// character, and no more than there are.
+pub fn choice_laws()
+    ensures fitting { (t : TableView) (text : List ℕ) (i : ℕ) (r : Rule) →
+        IsTrue (fits t (classes_before t text i) (drop i text) r) ↔ FitsAt t text i r }
+    ensures first { (t : TableView) (before : Class) (rest : List ℕ) (place : ℕ) (r : Rule) →
+        IsFirstThatFits t before rest place r → chosen t before rest ≡ by_rule place r }
+    ensures none { (t : TableView) (before : Class) (rest : List ℕ) →
+        ((place : ℕ) (r : Rule) → slice_get t.rules place ≡ Some r → fits t before rest r ≡ false) →
+        chosen t before rest ≡ own t rest }
+    ensures some { (t : TableView) (before : Class) (rest : List ℕ) → 0 < length rest → 1 ≤ (chosen t before rest).taken }
+    ensures room { (t : TableView) (before : Class) (rest : List ℕ) → 0 < length rest →
+        (chosen t before rest).taken ≤ length rest }
+{}
+
+/// A translation, one rule at a time. From a position on it is the indicators there, the chosen rule's cells, and the
+/// translation from behind the rule's last character on. And it is told from the text's start on by what stands before
+/// and what is left of the text alone, as is the context behind some characters.
+pub fn translation_laws()
+    ensures position { (t : TableView) (text : List ℕ) (i : ℕ) → i < length text →
+        translation_from t text (length text) i
+        ≡ indicators_at t text i ++ (chosen_at t text i).cells
+        ++ translation_from t text (length text) (i + (chosen_at t text i).taken) }
+    ensures rest { (t : TableView) (text : List ℕ) → translation t text ≡ translation_of_rest t at_start text }
+    ensures end { (t : TableView) (here : Context) → translation_of_rest t here [] ≡ [] }
+    ensures rule { (t : TableView) (here : Context) (rest : List ℕ) → 0 < length rest → TakesOneRule t here rest }
+    ensures context { (t : TableView) (text : List ℕ) (i count : ℕ) → count ≤ length (drop i text) →
+        context_behind_all t (context_at t text i) (take count (drop i text)) ≡ context_at t text (i + count) }
+{}

@@ -1,0 +1,33 @@
+//! Braille tables: characters with their classes, rules with their places, indicators; and the definitions of
+//! forward translation, which every crate above reads.
+#![tactic(auto)]
+
+mod chars;
+mod choice;
+mod class;
+mod context;
+mod definition;
+mod front;
+mod laws;
+mod opcode;
+mod parts;
+mod place;
+mod reading;
+mod rule;
+mod table;
+mod table_fault;
+
+pub use chars::Chars;
+pub use choice::Choice;
+pub use class::Class;
+pub use context::Context;
+pub use laws::{choice_laws, rank_law, translation_laws};
+pub use parts::TableParts;
+pub use place::{Cond, Place, holds};
+pub use reading::read_table;
+pub use rule::{Info, Notice, Rule};
+pub use table::{Sign, Table};
+pub use table_fault::{TableFault, Wrong};
+
+#[cfg(test)]
+mod tests;

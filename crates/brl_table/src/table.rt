@@ -1,0 +1,136 @@
+//! A table and its readers.
+ghost use Rattle.std.specs.Prelude.{◌≡◌, ◌<◌, ◌≤◌, length, map, slice_get, Some, IfOk, OnOk, IfSome, option_copied};
+ghost use Rattle.std.specs.List.Sorted.{IsPermutation};
+ghost use Rattle.brl_table.specs.Limits.{AreParts, IsTable};
+ghost use Rattle.brl_table.specs.Rank.{IsRanking};
+ghost use Rattle.brl_table.specs.TableView.{info_of, sign_cells};
+ghost use Rattle.brl_table.specs.Views.{parts_view};
+
+use crate::{Info, Notice, Rule, TableParts};
+use brl_cells::Cell;
+use std::alloc::AllocError;
+use std::marker::Model;
+
+/// The indicators. The manual's section "Braille Indicator Opcodes" has them.
+#[derive(Clone, Copy, PartialEq, Eq, Debug)]
+pub enum Sign {
+    /// Before a capital.
+    CapsLetter,
+    /// Before the first digit of a number.
+    NumSign,
+    /// In a number before a character that could be read as a digit.
+    NoContractSign,
+}
+
+/// A braille table. A contract sees a `TableView`.
+#[derive(Drop)]
+pub struct Table {
+    /// The parts, the rules in rank.
+    parts: TableParts,
+}
+
+impl Model for Table {
+    ghost use Rattle.brl_table.specs.Limits.{IsTable};
+    ghost use Rattle.brl_table.specs.TableView.{TableView};
+    ghost use Rattle.brl_table.specs.Views.{parts_view};
+
+    ghost Value = { TableView };
+
+    ghost view = { λ t. parts_view t.parts };
+
+    ghost invariant = { λ t. IsTable (parts_view t.parts) };
+}
+
+impl Table {
+    /// The table of these parts, its rules put in rank. `AllocError` where sorting them finds no memory.
+    pub fn from_parts(parts: TableParts) -> Result<Table, AllocError>
+        requires { AreParts (parts_view parts) }
+        ensures characters { IfOk result (λ t. t.characters ≡ (parts_view parts).characters) }
+        ensures rules { IfOk result (λ t. IsRanking (parts_view parts).rules t.rules) }
+        ensures caps_letter { IfOk result (λ t. t.caps_letter ≡ (parts_view parts).caps_letter) }
+        ensures num_sign { IfOk result (λ t. t.num_sign ≡ (parts_view parts).num_sign) }
+        ensures no_contract_sign { IfOk result (λ t. t.no_contract_sign ≡ (parts_view parts).no_contract_sign) }
+        ensures files { IfOk result (λ t. t.files ≡ (parts_view parts).files) }
+        ensures notices { IfOk result (λ t. t.notices ≡ (parts_view parts).notices) }
+    {
+        let mut parts = parts;
+        rank(&mut parts.rules)?;
+        Ok(Table { parts })
+    }
+
+    /// What every table keeps, for proofs in the crates above: the contract is the law.
+    pub fn law(&self)
+        ensures { IsTable self.now }
+    {
+        let _ = &self.parts;
+    }
+
+    /// What the table says of a character: None where it doesn't define it.
+    pub fn info(&self, character: char) -> Option<&Info>
+        ensures value { option_copied result ≡ info_of self.now character }
+        ensures number { IfSome result (λ info. info.now.number < 1024) }
+    {
+        self.parts.characters.get(&character)
+    }
+
+    /// How many characters the table defines.
+    pub fn char_count(&self) -> usize
+        ensures count { result ≡ length self.now.characters }
+        ensures few { result ≤ 1024 }
+    {
+        self.parts.characters.len()
+    }
+
+    /// The character with this number, from 0, in the order of first definitions.
+    pub fn char_at(&self, number: u32) -> char
+        requires { number < length self.now.characters }
+        ensures { slice_get (map (λ entry. entry.0) self.now.characters) number ≡ Some result }
+    {
+        let (character, _) = self.parts.characters.get_index(number as usize).unwrap();
+        *character
+    }
+
+    /// The used rules in rank. A rule's number is its place here, from 0.
+    pub fn rules_in_rank(&self) -> &[Rule]
+        ensures rules { result.now ≡ self.now.rules }
+        ensures few { length result.now ≤ 4096 }
+    {
+        self.parts.rules.as_slice()
+    }
+
+    /// The cells of an indicator: none where it isn't defined.
+    pub fn indicator(&self, sign: Sign) -> &[Cell]
+        ensures cells { result.now ≡ sign_cells self.now sign }
+        ensures few { length result.now ≤ 16 }
+    {
+        match sign {
+            Sign::CapsLetter => self.parts.caps_letter.as_slice(),
+            Sign::NumSign => self.parts.num_sign.as_slice(),
+            Sign::NoContractSign => self.parts.no_contract_sign.as_slice(),
+        }
+    }
+
+    /// The name of the file with this number, which a rule, an info or a notice of the table gives.
+    pub fn file_name(&self, number: usize) -> &str
+        requires { number < length self.now.files }
+        ensures { slice_get self.now.files number ≡ Some result.now }
+    {
+        self.parts.files[number].as_str()
+    }
+
+    /// The lines that define a character again, in their order.
+    pub fn notices(&self) -> &[Notice]
+        ensures { result.now ≡ self.now.notices }
+    {
+        self.parts.notices.as_slice()
+    }
+}
+
+/// Puts rules in rank: the longer first, and those of one length in the order that they have.
+fn rank(rules: &mut Vec<Rule>) -> Result<(), AllocError>
+    ensures ranking { OnOk result (IsRanking rules.old.items rules.new.items) }
+    ensures permutation { IsPermutation rules.old.items rules.new.items }
+{
+    rules.sort_by(|a, b| b.chars.len().cmp(&a.chars.len()))?;
+    Ok(())
+}
