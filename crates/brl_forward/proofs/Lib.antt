@@ -1,0 +1,4 @@
+pub mod Turns
+pub mod Unknown
+pub mod StepTurns
+pub mod StepCells

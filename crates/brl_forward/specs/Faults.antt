@@ -1,0 +1,24 @@
+-- Which fault a text has: this project's own choice, as the manual leaves a character without a definition open.
+use Rattle.std.specs.Prelude.{ℕ, not, position, List, Option, Some, None, ◌≡◌}
+use Rattle.brl_table.specs.TableView.{TableView}
+use Rattle.brl_table.specs.Text.{is_defined}
+use Rattle.brl_forward.specs.declared.fault.ConfirmFault.{ConfirmFault}
+use Rattle.brl_forward.specs.declared.fault.ConfirmFault.TheVariants as confirm
+use Rattle.brl_forward.specs.declared.fault.ForwardFault.{ForwardFault}
+use Rattle.brl_forward.specs.declared.fault.ForwardFault.TheVariants as forward
+use Rattle.brl_forward.specs.declared.fault.Side.TheVariants.{Left, Right}
+
+-- the first position, from 0, whose character the table doesn't define
+abbrev pub first_unknown : TableView → List ℕ → Option ℕ
+first_unknown t text = position (λ c. not (is_defined t c)) text
+
+-- a fault of a text names that position; memory may be wanting at any text
+abbrev pub IsFaultOf : TableView → List ℕ → ForwardFault → Type 0
+IsFaultOf t text (forward.UnknownChar place) = first_unknown t text ≡ Some place
+IsFaultOf t text forward.Memory = Unit {0}
+
+-- a fault of two texts names the side too, left before right
+abbrev pub IsFaultOfTwo : TableView → List ℕ → List ℕ → ConfirmFault → Type 0
+IsFaultOfTwo t left right (confirm.UnknownChar Left place) = first_unknown t left ≡ Some place
+IsFaultOfTwo t left right (confirm.UnknownChar Right place) = (first_unknown t left ≡ None) × (first_unknown t right ≡ Some place)
+IsFaultOfTwo t left right confirm.Memory = Unit {0}

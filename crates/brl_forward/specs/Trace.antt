@@ -1,0 +1,33 @@
+-- The steps of a translation, by position over a whole text.
+use Rattle.std.specs.Prelude.{ℕ, zero, suc, ◌+◌, List, [], ◌∷◌, ◌++◌, length, drop, nat_lt, if◌then◌else◌}
+use Rattle.brl_table.specs.declared.context.Context.{Context}
+use Rattle.brl_table.specs.TableView.{TableView}
+use Rattle.brl_table.specs.Text.{context_at}
+use Rattle.brl_table.specs.Indicators.{indicators}
+use Rattle.brl_table.specs.Choice.{chosen}
+use Rattle.brl_table.specs.Translation.{chosen_at}
+use Rattle.brl_forward.specs.declared.steps.Traced.{Traced}
+
+-- the step in front of `rest`, which begins at position i: its rule is the one that is chosen there
+abbrev pub step_before : TableView → Context → ℕ → List ℕ → Traced
+step_before t here i rest = record {
+  start = i;
+  rule = (chosen t here.classes rest).number;
+  length = (chosen t here.classes rest).taken;
+  indicators = length (indicators t here rest);
+  cells = indicators t here rest ++ (chosen t here.classes rest).cells;
+}
+
+-- the step at position i
+abbrev pub step_at : TableView → List ℕ → ℕ → Traced
+step_at t text i = step_before t (context_at t text i) i (drop i text)
+
+-- the steps from position i on, at most so many of them
+abbrev pub steps_from : TableView → List ℕ → ℕ → ℕ → List Traced
+steps_from t text zero i = []
+steps_from t text (suc steps) i =
+    if nat_lt i (length text) then step_at t text i ∷ steps_from t text steps (i + (chosen_at t text i).taken) else []
+
+-- the trace of a text: each step takes a character at least, so its length is steps enough
+unfoldable pub trace_of : TableView → List ℕ → List Traced
+trace_of t text = steps_from t text (length text) 0

@@ -1,0 +1,98 @@
+//! Clashes: two different texts that are translated alike.
+ghost use Rattle.std.specs.Prelude.{◌≡◌, ◌↔◌, IsTrue, ℕ, List, IfOk, IfErr, IfSome, IfNone};
+ghost use Rattle.brl_table.specs.Text.{is_text};
+ghost use Rattle.brl_table.specs.Translation.{IsClash};
+ghost use Rattle.brl_forward.specs.Faults.{IsFaultOfTwo};
+
+use crate::translation::{cells_of, find_unknown};
+use crate::{ConfirmFault, Side};
+use brl_cells::Cell;
+use brl_table::Table;
+use std::alloc::Global;
+use std::marker::Model;
+
+/// Two texts that a table translates to the same cells. A contract sees a `ClashView`.
+#[derive(Drop)]
+pub struct Clash {
+    left: Vec<char>,
+    right: Vec<char>,
+    cells: Vec<Cell>,
+}
+
+impl Model for Clash {
+    ghost use Rattle.brl_forward.specs.ClashView.{ClashView};
+
+    ghost Value = { ClashView };
+
+    ghost view = { λ c. record { left = c.left.items; right = c.right.items; cells = c.cells.items } };
+}
+
+impl Clash {
+    /// The left text.
+    pub fn left(&self) -> &[char]
+        ensures { result.now ≡ self.now.left }
+    {
+        self.left.as_slice()
+    }
+
+    /// The right text.
+    pub fn right(&self) -> &[char]
+        ensures { result.now ≡ self.now.right }
+    {
+        self.right.as_slice()
+    }
+
+    /// The cells of both.
+    pub fn cells(&self) -> &[Cell]
+        ensures { result.now ≡ self.now.cells }
+    {
+        self.cells.as_slice()
+    }
+}
+
+/// Whether two texts clash: Some where they differ and the table translates them to the same cells, else None.
+/// `UnknownChar` where the table doesn't define a character of one, the left text first.
+pub fn confirm(
+    alloc: Global,
+    table: &Table,
+    left: &[char],
+    right: &[char],
+) -> Result<Option<Clash>, ConfirmFault>
+    ensures left_text { IfOk result (λ _. IsTrue (is_text table.now left.now)) }
+    ensures right_text { IfOk result (λ _. IsTrue (is_text table.now right.now)) }
+    ensures left { IfOk result (λ found. IfSome found (λ clash. clash.left ≡ left.now)) }
+    ensures right { IfOk result (λ found. IfSome found (λ clash. clash.right ≡ right.now)) }
+    ensures clash { IfOk result (λ found. IfSome found (λ clash. IsClash table.now left.now right.now clash.cells)) }
+    ensures none { IfOk result (λ found. IfNone found
+        ((cells : List ℕ) → IsClash table.now left.now right.now cells → ⊥)) }
+    ensures fault { IfErr result (IsFaultOfTwo table.now left.now right.now) }
+{
+    if let Some(place) = find_unknown(table, left) {
+        return Err(ConfirmFault::UnknownChar(Side::Left, place));
+    }
+    if let Some(place) = find_unknown(table, right) {
+        return Err(ConfirmFault::UnknownChar(Side::Right, place));
+    }
+    let cells = cells_of(alloc, table, left)?;
+    let others = cells_of(alloc, table, right)?;
+    if are_same_text(left, right) || !are_same_cells(cells.as_slice(), others.as_slice()) {
+        return Ok(None);
+    }
+    Ok(Some(Clash {
+        left: left.to_vec(alloc)?,
+        right: right.to_vec(alloc)?,
+        cells,
+    }))
+}
+
+fn are_same_text(left: &[char], right: &[char]) -> bool
+    ensures { IsTrue result ↔ (left.now ≡ right.now) }
+{
+    left == right
+}
+
+fn are_same_cells(left: &[Cell], right: &[Cell]) -> bool
+    ensures { IsTrue result ↔ (left.now ≡ right.now) }
+{
+    left == right
+}

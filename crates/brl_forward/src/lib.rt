@@ -1,0 +1,17 @@
+//! Forward translation: the cells of a text, the steps that give them, and whether two texts clash.
+#![tactic(auto)]
+
+mod clash;
+mod fault;
+mod laws;
+mod steps;
+mod translation;
+
+pub use clash::{Clash, confirm};
+pub use fault::{ConfirmFault, ForwardFault, Side};
+pub use laws::trace_laws;
+pub use steps::{Traced, trace};
+pub use translation::translate;
+
+#[cfg(test)]
+mod tests;

@@ -1,0 +1,86 @@
+//! The steps of a text's translation.
+ghost use Rattle.std.specs.Prelude.{◌≡◌, ◌<◌, ◌≤◌, length, IsTrue, IfOk, IfErr};
+ghost use Rattle.brl_table.specs.Text.{is_text};
+ghost use Rattle.brl_forward.specs.Faults.{IsFaultOf};
+ghost use Rattle.brl_forward.specs.Trace.{step_before, trace_of};
+
+use crate::ForwardFault;
+use crate::translation::find_unknown;
+use brl_cells::Cells;
+use brl_table::{Context, Table, choice_laws, translation_laws};
+use std::alloc::{AllocError, Global};
+
+/// A step of a translation.
+#[derive(Debug, Drop)]
+pub struct Traced {
+    /// The position of its first character in the text, from 0.
+    pub start: usize,
+    /// The number of its rule: rules in rank from 0, behind them the own definitions by the numbers of the characters.
+    pub rule: u32,
+    /// How many characters it takes.
+    pub length: usize,
+    /// How many of its cells are those of indicators, which come first.
+    pub indicators: usize,
+    /// The cells of the indicators, then those of the rule.
+    pub cells: Cells,
+}
+
+/// The steps of a text's translation, in order. `UnknownChar` where the table doesn't define a character of it.
+pub fn trace(alloc: Global, table: &Table, text: &[char]) -> Result<Vec<Traced>, ForwardFault>
+    ensures text { IfOk result (λ _. IsTrue (is_text table.now text.now)) }
+    ensures steps { IfOk result (λ steps. steps.items ≡ trace_of table.now text.now) }
+    ensures fault { IfErr result (IsFaultOf table.now text.now) }
+{
+    match find_unknown(table, text) {
+        Some(place) => Err(ForwardFault::UnknownChar(place)),
+        None => Ok(steps_of(alloc, table, text)?),
+    }
+}
+
+/// The steps of a text.
+fn steps_of(alloc: Global, table: &Table, text: &[char]) -> Result<Vec<Traced>, AllocError>
+    ensures { IfOk result (λ steps. steps.items ≡ trace_of table.now text.now) }
+{
+    choice_laws();
+    translation_laws();
+    let mut steps = Vec::new(alloc);
+    let mut here = Context::START;
+    let mut start = 0;
+    let mut rest = text;
+    while !rest.is_empty() {
+        let step = step(alloc, table, here, start, rest)?;
+        let (taken, left) = rest.split_at(step.length);
+        here = table.context_behind(here, taken);
+        start += step.length;
+        rest = left;
+        steps.push(step)?;
+    }
+    Ok(steps)
+}
+
+/// The step in front of `rest`, which begins at `start`.
+fn step(
+    alloc: Global,
+    table: &Table,
+    here: Context,
+    start: usize,
+    rest: &[char],
+) -> Result<Traced, AllocError>
+    requires { 0 < length rest.now }
+    ensures step { IfOk result (λ step. step ≡ step_before table.now here start rest.now) }
+    ensures some { IfOk result (λ step. 0 < step.length) }
+    ensures room { IfOk result (λ step. step.length ≤ length rest.now) }
+{
+    let mut cells = Vec::new(alloc);
+    table.push_indicators(here, rest, &mut cells)?;
+    let indicators = cells.len();
+    let choice = table.choice(here.classes, rest);
+    cells.extend_from_slice(choice.cells)?;
+    Ok(Traced {
+        start,
+        rule: choice.number,
+        length: choice.taken,
+        indicators,
+        cells: Cells::from_slice(alloc, cells.as_slice())?,
+    })
+}
