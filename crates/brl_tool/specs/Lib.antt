@@ -1,0 +1,6 @@
+pub mod InputLines
+pub mod Output
+pub mod Status
+pub mod Window
+pub mod Work
+pub mod Writing

@@ -1,0 +1,32 @@
+-- The fault that ends the program, and its exit status. This is the project's own choice.
+use Rattle.std.specs.Prelude.{ℕ, ◌≡◌, ◌⊎◌}
+use Rattle.brl_lines.specs.declared.fault.LoadFault.{LoadFault}
+use Rattle.brl_lines.specs.declared.fault.LoadFault.TheVariants as load
+use Rattle.brl_table.specs.declared.table_fault.TableFault.{TableFault}
+use Rattle.brl_table.specs.declared.table_fault.TableFault.TheVariants as table
+use Rattle.brl_tool.specs.declared.fault.StreamFault.{StreamFault}
+use Rattle.brl_tool.specs.declared.fault.StreamFault.TheVariants as stream
+use Rattle.brl_tool.specs.declared.run_fault.RunFault.{RunFault}
+use Rattle.brl_tool.specs.declared.run_fault.RunFault.TheVariants.{Load, Table, Stream, Memory}
+
+-- want of memory is the same fault wherever it came
+abbrev pub of_load : LoadFault → RunFault
+of_load load.Memory = Memory
+of_load fault = Load fault
+
+abbrev pub of_table : TableFault → RunFault
+of_table table.Memory = Memory
+of_table fault = Table fault
+
+abbrev pub of_stream : StreamFault → RunFault
+of_stream stream.Memory = Memory
+of_stream fault = Stream fault
+
+-- 3 for want of memory, 2 for every other fault
+abbrev pub status_of : RunFault → ℕ
+status_of Memory = 3
+status_of fault = 2
+
+-- 0 where the work was done, 2 for a fault, 3 for want of memory
+abbrev pub IsStatus : ℕ → Type 0
+IsStatus status = (status ≡ 0) ⊎ (status ≡ 2) ⊎ (status ≡ 3)

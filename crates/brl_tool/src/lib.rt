@@ -1,0 +1,24 @@
+//! The program's work: what it reads from a stream, translated line by line and written to another; and `run`, the
+//! program over any files and streams.
+#![tactic(auto)]
+
+mod command;
+mod device;
+mod fault;
+mod form;
+mod line;
+mod output;
+mod program;
+mod run_fault;
+#[cfg(test)]
+mod run_tests;
+mod stream;
+#[cfg(test)]
+mod tests;
+mod window;
+
+pub use device::{Failed, Input, Output, Watched};
+pub use fault::{LineFault, StreamFault};
+pub use form::Form;
+pub use program::run;
+pub use stream::translate_lines;

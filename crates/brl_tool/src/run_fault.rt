@@ -1,0 +1,97 @@
+//! Why the program stopped before its work was done.
+use crate::StreamFault;
+use brl_lines::LoadFault;
+use brl_table::TableFault;
+use std::alloc::AllocError;
+use thiserror::Error;
+
+/// The status of a fault of the words, the table, the input or the output.
+pub const FAULT: u8 = 2;
+
+/// The status of want of memory.
+const WANT_OF_MEMORY: u8 = 3;
+
+/// The fault that ended the work. It is shown as the line that standard error gets.
+#[derive(Debug, Drop, Error)]
+pub enum RunFault {
+    /// The table's file was refused.
+    #[error("{0}")]
+    Load(LoadFault),
+    /// A line of the table was refused.
+    #[error("{0}")]
+    Table(TableFault),
+    /// The input wasn't translated to its end.
+    #[error("{0}")]
+    Stream(StreamFault),
+    /// A growth was refused.
+    #[error("Memory")]
+    Memory,
+}
+
+impl RunFault {
+    ghost use Rattle.std.specs.Prelude.{◌≡◌};
+    ghost use Rattle.brl_tool.specs.Status.{status_of};
+
+    /// The exit status: 3 for want of memory, else 2.
+    pub fn status(&self) -> u8
+        ensures { result ≡ status_of self.now }
+    {
+        match self {
+            RunFault::Memory => WANT_OF_MEMORY,
+            _ => FAULT,
+        }
+    }
+}
+
+impl From<AllocError> for RunFault {
+    ghost use Rattle.std.specs.Prelude.{◌≡◌};
+    ghost use Rattle.brl_tool.specs.declared.run_fault.RunFault.TheVariants.{Memory};
+
+    ghost from_gives = { λ _ fault. fault ≡ Memory };
+
+    fn from(_error: AllocError) -> RunFault {
+        RunFault::Memory
+    }
+}
+
+impl From<LoadFault> for RunFault {
+    ghost use Rattle.std.specs.Prelude.{◌≡◌};
+    ghost use Rattle.brl_tool.specs.Status.{of_load};
+
+    ghost from_gives = { λ load fault. fault ≡ of_load load };
+
+    fn from(fault: LoadFault) -> RunFault {
+        match fault {
+            LoadFault::Memory => RunFault::Memory,
+            refused => RunFault::Load(refused),
+        }
+    }
+}
+
+impl From<TableFault> for RunFault {
+    ghost use Rattle.std.specs.Prelude.{◌≡◌};
+    ghost use Rattle.brl_tool.specs.Status.{of_table};
+
+    ghost from_gives = { λ table fault. fault ≡ of_table table };
+
+    fn from(fault: TableFault) -> RunFault {
+        match fault {
+            TableFault::Memory => RunFault::Memory,
+            refused => RunFault::Table(refused),
+        }
+    }
+}
+
+impl From<StreamFault> for RunFault {
+    ghost use Rattle.std.specs.Prelude.{◌≡◌};
+    ghost use Rattle.brl_tool.specs.Status.{of_stream};
+
+    ghost from_gives = { λ stream fault. fault ≡ of_stream stream };
+
+    fn from(fault: StreamFault) -> RunFault {
+        match fault {
+            StreamFault::Memory => RunFault::Memory,
+            at_line => RunFault::Stream(at_line),
+        }
+    }
+}

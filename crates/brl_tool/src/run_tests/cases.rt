@@ -1,0 +1,282 @@
+//! What the program answers: tables and inputs, and what they give.
+
+/// A table's lines and an input, and what `translate` answers: what it writes, its fault's line or nothing, and its
+/// status.
+pub struct Run {
+    pub table: &'static str,
+    pub input: &'static [u8],
+    pub out: &'static str,
+    pub err: &'static str,
+    pub status: u8,
+}
+
+/// Words behind the program's name, and what the program answers to them over no files: a text that stands in what
+/// is written to each stream, or where it is empty, that nothing is written there.
+pub struct Request {
+    pub words: &'static [&'static str],
+    pub out: &'static str,
+    pub err: &'static str,
+    pub status: u8,
+}
+
+pub fn runs() -> &'static [Run] {
+    &RUNS
+}
+
+pub fn requests() -> &'static [Request] {
+    &REQUESTS
+}
+
+const LETTERS: &str = "space \\s 0\nletter a 1\nletter b 12\nletter c 14\n";
+
+static RUNS: [Run; 24] = [
+    Run {
+        table: LETTERS,
+        input: b"abc a\n",
+        out: "ABC A\n",
+        err: "",
+        status: 0,
+    },
+    Run {
+        table: LETTERS,
+        input: b"abc a",
+        out: "ABC A\n",
+        err: "",
+        status: 0,
+    },
+    Run {
+        table: LETTERS,
+        input: b"",
+        out: "",
+        err: "",
+        status: 0,
+    },
+    Run {
+        table: LETTERS,
+        input: b"az\n",
+        out: "",
+        err: "F1 UnknownChar 1 at line 1\n",
+        status: 2,
+    },
+    Run {
+        table: LETTERS,
+        input: b"ab\nc\naz\nb\n",
+        out: "AB\nC\n",
+        err: "F1 UnknownChar 1 at line 3\n",
+        status: 2,
+    },
+    Run {
+        table: LETTERS,
+        input: b"\xff\n",
+        out: "",
+        err: "U2 InputNotUtf8 at line 1\n",
+        status: 2,
+    },
+    Run {
+        table: "",
+        input: b"\n",
+        out: "\n",
+        err: "",
+        status: 0,
+    },
+    Run {
+        table: "letter q 17\n",
+        input: b"q\n",
+        out: "",
+        err: "U1 NoAscii at line 1\n",
+        status: 2,
+    },
+    Run {
+        table: "pass2 @1 @2\n",
+        input: b"",
+        out: "",
+        err: "B1 OutsideProfile pass2 at t.ctb:1\n",
+        status: 2,
+    },
+    Run {
+        table: "include u.ctb\n",
+        input: b"",
+        out: "",
+        err: "B1 OutsideProfile include at t.ctb:1\n",
+        status: 2,
+    },
+    Run {
+        table: "letter a 1\nletter a 12\n",
+        input: b"a\n",
+        out: "A\n",
+        err: "",
+        status: 0,
+    },
+    Run {
+        table: "letter a\n",
+        input: b"",
+        out: "",
+        err: "B2 MissingOperand letter at t.ctb:1\n",
+        status: 2,
+    },
+    Run {
+        table: "letter ab 1\n",
+        input: b"",
+        out: "",
+        err: "B3 BadCharacters ab at t.ctb:1\n",
+        status: 2,
+    },
+    Run {
+        table: "letter \\q 1\n",
+        input: b"",
+        out: "",
+        err: "B3 BadCharacters \\q at t.ctb:1\n",
+        status: 2,
+    },
+    Run {
+        table: "letter a 19\n",
+        input: b"",
+        out: "",
+        err: "B4 BadDots 19 at t.ctb:1\n",
+        status: 2,
+    },
+    Run {
+        table: "letter a 1-\n",
+        input: b"",
+        out: "",
+        err: "B4 BadDots 1- at t.ctb:1\n",
+        status: 2,
+    },
+    Run {
+        table: "letter a 9\n",
+        input: b"",
+        out: "",
+        err: "B4 BadDots 9 at t.ctb:1\n",
+        status: 2,
+    },
+    Run {
+        table: "letter a 01\n",
+        input: b"",
+        out: "",
+        err: "B4 BadDots 01 at t.ctb:1\n",
+        status: 2,
+    },
+    Run {
+        table: "letter a 11\n",
+        input: b"",
+        out: "",
+        err: "B4 BadDots 11 at t.ctb:1\n",
+        status: 2,
+    },
+    Run {
+        table: "letter a 1-1-1-1-1-1-1-1-1-1-1-1-1-1-1-1-1\n",
+        input: b"",
+        out: "",
+        err: "B4 BadDots 1-1-1-1-1-1-1-1-1-1-1-1-1-1-1-1-1 at t.ctb:1\n",
+        status: 2,
+    },
+    Run {
+        table: "letter a 21-0\n",
+        input: b"a\n",
+        out: "B \n",
+        err: "",
+        status: 0,
+    },
+    Run {
+        table: "letter a 1\n# letter a\n\nletter b\n",
+        input: b"\xff\n",
+        out: "",
+        err: "B2 MissingOperand letter at t.ctb:4\n",
+        status: 2,
+    },
+    Run {
+        table: "\u{feff}letter a 1\r\npunctuation . 256 full stop\r\n",
+        input: b"a.\r\n",
+        out: "A4\n",
+        err: "",
+        status: 0,
+    },
+    Run {
+        table: "letter \u{e9} 123456-1\n",
+        input: b"\xc3\xa9\xc3\xa9\n",
+        out: "=A=A\n",
+        err: "",
+        status: 0,
+    },
+];
+
+static REQUESTS: [Request; 13] = [
+    Request {
+        words: &["translate", "t.ctb"],
+        out: "",
+        err: "L1 NotFound t.ctb\n",
+        status: 2,
+    },
+    Request {
+        words: &["--help"],
+        out: "Usage: brl <COMMAND>",
+        err: "",
+        status: 0,
+    },
+    Request {
+        words: &["help"],
+        out: "Usage: brl <COMMAND>",
+        err: "",
+        status: 0,
+    },
+    Request {
+        words: &["translate", "--help"],
+        out: "Usage: brl translate <TABLE>",
+        err: "",
+        status: 0,
+    },
+    Request {
+        words: &["translate", "-h"],
+        out: "echo 'abc a' | brl translate first.ctb",
+        err: "",
+        status: 0,
+    },
+    Request {
+        words: &["--version"],
+        out: "brl 0.1.0\n",
+        err: "",
+        status: 0,
+    },
+    Request {
+        words: &[],
+        out: "",
+        err: "Usage: brl <COMMAND>",
+        status: 2,
+    },
+    Request {
+        words: &["translate"],
+        out: "",
+        err: "<TABLE>",
+        status: 2,
+    },
+    Request {
+        words: &["translate", "t.ctb", "more"],
+        out: "",
+        err: "unexpected argument 'more'",
+        status: 2,
+    },
+    Request {
+        words: &["translate", "--nothing", "t.ctb"],
+        out: "",
+        err: "unexpected argument '--nothing'",
+        status: 2,
+    },
+    Request {
+        words: &["translate", "--form", "unicode", "t.ctb"],
+        out: "",
+        err: "unexpected argument '--form'",
+        status: 2,
+    },
+    Request {
+        words: &["--nothing"],
+        out: "",
+        err: "unexpected argument '--nothing'",
+        status: 2,
+    },
+    Request {
+        words: &["search", "t.ctb", "o"],
+        out: "",
+        err: "unrecognized subcommand 'search'",
+        status: 2,
+    },
+];
