@@ -1,0 +1,37 @@
+//! The program `brl`: `run` over the arguments, the files and the standard streams of a process.
+#![tactic(auto)]
+
+use brl_lines::FileSource;
+use brl_tool::run;
+use std::env;
+use std::process::ExitCode;
+
+/// The status of arguments that can't be read.
+const USE: u8 = 2;
+
+/// The status of want of memory.
+const WANT_OF_MEMORY: u8 = 3;
+
+fn main(rt: HostRuntime) -> ExitCode {
+    let alloc = rt.alloc();
+    let arguments = match env::args(&rt) {
+        Ok(arguments) => arguments,
+        Err(error) => {
+            let _ = eprintln!(rt; "the arguments can't be read: {error}");
+            return ExitCode::from(USE);
+        }
+    };
+    let Ok(words) = arguments.collect::<Vec<String>>(alloc) else {
+        let _ = rt.eprintln("Memory");
+        return ExitCode::from(WANT_OF_MEMORY);
+    };
+    let status = run(
+        alloc,
+        words.as_slice(),
+        &mut FileSource::new(&rt),
+        &mut rt.stdin(),
+        &mut rt.stdout(),
+        &mut rt.stderr(),
+    );
+    ExitCode::from(status)
+}

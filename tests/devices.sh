@@ -1,0 +1,185 @@
+#!/bin/sh
+# Runs the built program on real files, streams and devices. Usage: tests/devices.sh PROGRAM
+# It prints one line a case, and ends with status 1 at the first that fails.
+set -u
+
+if [ $# -ne 1 ]; then
+    echo "usage: $0 PROGRAM" >&2
+    exit 2
+fi
+program=$(cd "$(dirname "$1")" && pwd)/$(basename "$1")
+work=$(mktemp -d)
+trap 'chmod -R u+rwx "$work"; rm -rf "$work"' EXIT
+cd "$work" || exit 2
+
+printf 'space \\s 0\nletter a 1\nletter b 12\nletter c 14\n' >t.ctb
+printf 'letter y 13456\n' >yes.ctb
+printf 'letter \377 1\n' >bytes.ctb
+{ printf 'letter a 1\n#'; head -c 2048 /dev/zero | tr '\0' x; echo; } >long.ctb
+{ printf '#'; head -c 2047 /dev/zero | tr '\0' x; echo; cat t.ctb; } >full.ctb
+printf 'letter a 1\n' >closed.ctb
+chmod a-r closed.ctb
+mkdir folder
+
+fail() {
+    echo "FAILED: $1"
+    echo "  $2"
+    exit 1
+}
+
+# The case that ran last left `out`, `err` and `status`. What standard output, standard error and the status must be.
+expect() {
+    [ "$status" = "$2" ] || fail "$1" "status $status, wanted $2; standard error: $(head -c 300 err)"
+    printf "$3" >want
+    cmp -s out want || fail "$1" "standard output: $(head -c 300 out), wanted: $(cat want)"
+    printf "$4" >want
+    cmp -s err want || fail "$1" "standard error: $(head -c 300 err), wanted: $(cat want)"
+    echo "ok: $1"
+}
+
+# As `expect`, but of standard error nothing is asked, and of standard output only that this text stands in it.
+expect_text() {
+    [ "$status" = 0 ] || fail "$1" "status $status, wanted 0"
+    grep -qF -- "$2" out || fail "$1" "standard output: $(head -c 300 out)"
+    [ ! -s err ] || fail "$1" "standard error: $(head -c 300 err)"
+    echo "ok: $1"
+}
+
+# Translates an input by a table.
+translate() {
+    printf "$2" | "$program" translate "$1" >out 2>err
+    status=$?
+}
+
+translate t.ctb 'abc a\n'
+expect 'a text is translated' 0 'ABC A\n' ''
+
+translate t.ctb ''
+expect 'an empty input gives nothing' 0 '' ''
+
+translate full.ctb 'abc\n'
+expect 'a table line of 2,048 bytes is read' 0 'ABC\n' ''
+
+translate "$work/t.ctb" 'a'
+expect 'a table by its whole path, an input without a line feed' 0 'A\n' ''
+
+translate none.ctb 'a\n'
+expect 'a missing table' 2 '' 'L1 NotFound none.ctb\n'
+
+translate folder 'a\n'
+expect 'a folder as the table' 2 '' 'L2 ReadFailed folder\n'
+
+if [ "$(id -u)" = 0 ]; then
+    echo 'skipped: a table that may not be read (root may read every file)'
+else
+    translate closed.ctb 'a\n'
+    expect 'a table that may not be read' 2 '' 'L2 ReadFailed closed.ctb\n'
+fi
+
+translate bytes.ctb 'a\n'
+expect 'a table that is not UTF-8' 2 '' 'L3 NotUtf8 bytes.ctb\n'
+
+translate long.ctb 'a\n'
+expect 'a table line of 2,049 bytes' 2 '' 'L6 LineTooLong long.ctb at long.ctb:2\n'
+
+"$program" translate /dev/zero </dev/null >out 2>err
+status=$?
+expect 'a table without end' 2 '' 'L9 TooLarge /dev/zero\n'
+
+translate t.ctb 'ab\nc\nz\na\n'
+expect 'the lines before a fault stand written' 2 'AB\nC\n' 'F1 UnknownChar 0 at line 3\n'
+
+translate t.ctb 'ab\n\377\n'
+expect 'an input that is not UTF-8' 2 'AB\n' 'U2 InputNotUtf8 at line 2\n'
+
+"$program" translate t.ctb <folder >out 2>err
+status=$?
+expect 'an input that can not be read' 2 '' 'U3 InputFailed at line 1\n'
+
+"$program" translate t.ctb <&- >out 2>err
+status=$?
+expect 'a closed standard input' 2 '' 'U3 InputFailed at line 1\n'
+
+if [ -c /dev/full ]; then
+    printf 'a\nb\n' | "$program" translate t.ctb >/dev/full 2>err
+    status=$?
+    : >out
+    expect 'a full standard output' 2 '' 'U4 OutputFailed at line 1\n'
+
+    "$program" --help >/dev/full 2>err
+    status=$?
+    expect 'help on a full standard output' 2 '' 'U4 OutputFailed\n'
+
+    printf 'z\n' | "$program" translate t.ctb >out 2>/dev/full
+    status=$?
+    : >err
+    expect 'a full standard error changes no status' 2 '' ''
+else
+    echo 'skipped: full outputs (there is no /dev/full)'
+fi
+
+printf 'a\nb\n' | "$program" translate t.ctb 2>err >&-
+status=$?
+: >out
+expect 'a closed standard output' 2 '' 'U4 OutputFailed at line 1\n'
+
+printf 'z\n' | "$program" translate t.ctb >out 2>&-
+status=$?
+: >err
+expect 'a closed standard error changes no status' 2 '' ''
+
+# Lines are written as they come: the first stands before the second is there.
+mkfifo pipe
+"$program" translate t.ctb <pipe >out 2>err &
+child=$!
+exec 3>pipe
+printf 'ab\n' >&3
+tries=0
+while [ ! -s out ] && [ "$tries" -lt 50 ]; do
+    sleep 0.1
+    tries=$((tries + 1))
+done
+cp out early
+printf 'c\n' >&3
+exec 3>&-
+wait "$child"
+status=$?
+printf 'AB\n' | cmp -s - early || fail 'a line is written before the next is read' "standard output: $(cat early)"
+expect 'a line is written before the next is read' 0 'AB\nC\n' ''
+
+yes | { "$program" translate yes.ctb; echo $? >status; } 2>err | wc -l | tr -d ' ' >out
+status=$(cat status)
+expect 'an input without end' 2 '8388608\n' 'U6 InputTooLong at line 8388609\n'
+
+"$program" translate t.ctb </dev/zero >out 2>err
+status=$?
+expect 'a line without end' 2 '' 'U5 InputLineTooLong at line 1\n'
+
+"$program" --help >out 2>err
+status=$?
+expect_text 'help' 'Usage: brl'
+
+"$program" translate --help >out 2>err
+status=$?
+expect_text 'help on translate' 'first.ctb'
+
+# The example of the help is one that a reader can paste.
+grep "printf '%s" out >example
+grep '| brl translate' out | sed 's/| brl /| "$program" /' >>example
+(. ./example) >out 2>err
+status=$?
+expect 'the example of the help' 0 'ABC A\n' ''
+
+"$program" --version >out 2>err
+status=$?
+expect_text 'the version' 'brl '
+
+"$program" >out 2>err
+status=$?
+[ "$status" = 2 ] && [ ! -s out ] && [ -s err ] || fail 'no words' "status $status"
+echo 'ok: no words are a use fault'
+
+"$program" translate --nothing t.ctb >out 2>err </dev/null
+status=$?
+[ "$status" = 2 ] && [ ! -s out ] && [ -s err ] || fail 'an unknown option' "status $status"
+echo 'ok: an unknown option is a use fault'
