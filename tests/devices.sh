@@ -170,6 +170,34 @@ grep '| brl translate' out | sed 's/| brl /| "$program" /' >>example
 status=$?
 expect 'the example of the help' 0 'ABC A\n' ''
 
+"$program" clash --help >out 2>err
+status=$?
+expect_text 'help on clash' 'alike.ctb'
+
+# So is the one of clash, but for its status.
+grep "printf '%s" out >example
+grep '^ *brl clash' out | sed 's/^ *brl /"$program" /' >>example
+(. ./example) >out 2>err
+status=$?
+expect 'the example of the help on clash' 1 'left: ab\nright: x\ncells: 1-12\n' ''
+
+"$program" clash t.ctb abc cba >out 2>err
+status=$?
+expect 'texts that do not clash' 0 'no clash\n' ''
+
+"$program" clash t.ctb ab 'a z' >out 2>err
+status=$?
+expect 'a text with an unknown character' 2 '' 'F1 UnknownChar 2 at right\n'
+
+"$program" clash missing.ctb z z >out 2>err
+status=$?
+expect 'a missing table comes before the texts' 2 '' 'L1 NotFound missing.ctb\n'
+
+"$program" clash t.ctb ab ab 2>err >/dev/full
+status=$?
+: >out
+expect 'a finding on a full standard output' 2 '' 'U4 OutputFailed\n'
+
 "$program" --version >out 2>err
 status=$?
 expect_text 'the version' 'brl '

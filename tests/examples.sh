@@ -1,6 +1,7 @@
 #!/bin/sh
 # Runs the examples. Usage: tests/examples.sh PROGRAM
-# examples/NAME.brf is what `translate examples/NAME.ctb` writes of examples/NAME.txt.
+# examples/NAME.brf is what `translate examples/NAME.ctb` writes of examples/NAME.txt, and examples/NAME.report what `clash
+# examples/NAME.ctb` writes of the two lines of examples/NAME.texts.
 set -u
 
 if [ $# -ne 1 ]; then
@@ -16,5 +17,20 @@ for want in *.brf; do
         echo "FAILED: examples/$name"
         exit 1
     fi
+    echo "ok: examples/$name"
+done
+
+for want in *.report; do
+    name=${want%.report}
+    { IFS= read -r left && IFS= read -r right; } <"$name.texts" || exit 1
+    got=$(mktemp)
+    "$program" clash "$name.ctb" "$left" "$right" >"$got"
+    status=$?
+    if [ "$status" != 1 ] || ! cmp "$got" "$want"; then
+        echo "FAILED: examples/$name, status $status"
+        rm -f "$got"
+        exit 1
+    fi
+    rm -f "$got"
     echo "ok: examples/$name"
 done

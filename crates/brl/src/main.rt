@@ -2,7 +2,7 @@
 #![tactic(auto)]
 
 use brl_lines::FileSource;
-use brl_tool::run;
+use brl_tool::{Watched, run};
 use std::env;
 use std::process::ExitCode;
 
@@ -29,8 +29,8 @@ fn main(rt: HostRuntime) -> ExitCode {
         alloc,
         words.as_slice(),
         &mut FileSource::new(&rt),
-        &mut rt.stdin(),
-        &mut rt.stdout(),
+        &mut Watched::new(rt.stdin()),
+        &mut Watched::new(rt.stdout()),
         &mut rt.stderr(),
     );
     ExitCode::from(status)

@@ -4,5 +4,6 @@ pub mod MemoryLemmas
 pub mod PieceLemmas
 pub mod RowLemmas
 pub mod SliceLemmas
+pub mod SpellingLemmas
 pub mod TextLemmas
 pub mod TokenLemmas

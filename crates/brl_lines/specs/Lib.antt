@@ -4,5 +4,6 @@ pub mod Lines
 pub mod Outcome
 pub mod Rows
 pub mod Slices
+pub mod Spelling
 pub mod Tokens
 pub mod Views

@@ -13,6 +13,7 @@ mod loaded;
 mod map_source;
 mod operand;
 mod source;
+mod spelling;
 
 pub use fault::{LoadFault, Place, Refused};
 pub use file_source::FileSource;
@@ -21,6 +22,7 @@ pub use loaded::{Loaded, load};
 pub use map_source::MapSource;
 pub use operand::{CharsFault, chars_of};
 pub use source::{MOST_FILE_BYTES, Source, SourceFault};
+pub use spelling::spell_chars;
 
 #[cfg(test)]
 mod tests;

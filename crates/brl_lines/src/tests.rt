@@ -8,7 +8,7 @@ ghost use Rattle.brl_lines.specs.Outcome.{Tells};
 use crate::file_source::read_whole;
 use crate::{
     CharsFault, FileSource, Line, LoadFault, Loaded, MapSource, Refused, Source, SourceFault,
-    chars_of, load,
+    chars_of, load, spell_chars,
 };
 use std::alloc::{AllocError, Global};
 use std::collections::BTreeMap;
@@ -334,6 +334,32 @@ fn operands(rt: HostRuntime) -> Result<(), Fail> {
     ];
     for operand in bad {
         assert_eq!(rt; chars_of(alloc, operand).err(), Some(CharsFault::BadEscape));
+    }
+    Ok(())
+}
+
+#[test]
+fn spellings(rt: HostRuntime) -> Result<(), Fail> {
+    let alloc = rt.alloc();
+    let cases: [(&[char], &str); 6] = [
+        (&[], ""),
+        (&['a', ' ', 'b'], "a\\sb"),
+        (&['\\', 's'], "\\\\s"),
+        (
+            &['\t', '\n', '\r', '\u{c}', '\u{b}', '\u{1b}'],
+            "\\t\\n\\r\\f\\v\\e",
+        ),
+        (
+            &['\0', '\u{1}', '\u{1f}', '\u{7f}'],
+            "\\x0000\\x0001\\x001f\\x007f",
+        ),
+        (
+            &['\u{80}', '\u{e9}', '\u{56fd}', '\u{1f600}'],
+            "\u{80}\u{e9}\u{56fd}\u{1f600}",
+        ),
+    ];
+    for (characters, want) in cases {
+        assert_eq!(rt; spell_chars(alloc, characters)?.as_str(), want);
     }
     Ok(())
 }

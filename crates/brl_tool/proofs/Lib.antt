@@ -1,4 +1,5 @@
 pub mod KnownBytes
+pub mod FindingLemmas
 pub mod FrontLemmas
 pub mod LineLemmas
 pub mod OutputLemmas

@@ -1,5 +1,7 @@
 -- The fault that ends the program, and its exit status. This is the project's own choice.
-use Rattle.std.specs.Prelude.{ℕ, ◌≡◌, ◌⊎◌}
+use Rattle.std.specs.Prelude.{ℕ, ◌≡◌, ◌<◌, ◌⊎◌, Result, Ok, Err}
+use Rattle.brl_forward.specs.declared.fault.ConfirmFault.{ConfirmFault}
+use Rattle.brl_forward.specs.declared.fault.ConfirmFault.TheVariants as confirm
 use Rattle.brl_lines.specs.declared.fault.LoadFault.{LoadFault}
 use Rattle.brl_lines.specs.declared.fault.LoadFault.TheVariants as load
 use Rattle.brl_table.specs.declared.table_fault.TableFault.{TableFault}
@@ -7,7 +9,7 @@ use Rattle.brl_table.specs.declared.table_fault.TableFault.TheVariants as table
 use Rattle.brl_tool.specs.declared.fault.StreamFault.{StreamFault}
 use Rattle.brl_tool.specs.declared.fault.StreamFault.TheVariants as stream
 use Rattle.brl_tool.specs.declared.run_fault.RunFault.{RunFault}
-use Rattle.brl_tool.specs.declared.run_fault.RunFault.TheVariants.{Load, Table, Stream, Memory}
+use Rattle.brl_tool.specs.declared.run_fault.RunFault.TheVariants.{Load, Table, Stream, Confirm, Memory}
 
 -- want of memory is the same fault wherever it came
 abbrev pub of_load : LoadFault → RunFault
@@ -22,11 +24,24 @@ abbrev pub of_stream : StreamFault → RunFault
 of_stream stream.Memory = Memory
 of_stream fault = Stream fault
 
+abbrev pub of_confirm : ConfirmFault → RunFault
+of_confirm confirm.Memory = Memory
+of_confirm fault = Confirm fault
+
 -- 3 for want of memory, 2 for every other fault
 abbrev pub status_of : RunFault → ℕ
 status_of Memory = 3
 status_of fault = 2
 
--- 0 where the work was done, 2 for a fault, 3 for want of memory
+-- the status of an outcome, where that of finished work depends on what came of it
+abbrev pub status_after : {T : Type 0} → (T → ℕ) → Result T RunFault → ℕ
+status_after finished (Ok value) = finished value
+status_after finished (Err fault) = status_of fault
+
+-- 0 where the work was done, 1 where two texts clash, 2 for a fault, 3 for want of memory
 abbrev pub IsStatus : ℕ → Type 0
-IsStatus status = (status ≡ 0) ⊎ (status ≡ 2) ⊎ (status ≡ 3)
+IsStatus status = status < 4
+
+-- words that ask for no work end with any of these but 1
+abbrev pub IsAnswered : ℕ → Type 0
+IsAnswered status = (status ≡ 0) ⊎ (status ≡ 2) ⊎ (status ≡ 3)

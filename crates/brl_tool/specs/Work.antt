@@ -30,8 +30,8 @@ WritesBy gives path form input old new outcome =
 abbrev pub IsFaultAt : (List ℕ → Answer → Type 0) → List ℕ → RunFault → Type 0
 IsFaultAt gives path (Load fault) = (answers : Answers) × AreGiven gives answers × RefusesAs (lines_of answers path) fault
 IsFaultAt gives path (Table fault) = (lines : List LineView) × AreLinesOf gives path lines × IsFaultOf lines fault
-IsFaultAt gives path (Stream fault) = ⊥
 IsFaultAt gives path Memory = Unit {0}
+IsFaultAt gives path fault = ⊥
 
 -- What was written, by how the work ended: nothing where the table has a fault.
 abbrev pub Works : (List ℕ → Answer → Type 0) → List ℕ → Form → Option (List ℕ) → Option (List ℕ) → Option (List ℕ) → Result (Unit {0}) RunFault → Type 0

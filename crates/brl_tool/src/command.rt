@@ -7,7 +7,15 @@ use std::alloc::Global;
 #[derive(Clone, Copy, Debug, PartialEq, Eq)]
 pub enum Task<'a> {
     /// Translate the input by the table whose file stands at this path.
-    Translate { table: &'a str },
+    Translate {
+        table: &'a str,
+    },
+    /// Compare two texts by the table whose file stands at this path.
+    Clash {
+        table: &'a str,
+        left: &'a str,
+        right: &'a str,
+    },
 }
 
 /// The program's version, which `--version` prints.
@@ -15,11 +23,15 @@ const VERSION: &str = "0.1.0";
 
 /// What follows the options in `brl --help`.
 const STATUSES: &str = "Exit status:
-  0  the work was done
-  2  the words, the table, the input or the output had a fault, which standard error names in one line
+  0  the work was done; of two texts: they don't clash
+  1  two texts clash
+  2  the words, the table, a text, the input or the output had a fault, which standard error names in one line
   3  there was not enough memory
 
 'brl COMMAND --help' says more of a command, with an example.";
+
+/// What `brl --help` says of `brl translate`.
+const TRANSLATE: &str = "Translates text into braille by a liblouis table";
 
 /// What `brl translate --help` says above the usage.
 const ABOUT_TRANSLATE: &str = "Translates text into braille by a liblouis table
@@ -30,7 +42,8 @@ translated. The first fault ends the work: standard error names it with its
 line, and the lines before it stand written.";
 
 /// What follows the options in `brl translate --help`.
-const EXAMPLE: &str = "A table is a UTF-8 file. Each line defines a character: an opcode (letter,
+const TRANSLATE_EXAMPLE: &str =
+    "A table is a UTF-8 file. Each line defines a character: an opcode (letter,
 punctuation or space), the character (\\s is a blank) and its dots (0 is the
 blank cell, - joins cells). A line that begins with # is a comment.
 
@@ -41,18 +54,63 @@ Example, a table of four characters and a text:
 It prints:
   ABC A";
 
+/// What `brl --help` says of `brl clash`.
+const CLASH: &str = "Says whether two texts look alike in braille";
+
+/// What `brl clash --help` says above the usage.
+const ABOUT_CLASH: &str = "Says whether two texts look alike in braille
+
+Translates both texts by a liblouis table. Where they differ and give the same
+cells, they clash: standard output gets the texts and their cells, and the exit
+status is 1. Else it gets 'no clash', and the status is 0.
+
+In the report \\s stands for a blank, \\\\ for a backslash, and control characters
+are written as in a table, so that each text can be copied into one.";
+
+/// What follows the options in `brl clash --help`.
+const CLASH_EXAMPLE: &str = "Example, a table in which x looks like ab:
+  printf '%s\\n' 'letter a 1' 'letter b 12' 'letter x 1-12' > alike.ctb
+  brl clash alike.ctb ab x
+
+It prints:
+  left: ab
+  right: x
+  cells: 1-12";
+
+/// An operand that must be there.
+fn operand<'a>(alloc: Global, id: &'a str, name: &'a str, help: &'a str) -> Arg<'a> {
+    Arg::new(alloc, id)
+        .value_name(name)
+        .help(help)
+        .required(true)
+}
+
+/// The operand of the table's file.
+fn table_operand<'a>(alloc: Global) -> Arg<'a> {
+    operand(alloc, "table", "TABLE", "The table's file")
+}
+
 /// The command line of `brl translate`.
 fn translate_command<'a>(alloc: Global) -> Result<Command<'a>, Error> {
-    let table = Arg::new(alloc, "table")
-        .value_name("TABLE")
-        .help("The table's file")
-        .required(true);
     Ok(
         Command::new(alloc, "translate")
-            .about("Translates text into braille by a liblouis table")
+            .about(TRANSLATE)
             .long_about(ABOUT_TRANSLATE)
-            .after_help(EXAMPLE)
-            .arg(table)?,
+            .after_help(TRANSLATE_EXAMPLE)
+            .arg(table_operand(alloc))?,
+    )
+}
+
+/// The command line of `brl clash`.
+fn clash_command<'a>(alloc: Global) -> Result<Command<'a>, Error> {
+    Ok(
+        Command::new(alloc, "clash")
+            .about(CLASH)
+            .long_about(ABOUT_CLASH)
+            .after_help(CLASH_EXAMPLE)
+            .arg(table_operand(alloc))?
+            .arg(operand(alloc, "left", "LEFT", "A text, as it stands"))?
+            .arg(operand(alloc, "right", "RIGHT", "Another text"))?,
     )
 }
 
@@ -61,11 +119,14 @@ fn whole_command<'a>(alloc: Global) -> Result<Command<'a>, Error> {
     Ok(
         Command::new(alloc, "brl")
             .version(VERSION)
-            .about("Translates text into braille by liblouis tables")
+            .about(
+                "Translates text into braille by liblouis tables, and finds texts that look alike",
+            )
             .after_help(STATUSES)
             .subcommand_required(true)
             .arg_required_else_help(true)
-            .subcommand(translate_command(alloc)?)?,
+            .subcommand(translate_command(alloc)?)?
+            .subcommand(clash_command(alloc)?)?,
     )
 }
 
@@ -82,7 +143,15 @@ pub fn task_of<'a>(alloc: Global, words: &'a [String]) -> Result<Task<'a>, Error
 
 /// The task of words that were read.
 fn found_task<'a>(matches: &ArgMatches<'a>) -> Option<Task<'a>> {
-    let translate = matches.subcommand_matches("translate")?;
-    let table = translate.get_str("table")?;
-    Some(Task::Translate { table })
+    match matches.subcommand()? {
+        ("translate", found) => Some(Task::Translate {
+            table: found.get_str("table")?,
+        }),
+        ("clash", found) => Some(Task::Clash {
+            table: found.get_str("table")?,
+            left: found.get_str("left")?,
+            right: found.get_str("right")?,
+        }),
+        _ => None,
+    }
 }

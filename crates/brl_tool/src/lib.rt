@@ -2,9 +2,11 @@
 //! program over any files and streams.
 #![tactic(auto)]
 
+mod by_file;
 mod command;
 mod device;
 mod fault;
+mod finding;
 mod form;
 mod line;
 mod output;

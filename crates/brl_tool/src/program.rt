@@ -1,27 +1,35 @@
 //! The program over any files and streams.
-ghost use Rattle.std.specs.Prelude.{IfOk, IfErr};
-ghost use Rattle.brl_tool.specs.Status.{IsStatus};
-ghost use Rattle.brl_tool.specs.Work.{IsFaultAt, IsTableOf, Works};
+ghost use Rattle.std.specs.Prelude.{◌≡◌};
+ghost use Rattle.std.specs.Str.{chars};
+ghost use Rattle.brl_tool.specs.Comparing.{ReportsClash};
+ghost use Rattle.brl_tool.specs.Status.{IsAnswered, IsStatus, status_of};
+ghost use Rattle.brl_tool.specs.Running.{ComparesBy, Runs, TranslatesBy};
 
+use crate::by_file::{compare_by_file, translate_by_file};
 use crate::command::{Task, task_of};
+use crate::finding::Finding;
 use crate::run_fault::{FAULT, RunFault};
-use crate::{Form, Input, LineFault, Output, Watched, translate_lines};
-use brl_lines::{Source, load};
-use brl_table::{Table, read_table};
+use crate::{Form, Input, Output};
+use brl_lines::Source;
 use clap::error::Error;
 use std::alloc::Global;
-use std::io::{Read, Write};
+use std::io::Write;
 
-/// The status of work that was done.
+/// The status of work that was done, and of texts that don't clash.
 const DONE: u8 = 0;
 
-/// Does what the words ask for, and answers the exit status: 0 where the work was done, 2 where the words, the table,
-/// the input or the output had a fault, and 3 for want of memory. The first of the words is the program's name.
+/// The status of texts that clash.
+const CLASH: u8 = 1;
+
+/// Does what the words ask for, and answers the exit status: 0 where the work was done, 1 where two texts clash, 2 where
+/// the words, the table, a text, the input or the output had a fault, and 3 for want of memory. The first of the words
+/// is the program's name.
 ///
-/// Standard output gets the translation, or help or the version where these are asked for. Standard error gets one
-/// line for a fault, or the text of a use fault; what can't be written there is dropped and changes no status. Faults
-/// come in the order of the work: the words, the table's file, its lines, the input.
-pub fn run<S: Source, I: Read, O: Write, E: Write>(
+/// Standard output gets the translation or what was found of two texts, or help or the version where these are asked
+/// for. Standard error gets one line for a fault, or the text of a use fault; what can't be written there is dropped and
+/// changes no status. Faults come in the order of the work: the words, the table's file, its lines, the texts or the
+/// input.
+pub fn run<S: Source, I: Input, O: Output, E: Write>(
     alloc: Global,
     words: &[String],
     source: &mut S,
@@ -29,76 +37,82 @@ pub fn run<S: Source, I: Read, O: Write, E: Write>(
     out: &mut O,
     err: &mut E,
 ) -> u8
-    ensures { IsStatus result }
+    ensures status { IsStatus result }
+    ensures runs { Runs (S.gives source.old) (I.remaining input.old) (O.contents out.old) (O.contents out.new) result }
+    ensures clash { result ≡ 1 → ReportsClash (S.gives source.old) (O.contents out.old) (O.contents out.new) }
 {
-    let task = match task_of(alloc, words) {
-        Ok(task) => task,
-        Err(error) => return answer(&error, out, err),
-    };
-    match work(alloc, task, source, input, out) {
-        Ok(()) => DONE,
-        Err(fault) => {
-            let _ = writeln!(err, "{fault}");
-            fault.status()
+    match task_of(alloc, words) {
+        Ok(Task::Translate { table }) => translate(alloc, source, table, input, out, err),
+        Ok(Task::Clash { table, left, right }) => {
+            compare(alloc, source, table, left, right, out, err)
         }
+        Err(error) => answer(alloc, &error, out, err),
     }
 }
 
+/// `brl translate`.
+fn translate<S: Source, I: Input, O: Output, E: Write>(
+    alloc: Global,
+    source: &mut S,
+    table: &str,
+    input: &mut I,
+    out: &mut O,
+    err: &mut E,
+) -> u8
+    ensures { TranslatesBy (S.gives source.old) table.now (I.remaining input.old) (O.contents out.old)
+        (O.contents out.new) result }
+{
+    match translate_by_file(alloc, source, table, Form::Ascii, input, out) {
+        Ok(()) => DONE,
+        Err(fault) => tell(&fault, err),
+    }
+}
+
+/// `brl clash`.
+fn compare<S: Source, O: Output, E: Write>(
+    alloc: Global,
+    source: &mut S,
+    table: &str,
+    left: &str,
+    right: &str,
+    out: &mut O,
+    err: &mut E,
+) -> u8
+    ensures { ComparesBy (S.gives source.old) table.now (chars left.now) (chars right.now) (O.contents out.old)
+        (O.contents out.new) result }
+{
+    match compare_by_file(alloc, source, table, left, right, out) {
+        Ok(Finding::NoClash) => DONE,
+        Ok(Finding::Clash) => CLASH,
+        Err(fault) => tell(&fault, err),
+    }
+}
+
+/// Tells a fault on standard error, and answers its status.
+fn tell<E: Write>(fault: &RunFault, err: &mut E) -> u8
+    ensures { result ≡ status_of fault.now }
+{
+    let _ = writeln!(err, "{fault}");
+    fault.status()
+}
+
 /// Answers words that ask for no work: help and the version go to standard output, a use fault to standard error.
-fn answer<O: Write, E: Write>(error: &Error, out: &mut O, err: &mut E) -> u8
-    ensures { IsStatus result }
+fn answer<O: Output, E: Write>(alloc: Global, error: &Error, out: &mut O, err: &mut E) -> u8
+    ensures { IsAnswered result }
 {
     if error.use_stderr() {
         let _ = write!(err, "{error}");
         return FAULT;
     }
-    if write!(out, "{error}").is_ok() {
-        return DONE;
-    }
-    let _ = writeln!(err, "{}", LineFault::OutputFailed);
-    FAULT
-}
-
-/// Does a task over the streams of the standard library.
-fn work<S: Source, I: Read, O: Write>(
-    alloc: Global,
-    task: Task<'_>,
-    source: &mut S,
-    input: &mut I,
-    out: &mut O,
-) -> Result<(), RunFault> {
-    let mut reader = Watched::new(input);
-    let mut writer = Watched::new(out);
-    match task {
-        Task::Translate { table } => {
-            translate_by_file(alloc, source, table, Form::Ascii, &mut reader, &mut writer)
-        }
+    match print(alloc, error, out) {
+        Ok(()) => DONE,
+        Err(fault) => tell(&fault, err),
     }
 }
 
-/// Translates the input, line by line, by the table whose file stands at a path.
-fn translate_by_file<S: Source, R: Input, W: Output>(
-    alloc: Global,
-    source: &mut S,
-    path: &str,
-    form: Form,
-    reader: &mut R,
-    writer: &mut W,
-) -> Result<(), RunFault>
-    ensures { Works (S.gives source.old) path.now form (R.remaining reader.old) (W.contents writer.old)
-        (W.contents writer.new) result }
-{
-    let table = table_at(alloc, source, path)?;
-    translate_lines(alloc, &table, form, reader, writer)?;
+/// Prints help or the version.
+fn print<O: Output>(alloc: Global, error: &Error, out: &mut O) -> Result<(), RunFault> {
+    let text = format!(in alloc; "{error}")?;
+    out.put(text.as_bytes())?;
     Ok(())
-}
-
-/// The table whose file stands at a path, or what is wrong with the file or with a line of it.
-fn table_at<S: Source>(alloc: Global, source: &mut S, path: &str) -> Result<Table, RunFault>
-    ensures table { IfOk result (IsTableOf (S.gives source.old) path.now) }
-    ensures fault { IfErr result (IsFaultAt (S.gives source.old) path.now) }
-{
-    let loaded = load(alloc, source, path)?;
-    let lines = loaded.lines(alloc)?;
-    Ok(read_table(alloc, lines.as_slice())?)
 }

@@ -1,11 +1,12 @@
 //! Why the program stopped before its work was done.
-use crate::StreamFault;
+use crate::{Failed, StreamFault};
+use brl_forward::ConfirmFault;
 use brl_lines::LoadFault;
 use brl_table::TableFault;
 use std::alloc::AllocError;
 use thiserror::Error;
 
-/// The status of a fault of the words, the table, the input or the output.
+/// The status of a fault of the words, the table, a text, the input or the output.
 pub const FAULT: u8 = 2;
 
 /// The status of want of memory.
@@ -23,6 +24,12 @@ pub enum RunFault {
     /// The input wasn't translated to its end.
     #[error("{0}")]
     Stream(StreamFault),
+    /// A text to be compared has a character that the table doesn't define.
+    #[error("{0}")]
+    Confirm(ConfirmFault),
+    /// The writer failed at what was found, or at help or the version; some first bytes of it may be written.
+    #[error("U4 OutputFailed")]
+    OutputFailed,
     /// A growth was refused.
     #[error("Memory")]
     Memory,
@@ -93,5 +100,30 @@ impl From<StreamFault> for RunFault {
             StreamFault::Memory => RunFault::Memory,
             at_line => RunFault::Stream(at_line),
         }
+    }
+}
+
+impl From<ConfirmFault> for RunFault {
+    ghost use Rattle.std.specs.Prelude.{◌≡◌};
+    ghost use Rattle.brl_tool.specs.Status.{of_confirm};
+
+    ghost from_gives = { λ confirm fault. fault ≡ of_confirm confirm };
+
+    fn from(fault: ConfirmFault) -> RunFault {
+        match fault {
+            ConfirmFault::Memory => RunFault::Memory,
+            unknown => RunFault::Confirm(unknown),
+        }
+    }
+}
+
+impl From<Failed> for RunFault {
+    ghost use Rattle.std.specs.Prelude.{◌≡◌};
+    ghost use Rattle.brl_tool.specs.declared.run_fault.RunFault.TheVariants.{OutputFailed};
+
+    ghost from_gives = { λ _ fault. fault ≡ OutputFailed };
+
+    fn from(_failed: Failed) -> RunFault {
+        RunFault::OutputFailed
     }
 }

@@ -3,9 +3,9 @@
 mod cases;
 mod devices;
 
-use crate::run;
+use crate::{Watched, run};
 use brl_lines::{MapSource, Source};
-use cases::{Request, Run};
+use cases::{Comparison, Request, Run};
 use devices::{Broken, Closed, Refusing};
 use std::alloc::Global;
 use std::collections::BTreeMap;
@@ -55,7 +55,7 @@ fn outcome_of<S: Source>(
 ) -> Result<Outcome, Fail> {
     let words = words_of(alloc, words)?;
     let mut reader = input;
-    let mut out = Vec::new(alloc);
+    let mut out = Watched::new(Vec::new(alloc));
     let mut err = Vec::new(alloc);
     let status = run(
         alloc,
@@ -65,7 +65,11 @@ fn outcome_of<S: Source>(
         &mut out,
         &mut err,
     );
-    Ok(Outcome { out, err, status })
+    Ok(Outcome {
+        out: out.device,
+        err,
+        status,
+    })
 }
 
 /// `brl translate t.ctb` over that file and an input.
@@ -96,6 +100,21 @@ fn check_run(rt: &impl Abort, alloc: Global, case: &Run) -> Result<(), Fail> {
 fn worked_runs(rt: HostRuntime) -> Result<(), Fail> {
     for case in cases::runs() {
         check_run(&rt, rt.alloc(), case)?;
+    }
+    Ok(())
+}
+
+fn check_comparison(rt: &impl Abort, alloc: Global, case: &Comparison) -> Result<(), Fail> {
+    let mut source = table_file(alloc, case.table.as_bytes())?;
+    let words = ["clash", "t.ctb", case.left, case.right];
+    let outcome = outcome_of(alloc, &words, &mut source, b"")?;
+    check_outcome(rt, &outcome, case.out.as_bytes(), case.err, case.status)
+}
+
+#[test]
+fn worked_comparisons(rt: HostRuntime) -> Result<(), Fail> {
+    for case in cases::comparisons() {
+        check_comparison(&rt, rt.alloc(), case)?;
     }
     Ok(())
 }
@@ -188,23 +207,27 @@ fn the_input_fails(rt: HostRuntime) -> Result<(), Fail> {
     let alloc = rt.alloc();
     let mut source = table_file(alloc, b"letter a 1")?;
     let words = words_of(alloc, &["translate", "t.ctb"])?;
-    let mut out = Vec::new(alloc);
+    let mut out = Watched::new(Vec::new(alloc));
     let mut err = Vec::new(alloc);
     let status = run(
         alloc,
         words.as_slice(),
         &mut source,
-        &mut Broken,
+        &mut Watched::new(Broken),
         &mut out,
         &mut err,
     );
-    let outcome = Outcome { out, err, status };
+    let outcome = Outcome {
+        out: out.device,
+        err,
+        status,
+    };
     check_outcome(&rt, &outcome, b"", "U3 InputFailed at line 1\n", 2)
 }
 
 /// The status and standard error of a run whose standard output refuses each write.
 fn without_output(rt: &impl Abort, alloc: Global, words: &[&str], err: &str) -> Result<(), Fail> {
-    let mut source = table_file(alloc, b"letter a 1")?;
+    let mut source = table_file(alloc, cases::ALIKE.as_bytes())?;
     let words = words_of(alloc, words)?;
     let mut input = b"a\n".as_slice();
     let mut written = Vec::new(alloc);
@@ -213,7 +236,7 @@ fn without_output(rt: &impl Abort, alloc: Global, words: &[&str], err: &str) -> 
         words.as_slice(),
         &mut source,
         &mut input,
-        &mut Closed,
+        &mut Watched::new(Closed),
         &mut written,
     );
     assert_eq!(rt; std::str::from_utf8(written.as_slice())?, err);
@@ -230,6 +253,18 @@ fn the_output_fails(rt: HostRuntime) -> Result<(), Fail> {
         &["translate", "t.ctb"],
         "U4 OutputFailed at line 1\n",
     )?;
+    without_output(
+        &rt,
+        alloc,
+        &["clash", "t.ctb", "ab", "x"],
+        "U4 OutputFailed\n",
+    )?;
+    without_output(
+        &rt,
+        alloc,
+        &["clash", "t.ctb", "a", "b"],
+        "U4 OutputFailed\n",
+    )?;
     without_output(&rt, alloc, &["--help"], "U4 OutputFailed\n")?;
     without_output(&rt, alloc, &["--version"], "U4 OutputFailed\n")
 }
@@ -245,7 +280,7 @@ fn check_silent(
     let mut source = table_file(alloc, b"letter a 1")?;
     let words = words_of(alloc, words)?;
     let mut reader = input;
-    let mut out = Vec::new(alloc);
+    let mut out = Watched::new(Vec::new(alloc));
     let got = run(
         alloc,
         words.as_slice(),
@@ -264,5 +299,6 @@ fn standard_error_refuses(rt: HostRuntime) -> Result<(), Fail> {
     check_silent(&rt, alloc, &["translate", "t.ctb"], b"a\n", 0)?;
     check_silent(&rt, alloc, &["translate", "t.ctb"], b"z\n", 2)?;
     check_silent(&rt, alloc, &["translate", "u.ctb"], b"", 2)?;
+    check_silent(&rt, alloc, &["clash", "t.ctb", "a", "z"], b"", 2)?;
     check_silent(&rt, alloc, &["--nothing"], b"", 2)
 }

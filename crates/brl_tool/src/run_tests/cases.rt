@@ -19,6 +19,20 @@ pub struct Request {
     pub status: u8,
 }
 
+/// A table's lines and two texts, and what `clash` answers.
+pub struct Comparison {
+    pub table: &'static str,
+    pub left: &'static str,
+    pub right: &'static str,
+    pub out: &'static str,
+    pub err: &'static str,
+    pub status: u8,
+}
+
+pub fn comparisons() -> &'static [Comparison] {
+    &COMPARISONS
+}
+
 pub fn runs() -> &'static [Run] {
     &RUNS
 }
@@ -28,6 +42,13 @@ pub fn requests() -> &'static [Request] {
 }
 
 const LETTERS: &str = "space \\s 0\nletter a 1\nletter b 12\nletter c 14\n";
+
+/// A table in which `x` looks like `ab`.
+pub const ALIKE: &str = "letter a 1\nletter b 12\nletter x 1-12\n";
+
+/// A table of one cell for characters that are spelled by escapes.
+const ESCAPES: &str =
+    "space \\s 1\npunctuation \\\\ 1\nspace \\t 1\nspace \\x0001 1\nletter \u{56fd} 1\n";
 
 static RUNS: [Run; 24] = [
     Run {
@@ -200,7 +221,7 @@ static RUNS: [Run; 24] = [
     },
 ];
 
-static REQUESTS: [Request; 13] = [
+static REQUESTS: [Request; 17] = [
     Request {
         words: &["translate", "t.ctb"],
         out: "",
@@ -274,9 +295,164 @@ static REQUESTS: [Request; 13] = [
         status: 2,
     },
     Request {
+        words: &["clash", "t.ctb", "a", "b"],
+        out: "",
+        err: "L1 NotFound t.ctb\n",
+        status: 2,
+    },
+    Request {
+        words: &["clash", "--help"],
+        out: "brl clash alike.ctb ab x",
+        err: "",
+        status: 0,
+    },
+    Request {
+        words: &["clash", "t.ctb", "a"],
+        out: "",
+        err: "<RIGHT>",
+        status: 2,
+    },
+    Request {
+        words: &["clash", "t.ctb", "a", "b", "c"],
+        out: "",
+        err: "unexpected argument 'c'",
+        status: 2,
+    },
+    Request {
         words: &["search", "t.ctb", "o"],
         out: "",
         err: "unrecognized subcommand 'search'",
+        status: 2,
+    },
+];
+
+static COMPARISONS: [Comparison; 16] = [
+    Comparison {
+        table: ALIKE,
+        left: "ab",
+        right: "x",
+        out: "left: ab\nright: x\ncells: 1-12\n",
+        err: "",
+        status: 1,
+    },
+    Comparison {
+        table: ALIKE,
+        left: "x",
+        right: "ab",
+        out: "left: x\nright: ab\ncells: 1-12\n",
+        err: "",
+        status: 1,
+    },
+    Comparison {
+        table: ALIKE,
+        left: "ab",
+        right: "ab",
+        out: "no clash\n",
+        err: "",
+        status: 0,
+    },
+    Comparison {
+        table: ALIKE,
+        left: "a",
+        right: "b",
+        out: "no clash\n",
+        err: "",
+        status: 0,
+    },
+    Comparison {
+        table: ALIKE,
+        left: "",
+        right: "",
+        out: "no clash\n",
+        err: "",
+        status: 0,
+    },
+    Comparison {
+        table: ALIKE,
+        left: "",
+        right: "a",
+        out: "no clash\n",
+        err: "",
+        status: 0,
+    },
+    Comparison {
+        table: ALIKE,
+        left: "xab",
+        right: "abx",
+        out: "left: xab\nright: abx\ncells: 1-12-1-12\n",
+        err: "",
+        status: 1,
+    },
+    Comparison {
+        table: ALIKE,
+        left: "zb",
+        right: "y",
+        out: "",
+        err: "F1 UnknownChar 0 at left\n",
+        status: 2,
+    },
+    Comparison {
+        table: ALIKE,
+        left: "a",
+        right: "z",
+        out: "",
+        err: "F1 UnknownChar 0 at right\n",
+        status: 2,
+    },
+    Comparison {
+        table: ALIKE,
+        left: "abz",
+        right: "a",
+        out: "",
+        err: "F1 UnknownChar 2 at left\n",
+        status: 2,
+    },
+    Comparison {
+        table: ALIKE,
+        left: "z",
+        right: "z",
+        out: "",
+        err: "F1 UnknownChar 0 at left\n",
+        status: 2,
+    },
+    Comparison {
+        table: ESCAPES,
+        left: " ",
+        right: "\\",
+        out: "left: \\s\nright: \\\\\ncells: 1\n",
+        err: "",
+        status: 1,
+    },
+    Comparison {
+        table: ESCAPES,
+        left: "\t\u{1}",
+        right: "\u{56fd} ",
+        out: "left: \\t\\x0001\nright: \u{56fd}\\s\ncells: 1-1\n",
+        err: "",
+        status: 1,
+    },
+    Comparison {
+        table: ESCAPES,
+        left: "\u{56fd}",
+        right: "\u{e9}",
+        out: "",
+        err: "F1 UnknownChar 0 at right\n",
+        status: 2,
+    },
+    Comparison {
+        table: "letter a 0-123456\nletter b 87-12\nletter c 0-123456-78-12\n",
+        left: "ab",
+        right: "c",
+        out: "left: ab\nright: c\ncells: 0-123456-78-12\n",
+        err: "",
+        status: 1,
+    },
+    Comparison {
+        table: "letter a 19\n",
+        left: "z",
+        right: "y",
+        out: "",
+        err: "B4 BadDots 19 at t.ctb:1\n",
         status: 2,
     },
 ];

@@ -1,5 +1,5 @@
 use Rattle.brl_tool.proofs.WorkLemmas.{works_at_error}
-use Rattle.brl_tool.proofs.program.translate_by_file.Goals as goal
+use Rattle.brl_tool.proofs.by_file.translate_by_file.Goals as goal
 
 pub returns-in_err-translate_lines : goal.returns-in_err-translate_lines
 returns-in_err-translate_lines g c =
