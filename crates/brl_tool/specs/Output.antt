@@ -2,19 +2,20 @@
 use Rattle.std.specs.Prelude.{ℕ, ◌≡◌, ◌≤◌, ◌+◌, if◌then◌else◌, nat_lt, nat_le, Bool, List, [], ◌∷◌, ◌++◌, length, take, map, Option, None, Some, option_map, Result, Ok, Err}
 use Rattle.std.specs.List.{list_any, concat}
 use Rattle.std.specs.Fmt.{option_append}
+use Rattle.std.specs.Char.{encode_utf8}
 use Rattle.std.specs.Str.{chars, is_utf8}
 use Rattle.std.specs.Io.KnownBytes.{Appends, Consumes}
 use Rattle.brl_table.specs.TableView.{TableView}
 use Rattle.brl_table.specs.Translation.{translation}
 use Rattle.brl_forward.specs.Faults.{first_unknown}
-use Rattle.brl_cells.specs.Marks.{ascii_mark}
+use Rattle.brl_cells.specs.Marks.{ascii_mark, unicode_mark}
 use Rattle.brl_tool.specs.InputLines.{lines_of, ended, unended, without_return}
 use Rattle.brl_tool.specs.declared.fault.LineFault.{LineFault}
 use Rattle.brl_tool.specs.declared.fault.LineFault.TheVariants as faults
 use Rattle.brl_tool.specs.declared.fault.StreamFault.{StreamFault}
 use Rattle.brl_tool.specs.declared.fault.StreamFault.TheVariants as streams
 use Rattle.brl_tool.specs.declared.form.Form.{Form}
-use Rattle.brl_tool.specs.declared.form.Form.TheVariants.{Ascii}
+use Rattle.brl_tool.specs.declared.form.Form.TheVariants.{Ascii, Unicode}
 
 -- what a line of an input gives: its output, or its fault
 abbrev pub LineResult : Type 0
@@ -23,6 +24,7 @@ LineResult = Result (List ℕ) LineFault
 -- the bytes of a cell in a form, if it has a mark there
 abbrev pub mark_of : Form → ℕ → Option (List ℕ)
 mark_of Ascii cell = option_map (λ mark. mark ∷ []) (ascii_mark cell)
+mark_of Unicode cell = Some (encode_utf8 (unicode_mark cell))
 
 -- the bytes of cells in a form, if each has a mark there
 abbrev pub marks_of : Form → List ℕ → Option (List ℕ)

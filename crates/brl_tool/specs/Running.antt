@@ -6,7 +6,7 @@ use Rattle.brl_tool.specs.Status.{IsAnswered, status_after}
 use Rattle.brl_tool.specs.Work.{Works}
 use Rattle.brl_tool.specs.declared.finding.Finding.{Finding}
 use Rattle.brl_tool.specs.declared.finding.Finding.TheVariants.{Clash, NoClash}
-use Rattle.brl_tool.specs.declared.form.Form.TheVariants.{Ascii}
+use Rattle.brl_tool.specs.declared.form.Form.{Form}
 use Rattle.brl_tool.specs.declared.run_fault.RunFault.{RunFault}
 
 -- the status of what was found of two texts
@@ -15,9 +15,9 @@ finding_status Clash = 1
 finding_status NoClash = 0
 
 -- the input was translated by the table of the file at a path, and the status is that of the outcome
-abbrev pub TranslatesBy : (List ℕ → Answer → Type 0) → List ℕ → Option (List ℕ) → Option (List ℕ) → Option (List ℕ) → ℕ → Type 0
-TranslatesBy gives path input old new status =
-    (outcome : Result (Unit {0}) RunFault) × Works gives path Ascii input old new outcome × (status ≡ status_after (λ done. 0) outcome)
+abbrev pub TranslatesBy : (List ℕ → Answer → Type 0) → List ℕ → Form → Option (List ℕ) → Option (List ℕ) → Option (List ℕ) → ℕ → Type 0
+TranslatesBy gives path form input old new status =
+    (outcome : Result (Unit {0}) RunFault) × Works gives path form input old new outcome × (status ≡ status_after (λ done. 0) outcome)
 
 -- two texts were compared by the table of the file at a path, and the status is that of the outcome
 abbrev pub ComparesBy : (List ℕ → Answer → Type 0) → List ℕ → List ℕ → List ℕ → Option (List ℕ) → Option (List ℕ) → ℕ → Type 0
@@ -28,5 +28,5 @@ ComparesBy gives path left right old new status =
 abbrev pub Runs : (List ℕ → Answer → Type 0) → Option (List ℕ) → Option (List ℕ) → Option (List ℕ) → ℕ → Type 0
 Runs gives input old new status =
     IsAnswered status
-    ⊎ ((path : List ℕ) × TranslatesBy gives path input old new status)
+    ⊎ ((path : List ℕ) × (form : Form) × TranslatesBy gives path form input old new status)
     ⊎ ((path left right : List ℕ) × ComparesBy gives path left right old new status)

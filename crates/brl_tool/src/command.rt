@@ -1,4 +1,5 @@
 //! The words of the command line.
+use crate::Form;
 use clap::error::{Error, ErrorKind};
 use clap::{Arg, ArgMatches, Command};
 use std::alloc::Global;
@@ -6,9 +7,10 @@ use std::alloc::Global;
 /// What the words ask for.
 #[derive(Clone, Copy, Debug, PartialEq, Eq)]
 pub enum Task<'a> {
-    /// Translate the input by the table whose file stands at this path.
+    /// Translate the input to this form by the table whose file stands at this path.
     Translate {
         table: &'a str,
+        form: Form,
     },
     /// Compare two texts by the table whose file stands at this path.
     Clash {
@@ -20,6 +22,15 @@ pub enum Task<'a> {
 
 /// The program's version, which `--version` prints.
 const VERSION: &str = "0.1.0";
+
+/// The name of Braille ASCII on the command line.
+const ASCII: &str = "ascii";
+
+/// The name of Unicode braille on the command line.
+const UNICODE: &str = "unicode";
+
+/// The names that `--form` takes.
+const FORMS: [&str; 2] = [ASCII, UNICODE];
 
 /// What follows the options in `brl --help`.
 const STATUSES: &str = "Exit status:
@@ -37,9 +48,9 @@ const TRANSLATE: &str = "Translates text into braille by a liblouis table";
 const ABOUT_TRANSLATE: &str = "Translates text into braille by a liblouis table
 
 Reads standard input line by line and writes the cells of each line to standard
-output as North American Braille ASCII. A line is written before the next is
-translated. The first fault ends the work: standard error names it with its
-line, and the lines before it stand written.";
+output, as North American Braille ASCII or as Unicode braille. A line is written
+before the next is translated. The first fault ends the work: standard error
+names it with its line, and the lines before it stand written.";
 
 /// What follows the options in `brl translate --help`.
 const TRANSLATE_EXAMPLE: &str =
@@ -90,6 +101,16 @@ fn table_operand<'a>(alloc: Global) -> Arg<'a> {
     operand(alloc, "table", "TABLE", "The table's file")
 }
 
+/// The option of how cells are written.
+fn form_option<'a>(alloc: Global) -> Arg<'a> {
+    Arg::new(alloc, "form")
+        .long("form")
+        .value_name("FORM")
+        .help("How cells are written")
+        .value_parser(FORMS.as_slice())
+        .default_value(ASCII)
+}
+
 /// The command line of `brl translate`.
 fn translate_command<'a>(alloc: Global) -> Result<Command<'a>, Error> {
     Ok(
@@ -97,6 +118,7 @@ fn translate_command<'a>(alloc: Global) -> Result<Command<'a>, Error> {
             .about(TRANSLATE)
             .long_about(ABOUT_TRANSLATE)
             .after_help(TRANSLATE_EXAMPLE)
+            .arg(form_option(alloc))?
             .arg(table_operand(alloc))?,
     )
 }
@@ -146,12 +168,22 @@ fn found_task<'a>(matches: &ArgMatches<'a>) -> Option<Task<'a>> {
     match matches.subcommand()? {
         ("translate", found) => Some(Task::Translate {
             table: found.get_str("table")?,
+            form: form_of(found.get_str("form")?)?,
         }),
         ("clash", found) => Some(Task::Clash {
             table: found.get_str("table")?,
             left: found.get_str("left")?,
             right: found.get_str("right")?,
         }),
+        _ => None,
+    }
+}
+
+/// The form of this name.
+fn form_of(name: &str) -> Option<Form> {
+    match name {
+        ASCII => Some(Form::Ascii),
+        UNICODE => Some(Form::Unicode),
         _ => None,
     }
 }

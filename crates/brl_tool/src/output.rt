@@ -5,7 +5,7 @@ ghost use Rattle.brl_tool.specs.Output.{mark_of, marks_of, output_of};
 ghost use Rattle.brl_tool.specs.Writing.{Pushes, IsMade, WriteTells, stopped_at};
 
 use crate::{Form, LineFault, Output, StreamFault};
-use brl_cells::{Cell, to_ascii};
+use brl_cells::{Cell, to_ascii, to_unicode};
 use brl_forward::{ForwardFault, translate};
 use brl_table::Table;
 use std::alloc::{AllocError, AllocFailed, Global};
@@ -165,6 +165,11 @@ fn push_mark(form: Form, cell: Cell, output: &mut Vec<u8>) -> Result<(), Stop>
             Some(mark) => output.push(mark)?,
             None => return Err(Stop::Fault(LineFault::NoAscii)),
         },
+        Form::Unicode => {
+            let mut bytes = [0; 4];
+            let mark = to_unicode(cell).encode_utf8(&mut bytes);
+            output.extend_from_slice(mark.as_bytes())?;
+        }
     }
     Ok(())
 }

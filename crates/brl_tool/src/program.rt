@@ -42,7 +42,9 @@ pub fn run<S: Source, I: Input, O: Output, E: Write>(
     ensures clash { result ≡ 1 → ReportsClash (S.gives source.old) (O.contents out.old) (O.contents out.new) }
 {
     match task_of(alloc, words) {
-        Ok(Task::Translate { table }) => translate(alloc, source, table, input, out, err),
+        Ok(Task::Translate { table, form }) => {
+            translate(alloc, source, table, form, input, out, err)
+        }
         Ok(Task::Clash { table, left, right }) => {
             compare(alloc, source, table, left, right, out, err)
         }
@@ -55,14 +57,15 @@ fn translate<S: Source, I: Input, O: Output, E: Write>(
     alloc: Global,
     source: &mut S,
     table: &str,
+    form: Form,
     input: &mut I,
     out: &mut O,
     err: &mut E,
 ) -> u8
-    ensures { TranslatesBy (S.gives source.old) table.now (I.remaining input.old) (O.contents out.old)
+    ensures { TranslatesBy (S.gives source.old) table.now form (I.remaining input.old) (O.contents out.old)
         (O.contents out.new) result }
 {
-    match translate_by_file(alloc, source, table, Form::Ascii, input, out) {
+    match translate_by_file(alloc, source, table, form, input, out) {
         Ok(()) => DONE,
         Err(fault) => tell(&fault, err),
     }

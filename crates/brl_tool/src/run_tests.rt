@@ -119,6 +119,25 @@ fn worked_comparisons(rt: HostRuntime) -> Result<(), Fail> {
     Ok(())
 }
 
+#[test]
+fn cells_have_two_forms(rt: HostRuntime) -> Result<(), Fail> {
+    let alloc = rt.alloc();
+    let cases: [(&str, &[u8]); 2] = [
+        ("ascii", b"A \n"),
+        ("unicode", b"\xe2\xa0\x81\xe2\xa0\x80\n"),
+    ];
+    for (form, out) in cases {
+        let mut source = table_file(alloc, b"space \\s 0\nletter a 1\n")?;
+        let words = ["translate", "t.ctb", "--form", form];
+        let outcome = outcome_of(alloc, &words, &mut source, b"a \n")?;
+        check_outcome(&rt, &outcome, out, "", 0)?;
+    }
+    let mut source = table_file(alloc, b"letter q 17\n")?;
+    let words = ["translate", "--form=unicode", "t.ctb"];
+    let outcome = outcome_of(alloc, &words, &mut source, b"q\n")?;
+    check_outcome(&rt, &outcome, b"\xe2\xa1\x81\n", "", 0)
+}
+
 /// Whether a text that isn't empty stands in what was written; of the empty text, whether nothing was written.
 fn has_text(written: &[u8], text: &str) -> Result<bool, Fail> {
     let written = std::str::from_utf8(written)?;

@@ -221,7 +221,7 @@ static RUNS: [Run; 24] = [
     },
 ];
 
-static REQUESTS: [Request; 17] = [
+static REQUESTS: [Request; 19] = [
     Request {
         words: &["translate", "t.ctb"],
         out: "",
@@ -242,7 +242,7 @@ static REQUESTS: [Request; 17] = [
     },
     Request {
         words: &["translate", "--help"],
-        out: "Usage: brl translate <TABLE>",
+        out: "Usage: brl translate [OPTIONS] <TABLE>",
         err: "",
         status: 0,
     },
@@ -285,8 +285,20 @@ static REQUESTS: [Request; 17] = [
     Request {
         words: &["translate", "--form", "unicode", "t.ctb"],
         out: "",
-        err: "unexpected argument '--form'",
+        err: "L1 NotFound t.ctb\n",
         status: 2,
+    },
+    Request {
+        words: &["translate", "--form", "latin", "t.ctb"],
+        out: "",
+        err: "invalid value 'latin' for '--form <FORM>'",
+        status: 2,
+    },
+    Request {
+        words: &["translate", "--help"],
+        out: "[possible values: ascii, unicode]",
+        err: "",
+        status: 0,
     },
     Request {
         words: &["--nothing"],
