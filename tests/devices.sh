@@ -86,6 +86,58 @@ expect 'a table line of 2,049 bytes' 2 '' 'L6 LineTooLong long.ctb at long.ctb:2
 status=$?
 expect 'a table without end' 2 '' 'L9 TooLarge /dev/zero\n'
 
+# A table of four files in two folders, all named from the folder of its root.
+mkdir -p tables/parts
+printf '# four files\ninclude letters.ctb\ninclude parts/marks.ctb and a comment\n' >tables/root.ctb
+printf 'include parts/blank.ctb\nletter a 1\nletter b 12\n' >tables/letters.ctb
+printf 'space \\s 0\n' >tables/parts/blank.ctb
+printf 'punctuation . 256\n' >tables/parts/marks.ctb
+translate tables/root.ctb 'ab a.\n'
+expect 'a table of four files in two folders' 0 'AB A4\n' ''
+
+printf 'include %s/tables/parts/marks.ctb\n' "$work" >tables/whole.ctb
+translate tables/whole.ctb '.\n'
+expect 'an include by its whole path' 0 '4\n' ''
+
+# A table whose second line includes this name.
+including() {
+    printf '# a table\ninclude %s\n' "$1" >tables/t.ctb
+    translate tables/t.ctb 'a\n'
+}
+
+including none.ctb
+expect 'a missing include' 2 '' 'L1 NotFound tables/none.ctb at tables/t.ctb:2\n'
+
+including parts
+expect 'a folder as an include' 2 '' 'L2 ReadFailed tables/parts at tables/t.ctb:2\n'
+
+cp bytes.ctb long.ctb tables
+including bytes.ctb
+expect 'an include that is not UTF-8' 2 '' 'L3 NotUtf8 tables/bytes.ctb at tables/t.ctb:2\n'
+
+including t.ctb
+expect 'a table that includes itself' 2 '' 'L4 Cycle tables/t.ctb at tables/t.ctb:2\n'
+
+for depth in $(seq 2 17); do
+    echo "include deep$((depth + 1)).ctb" >"tables/deep$depth.ctb"
+done
+including deep2.ctb
+expect 'an include below the sixteenth file' 2 '' 'L5 TooDeep tables/deep17.ctb at tables/deep16.ctb:1\n'
+
+including long.ctb
+expect 'an include with a line of 2,049 bytes' 2 '' 'L6 LineTooLong tables/long.ctb at tables/long.ctb:2\n'
+
+yes 'include empty.ctb' | head -n 1024 >tables/many.ctb
+: >tables/empty.ctb
+translate tables/many.ctb ''
+expect '1,024 includes' 0 '' ''
+echo 'include empty.ctb' >>tables/many.ctb
+translate tables/many.ctb ''
+expect '1,025 includes' 2 '' 'L8 TooManyIncludes tables/empty.ctb at tables/many.ctb:1025\n'
+
+including /dev/zero
+expect 'an include without end' 2 '' 'L9 TooLarge /dev/zero at tables/t.ctb:2\n'
+
 translate t.ctb 'ab\nc\nz\na\n'
 expect 'the lines before a fault stand written' 2 'AB\nC\n' 'F1 UnknownChar 0 at line 3\n'
 

@@ -5,7 +5,7 @@ mod devices;
 
 use crate::{Watched, run};
 use brl_lines::{MapSource, Source};
-use cases::{Comparison, Request, Run};
+use cases::{Comparison, Request, Run, Tree};
 use devices::{Broken, Closed, Refusing};
 use std::alloc::Global;
 use std::collections::BTreeMap;
@@ -100,6 +100,31 @@ fn check_run(rt: &impl Abort, alloc: Global, case: &Run) -> Result<(), Fail> {
 fn worked_runs(rt: HostRuntime) -> Result<(), Fail> {
     for case in cases::runs() {
         check_run(&rt, rt.alloc(), case)?;
+    }
+    Ok(())
+}
+
+/// Files with these texts at these paths.
+fn files_of(alloc: Global, files: &[(&str, &str)]) -> Result<MapSource, Fail> {
+    let mut source = no_files(alloc);
+    for (path, text) in files {
+        let bytes = Vec::from_slice(alloc, text.as_bytes())?;
+        source.files.insert(String::from_str(alloc, path)?, bytes)?;
+    }
+    Ok(source)
+}
+
+fn check_tree(rt: &impl Abort, alloc: Global, case: &Tree) -> Result<(), Fail> {
+    let mut source = files_of(alloc, case.files)?;
+    let words = ["translate", case.files[0].0];
+    let outcome = outcome_of(alloc, &words, &mut source, case.input)?;
+    check_outcome(rt, &outcome, case.out.as_bytes(), case.err, case.status)
+}
+
+#[test]
+fn tables_of_several_files(rt: HostRuntime) -> Result<(), Fail> {
+    for case in cases::trees() {
+        check_tree(&rt, rt.alloc(), case)?;
     }
     Ok(())
 }

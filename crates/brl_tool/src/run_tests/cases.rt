@@ -29,6 +29,19 @@ pub struct Comparison {
     pub status: u8,
 }
 
+/// Files by their paths, the first being the table, an input, and what `translate` answers.
+pub struct Tree {
+    pub files: &'static [(&'static str, &'static str)],
+    pub input: &'static [u8],
+    pub out: &'static str,
+    pub err: &'static str,
+    pub status: u8,
+}
+
+pub fn trees() -> &'static [Tree] {
+    &TREES
+}
+
 pub fn comparisons() -> &'static [Comparison] {
     &COMPARISONS
 }
@@ -50,7 +63,7 @@ pub const ALIKE: &str = "letter a 1\nletter b 12\nletter x 1-12\n";
 const ESCAPES: &str =
     "space \\s 1\npunctuation \\\\ 1\nspace \\t 1\nspace \\x0001 1\nletter \u{56fd} 1\n";
 
-static RUNS: [Run; 24] = [
+static RUNS: [Run; 23] = [
     Run {
         table: LETTERS,
         input: b"abc a\n",
@@ -112,13 +125,6 @@ static RUNS: [Run; 24] = [
         input: b"",
         out: "",
         err: "B1 OutsideProfile pass2 at t.ctb:1\n",
-        status: 2,
-    },
-    Run {
-        table: "include u.ctb\n",
-        input: b"",
-        out: "",
-        err: "B1 OutsideProfile include at t.ctb:1\n",
         status: 2,
     },
     Run {
@@ -466,5 +472,96 @@ static COMPARISONS: [Comparison; 16] = [
         out: "",
         err: "B4 BadDots 19 at t.ctb:1\n",
         status: 2,
+    },
+];
+
+static TREES: [Tree; 9] = [
+    Tree {
+        files: &[
+            ("d/t.ctb", "include u.ctb\n"),
+            ("d/u.ctb", "include v/w.ctb\n"),
+            ("d/v/w.ctb", "include x.ctb\n"),
+            ("d/x.ctb", "letter a 1\n"),
+        ],
+        input: b"a\n",
+        out: "A\n",
+        err: "",
+        status: 0,
+    },
+    Tree {
+        files: &[
+            ("d/t.ctb", "include /v.ctb\n"),
+            ("/v.ctb", "letter a 1\n"),
+        ],
+        input: b"a\n",
+        out: "A\n",
+        err: "",
+        status: 0,
+    },
+    Tree {
+        files: &[
+            ("t.ctb", "letter a 1\ninclude u.ctb\nletter b 12\n"),
+            ("u.ctb", "letter a 12\nletter c 14\n"),
+        ],
+        input: b"abc\n",
+        out: "ABC\n",
+        err: "",
+        status: 0,
+    },
+    Tree {
+        files: &[
+            ("t.ctb", "include u.ctb\n"),
+            ("u.ctb", "include t.ctb\n"),
+        ],
+        input: b"",
+        out: "",
+        err: "L4 Cycle t.ctb at u.ctb:1\n",
+        status: 2,
+    },
+    Tree {
+        files: &[
+            ("t.ctb", "include u\n"),
+        ],
+        input: b"",
+        out: "",
+        err: "L1 NotFound u at t.ctb:1\n",
+        status: 2,
+    },
+    Tree {
+        files: &[
+            ("t.ctb", "include\n"),
+        ],
+        input: b"",
+        out: "",
+        err: "B2 MissingOperand include at t.ctb:1\n",
+        status: 2,
+    },
+    Tree {
+        files: &[
+            ("t.ctb", "letter a\ninclude u\n"),
+        ],
+        input: b"",
+        out: "",
+        err: "L1 NotFound u at t.ctb:2\n",
+        status: 2,
+    },
+    Tree {
+        files: &[
+            ("t.ctb", "include u\npass2 @1 @2\n"),
+            ("u", "letter a 1\nletter a 19\n"),
+        ],
+        input: b"",
+        out: "",
+        err: "B4 BadDots 19 at u:2\n",
+        status: 2,
+    },
+    Tree {
+        files: &[
+            ("t.ctb", "digit 1 1\nlowercase b 12\nuppercase C 14\nsign + 346\nmath = 2356\n"),
+        ],
+        input: b"1bC+=\n",
+        out: "ABC+7\n",
+        err: "",
+        status: 0,
     },
 ];
