@@ -1,9 +1,15 @@
+pub mod EachLineLemmas
 pub mod EscapeLemmas
+pub mod FileLemmas
+pub mod FolderLemmas
 pub mod LineLemmas
+pub mod LoadLemmas
 pub mod MemoryLemmas
 pub mod PieceLemmas
+pub mod PlacedLemmas
 pub mod RowLemmas
 pub mod SliceLemmas
 pub mod SpellingLemmas
 pub mod TextLemmas
 pub mod TokenLemmas
+pub mod TurnLemmas

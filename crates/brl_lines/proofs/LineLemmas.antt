@@ -1,5 +1,5 @@
 -- The lines of what is left of a text.
-use Rattle.std.proofs.Common.{◌≡◌, ℕ, ◌+◌, ◌++◌, ◌∷◌, [], List, false, length, map, refl, ap, sym, ◌∙◌, add-one, append_assoc}
+use Rattle.std.proofs.Common.{◌≡◌, ℕ, ◌+◌, ◌++◌, ◌∷◌, [], List, false, length, map, refl, ap, add-one}
 use Rattle.std.specs.List.{enumerate_from, flat_map}
 use Rattle.brl_lines.proofs.PieceLemmas.{piece_whole}
 use Rattle.brl_lines.specs.Rows.{piece, rows}
@@ -18,15 +18,6 @@ lines_from-whole file text = ap (λ left. lines_from file 1 left) (piece_whole t
 pub lines_from-row : (file : List ℕ) (number : ℕ) (left row rest : List (ℕ × ℕ)) → rows left ≡ row ∷ rows rest
     → lines_from file number left ≡ line_of file number (map token_of (tokens row)) ++ lines_from file (number + 1) rest
 lines_from-row file number left row rest e = rw (e, add-one) refl
-
--- one row more is read
-pub lines_from-more : (file : List ℕ) (number : ℕ) (left row rest : List (ℕ × ℕ)) (so_far here all : List LineView) → rows left ≡ row ∷ rows rest
-    → here ≡ line_of file number (map token_of (tokens row)) → so_far ++ lines_from file number left ≡ all → (so_far ++ here) ++ lines_from file (number + 1) rest ≡ all
-lines_from-more file number left row rest so_far here all cut e before =
-    append_assoc so_far here (lines_from file (number + 1) rest)
-    ∙ ap (λ h. so_far ++ (h ++ lines_from file (number + 1) rest)) e
-    ∙ ap (λ ls. so_far ++ ls) (sym (lines_from-row file number left row rest cut))
-    ∙ before
 
 -- a row whose first token is no comment is a line
 pub line_of-plain : (file : List ℕ) (number : ℕ) (first : TokenView) (others : List TokenView) → is_comment first ≡ false

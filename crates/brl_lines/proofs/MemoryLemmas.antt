@@ -1,12 +1,15 @@
 -- Lines over what a source was asked for, and over all its files, where it never fails.
-use Rattle.std.proofs.Common.{◌≡◌, ℕ, Bool, true, false, cond, nat_le, List, [], ◌∷◌, length, refl, ap, subst, Option, Some, None, Result, Ok, Err}
+use Rattle.std.proofs.Common.{◌≡◌, ℕ, Bool, true, false, cond, nat_le, List, [], ◌∷◌, length, refl, ap, sym, ◌∙◌, subst, String, Option, Some, None, Result, Ok, Err}
 use Rattle.std.proofs.lemmas.Slice.Eq.{bytes_eq-Decides}
+use Rattle.std.specs.Global.{Global}
 use Rattle.std.specs.Str.{bytes_eq}
 use Rattle.brl_lines.specs.Answer.{Answer, Holds, Large, Unreadable, answer_of, most_file_bytes}
-use Rattle.brl_lines.specs.Lines.{◌>>=◌, Answers, Refusal, answer_at, lines_of, lines_over, refusal, text_of}
+use Rattle.brl_lines.specs.Lines.{Answers, PlaceView, Refusal, answer_at, lines_of, lines_over, refusal}
 use Rattle.brl_lines.specs.Outcome.{AreGiven, FailedWhereUnreadable, Tells, load_failed}
-use Rattle.brl_lines.specs.Tokens.{LineView, lines_in}
+use Rattle.brl_lines.specs.Tokens.{LineView}
+use Rattle.brl_lines.proofs.TurnLemmas.{lines_over-more}
 use Rattle.brl_lines.specs.declared.fault.LoadFault.{LoadFault}
+use Rattle.brl_lines.specs.declared.fault.Place.{Place}
 use Rattle.brl_lines.specs.declared.fault.LoadFault.TheVariants as faults
 use Rattle.brl_lines.specs.declared.fault.Refused.{Refused}
 use Rattle.brl_lines.specs.declared.fault.Refused.TheVariants as refused
@@ -46,34 +49,29 @@ module _ (gives : List ℕ → Answer → Type 0) where
   never_failed (Err (faults.Refused refused.TooManyIncludes p q)) readable h = refl
   never_failed (Err (faults.Refused refused.TooLarge p q)) readable h = refl
 
--- the lines over answers that lack the root: no outcome but a failed read
-lacking : (root : List ℕ) (outcome : Result (List LineView) LoadFault) (want : Result (List LineView) Refusal) → load_failed outcome ≡ false
-    → Tells (λ l. l) (Err (refusal refused.ReadFailed root None)) outcome → Tells (λ l. l) want outcome
-lacking root (Ok lines) want calm h = absurd cc
-lacking root (Err faults.Memory) want calm h = tt
-lacking root (Err (faults.Refused kind p q)) want calm h = absurd (fails kind (ap (λ r. r.kind) (same h)) calm)
+-- where no read failed, the lines aren't refused as a read that failed
+never_unread : (lines : Result (List LineView) Refusal) (kind : Refused) (p : List ℕ) (q : Option PlaceView) → lines ≡ Err (refusal kind p q) → (kind ≡ refused.ReadFailed → ⊥)
+    → (path : List ℕ) (place : Option PlaceView) → lines ≡ Err (refusal refused.ReadFailed path place) → ⊥
+never_unread lines kind p q h other path place e = other (ap (λ r. r.kind) (same (sym h ∙ e)))
   where
-    same : {A : Type 0} {r s : Refusal} → ◌≡◌ {A = Result A Refusal} (Err r) (Err s) → r ≡ s
+    same : {r s : Refusal} → ◌≡◌ {A = Result (List LineView) Refusal} (Err r) (Err s) → r ≡ s
     same e = cc
 
-    fails : (k : Refused) → refused.ReadFailed ≡ k → load_failed {T = List LineView} (Err (faults.Refused k p q)) ≡ false → ⊥
-    fails refused.NotFound e f = absurd cc
-    fails refused.ReadFailed e f = absurd cc
-    fails refused.NotUtf8 e f = absurd cc
-    fails refused.Cycle e f = absurd cc
-    fails refused.TooDeep e f = absurd cc
-    fails refused.LineTooLong e f = absurd cc
-    fails refused.TooManyIncludes e f = absurd cc
-    fails refused.TooLarge e f = absurd cc
+calm_kind : (kind : Refused) (path : String Global) (place : Option Place) → load_failed {T = List LineView} (Err (faults.Refused kind path place)) ≡ false → kind ≡ refused.ReadFailed → ⊥
+calm_kind refused.NotFound path place e k = cc
+calm_kind refused.ReadFailed path place e k = cc
+calm_kind refused.NotUtf8 path place e k = cc
+calm_kind refused.Cycle path place e k = cc
+calm_kind refused.TooDeep path place e k = cc
+calm_kind refused.LineTooLong path place e k = cc
+calm_kind refused.TooManyIncludes path place e k = cc
+calm_kind refused.TooLarge path place e k = cc
 
--- what some answers tell of the root is what all files tell
-module _ (all : List ℕ → Option Answer) (answers : Answers) (root : List ℕ) (known : (answer : Answer) → answer_at answers root ≡ Some answer → all root ≡ Some answer) where
+-- what some answers tell of a table is what all files tell
+module _ (all : List ℕ → Option Answer) (answers : Answers) (root : List ℕ) (known : (path : List ℕ) (answer : Answer) → answer_at answers path ≡ Some answer → all path ≡ Some answer) where
   -- where no read failed, the lines over the answers are the lines over all files
   pub lines_over-all : (outcome : Result (List LineView) LoadFault) → load_failed outcome ≡ false → Tells (λ l. l) (lines_of answers root) outcome → Tells (λ l. l) (lines_over all root) outcome
-  unfolding lines_over
-  lines_over-all outcome calm h = by_answer (answer_at answers root) known h
-    where
-      by_answer : (o : Option Answer) → ((answer : Answer) → o ≡ Some answer → all root ≡ Some answer)
-          → Tells (λ l. l) (text_of root None o >>= λ text. Ok (lines_in root text)) outcome → Tells (λ l. l) (text_of root None (all root) >>= λ text. Ok (lines_in root text)) outcome
-      by_answer None k t = lacking root outcome _ calm t
-      by_answer (Some answer) k t = rw (k answer refl) t
+  lines_over-all (Ok lines) calm h = lines_over-more (answer_at answers) all known root (λ path place e. let no = sym h ∙ e in cc) ∙ h
+  lines_over-all (Err faults.Memory) calm h = tt
+  lines_over-all (Err (faults.Refused kind p q)) calm h =
+      lines_over-more (answer_at answers) all known root (never_unread (lines_of answers root) kind _ _ h (calm_kind kind p q calm)) ∙ h

@@ -2,7 +2,6 @@
 use Rattle.std.proofs.Common.{◌≡◌, ℕ, zero, suc, ◌+◌, ◌++◌, ◌<◌, ◌≤◌, Bool, true, false, ◌&&◌, nat_eq, cond, List, [], ◌∷◌, length, get_or, take, drop, map, refl, ap, sym, ◌∙◌, subst, arith, add-one, drop-cons, lit<, length-drop, All}
 use Rattle.std.specs.List.{AllByRecursion, enumerate_from, flat_map}
 use Rattle.brl_lines.specs.Rows.{onto, rows, rows_of, feed_is_next}
-use Rattle.brl_lines.specs.Outcome.{IsOfFile}
 use Rattle.brl_lines.specs.Slices.{IsSlice, IsCutFrom, BeginsBehind, StandInOrder, IsInOrder}
 use Rattle.brl_lines.specs.Tokens.{TokenView, LineView, token_of, tokens, is_gap, gap_is_next, is_comment, line_of, lines_in}
 
@@ -174,18 +173,17 @@ whole_stands text i (x ∷ xs) e =
     let others : drop (suc i) text ≡ xs = cc in
     (refl, inside, here, whole_stands text (i + 1) xs (rw add-one others))
 
-all_of : {X : Type 0} (P : X → Type 0) (xs : List X) → AllByRecursion P xs → All P xs
+pub all_more : {X : Type 0} (P Q : X → Type 0) → ((x : X) → P x → Q x) → (xs : List X) → AllByRecursion P xs → AllByRecursion Q xs
+all_more P Q more [] h = tt
+all_more P Q more (x ∷ xs) h = (more x h.0, all_more P Q more xs h.1)
+
+-- what holds of each element, by its place
+pub all_of : {X : Type 0} (P : X → Type 0) (xs : List X) → AllByRecursion P xs → All P xs
 all_of P [] h k d l = absurd (omega arith)
 all_of P (x ∷ xs) h zero d l = h.0
 all_of P (x ∷ xs) h (suc k) d l = all_of P xs h.1 k d (omega arith)
 
 -- each line of a text is good
-pub lines_in-good : (file text : List ℕ) → All (IsGood text file) (lines_in file text)
+pub lines_in-good : (file text : List ℕ) → AllByRecursion (IsGood text file) (lines_in file text)
 unfolding lines_in
-lines_in-good file text = all_of (IsGood text file) _ (lines_good text file 1 (rows_of text) (each_row_stands text 0 (enumerate_from 0 text) (whole_stands text 0 text refl)))
-
--- the lines of a file are of that file, and slices of its text
-pub lines_in-of_file : (file text path whole : List ℕ) → file ≡ path → text ≡ whole → All (IsOfFile path whole) (lines_in file text)
-lines_in-of_file file text path whole e f k d l =
-    let good = lines_in-good file text k d l in
-    (good.of_file ∙ e, subst (λ t. IsCutFrom t (get_or (lines_in file text) k d)) f good.slices)
+lines_in-good file text = lines_good text file 1 (rows_of text) (each_row_stands text 0 (enumerate_from 0 text) (whole_stands text 0 text refl))

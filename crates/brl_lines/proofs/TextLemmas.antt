@@ -1,13 +1,12 @@
 -- The outcomes of checking a file's text, and what a load tells of them.
-use Rattle.std.proofs.Common.{◌≡◌, ℕ, ◌<◌, ◌≤◌, Bool, true, false, nat_lt, List, [], ◌∷◌, length, refl, ap, sym, ◌∙◌, arith, IsUtf8, Option, Some, None, Result, Ok, Err, subst}
+use Rattle.std.proofs.Common.{◌≡◌, ℕ, ◌<◌, ◌≤◌, Bool, true, false, nat_lt, List, length, refl, ap, ◌∙◌, arith, IsUtf8, Option, Some, None, Result, Ok, Err, cond, IsTrue}
+use Rattle.std.specs.Prelude.{is_ok}
 use Rattle.std.proofs.lemmas.Bool.Decides.{nat_tests}
-use Rattle.std.proofs.lemmas.Slice.Eq.{bytes_eq-Decides}
 use Rattle.std.proofs.lemmas.Str.{IsUtf8-from_is_utf8, is_utf8-from_IsUtf8}
-use Rattle.std.specs.Str.{bytes_eq, is_utf8}
-use Rattle.brl_lines.specs.Answer.{Answer, Holds, most_file_bytes}
+use Rattle.std.specs.Str.{is_utf8}
+use Rattle.brl_lines.specs.Answer.{most_file_bytes}
 use Rattle.brl_lines.specs.Rows.{without_mark}
-use Rattle.brl_lines.specs.Tokens.{lines_in}
-use Rattle.brl_lines.specs.Lines.{◌>>=◌, Refusal, PlaceView, refusal, long_row, text_in, text_of, unless_long, lines_of, lines_over}
+use Rattle.brl_lines.specs.Lines.{◌>>=◌, Refusal, PlaceView, refusal, long_row, text_in, unless_long}
 use Rattle.brl_lines.specs.Outcome.{IsRefusal, RefusesAs}
 use Rattle.brl_lines.specs.declared.fault.LoadFault.{LoadFault}
 use Rattle.brl_lines.specs.declared.fault.LoadFault.TheVariants as faults
@@ -57,22 +56,31 @@ module _ (path : List ℕ) (place : Option PlaceView) (bytes : List ℕ) where
       → text_in path place bytes ≡ Err (refusal refused.LineTooLong path (Some (record { file = path; line = number })))
   text_in-long text number h good e long = text_in-rows h good ∙ rw (← e, long) refl
 
--- the one answer that a load of a root needs
-pub lines_of-one : (root : List ℕ) (answer : Answer) → lines_of ((root, answer) ∷ []) root ≡ (text_of root None (Some answer) >>= λ text. Ok (lines_in root text))
-unfolding lines_over
-lines_of-one root answer =
-    let same : bytes_eq root root ≡ true = (bytes_eq-Decides root root).1 refl in
-    rw same refl
+-- a text that is good is so wherever it is named
+is_good : {U : Type 0} (r : Result U Refusal) (x : U) → r ≡ Ok x → IsTrue (is_ok r)
+is_good r x e = rw e refl
 
--- a refusal by the source
-pub lines_of-refused : (root : List ℕ) (answer : Answer) (r : Refusal) (f : LoadFault) → text_of root None (Some answer) ≡ Err r → IsRefusal r f → RefusesAs (lines_of ((root, answer) ∷ []) root) f
-lines_of-refused root answer r f e h = refuses-as _ r f (lines_of-one root answer ∙ ap (λ t. t >>= λ text. Ok (lines_in root text)) e) h
+pub good-anywhere : (path : List ℕ) (place : Option PlaceView) (bytes text : List ℕ) → text_in path place bytes ≡ Ok text → IsTrue (is_ok (text_in path None bytes))
+unfolding text_in
+good-anywhere path place bytes text e = by_test (nat_lt most_file_bytes (length bytes)) (is_utf8 bytes) (long_row (without_mark bytes)) e
+  where
+    by_test : (large utf8 : Bool) (long : Option ℕ)
+        → ◌≡◌ {A = Result (List ℕ) Refusal} (cond large (Err (refusal refused.TooLarge path place)) (cond utf8 (unless_long path (without_mark bytes) long) (Err (refusal refused.NotUtf8 path place)))) (Ok text)
+        → IsTrue (is_ok {T = List ℕ} {E = Refusal} (cond large (Err (refusal refused.TooLarge path None)) (cond utf8 (unless_long path (without_mark bytes) long) (Err (refusal refused.NotUtf8 path None)))))
+    by_test true utf8 long h = absurd cc
+    by_test false false long h = absurd cc
+    by_test false true None h = refl
+    by_test false true (Some number) h = absurd cc
 
--- a refusal of the bytes that were read
-pub lines_of-wrong : (root bytes : List ℕ) (f : LoadFault) → RefusesAs (text_in root None bytes) f → RefusesAs (lines_of ((root, Holds bytes) ∷ []) root) f
-lines_of-wrong root bytes f h =
-    subst (λ want. RefusesAs want f) (sym (lines_of-one root (Holds bytes))) (refuses-bind (text_in root None bytes) (λ text. Ok (lines_in root text)) f h)
-
--- a good text
-pub lines_of-good : (root bytes text : List ℕ) → text_in root None bytes ≡ Ok text → lines_of ((root, Holds bytes) ∷ []) root ≡ Ok (lines_in root text)
-lines_of-good root bytes text e = lines_of-one root (Holds bytes) ∙ ap (λ t. t >>= λ text. Ok (lines_in root text)) e
+-- a good text, wherever it is named
+pub text_in-known : (path : List ℕ) (place : Option PlaceView) (bytes : List ℕ) → IsTrue (is_ok (text_in path None bytes)) → text_in path place bytes ≡ Ok (without_mark bytes)
+unfolding text_in
+text_in-known path place bytes good = by_test (nat_lt most_file_bytes (length bytes)) (is_utf8 bytes) (long_row (without_mark bytes)) good
+  where
+    by_test : (large utf8 : Bool) (long : Option ℕ)
+        → IsTrue (is_ok {T = List ℕ} {E = Refusal} (cond large (Err (refusal refused.TooLarge path None)) (cond utf8 (unless_long path (without_mark bytes) long) (Err (refusal refused.NotUtf8 path None)))))
+        → ◌≡◌ {A = Result (List ℕ) Refusal} (cond large (Err (refusal refused.TooLarge path place)) (cond utf8 (unless_long path (without_mark bytes) long) (Err (refusal refused.NotUtf8 path place)))) (Ok (without_mark bytes))
+    by_test true utf8 long h = absurd cc
+    by_test false false long h = absurd cc
+    by_test false true None h = refl
+    by_test false true (Some number) h = absurd cc

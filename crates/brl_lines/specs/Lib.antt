@@ -1,5 +1,7 @@
 pub mod Answer
 pub mod Escapes
+pub mod Examples
+pub mod Includes
 pub mod Lines
 pub mod Outcome
 pub mod Rows

@@ -1,17 +1,21 @@
 //! The files of a table, cut into lines and tokens.
 //!
 //! A `Source` gives the bytes of a file by its path: `MapSource` from memory, `FileSource` from a file system.
-//! `load` reads and checks a table's file, and `Loaded::lines` gives the lines that do something, each
-//! as tokens that are slices of the file's text. `chars_of` reads the characters that a token spells.
+//! `load` reads and checks a table's file and the files that it includes, and `Loaded::lines` gives the lines that do
+//! something, each as tokens that are slices of its file's text. `chars_of` reads the characters that a token spells.
 #![tactic(auto)]
 
 mod cut;
 mod fault;
 mod file_source;
+mod files;
+mod include;
+mod known;
 mod line;
 mod loaded;
 mod map_source;
 mod operand;
+mod placing;
 mod source;
 mod spelling;
 
@@ -24,5 +28,7 @@ pub use operand::{CharsFault, chars_of};
 pub use source::{MOST_FILE_BYTES, Source, SourceFault};
 pub use spelling::spell_chars;
 
+#[cfg(test)]
+mod include_tests;
 #[cfg(test)]
 mod tests;

@@ -86,7 +86,7 @@ fn load_in_memory(alloc: Global, source: &mut MapSource, root: &str) -> Result<L
 }
 
 /// Lines as text: `FILE:LINE OPCODE@START OPERAND@START ..;`
-fn shown(alloc: Global, lines: &[Line<'_>]) -> Result<String, AllocError> {
+pub(crate) fn shown(alloc: Global, lines: &[Line<'_>]) -> Result<String, AllocError> {
     let mut text = String::new(alloc);
     for line in lines {
         write!(
@@ -126,8 +126,8 @@ fn lines_of_texts(rt: HostRuntime) -> Result<(), Fail> {
             "t.ctb:3 letter@6 a@14 1@17;",
         ),
         (
-            b"include u.ctb\nletter a 1",
-            "t.ctb:1 include@0 u.ctb@8;t.ctb:2 letter@14 a@21 1@23;",
+            b"include\nletter a 1",
+            "t.ctb:1 include@0;t.ctb:2 letter@8 a@15 1@17;",
         ),
         (
             "letter \u{e9} 1 comment".as_bytes(),

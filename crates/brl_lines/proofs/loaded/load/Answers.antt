@@ -1,19 +1,35 @@
-use Rattle.std.proofs.Common.{refl, [], ◌∷◌}
-use Rattle.brl_lines.specs.Answer.{Holds, Missing, Large, Unreadable}
-use Rattle.brl_lines.proofs.TextLemmas.{lines_of-refused}
+use Rattle.std.proofs.Common.{◌∙◌}
+use Rattle.std.proofs.lemmas.Result.{err_from_is_err_and}
+use Rattle.std.specs.Prelude.{option_map, string_bytes}
+use Rattle.brl_lines.specs.Views.{files_view, place_view}
+use Rattle.brl_lines.proofs.LoadLemmas.{file-given, refusal-given, slices-given, turn-smaller}
 use Rattle.brl_lines.proofs.loaded.load.Goals as goal
 
-pub returns-in-Ok-clause-lines : goal.returns-in-Ok-clause-lines
-returns-in-Ok-clause-lines g c = ((c.args.root.now, Holds c.as_slice.result.now) ∷ [], (rw c.as_slice.ensures.value c.in-Ok.ensures.answer, tt), c.table_of_root.ensures.tells)
+pub returns-in_err-file-clause-lines : goal.returns-in_err-file-clause-lines
+returns-in_err-file-clause-lines g c =
+    let asks = rw c.as_slice.ensures.value at (rw c.in-Some.is at c.in_ok-wanted.ensures) in
+    let p = err_from_is_err_and c.from_residual-in_err-file.result c.from_residual-in_err-file.ensures.1 in
+    let told = refusal-given (g.S.Source.gives c.args.source.now) (g.S.Source.gives c.loop-files.source) (λ path a. (c.loop-files.invariant.same path a).0) c.loop-files.files.items c.loop-files.invariant.given
+    (string_bytes c.in-Some.wanted.path) (option_map place_view c.in-Some.wanted.place) c.args.root.now c.in_err-file.field-0.0 asks c.in_err-file.ensures.read in
+    (told.0, told.1, rw (p.1, p.2) told.2)
 
-pub returns-in-Err-NotFound-clause-lines : goal.returns-in-Err-NotFound-clause-lines
-returns-in-Err-NotFound-clause-lines g c =
-    ((c.args.root.now, Missing) ∷ [], (rw c.in-Err-NotFound.field-0-is at c.in-Err-NotFound.ensures.answer, tt), lines_of-refused c.args.root.now Missing _ c.refusal.result refl c.refusal.ensures)
+pub loop-files-smaller : goal.loop-files-smaller
+loop-files-smaller g c =
+    let asks = rw c.as_slice.ensures.value at (rw c.in-Some.is at c.in_ok-wanted.ensures) in
+    rw c.in_ok-push.ensures.items
+    (turn-smaller c.loop-files.files.items c.args.root.now (string_bytes c.in-Some.wanted.path) (option_map place_view c.in-Some.wanted.place) asks c.in_ok-file.file c.in_ok-file.ensures.read.0)
 
-pub returns-in-Err-Failed-clause-lines : goal.returns-in-Err-Failed-clause-lines
-returns-in-Err-Failed-clause-lines g c =
-    ((c.args.root.now, Unreadable) ∷ [], (rw c.in-Err-Failed.field-0-is at c.in-Err-Failed.ensures.answer, tt), lines_of-refused c.args.root.now Unreadable _ c.refusal-in-Err-Failed.result refl c.refusal-in-Err-Failed.ensures)
+pub loop-files-preserved : goal.loop-files-preserved
+loop-files-preserved g c = record {
+  given = rw c.in_ok-push.ensures.items
+      (file-given (g.S.Source.gives c.args.source.now) (g.S.Source.gives c.loop-files.source) (λ path a. (c.loop-files.invariant.same path a).0) c.loop-files.files.items c.loop-files.invariant.given
+      (string_bytes c.in-Some.wanted.path) (option_map place_view c.in-Some.wanted.place) c.in_ok-file.file c.in_ok-file.ensures.read);
+  count = c.in_ok-file.ensures.count ∙ c.loop-files.invariant.count;
+  same = λ p a. (
+    λ x. (c.loop-files.invariant.same p a).0 ((c.in_ok-file.ensures.same p a).0 x),
+    λ x. (c.in_ok-file.ensures.same p a).1 ((c.loop-files.invariant.same p a).1 x),
+  );
+}
 
-pub returns-in-Err-TooLarge-clause-lines : goal.returns-in-Err-TooLarge-clause-lines
-returns-in-Err-TooLarge-clause-lines g c =
-    ((c.args.root.now, Large) ∷ [], (rw c.in-Err-TooLarge.field-0-is at c.in-Err-TooLarge.ensures.answer, tt), lines_of-refused c.args.root.now Large _ c.refusal-in-Err-TooLarge.result refl c.refusal-in-Err-TooLarge.ensures)
+pub returns-clause-slices : goal.returns-clause-slices
+returns-clause-slices g c = slices-given (g.S.Source.gives c.args.source.now) (files_view c.loop-files.files.items) (string_bytes c.in_ok-root.root) c.loop-files.invariant.given

@@ -11,5 +11,5 @@ returns c =
     let all = λ (path : List ℕ). answer_of (file path) in
     let gives = λ (path : List ℕ) (answer : Answer). answer ≡ all path in
     let lines = c.load.ensures.lines in
-    lines_over-all (λ path. Some (all path)) lines.0 c.args.root.now (λ answer e. ap Some (sym (given-at gives lines.0 c.args.root.now answer lines.1 e))) c.load.result
+    lines_over-all (λ path. Some (all path)) lines.0 c.args.root.now (λ path answer e. ap Some (sym (given-at gives lines.0 path answer lines.1 e))) c.load.result
     (never_failed gives c.load.result (λ path. answer_of-readable (file path)) c.load.ensures.failed) lines.2

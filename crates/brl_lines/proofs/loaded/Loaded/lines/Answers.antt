@@ -1,8 +1,10 @@
 use Rattle.std.specs.Prelude.{string_bytes}
-use Rattle.brl_lines.proofs.SliceLemmas.{lines_in-good}
+use Rattle.brl_lines.specs.Views.{files_view}
+use Rattle.brl_lines.proofs.LoadLemmas.{lines_of-in_order}
 use Rattle.brl_lines.proofs.loaded.Loaded.lines.Goals as goal
 
-pub returns-clause-in_order : goal.returns-clause-in_order
-returns-clause-in_order c =
-    let good = lines_in-good (string_bytes c.self.inside.path) (string_bytes c.self.inside.text) in
-    rw (← c.self.view_is) (λ k d l. (good k d l).in_order)
+pub returns-in-Ok-clause-in_order : goal.returns-in-Ok-clause-in_order
+returns-in-Ok-clause-in_order c = rw (← c.self.view_is) (lines_of-in_order (files_view c.self.inside.files.items) (string_bytes c.self.inside.root))
+
+pub returns-in-Err-Memory-clause-in_order : goal.returns-in-Err-Memory-clause-in_order
+returns-in-Err-Memory-clause-in_order c = rw (← c.self.view_is) (lines_of-in_order (files_view c.self.inside.files.items) (string_bytes c.self.inside.root))

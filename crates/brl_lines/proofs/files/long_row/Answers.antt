@@ -5,7 +5,7 @@ use Rattle.brl_lines.specs.Lines.{is_long}
 use Rattle.brl_lines.specs.Rows.{rows}
 use Rattle.brl_lines.proofs.PieceLemmas.{piece_whole}
 use Rattle.brl_lines.proofs.RowLemmas.{first_long, none_long}
-use Rattle.brl_lines.proofs.loaded.long_row.Goals as goal
+use Rattle.brl_lines.proofs.files.long_row.Goals as goal
 
 pub loop-at-init : goal.loop-at-init
 loop-at-init c = record {

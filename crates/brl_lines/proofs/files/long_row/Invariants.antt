@@ -3,7 +3,7 @@ use Rattle.std.specs.List.{position_from}
 use Rattle.std.specs.Str.{IsCharBoundary}
 use Rattle.brl_lines.specs.Lines.{is_long, long_row}
 use Rattle.brl_lines.specs.Rows.{piece, rows}
-use Rattle.brl_lines.proofs.loaded.long_row.Given as goal
+use Rattle.brl_lines.proofs.files.long_row.Given as goal
 
 abbrev pub invariant-loop-at : goal.invariant-loop-at
 invariant-loop-at l = record {

@@ -1,0 +1,44 @@
+//! The file that an include line names.
+ghost use Rattle.std.specs.Prelude.{◌≡◌, IfOk, option_map, string_bytes};
+ghost use Rattle.brl_lines.specs.Includes.{folder_of, included as included_of, name_of};
+ghost use Rattle.brl_lines.specs.Views.{line_view};
+
+use crate::line::Line;
+use std::alloc::{AllocError, Global};
+
+/// The name in an include line.
+pub(crate) fn include_name<'a>(line: &Line<'a>) -> Option<&'a str>
+    ensures { option_map (λ name. name.now) result ≡ name_of (line_view line.now) }
+{
+    if line.opcode.text != "include" {
+        return None;
+    }
+    match line.operands.first() {
+        Some(name) => Some(name.text),
+        None => None,
+    }
+}
+
+/// A path up to its last slash, and with it.
+fn folder(path: &str) -> &str
+    ensures { result.now ≡ folder_of path.now }
+{
+    let bytes = path.as_bytes();
+    let mut end = bytes.len();
+    while end > 0 && bytes[end - 1] != b'/' {
+        end -= 1;
+    }
+    &path[..end]
+}
+
+/// The path that a name stands for, in the table whose root stands at a path.
+pub(crate) fn included(alloc: Global, root: &str, name: &str) -> Result<String, AllocError>
+    ensures { IfOk result (λ path. string_bytes path ≡ included_of root.now name.now) }
+{
+    if name.starts_with('/') {
+        return String::from_str(alloc, name);
+    }
+    let mut path = String::from_str(alloc, folder(root))?;
+    path.push_str(name)?;
+    Ok(path)
+}

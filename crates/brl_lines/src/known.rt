@@ -1,0 +1,34 @@
+//! A file that was read and found good.
+ghost use Rattle.std.specs.Prelude.{◌≡◌, ◌≤◌, None, IsTrue, is_ok, length, string_bytes};
+ghost use Rattle.brl_lines.specs.Answer.{most_file_bytes};
+ghost use Rattle.brl_lines.specs.Lines.{text_in};
+ghost use Rattle.brl_lines.specs.Rows.{without_mark as text_behind};
+
+/// A file that was read and found good: its path, and all of its text, with a byte order mark where it has one.
+#[derive(Debug, Drop)]
+pub(crate) struct Known {
+    pub path: String,
+    pub whole: String,
+    ghost small: { length (string_bytes whole) ≤ most_file_bytes },
+    ghost good: { IsTrue (is_ok (text_in (string_bytes path) None (string_bytes whole))) },
+}
+
+impl Known {
+    /// The text behind a byte order mark.
+    pub(crate) fn text(&self) -> &str
+        ensures text { result.now ≡ text_behind (string_bytes self.now.whole) }
+        ensures most { length result.now ≤ most_file_bytes }
+    {
+        without_mark(self.whole.as_str())
+    }
+}
+
+/// The text behind a byte order mark.
+pub(crate) fn without_mark(text: &str) -> &str
+    ensures { result.now ≡ text_behind text.now }
+{
+    match text.strip_prefix("\u{feff}") {
+        Some(rest) => rest,
+        None => text,
+    }
+}
