@@ -1,0 +1,16 @@
+//! Machines that translate by steps, pairs of their runs, and what closed sets of states and pairs imply: no two
+//! different texts of the machine have the same translation.
+#![tactic(auto)]
+
+mod laws;
+mod lead;
+mod machine;
+mod step;
+
+pub use laws::closed_sets_law;
+pub use lead::{Advanced, advance};
+pub use machine::Machine;
+pub use step::{Pair, Step};
+
+#[cfg(test)]
+mod tests;
