@@ -1,0 +1,108 @@
+-- What the machine needs of a table: from what every table keeps, and from the laws of its definitions.
+use Rattle.std.proofs.Common.{ℕ, zero, suc, ◌<◌, ◌≤◌, ◌≡◌, ◌≢◌, max, false, List, [], ◌∷◌, ◌++◌, length, nat_eq, arith, Option, Some, None, cond, ap}
+use Rattle.std.specs.Prelude.{slice_get, slice_index_or, All}
+use Rattle.std.specs.Bool.{⊤}
+use Rattle.std.specs.List.{AllByRecursion, IsDistinct}
+use Rattle.std.specs.Map.{keys_of}
+use Rattle.std.proofs.lemmas.Bool.{eq-eqb}
+use Rattle.brl_table.specs.declared.class.Class.{Class}
+use Rattle.brl_table.specs.declared.context.Context.{Context}
+use Rattle.brl_table.specs.declared.rule.Info.{Info}
+use Rattle.brl_table.specs.declared.rule.Rule.{Rule}
+use Rattle.brl_table.specs.Choice.{chosen}
+use Rattle.brl_table.specs.Limits.{IsEntry, IsRule, IsTable}
+use Rattle.brl_table.specs.Rank.{IsInRank}
+use Rattle.brl_table.specs.Rest.{translation_of_rest, TakesOneRule}
+use Rattle.brl_table.specs.TableView.{TableView}
+use Rattle.brl_table.specs.Text.{at_start}
+use Rattle.brl_table.specs.Translation.{translation}
+use Rattle.brl_window.specs.Windows.{longest}
+
+-- 1 to n
+pub record Within (m n : ℕ) : Type 0 where
+  pub some : 1 ≤ m
+  pub room : m ≤ n
+
+-- no member stands twice
+abbrev pub AreDistinct : {X : Type 0} → List X → Type 0
+AreDistinct [] = ⊤
+AreDistinct (x ∷ xs) = AllByRecursion (λ y. x ≢ y) xs × AreDistinct xs
+
+pub record Keeps (t : TableView) : Type 0 where
+  pub single : AreDistinct (keys_of t.characters)
+  pub own_cells : AllByRecursion (λ e. Within (length e.1.cells) 16) t.characters
+  pub rule_cells : AllByRecursion (λ r. Within (length r.cells) 512) t.rules
+  pub caps_cells : length t.caps_letter ≤ 16
+  pub num_cells : length t.num_sign ≤ 16
+  pub no_contract_cells : length t.no_contract_sign ≤ 16
+
+each : {X : Type 0} (P : X → Type 0) (xs : List X) → ((k : ℕ) (d : X) → k < length xs → P (slice_index_or xs k d)) → AllByRecursion P xs
+each P [] h = tt
+each P (x ∷ xs) h = (h 0 x (omega arith), each P xs (λ k d within. h (suc k) d (omega (arith, within))))
+
+unequal : (m n : ℕ) → nat_eq m n ≡ false → m ≢ n
+unequal m n h e = (let k = eq-eqb m n e in cc)
+
+all_unequal : (x : ℕ) (ys : List ℕ) → AllByRecursion (λ y. nat_eq x y ≡ false) ys → AllByRecursion (λ y. x ≢ y) ys
+all_unequal x [] h = tt
+all_unequal x (y ∷ ys) h = (unequal x y h.0, all_unequal x ys h.1)
+
+distinct : (xs : List ℕ) → IsDistinct nat_eq xs → AreDistinct xs
+unfolding IsDistinct
+distinct [] h = tt
+distinct (x ∷ xs) h = (all_unequal x xs h.0, distinct xs h.1)
+
+pub keeps_of : (t : TableView) → IsTable t → Keeps t
+keeps_of t valid = record {
+  single = distinct (keys_of t.characters) valid.parts.distinct;
+  own_cells = each (λ e. Within (length e.1.cells) 16) t.characters
+      (λ k d within. (let entry = valid.parts.entries k d within in record { some = entry.some_cells; room = entry.few_cells }));
+  rule_cells = each (λ r. Within (length r.cells) 512) t.rules
+      (λ k d within. (let rule = valid.parts.rules k d within in record { some = rule.some_cells; room = rule.few_cells }));
+  caps_cells = valid.parts.few.caps_letter;
+  num_cells = valid.parts.few.num_sign;
+  no_contract_cells = valid.parts.few.no_contract_sign;
+}
+
+-- ---- The longest rule
+
+longest-most : (n : ℕ) (rules : List Rule) → 1 ≤ n → ((k : ℕ) (d : Rule) → k < length rules → length (slice_index_or rules k d).chars ≤ n) → longest rules ≤ n
+longest-most n [] some h = some
+longest-most n (r ∷ rules) some h =
+    let first = h 0 r (omega arith) in
+    let others = longest-most n rules some (λ k d within. h (suc k) d (omega (arith, within))) in
+    omega (arith, first, others)
+
+-- it stands first in rank
+pub longest-first : (characters : List (ℕ × Info)) (files : ℕ) (rules : List Rule) (r : Rule) → IsInRank rules
+    → ((k : ℕ) (d : Rule) → k < length rules → IsRule characters files (slice_index_or rules k d)) → slice_get rules 0 ≡ Some r → length r.chars ≡ longest rules
+longest-first characters files [] r rank all e = cc
+longest-first characters files (x ∷ rules) r rank all e =
+    let same : x ≡ r = cc in
+    let size : length x.chars ≡ length r.chars = ap (λ (q : Rule). length q.chars) same in
+    let some = (all 0 x (omega arith)).some_characters in
+    let others : longest rules ≤ length x.chars = longest-most (length x.chars) rules some (λ k d within. rank 0 (suc k) d (omega arith) (omega (arith, within))) in
+    omega (arith, size, others)
+
+-- ---- The laws of a table's definitions
+
+-- the chosen rule takes at least one character, and no more than there are
+pub record Takes (n : ℕ) (rest : List ℕ) : Type 0 where
+  pub some : 1 ≤ n
+  pub room : n ≤ length rest
+
+pub record Choosing (t : TableView) : Type 0 where
+  pub some : (before : Class) (rest : List ℕ) → 0 < length rest → 1 ≤ (chosen t before rest).taken
+  pub room : (before : Class) (rest : List ℕ) → 0 < length rest → (chosen t before rest).taken ≤ length rest
+
+pub chosen-Takes : (t : TableView) → Choosing t → (before : Class) (c : ℕ) (rest : List ℕ) → Takes (chosen t before (c ∷ rest)).taken (c ∷ rest)
+chosen-Takes t law before c rest = record {
+  some = law.some before (c ∷ rest) (omega arith);
+  room = law.room before (c ∷ rest) (omega arith);
+}
+
+-- a translation, one rule at a time
+pub record Translating (t : TableView) : Type 0 where
+  pub whole : (text : List ℕ) → translation t text ≡ translation_of_rest t at_start text
+  pub end : (here : Context) → translation_of_rest t here [] ≡ []
+  pub rule : (here : Context) (rest : List ℕ) → 0 < length rest → TakesOneRule t here rest

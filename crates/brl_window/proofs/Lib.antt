@@ -1,0 +1,7 @@
+pub mod Kept
+pub mod Longer
+pub mod Listing
+pub mod Covering
+pub mod Ordering
+pub mod Sorting
+pub mod Turns

@@ -1,0 +1,45 @@
+-- Which rule is chosen depends on the next characters alone, as many as the longest rule has and one more.
+use Rattle.std.proofs.Common.{ℕ, zero, suc, ◌+◌, ◌<◌, ◌≤◌, ◌≡◌, Bool, true, false, ◌&&◌, List, [], ◌∷◌, ◌++◌, length, take, refl, arith, cond, nat_eq, sym, ◌∙◌, ap, Option, Some, None}
+use Rattle.std.specs.List.{starts_with, slice_get, AllByRecursion}
+use Rattle.std.specs.Option.{option_map_or}
+use Rattle.std.specs.Prelude.{slice_get as get_at}
+use Rattle.brl_table.specs.declared.class.Class.{Class}
+use Rattle.brl_table.specs.declared.rule.Rule.{Rule}
+use Rattle.brl_table.specs.TableView.{TableView}
+use Rattle.brl_table.specs.Places.{space, holds, before_of, after_of}
+use Rattle.brl_table.specs.Choice.{Choice, by_rule, matches, fits, first_fitting, own, chosen}
+use Rattle.brl_table.specs.Text.{fold_of, classes_of, classes_at}
+
+-- what is asked of the known characters: more than the rule has, or all that there are
+starts_with-more : (xs ys chars : List ℕ) → length chars ≤ length xs → starts_with nat_eq (xs ++ ys) chars ≡ starts_with nat_eq xs chars
+starts_with-more xs ys [] h = refl
+starts_with-more [] ys (c ∷ cs) h = absurd (omega (arith, h))
+starts_with-more (x ∷ xs) ys (c ∷ cs) h = ap (λ b. nat_eq c x && b) (starts_with-more xs ys cs (omega (arith, h)))
+
+slice_get-more : (xs ys : List ℕ) (k : ℕ) → k < length xs → slice_get (xs ++ ys) k ≡ slice_get xs k
+slice_get-more [] ys k h = absurd (omega (arith, h))
+slice_get-more (x ∷ xs) ys zero h = refl
+slice_get-more (x ∷ xs) ys (suc k) h = slice_get-more xs ys k (omega (arith, h))
+
+matches-more : (t : TableView) (x : ℕ) (xs ys chars : List ℕ) → length chars < length (x ∷ xs) → matches t (x ∷ xs ++ ys) chars ≡ matches t (x ∷ xs) chars
+matches-more t x xs ys [] h = refl
+matches-more t x xs ys (c ∷ cs) h = ap (λ b. nat_eq (fold_of t x) c && b) (starts_with-more xs ys cs (omega (arith, h)))
+
+fits-more : (t : TableView) (before : Class) (x : ℕ) (xs ys : List ℕ) (r : Rule) → length r.chars < length (x ∷ xs) → fits t before (x ∷ (xs ++ ys)) r ≡ fits t before (x ∷ xs) r
+fits-more t before x xs ys r h =
+    let m = matches-more t x xs ys r.chars h in
+    let g : classes_at t (x ∷ (xs ++ ys)) (length r.chars) ≡ classes_at t (x ∷ xs) (length r.chars) =
+    ap (λ o. option_map_or (classes_of t) o space) (slice_get-more (x ∷ xs) ys (length r.chars) h) in
+    ap (λ b. b && holds (before_of r.place) before && holds (after_of r.place before) (classes_at t (x ∷ (xs ++ ys)) (length r.chars))) m
+    ∙ ap (λ k. matches t (x ∷ xs) r.chars && holds (before_of r.place) before && holds (after_of r.place before) k) g
+
+first_fitting-more : (t : TableView) (before : Class) (x : ℕ) (xs ys : List ℕ) (n : ℕ) (rules : List Rule) → AllByRecursion (λ r. length r.chars < length (x ∷ xs)) rules
+    → first_fitting t before (x ∷ (xs ++ ys)) n rules ≡ first_fitting t before (x ∷ xs) n rules
+first_fitting-more t before x xs ys n [] h = refl
+first_fitting-more t before x xs ys n (r ∷ rs) h =
+    ap (λ b. cond b (by_rule n r) (first_fitting t before (x ∷ (xs ++ ys)) (n + 1) rs)) (fits-more t before x xs ys r h.0)
+    ∙ ap (cond (fits t before (x ∷ xs) r) (by_rule n r)) (first_fitting-more t before x xs ys (n + 1) rs h.1)
+
+pub chosen-more : (t : TableView) (before : Class) (x : ℕ) (xs ys : List ℕ) → AllByRecursion (λ r. length r.chars < length (x ∷ xs)) t.rules
+    → chosen t before (x ∷ (xs ++ ys)) ≡ chosen t before (x ∷ xs)
+chosen-more t before x xs ys h = first_fitting-more t before x xs ys 0 t.rules h

@@ -1,0 +1,24 @@
+-- Equal states are the same state.
+use Rattle.std.proofs.Common.{◌≡◌, ℕ, Bool, true, false, List, refl, sym}
+use Rattle.std.proofs.Math.Bool.{beq}
+use Rattle.std.specs.Cmp.{first_so, second_so}
+use Rattle.std.specs.Cmp.Lexicographic.{same_text, pointwise}
+use Rattle.std.proofs.Math.Dec.{eqb}
+use Rattle.std.proofs.lemmas.Bool.Decides.{Decides-eqb}
+use Rattle.brl_window.specs.declared.state.WindowState.{WindowState}
+use Rattle.brl_window.specs.contracts.state.WindowStatePartialEq.TheImpl.{eq-value}
+
+same_bools : (a b : Bool) → beq a b ≡ true → a ≡ b
+same_bools true true h = refl
+same_bools false false h = refl
+same_bools a b h = cc
+
+pub same_states : (a b : WindowState) → eq-value.it a b ≡ true → a ≡ b
+same_states a b h =
+    let before : a.before.0 ≡ b.before.0 = (Decides-eqb a.before.0 b.before.0).0 (first_so _ _ h) in
+    let rest = second_so (eqb a.before.0 b.before.0) _ h in
+    let numeric : a.numeric ≡ b.numeric = same_bools a.numeric b.numeric (first_so _ _ rest) in
+    let last = second_so (beq a.numeric b.numeric) _ rest in
+    let ended : a.ended ≡ b.ended = same_bools a.ended b.ended (first_so _ _ last) in
+    let coming : a.coming ≡ b.coming = same_text a.coming b.coming (sym (second_so (beq a.ended b.ended) _ last)) in
+    λ i. record { before = record { 0 = before i }; numeric = numeric i; ended = ended i; coming = coming i }

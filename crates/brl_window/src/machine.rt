@@ -1,0 +1,99 @@
+//! The window machine.
+ghost use Rattle.std.specs.Prelude.{◌≡◌, ◌<◌, ◌≤◌, IfOk, OnErr, OnOk, min};
+ghost use Rattle.brl_table.specs.Text.{is_text};
+ghost use Rattle.brl_table.specs.Translation.{translation};
+ghost use Rattle.brl_window.specs.Width.{start_moves};
+
+use crate::steps::{find_steps, longest_rule, sort_steps};
+use crate::{TooWide, WindowState};
+use brl_pairs::{Machine, Step};
+use brl_table::{Chars, Class, Table, choice_laws, translation_laws};
+use std::alloc::{AllocError, Global};
+use std::marker::Model;
+
+/// The most moves that the start may have.
+const MOST_MOVES: u64 = 10_000;
+
+/// The window machine of a table. A contract sees the table.
+#[derive(Drop)]
+pub struct Window<'a> {
+    alloc: Global,
+    table: &'a Table,
+}
+
+impl<'a> Model for Window<'a> {
+    ghost use Rattle.brl_table.specs.TableView.{TableView};
+
+    ghost Value = { TableView };
+
+    ghost view = { λ w. w.table.now };
+}
+
+impl<'a> Window<'a> {
+    /// The window machine of a table, whose texts and translation are the table's. It takes no memory.
+    ///
+    /// `TooWide` exactly where its start would have more than 10,000 moves: `n + n^2 + .. + n^k` for `n` characters,
+    /// where `k` is the length of the longest rule (1 where there is none) plus one.
+    pub fn new(alloc: Global, table: &'a Table) -> Result<Window<'a>, TooWide>
+        ensures table { IfOk result (λ w. w ≡ table.now) }
+        ensures texts { IfOk result (λ w. (⟦<Window<'a> as Machine>⟧.behaviour w).is_text ≡ is_text table.now) }
+        ensures translation { IfOk result (λ w. (⟦<Window<'a> as Machine>⟧.behaviour w).translation ≡ translation table.now) }
+        ensures ok { OnOk result (start_moves table.now ≤ 10000) }
+        ensures err { OnErr result (10000 < start_moves table.now) }
+    {
+        if count_moves(table) > MOST_MOVES {
+            return Err(TooWide);
+        }
+        Ok(Window { alloc, table })
+    }
+}
+
+/// How many moves the start has, and 10,001 where it has more.
+fn count_moves(table: &Table) -> u64
+    ensures { result ≡ min (start_moves table.now) 10001 }
+{
+    let letters = table.char_count() as u64;
+    let mut moves = 0;
+    for turn in 0..longest_rule(table) + 1 {
+        moves = (letters + letters * moves).min(MOST_MOVES + 1);
+    }
+    moves
+}
+
+impl<'a> Machine for Window<'a> {
+    ghost use Rattle.brl_window.specs.Same.{same_states};
+    ghost use Rattle.brl_window.specs.Windows.{window_machine};
+
+    type State = WindowState;
+
+    ghost behaviour = { window_machine };
+
+    fn start(&self) -> WindowState {
+        choice_laws();
+        translation_laws();
+        self.table.law();
+        WindowState {
+            before: Class::SPACE,
+            numeric: false,
+            ended: false,
+            coming: Chars::from_vec(Vec::new(self.alloc)),
+        }
+    }
+
+    #[tactic(auto, unfolding(crate::specs::Windows::window_steps))]
+    fn moves(
+        &self,
+        alloc: Global,
+        state: &WindowState,
+    ) -> Result<Vec<Step<WindowState>>, AllocError> {
+        let mut found = find_steps(alloc, self.table, state)?;
+        sort_steps(&mut found)?;
+        Ok(found)
+    }
+
+    fn ends(&self, state: &WindowState) -> bool {
+        state.coming.len() == 0
+    }
+
+    ghost same_state = { same_states };
+}
