@@ -1,2 +1,3 @@
 pub mod Closed
 pub mod LettersLaws
+pub mod Advancing

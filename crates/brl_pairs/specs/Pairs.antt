@@ -1,6 +1,6 @@
 -- Pairs of runs, the lead of the one over the other, and closed sets of states and pairs. The notion is that of Sardinas and
 -- Patterson for codes; that it is asked of a machine's runs is this project's own choice.
-use Rattle.std.specs.Prelude.{◌≡◌, ◌≢◌, ℕ, IsTrue, List, [], ◌++◌, ◌⊎◌, Option, Some}
+use Rattle.std.specs.Prelude.{◌≡◌, ◌≢◌, ℕ, IsTrue, List, [], ◌++◌, ◌⊎◌, ◌↔◌, Option, Some, None}
 use Rattle.brl_pairs.specs.declared.lead.Advanced.{Advanced}
 use Rattle.brl_pairs.specs.declared.lead.Advanced.TheVariants.{Still, Swapped, Apart}
 use Rattle.brl_pairs.specs.declared.step.Pair.{Pair}
@@ -48,6 +48,18 @@ pub record Moves {S : Type 0} (m : Behaviour S) (p q : Pair S) : Type 0 where
   pub step : Step S
   pub listed : IsListed (m.steps p.behind) step
   pub moved : StaysBehind p step q ⊎ GetsAhead p step q
+
+-- the pair that a step of the run behind makes of a pair, by what becomes of the lead; none where the runs give different cells
+abbrev pub pair_behind : {S : Type 0} → Pair S → Step S → Advanced → Option (Pair S)
+pair_behind p x (Still rest) = Some (record { ahead = p.ahead; behind = x.next; lead = rest.now })
+pair_behind p x (Swapped rest) = Some (record { ahead = x.next; behind = p.ahead; lead = rest.now })
+pair_behind p x Apart = None
+
+-- `advance` decides what a step of the run behind makes of a pair
+abbrev pub AdvanceDecides : Type 0 → Type 0
+AdvanceDecides S =
+    (p q : Pair S) (x : Step S) (advanced : Advanced) → IsAdvanced p.lead x.cells advanced
+    → (StaysBehind p x q ⊎ GetsAhead p x q) ↔ (pair_behind p x advanced ≡ Some q)
 
 -- ---- Closed sets
 

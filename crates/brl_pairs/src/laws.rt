@@ -1,10 +1,17 @@
-//! The theorem on closed sets, for the crates above: a function with an empty body, whose contract is the law.
+//! Laws for the crates above: what `advance` decides, and the theorem on closed sets. Each is the contract of a function
+//! that does nothing.
 ghost use Rattle.std.specs.Prelude.{ℕ, Option};
 ghost use Rattle.brl_pairs.specs.declared.step.Pair.{Pair as PairValue};
-ghost use Rattle.brl_pairs.specs.Pairs.{IsClosed, numbered};
+ghost use Rattle.brl_pairs.specs.Pairs.{AdvanceDecides, IsClosed, numbered};
 ghost use Rattle.brl_pairs.specs.Runs.{IsUnambiguous};
 
 use crate::Machine;
+
+/// What a step of the run behind makes of a pair is told by `advance` of the pair's lead and the step's cells: the run
+/// stays behind by the rest, or it gets ahead by the rest, or there is no pair.
+pub fn advance_law<M: Machine>(_machine: &M)
+    ensures { AdvanceDecides M.State }
+{}
 
 /// Over every machine: where some set of states and some set of pairs are closed, no two different texts of the
 /// machine, of whatever length, have the same translation. Each set is given by numbers, finite or not.

@@ -7,7 +7,7 @@ mod lead;
 mod machine;
 mod step;
 
-pub use laws::closed_sets_law;
+pub use laws::{advance_law, closed_sets_law};
 pub use lead::{Advanced, advance};
 pub use machine::Machine;
 pub use step::{Pair, Step};

@@ -3,7 +3,7 @@ ghost use Rattle.std.specs.Prelude.{◌≡◌, [], ◌∷◌, IfOk};
 ghost use Rattle.brl_pairs.specs.Examples.{letter_step, letters};
 ghost use Rattle.brl_pairs.specs.Runs.{IsUnambiguous};
 
-use crate::{Advanced, Machine, Pair, Step, advance, closed_sets_law};
+use crate::{Advanced, Machine, Pair, Step, advance, advance_law, closed_sets_law};
 use brl_cells::{Cell, Cells, read_dots};
 use brl_table::Chars;
 use std::alloc::{AllocError, Global};
@@ -105,6 +105,7 @@ fn pairs_of_letters(rt: HostRuntime) {
     assert!(rt; pair.lead.is_empty());
     assert!(rt; !pair.ahead && !pair.behind);
     letters_are_unambiguous();
+    advance_law(&Letters);
 }
 
 /// What becomes of a lead, with the dots of its rest.
