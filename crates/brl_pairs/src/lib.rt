@@ -5,11 +5,13 @@
 mod laws;
 mod lead;
 mod machine;
+mod sets;
 mod step;
 
-pub use laws::{advance_law, closed_sets_law};
+pub use laws::{advance_law, closed_sets_law, numbered_sets_law};
 pub use lead::{Advanced, advance};
 pub use machine::Machine;
+pub use sets::Sets;
 pub use step::{Pair, Step};
 
 #[cfg(test)]

@@ -3,7 +3,9 @@ ghost use Rattle.std.specs.Prelude.{◌≡◌, [], ◌∷◌, IfOk};
 ghost use Rattle.brl_pairs.specs.Examples.{letter_step, letters};
 ghost use Rattle.brl_pairs.specs.Runs.{IsUnambiguous};
 
-use crate::{Advanced, Machine, Pair, Step, advance, advance_law, closed_sets_law};
+use crate::{
+    Advanced, Machine, Pair, Sets, Step, advance, advance_law, closed_sets_law, numbered_sets_law,
+};
 use brl_cells::{Cell, Cells, read_dots};
 use brl_table::Chars;
 use std::alloc::{AllocError, Global};
@@ -56,11 +58,28 @@ fn letter_step(
     })
 }
 
+/// The closed sets of the letters.
+struct LetterSets;
+
+impl Sets<bool> for LetterSets {
+    ghost use Rattle.brl_pairs.specs.Examples.{letter_pairs, letter_states};
+    ghost use Rattle.brl_pairs.specs.Pairs.{numbered};
+
+    ghost sets = { numbered letter_states letter_pairs };
+}
+
 /// No two texts of the letters are translated alike: a theorem by closed sets.
 fn letters_are_unambiguous()
     ensures { IsUnambiguous letters }
 {
-    closed_sets_law(&Letters);
+    closed_sets_law::<Letters, LetterSets>(&Letters);
+}
+
+/// The same by the numbers of states and pairs.
+fn numbered_letters_are_unambiguous()
+    ensures { IsUnambiguous letters }
+{
+    numbered_sets_law(&Letters);
 }
 
 /// The state behind a machine's last step from its start, and how many steps there are.
@@ -105,6 +124,7 @@ fn pairs_of_letters(rt: HostRuntime) {
     assert!(rt; pair.lead.is_empty());
     assert!(rt; !pair.ahead && !pair.behind);
     letters_are_unambiguous();
+    numbered_letters_are_unambiguous();
     advance_law(&Letters);
 }
 
