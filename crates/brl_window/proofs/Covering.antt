@@ -1,8 +1,8 @@
 -- For each text there is a path of the window machine that gives its translation.
-use Rattle.std.proofs.Common.{ℕ, zero, suc, ◌+◌, ◌-◌, ◌<◌, ◌≤◌, ◌≡◌, max, Bool, true, false, ◌&&◌, List, [], ◌∷◌, ◌++◌, length, map, take, drop, refl, arith, cond, sym, ◌∙◌, ap, subst, Option, Some, None, is_some, ◌⊎◌, inl, inr, nat_eq, append_assoc, append-nil, length-append, length-drop, IsTrue}
+use Rattle.std.proofs.Common.{ℕ, zero, suc, ◌+◌, ◌-◌, ◌<◌, ◌≤◌, ◌≡◌, Bool, true, false, List, [], ◌∷◌, ◌++◌, length, map, take, drop, refl, arith, cond, sym, ◌∙◌, ap, subst, Some, is_some, ◌⊎◌, inl, inr, nat_eq, append_assoc, append-nil, length-append, length-drop}
 use Rattle.std.proofs.lemmas.List.{take-append-le, drop-append-le, take-append-drop, length-append}
 use Rattle.std.proofs.lemmas.Bool.{eqb-true}
-use Rattle.std.specs.List.{flat_map, AllByRecursion, list_all}
+use Rattle.std.specs.List.{AllByRecursion}
 use Rattle.std.specs.Map.{lookup, keys_of}
 use Rattle.std.specs.Cmp.{first_so, second_so}
 use Rattle.brl_table.specs.declared.rule.Rule.{Rule}
@@ -12,14 +12,13 @@ use Rattle.brl_table.specs.Choice.{chosen}
 use Rattle.brl_table.specs.Indicators.{indicators}
 use Rattle.brl_table.specs.Rest.{translation_of_rest}
 use Rattle.brl_table.specs.TableView.{TableView}
-use Rattle.brl_table.specs.Text.{at_start, context_behind_all, is_defined, is_text}
-use Rattle.brl_table.specs.Translation.{translation}
+use Rattle.brl_table.specs.Text.{context_behind_all, is_defined, is_text}
 use Rattle.brl_pairs.specs.declared.step.Step.{Step}
-use Rattle.brl_pairs.specs.Runs.{Covers, IsListed, IsPath, reads_of, cells_of}
+use Rattle.brl_pairs.specs.Runs.{Covers, IsPath, reads_of, cells_of}
 use Rattle.brl_window.specs.declared.state.WindowState.{WindowState}
-use Rattle.brl_window.specs.Windows.{longest, width, Window, windows_on, windows, window_step, begins_defined, steps_at, by_rule_number, context_of, steps_found, window_steps, first_state, knows_none, window_machine}
+use Rattle.brl_window.specs.Windows.{longest, width, Window, windows_on, windows, window_step, steps_at, context_of, steps_found, window_steps, first_state, window_machine}
 use Rattle.brl_window.proofs.Kept.{Choosing, Translating, chosen-Takes}
-use Rattle.brl_window.proofs.Listing.{IsIn, in-left, in-right, in-flat_map, in-at, in-by_rule_number}
+use Rattle.brl_window.proofs.Listing.{IsIn, in-flat_map, in-at, in-by_rule_number}
 use Rattle.brl_window.proofs.Longer.{chosen-more}
 
 -- rules are no longer than the longest
@@ -28,7 +27,7 @@ longest-AllByRecursion [] n h = tt
 longest-AllByRecursion (r ∷ rs) n h = ((let a : length r.chars < n = omega (arith, h) in a), longest-AllByRecursion rs n (omega (arith, h)))
 
 -- a character that the table defines is in its alphabet
-defined-in : (entries : List (ℕ × Info)) (c : ℕ) → is_some (lookup (nat_eq c) entries) ≡ true → IsIn c (map (λ e. e.0) entries)
+pub defined-in : (entries : List (ℕ × Info)) (c : ℕ) → is_some (lookup (nat_eq c) entries) ≡ true → IsIn c (map (λ e. e.0) entries)
 defined-in [] c h = cc
 defined-in (e ∷ es) c h = cases (nat_eq c e.0) refl h (defined-in es c)
   where
@@ -99,14 +98,16 @@ sees-cases t false s rest e k h =
     let n = width t - length s.coming in
     let w = window_of n s.coming k.later in
     let shows = window_of-Shows n s.coming k.later in
-    let rest_in = subst (AllByRecursion (λ c. IsIn c (keys_of t.characters))) k.whole h in
-    (w, record {
-      is_one = rw e (window_of-in (keys_of t.characters) n s.coming k.later (all-behind (λ c. IsIn c (keys_of t.characters)) s.coming k.later rest_in));
-      left = shows.left;
-      whole = k.whole ∙ shows.whole;
-      all = shows.all;
-      enough = λ q. (let l = shows.enough q in omega (arith, l));
-    })
+    let rest_in = subst (AllByRecursion (λ c. IsIn c (keys_of t.characters))) k.whole h in (
+      w,
+      record {
+        is_one = rw e (window_of-in (keys_of t.characters) n s.coming k.later (all-behind (λ c. IsIn c (keys_of t.characters)) s.coming k.later rest_in));
+        left = shows.left;
+        whole = k.whole ∙ shows.whole;
+        all = shows.all;
+        enough = λ q. (let l = shows.enough q in omega (arith, l));
+      },
+    )
 
 -- what comes of a window at a text that is left: the step is that of the whole text
 pub record Steps (t : TableView) (here : Context) (rest : List ℕ) (w : Window) (left : List ℕ) : Type 0 where
@@ -179,11 +180,13 @@ path-at t choosing translating n s b x xs left on short defined is_one all enoug
     let law = translating.rule here rest (omega arith) in
     let behind : context_behind_all t here (take taken rest) ≡ context_of step.next = ap (context_behind_all t here) same.taken in
     let cells : step.cells ≡ indicators t here rest ++ (chosen t here.classes rest).cells =
-    ap (λ c. indicators t here rest ++ c.cells) (sym same.choice) in
-    (step ∷ path.0, (in-at step (window_steps t s) (step-in t s x xs b defined.0 is_one), path.1),
-    ap (λ l. step.reads ++ l) path.2 ∙ ap (λ l. l ++ more) (sym same.taken) ∙ take-append-drop taken rest,
-    ap (λ l. step.cells ++ l) path.3 ∙ ap (λ l. l ++ translation_of_rest t (context_of step.next) more) cells
-    ∙ ap (λ h. indicators t here rest ++ (chosen t here.classes rest).cells ++ translation_of_rest t h more) (sym behind) ∙ sym law)
+    ap (λ c. indicators t here rest ++ c.cells) (sym same.choice) in (
+      step ∷ path.0,
+      (in-at step (window_steps t s) (step-in t s x xs b defined.0 is_one), path.1),
+      ap (λ l. step.reads ++ l) path.2 ∙ ap (λ l. l ++ more) (sym same.taken) ∙ take-append-drop taken rest,
+      ap (λ l. step.cells ++ l) path.3 ∙ ap (λ l. l ++ translation_of_rest t (context_of step.next) more) cells
+          ∙ ap (λ h. indicators t here rest ++ (chosen t here.classes rest).cells ++ translation_of_rest t h more) (sym behind) ∙ sym law,
+    )
 
 -- where a window isn't empty its step is taken
 path-by : (t : TableView) → Choosing t → Translating t → (n : ℕ) (s : WindowState) (c : ℕ) (rest known left : List ℕ) (b : Bool)

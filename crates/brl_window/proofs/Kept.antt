@@ -1,6 +1,6 @@
 -- What the machine needs of a table: from what every table keeps, and from the laws of its definitions.
-use Rattle.std.proofs.Common.{ℕ, zero, suc, ◌<◌, ◌≤◌, ◌≡◌, ◌≢◌, max, false, List, [], ◌∷◌, ◌++◌, length, nat_eq, arith, Option, Some, None, cond, ap}
-use Rattle.std.specs.Prelude.{slice_get, slice_index_or, All}
+use Rattle.std.proofs.Common.{ℕ, suc, ◌<◌, ◌≤◌, ◌≡◌, ◌≢◌, false, List, [], ◌∷◌, length, nat_eq, arith, Some, ap}
+use Rattle.std.specs.Prelude.{slice_get, slice_index_or}
 use Rattle.std.specs.Bool.{⊤}
 use Rattle.std.specs.List.{AllByRecursion, IsDistinct}
 use Rattle.std.specs.Map.{keys_of}
@@ -10,7 +10,7 @@ use Rattle.brl_table.specs.declared.context.Context.{Context}
 use Rattle.brl_table.specs.declared.rule.Info.{Info}
 use Rattle.brl_table.specs.declared.rule.Rule.{Rule}
 use Rattle.brl_table.specs.Choice.{chosen}
-use Rattle.brl_table.specs.Limits.{IsEntry, IsRule, IsTable}
+use Rattle.brl_table.specs.Limits.{IsRule, IsTable}
 use Rattle.brl_table.specs.Rank.{IsInRank}
 use Rattle.brl_table.specs.Rest.{translation_of_rest, TakesOneRule}
 use Rattle.brl_table.specs.TableView.{TableView}

@@ -5,3 +5,4 @@ pub mod Covering
 pub mod Ordering
 pub mod Sorting
 pub mod Turns
+pub mod Stepping

@@ -1,9 +1,8 @@
 -- Places in lists, and where an element of a list stands after windows are joined and steps are put in order.
-use Rattle.std.proofs.Common.{ℕ, zero, suc, ◌+◌, ◌<◌, ◌≤◌, ◌≡◌, ◌≢◌, Bool, true, false, List, [], ◌∷◌, ◌++◌, length, map, refl, arith, cond, sym, ◌∙◌, ap, subst, Some, ◌⊎◌, inl, inr, nat_le}
+use Rattle.std.proofs.Common.{ℕ, zero, suc, ◌≡◌, Bool, true, false, List, [], ◌∷◌, ◌++◌, refl, cond, sym, ap, subst, Some, ◌⊎◌, inl, inr, nat_le}
 use Rattle.std.specs.Prelude.{slice_get}
-use Rattle.std.specs.List.{flat_map, AllByRecursion}
+use Rattle.std.specs.List.{flat_map}
 use Rattle.brl_pairs.specs.declared.step.Step.{Step}
-use Rattle.brl_pairs.specs.Runs.{IsListed, IsListedAt}
 use Rattle.brl_window.specs.Windows.{put_in, by_rule_number}
 
 -- an element stands in a list

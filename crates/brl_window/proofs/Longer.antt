@@ -1,13 +1,12 @@
 -- Which rule is chosen depends on the next characters alone, as many as the longest rule has and one more.
-use Rattle.std.proofs.Common.{ℕ, zero, suc, ◌+◌, ◌<◌, ◌≤◌, ◌≡◌, Bool, true, false, ◌&&◌, List, [], ◌∷◌, ◌++◌, length, take, refl, arith, cond, nat_eq, sym, ◌∙◌, ap, Option, Some, None}
+use Rattle.std.proofs.Common.{ℕ, zero, suc, ◌+◌, ◌<◌, ◌≤◌, ◌≡◌, ◌&&◌, List, [], ◌∷◌, ◌++◌, length, refl, arith, cond, nat_eq, ◌∙◌, ap}
 use Rattle.std.specs.List.{starts_with, slice_get, AllByRecursion}
 use Rattle.std.specs.Option.{option_map_or}
-use Rattle.std.specs.Prelude.{slice_get as get_at}
 use Rattle.brl_table.specs.declared.class.Class.{Class}
 use Rattle.brl_table.specs.declared.rule.Rule.{Rule}
 use Rattle.brl_table.specs.TableView.{TableView}
 use Rattle.brl_table.specs.Places.{space, holds, before_of, after_of}
-use Rattle.brl_table.specs.Choice.{Choice, by_rule, matches, fits, first_fitting, own, chosen}
+use Rattle.brl_table.specs.Choice.{by_rule, matches, fits, first_fitting, chosen}
 use Rattle.brl_table.specs.Text.{fold_of, classes_of, classes_at}
 
 -- what is asked of the known characters: more than the rule has, or all that there are

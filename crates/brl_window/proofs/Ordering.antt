@@ -1,5 +1,5 @@
 -- The steps of a window machine are good, stand by rule number, and none stands twice.
-use Rattle.std.proofs.Common.{ℕ, zero, suc, ◌+◌, ◌-◌, ◌<◌, ◌≤◌, ◌≡◌, ◌≢◌, max, Bool, true, false, ◌&&◌, not, List, [], ◌∷◌, ◌++◌, length, map, take, drop, refl, arith, cond, sym, ◌∙◌, ap, subst, Option, Some, None, is_some, ◌⊎◌, inl, inr, nat_eq, nat_le, length-append, append_assoc, append-nil, slice_get, IsTrue}
+use Rattle.std.proofs.Common.{ℕ, zero, suc, ◌+◌, ◌-◌, ◌≤◌, ◌≡◌, ◌≢◌, Bool, true, false, ◌&&◌, not, List, [], ◌∷◌, ◌++◌, length, refl, arith, cond, sym, ◌∙◌, ap, subst, Some, is_some, inl, inr, nat_eq, nat_le, length-append, append_assoc, append-nil, slice_get}
 use Rattle.std.proofs.lemmas.List.{take-append-drop, length-take-le, append_cancel_left}
 use Rattle.std.proofs.lemmas.Bool.Decides.{nat_tests}
 use Rattle.std.specs.List.{flat_map, AllByRecursion}
@@ -12,16 +12,15 @@ use Rattle.brl_table.specs.declared.rule.Info.{Info}
 use Rattle.brl_table.specs.declared.context.Context.{Context}
 use Rattle.brl_table.specs.Choice.{Choice, by_rule, chosen, own, first_fitting, fits}
 use Rattle.brl_table.specs.Indicators.{indicators, when}
-use Rattle.brl_table.specs.Limits.{IsTable}
 use Rattle.brl_table.specs.Places.{share, uppercase}
-use Rattle.brl_table.specs.TableView.{TableView, info_of}
+use Rattle.brl_table.specs.TableView.{TableView}
 use Rattle.brl_table.specs.Text.{is_defined, is_nocont, is_literary, classes_of}
 use Rattle.brl_pairs.specs.declared.step.Step.{Step}
-use Rattle.brl_pairs.specs.Runs.{IsListed, IsListedAt, IsGoodStep, IsInOrder, StandsBefore}
+use Rattle.brl_pairs.specs.Runs.{IsListed, IsGoodStep, IsInOrder}
 use Rattle.brl_window.specs.declared.state.WindowState.{WindowState}
 use Rattle.brl_window.specs.Windows.{width, Window, windows_on, windows, window_step, begins_defined, steps_at, put_in, by_rule_number, context_of, steps_found, window_steps}
-use Rattle.brl_window.proofs.Kept.{AreDistinct, Within, Keeps, keeps_of, Choosing, chosen-Takes}
-use Rattle.brl_window.proofs.Listing.{IsIn, in-left, in-right, in-append, from-flat_map, at-in, in-at, put_in-from, from-by_rule_number}
+use Rattle.brl_window.proofs.Kept.{AreDistinct, Within, Keeps, Choosing, chosen-Takes}
+use Rattle.brl_window.proofs.Listing.{IsIn, in-append, from-flat_map, at-in, from-by_rule_number}
 
 cond-Within : (b : Bool) (x y : Choice) → Within (length x.cells) 512 → Within (length y.cells) 512 → Within (length (cond b x y).cells) 512
 cond-Within true x y h k = h
@@ -98,9 +97,10 @@ not-in x (y ∷ ys) h (inr k) = not-in x ys h.1 k
 
 distinct-append : {X : Type 0} (xs ys : List X) → AreDistinct xs → AreDistinct ys → ((z : X) → IsIn z xs → IsIn z ys → ⊥) → AreDistinct (xs ++ ys)
 distinct-append [] ys h k none = k
-distinct-append (x ∷ xs) ys h k none =
-    (apart x (xs ++ ys) (λ q. elim (in-append x xs ys q) [ inl a ↦ not-in x xs h.0 a | inr b ↦ none x (inl refl) b ]),
-    distinct-append xs ys h.1 k (λ z a b. none z (inr a) b))
+distinct-append (x ∷ xs) ys h k none = (
+  apart x (xs ++ ys) (λ q. elim (in-append x xs ys q) [ inl a ↦ not-in x xs h.0 a | inr b ↦ none x (inl refl) b ]),
+  distinct-append xs ys h.1 k (λ z a b. none z (inr a) b),
+)
 
 distinct-flat_map : {X Y : Type 0} (f : X → List Y) (xs : List X) → AreDistinct xs → ((x : X) → AreDistinct (f x))
     → ((x y : X) (z : Y) → IsIn z (f x) → IsIn z (f y) → x ≡ y) → AreDistinct (flat_map f xs)
@@ -121,9 +121,10 @@ begins letters (suc n) known w (inr h) =
 
 windows_on-distinct : (letters : List ℕ) → AreDistinct letters → (n : ℕ) (known : List ℕ) → AreDistinct (windows_on letters n known)
 windows_on-distinct letters h zero known = (tt, tt)
-windows_on-distinct letters h (suc n) known =
-    (apart (record { known = known; ended = true }) (flat_map (λ c. windows_on letters n (known ++ c ∷ [])) letters) longer,
-    distinct-flat_map (λ c. windows_on letters n (known ++ c ∷ [])) letters h (λ c. windows_on-distinct letters h n (known ++ c ∷ [])) same)
+windows_on-distinct letters h (suc n) known = (
+  apart (record { known = known; ended = true }) (flat_map (λ c. windows_on letters n (known ++ c ∷ [])) letters) longer,
+  distinct-flat_map (λ c. windows_on letters n (known ++ c ∷ [])) letters h (λ c. windows_on-distinct letters h n (known ++ c ∷ [])) same,
+)
   where
     longer : IsIn (record { known = known; ended = true }) (flat_map (λ c. windows_on letters n (known ++ c ∷ [])) letters) → ⊥
     longer q =
@@ -133,6 +134,7 @@ windows_on-distinct letters h (suc n) known =
         let l : length known ≡ length ((known ++ m.0 ∷ []) ++ b.0) = ap length b.1 in
         let k : length ((known ++ m.0 ∷ []) ++ b.0) ≡ length known + 1 + length b.0 = length-append (known ++ m.0 ∷ []) b.0 ∙ ap (λ a. a + length b.0) (length-append known (m.0 ∷ [])) in
         absurd (omega (arith, l, k))
+
     same : (c d : ℕ) (w : Window) → IsIn w (windows_on letters n (known ++ c ∷ [])) → IsIn w (windows_on letters n (known ++ d ∷ [])) → c ≡ d
     same c d w p q =
         let a = begins letters n (known ++ c ∷ []) w p in

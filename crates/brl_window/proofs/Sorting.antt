@@ -1,5 +1,5 @@
 -- The order by rule keeps the steps of each rule in their order.
-use Rattle.std.proofs.Common.{ℕ, zero, suc, length, nat_lt, not, ◌&&◌, ◌<◌, ◌≤◌, ◌≡◌, Bool, true, false, List, [], ◌∷◌, filter, refl, arith, cond, sym, ◌∙◌, ap, nat_le, nat_eq, ◌⊎◌, inl, inr}
+use Rattle.std.proofs.Common.{ℕ, suc, length, nat_lt, not, ◌&&◌, ◌<◌, ◌≤◌, ◌≡◌, Bool, true, false, List, [], ◌∷◌, filter, refl, arith, cond, sym, ◌∙◌, ap, nat_le, nat_eq, ◌⊎◌, inl, inr}
 use Rattle.std.proofs.lemmas.Bool.Decides.{nat_tests}
 use Rattle.std.proofs.lemmas.Bool.{eqb-true, eq-eqb}
 use Rattle.std.proofs.lemmas.List.Elements.{filter_agree}
@@ -38,6 +38,7 @@ module _ {S : Type 0} where
     where
       not_both : nat_le x.rule y.rule ≡ false → nat_eq k x.rule ≡ true → nat_eq k y.rule ≡ true → ⊥
       not_both e p q = (let a : k ≡ x.rule = eqb-true k x.rule p in let b : k ≡ y.rule = eqb-true k y.rule q in grind (arith, nat_tests))
+
       at : (b : Bool) → nat_le x.rule y.rule ≡ b → of_rule k (put_in x ys) ≡ of_rule k (x ∷ ys) → of_rule k (cond b (x ∷ y ∷ ys) (y ∷ put_in x ys)) ≡ of_rule k (x ∷ y ∷ ys)
       at true e more = refl
       at false e more =
@@ -126,6 +127,6 @@ sorted_by_rule_number {F} {g} {f} old new sorted stable compares =
     is-by_rule_number old new
     (ascending new (λ i j d i<j j<n. not_below _ _ (sorted_far lt order new (sorted lt order answers) i j d (omega arith) j<n)))
     (λ n.
-        sym (filter_agree (ties lt (step_of n)) (λ y. nat_eq n y.rule) (ties-rule n) new)
-        ∙ stable lt order answers (step_of n)
-        ∙ filter_agree (ties lt (step_of n)) (λ y. nat_eq n y.rule) (ties-rule n) old)
+    sym (filter_agree (ties lt (step_of n)) (λ y. nat_eq n y.rule) (ties-rule n) new)
+    ∙ stable lt order answers (step_of n)
+    ∙ filter_agree (ties lt (step_of n)) (λ y. nat_eq n y.rule) (ties-rule n) old)

@@ -1,17 +1,16 @@
 -- One turn of the loop over the letters, over plain lists.
-use Rattle.std.proofs.Common.{ℕ, zero, suc, ◌+◌, ◌-◌, ◌<◌, ◌≤◌, ◌≡◌, max, List, [], ◌∷◌, ◌++◌, length, take, drop, map, refl, arith, sym, ◌∙◌, ap, Some, true, append_assoc, append-nil, slice_get, lit≤, lit<, min, ◌*◌, ◌^◌, ◌⊎◌, inl, inr}
+use Rattle.std.proofs.Common.{ℕ, zero, suc, ◌+◌, ◌-◌, ◌<◌, ◌≤◌, ◌≡◌, List, [], ◌∷◌, ◌++◌, length, take, map, refl, arith, sym, ◌∙◌, ap, Some, true, append_assoc, append-nil, slice_get, min, ◌*◌, ◌^◌, ◌⊎◌, inl, inr}
 use Rattle.std.proofs.Math.Nat.{pow-succ', suc-mul, mul-zero, zero-mul, mul-one, mul-add, pow-zero}
 use Rattle.brl_window.specs.Width.{powers}
 use Rattle.std.proofs.lemmas.Grind.{flat_map-append}
 use Rattle.std.specs.List.{flat_map}
 use Rattle.std.specs.Map.{keys_of}
-use Rattle.brl_table.specs.declared.rule.Rule.{Rule}
 use Rattle.brl_table.specs.declared.rule.Info.{Info}
 use Rattle.brl_table.specs.declared.context.Context.{Context}
 use Rattle.brl_table.specs.TableView.{TableView}
 use Rattle.brl_pairs.specs.declared.step.Step.{Step}
 use Rattle.brl_window.specs.declared.state.WindowState.{WindowState}
-use Rattle.brl_window.specs.Windows.{Window, windows_on, steps_at}
+use Rattle.brl_window.specs.Windows.{windows_on, steps_at}
 
 take-next : (letters : List ℕ) (i c : ℕ) → slice_get letters i ≡ Some c → take (i + 1) letters ≡ take i letters ++ c ∷ []
 take-next [] i c h = cc

@@ -1,8 +1,8 @@
 -- Equal states are the same state.
-use Rattle.std.proofs.Common.{◌≡◌, ℕ, Bool, true, false, List, refl, sym}
+use Rattle.std.proofs.Common.{◌≡◌, Bool, true, false, refl, sym}
 use Rattle.std.proofs.Math.Bool.{beq}
 use Rattle.std.specs.Cmp.{first_so, second_so}
-use Rattle.std.specs.Cmp.Lexicographic.{same_text, pointwise}
+use Rattle.std.specs.Cmp.Lexicographic.{same_text}
 use Rattle.std.proofs.Math.Dec.{eqb}
 use Rattle.std.proofs.lemmas.Bool.Decides.{Decides-eqb}
 use Rattle.brl_window.specs.declared.state.WindowState.{WindowState}

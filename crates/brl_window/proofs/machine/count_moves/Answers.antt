@@ -1,4 +1,4 @@
-use Rattle.std.proofs.Common.{◌≡◌, ◌+◌, ◌*◌, min, length}
+use Rattle.std.proofs.Common.{length}
 use Rattle.brl_window.proofs.Turns.{count_next}
 use Rattle.brl_window.proofs.machine.count_moves.Goals as goal
 

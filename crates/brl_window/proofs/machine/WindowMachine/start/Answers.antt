@@ -1,4 +1,4 @@
-use Rattle.std.proofs.Common.{subst, sym}
+use Rattle.std.proofs.Common.{subst}
 use Rattle.brl_table.specs.Limits.{IsTable}
 use Rattle.brl_window.proofs.Covering.{covers}
 use Rattle.brl_window.proofs.Kept.{Choosing, Translating, keeps_of}
