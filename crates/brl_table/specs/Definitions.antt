@@ -10,7 +10,7 @@ use Rattle.brl_table.specs.declared.definition.Definition.{Definition}
 use Rattle.brl_table.specs.declared.definition.LineFault.{LineFault}
 use Rattle.brl_table.specs.declared.definition.LineFault.TheVariants as line_faults
 use Rattle.brl_table.specs.declared.opcode.Opcode.{Opcode}
-use Rattle.brl_table.specs.declared.opcode.Opcode.TheVariants.{Plain}
+use Rattle.brl_table.specs.declared.opcode.Opcode.TheVariants.{Plain, Include}
 use Rattle.brl_table.specs.declared.table_fault.Wrong.{Wrong}
 use Rattle.brl_table.specs.declared.table_fault.Wrong.TheVariants.{OutsideProfile, MissingOperand, BadCharacters, BadDots}
 use Rattle.brl_table.specs.Opcodes.{opcode_of}
@@ -68,9 +68,15 @@ by_operands define opcode [] = Err (fault MissingOperand opcode)
 by_operands define opcode (first ∷ []) = Err (fault MissingOperand opcode)
 by_operands define opcode (first ∷ second ∷ comment) = by_character define second.text (character_of first.text)
 
+-- an include line: loading puts a file's lines in the place of one that names a file
+abbrev pub by_name : List ℕ → List TokenView → Result Definition Fault
+by_name opcode [] = Err (fault MissingOperand opcode)
+by_name opcode (name ∷ comment) = Err (fault OutsideProfile opcode)
+
 abbrev pub by_opcode : ℕ → LineView → Option Opcode → Result Definition Fault
 by_opcode file line None = Err (fault OutsideProfile line.opcode.text)
 by_opcode file line (Some (Plain classes)) = by_operands (definition classes file line.line) line.opcode.text line.operands
+by_opcode file line (Some Include) = by_name line.opcode.text line.operands
 
 -- what a line of the file with this number says, or the first that is wrong with it
 abbrev pub definition_of : ℕ → LineView → Result Definition Fault

@@ -1,16 +1,22 @@
 -- The opcodes of the profile: one table of their words, what their lines do, and the classes that they give. The manual has
--- them in section "Character-Definition Opcodes".
+-- them in sections "Character-Definition Opcodes" and "Miscellaneous Opcodes".
 use Rattle.std.specs.Prelude.{ℕ, List, [], ◌∷◌, codes, Option, Some, None, if◌then◌else◌}
 use Rattle.std.specs.Str.{bytes_eq}
 use Rattle.brl_table.specs.declared.opcode.Opcode.{Opcode}
-use Rattle.brl_table.specs.declared.opcode.Opcode.TheVariants.{Plain}
-use Rattle.brl_table.specs.Places.{space, punctuation, letter}
+use Rattle.brl_table.specs.declared.opcode.Opcode.TheVariants.{Plain, Include}
+use Rattle.brl_table.specs.Places.{space, punctuation, digit, letter, lowercase_letter, uppercase_letter, sign, math}
 
 abbrev pub opcodes : List (List ℕ × Opcode)
 opcodes =
     (codes "space", Plain space)
     ∷ (codes "punctuation", Plain punctuation)
+    ∷ (codes "digit", Plain digit)
     ∷ (codes "letter", Plain letter)
+    ∷ (codes "lowercase", Plain lowercase_letter)
+    ∷ (codes "uppercase", Plain uppercase_letter)
+    ∷ (codes "sign", Plain sign)
+    ∷ (codes "math", Plain math)
+    ∷ (codes "include", Include)
     ∷ []
 
 -- the entry of a word

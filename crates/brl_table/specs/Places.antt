@@ -38,6 +38,20 @@ gap_or_letter = record { 0 = 11 }
 abbrev pub uppercase : Class
 uppercase = record { 0 = 32 }
 
+abbrev pub sign : Class
+sign = record { 0 = 64 }
+
+abbrev pub math : Class
+math = record { 0 = 128 }
+
+-- lowercase and letter
+abbrev pub lowercase_letter : Class
+lowercase_letter = record { 0 = 24 }
+
+-- uppercase and letter
+abbrev pub uppercase_letter : Class
+uppercase_letter = record { 0 = 40 }
+
 -- whether two sets share a class
 abbrev pub share : Class → Class → Bool
 share a b = not (bit_and a.0 b.0 == 0)

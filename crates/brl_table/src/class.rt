@@ -30,6 +30,12 @@ impl Class {
 
     /// Space, punctuation or letter.
     pub const GAP_OR_LETTER: Class = Class(11);
+
+    /// Lowercase and letter.
+    pub const LOWERCASE_LETTER: Class = Class(24);
+
+    /// Uppercase and letter.
+    pub const UPPERCASE_LETTER: Class = Class(40);
 }
 
 impl Flags for Class {

@@ -46,8 +46,14 @@ pub fn define<'a>(alloc: Global, file: usize, line: &Line<'a>) -> Result<Definit
     ensures good { IfOk result (IsGood (file + 1)) }
 {
     let opcode = line.opcode.text;
-    let Some(Opcode::Plain(classes)) = opcode_named(opcode) else {
-        return Err(LineFault::Wrong(Wrong::OutsideProfile, opcode));
+    let classes = match opcode_named(opcode) {
+        Some(Opcode::Plain(classes)) => classes,
+        Some(Opcode::Include) if line.operands.is_empty() => {
+            return Err(LineFault::Wrong(Wrong::MissingOperand, opcode));
+        }
+        Some(Opcode::Include) | None => {
+            return Err(LineFault::Wrong(Wrong::OutsideProfile, opcode));
+        }
     };
     let [first, second, ..] = line.operands.as_slice() else {
         return Err(LineFault::Wrong(Wrong::MissingOperand, opcode));

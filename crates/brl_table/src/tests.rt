@@ -223,6 +223,53 @@ fn faults_of_lines(rt: HostRuntime) -> Result<(), Fail> {
     Ok(())
 }
 
+/// The opcodes that define a character, with the classes that they give.
+static DEFINING: [(&str, Class); 8] = [
+    ("space", Class(1)),
+    ("punctuation", Class(2)),
+    ("digit", Class(4)),
+    ("letter", Class(8)),
+    ("lowercase", Class(24)),
+    ("uppercase", Class(40)),
+    ("sign", Class(64)),
+    ("math", Class(128)),
+];
+
+fn defining() -> &'static [(&'static str, Class)] {
+    &DEFINING
+}
+
+#[test]
+fn classes_of_opcodes(rt: HostRuntime) -> Result<(), Fail> {
+    let alloc = rt.alloc();
+    for (opcode, classes) in defining() {
+        let line = line(alloc, 1, opcode, "a", "1")?;
+        let table = read_table(alloc, vec![in alloc; line]?.as_slice())?;
+        let info = table.info('a').ok_or("a isn't defined")?;
+        assert_eq!(rt; info.classes, *classes);
+    }
+    Ok(())
+}
+
+#[test]
+fn an_include_line_that_is_left(rt: HostRuntime) -> Result<(), Fail> {
+    let alloc = rt.alloc();
+    let got = fault(alloc, "include", "u", "v")?;
+    assert_eq!(rt; got.as_str(), "B1 OutsideProfile include at t.ctb:7");
+    let line = Line {
+        file: "t.ctb",
+        line: 1,
+        opcode: token("include"),
+        operands: Vec::new(alloc),
+    };
+    let Err(fault) = read_table(alloc, vec![in alloc; line]?.as_slice()) else {
+        return Err(Fail::from("no fault"));
+    };
+    let got = format!(in alloc; "{fault}")?;
+    assert_eq!(rt; got.as_str(), "B2 MissingOperand include at t.ctb:1");
+    Ok(())
+}
+
 /// As many lines as there are names, each of which defines a character.
 fn letters<'a>(alloc: Global, names: &'a [String]) -> Result<Vec<Line<'a>>, Fail> {
     let mut lines = Vec::new(alloc);
