@@ -37,7 +37,8 @@ impl<'a> Window<'a> {
     pub fn new(alloc: Global, table: &'a Table) -> Result<Window<'a>, TooWide>
         ensures table { IfOk result (λ w. w ≡ table.now) }
         ensures texts { IfOk result (λ w. (⟦<Window<'a> as Machine>⟧.behaviour w).is_text ≡ is_text table.now) }
-        ensures translation { IfOk result (λ w. (⟦<Window<'a> as Machine>⟧.behaviour w).translation ≡ translation table.now) }
+        ensures translation { IfOk result (λ w.
+            (⟦<Window<'a> as Machine>⟧.behaviour w).translation ≡ translation table.now) }
         ensures ok { OnOk result (start_moves table.now ≤ 10000) }
         ensures err { OnErr result (10000 < start_moves table.now) }
     {
@@ -69,6 +70,7 @@ impl<'a> Machine for Window<'a> {
     ghost behaviour = { window_machine };
 
     fn start(&self) -> WindowState {
+        // The machine's laws follow from those of the table.
         choice_laws();
         translation_laws();
         self.table.law();
