@@ -5,7 +5,12 @@ pub mod Bridge
 pub mod Positions
 pub mod Chosen
 pub mod Ranked
+pub mod InRank
 pub mod SaidSteps
+pub mod ItemSteps
+pub mod LookSteps
+pub mod GoodItems
 pub mod SaidParts
 pub mod FileNames
 pub mod ReadSteps
+pub mod AllLooked

@@ -1,5 +1,5 @@
 -- One more line of those that a table is read from.
-use Rattle.std.proofs.Common.{ℕ, zero, suc, ◌+◌, ◌<◌, ◌≤◌, ◌≡◌, Bool, true, false, ◌||◌, cond, ◌⊎◌, inl, inr, List, [], ◌∷◌, ◌++◌, length, map, fold, take, refl, arith, sym, ◌∙◌, ap, subst, Option, Some, None, Ok, get_or}
+use Rattle.std.proofs.Common.{ℕ, zero, suc, ◌+◌, ◌<◌, ◌≤◌, ◌≡◌, Bool, true, false, ◌||◌, cond, ◌⊎◌, inl, inr, List, [], ◌∷◌, ◌++◌, length, map, fold, take, refl, arith, sym, ◌∙◌, ap, subst, Option, Some, None, Result, Ok, get_or}
 use Rattle.std.specs.Prelude.{position, string_bytes, slice_get, unwrap_or, All, IsSome, option_map}
 use Rattle.std.proofs.lemmas.Option.{slice_get-map, slice_get-get_or}
 use Rattle.std.proofs.lemmas.Slice.Eq.{bytes_eq-Decides}
@@ -7,31 +7,31 @@ use Rattle.std.specs.Global.{Global}
 use Rattle.std.proofs.Common.{String}
 use Rattle.std.specs.List.{list_any, position_from}
 use Rattle.std.specs.Str.{bytes_eq}
-use Rattle.std.proofs.lemmas.Grind.{flat_map-append}
-use Rattle.std.proofs.lemmas.List.{take_more}
+use Rattle.std.proofs.lemmas.List.{map-append, take_more}
 use Rattle.std.proofs.lemmas.Iterator.Adapters.{position_from-zero}
 use Rattle.brl_lines.specs.Tokens.{LineView}
 use Rattle.brl_lines.specs.Views.{line_view}
 use Rattle.brl_lines.specs.declared.line.Line.{Line}
-use Rattle.brl_table.specs.declared.definition.Definition.{Definition}
 use Rattle.brl_table.specs.declared.rule.Info.{Info}
 use Rattle.brl_table.specs.declared.rule.Notice.{Notice}
-use Rattle.brl_table.specs.Definitions.{Fault, fault, definition_of}
+use Rattle.brl_table.specs.declared.item.Item.{Item}
+use Rattle.brl_table.specs.declared.item.Item.TheVariants.{Defines, Rules, Nothing}
+use Rattle.brl_table.specs.Items.{Fault, fault, item_of}
 use Rattle.brl_table.specs.declared.table_fault.Wrong.{Wrong}
 use Rattle.std.proofs.lemmas.Bool.{cases_order}
 use Rattle.std.proofs.lemmas.List.Elements.{All-push}
 use Rattle.std.proofs.lemmas.List.{length-map}
 use Rattle.std.proofs.lemmas.Option.{get_or_from_slice_get}
 use Rattle.brl_table.specs.Reading.{IsAt, IsFaultOf, IsFirstFault}
-use Rattle.brl_table.specs.declared.definition.LineFault.{LineFault}
-use Rattle.brl_table.specs.declared.definition.LineFault.TheVariants as line_faults
+use Rattle.brl_table.specs.declared.item.LineFault.{LineFault}
+use Rattle.brl_table.specs.declared.item.LineFault.TheVariants as line_faults
 use Rattle.brl_table.specs.declared.table_fault.TableFault.{TableFault}
 use Rattle.brl_table.specs.declared.table_fault.TableFault.TheVariants as faults
 use Rattle.std.specs.Borrow.{Bor}
-use Rattle.brl_table.specs.Good.{IsGood}
-use Rattle.brl_table.specs.Reading.{definition_in, definitions, ok_of, fault_behind, fault_of, file_number, files_of, place_among, put, PassesBefore}
-use Rattle.brl_table.specs.Said.{Stands}
-use Rattle.brl_table.proofs.SaidSteps.{fault-none}
+use Rattle.brl_table.specs.Good.{IsGoodItem}
+use Rattle.brl_table.specs.Reading.{item_in, items, ok_of, fault_behind, fault_of, file_number, files_of, place_among, put, PassesBefore}
+use Rattle.brl_table.specs.Said.{StandFor}
+use Rattle.brl_table.proofs.ItemSteps.{fault-none}
 
 -- ---- the number of a file
 
@@ -78,6 +78,37 @@ module _ {X : Type 0} (eq : X → X → Bool) (same : (x : X) → eq x x ≡ tru
   any-once (z ∷ zs) xs zero x h = any-fold-kept (eq x) zs (put eq xs z) (rw (some_is z x h) (any-put-same xs x))
   any-once (z ∷ zs) xs (suc i) x h = any-once zs (put eq xs z) i x h
 
+-- ---- what some lines say
+
+same_head : {X : Type 0} (x y : X) (xs ys : List X) → x ∷ xs ≡ y ∷ ys → x ≡ y
+same_head x y xs ys e = cc
+
+same_tail : {X : Type 0} (x y : X) (xs ys : List X) → x ∷ xs ≡ y ∷ ys → xs ≡ ys
+same_tail x y xs ys e = cc
+
+-- these items are what each of the lines says
+pub aligned-items : (files : List (List ℕ)) (lines : List LineView) (said : List Item) → map Ok said ≡ map (item_in files) lines → items files lines ≡ said
+aligned-items files [] [] h = refl
+aligned-items files [] (item ∷ said) h = cc
+aligned-items files (line ∷ lines) [] h = cc
+aligned-items files (line ∷ lines) (item ∷ said) h =
+    let first : item_in files line ≡ Ok item = sym (same_head (Ok item) (item_in files line) (map Ok said) (map (item_in files) lines) h) in
+    let more = aligned-items files lines said (same_tail (Ok item) (item_in files line) (map Ok said) (map (item_in files) lines) h) in
+    ap (λ r. ok_of r ++ items files lines) first ∙ ap (λ xs. item ∷ xs) more
+
+-- an item of a file that is known
+good-among : (files : ℕ) {file : ℕ} (item : Item) → file < files → IsGoodItem (file + 1) item → IsGoodItem files item
+good-among files (Defines d) within good =
+    record { some_cells = good.some_cells; few_cells = good.few_cells; file_named = omega (arith, good.file_named, within) }
+good-among files (Rules r) within good = record {
+  some_characters = good.some_characters;
+  few_characters = good.few_characters;
+  some_cells = good.some_cells;
+  few_cells = good.few_cells;
+  file_named = omega (arith, good.file_named, within);
+}
+good-among files Nothing within good = tt
+
 -- ---- one line
 
 any-view : {X Y : Type 0} (p : Y → Bool) (f : X → Y) (xs : List X) → list_any p (map f xs) ≡ list_any (λ x. p (f x)) xs
@@ -110,8 +141,8 @@ module _ (lines : List Line) (names : List (String Global)) (named : map string_
       subst P (sym (position_from-zero (λ other. bytes_eq path (string_bytes other)) names) ∙ sym e) some
 
   module _ (file : ℕ) (found : file ≡ file_number (files_of (map line_view lines)) line.file.now) where
-    says : definition_of file (line_view line) ≡ definition_in (files_of (map line_view lines)) (line_view line)
-    says = ap (λ k. definition_of k (line_view line)) found
+    says : item_of file (line_view line) ≡ item_in (files_of (map line_view lines)) (line_view line)
+    says = ap (λ k. item_of k (line_view line)) found
 
     view-is : (other : LineView) → slice_get (map line_view lines) i ≡ Some other → other ≡ line_view line
     view-is other h = some_is other (line_view line) (sym h ∙ there)
@@ -122,59 +153,57 @@ module _ (lines : List Line) (names : List (String Global)) (named : map string_
         take_more (map line_view lines) i (line_view line) inside
         ∙ ap (λ l. take i (map line_view lines) ++ l ∷ []) (get_or_from_slice_get (map line_view lines) i (line_view line) (line_view line) there)
 
-    -- a line that says this
-    said-more : (d : Definition) → definition_of file (line_view line) ≡ Ok d
-        → definitions (files_of (map line_view lines)) (take (i + 1) (map line_view lines)) ≡ definitions (files_of (map line_view lines)) (take i (map line_view lines)) ++ d ∷ []
-    said-more d h =
-        let F = files_of (map line_view lines) in
-        ap (definitions F) taken ∙ flat_map-append (λ l. ok_of (definition_in F l)) (take i (map line_view lines)) (line_view line ∷ [])
-        ∙ ap (λ r. definitions F (take i (map line_view lines)) ++ (ok_of r ++ [])) (sym says ∙ h)
+    module _ (said : List Item) (aligned : map Ok said ≡ map (item_in (files_of (map line_view lines))) (take i (map line_view lines))) where
+      -- what the line is looked at behind
+      looked : (want : Result Item Fault) → want ≡ item_in (files_of (map line_view lines)) (line_view line)
+          → fault_of (map line_view lines) i (line_view line) ≡ fault_behind said (line_view line) want
+      looked want e =
+          ap (λ before. fault_behind before (line_view line) (item_in (files_of (map line_view lines)) (line_view line))) (aligned-items (files_of (map line_view lines)) (take i (map line_view lines)) said aligned)
+          ∙ ap (fault_behind said (line_view line)) (sym e)
 
-    -- the next line passes
-    pub passes-more : (d : Definition) (characters : List (ℕ × Info)) (notices : List Notice) → definition_of file (line_view line) ≡ Ok d
-        → Stands (definitions (files_of (map line_view lines)) (take i (map line_view lines)) ++ d ∷ []) characters notices → length characters ≤ 1024
-        → PassesBefore (map line_view lines) i → PassesBefore (map line_view lines) (i + 1)
-    passes-more d characters notices h stands few before place other lower at = by_place (cases_order place i)
-      where
-        F : List (List ℕ)
-        F = files_of (map line_view lines)
+      -- the next line says this
+      pub aligned-more : (item : Item) (after : List Item) → item_of file (line_view line) ≡ Ok item → after ≡ said ++ item ∷ []
+          → map Ok after ≡ map (item_in (files_of (map line_view lines))) (take (i + 1) (map line_view lines))
+      aligned-more item after h e =
+          let F = files_of (map line_view lines) in
+          ap (map Ok) e ∙ map-append Ok said (item ∷ []) ∙ ap (λ xs. xs ++ Ok item ∷ []) aligned
+          ∙ ap (λ r. map (item_in F) (take i (map line_view lines)) ++ r ∷ []) (sym h ∙ says)
+          ∙ sym (map-append (item_in F) (take i (map line_view lines)) (line_view line ∷ [])) ∙ ap (map (item_in F)) (sym taken)
 
-        here : (other : LineView) → other ≡ line_view line → fault_of (map line_view lines) i other ≡ None
-        here other e = ap (fault_of (map line_view lines) i) e
-            ∙ fault-none (definitions (files_of (map line_view lines)) (take i (map line_view lines))) d line.opcode.text.now (definition_in (files_of (map line_view lines)) (line_view line)) characters notices (sym says ∙ h) stands few
+      -- the next line passes
+      pub passes-more : (item : Item) (characters : List (ℕ × Info)) (notices : List Notice) (used : ℕ) → item_of file (line_view line) ≡ Ok item
+          → StandFor (said ++ item ∷ []) characters notices used → length characters ≤ 1024 → used ≤ 4096
+          → PassesBefore (fault_of (map line_view lines)) (map line_view lines) i → PassesBefore (fault_of (map line_view lines)) (map line_view lines) (i + 1)
+      passes-more item characters notices used h stands few_characters few_rules before place other lower at = by_place (cases_order place i)
+        where
+          here : (other : LineView) → other ≡ line_view line → fault_of (map line_view lines) i other ≡ None
+          here other e =
+              ap (fault_of (map line_view lines) i) e ∙ looked (Ok item) (sym h ∙ says)
+              ∙ fault-none said (line_view line) item characters notices used stands few_characters few_rules
 
-        by_place : (place ≡ i) ⊎ ((place < i) ⊎ (i < place)) → fault_of (map line_view lines) place other ≡ None
-        by_place (inl e) =
-            let P : ℕ → Type 0 = λ k. slice_get (map line_view lines) k ≡ Some other in
-            ap (λ k. fault_of (map line_view lines) k other) e ∙ here other (view-is other (subst P e at))
-        by_place (inr (inl less)) = before place other less at
-        by_place (inr (inr more)) = absurd (omega (arith, more, lower))
+          by_place : (place ≡ i) ⊎ ((place < i) ⊎ (i < place)) → fault_of (map line_view lines) place other ≡ None
+          by_place (inl e) =
+              let P : ℕ → Type 0 = λ k. slice_get (map line_view lines) k ≡ Some other in
+              ap (λ k. fault_of (map line_view lines) k other) e ∙ here other (view-is other (subst P e at))
+          by_place (inr (inl less)) = before place other less at
+          by_place (inr (inr more)) = absurd (omega (arith, more, lower))
 
-    pub stands-more : (d : Definition) (characters : List (ℕ × Info)) (notices : List Notice) → definition_of file (line_view line) ≡ Ok d
-        → Stands (definitions (files_of (map line_view lines)) (take i (map line_view lines)) ++ d ∷ []) characters notices
-        → Stands (definitions (files_of (map line_view lines)) (take (i + 1) (map line_view lines))) characters notices
-    stands-more d characters notices h stands =
-        let P : List Definition → Type 0 = λ ds. Stands ds characters notices in
-        subst P (sym (said-more d h)) stands
+      -- the next line is the first that has a fault
+      pub first-fault : (wrong : Wrong) (subject : List ℕ)
+          → fault_behind said (line_view line) (item_of file (line_view line)) ≡ Some (fault wrong subject)
+          → PassesBefore (fault_of (map line_view lines)) (map line_view lines) i → IsFirstFault (map line_view lines) i (line_view line) (fault wrong subject)
+      first-fault wrong subject h passed = inl (record {
+        there = there;
+        faulty = looked (item_of file (line_view line)) says ∙ h;
+        passed = passed;
+      })
 
-    pub good-more : (d : Definition) → definition_of file (line_view line) ≡ Ok d → file < length (files_of (map line_view lines)) → IsGood (file + 1) d
-        → All (IsGood (length (files_of (map line_view lines)))) (definitions (files_of (map line_view lines)) (take i (map line_view lines)))
-        → All (IsGood (length (files_of (map line_view lines)))) (definitions (files_of (map line_view lines)) (take (i + 1) (map line_view lines)))
-    good-more d h within good all =
+    pub good-more : (said after : List Item) (item : Item) → file < length (files_of (map line_view lines)) → IsGoodItem (file + 1) item → after ≡ said ++ item ∷ []
+        → All (IsGoodItem (length (files_of (map line_view lines)))) said → All (IsGoodItem (length (files_of (map line_view lines)))) after
+    good-more said after item within good e all =
         let n = length (files_of (map line_view lines)) in
-        let P : List Definition → Type 0 = λ ds. All (IsGood n) ds in
-        subst P (sym (said-more d h)) (All-push (IsGood n) (definitions (files_of (map line_view lines)) (take i (map line_view lines))) d all
-        (record { some_cells = good.some_cells; few_cells = good.few_cells; file_named = omega (arith, good.file_named, within) }))
-
-    -- the next line is the first that has a fault
-    pub first-fault : (wrong : Wrong) (subject : List ℕ)
-        → fault_behind (definitions (files_of (map line_view lines)) (take i (map line_view lines))) line.opcode.text.now (definition_of file (line_view line)) ≡ Some (fault wrong subject)
-        → PassesBefore (map line_view lines) i → IsFirstFault (map line_view lines) i (line_view line) (fault wrong subject)
-    first-fault wrong subject h passed = record {
-      there = there;
-      faulty = ap (fault_behind (definitions (files_of (map line_view lines)) (take i (map line_view lines))) line.opcode.text.now) (sym says) ∙ h;
-      passed = passed;
-    }
+        let P : List Item → Type 0 = λ xs. All (IsGoodItem n) xs in
+        subst P (sym e) (All-push (IsGoodItem n) said item all (good-among n item within good))
 
 -- a refusal with the place of the line that is the first with a fault
 pub refusal : (lines : List LineView) (place : ℕ) (view : LineView) (wrong : LineFault) (told : TableFault)

@@ -7,7 +7,7 @@ use Rattle.std.proofs.lemmas.Bool.{eq-eqb}
 use Rattle.std.proofs.lemmas.List.Elements.{All-nil, All-cons, All-head, All-tail, All-append, All-map, All-weaker, All-contains_itself}
 use Rattle.std.proofs.lemmas.List.Folds.{list_any-from_Any}
 use Rattle.std.proofs.lemmas.Map.Made.{is_some-lookup}
-use Rattle.brl_table.specs.declared.definition.Definition.{Definition}
+use Rattle.brl_table.specs.declared.item.Definition.{Definition}
 use Rattle.brl_table.specs.declared.rule.Info.{Info}
 use Rattle.brl_table.specs.declared.rule.Notice.{Notice}
 use Rattle.brl_table.specs.Limits.{AreNumbered, IsAmong, IsEntry}

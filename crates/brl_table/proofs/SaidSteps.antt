@@ -10,15 +10,11 @@ use Rattle.std.proofs.lemmas.List.{map-append}
 use Rattle.std.proofs.lemmas.List.Sums.{fold-append}
 use Rattle.std.proofs.lemmas.List.Elements.{filter-append}
 use Rattle.indexmap.specs.IndexMap.{insert_entry}
-use Rattle.brl_table.specs.declared.definition.Definition.{Definition}
+use Rattle.brl_table.specs.declared.item.Definition.{Definition}
 use Rattle.brl_table.specs.declared.rule.Info.{Info}
 use Rattle.brl_table.specs.declared.rule.Notice.{Notice}
 use Rattle.brl_table.specs.Reading.{put, once, about, characters_said, info_said, numbered, entries_said, is_again, notice_of, notices_behind}
 use Rattle.brl_table.specs.Said.{Stands}
-use Rattle.brl_table.specs.Definitions.{Fault, fault}
-use Rattle.brl_table.specs.declared.table_fault.Wrong.TheVariants.{TooMany}
-use Rattle.std.specs.Prelude.{Result, Ok}
-use Rattle.brl_table.specs.Reading.{fault_behind}
 
 eq-flip : (a b : ℕ) → nat_eq a b ≡ nat_eq b a
 eq-flip a b = grind (arith, nat_tests)
@@ -297,27 +293,13 @@ stands-first said d characters after notices number stands found counted inserte
 
 -- ---- too many characters
 
-count-said : (said : List Definition) (d : Definition) (characters : List (ℕ × Info)) (notices : List Notice) → Stands (said ++ d ∷ []) characters notices
-    → length characters ≡ length (characters_said (said ++ d ∷ []))
-count-said said d characters notices stands =
-    ap length stands.characters_stand ∙ length-numbered (info_said (said ++ d ∷ [])) 0 (characters_said (said ++ d ∷ []))
+pub count-said : (said : List Definition) (characters : List (ℕ × Info)) (notices : List Notice) → Stands said characters notices
+    → length characters ≡ length (characters_said said)
+count-said said characters notices stands =
+    ap length stands.characters_stand ∙ length-numbered (info_said said) 0 (characters_said said)
 
-above : (m n : ℕ) → m < n → nat_lt m n ≡ true
+pub above : (m n : ℕ) → m < n → nat_lt m n ≡ true
 above m n h = grind (arith, nat_tests)
 
-not_above : (m n : ℕ) → n ≤ m → nat_lt m n ≡ false
+pub not_above : (m n : ℕ) → n ≤ m → nat_lt m n ≡ false
 not_above m n h = grind (arith, nat_tests)
-
-pub fault-too_many : (said : List Definition) (d : Definition) (opcode : List ℕ) (want : Result Definition Fault) (characters : List (ℕ × Info)) (notices : List Notice)
-    → want ≡ Ok d → Stands (said ++ d ∷ []) characters notices → 1024 < length characters → fault_behind said opcode want ≡ Some (fault TooMany opcode)
-fault-too_many said d opcode want characters notices is stands more =
-    let n = count-said said d characters notices stands in
-    let many : 1024 < length (characters_said (said ++ d ∷ [])) = omega arith in
-    ap (fault_behind said opcode) is ∙ rw (above 1024 (length (characters_said (said ++ d ∷ []))) many) refl
-
-pub fault-none : (said : List Definition) (d : Definition) (opcode : List ℕ) (want : Result Definition Fault) (characters : List (ℕ × Info)) (notices : List Notice)
-    → want ≡ Ok d → Stands (said ++ d ∷ []) characters notices → length characters ≤ 1024 → fault_behind said opcode want ≡ None
-fault-none said d opcode want characters notices is stands few =
-    let n = count-said said d characters notices stands in
-    let within : length (characters_said (said ++ d ∷ [])) ≤ 1024 = omega arith in
-    ap (fault_behind said opcode) is ∙ rw (not_above 1024 (length (characters_said (said ++ d ∷ []))) within) refl

@@ -12,7 +12,7 @@ pub mod Choices
 pub mod Position
 pub mod Examples
 pub mod Opcodes
-pub mod Definitions
+pub mod Items
 pub mod Reading
 pub mod Good
 pub mod Said

@@ -1,9 +1,10 @@
--- The opcodes of the profile: one table of their words, what their lines do, and the classes that they give. The manual has
--- them in sections "Character-Definition Opcodes" and "Miscellaneous Opcodes".
+-- The opcodes of the profile: one table of their words, what their lines do, and the classes or the places that they give. The
+-- manual has them in sections "Character-Definition Opcodes", "Translation Opcodes" and "Miscellaneous Opcodes".
 use Rattle.std.specs.Prelude.{ℕ, List, [], ◌∷◌, codes, Option, Some, None, if◌then◌else◌}
 use Rattle.std.specs.Str.{bytes_eq}
 use Rattle.brl_table.specs.declared.opcode.Opcode.{Opcode}
-use Rattle.brl_table.specs.declared.opcode.Opcode.TheVariants.{Plain, Include}
+use Rattle.brl_table.specs.declared.opcode.Opcode.TheVariants.{Plain, Placed, Noback, Nofor, Display, Include}
+use Rattle.brl_table.specs.declared.place.Place.TheVariants.{Always, Word, Sufword, Prfword, Begword, Begmidword, Midword, Midendword, Endword, Partword, Begnum, Midnum, Endnum}
 use Rattle.brl_table.specs.Places.{space, punctuation, digit, letter, lowercase_letter, uppercase_letter, sign, math}
 
 abbrev pub opcodes : List (List ℕ × Opcode)
@@ -16,6 +17,22 @@ opcodes =
     ∷ (codes "uppercase", Plain uppercase_letter)
     ∷ (codes "sign", Plain sign)
     ∷ (codes "math", Plain math)
+    ∷ (codes "always", Placed Always)
+    ∷ (codes "word", Placed Word)
+    ∷ (codes "sufword", Placed Sufword)
+    ∷ (codes "prfword", Placed Prfword)
+    ∷ (codes "begword", Placed Begword)
+    ∷ (codes "begmidword", Placed Begmidword)
+    ∷ (codes "midword", Placed Midword)
+    ∷ (codes "midendword", Placed Midendword)
+    ∷ (codes "endword", Placed Endword)
+    ∷ (codes "partword", Placed Partword)
+    ∷ (codes "begnum", Placed Begnum)
+    ∷ (codes "midnum", Placed Midnum)
+    ∷ (codes "endnum", Placed Endnum)
+    ∷ (codes "noback", Noback)
+    ∷ (codes "nofor", Nofor)
+    ∷ (codes "display", Display)
     ∷ (codes "include", Include)
     ∷ []
 

@@ -1,7 +1,7 @@
 -- Rank: which of two rules is tried first. The manual, section "Translation Opcodes": of several eligible entries the one with
 -- the longest character string is used, and of those for one string the one defined first is tested first. That the earlier
 -- line goes first among all rules of one length is this project's own choice: at one position they differ in case alone.
-use Rattle.std.specs.Prelude.{ℕ, ◌≡◌, ◌≤◌, ◌==◌, AllPairs, List, length, filter}
+use Rattle.std.specs.Prelude.{ℕ, ◌≡◌, ◌≤◌, ◌==◌, nat_le, AllPairs, List, [], ◌∷◌, length, filter, if◌then◌else◌}
 use Rattle.brl_table.specs.declared.rule.Rule.{Rule}
 
 -- rules of more weight are tried first: the weight of a rule is how many characters it has
@@ -16,3 +16,12 @@ IsInRank rules = AllPairs (λ r s. weight s ≤ weight r) rules
 pub record IsRanking (lines ranked : List Rule) : Type 0 where
   pub heavier_first : IsInRank ranked
   pub in_lines_order : (n : ℕ) → filter (λ r. weight r == n) ranked ≡ filter (λ r. weight r == n) lines
+
+-- the same by computing: the rule of an earlier line goes before all that have no more weight
+abbrev pub put_in_rank : Rule → List Rule → List Rule
+put_in_rank r [] = r ∷ []
+put_in_rank r (s ∷ rules) = if nat_le (weight s) (weight r) then r ∷ s ∷ rules else s ∷ put_in_rank r rules
+
+abbrev pub in_rank : List Rule → List Rule
+in_rank [] = []
+in_rank (r ∷ rules) = put_in_rank r (in_rank rules)

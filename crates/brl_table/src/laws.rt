@@ -5,15 +5,16 @@ ghost use Rattle.brl_table.specs.declared.context.Context.{Context};
 ghost use Rattle.brl_table.specs.declared.rule.Rule.{Rule};
 ghost use Rattle.brl_table.specs.Choice.{fits, by_rule, own, chosen};
 ghost use Rattle.brl_table.specs.Position.{FitsAt, IsFirstThatFits};
-ghost use Rattle.brl_table.specs.Rank.{IsRanking};
+ghost use Rattle.brl_table.specs.Rank.{in_rank, IsRanking};
 ghost use Rattle.brl_table.specs.Rest.{translation_of_rest, TakesOneRule};
 ghost use Rattle.brl_table.specs.TableView.{TableView};
 ghost use Rattle.brl_table.specs.Text.{at_start, classes_before, context_at, context_behind_all};
 ghost use Rattle.brl_table.specs.Translation.{indicators_at, chosen_at, translation_from, translation};
 
-/// The same rules are put in rank in one way only.
+/// The same rules are put in rank in one way only, which `in_rank` computes.
 pub fn rank_law()
-    ensures { (lines one other : List Rule) → IsRanking lines one → IsRanking lines other → one ≡ other }
+    ensures one { (lines one other : List Rule) → IsRanking lines one → IsRanking lines other → one ≡ other }
+    ensures computed { (lines : List Rule) → IsRanking lines (in_rank lines) }
 {}
 
 /// Which rule is chosen. A rule fits in front of a text's rest exactly where it fits at that position of the text; the

@@ -2,12 +2,13 @@
 //! forward translation, which every crate above reads.
 #![tactic(auto)]
 
+mod characters;
 mod chars;
 mod choice;
 mod class;
 mod context;
-mod definition;
 mod front;
+mod item;
 mod laws;
 mod opcode;
 mod parts;

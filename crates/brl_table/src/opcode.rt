@@ -2,13 +2,21 @@
 ghost use Rattle.std.specs.Prelude.{◌≡◌};
 ghost use Rattle.brl_table.specs.Opcodes.{opcode_of};
 
-use crate::Class;
+use crate::{Class, Place};
 
 /// What a line with an opcode does.
 #[derive(Clone, Copy, PartialEq, Eq, Debug)]
 pub enum Opcode {
     /// Defines a character, with these classes: one character, then dots.
     Plain(Class),
+    /// Gives a rule for this place: characters, then dots or `=`.
+    Placed(Place),
+    /// Stands before a place opcode: its rule is used, since this project translates forward alone.
+    Noback,
+    /// Stands before a place opcode: its rule is checked and not used.
+    Nofor,
+    /// Is checked and not used: one character, then dots.
+    Display,
     /// Puts the lines of a file in its place: a line that is left has no operand.
     Include,
 }
@@ -26,6 +34,22 @@ pub fn opcode_named(word: &str) -> Option<Opcode>
         "uppercase" => Some(Opcode::Plain(Class::UPPERCASE_LETTER)),
         "sign" => Some(Opcode::Plain(Class::SIGN)),
         "math" => Some(Opcode::Plain(Class::MATH)),
+        "always" => Some(Opcode::Placed(Place::Always)),
+        "word" => Some(Opcode::Placed(Place::Word)),
+        "sufword" => Some(Opcode::Placed(Place::Sufword)),
+        "prfword" => Some(Opcode::Placed(Place::Prfword)),
+        "begword" => Some(Opcode::Placed(Place::Begword)),
+        "begmidword" => Some(Opcode::Placed(Place::Begmidword)),
+        "midword" => Some(Opcode::Placed(Place::Midword)),
+        "midendword" => Some(Opcode::Placed(Place::Midendword)),
+        "endword" => Some(Opcode::Placed(Place::Endword)),
+        "partword" => Some(Opcode::Placed(Place::Partword)),
+        "begnum" => Some(Opcode::Placed(Place::Begnum)),
+        "midnum" => Some(Opcode::Placed(Place::Midnum)),
+        "endnum" => Some(Opcode::Placed(Place::Endnum)),
+        "noback" => Some(Opcode::Noback),
+        "nofor" => Some(Opcode::Nofor),
+        "display" => Some(Opcode::Display),
         "include" => Some(Opcode::Include),
         _ => None,
     }

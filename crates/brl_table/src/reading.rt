@@ -1,27 +1,42 @@
 //! The table that a list of lines defines.
-ghost use Rattle.std.specs.Prelude.{◌≡◌, ◌≤◌, ◌∷◌, ◌++◌, [], All, IfOk, IfErr, List, OnOk, length, map, position, vec_len};
+ghost use Rattle.std.specs.Prelude.{◌≡◌, ◌≤◌, ◌∷◌, ◌++◌, [], All, IfOk, IfErr, OnOk, length, map, position, vec_len, string_bytes};
 ghost use Rattle.std.specs.Str.{bytes_eq};
 ghost use Rattle.brl_lines.specs.Views.{line_view};
-ghost use Rattle.std.specs.Prelude.{string_bytes};
-ghost use Rattle.brl_table.specs.declared.definition.Definition.{Definition};
-ghost use Rattle.brl_table.specs.Definitions.{definition_of};
-ghost use Rattle.brl_table.specs.Good.{IsGood};
-ghost use Rattle.brl_table.specs.Said.{Adds, Stands};
-ghost use Rattle.brl_table.specs.Reading.{files_of, table_of, IsAt, IsFaultOf, PassesAll};
+ghost use Rattle.brl_table.specs.Items.{item_of as item_said};
+ghost use Rattle.brl_table.specs.Good.{IsGoodItem};
+ghost use Rattle.brl_table.specs.Limits.{IsRule};
+ghost use Rattle.brl_table.specs.Rank.{in_rank};
+ghost use Rattle.brl_table.specs.Said.{over, Adds, IsFaultAgain, LooksAgain, PassesAgain, StandFor};
+ghost use Rattle.brl_table.specs.Reading.{
+  files_of,
+  characters_in as characters_said,
+  opcode_in as opcode_said,
+  operand_of as operand_said,
+  rule_of,
+  table_of,
+  used_rules,
+  IsAt,
+  IsFaultOf,
+  PassesAll,
+};
 
-use crate::definition::{Definition, LineFault, define};
-use crate::{Class, Info, Notice, Table, TableFault, TableParts, Wrong, rank_law};
-use bitflags::Flags;
+use crate::characters::Characters;
+use crate::item::{Item, LineFault, RuleLine, item_of};
+use crate::{Rule, Table, TableFault, TableParts, Wrong, rank_law};
 use brl_cells::Cells;
 use brl_lines::Line;
-use indexmap::IndexMap;
 use std::alloc::{AllocError, Global};
 
 /// The most characters of a table.
 const MOST_CHARACTERS: usize = 1024;
 
+/// The most used rules of a table.
+const MOST_RULES: usize = 4096;
+
 /// The table that lines define. Lines are looked at in order, and the first fault decides: a line's opcode, its
-/// operands, its characters, its dots, and then whether the table has too many characters with it.
+/// operands, its characters, its dots, whether its rule has too many characters, and then whether the table has too many
+/// characters or used rules with it. Where all lines pass, they are looked at in order again: whether the characters of a
+/// rule are the table's.
 pub fn read_table(alloc: Global, lines: &[Line<'_>]) -> Result<Table, TableFault>
     ensures passes { IfOk result (λ _. PassesAll (map line_view lines.now)) }
     ensures table { IfOk result (λ table. table ≡ table_of (map line_view lines.now)) }
@@ -36,117 +51,178 @@ pub fn read_table(alloc: Global, lines: &[Line<'_>]) -> Result<Table, TableFault
             Err(fault) => return Err(fault_at(alloc, fault, line)),
         }
     }
-    Ok(said.table(alloc, files)?)
+    let rules = match said.rules(alloc, lines) {
+        Ok(rules) => rules,
+        Err(fault) => return Err(fault),
+    };
+    Ok(said.table(alloc, files, rules)?)
 }
 
 /// What some lines say together.
 #[derive(Drop)]
 struct Said {
-    /// The characters in the order of their first definitions.
-    characters: IndexMap<char, Info>,
-    /// The lines that define one again.
-    notices: Vec<Notice>,
+    /// What each line says.
+    items: Vec<Item>,
+    /// The characters that they define.
+    characters: Characters,
+    /// How many rules of theirs are used.
+    used: usize,
 }
 
 impl Said {
     fn new(alloc: Global) -> Said
-        ensures characters { result.characters.entries ≡ [] }
-        ensures notices { result.notices.items ≡ [] }
+        ensures items { result.items.items ≡ [] }
+        ensures infos { result.characters.infos.entries ≡ [] }
+        ensures notices { result.characters.notices.items ≡ [] }
+        ensures used { result.used ≡ 0 }
     {
         Said {
-            characters: IndexMap::new(alloc),
-            notices: Vec::new(alloc),
+            items: Vec::new(alloc),
+            characters: Characters::new(alloc),
+            used: 0,
         }
     }
 
     /// One more line, of the file with this number.
     fn add<'a>(&mut self, alloc: Global, file: usize, line: &Line<'a>) -> Result<(), LineFault<'a>>
-        requires { length self.old.characters.entries ≤ 1024 }
-        ensures { (said : List Definition) → Stands said self.old.characters.entries self.old.notices.items →
-            let view = line_view line.now in
-            Adds said view.opcode.text file (definition_of file view) self.new.characters.entries self.new.notices.items result }
+        requires stands { StandFor self.old.items.items self.old.characters.infos.entries self.old.characters.notices.items self.old.used }
+        requires few_characters { length self.old.characters.infos.entries ≤ 1024 }
+        requires few_rules { self.old.used ≤ 4096 }
+        ensures { let view = line_view line.now in
+            Adds self.old.items.items view file (item_said file view) self.new.items.items
+            self.new.characters.infos.entries self.new.characters.notices.items self.new.used result }
     {
-        let definition = match define(alloc, file, line) {
-            Ok(definition) => definition,
+        let item = match item_of(alloc, file, line) {
+            Ok(item) => item,
             Err(fault) => return Err(fault),
         };
-        self.define(definition)?;
-        if self.characters.len() > MOST_CHARACTERS {
-            return Err(LineFault::Wrong(Wrong::TooMany, line.opcode.text));
+        let opcode = opcode_in(line, &item);
+        self.count(&item)?;
+        self.items.push(item)?;
+        if self.characters.infos.len() > MOST_CHARACTERS || self.used > MOST_RULES {
+            return Err(LineFault::Wrong(Wrong::TooMany, opcode));
         }
         Ok(())
     }
 
-    /// One more definition of a character: its classes join those that the character has, or it is the first.
-    fn define(&mut self, definition: Definition) -> Result<(), AllocError>
-        requires { length self.old.characters.entries ≤ 1024 }
-        ensures { OnOk result ((said : List Definition) →
-            Stands said self.old.characters.entries self.old.notices.items →
-            Stands (said ++ definition ∷ []) self.new.characters.entries self.new.notices.items) }
+    /// The characters and the used rules with one more item, which the items don't have yet.
+    fn count(&mut self, item: &Item) -> Result<(), AllocError>
+        requires stands { StandFor self.old.items.items self.old.characters.infos.entries self.old.characters.notices.items self.old.used }
+        requires few_characters { length self.old.characters.infos.entries ≤ 1024 }
+        requires few_rules { self.old.used ≤ 4096 }
+        ensures stands { OnOk result (StandFor (self.old.items.items ++ item.now ∷ [])
+            self.new.characters.infos.entries self.new.characters.notices.items self.new.used) }
+        ensures items { self.new.items.items ≡ self.old.items.items }
     {
-        let Definition {
-            character,
-            classes,
-            cells,
-            file,
-            line,
-        } = definition;
-        match self.characters.get_mut(&character) {
-            Some(info) => {
-                info.classes = info.classes.union(classes);
-                self.notices.push(Notice {
-                    character,
-                    file,
-                    line,
-                })?;
+        match item {
+            Item::Defines(definition) => self.characters.define(definition),
+            Item::Rules(rule) if rule.head.used => {
+                self.used += 1;
+                Ok(())
             }
-            None => {
-                let number = self.characters.len() as u32;
-                let info = Info {
-                    number,
-                    cells,
-                    classes,
-                    literary: false,
-                    mode: false,
-                    nocont: false,
-                    fold: character,
-                    file,
-                    line,
-                };
-                self.characters.insert(character, info)?;
+            Item::Rules(_) | Item::Nothing => Ok(()),
+        }
+    }
+
+    /// The used rules in the order of these lines, which say the items; or the first fault of the second look.
+    fn rules(&self, alloc: Global, lines: &[Line<'_>]) -> Result<Vec<Rule>, TableFault>
+        requires { length lines.now ≡ length self.now.items.items }
+        ensures rules { IfOk result (λ rules.
+            rules.items ≡ map (rule_of (over self.now.characters.infos.entries)) (used_rules self.now.items.items)) }
+        ensures passes { IfOk result (λ _. PassesAgain self.now.characters.infos.entries (map line_view lines.now) self.now.items.items (length lines.now)) }
+        ensures fault { IfErr result (IsFaultAgain self.now.characters.infos.entries (map line_view lines.now) self.now.items.items) }
+    {
+        let mut rules = Vec::new(alloc);
+        for (place, line) in lines.iter().enumerate() {
+            match self.look_again(alloc, line, &self.items[place], &mut rules) {
+                Ok(()) => {}
+                Err(fault) => return Err(fault_at(alloc, fault, line)),
             }
+        }
+        Ok(rules)
+    }
+
+    /// The second look at a line that says this: its rule goes behind the others if it is used.
+    fn look_again<'a>(
+        &self,
+        alloc: Global,
+        line: &Line<'a>,
+        item: &Item,
+        rules: &mut Vec<Rule>,
+    ) -> Result<(), LineFault<'a>>
+        ensures { LooksAgain self.now.characters.infos.entries (line_view line.now) item.now rules.old.items rules.new.items result }
+    {
+        let Item::Rules(written) = item else {
+            return Ok(());
+        };
+        let Some(rule) = self.characters.rule(alloc, written)? else {
+            return Err(LineFault::Wrong(Wrong::UndefinedInRule, characters_in(line, written)));
+        };
+        if written.head.used {
+            rules.push(rule)?;
         }
         Ok(())
     }
 
-    /// The table of what was said, over the files with these names.
-    fn table(self, alloc: Global, files: Vec<String>) -> Result<Table, AllocError>
-        requires few { length self.characters.entries ≤ 1024 }
-        requires said { (said : List Definition) × Stands said self.characters.entries self.notices.items
-            × All (IsGood (vec_len files)) said }
-        ensures characters { IfOk result (λ t. t.characters ≡ self.characters.entries) }
-        ensures rules { IfOk result (λ t. t.rules ≡ []) }
+    /// The table of what was said, with these rules, over the files with these names.
+    fn table(self, alloc: Global, files: Vec<String>, rules: Vec<Rule>) -> Result<Table, AllocError>
+        requires stands { StandFor self.items.items self.characters.infos.entries self.characters.notices.items self.used }
+        requires good { All (IsGoodItem (vec_len files)) self.items.items }
+        requires few_characters { length self.characters.infos.entries ≤ 1024 }
+        requires few_rules { length rules.items ≤ 4096 }
+        requires rules { All (IsRule self.characters.infos.entries (vec_len files)) rules.items }
+        ensures characters { IfOk result (λ t. t.characters ≡ self.characters.infos.entries) }
+        ensures rules { IfOk result (λ t. t.rules ≡ in_rank rules.items) }
         ensures caps_letter { IfOk result (λ t. t.caps_letter ≡ []) }
         ensures num_sign { IfOk result (λ t. t.num_sign ≡ []) }
         ensures no_contract_sign { IfOk result (λ t. t.no_contract_sign ≡ []) }
         ensures files { IfOk result (λ t. t.files ≡ map string_bytes files.items) }
-        ensures notices { IfOk result (λ t. t.notices ≡ self.notices.items) }
+        ensures notices { IfOk result (λ t. t.notices ≡ self.characters.notices.items) }
     {
         rank_law();
-        let _count = self.characters.len();
+        let _count = self.characters.infos.len();
         let Said {
+            items: _,
             characters,
-            notices,
+            used: _,
         } = self;
+        let Characters { infos, notices } = characters;
         Table::from_parts(TableParts {
-            characters,
-            rules: Vec::new(alloc),
+            characters: infos,
+            rules,
             caps_letter: Cells::new(alloc),
             num_sign: Cells::new(alloc),
             no_contract_sign: Cells::new(alloc),
             files,
             notices,
         })
+    }
+}
+
+/// The opcode that a fault of a line names: of a rule behind `noback` or `nofor` its place opcode.
+fn opcode_in<'a>(line: &Line<'a>, item: &Item) -> &'a str
+    ensures { result.now ≡ opcode_said (line_view line.now) item.now }
+{
+    match item {
+        Item::Rules(rule) if rule.head.prefixed => operand_of(line, 0),
+        _ => line.opcode.text,
+    }
+}
+
+/// The operand of a line that has the characters of its rule.
+fn characters_in<'a>(line: &Line<'a>, rule: &RuleLine) -> &'a str
+    ensures { result.now ≡ characters_said (line_view line.now) rule.now }
+{
+    operand_of(line, if rule.head.prefixed { 1 } else { 0 })
+}
+
+/// An operand of a line, from 0: the empty text where it has none there.
+fn operand_of<'a>(line: &Line<'a>, number: usize) -> &'a str
+    ensures { result.now ≡ operand_said (line_view line.now) number }
+{
+    match line.operands.get(number) {
+        Some(operand) => operand.text,
+        None => "",
     }
 }
 

@@ -17,7 +17,10 @@ pub enum Wrong {
     /// A dots operand spells no cells, or too many.
     #[error("B4 BadDots")]
     BadDots,
-    /// With it the table has more characters than it may.
+    /// A character of its rule isn't one of the table's.
+    #[error("B5 UndefinedInRule")]
+    UndefinedInRule,
+    /// Its rule has more characters than a rule may, or with it the table has more characters or used rules than it may.
     #[error("B8 TooMany")]
     TooMany,
 }

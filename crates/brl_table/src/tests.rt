@@ -1,8 +1,10 @@
-//! A small table made from parts, its readers, and worked translations as theorems.
+//! A small table made from parts, its readers, worked translations as theorems, and tables from lines.
 ghost use Rattle.std.specs.Prelude.{◌≡◌, ◌∷◌, [], codes};
 ghost use Rattle.brl_table.specs.Examples.{contracted, whole_marked, numbers_with_points};
 ghost use Rattle.brl_table.specs.Translation.{translation, IsClash};
 ghost use Rattle.brl_table.specs.Examples.{two_cells};
+
+mod rules;
 
 use crate::{
     Chars, Class, Cond, Context, Info, Notice, Place, Rule, Sign, Table, TableFault, TableParts,

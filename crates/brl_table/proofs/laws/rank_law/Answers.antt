@@ -1,5 +1,6 @@
+use Rattle.brl_table.proofs.InRank.{in_rank-ranking}
 use Rattle.brl_table.proofs.Ranked.{ranking-unique}
 use Rattle.brl_table.proofs.laws.rank_law.Goals as goal
 
 pub returns : goal.returns
-returns c = ranking-unique
+returns c = record { one = ranking-unique; computed = in_rank-ranking }

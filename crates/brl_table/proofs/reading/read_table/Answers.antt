@@ -1,12 +1,17 @@
-use Rattle.std.proofs.Common.{ℕ, ◌∙◌, ap, subst, map, take, length, vec_len, ◌<◌, ◌≡◌, string_bytes, arith}
-use Rattle.std.specs.Prelude.{position, All}
+use Rattle.std.proofs.Common.{◌≡◌, ◌≤◌, ◌∙◌, ap, sym, subst, length, map, position, string_bytes, vec_len, arith}
+use Rattle.std.specs.Prelude.{All}
 use Rattle.std.specs.Global.{Global}
 use Rattle.std.specs.Str.{bytes_eq}
 use Rattle.std.proofs.lemmas.List.{length-map}
 use Rattle.brl_lines.specs.Views.{line_view}
-use Rattle.brl_table.specs.Good.{IsGood}
-use Rattle.brl_table.specs.Reading.{definitions, files_of}
-use Rattle.brl_table.proofs.ReadSteps.{number-of, number-within, has_file, first-fault, passes-more, stands-more, good-more, refusal}
+use Rattle.brl_table.specs.Good.{IsGoodItem}
+use Rattle.brl_table.specs.Limits.{IsRule}
+use Rattle.brl_table.specs.Reading.{files_of, rule_of, used_rules}
+use Rattle.brl_table.specs.Said.{over, PassesAgain, StandFor}
+use Rattle.brl_table.proofs.AllLooked.{passes-second, rules-good, same-length, second-fault, table-is, whole}
+use Rattle.brl_table.proofs.GoodItems.{good-definitions}
+use Rattle.brl_table.proofs.ReadSteps.{aligned-more, first-fault, good-more, has_file, number-of, number-within, passes-more, refusal}
+use Rattle.brl_table.proofs.SaidParts.{entries-stand}
 use Rattle.brl_table.proofs.reading.read_table.Goals as goal
 
 pub unwrap-file-requires : goal.unwrap-file-requires
@@ -22,15 +27,23 @@ loop-line-preserved c =
     let i = c.loop-line.line-index in
     let line = c.line-item.result in
     let files = files_of (map line_view lines) in
+    let said = c.loop-line.said.items.items in
+    let before = c.loop-line.invariant in
     let found = c.place_of.ensures ∙ ap (position (λ other. bytes_eq line.file.now (string_bytes other))) c.as_slice.ensures.value in
     let number = number-of line.file.now names files c.place_of.result c.unwrap-file.result named found c.unwrap-file.ensures in
     let within = number-within line.file.now names files c.place_of.result c.unwrap-file.result named found c.unwrap-file.ensures in
-    let added = c.in-Ok.ensures (definitions files (take i (map line_view lines))) c.loop-line.invariant.stands in
+    let item = c.in-Ok.ensures.0 in
+    let is = c.in-Ok.ensures.1 in
+    let more = c.in-Ok.ensures.2 in
+    let after = c.add.new.self in
     record {
-      stands = stands-more lines names named i line c.loop-line-test.true c.line-item.is c.unwrap-file.result number added.0 _ _ added.1 added.3;
-      good = good-more lines names named i line c.loop-line-test.true c.line-item.is c.unwrap-file.result number added.0 added.1 within added.2 c.loop-line.invariant.good;
-      few = added.4;
-      passed = passes-more lines names named i line c.loop-line-test.true c.line-item.is c.unwrap-file.result number added.0 _ _ added.1 added.3 added.4 c.loop-line.invariant.passed;
+      aligned = aligned-more lines names named i line c.loop-line-test.true c.line-item.is c.unwrap-file.result number said before.aligned item _ is more.added;
+      stands = subst (λ xs. StandFor xs after.characters.infos.entries after.characters.notices.items after.used) (sym more.added) more.stands;
+      good = good-more lines names named i line c.loop-line-test.true c.line-item.is c.unwrap-file.result number said _ item within more.good more.added before.good;
+      few_characters = more.few_characters;
+      few_rules = more.few_rules;
+      passed = passes-more lines names named i line c.loop-line-test.true c.line-item.is c.unwrap-file.result number said before.aligned item _ _ _ is
+          more.stands more.few_characters more.few_rules before.passed;
     }
 
 pub returns-in-Err-clause-fault : goal.returns-in-Err-clause-fault
@@ -41,24 +54,90 @@ returns-in-Err-clause-fault c =
     let i = c.loop-line.line-index in
     let line = c.line-item.result in
     let files = files_of (map line_view lines) in
-    let said = definitions files (take i (map line_view lines)) in
     let found = c.place_of.ensures ∙ ap (position (λ other. bytes_eq line.file.now (string_bytes other))) c.as_slice.ensures.value in
     let number = number-of line.file.now names files c.place_of.result c.unwrap-file.result named found c.unwrap-file.ensures in
     refusal (map line_view lines) i (line_view line) c.in-Err.fault c.fault_at.result
     (λ kind about e.
-    first-fault lines names named i line c.loop-line-test.true c.line-item.is c.unwrap-file.result number kind about.now
-    (rw e at (c.in-Err.ensures said c.loop-line.invariant.stands)) c.loop-line.invariant.passed)
+    first-fault lines names named i line c.loop-line-test.true c.line-item.is c.unwrap-file.result number c.loop-line.said.items.items c.loop-line.invariant.aligned
+    kind about.now (rw e at c.in-Err.ensures) c.loop-line.invariant.passed)
     c.fault_at.ensures
 
-pub table-requires-clause-said : goal.table-requires-clause-said
-table-requires-clause-said c =
-    let files = files_of (map line_view c.args.lines.now) in
-    let said = definitions files (take c.loop-line.line-index (map line_view c.args.lines.now)) in
-    let e : length files ≡ vec_len c.in_ok-files.files = omega (arith, ap length c.in_ok-files.ensures, length-map c.in_ok-files.files.items (string_bytes {Z = Global})) in
-    let P : ℕ → Type 0 = λ n. All (IsGood n) said in
-    (said, c.loop-line.invariant.stands, subst P e c.loop-line.invariant.good)
+pub rules-requires : goal.rules-requires
+rules-requires c =
+    let lines = map line_view c.args.lines.now in
+    let count = length-map c.args.lines.now line_view in
+    let past : length lines ≤ c.loop-line.line-index = omega (arith, c.loop-line-test.false, count) in
+    let said = c.loop-line.said.items.items in
+    let aligned = whole lines said c.loop-line.line-index past c.loop-line.invariant.aligned in
+    sym count ∙ same-length lines said aligned c.loop-line.said.characters.infos.entries c.loop-line.invariant.stands.defined.characters_stand
+
+pub returns-in-Err-rules-clause-fault : goal.returns-in-Err-rules-clause-fault
+returns-in-Err-rules-clause-fault c =
+    let lines = map line_view c.args.lines.now in
+    let count = length-map c.args.lines.now line_view in
+    let past : length lines ≤ c.loop-line.line-index = omega (arith, c.loop-line-test.false, count) in
+    let said = c.loop-line.said.items.items in
+    let aligned = whole lines said c.loop-line.line-index past c.loop-line.invariant.aligned in
+    second-fault lines said aligned c.loop-line.said.characters.infos.entries c.loop-line.invariant.stands.defined.characters_stand c.in-Err-rules.fault
+    (λ place line within there. c.loop-line.invariant.passed place line (omega (arith, within, past)) there)
+    c.in-Err-rules.ensures.fault
+
+pub table-requires-clause-good : goal.table-requires-clause-good
+table-requires-clause-good c =
+    let names = c.in_ok-files.files in
+    let count : length (files_of (map line_view c.args.lines.now)) ≡ vec_len names = omega (arith, ap length c.in_ok-files.ensures, length-map names.items (string_bytes {Z = Global})) in
+    subst (λ n. All (IsGoodItem n) c.loop-line.said.items.items) count c.loop-line.invariant.good
+
+pub table-requires-clause-rules : goal.table-requires-clause-rules
+table-requires-clause-rules c =
+    let lines = map line_view c.args.lines.now in
+    let count = length-map c.args.lines.now line_view in
+    let past : length lines ≤ c.loop-line.line-index = omega (arith, c.loop-line-test.false, count) in
+    let said = c.loop-line.said.items.items in
+    let characters = c.loop-line.said.characters.infos.entries in
+    let stands = c.loop-line.invariant.stands.defined in
+    let aligned = whole lines said c.loop-line.line-index past c.loop-line.invariant.aligned in
+    let same = same-length lines said aligned characters stands.characters_stand in
+    let names = c.in_ok-files.files in
+    let named : length (files_of lines) ≡ vec_len names = omega (arith, ap length c.in_ok-files.ensures, length-map names.items (string_bytes {Z = Global})) in
+    let good = subst (λ n. All (IsGoodItem n) said) named c.loop-line.invariant.good in
+    let entries = entries-stand (vec_len names) stands (good-definitions (vec_len names) said good) in
+    let passed = subst (PassesAgain characters lines said) (sym count) c.in-Ok-rules.ensures.passes in
+    subst (All (IsRule characters (vec_len names))) (sym c.in-Ok-rules.ensures.rules) (rules-good characters (vec_len names) entries lines said same good passed)
+
+pub table-requires-clause-few_rules : goal.table-requires-clause-few_rules
+table-requires-clause-few_rules c =
+    let said = c.loop-line.said.items.items in
+    let characters = c.loop-line.said.characters.infos.entries in
+    let used = c.loop-line.invariant.stands.counted in
+    let few = c.loop-line.invariant.few_rules in
+    let all : length c.in-Ok-rules.rules.items ≡ length (used_rules said) =
+    ap length c.in-Ok-rules.ensures.rules ∙ length-map (used_rules said) (rule_of (over characters)) in
+    omega arith
 
 pub returns-clause-passes : goal.returns-clause-passes
-returns-clause-passes c place line within there =
-    let inside : place < c.loop-line.line-index = omega (arith, within, c.loop-line-test.false, length-map c.args.lines.now line_view) in
-    c.loop-line.invariant.passed place line inside there
+returns-clause-passes c =
+    let lines = map line_view c.args.lines.now in
+    let count = length-map c.args.lines.now line_view in
+    let past : length lines ≤ c.loop-line.line-index = omega (arith, c.loop-line-test.false, count) in
+    let said = c.loop-line.said.items.items in
+    let characters = c.loop-line.said.characters.infos.entries in
+    let aligned = whole lines said c.loop-line.line-index past c.loop-line.invariant.aligned in
+    record {
+      first = λ place line within there. c.loop-line.invariant.passed place line (omega (arith, within, past)) there;
+      second = passes-second lines said aligned characters c.loop-line.invariant.stands.defined.characters_stand (length lines)
+          (subst (PassesAgain characters lines said) (sym count) c.in-Ok-rules.ensures.passes);
+    }
+
+pub returns-clause-table : goal.returns-clause-table
+returns-clause-table c =
+    let lines = map line_view c.args.lines.now in
+    let count = length-map c.args.lines.now line_view in
+    let past : length lines ≤ c.loop-line.line-index = omega (arith, c.loop-line-test.false, count) in
+    let said = c.loop-line.said.items.items in
+    let stands = c.loop-line.invariant.stands.defined in
+    let aligned = whole lines said c.loop-line.line-index past c.loop-line.invariant.aligned in
+    let t = c.in_ok-table.ensures in
+    table-is lines said aligned c.loop-line.said.characters.infos.entries stands.characters_stand c.loop-line.said.characters.notices.items stands.notices_stand
+    c.in-Ok-rules.rules.items c.in-Ok-rules.ensures.rules c.in_ok-table.field-0 t.characters t.rules t.caps_letter t.num_sign t.no_contract_sign
+    (t.files ∙ c.in_ok-files.ensures) t.notices

@@ -1,18 +1,21 @@
-use Rattle.std.proofs.Common.{◌≤◌, length, map, take}
+use Rattle.std.proofs.Common.{◌≡◌, ◌≤◌, Ok, length, map, take}
 use Rattle.std.specs.Prelude.{All}
 use Rattle.brl_lines.specs.Views.{line_view}
-use Rattle.brl_table.specs.Good.{IsGood}
-use Rattle.brl_table.specs.Reading.{definitions, files_of, PassesBefore}
-use Rattle.brl_table.specs.Said.{Stands}
+use Rattle.brl_table.specs.Good.{IsGoodItem}
+use Rattle.brl_table.specs.Reading.{fault_of, files_of, item_in, PassesBefore}
+use Rattle.brl_table.specs.Said.{StandFor}
 use Rattle.brl_table.proofs.reading.read_table.Given as goal
 
 abbrev pub invariant-loop-line : goal.invariant-loop-line
 invariant-loop-line l =
     let lines = map line_view l.lines in
-    let said = definitions (files_of lines) (take l.line-index lines) in
+    let files = files_of lines in
+    let said = l.said.items.items in
     record {
-      stands : Stands said l.said.characters.entries l.said.notices.items;
-      good : All (IsGood (length (files_of lines))) said;
-      few : length l.said.characters.entries ≤ 1024;
-      passed : PassesBefore lines l.line-index;
+      aligned : map Ok said ≡ map (item_in files) (take l.line-index lines);
+      stands : StandFor said l.said.characters.infos.entries l.said.characters.notices.items l.said.used;
+      good : All (IsGoodItem (length files)) said;
+      few_characters : length l.said.characters.infos.entries ≤ 1024;
+      few_rules : l.said.used ≤ 4096;
+      passed : PassesBefore (fault_of lines) lines l.line-index;
     }

@@ -1,0 +1,104 @@
+-- What items keep, their definitions and their rules keep.
+use Rattle.std.proofs.Common.{ℕ, ◌*◌, ◌≤◌, ◌≡◌, true, List, [], ◌∷◌, length, map, nat_eq, refl, arith, subst, Option, Some, None, length-append}
+use Rattle.std.specs.Prelude.{All, IfSome, is_some, unwrap_or}
+use Rattle.std.specs.List.{flat_map}
+use Rattle.std.specs.Cmp.{first_so, second_so}
+use Rattle.std.specs.Map.{lookup}
+use Rattle.std.proofs.lemmas.List.{length-map}
+use Rattle.std.proofs.lemmas.List.Elements.{All-nil, All-cons, All-head, All-tail, All-append}
+use Rattle.std.proofs.lemmas.Map.Entries.{place_from_lookup}
+use Rattle.std.proofs.lemmas.Option.{get_or_from_slice_get, slice_get_within}
+use Rattle.brl_table.specs.declared.item.Item.{Item}
+use Rattle.brl_table.specs.declared.item.Item.TheVariants.{Defines, Rules, Nothing}
+use Rattle.brl_table.specs.declared.item.RuleLine.{RuleLine}
+use Rattle.brl_table.specs.declared.rule.Info.{Info}
+use Rattle.brl_table.specs.Good.{IsGood, IsGoodItem, IsGoodRule}
+use Rattle.brl_table.specs.Limits.{IsAmong, IsEntry, IsRule}
+use Rattle.brl_table.specs.Reading.{definition_in, definitions, own_cells, rule_of}
+use Rattle.brl_table.specs.Said.{over}
+use Rattle.brl_table.specs.Text.{fold_of, is_defined, is_text}
+
+one-good : (files : ℕ) (item : Item) → IsGoodItem files item → All (IsGood files) (definition_in item)
+one-good files (Defines d) good = All-cons (IsGood files) d [] good (All-nil (IsGood files))
+one-good files (Rules r) good = All-nil (IsGood files)
+one-good files Nothing good = All-nil (IsGood files)
+
+pub good-definitions : (files : ℕ) (said : List Item) → All (IsGoodItem files) said → All (IsGood files) (definitions said)
+good-definitions files [] good = All-nil (IsGood files)
+good-definitions files (item ∷ said) good =
+    All-append (IsGood files) (definition_in item) (definitions said) (one-good files item (All-head (IsGoodItem files) item said good))
+    (good-definitions files said (All-tail (IsGoodItem files) item said good))
+
+-- ---- Rules over characters whose entries are good
+
+module _ (characters : List (ℕ × Info)) (files : ℕ) (entries : All (λ entry. IsEntry characters files entry.1) characters) where
+  -- the entry of a character that is defined
+  entry_of : (c : ℕ) (found : Option Info) → lookup (nat_eq c) characters ≡ found → is_some found ≡ true → (info : Info) × (lookup (nat_eq c) characters ≡ Some info) × IsEntry characters files info
+  entry_of c None e h = cc
+  entry_of c (Some info) e h =
+      let place = place_from_lookup (nat_eq c) characters info e in
+      let within = slice_get_within characters place.0 (place.1, info) place.2 in
+      let P : ℕ × Info → Type 0 = λ entry. IsEntry characters files entry.1 in
+      (info, e, subst P (get_or_from_slice_get characters place.0 (place.1, info) (place.1, info) place.2) (entries place.0 (place.1, info) within))
+
+  entry : (c : ℕ) → is_defined (over characters) c ≡ true → (info : Info) × (lookup (nat_eq c) characters ≡ Some info) × IsEntry characters files info
+  entry c h = entry_of c (lookup (nat_eq c) characters) refl h
+
+  fold-among : (c : ℕ) → is_defined (over characters) c ≡ true → IsAmong characters (fold_of (over characters) c)
+  fold-among c h =
+      let e = entry c h in
+      rw e.1 e.2.fold_defined
+
+  folds-among : (chars : List ℕ) → is_text (over characters) chars ≡ true → All (IsAmong characters) (map (fold_of (over characters)) chars)
+  folds-among [] h = All-nil (IsAmong characters)
+  folds-among (c ∷ chars) h =
+      All-cons (IsAmong characters) (fold_of (over characters) c) (map (fold_of (over characters)) chars)
+      (fold-among c (first_so (is_defined (over characters) c) (is_text (over characters) chars) h))
+      (folds-among chars (second_so (is_defined (over characters) c) (is_text (over characters) chars) h))
+
+  -- between 1 and 16 cells for each character
+  cells-some : (c : ℕ) → IsAmong characters c → 1 ≤ length (own_cells (over characters) c)
+  cells-some c h = let e = entry c h in rw e.1 e.2.some_cells
+
+  cells-few : (c : ℕ) → IsAmong characters c → length (own_cells (over characters) c) ≤ 16
+  cells-few c h = let e = entry c h in rw e.1 e.2.few_cells
+
+  joined-few : (chars : List ℕ) → All (IsAmong characters) chars → length (flat_map (own_cells (over characters)) chars) ≤ 16 * length chars
+  joined-few [] all = omega arith
+  joined-few (c ∷ chars) all =
+      let one = cells-few c (All-head (IsAmong characters) c chars all) in
+      let rest = joined-few chars (All-tail (IsAmong characters) c chars all) in
+      omega (arith, length-append (own_cells (over characters) c) (flat_map (own_cells (over characters)) chars), one, rest)
+
+  joined-some : (chars : List ℕ) → All (IsAmong characters) chars → length chars ≤ length (flat_map (own_cells (over characters)) chars)
+  joined-some [] all = omega arith
+  joined-some (c ∷ chars) all =
+      let one = cells-some c (All-head (IsAmong characters) c chars all) in
+      let rest = joined-some chars (All-tail (IsAmong characters) c chars all) in
+      omega (arith, length-append (own_cells (over characters) c) (flat_map (own_cells (over characters)) chars), one, rest)
+
+  given-some : (given : Option (List ℕ)) (own : List ℕ) → IfSome given (λ cells. 1 ≤ length cells) → 1 ≤ length own → 1 ≤ length (unwrap_or given own)
+  given-some None own h k = k
+  given-some (Some cells) own h k = h
+
+  given-few : (given : Option (List ℕ)) (own : List ℕ) → IfSome given (λ cells. length cells ≤ 16) → length own ≤ 512 → length (unwrap_or given own) ≤ 512
+  given-few None own h k = k
+  given-few (Some cells) own h k = omega (arith, h)
+
+  pub rule-good : (r : RuleLine) → IsGoodRule files r → is_text (over characters) r.chars ≡ true → IsRule characters files (rule_of (over characters) r)
+  rule-good r good text =
+      let chars = map (fold_of (over characters)) r.chars in
+      let among = folds-among r.chars text in
+      let count : length chars ≡ length r.chars = length-map r.chars (fold_of (over characters)) in
+      let some_characters = good.some_characters in
+      let few_characters = good.few_characters in
+      let some : 1 ≤ length (flat_map (own_cells (over characters)) chars) = omega (arith, joined-some chars among) in
+      let few : length (flat_map (own_cells (over characters)) chars) ≤ 512 = omega (arith, joined-few chars among) in
+      record {
+        some_characters = omega arith;
+        few_characters = omega arith;
+        characters_defined = among;
+        some_cells = given-some r.cells (flat_map (own_cells (over characters)) chars) good.some_cells some;
+        few_cells = given-few r.cells (flat_map (own_cells (over characters)) chars) good.few_cells few;
+        file_named = good.file_named;
+      }

@@ -1,0 +1,164 @@
+-- What one line of a table says, read by itself. The manual has the form of a line in section "Overview", and the opcodes in
+-- sections "Character-Definition Opcodes", "Translation Opcodes" and "Miscellaneous Opcodes". That `=` stands for the cells of the
+-- characters is the manual's too. The faults, their order and the limit of a rule's characters are this project's own.
+use Rattle.std.specs.Prelude.{ℕ, ◌≡◌, Bool, true, false, nat_lt, if◌then◌else◌, List, [], ◌∷◌, length, codes, Option, Some, None, Result, Ok, Err}
+use Rattle.std.specs.Str.{bytes_eq}
+use Rattle.brl_cells.specs.Dots.{reading}
+use Rattle.brl_cells.specs.declared.fault.DotsFault.{DotsFault}
+use Rattle.brl_lines.specs.Escapes.{characters_of}
+use Rattle.brl_lines.specs.Tokens.{LineView, TokenView}
+use Rattle.brl_table.specs.declared.class.Class.{Class}
+use Rattle.brl_table.specs.declared.item.Item.{Item}
+use Rattle.brl_table.specs.declared.item.Item.TheVariants.{Defines, Rules, Nothing}
+use Rattle.brl_table.specs.declared.item.RuleHead.{RuleHead}
+use Rattle.brl_table.specs.declared.item.LineFault.{LineFault}
+use Rattle.brl_table.specs.declared.item.LineFault.TheVariants as line_faults
+use Rattle.brl_table.specs.declared.opcode.Opcode.{Opcode}
+use Rattle.brl_table.specs.declared.opcode.Opcode.TheVariants.{Plain, Placed, Noback, Nofor, Display, Include}
+use Rattle.brl_table.specs.declared.place.Place.{Place}
+use Rattle.brl_table.specs.declared.table_fault.Wrong.{Wrong}
+use Rattle.brl_table.specs.declared.table_fault.Wrong.TheVariants.{OutsideProfile, MissingOperand, BadCharacters, BadDots, TooMany}
+use Rattle.brl_table.specs.Opcodes.{opcode_of}
+
+-- what is wrong with a line, and the word of it that this is about
+pub record Fault : Type 0 where
+  pub wrong : Wrong
+  pub subject : List ℕ
+
+abbrev pub fault : Wrong → List ℕ → Fault
+fault wrong subject = record { wrong = wrong; subject = subject }
+
+-- ---- Operands
+
+-- the only one of these characters
+abbrev pub the_one : List ℕ → List ℕ → Result ℕ Fault
+the_one word (c ∷ []) = Ok c
+the_one word others = Err (fault BadCharacters word)
+
+-- the one character that an operand spells
+abbrev pub spelled_character : List ℕ → Option (List ℕ) → Result ℕ Fault
+spelled_character word None = Err (fault BadCharacters word)
+spelled_character word (Some characters) = the_one word characters
+
+abbrev pub character_of : List ℕ → Result ℕ Fault
+character_of word = spelled_character word (characters_of word)
+
+-- the characters that an operand spells, at least one
+abbrev pub some_of : List ℕ → List ℕ → Result (List ℕ) Fault
+some_of word [] = Err (fault BadCharacters word)
+some_of word (c ∷ others) = Ok (c ∷ others)
+
+abbrev pub spelled_characters : List ℕ → Option (List ℕ) → Result (List ℕ) Fault
+spelled_characters word None = Err (fault BadCharacters word)
+spelled_characters word (Some characters) = some_of word characters
+
+abbrev pub some_characters_of : List ℕ → Result (List ℕ) Fault
+some_characters_of word = spelled_characters word (characters_of word)
+
+-- the cells that an operand spells, at most 16
+abbrev pub spelled_cells : List ℕ → Result (List ℕ) DotsFault → Result (List ℕ) Fault
+spelled_cells word (Ok cells) = Ok cells
+spelled_cells word (Err wrong) = Err (fault BadDots word)
+
+abbrev pub cells_of : List ℕ → Result (List ℕ) Fault
+cells_of word = spelled_cells word (reading 16 word)
+
+-- the dots of a rule: cells, or none for `=`
+abbrev pub given : Result (List ℕ) Fault → Result (Option (List ℕ)) Fault
+given (Ok cells) = Ok (Some cells)
+given (Err wrong) = Err wrong
+
+abbrev pub rule_cells_of : List ℕ → Result (Option (List ℕ)) Fault
+rule_cells_of word = if bytes_eq word (codes "=") then Ok None else given (cells_of word)
+
+-- ---- Lines of one character and dots
+
+abbrev pub definition : Class → ℕ → ℕ → ℕ → List ℕ → Item
+definition classes file line c cells = Defines (record {
+  character = c;
+  classes = classes;
+  cells = cells;
+  file = file;
+  line = line;
+})
+
+-- the character is looked at first, then the dots
+abbrev pub by_dots : (List ℕ → Item) → Result (List ℕ) Fault → Result Item Fault
+by_dots says (Ok cells) = Ok (says cells)
+by_dots says (Err wrong) = Err wrong
+
+abbrev pub by_character : (ℕ → List ℕ → Item) → List ℕ → Result ℕ Fault → Result Item Fault
+by_character says dots (Ok c) = by_dots (says c) (cells_of dots)
+by_character says dots (Err wrong) = Err wrong
+
+-- one character, then dots; what stands behind them is a comment
+abbrev pub by_operands : (ℕ → List ℕ → Item) → List ℕ → List TokenView → Result Item Fault
+by_operands says opcode [] = Err (fault MissingOperand opcode)
+by_operands says opcode (first ∷ []) = Err (fault MissingOperand opcode)
+by_operands says opcode (first ∷ second ∷ comment) = by_character says second.text (character_of first.text)
+
+-- ---- Rules
+
+abbrev pub head : Bool → Bool → ℕ → ℕ → RuleHead
+head used prefixed file line = record {
+  used = used;
+  prefixed = prefixed;
+  file = file;
+  line = line;
+}
+
+-- a rule of at most 32 characters
+abbrev pub rule : Place → RuleHead → List ℕ → List ℕ → Option (List ℕ) → Result Item Fault
+rule place head opcode chars cells =
+    if nat_lt 32 (length chars) then Err (fault TooMany opcode)
+    else Ok (Rules (record { place = place; chars = chars; cells = cells; head = head }))
+
+-- the characters are looked at first, then the dots
+abbrev pub by_rule_dots : Place → RuleHead → List ℕ → List ℕ → Result (Option (List ℕ)) Fault → Result Item Fault
+by_rule_dots place head opcode chars (Ok cells) = rule place head opcode chars cells
+by_rule_dots place head opcode chars (Err wrong) = Err wrong
+
+abbrev pub by_rule_characters : Place → RuleHead → List ℕ → List ℕ → Result (List ℕ) Fault → Result Item Fault
+by_rule_characters place head opcode dots (Ok chars) = by_rule_dots place head opcode chars (rule_cells_of dots)
+by_rule_characters place head opcode dots (Err wrong) = Err wrong
+
+-- characters, then dots or `=`; what stands behind them is a comment
+abbrev pub by_rule_operands : Place → RuleHead → List ℕ → List TokenView → Result Item Fault
+by_rule_operands place head opcode [] = Err (fault MissingOperand opcode)
+by_rule_operands place head opcode (first ∷ []) = Err (fault MissingOperand opcode)
+by_rule_operands place head opcode (first ∷ second ∷ comment) = by_rule_characters place head opcode second.text (some_characters_of first.text)
+
+-- a rule behind `noback` or `nofor`: a place opcode comes next
+abbrev pub by_next : RuleHead → List ℕ → List TokenView → Option Opcode → Result Item Fault
+by_next head opcode operands (Some (Placed place)) = by_rule_operands place head opcode operands
+by_next head opcode operands other = Err (fault OutsideProfile opcode)
+
+abbrev pub by_prefix : RuleHead → List ℕ → List TokenView → Result Item Fault
+by_prefix head prefix [] = Err (fault MissingOperand prefix)
+by_prefix head prefix (next ∷ operands) = by_next head next.text operands (opcode_of next.text)
+
+-- ---- Lines
+
+-- an include line: loading puts a file's lines in the place of one that names a file
+abbrev pub by_name : List ℕ → List TokenView → Result Item Fault
+by_name opcode [] = Err (fault MissingOperand opcode)
+by_name opcode (name ∷ comment) = Err (fault OutsideProfile opcode)
+
+abbrev pub by_opcode : ℕ → LineView → Option Opcode → Result Item Fault
+by_opcode file line None = Err (fault OutsideProfile line.opcode.text)
+by_opcode file line (Some (Plain classes)) = by_operands (definition classes file line.line) line.opcode.text line.operands
+by_opcode file line (Some Display) = by_operands (λ c cells. Nothing) line.opcode.text line.operands
+by_opcode file line (Some (Placed place)) = by_rule_operands place (head true false file line.line) line.opcode.text line.operands
+by_opcode file line (Some Noback) = by_prefix (head true true file line.line) line.opcode.text line.operands
+by_opcode file line (Some Nofor) = by_prefix (head false true file line.line) line.opcode.text line.operands
+by_opcode file line (Some Include) = by_name line.opcode.text line.operands
+
+-- what a line of the file with this number says, or the first that is wrong with it
+abbrev pub item_of : ℕ → LineView → Result Item Fault
+item_of file line = by_opcode file line (opcode_of line.opcode.text)
+
+-- what is returned is what a definition says, unless memory ran out
+abbrev pub Tells : {X : Type 0} → Result X Fault → Result X LineFault → Type 0
+Tells want (Ok value) = want ≡ Ok value
+Tells want (Err line_faults.Memory) = Unit {0}
+Tells want (Err (line_faults.Wrong wrong subject)) = want ≡ Err (fault wrong subject.now)
