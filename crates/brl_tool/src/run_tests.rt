@@ -104,6 +104,35 @@ fn worked_runs(rt: HostRuntime) -> Result<(), Fail> {
     Ok(())
 }
 
+#[test]
+fn worked_rules(rt: HostRuntime) -> Result<(), Fail> {
+    for case in cases::rules() {
+        check_run(&rt, rt.alloc(), case)?;
+    }
+    Ok(())
+}
+
+/// A table of the letters `a` and `b` and so many rules of both.
+fn with_rules(alloc: Global, count: usize) -> Result<Vec<u8>, Fail> {
+    let mut table = Vec::from_slice(alloc, b"letter a 1\nletter b 12\n")?;
+    for _ in 0..count {
+        table.extend_from_slice(b"always ab 25\n")?;
+    }
+    Ok(table)
+}
+
+#[test]
+fn a_table_has_4096_rules(rt: HostRuntime) -> Result<(), Fail> {
+    let alloc = rt.alloc();
+    let most = with_rules(alloc, 4096)?;
+    let outcome = translated(alloc, most.as_slice(), b"aba\n")?;
+    check_outcome(&rt, &outcome, b"3A\n", "", 0)?;
+    let more = with_rules(alloc, 4097)?;
+    let outcome = translated(alloc, more.as_slice(), b"")?;
+    let err = "B8 TooMany always at t.ctb:4099\n";
+    check_outcome(&rt, &outcome, b"", err, 2)
+}
+
 /// Files with these texts at these paths.
 fn files_of(alloc: Global, files: &[(&str, &str)]) -> Result<MapSource, Fail> {
     let mut source = no_files(alloc);

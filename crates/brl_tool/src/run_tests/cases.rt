@@ -50,6 +50,11 @@ pub fn runs() -> &'static [Run] {
     &RUNS
 }
 
+/// Runs over tables with rules.
+pub fn rules() -> &'static [Run] {
+    &RULES
+}
+
 pub fn requests() -> &'static [Request] {
     &REQUESTS
 }
@@ -227,6 +232,135 @@ static RUNS: [Run; 23] = [
     },
 ];
 
+static RULES: [Run; 18] = [
+    Run {
+        table: "letter a 1\nletter b 12\nletter x 1-12\nalways ab 14\n",
+        input: b"aab\n",
+        out: "AC\n",
+        err: "",
+        status: 0,
+    },
+    Run {
+        table: "space \\s 0\nletter b 12\nletter u 136\nletter t 2345\nword but 12\nword b 56-12\n",
+        input: b"b but\n",
+        out: ";B B\n",
+        err: "",
+        status: 0,
+    },
+    Run {
+        table: "space \\s 0\nletter a 1\nletter b 12\npunctuation . 256\nbegword ab 14\nendword ab 15\nword ab 16\nmidword ab 24\n",
+        input: b"ab aba aab aaba ab.\n",
+        out: "* CA AE AIA *4\n",
+        err: "",
+        status: 0,
+    },
+    Run {
+        table: "space \\s 0\nletter a 1\nletter b 12\npartword ab 14\n",
+        input: b"ab aba aab\n",
+        out: "AB CA AC\n",
+        err: "",
+        status: 0,
+    },
+    Run {
+        table: "letter a 1\nalways a 14\nalways a 15\n",
+        input: b"a\n",
+        out: "C\n",
+        err: "",
+        status: 0,
+    },
+    Run {
+        table: "letter a 1\nletter b 12\nnoback always ab 14\nnofor always ba 15\ndisplay \\x2801 1\n",
+        input: b"abba\n",
+        out: "CBA\n",
+        err: "",
+        status: 0,
+    },
+    Run {
+        table: "letter a 1\nalways ab 14\n",
+        input: b"",
+        out: "",
+        err: "B5 UndefinedInRule ab at t.ctb:2\n",
+        status: 2,
+    },
+    Run {
+        table: "letter a 1\nnofor always ab 14\n",
+        input: b"",
+        out: "",
+        err: "B5 UndefinedInRule ab at t.ctb:2\n",
+        status: 2,
+    },
+    Run {
+        table: "always ab =\n",
+        input: b"",
+        out: "",
+        err: "B5 UndefinedInRule ab at t.ctb:1\n",
+        status: 2,
+    },
+    Run {
+        table: "always ab =\nletter a 1\nletter b 12\nletter c 14\nalways ab 14\n",
+        input: b"abc\n",
+        out: "ABC\n",
+        err: "",
+        status: 0,
+    },
+    Run {
+        table: "letter a 1\nletter b 12\nletter c 14\nalways ab 14\nalways ab =\n",
+        input: b"abc\n",
+        out: "CC\n",
+        err: "",
+        status: 0,
+    },
+    Run {
+        table: "letter a 1\nalways aaaaaaaaaaaaaaaaaaaaaaaaaaaaaaaa 14\n",
+        input: b"aaaaaaaaaaaaaaaaaaaaaaaaaaaaaaaaa\n",
+        out: "CA\n",
+        err: "",
+        status: 0,
+    },
+    Run {
+        table: "letter a 1\nalways aaaaaaaaaaaaaaaaaaaaaaaaaaaaaaaaa 14\n",
+        input: b"",
+        out: "",
+        err: "B8 TooMany always at t.ctb:2\n",
+        status: 2,
+    },
+    Run {
+        table: "noback\n",
+        input: b"",
+        out: "",
+        err: "B2 MissingOperand noback at t.ctb:1\n",
+        status: 2,
+    },
+    Run {
+        table: "nofor always a\n",
+        input: b"",
+        out: "",
+        err: "B2 MissingOperand always at t.ctb:1\n",
+        status: 2,
+    },
+    Run {
+        table: "noback letter a 1\n",
+        input: b"",
+        out: "",
+        err: "B1 OutsideProfile letter at t.ctb:1\n",
+        status: 2,
+    },
+    Run {
+        table: "letter a =\n",
+        input: b"",
+        out: "",
+        err: "B4 BadDots = at t.ctb:1\n",
+        status: 2,
+    },
+    Run {
+        table: "always \\q 14\n",
+        input: b"",
+        out: "",
+        err: "B3 BadCharacters \\q at t.ctb:1\n",
+        status: 2,
+    },
+];
+
 static REQUESTS: [Request; 19] = [
     Request {
         words: &["translate", "t.ctb"],
@@ -344,7 +478,7 @@ static REQUESTS: [Request; 19] = [
     },
 ];
 
-static COMPARISONS: [Comparison; 16] = [
+static COMPARISONS: [Comparison; 19] = [
     Comparison {
         table: ALIKE,
         left: "ab",
@@ -473,6 +607,30 @@ static COMPARISONS: [Comparison; 16] = [
         err: "B4 BadDots 19 at t.ctb:1\n",
         status: 2,
     },
+    Comparison {
+        table: "letter a 1\nletter b 12\nletter c 14\nalways ab 14\n",
+        left: "ab",
+        right: "c",
+        out: "left: ab\nright: c\ncells: 14\n",
+        err: "",
+        status: 1,
+    },
+    Comparison {
+        table: "space \\s 0\nletter b 12\nletter u 136\nletter t 2345\nword but 12\n",
+        left: "but",
+        right: "b",
+        out: "left: but\nright: b\ncells: 12\n",
+        err: "",
+        status: 1,
+    },
+    Comparison {
+        table: "letter a 1\nletter b 12\nletter x 1-12\nalways ab 14\n",
+        left: "ab",
+        right: "x",
+        out: "no clash\n",
+        err: "",
+        status: 0,
+    },
 ];
 
 static TREES: [Tree; 9] = [
@@ -489,10 +647,7 @@ static TREES: [Tree; 9] = [
         status: 0,
     },
     Tree {
-        files: &[
-            ("d/t.ctb", "include /v.ctb\n"),
-            ("/v.ctb", "letter a 1\n"),
-        ],
+        files: &[("d/t.ctb", "include /v.ctb\n"), ("/v.ctb", "letter a 1\n")],
         input: b"a\n",
         out: "A\n",
         err: "",
@@ -509,37 +664,28 @@ static TREES: [Tree; 9] = [
         status: 0,
     },
     Tree {
-        files: &[
-            ("t.ctb", "include u.ctb\n"),
-            ("u.ctb", "include t.ctb\n"),
-        ],
+        files: &[("t.ctb", "include u.ctb\n"), ("u.ctb", "include t.ctb\n")],
         input: b"",
         out: "",
         err: "L4 Cycle t.ctb at u.ctb:1\n",
         status: 2,
     },
     Tree {
-        files: &[
-            ("t.ctb", "include u\n"),
-        ],
+        files: &[("t.ctb", "include u\n")],
         input: b"",
         out: "",
         err: "L1 NotFound u at t.ctb:1\n",
         status: 2,
     },
     Tree {
-        files: &[
-            ("t.ctb", "include\n"),
-        ],
+        files: &[("t.ctb", "include\n")],
         input: b"",
         out: "",
         err: "B2 MissingOperand include at t.ctb:1\n",
         status: 2,
     },
     Tree {
-        files: &[
-            ("t.ctb", "letter a\ninclude u\n"),
-        ],
+        files: &[("t.ctb", "letter a\ninclude u\n")],
         input: b"",
         out: "",
         err: "L1 NotFound u at t.ctb:2\n",
@@ -556,9 +702,10 @@ static TREES: [Tree; 9] = [
         status: 2,
     },
     Tree {
-        files: &[
-            ("t.ctb", "digit 1 1\nlowercase b 12\nuppercase C 14\nsign + 346\nmath = 2356\n"),
-        ],
+        files: &[(
+            "t.ctb",
+            "digit 1 1\nlowercase b 12\nuppercase C 14\nsign + 346\nmath = 2356\n",
+        )],
         input: b"1bC+=\n",
         out: "ABC+7\n",
         err: "",
