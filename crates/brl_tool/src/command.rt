@@ -54,9 +54,11 @@ names it with its line, and the lines before it stand written.";
 
 /// What follows the options in `brl translate --help`.
 const TRANSLATE_EXAMPLE: &str =
-    "A table is a UTF-8 file. Each line defines a character: an opcode (letter,
-punctuation or space), the character (\\s is a blank) and its dots (0 is the
-blank cell, - joins cells). A line that begins with # is a comment.
+    "A table is a UTF-8 file. A line defines a character: an opcode (as letter,
+digit, punctuation or space), the character (\\s is a blank) and its dots (0 is
+the blank cell, - joins cells). Or it has a rule: where in a word it stands (as
+always, word or endword), characters and dots. Or it includes another file. A
+line that begins with # is a comment.
 
 Example, a table of four characters and a text:
   printf '%s\\n' 'space \\s 0' 'letter a 1' 'letter b 12' 'letter c 14' > first.ctb
