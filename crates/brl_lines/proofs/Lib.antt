@@ -13,3 +13,4 @@ pub mod SpellingLemmas
 pub mod TextLemmas
 pub mod TokenLemmas
 pub mod TurnLemmas
+pub mod WalkLemmas

@@ -1,22 +1,20 @@
 -- One line more is placed, and what stands in the place of an include line.
-use Rattle.std.proofs.Common.{◌≡◌, ℕ, zero, suc, ◌+◌, ◌<◌, ◌≤◌, Bool, true, false, ◌||◌, nat_le, List, [], ◌∷◌, ◌++◌, map, length, get_or, refl, ap, sym, ◌∙◌, subst, arith, append_assoc, append-nil, Option, Some, None, Result, Ok, Err}
+use Rattle.std.proofs.Common.{◌≡◌, ℕ, zero, suc, ◌+◌, ◌<◌, ◌≤◌, Bool, true, false, ◌||◌, nat_le, List, [], ◌∷◌, ◌++◌, map, length, get_or, refl, ap, sym, ◌∙◌, subst, arith, append_assoc, Option, Some, None, Result, Ok, Err}
 use Rattle.std.proofs.lemmas.Bool.Decides.{nat_tests}
 use Rattle.std.specs.List.{list_any}
 use Rattle.std.specs.Str.{bytes_eq}
 use Rattle.brl_lines.proofs.LineLemmas.{lines_from, lines_from-row, lines_from-whole}
-use Rattle.brl_lines.proofs.PieceLemmas.{piece_none}
 use Rattle.brl_lines.proofs.TextLemmas.{refuses-as}
 use Rattle.brl_lines.specs.Answer.{Answer, Holds}
 use Rattle.brl_lines.specs.Includes.{included, name_of}
 use Rattle.brl_lines.specs.Lines.{◌>>=◌, Placed, PlaceView, Refusal, entered, follow, in_front, joined, lines_over, most_includes, place_of, placed, placed_as, placed_root, refusal, replaced, text_in, text_of}
-use Rattle.brl_lines.specs.Outcome.{IsRefusal, RefusesAs, TellsPlaced}
+use Rattle.brl_lines.specs.Outcome.{IsRefusal, RefusesAs}
 use Rattle.brl_lines.specs.Rows.{piece, rows}
 use Rattle.brl_lines.specs.Tokens.{LineView, line_of, lines_in, token_of, tokens}
 use Rattle.brl_lines.specs.declared.fault.LoadFault.{LoadFault}
 use Rattle.brl_lines.specs.declared.fault.LoadFault.TheVariants as faults
 use Rattle.brl_lines.specs.declared.fault.Refused.{Refused}
 use Rattle.brl_lines.specs.declared.fault.Refused.TheVariants as refused
-use Rattle.brl_lines.specs.declared.placing.Placed.{Placed as ThePlaced}
 
 -- ---- lines in front
 
@@ -57,9 +55,6 @@ module _ (follow : PlaceView → List ℕ → ℕ → Placed) where
         ∙ ap (λ (ls : List LineView). in_front out (placed follow ls followed)) (sym (lines_from-row file number left row rest cuts))
         ∙ so_far
 
-    pub place-nothing : [] ≡ line_of file number (map token_of (tokens row)) → in_front out (placed follow (lines_from file (number + 1) rest) followed) ≡ whole
-    place-nothing e = parts [] e
-
     module _ (line : LineView) (e : line ∷ [] ≡ line_of file number (map token_of (tokens row))) where
       pub place-plain : name_of line ≡ None → in_front (out ++ line ∷ []) (placed follow (lines_from file (number + 1) rest) followed) ≡ whole
       place-plain none =
@@ -78,14 +73,6 @@ module _ (follow : PlaceView → List ℕ → ℕ → Placed) where
 
 pub place-start : (follow : PlaceView → List ℕ → ℕ → Placed) (file text : List ℕ) (n : ℕ) → in_front [] (placed follow (lines_from file 1 (piece text 0 (length text))) n) ≡ placed follow (lines_in file text) n
 place-start follow file text n = in_front-nothing (placed follow (lines_from file 1 (piece text 0 (length text))) n) ∙ ap (λ (ls : List LineView). placed follow ls n) (lines_from-whole file text)
-
--- nothing is left of a text
-pub place-end : (follow : PlaceView → List ℕ → ℕ → Placed) (file : List ℕ) (number : ℕ) (text : List ℕ) (at : ℕ) (out : List LineView) (n : ℕ) (whole : Placed) → length text ≤ at → at ≤ length text
-    → in_front out (placed follow (lines_from file number (piece text at (length text))) n) ≡ whole → whole ≡ placed_as (Ok out) n
-place-end follow file number text at out n whole low high so_far =
-    let same : at ≡ length text = omega arith in
-    sym so_far ∙ ap (λ (ps : List (ℕ × ℕ)). in_front out (placed follow (lines_from file number ps) n)) (ap (λ i. piece text i (length text)) same ∙ piece_none text (length text))
-    ∙ ap (λ (ls : List LineView). placed_as (Ok ls) n) (append-nil out)
 
 -- ---- what stands in the place of an include line
 
@@ -147,16 +134,22 @@ module _ (answer : List ℕ → Option Answer) (root : List ℕ) (chain : List (
         (ap (λ p. p.lines) (follow-inside ∙ ap (λ a. entered (text_of path (Some place) a) followed (λ text. placed (follow d answer root (path ∷ chain)) (lines_in path text))) h)) k
 
     -- the file is known, and good
-    pub known-told : (bytes text file : List ℕ) (paths : List (List ℕ)) (r : Result ThePlaced LoadFault) → answer path ≡ Some (Holds bytes) → text_in path (Some place) bytes ≡ Ok text → paths ≡ path ∷ chain → file ≡ path
-        → TellsPlaced (placed (follow d answer root paths) (lines_in file text) (followed + 1)) r → TellsPlaced (follow deeper answer root chain place name followed) r
-    known-told bytes text file paths r h good p_is f_is k =
-        let whole : follow deeper answer root chain place name followed ≡ placed (follow d answer root paths) (lines_in file text) (followed + 1) =
+    pub known-placed : (bytes text file : List ℕ) (paths : List (List ℕ)) → answer path ≡ Some (Holds bytes) → text_in path (Some place) bytes ≡ Ok text → paths ≡ path ∷ chain → file ≡ path
+        → follow deeper answer root chain place name followed ≡ placed (follow d answer root paths) (lines_in file text) (followed + 1)
+    known-placed bytes text file paths h good p_is f_is =
         follow-inside
         ∙ ap (λ a. entered (text_of path (Some place) a) followed (λ t. placed (follow d answer root (path ∷ chain)) (lines_in path t))) h
         ∙ ap (λ t. entered t followed (λ t. placed (follow d answer root (path ∷ chain)) (lines_in path t))) good
         ∙ ap (λ (ps : List (List ℕ)). placed (follow d answer root ps) (lines_in path text) (followed + 1)) (sym p_is)
-        ∙ ap (λ (p : List ℕ). placed (follow d answer root paths) (lines_in p text) (followed + 1)) (sym f_is) in
-        subst (λ w. TellsPlaced w r) (sym whole) k
+        ∙ ap (λ (p : List ℕ). placed (follow d answer root paths) (lines_in p text) (followed + 1)) (sym f_is)
+
+-- the same text, by other names
+pub same-placed : (follow : List (List ℕ) → PlaceView → List ℕ → ℕ → Placed) (ps qs : List (List ℕ)) (file other text same : List ℕ) (n : ℕ) → ps ≡ qs → file ≡ other → text ≡ same
+    → placed (follow ps) (lines_in file text) n ≡ placed (follow qs) (lines_in other same) n
+same-placed follow ps qs file other text same n p f t =
+    ap (λ (xs : List (List ℕ)). placed (follow xs) (lines_in file text) n) p
+    ∙ ap (λ (x : List ℕ). placed (follow qs) (lines_in x text) n) f
+    ∙ ap (λ (x : List ℕ). placed (follow qs) (lines_in other x) n) t
 
 -- ---- chains
 

@@ -6,7 +6,7 @@ use Rattle.std.proofs.lemmas.Str.{IsUtf8-from_is_utf8, is_utf8-from_IsUtf8}
 use Rattle.std.specs.Str.{is_utf8}
 use Rattle.brl_lines.specs.Answer.{most_file_bytes}
 use Rattle.brl_lines.specs.Rows.{without_mark}
-use Rattle.brl_lines.specs.Lines.{◌>>=◌, Refusal, PlaceView, refusal, long_row, text_in, unless_long}
+use Rattle.brl_lines.specs.Lines.{Refusal, PlaceView, refusal, long_row, text_in, unless_long}
 use Rattle.brl_lines.specs.Outcome.{IsRefusal, RefusesAs}
 use Rattle.brl_lines.specs.declared.fault.LoadFault.{LoadFault}
 use Rattle.brl_lines.specs.declared.fault.LoadFault.TheVariants as faults
@@ -16,11 +16,6 @@ use Rattle.brl_lines.specs.declared.fault.Refused.TheVariants as refused
 pub refuses-as : {U : Type 0} (want : Result U Refusal) (r : Refusal) (f : LoadFault) → want ≡ Err r → IsRefusal r f → RefusesAs want f
 refuses-as want r faults.Memory e h = tt
 refuses-as want r (faults.Refused kind path place) e h = e ∙ ap Err h
-
--- a refusal passes on
-pub refuses-bind : {U W : Type 0} (r : Result U Refusal) (g : U → Result W Refusal) (f : LoadFault) → RefusesAs r f → RefusesAs (r >>= g) f
-refuses-bind r g faults.Memory h = tt
-refuses-bind r g (faults.Refused kind path place) h = ap (λ x. x >>= g) h
 
 module _ (path : List ℕ) (place : Option PlaceView) (bytes : List ℕ) where
   pub text_in-large : most_file_bytes < length bytes → text_in path place bytes ≡ Err (refusal refused.TooLarge path place)

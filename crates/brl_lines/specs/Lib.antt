@@ -1,6 +1,7 @@
 pub mod Answer
 pub mod Escapes
 pub mod Examples
+pub mod IncludeLines
 pub mod Includes
 pub mod Lines
 pub mod Outcome

@@ -6,6 +6,13 @@ ghost use Rattle.brl_lines.specs.Views.{line_view};
 use crate::line::Line;
 use std::alloc::{AllocError, Global};
 
+/// A line that includes a file: its number from 1, and the name in it.
+#[derive(Debug, Drop)]
+pub(crate) struct IncludeLine {
+    pub line: u32,
+    pub name: String,
+}
+
 /// The name in an include line.
 pub(crate) fn include_name<'a>(line: &Line<'a>) -> Option<&'a str>
     ensures { option_map (λ name. name.now) result ≡ name_of (line_view line.now) }

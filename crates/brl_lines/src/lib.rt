@@ -18,6 +18,7 @@ mod operand;
 mod placing;
 mod source;
 mod spelling;
+mod walking;
 
 pub use fault::{LoadFault, Place, Refused};
 pub use file_source::FileSource;

@@ -12,6 +12,7 @@ use crate::known::Known;
 use crate::line::Line;
 use crate::placing::place_root;
 use crate::source::{Source, SourceFault};
+use crate::walking::walk_root;
 use std::alloc::{AllocError, Global};
 use std::marker::Model;
 
@@ -62,11 +63,8 @@ struct Wanted {
 fn next_wanted(alloc: Global, files: &[Known], root: &str) -> Result<Option<Wanted>, LoadFault>
     ensures { Wants (lines_of (files_view files.now) root.now) result }
 {
-    match place_root(alloc, files, root) {
-        Ok(lines) => {
-            drop(lines);
-            Ok(None)
-        }
+    match walk_root(alloc, files, root) {
+        Ok(()) => Ok(None),
         // an unknown file counts as one that can't be read
         Err(
             LoadFault::Refused {

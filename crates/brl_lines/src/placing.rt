@@ -5,7 +5,7 @@ ghost use Rattle.std.specs.List.{list_any};
 ghost use Rattle.std.specs.Str.{IsCharBoundary, bytes_eq};
 ghost use Rattle.brl_lines.specs.Answer.{most_file_bytes};
 ghost use Rattle.brl_lines.specs.Lines.{answer_at, follow as follow_of, lines_of, placed, refusal as refused_as};
-ghost use Rattle.brl_lines.specs.Outcome.{IsRefusal, Tells, TellsPlaced};
+ghost use Rattle.brl_lines.specs.Outcome.{Enters, IsRefusal, Tells, TellsPlaced};
 ghost use Rattle.brl_lines.specs.Tokens.{lines_in};
 ghost use Rattle.brl_lines.specs.Views.{files_view, line_view, spot_view};
 
@@ -21,7 +21,7 @@ use std::alloc::{AllocError, Global};
 const MOST_INCLUDES: u32 = 1024;
 
 /// How deep below the root a file may stand.
-const MOST_DEEPER: u32 = 15;
+pub(crate) const MOST_DEEPER: u32 = 15;
 
 /// Some lines, and how many include lines were followed by then.
 #[derive(Debug, Drop)]
@@ -38,7 +38,7 @@ pub(crate) struct Spot<'a> {
 }
 
 /// A refusal, with copies of its path and place.
-fn refusal(alloc: Global, kind: Refused, path: &str, spot: Option<Spot<'_>>) -> LoadFault
+pub(crate) fn refusal(alloc: Global, kind: Refused, path: &str, spot: Option<Spot<'_>>) -> LoadFault
     ensures { IsRefusal (refused_as kind path.now (option_map spot_view spot.entry)) result }
 {
     match copied(alloc, kind, path, spot) {
@@ -67,7 +67,11 @@ fn copied(
 }
 
 /// A path, in front of those that lead to its file.
-fn in_front(alloc: Global, path: &str, chain: &[String]) -> Result<Vec<String>, AllocError>
+pub(crate) fn in_front(
+    alloc: Global,
+    path: &str,
+    chain: &[String],
+) -> Result<Vec<String>, AllocError>
     ensures { IfOk result (λ v. map string_bytes v.items ≡ path.now ∷ map string_bytes chain.now) }
 {
     let mut paths = Vec::new(alloc);
@@ -98,19 +102,25 @@ fn beginning(text: &str) -> usize
     0
 }
 
-/// What stands in the place of an include line, whose file and the files below it may still stand so many deep.
-#[cycle(includes)]
-fn follow<'a>(
+/// A file that an include line leads to, and the paths that lead to it, its own first.
+#[derive(Debug, Drop)]
+pub(crate) struct Entered<'a> {
+    pub file: &'a Known,
+    pub chain: Vec<String>,
+}
+
+/// The file that an include line leads to, where files may still stand so many deeper. `ReadFailed` where it isn't known.
+pub(crate) fn enter<'a>(
     alloc: Global,
     files: &'a [Known],
     root: &str,
     chain: &[String],
-    spot: Spot<'a>,
+    spot: Spot<'_>,
     name: &str,
     deeper: u32,
     followed: u32,
-) -> Result<Placed<'a>, LoadFault>
-    ensures { TellsPlaced (follow_of deeper (answer_at (files_view files.now)) root.now (map string_bytes chain.now) (spot_view spot.entry) name.now followed) result }
+) -> Result<Entered<'a>, LoadFault>
+    ensures { Enters deeper (answer_at (files_view files.now)) root.now (map string_bytes chain.now) (spot_view spot.entry) name.now followed result }
 {
     let owned = included(alloc, root, name)?;
     let path = owned.as_str();
@@ -127,21 +137,10 @@ fn follow<'a>(
         return Err(refusal(alloc, Refused::ReadFailed, path, Some(spot)));
     };
     let chain = in_front(alloc, path, chain)?;
-    let (inside, text) = (file.path.as_str(), file.text());
-    place_text(
-        alloc,
-        files,
-        root,
-        chain.as_slice(),
-        inside,
-        text,
-        deeper - 1,
-        followed + 1,
-    )
+    Ok(Entered { file, chain })
 }
 
-/// The lines of a text, each include line replaced by what stands in its place.
-#[cycle(includes)]
+/// The lines of a text, each include line replaced by the lines of its file.
 fn place_text<'a>(
     alloc: Global,
     files: &'a [Known],
@@ -175,7 +174,22 @@ fn place_text<'a>(
             file: line.file,
             line: line.line,
         };
-        let mut here = match follow(alloc, files, root, chain, spot, name, deeper, followed) {
+        let there = match enter(alloc, files, root, chain, spot, name, deeper, followed) {
+            Ok(there) => there,
+            Err(fault) => return Err(fault),
+        };
+        let (inside, text) = (there.file.path.as_str(), there.file.text());
+        let paths = there.chain.as_slice();
+        let mut here = match place_text(
+            alloc,
+            files,
+            root,
+            paths,
+            inside,
+            text,
+            deeper - 1,
+            followed + 1,
+        ) {
             Ok(here) => here,
             Err(fault) => return Err(fault),
         };

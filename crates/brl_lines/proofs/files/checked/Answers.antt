@@ -1,6 +1,8 @@
-use Rattle.std.proofs.Common.{◌≡◌, ◌∙◌, ◌≤◌, length, string_bytes, ap, sym, subst, arith, IsUtf8, None, Ok}
+use Rattle.std.proofs.Common.{List, ℕ, map, ◌≡◌, ◌∙◌, ◌≤◌, length, string_bytes, ap, sym, subst, arith, IsUtf8, None, Ok}
 use Rattle.brl_lines.specs.Answer.{most_file_bytes}
+use Rattle.brl_lines.specs.IncludeLines.{include_view, includes_in}
 use Rattle.brl_lines.specs.Rows.{without_mark}
+use Rattle.brl_lines.specs.Tokens.{lines_in}
 use Rattle.brl_lines.proofs.TextLemmas.{good-anywhere, text_in-large, text_in-not_utf8, text_in-good, text_in-long}
 use Rattle.brl_lines.proofs.files.checked.Goals as goal
 
@@ -18,6 +20,9 @@ invariant_of-result c =
       small = small;
       good = good-anywhere (string_bytes c.args.path) None (string_bytes c.in-Ok.whole) _
           (text_in-good _ _ _ c.without_mark.result.now small (subst IsUtf8 c.as_str.ensures.value c.as_str.utf8) (c.without_mark.ensures ∙ ap without_mark c.as_str.ensures.value) (sym c.long_row.ensures ∙ c.in-None.is));
+      listed = subst (λ (file : List ℕ). map (include_view file) c.in_ok-includes-in-None.includes.items ≡ includes_in (lines_in file (without_mark (string_bytes c.in-Ok.whole)))) c.as_str-in-None.ensures.value
+          (c.in_ok-includes-in-None.ensures
+          ∙ ap (λ (text : List ℕ). includes_in (lines_in c.as_str-in-None.result.now text)) (c.without_mark-in-None.ensures ∙ ap without_mark c.as_str-in-None-2.ensures.value));
     }
 
 pub returns-in-None-clause-tells : goal.returns-in-None-clause-tells
