@@ -13,7 +13,8 @@ use Rattle.brl_lines.proofs.TextLemmas.{text_in-known}
 use Rattle.brl_lines.proofs.TurnLemmas.{Answered, lines_over-read, read_over, read_over-asks, read_over-most}
 use Rattle.brl_lines.specs.Answer.{Answer, Holds, Unreadable}
 use Rattle.brl_lines.specs.Lines.{Answers, PlaceView, Refusal, answer_at, lines_of, refusal, text_in, text_of}
-use Rattle.brl_lines.specs.Outcome.{AreGiven, IsLineOfFile, Reads, RefusesAs}
+use Rattle.brl_lines.specs.Outcome.{AreGiven, IsLineOfFile, RefusesAs}
+use Rattle.brl_lines.specs.Steps.{Reads}
 use Rattle.brl_lines.specs.Rows.{without_mark}
 use Rattle.brl_lines.specs.Slices.{IsInOrder}
 use Rattle.brl_lines.specs.Tokens.{lines_in}

@@ -4,7 +4,8 @@ use Rattle.std.specs.Prelude.{is_ok, option_map, option_to_list, string_bytes}
 use Rattle.brl_lines.specs.IncludeLines.{include_view, includes_in}
 use Rattle.brl_lines.specs.Includes.{name_of}
 use Rattle.brl_lines.specs.Lines.{◌>>=◌, Placed, PlaceView, Refusal, in_front, joined, place_of, placed, placed_as, replaced}
-use Rattle.brl_lines.specs.Outcome.{RefusesAs, Walks}
+use Rattle.brl_lines.specs.Outcome.{RefusesAs}
+use Rattle.brl_lines.specs.Steps.{Walks}
 use Rattle.brl_lines.specs.Tokens.{LineView}
 use Rattle.brl_lines.specs.declared.fault.LoadFault.{LoadFault}
 use Rattle.brl_lines.specs.declared.fault.LoadFault.TheVariants as faults

@@ -8,5 +8,6 @@ pub mod Outcome
 pub mod Rows
 pub mod Slices
 pub mod Spelling
+pub mod Steps
 pub mod Tokens
 pub mod Views

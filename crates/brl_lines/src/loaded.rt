@@ -3,7 +3,8 @@ ghost use Rattle.std.specs.Prelude.{◌≡◌, ℕ, ◌↔◌, List, All, IfOk, 
 ghost use Rattle.brl_lines.specs.Answer.{Answer};
 ghost use Rattle.brl_lines.specs.Slices.{IsInOrder};
 ghost use Rattle.brl_lines.specs.Lines.{Answers, lines_of};
-ghost use Rattle.brl_lines.specs.Outcome.{AreGiven, CountsFailure, FailedWhereUnreadable, IsLineOfFile, Reads, Tells, Wants};
+ghost use Rattle.brl_lines.specs.Outcome.{AreGiven, CountsFailure, FailedWhereUnreadable, IsLineOfFile, Tells};
+ghost use Rattle.brl_lines.specs.Steps.{Reads, Wants};
 ghost use Rattle.brl_lines.specs.Views.{files_view, line_view, place_view};
 
 use crate::fault::{LoadFault, Place, Refused};

@@ -5,7 +5,8 @@ ghost use Rattle.std.specs.List.{list_any};
 ghost use Rattle.std.specs.Str.{IsCharBoundary, bytes_eq};
 ghost use Rattle.brl_lines.specs.Answer.{most_file_bytes};
 ghost use Rattle.brl_lines.specs.Lines.{answer_at, follow as follow_of, lines_of, placed, refusal as refused_as};
-ghost use Rattle.brl_lines.specs.Outcome.{Enters, IsRefusal, Tells, TellsPlaced};
+ghost use Rattle.brl_lines.specs.Outcome.{IsRefusal, Tells};
+ghost use Rattle.brl_lines.specs.Steps.{Enters, TellsPlaced};
 ghost use Rattle.brl_lines.specs.Tokens.{lines_in};
 ghost use Rattle.brl_lines.specs.Views.{files_view, line_view, spot_view};
 

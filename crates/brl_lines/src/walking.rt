@@ -2,7 +2,7 @@
 //! cut again for it.
 ghost use Rattle.std.specs.Prelude.{◌≡◌, map, string_bytes};
 ghost use Rattle.brl_lines.specs.Lines.{answer_at, follow as follow_of, lines_of, placed};
-ghost use Rattle.brl_lines.specs.Outcome.{Walks, WalksAll};
+ghost use Rattle.brl_lines.specs.Steps.{Walks, WalksAll};
 ghost use Rattle.brl_lines.specs.Rows.{without_mark as text_behind};
 ghost use Rattle.brl_lines.specs.Tokens.{lines_in};
 ghost use Rattle.brl_lines.specs.Views.{files_view};

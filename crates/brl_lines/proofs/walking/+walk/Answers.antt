@@ -1,7 +1,8 @@
 use Rattle.std.proofs.Common.{◌∙◌, ◌-◌, ◌+◌, ap, map, refl, subst, sym, Ok, ℕ, List}
 use Rattle.std.specs.Prelude.{string_bytes}
 use Rattle.brl_lines.specs.Lines.{answer_at, follow}
-use Rattle.brl_lines.specs.Outcome.{RefusesAs, Walks}
+use Rattle.brl_lines.specs.Outcome.{RefusesAs}
+use Rattle.brl_lines.specs.Steps.{Walks}
 use Rattle.brl_lines.specs.Rows.{without_mark}
 use Rattle.brl_lines.specs.Tokens.{lines_in}
 use Rattle.brl_lines.specs.Views.{files_view}
