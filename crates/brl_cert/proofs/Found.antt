@@ -1,0 +1,149 @@
+-- What is read is spelled so, each byte of it.
+use Rattle.std.proofs.Common.{◌≡◌, ℕ, suc, ◌+◌, Bool, true, false, not, ◌&&◌, cond, eqb, List, [], ◌∷◌, ◌++◌, length, ltb, Option, Some, None, Result, Ok, Err, refl, sym, ap, subst, ◌∙◌, append_assoc, arith}
+use Rattle.std.specs.Str.{bytes_eq}
+use Rattle.std.specs.List.{flat_map, join_with_byte, slice_split, list_any}
+use Rattle.std.proofs.lemmas.Slice.Eq.{bytes_eq-Decides}
+use Rattle.std.proofs.lemmas.Bool.Decides.{Decides-eqb}
+use Rattle.std.proofs.lemmas.List.{append-nil, flat_map_more}
+use Rattle.std.proofs.lemmas.List.Splits.{join_with_byte-slice_split}
+use Rattle.brl_cert.specs.declared.fault.Wrong.{Wrong}
+use Rattle.brl_cert.specs.declared.fault.Wrong.TheVariants.{Syntax, NotCanonical, DuplicateState, DuplicatePair, NoSuchState, WrongCount, Version}
+use Rattle.brl_cert.specs.declared.pair.CertPair.{CertPair}
+use Rattle.std.specs.Cmp.{first_so, second_so}
+use Rattle.brl_cert.specs.contracts.pair.CertPairPartialEq.TheImpl.{eq-value as pair-eq}
+use Rattle.brl_cert.specs.Lines.{States, BodyView, Line, State, Pair, End, placed, ◌>>>◌, spelled_line, whole_line, spelled_body, strict_line, line_of, may_stand, loose_line, is_end, add_line, one_line, body_of}
+use Rattle.brl_cert.specs.Reading.{CertView, Windows, spelling, reading, certificate_of, spelled_header, strict_header, header_of, loose_header, nothing, version_of}
+use Rattle.brl_cert.specs.Window.{windows}
+
+-- the value of a step that did not fail
+pub then_ok : {A B E : Type 0} (r : Result A E) (f : A → Result B E) (y : B) → (r >>> f) ≡ Ok y → (x : A) × (r ≡ Ok x) × (f x ≡ Ok y)
+then_ok (Ok x) f y e = (x, refl, e)
+then_ok (Err d) f y e = absurd cc
+
+pub placed_ok : {A : Type 0} (n : ℕ) (r : Result A Wrong) (x : A) → placed n r ≡ Ok x → r ≡ Ok x
+placed_ok n (Ok y) x e = cc
+placed_ok n (Err d) x e = absurd cc
+
+-- a test that did not fail
+pub guard_ok : {A E : Type 0} (b : Bool) (d : E) (r : Result A E) (y : A) → cond b (Err d) r ≡ Ok y → (b ≡ false) × (r ≡ Ok y)
+guard_ok true d r y e = absurd cc
+guard_ok false d r y e = (refl, e)
+
+pub need_ok : {A E : Type 0} (b : Bool) (d : E) (r : Result A E) (y : A) → cond b r (Err d) ≡ Ok y → (b ≡ true) × (r ≡ Ok y)
+need_ok true d r y e = (refl, e)
+need_ok false d r y e = absurd cc
+
+abbrev pub done : {A E : Type 0} → A → Result A E
+done x = Ok x
+
+pub ok_is : {A E : Type 0} (x y : A) → done {E = E} x ≡ done y → x ≡ y
+ok_is x y e = cc
+
+module _ {S : Type 0} (form : States S) where
+  strict_is : (body : BodyView S) (bytes : List ℕ) (o : Option (Line S)) (line : Line S) → strict_line form body bytes o ≡ Ok line → (may_stand body line ≡ true) × (spelled_line form line ≡ bytes)
+  strict_is body bytes None line e = absurd cc
+  strict_is body bytes (Some x) line e =
+      let a = guard_ok (not (may_stand body x)) Syntax (cond (bytes_eq (spelled_line form x) bytes) (Ok x) (Err NotCanonical)) line e in
+      let b = need_ok (bytes_eq (spelled_line form x) bytes) NotCanonical (Ok x) line a.1 in
+      let same : x ≡ line = ok_is x line b.1 in
+      subst (λ (z : Line S). (may_stand body z ≡ true) × (spelled_line form z ≡ bytes)) same (stands (may_stand body x) a.0, (bytes_eq-Decides (spelled_line form x) bytes).0 b.0)
+    where
+      stands : (b : Bool) → not b ≡ false → b ≡ true
+      stands true h = refl
+      stands false h = absurd cc
+
+  -- the lines of the body, without the end line
+  abbrev pub front : BodyView S → List ℕ
+  front body = flat_map (λ s. whole_line form (State s)) body.states ++ flat_map (λ p. whole_line form (Pair p)) body.pairs
+
+  -- the bytes of the line are its spelling, in its place
+  line_is : (body : BodyView S) (bytes : List ℕ) (line : Line S) → line_of form body bytes ≡ Ok line → (may_stand body line ≡ true) × (spelled_line form line ≡ bytes)
+  line_is body bytes line e = strict_is body bytes (loose_line form (slice_split (λ b. eqb b 32) bytes)) line e
+
+  -- what a line adds
+  adds : (body : BodyView S) (line : Line S) (longer : BodyView S) → may_stand body line ≡ true → add_line form body line ≡ Ok longer → is_end line ≡ false → front longer ≡ front body ++ whole_line form line
+  adds body (State s) longer stands e open_ =
+      let a = guard_ok (list_any (form.same s) body.states) DuplicateState (Ok (record { states = body.states ++ s ∷ []; pairs = body.pairs })) longer e in
+      let none : body.pairs ≡ [] = empty_is body.pairs stands in
+      let more : front (record { states = body.states ++ s ∷ []; pairs = body.pairs }) ≡ front body ++ whole_line form (State s) = rw none (append-nil _ ∙ sym (flat_map_more (λ (x : S). whole_line form (State x)) [] body.states s) ∙ ap (λ (b : List ℕ). b ++ whole_line form (State s)) (sym (append-nil _))) in
+      subst (λ (z : BodyView S). front z ≡ front body ++ whole_line form (State s)) (ok_is _ longer a.1) more
+    where
+      empty_is : {A : Type 0} (xs : List A) → eqb (length xs) 0 ≡ true → xs ≡ []
+      empty_is [] h = refl
+      empty_is (x ∷ xs) h = absurd (omega (arith, (Decides-eqb (length (x ∷ xs)) 0).0 h))
+  adds body (Pair p) longer stands e open_ =
+      let a = guard_ok (not (ltb p.ahead (length body.states) && ltb p.behind (length body.states))) NoSuchState (cond (list_any (pair-eq.it p) body.pairs) (Err DuplicatePair) (Ok (record { states = body.states; pairs = body.pairs ++ p ∷ [] }))) longer e in
+      let b = guard_ok (list_any (pair-eq.it p) body.pairs) DuplicatePair (Ok (record { states = body.states; pairs = body.pairs ++ p ∷ [] })) longer a.1 in
+      let more : front (record { states = body.states; pairs = body.pairs ++ p ∷ [] }) ≡ front body ++ whole_line form (Pair p) = sym (flat_map_more (λ (x : CertPair). whole_line form (Pair x)) (flat_map (λ s. whole_line form (State s)) body.states) body.pairs p) in
+      subst (λ (z : BodyView S). front z ≡ front body ++ whole_line form (Pair p)) (ok_is _ longer b.1) more
+  adds body (End s p) longer stands e open_ = cc
+
+  closes : (body : BodyView S) (line : Line S) (longer : BodyView S) → add_line form body line ≡ Ok longer → is_end line ≡ true → front body ++ whole_line form line ≡ spelled_body form longer
+  closes body (State s) longer e end = cc
+  closes body (Pair p) longer e end = cc
+  closes body (End s p) longer e end =
+      let a = need_ok ((eqb (length body.states) s) && (eqb (length body.pairs) p)) WrongCount (Ok body) longer e in
+      let n : length body.states ≡ s = (Decides-eqb (length body.states) s).0 (first_so _ _ a.0) in
+      let m : length body.pairs ≡ p = (Decides-eqb (length body.pairs) p).0 (second_so (eqb (length body.states) s) _ a.0) in
+      subst (λ (z : BodyView S). front body ++ whole_line form (End s p) ≡ spelled_body form z) (ok_is body longer a.1)
+      (subst (λ (x : ℕ). front body ++ whole_line form (End x p) ≡ spelled_body form body) n
+      (subst (λ (y : ℕ). front body ++ whole_line form (End (length body.states) y) ≡ spelled_body form body) m
+      refl))
+
+  regroup : (a line rest whole : List ℕ) → (a ++ (line ++ 10 ∷ [])) ++ rest ≡ whole → a ++ (line ++ (10 ∷ rest)) ≡ whole
+  regroup a line rest whole e = ap (λ (x : List ℕ). a ++ x) (sym (append_assoc line (10 ∷ []) rest)) ∙ sym (append_assoc a (line ++ 10 ∷ []) rest) ∙ e
+
+  nothing_behind : (next : List ℕ) (more : List (List ℕ)) → eqb (length next + length more) 0 ≡ true → join_with_byte 10 (next ∷ more) ≡ []
+  nothing_behind [] [] h = refl
+  nothing_behind [] (x ∷ more) h = absurd (omega (arith, (Decides-eqb (0 + length (x ∷ more)) 0).0 h))
+  nothing_behind (x ∷ next) more h = absurd (omega (arith, (Decides-eqb (length (x ∷ next) + length more) 0).0 h))
+
+  pub body_found : (n : ℕ) (body : BodyView S) (parts : List (List ℕ)) (out : BodyView S) → body_of form n body parts ≡ Ok out → front body ++ join_with_byte 10 parts ≡ spelled_body form out
+  body_found n body [] out e = absurd cc
+  body_found n body (last ∷ []) out e = absurd cc
+  body_found n body (bytes ∷ next ∷ more) out e =
+      let a = then_ok (placed n (one_line form body bytes)) (λ x. cond (not x.0) (body_of form (suc n) x.1 (next ∷ more)) (cond (eqb (length next + length more) 0) (Ok x.1) (Err (Syntax, suc n)))) out e in
+      let b = then_ok (line_of form body bytes) (λ line. add_line form body line >>> λ longer. Ok (is_end line, longer)) a.0 (placed_ok n (one_line form body bytes) a.0 a.1) in
+      let c = then_ok (add_line form body b.0) (λ longer. Ok (is_end b.0, longer)) a.0 b.2 in
+      let line = line_is body bytes b.0 b.1 in
+      let same : (is_end b.0, c.0) ≡ a.0 = ok_is _ a.0 c.2 in
+      let last_ : cond (not (is_end b.0)) (body_of form (suc n) c.0 (next ∷ more)) (cond (eqb (length next + length more) 0) (Ok c.0) (Err (Syntax, suc n))) ≡ Ok out = subst (λ (x : Bool × BodyView S). cond (not x.0) (body_of form (suc n) x.1 (next ∷ more)) (cond (eqb (length next + length more) 0) (Ok x.1) (Err (Syntax, suc n))) ≡ Ok out) (sym same) a.2 in
+      subst (λ (bs : List ℕ). front body ++ (bs ++ (10 ∷ join_with_byte 10 (next ∷ more))) ≡ spelled_body form out) line.1
+      (regroup (front body) (spelled_line form b.0) (join_with_byte 10 (next ∷ more)) (spelled_body form out) (turn (λ longer h. body_found (suc n) longer (next ∷ more) out h) (is_end b.0) c.0 b.0 refl line.0 c.1 last_))
+    where
+      turn : ((longer : BodyView S) → body_of form (suc n) longer (next ∷ more) ≡ Ok out → front longer ++ join_with_byte 10 (next ∷ more) ≡ spelled_body form out) → (ends : Bool) (longer : BodyView S) (line : Line S) → is_end line ≡ ends → may_stand body line ≡ true → add_line form body line ≡ Ok longer
+          → cond (not ends) (body_of form (suc n) longer (next ∷ more)) (cond (eqb (length next + length more) 0) (Ok longer) (Err (Syntax, suc n))) ≡ Ok out
+          → (front body ++ whole_line form line) ++ join_with_byte 10 (next ∷ more) ≡ spelled_body form out
+      turn go false longer line is stands added rest =
+          ap (λ (b : List ℕ). b ++ join_with_byte 10 (next ∷ more)) (sym (adds body line longer stands added is)) ∙ go longer rest
+      turn go true longer line is stands added rest =
+          let a = need_ok (eqb (length next + length more) 0) (Syntax, suc n) (Ok longer) out rest in
+          ap (λ (b : List ℕ). (front body ++ whole_line form line) ++ b) (nothing_behind next more a.0) ∙ append-nil _ ∙ closes body line longer added is ∙ ap (λ (z : BodyView S). spelled_body form z) (ok_is longer out a.1)
+
+header_is : (bytes : List ℕ) (o : Option ℕ) (n : ℕ) → strict_header bytes o ≡ Ok n → spelled_header n ≡ bytes
+header_is bytes None n e = absurd cc
+header_is bytes (Some m) n e =
+    let b = need_ok (bytes_eq (spelled_header m) bytes) NotCanonical (Ok m) n e in
+    subst (λ (z : ℕ). spelled_header z ≡ bytes) (ok_is m n b.1) ((bytes_eq-Decides (spelled_header m) bytes).0 b.0)
+
+-- lines behind a header are those of its version
+version_found : (version : ℕ) (parts : List (List ℕ)) (c : CertView) → version_of version parts ≡ Ok c → spelling c ≡ spelled_header version ++ (10 ∷ join_with_byte 10 parts)
+version_found version parts c e =
+    let b = need_ok (eqb version 1) (Version, 1) (body_of windows 2 nothing parts >>> λ body. Ok (Windows body)) c e in
+    let one : version ≡ 1 = (Decides-eqb version 1).0 b.0 in
+    let d = then_ok (body_of windows 2 nothing parts) (λ body. Ok (Windows body)) c b.1 in
+    let found : join_with_byte 10 parts ≡ spelled_body windows d.0 = body_found windows 2 nothing parts d.0 d.1 in
+    subst (λ (z : CertView). spelling z ≡ spelled_header version ++ (10 ∷ join_with_byte 10 parts)) (ok_is (Windows d.0) c d.2)
+    (ap (λ (n : ℕ). spelled_header n ++ (10 ∷ spelled_body windows d.0)) (sym one) ∙ ap (λ (x : List ℕ). spelled_header version ++ (10 ∷ x)) (sym found))
+
+certificate_found : (parts : List (List ℕ)) (c : CertView) → certificate_of parts ≡ Ok c → spelling c ≡ join_with_byte 10 parts
+certificate_found [] c e = absurd cc
+certificate_found (last ∷ []) c e = absurd cc
+certificate_found (header ∷ next ∷ more) c e =
+    let a = then_ok (placed 1 (header_of header)) (λ version. version_of version (next ∷ more)) c e in
+    let h : spelled_header a.0 ≡ header = header_is header (loose_header (slice_split (λ b. eqb b 32) header)) a.0 (placed_ok 1 (header_of header) a.0 a.1) in
+    version_found a.0 (next ∷ more) c a.2 ∙ ap (λ (x : List ℕ). x ++ (10 ∷ join_with_byte 10 (next ∷ more))) h
+
+-- what is read is spelled so
+pub read_is_spelled : (bytes : List ℕ) (c : CertView) → reading bytes ≡ Ok c → spelling c ≡ bytes
+read_is_spelled bytes c e = certificate_found (slice_split (λ b. eqb b 10) bytes) c e ∙ join_with_byte-slice_split 10 bytes

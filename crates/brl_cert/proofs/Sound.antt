@@ -1,0 +1,294 @@
+-- What is read is a certificate.
+use Rattle.std.proofs.Common.{◌≡◌, ℕ, suc, ◌+◌, ◌<◌, ◌≤◌, Bool, true, false, not, ◌&&◌, cond, eqb, ltb, leb, All, List, [], ◌∷◌, ◌++◌, length, Option, Some, None, Result, Ok, Err, refl, sym, ap, subst, arith}
+use Rattle.std.specs.Prelude.{codes}
+use Rattle.std.specs.Result.{result_ok}
+use Rattle.std.specs.Str.{bytes_eq}
+use Rattle.std.specs.Str.Parse.{digits_value}
+use Rattle.std.specs.Char.{is_digit}
+use Rattle.std.specs.Bool.{Decides}
+use Rattle.std.specs.Cmp.{IsEquivalence, first_so, second_so}
+use Rattle.std.specs.List.{slice_split, list_any, list_all, AllByRecursion, IsDistinct}
+use Rattle.std.proofs.lemmas.Bool.Decides.{Decides-eqb, Decides-ltb, nat_tests}
+use Rattle.std.proofs.lemmas.List.Elements.{All-from_recursion, All-nil, All-push}
+use Rattle.std.proofs.lemmas.Map.Keys.{IsDistinct-push}
+use Rattle.brl_cells.specs.declared.fault.DotsFault.{DotsFault}
+use Rattle.brl_cells.specs.declared.fault.DotsFault.TheVariants.{TooManyCells}
+use Rattle.brl_cells.specs.Dots.{AreCells, limited, cells_reading, parts, reading as dots_reading}
+use Rattle.brl_cert.specs.declared.fault.Wrong.TheVariants.{Syntax, NotCanonical, DuplicateState, DuplicatePair, NoSuchState, WrongCount, Version}
+use Rattle.brl_cert.specs.declared.pair.CertPair.{CertPair}
+use Rattle.brl_cert.specs.contracts.pair.CertPairPartialEq.TheImpl.{eq-value as pair-eq}
+use Rattle.brl_cert.specs.Fields.{◌>>=◌, loose_number, loose_lead, is_char, loose_char, loose_chars, each, number, flag}
+use Rattle.brl_cert.specs.Range.{IsPairOf}
+use Rattle.brl_cert.specs.Lines.{States, BodyView, Line, State, Pair, End, ◌>>>◌, placed, count, spelled_line, loose_line, loose_pair, loose_end, strict_line, line_of, may_stand, is_end, add_line, one_line, body_of}
+use Rattle.brl_cert.specs.declared.state.WindowState.{WindowState}
+use Rattle.brl_cert.specs.Window.{windows, loose_window}
+use Rattle.brl_cert.specs.Reading.{CertView, Windows, reading, certificate_of, version_of, header_of, nothing}
+use Rattle.brl_cert.specs.Valid.{IsBody, IsWindow, IsCertificate}
+use Rattle.brl_cert.proofs.Found.{then_ok, placed_ok, guard_ok, need_ok, ok_is}
+use Rattle.brl_cert.proofs.Window.{CertPair-Decides, WindowState-Decides, flips}
+
+-- ---- What a field can stand for
+
+pub then_some : {A B : Type 0} (o : Option A) (f : A → Option B) (y : B) → (o >>= f) ≡ Some y → (x : A) × (o ≡ Some x) × (f x ≡ Some y)
+then_some (Some x) f y e = (x, refl, e)
+then_some None f y e = absurd cc
+
+pub some_if : {A : Type 0} (b : Bool) (o : Option A) (y : A) → cond b o None ≡ Some y → (b ≡ true) × (o ≡ Some y)
+some_if true o y e = (refl, e)
+some_if false o y e = absurd cc
+
+pub loose_number-small : (radix greatest : ℕ) (field : List ℕ) (n : ℕ) → loose_number radix greatest field ≡ Some n → n ≤ greatest
+loose_number-small radix greatest field n e =
+    let a = some_if (ltb 0 (length field) && list_all (λ c. is_digit c radix) field && leb (digits_value radix field) greatest) (Some (digits_value radix field)) n e in
+    let small : leb (digits_value radix field) greatest ≡ true = second_so (ltb 0 (length field) && list_all (λ c. is_digit c radix) field) _ a.0 in
+    let same : digits_value radix field ≡ n = (let f = a.1 in cc) in
+    subst (λ (m : ℕ). m ≤ greatest) same (grind (arith, nat_tests))
+
+char_valid : (field : List ℕ) (c : ℕ) → loose_char field ≡ Some c → is_char c ≡ true
+char_valid field c e =
+    let a = then_some (loose_number 16 0x10FFFF field) (λ n. cond (is_char n) (Some n) None) c e in
+    let b = some_if (is_char a.0) (Some a.0) c a.2 in
+    let same : a.0 ≡ c = (let f = b.1 in cc) in
+    subst (λ (n : ℕ). is_char n ≡ true) same b.0
+
+each_valid : (fields : List (List ℕ)) (cs : List ℕ) → each loose_char fields ≡ Some cs → AllByRecursion (λ c. is_char c ≡ true) cs
+each_valid [] cs e = (let same : [] ≡ cs = cc in subst (AllByRecursion (λ c. is_char c ≡ true)) same tt)
+each_valid (field ∷ fields) cs e =
+    let a = then_some (loose_char field) (λ c. each loose_char fields >>= λ ds. Some (c ∷ ds)) cs e in
+    let b = then_some (each loose_char fields) (λ ds. Some (a.0 ∷ ds)) cs a.2 in
+    let same : a.0 ∷ b.0 ≡ cs = (let f = b.2 in cc) in
+    subst (AllByRecursion (λ c. is_char c ≡ true)) same (char_valid field a.0 a.1, each_valid fields b.0 b.1)
+
+pub chars_valid : (field : List ℕ) (cs : List ℕ) → loose_chars field ≡ Some cs → All (λ c. is_char c ≡ true) cs
+chars_valid field cs e = All-from_recursion (λ c. is_char c ≡ true) cs (by_test (bytes_eq field (codes "-")) e)
+  where
+    by_test : (t : Bool) → cond t (Some []) (each loose_char (slice_split (λ b. eqb b 46) field)) ≡ Some cs → AllByRecursion (λ c. is_char c ≡ true) cs
+    by_test true e = (let same : [] ≡ cs = cc in subst (AllByRecursion (λ c. is_char c ≡ true)) same tt)
+    by_test false e = each_valid (slice_split (λ b. eqb b 46) field) cs e
+
+-- the law of cells, as a lead needs it
+abbrev pub ReadCells : Type 0
+ReadCells = (most : ℕ) (bytes cells : List ℕ) → dots_reading most bytes ≡ Ok cells → AreCells cells
+
+limited-short : (most : ℕ) (read : Result (List ℕ) DotsFault) (cells : List ℕ) → limited most read ≡ Ok cells → length cells ≤ most
+limited-short most (Err fault) cells e = absurd cc
+limited-short most (Ok read) cells e = by_test (leb (length read) most) refl e
+  where
+    by_test : (t : Bool) → leb (length read) most ≡ t → cond t (Ok read) (Err TooManyCells) ≡ Ok cells → length cells ≤ most
+    by_test true h e = (let same : read ≡ cells = cc in subst (λ (cs : List ℕ). length cs ≤ most) same (grind (arith, nat_tests)))
+    by_test false h e = absurd cc
+
+ok_of : (read : Result (List ℕ) DotsFault) (cells : List ℕ) → result_ok read ≡ Some cells → read ≡ Ok cells
+ok_of (Ok read) cells e = (let same : read ≡ cells = cc in ap (λ (cs : List ℕ). Ok cs) same)
+ok_of (Err fault) cells e = absurd cc
+
+pub lead_valid : ReadCells → (field cells : List ℕ) → loose_lead field ≡ Some cells → (length cells ≤ 1024) × AreCells cells
+lead_valid law field cells e = by_test (bytes_eq field (codes "-")) e
+  where
+    by_test : (t : Bool) → cond t (Some []) (result_ok (dots_reading 1024 field)) ≡ Some cells → (length cells ≤ 1024) × AreCells cells
+    by_test true e = (let same : [] ≡ cells = cc in subst (λ (cs : List ℕ). (length cs ≤ 1024) × AreCells cs) same (omega arith, All-nil (λ c. c < 256)))
+    by_test false e =
+        let read = ok_of (dots_reading 1024 field) cells e in
+        (limited-short 1024 (cells_reading (parts field)) cells read, law 1024 field cells read)
+
+-- ---- Lines
+
+-- what the fields of a line of this form can stand for
+pub record ReadsStates {S : Type 0} (form : States S) (IsState : S → Type 0) : Type 0 where
+  pub valid : (fields : List (List ℕ)) (s : S) → form.loose fields ≡ Some s → IsState s
+  pub equal : IsEquivalence form.same
+
+abbrev IsLine : {S : Type 0} → (S → Type 0) → Line S → Type 0
+IsLine IsState (State s) = IsState s
+IsLine IsState (Pair p) = (length p.lead ≤ 1024) × AreCells p.lead
+IsLine IsState (End s p) = (s ≤ 4294967295) × (p ≤ 4294967295)
+
+-- what stands in a certificate so far
+record IsFront {S : Type 0} (form : States S) (IsState : S → Type 0) (body : BodyView S) : Type 0 where
+  pub each_state : All IsState body.states
+  pub each_pair : All (IsPairOf (length body.states)) body.pairs
+  pub each_lead : All (λ pair. AreCells pair.lead) body.pairs
+  pub states_differ : IsDistinct form.same body.states
+  pub pairs_differ : IsDistinct pair-eq.it body.pairs
+
+module _ {S : Type 0} (form : States S) (IsState : S → Type 0) (cells : ReadCells) (reads : ReadsStates form IsState) (pairs_equal : IsEquivalence pair-eq.it) where
+  pair_valid : (fields : List (List ℕ)) (line : Line S) → loose_pair form fields ≡ Some line → IsLine IsState line
+  pair_valid (a ∷ b ∷ l ∷ []) line e =
+      let x = then_some (count.loose a) (λ ahead. count.loose b >>= λ behind. loose_lead l >>= λ found. Some (Pair (record { ahead = ahead; behind = behind; lead = found }))) line e in
+      let y = then_some (count.loose b) (λ behind. loose_lead l >>= λ found. Some (Pair (record { ahead = x.0; behind = behind; lead = found }))) line x.2 in
+      let z = then_some (loose_lead l) (λ found. Some (Pair (record { ahead = x.0; behind = y.0; lead = found }))) line y.2 in
+      let made : CertPair = record { ahead = x.0; behind = y.0; lead = z.0 } in
+      let same : Pair made ≡ line = (let f = z.2 in cc) in
+      subst (IsLine IsState) same (lead_valid cells l z.0 z.1)
+  pair_valid fields line e = absurd cc
+
+  end_valid : (fields : List (List ℕ)) (line : Line S) → loose_end form fields ≡ Some line → IsLine IsState line
+  end_valid (a ∷ b ∷ []) line e =
+      let x = then_some (count.loose a) (λ n. count.loose b >>= λ m. Some (End n m)) line e in
+      let y = then_some (count.loose b) (λ m. Some (End x.0 m)) line x.2 in
+      let same : End x.0 y.0 ≡ line = (let f = y.2 in cc) in
+      subst (IsLine IsState) same (loose_number-small 10 4294967295 a x.0 x.1, loose_number-small 10 4294967295 b y.0 y.1)
+  end_valid fields line e = absurd cc
+
+  state_valid : (fields : List (List ℕ)) (line : Line S) → (form.loose fields >>= λ s. Some (State s)) ≡ Some line → IsLine IsState line
+  state_valid fields line e =
+      let x = then_some (form.loose fields) (λ s. Some (State s)) line e in
+      let same : State x.0 ≡ line = (let f = x.2 in cc) in
+      subst (IsLine IsState) same (reads.valid fields x.0 x.1)
+
+  line_valid : (fields : List (List ℕ)) (line : Line S) → loose_line form fields ≡ Some line → IsLine IsState line
+  line_valid [] line e = absurd cc
+  line_valid (word ∷ fields) line e = by_state (bytes_eq word (codes "state")) e
+    where
+      by_end : (t : Bool) → cond t (loose_end form fields) None ≡ Some line → IsLine IsState line
+      by_end true e = end_valid fields line e
+      by_end false e = absurd cc
+
+      by_pair : (t : Bool) → cond t (loose_pair form fields) (cond (bytes_eq word (codes "end")) (loose_end form fields) None) ≡ Some line → IsLine IsState line
+      by_pair true e = pair_valid fields line e
+      by_pair false e = by_end (bytes_eq word (codes "end")) e
+
+      by_state : (t : Bool) → cond t (form.loose fields >>= λ s. Some (State s)) (cond (bytes_eq word (codes "pair")) (loose_pair form fields) (cond (bytes_eq word (codes "end")) (loose_end form fields) None)) ≡ Some line → IsLine IsState line
+      by_state true e = state_valid fields line e
+      by_state false e = by_pair (bytes_eq word (codes "pair")) e
+
+  strict_valid : (body : BodyView S) (bytes : List ℕ) (o : Option (Line S)) (line : Line S) → ((read : Line S) → o ≡ Some read → IsLine IsState read) → strict_line form body bytes o ≡ Ok line → (may_stand body line ≡ true) × IsLine IsState line
+  strict_valid body bytes None line valid e = absurd cc
+  strict_valid body bytes (Some x) line valid e =
+      let a = guard_ok (not (may_stand body x)) Syntax (cond (bytes_eq (spelled_line form x) bytes) (Ok x) (Err NotCanonical)) line e in
+      let b = need_ok (bytes_eq (spelled_line form x) bytes) NotCanonical (Ok x) line a.1 in
+      subst (λ (z : Line S). (may_stand body z ≡ true) × IsLine IsState z) (ok_is x line b.1) (stands (may_stand body x) a.0, valid x refl)
+    where
+      stands : (b : Bool) → not b ≡ false → b ≡ true
+      stands true h = refl
+      stands false h = absurd cc
+
+  -- ---- Bodies
+
+  -- what stands there goes on being so behind a line
+  adds_valid : (body : BodyView S) (line : Line S) (longer : BodyView S) → IsFront form IsState body → may_stand body line ≡ true → IsLine IsState line → add_line form body line ≡ Ok longer → IsFront form IsState longer
+  adds_valid body (State s) longer front stands is e =
+      let a = guard_ok (list_any (form.same s) body.states) DuplicateState (Ok (record { states = body.states ++ s ∷ []; pairs = body.pairs })) longer e in
+      let none : body.pairs ≡ [] = empty_is body.pairs stands in
+      subst (IsFront form IsState) (ok_is _ longer a.1) record {
+        each_state = All-push IsState body.states s front.each_state is;
+        each_pair = subst (λ (ps : List CertPair). All (IsPairOf (length (body.states ++ s ∷ []))) ps) (sym none) (All-nil (IsPairOf (length (body.states ++ s ∷ []))));
+        each_lead = front.each_lead;
+        states_differ = IsDistinct-push reads.equal body.states s front.states_differ a.0;
+        pairs_differ = front.pairs_differ;
+      }
+    where
+      empty_is : {A : Type 0} (xs : List A) → eqb (length xs) 0 ≡ true → xs ≡ []
+      empty_is [] h = refl
+      empty_is (x ∷ xs) h = absurd (omega (arith, (Decides-eqb (length (x ∷ xs)) 0).0 h))
+  adds_valid body (Pair p) longer front stands is e =
+      let a = guard_ok (not (ltb p.ahead (length body.states) && ltb p.behind (length body.states))) NoSuchState (cond (list_any (pair-eq.it p) body.pairs) (Err DuplicatePair) (Ok (record { states = body.states; pairs = body.pairs ++ p ∷ [] }))) longer e in
+      let b = guard_ok (list_any (pair-eq.it p) body.pairs) DuplicatePair (Ok (record { states = body.states; pairs = body.pairs ++ p ∷ [] })) longer a.1 in
+      let within = both (ltb p.ahead (length body.states)) (ltb p.behind (length body.states)) a.0 in
+      let one : IsPairOf (length body.states) p = record { ahead = (Decides-ltb p.ahead (length body.states)).0 within.0; behind = (Decides-ltb p.behind (length body.states)).0 within.1; lead = is.0 } in
+      subst (IsFront form IsState) (ok_is _ longer b.1) record {
+        each_state = front.each_state;
+        each_pair = All-push (IsPairOf (length body.states)) body.pairs p front.each_pair one;
+        each_lead = All-push (λ pair. AreCells pair.lead) body.pairs p front.each_lead is.1;
+        states_differ = front.states_differ;
+        pairs_differ = IsDistinct-push pairs_equal body.pairs p front.pairs_differ b.0;
+      }
+    where
+      both : (a b : Bool) → not (a && b) ≡ false → (a ≡ true) × (b ≡ true)
+      both true true h = (refl, refl)
+      both true false h = absurd cc
+      both false b h = absurd cc
+  adds_valid body (End s p) longer front stands is e =
+      let a = need_ok ((eqb (length body.states) s) && (eqb (length body.pairs) p)) WrongCount (Ok body) longer e in
+      subst (IsFront form IsState) (ok_is body longer a.1) front
+
+  -- behind an end line of the right counts nothing is missing
+  closes_valid : (body : BodyView S) (line : Line S) (longer : BodyView S) → IsFront form IsState longer → IsLine IsState line → add_line form body line ≡ Ok longer → is_end line ≡ true → IsBody form IsState longer
+  closes_valid body (State s) longer front is e end = absurd cc
+  closes_valid body (Pair p) longer front is e end = absurd cc
+  closes_valid body (End s p) longer front is e end =
+      let a = need_ok ((eqb (length body.states) s) && (eqb (length body.pairs) p)) WrongCount (Ok body) longer e in
+      let n : length body.states ≡ s = (Decides-eqb (length body.states) s).0 (first_so _ _ a.0) in
+      let m : length body.pairs ≡ p = (Decides-eqb (length body.pairs) p).0 (second_so (eqb (length body.states) s) _ a.0) in
+      let same : body ≡ longer = ok_is body longer a.1 in
+      record {
+        each_state = front.each_state;
+        each_pair = front.each_pair;
+        each_lead = front.each_lead;
+        states_differ = front.states_differ;
+        pairs_differ = front.pairs_differ;
+        few_states = subst (λ (z : BodyView S). length z.states ≤ 4294967295) same (omega (arith, is.0));
+        few_pairs = subst (λ (z : BodyView S). length z.pairs ≤ 4294967295) same (omega (arith, is.1));
+      }
+
+  body_valid : (n : ℕ) (body : BodyView S) (parts : List (List ℕ)) (out : BodyView S) → IsFront form IsState body → body_of form n body parts ≡ Ok out → IsBody form IsState out
+  body_valid n body [] out front e = absurd cc
+  body_valid n body (last ∷ []) out front e = absurd cc
+  body_valid n body (bytes ∷ next ∷ more) out front e =
+      let a = then_ok (placed n (one_line form body bytes)) (λ x. cond (not x.0) (body_of form (suc n) x.1 (next ∷ more)) (cond (eqb (length next + length more) 0) (Ok x.1) (Err (Syntax, suc n)))) out e in
+      let b = then_ok (line_of form body bytes) (λ line. add_line form body line >>> λ longer. Ok (is_end line, longer)) a.0 (placed_ok n (one_line form body bytes) a.0 a.1) in
+      let c = then_ok (add_line form body b.0) (λ longer. Ok (is_end b.0, longer)) a.0 b.2 in
+      let line = strict_valid body bytes (loose_line form (slice_split (λ b. eqb b 32) bytes)) b.0 (line_valid (slice_split (λ b. eqb b 32) bytes)) b.1 in
+      let behind : IsFront form IsState c.0 = adds_valid body b.0 c.0 front line.0 line.1 c.1 in
+      let same : (is_end b.0, c.0) ≡ a.0 = ok_is (is_end b.0, c.0) a.0 c.2 in
+      let last_ : cond (not (is_end b.0)) (body_of form (suc n) c.0 (next ∷ more)) (cond (eqb (length next + length more) 0) (Ok c.0) (Err (Syntax, suc n))) ≡ Ok out = subst (λ (x : Bool × BodyView S). cond (not x.0) (body_of form (suc n) x.1 (next ∷ more)) (cond (eqb (length next + length more) 0) (Ok x.1) (Err (Syntax, suc n))) ≡ Ok out) (sym same) a.2 in
+      turn b.0 (λ h. body_valid (suc n) c.0 (next ∷ more) out behind h) (closes_valid body b.0 c.0 behind line.1 c.1) (is_end b.0) refl last_
+    where
+      turn : {longer : BodyView S} (line : Line S) → (body_of form (suc n) longer (next ∷ more) ≡ Ok out → IsBody form IsState out) → (is_end line ≡ true → IsBody form IsState longer) → (ends : Bool) → is_end line ≡ ends
+          → cond (not ends) (body_of form (suc n) longer (next ∷ more)) (cond (eqb (length next + length more) 0) (Ok longer) (Err (Syntax, suc n))) ≡ Ok out → IsBody form IsState out
+      turn line go close false is rest = go rest
+      turn {longer} line go close true is rest =
+          let a = need_ok (eqb (length next + length more) 0) (Syntax, suc n) (Ok longer) out rest in
+          subst (IsBody form IsState) (ok_is longer out a.1) (close is)
+
+  nothing_front : IsFront form IsState (record { states = []; pairs = [] })
+  unfolding IsDistinct
+  nothing_front = record {
+    each_state = All-nil IsState;
+    each_pair = All-nil (IsPairOf 0);
+    each_lead = All-nil (λ pair. AreCells pair.lead);
+    states_differ = tt;
+    pairs_differ = tt;
+  }
+
+-- ---- Certificates
+
+equal_from_decides : {X : Type 0} (e : X → X → Bool) → ((x y : X) → Decides (e x y) (x ≡ y)) → IsEquivalence e
+equal_from_decides e decides = record {
+  refl = λ x. (decides x x).1 refl;
+  symm = flips e decides;
+  congr = λ x y z h. ap (λ w. e w z) ((decides x y).0 h);
+}
+
+window_valid : (fields : List (List ℕ)) (s : WindowState) → loose_window fields ≡ Some s → IsWindow s
+window_valid (b ∷ n ∷ f ∷ c ∷ []) s e =
+    let w = then_some ((number 255).loose b) (λ before. flag.loose n >>= λ numeric. flag.loose f >>= λ ended. loose_chars c >>= λ coming. Some (record { before = record { 0 = before }; numeric = numeric; ended = ended; coming = coming })) s e in
+    let x = then_some (flag.loose n) (λ numeric. flag.loose f >>= λ ended. loose_chars c >>= λ coming. Some (record { before = record { 0 = w.0 }; numeric = numeric; ended = ended; coming = coming })) s w.2 in
+    let y = then_some (flag.loose f) (λ ended. loose_chars c >>= λ coming. Some (record { before = record { 0 = w.0 }; numeric = x.0; ended = ended; coming = coming })) s x.2 in
+    let z = then_some (loose_chars c) (λ coming. Some (record { before = record { 0 = w.0 }; numeric = x.0; ended = y.0; coming = coming })) s y.2 in
+    let made : WindowState = record { before = record { 0 = w.0 }; numeric = x.0; ended = y.0; coming = z.0 } in
+    let same : made ≡ s = (let g = z.2 in cc) in
+    let small : w.0 ≤ 255 = loose_number-small 10 255 b w.0 w.1 in
+    subst IsWindow same record { before = omega (arith, small); coming = chars_valid c z.0 z.1 }
+window_valid fields s e = absurd cc
+
+reads_windows : ReadsStates windows IsWindow
+reads_windows = record { valid = window_valid; equal = equal_from_decides windows.same WindowState-Decides }
+
+version_valid : ReadCells → (version : ℕ) (parts : List (List ℕ)) (c : CertView) → version_of version parts ≡ Ok c → IsCertificate c
+version_valid cells version parts c e =
+    let b = need_ok (eqb version 1) (Version, 1) (body_of windows 2 nothing parts >>> λ body. Ok (Windows body)) c e in
+    let d = then_ok (body_of windows 2 nothing parts) (λ body. Ok (Windows body)) c b.1 in
+    let pairs_equal = equal_from_decides pair-eq.it CertPair-Decides in
+    subst IsCertificate (ok_is (Windows d.0) c d.2) (body_valid windows IsWindow cells reads_windows pairs_equal 2 nothing parts d.0 (nothing_front windows IsWindow cells reads_windows pairs_equal) d.1)
+
+parts_valid : ReadCells → (parts : List (List ℕ)) (c : CertView) → certificate_of parts ≡ Ok c → IsCertificate c
+parts_valid cells [] c e = absurd cc
+parts_valid cells (last ∷ []) c e = absurd cc
+parts_valid cells (header ∷ next ∷ more) c e =
+    let a = then_ok (placed 1 (header_of header)) (λ version. version_of version (next ∷ more)) c e in
+    version_valid cells a.0 (next ∷ more) c a.2
+
+-- what is read is a certificate
+pub read_is_certificate : ReadCells → (bytes : List ℕ) (c : CertView) → reading bytes ≡ Ok c → IsCertificate c
+read_is_certificate cells bytes c e = parts_valid cells (slice_split (λ b. eqb b 10) bytes) c e

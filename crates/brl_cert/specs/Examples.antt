@@ -1,0 +1,102 @@
+-- Worked certificates and faults, written out as lines.
+use Rattle.std.specs.Prelude.{◌≡◌, ℕ, Bool, true, false, List, [], ◌∷◌, ◌++◌, map, Result, Err, codes}
+use Rattle.std.specs.List.{flat_map}
+use Rattle.brl_cert.specs.declared.fault.Wrong.{Wrong}
+use Rattle.brl_cert.specs.declared.fault.Wrong.TheVariants.{Version, Syntax, NotCanonical, DuplicateState, DuplicatePair, NoSuchState, WrongCount, Truncated}
+use Rattle.brl_cert.specs.declared.state.WindowState.{WindowState}
+use Rattle.brl_cert.specs.Reading.{CertView, Windows, reading}
+
+-- the bytes of lines, each with its line feed
+abbrev pub lines : List (List ℕ) → List ℕ
+lines texts = flat_map (λ text. text ++ 10 ∷ []) texts
+
+abbrev pub state : ℕ → Bool → List ℕ → WindowState
+state before ended coming = record { before = record { 0 = before }; numeric = false; ended = ended; coming = coming }
+
+-- three states and a pair
+abbrev pub three_states : CertView
+three_states = Windows (record {
+  states = state 1 false [] ∷ state 8 false (97 ∷ []) ∷ state 8 true [] ∷ [];
+  pairs = record { ahead = 1; behind = 2; lead = [] } ∷ [];
+})
+
+-- the lines before its end line
+abbrev pub front : List (List ℕ)
+front = codes "BRLCERT 1" ∷ codes "state 1 0 0 -" ∷ codes "state 8 0 0 61" ∷ codes "state 8 0 1 -" ∷ codes "pair 1 2 -" ∷ []
+
+-- its lines
+abbrev pub three_lines : List (List ℕ)
+three_lines = front ++ codes "end 3 1" ∷ []
+
+-- the start alone, which certifies the empty table
+abbrev pub start_alone : CertView
+start_alone = Windows (record { states = state 1 false [] ∷ []; pairs = [] })
+
+-- bytes, what is wrong with their first faulty line, and its number
+pub record Row : Type 0 where
+  pub bytes : List ℕ
+  pub wrong : Wrong
+  pub line : ℕ
+
+abbrev pub row : List ℕ → Wrong → ℕ → Row
+row bytes wrong line = record { bytes = bytes; wrong = wrong; line = line }
+
+abbrev pub faulty : List Row
+faulty =
+    -- no bytes at all
+    row [] Truncated 1
+    -- a last line without its line feed
+    ∷ row (lines front ++ codes "end 3 ") Truncated 6
+    -- a byte behind the end line
+    ∷ row (lines three_lines ++ codes "x") Syntax 7
+    -- the end line is missing
+    ∷ row (lines (codes "BRLCERT 1" ∷ codes "state 1 0 0 -" ∷ codes "state 8 0 0 61" ∷ codes "state 8 0 1 -" ∷ codes "pair 1 2 -" ∷ [])) Truncated 6
+    -- a number with a leading zero
+    ∷ row (lines (codes "BRLCERT 1" ∷ codes "state 01 0 0 -" ∷ codes "state 8 0 0 61" ∷ codes "state 8 0 1 -" ∷ codes "pair 1 2 -" ∷ codes "end 3 1" ∷ [])) NotCanonical 2
+    -- a character with a leading zero
+    ∷ row (lines (codes "BRLCERT 1" ∷ codes "state 1 0 0 -" ∷ codes "state 8 0 0 061" ∷ codes "state 8 0 1 -" ∷ codes "pair 1 2 -" ∷ codes "end 3 1" ∷ [])) NotCanonical 3
+    -- a capital hexadecimal digit
+    ∷ row (lines (codes "BRLCERT 1" ∷ codes "state 1 0 0 -" ∷ codes "state 8 0 0 6A" ∷ codes "state 8 0 1 -" ∷ codes "pair 1 2 -" ∷ codes "end 3 1" ∷ [])) NotCanonical 3
+    -- a number that is no character
+    ∷ row (lines (codes "BRLCERT 1" ∷ codes "state 1 0 0 -" ∷ codes "state 8 0 0 d800" ∷ codes "state 8 0 1 -" ∷ codes "pair 1 2 -" ∷ codes "end 3 1" ∷ [])) Syntax 3
+    -- a flag of two digits
+    ∷ row (lines (codes "BRLCERT 1" ∷ codes "state 1 0 0 -" ∷ codes "state 8 00 0 61" ∷ codes "state 8 0 1 -" ∷ codes "pair 1 2 -" ∷ codes "end 3 1" ∷ [])) Syntax 3
+    -- a set of classes over 255
+    ∷ row (lines (codes "BRLCERT 1" ∷ codes "state 1 0 0 -" ∷ codes "state 256 0 0 61" ∷ codes "state 8 0 1 -" ∷ codes "pair 1 2 -" ∷ codes "end 3 1" ∷ [])) Syntax 3
+    -- two blanks between fields
+    ∷ row (lines (codes "BRLCERT 1" ∷ codes "state 1 0 0 -" ∷ codes "state 8  0 0 61" ∷ codes "state 8 0 1 -" ∷ codes "pair 1 2 -" ∷ codes "end 3 1" ∷ [])) Syntax 3
+    -- a state twice
+    ∷ row (lines (codes "BRLCERT 1" ∷ codes "state 1 0 0 -" ∷ codes "state 8 0 0 61" ∷ codes "state 8 0 0 61" ∷ codes "state 8 0 1 -" ∷ codes "pair 1 2 -" ∷ codes "end 3 1" ∷ [])) DuplicateState 4
+    -- a pair twice
+    ∷ row (lines (codes "BRLCERT 1" ∷ codes "state 1 0 0 -" ∷ codes "state 8 0 0 61" ∷ codes "state 8 0 1 -" ∷ codes "pair 1 2 -" ∷ codes "pair 1 2 -" ∷ codes "end 3 1" ∷ [])) DuplicatePair 6
+    -- a pair of a state that is not there
+    ∷ row (lines (codes "BRLCERT 1" ∷ codes "state 1 0 0 -" ∷ codes "state 8 0 0 61" ∷ codes "state 8 0 1 -" ∷ codes "pair 1 3 -" ∷ codes "end 3 1" ∷ [])) NoSuchState 5
+    -- such a pair twice: the state is missed first
+    ∷ row (lines (codes "BRLCERT 1" ∷ codes "state 1 0 0 -" ∷ codes "state 8 0 0 61" ∷ codes "state 8 0 1 -" ∷ codes "pair 1 3 -" ∷ codes "pair 1 3 -" ∷ codes "end 3 1" ∷ [])) NoSuchState 5
+    -- dots out of order
+    ∷ row (lines (codes "BRLCERT 1" ∷ codes "state 1 0 0 -" ∷ codes "state 8 0 0 61" ∷ codes "state 8 0 1 -" ∷ codes "pair 1 2 21" ∷ codes "end 3 1" ∷ [])) NotCanonical 5
+    -- a dot twice
+    ∷ row (lines (codes "BRLCERT 1" ∷ codes "state 1 0 0 -" ∷ codes "state 8 0 0 61" ∷ codes "state 8 0 1 -" ∷ codes "pair 1 2 11" ∷ codes "end 3 1" ∷ [])) Syntax 5
+    -- a number of a state over its range
+    ∷ row (lines (codes "BRLCERT 1" ∷ codes "state 1 0 0 -" ∷ codes "state 8 0 0 61" ∷ codes "state 8 0 1 -" ∷ codes "pair 4294967296 0 -" ∷ codes "end 3 1" ∷ [])) Syntax 5
+    -- another number of pairs
+    ∷ row (lines (codes "BRLCERT 1" ∷ codes "state 1 0 0 -" ∷ codes "state 8 0 0 61" ∷ codes "state 8 0 1 -" ∷ codes "pair 1 2 -" ∷ codes "end 3 2" ∷ [])) WrongCount 6
+    -- a blank behind the end line
+    ∷ row (lines (codes "BRLCERT 1" ∷ codes "state 1 0 0 -" ∷ codes "state 8 0 0 61" ∷ codes "state 8 0 1 -" ∷ codes "pair 1 2 -" ∷ codes "end 3 1 " ∷ [])) Syntax 6
+    -- a state behind a pair
+    ∷ row (lines (codes "BRLCERT 1" ∷ codes "state 1 0 0 -" ∷ codes "state 8 0 0 61" ∷ codes "state 8 0 1 -" ∷ codes "pair 1 2 -" ∷ codes "state 9 0 0 -" ∷ codes "end 3 1" ∷ [])) Syntax 6
+    -- a line behind the end line
+    ∷ row (lines (codes "BRLCERT 1" ∷ codes "state 1 0 0 -" ∷ codes "state 8 0 0 61" ∷ codes "state 8 0 1 -" ∷ codes "pair 1 2 -" ∷ codes "end 3 1" ∷ codes "" ∷ [])) Syntax 7
+    -- a version that is not known yet
+    ∷ row (lines (codes "BRLCERT 2" ∷ codes "state 1 0 0 -" ∷ codes "state 8 0 0 61" ∷ codes "state 8 0 1 -" ∷ codes "pair 1 2 -" ∷ codes "end 3 1" ∷ [])) Version 1
+    -- a version that is not known
+    ∷ row (lines (codes "BRLCERT 9" ∷ codes "state 1 0 0 -" ∷ codes "state 8 0 0 61" ∷ codes "state 8 0 1 -" ∷ codes "pair 1 2 -" ∷ codes "end 3 1" ∷ [])) Version 1
+    -- a version with a leading zero: its spelling is looked at first
+    ∷ row (lines (codes "BRLCERT 09" ∷ codes "state 1 0 0 -" ∷ codes "state 8 0 0 61" ∷ codes "state 8 0 1 -" ∷ codes "pair 1 2 -" ∷ codes "end 3 1" ∷ [])) NotCanonical 1
+    -- a version over its range
+    ∷ row (lines (codes "BRLCERT 4294967296" ∷ codes "state 1 0 0 -" ∷ codes "state 8 0 0 61" ∷ codes "state 8 0 1 -" ∷ codes "pair 1 2 -" ∷ codes "end 3 1" ∷ [])) Syntax 1
+    ∷ []
+
+-- each row is refused as it says
+abbrev pub AreRefused : List Row → Type 0
+AreRefused rows = map (λ r. reading r.bytes) rows ≡ map (λ r. let fault : Result CertView (Wrong × ℕ) = Err (r.wrong, r.line) in fault) rows

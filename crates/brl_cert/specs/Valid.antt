@@ -1,0 +1,29 @@
+-- What has a spelling: certificates in range and without repeats.
+use Rattle.std.specs.Prelude.{◌≡◌, ◌<◌, ◌≤◌, All, true, length}
+use Rattle.std.specs.List.{IsDistinct}
+use Rattle.brl_cells.specs.Dots.{AreCells}
+use Rattle.brl_cert.specs.declared.state.WindowState.{WindowState}
+use Rattle.brl_cert.specs.contracts.pair.CertPairPartialEq.TheImpl.{eq-value as pair-eq}
+use Rattle.brl_cert.specs.Fields.{is_char}
+use Rattle.brl_cert.specs.Range.{IsPairOf}
+use Rattle.brl_cert.specs.Lines.{States, BodyView}
+use Rattle.brl_cert.specs.Window.{windows}
+use Rattle.brl_cert.specs.Reading.{CertView, Windows}
+
+-- a state's classes are a number of eight bits, and its characters are characters
+pub record IsWindow (s : WindowState) : Type 0 where
+  pub before : s.before.0 < 256
+  pub coming : All (λ c. is_char c ≡ true) s.coming
+
+-- states and pairs without repeats, in range, and at most 4,294,967,295 of each
+pub record IsBody {S : Type 0} (form : States S) (IsState : S → Type 0) (body : BodyView S) : Type 0 where
+  pub each_state : All IsState body.states
+  pub each_pair : All (IsPairOf (length body.states)) body.pairs
+  pub each_lead : All (λ pair. AreCells pair.lead) body.pairs
+  pub states_differ : IsDistinct form.same body.states
+  pub pairs_differ : IsDistinct pair-eq.it body.pairs
+  pub few_states : length body.states ≤ 4294967295
+  pub few_pairs : length body.pairs ≤ 4294967295
+
+abbrev pub IsCertificate : CertView → Type 0
+IsCertificate (Windows body) = IsBody windows IsWindow body

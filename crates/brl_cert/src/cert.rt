@@ -1,0 +1,9 @@
+//! Certificates.
+use crate::{Body, WindowState};
+
+/// A certificate, by the machine whose states it lists.
+#[derive(Drop)]
+pub enum Cert {
+    /// Version 1: states of a window machine.
+    Window(Body<WindowState>),
+}

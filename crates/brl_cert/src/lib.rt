@@ -1,0 +1,22 @@
+//! Certificates: the states and pairs that prove a table unambiguous, written down so that anyone can check them; their
+//! one spelling as bytes, and reading it.
+#![tactic(auto)]
+
+mod body;
+mod cert;
+mod fault;
+mod laws;
+mod members;
+mod pair;
+mod state;
+
+pub use body::Body;
+pub use cert::Cert;
+pub use fault::{CertFault, Wrong};
+pub use laws::certificate_laws;
+pub use members::Members;
+pub use pair::CertPair;
+pub use state::WindowState;
+
+#[cfg(test)]
+mod tests;

@@ -1,0 +1,83 @@
+//! Lists without repeats.
+ghost use Rattle.std.specs.Prelude.{◌≡◌, ◌↔◌, ℕ, List, [], ◌∷◌, ◌++◌, length, IfSome, IfOk, IsTrue, OnErr, Some, true, if◌then◌else◌, not, slice_get};
+ghost use Rattle.std.specs.List.{IsDistinct, list_any};
+ghost use Rattle.std.specs.Option.{option_copied};
+
+use indexmap::IndexSet;
+use std::alloc::{AllocError, Global};
+use std::hash::Hash;
+use std::marker::Model;
+
+/// A list without repeats, in which members are found by their hashes. A contract sees the list.
+#[derive(Drop)]
+pub struct Members<T: Eq + Hash> {
+    items: IndexSet<T>,
+}
+
+impl<T: Eq + Hash> Model for Members<T> {
+    ghost Value = { List T };
+
+    ghost view = { λ m. m.items.keys };
+
+    ghost invariant = { λ m. IsDistinct T.eq m.items.keys };
+}
+
+impl<T: Eq + Hash> Members<T> {
+    /// No members. It takes no memory.
+    pub fn new(alloc: Global) -> Members<T>
+        ensures { result ≡ [] }
+    {
+        Members {
+            items: IndexSet::new(alloc),
+        }
+    }
+
+    /// How many members there are.
+    pub fn len(&self) -> usize
+        ensures { result ≡ length self.now }
+    {
+        self.items.len()
+    }
+
+    /// Whether there are no members.
+    pub fn is_empty(&self) -> bool
+        ensures { IsTrue result ↔ (self.now ≡ []) }
+    {
+        self.items.is_empty()
+    }
+
+    /// The member with this number, from 0.
+    pub fn get(&self, index: usize) -> Option<&T>
+        ensures { option_copied result ≡ slice_get self.now index }
+    {
+        self.items.get_index(index)
+    }
+
+    /// The number of the member that equals the value, from 0.
+    pub fn index_of(&self, value: &T) -> Option<usize>
+        ensures found { IfSome result (λ k. (x : T) × (slice_get self.now k ≡ Some x) × (T.eq value.now x ≡ true)) }
+        ensures at { (k : ℕ) (x : T) → slice_get self.now k ≡ Some x → T.eq value.now x ≡ true → result ≡ Some k }
+    {
+        self.items.get_index_of(value)
+    }
+
+    /// The members in order, no two of them equal.
+    pub fn as_slice(&self) -> &[T]
+        ensures members { result.now ≡ self.now }
+        ensures distinct { IsDistinct T.eq self.now }
+    {
+        self.items.as_slice()
+    }
+
+    /// Adds a value at the end, and answers whether it was added: one that equals a member is dropped. After `AllocError`
+    /// the members are as they were.
+    pub fn insert(&mut self, value: T) -> Result<bool, AllocError>
+    where
+        T: Drop,
+        ensures added { IfOk result (λ added. added ≡ not (list_any (T.eq value) self.old)) }
+        ensures members { IfOk result (λ added. self.new ≡ (if added then self.old ++ value ∷ [] else self.old)) }
+        ensures err { OnErr result (self.new ≡ self.old) }
+    {
+        Ok(self.items.insert_full(value)?.1)
+    }
+}
