@@ -13,7 +13,9 @@ use Rattle.brl_cert.specs.declared.fault.Wrong.TheVariants.{Syntax, NotCanonical
 use Rattle.brl_cert.specs.declared.pair.CertPair.{CertPair}
 use Rattle.brl_cert.specs.contracts.pair.CertPairPartialEq.TheImpl.{eq-value as pair-eq}
 use Rattle.brl_cert.specs.Fields.{lead}
-use Rattle.brl_cert.specs.Lines.{States, BodyView, Line, State, Pair, End, count, fields_of, spelled_line, whole_line, spelled_body, loose_line, strict_line, line_of, may_stand, is_end, add_line, body_of}
+use Rattle.brl_cert.specs.declared.line.Line.{Line}
+use Rattle.brl_cert.specs.declared.line.Line.TheVariants.{State, Pair, End}
+use Rattle.brl_cert.specs.Lines.{States, BodyView, count, fields_of, spelled_line, whole_line, spelled_body, loose_line, strict_line, line_of, may_stand, is_end, add_line, body_of}
 use Rattle.brl_cells.specs.Dots.{AreCells}
 use Rattle.std.proofs.lemmas.List.Elements.{recursion_from_All}
 use Rattle.brl_cert.specs.Range.{IsPairOf}

@@ -11,7 +11,9 @@ use Rattle.brl_cert.specs.declared.fault.Wrong.TheVariants.{Syntax, NotCanonical
 use Rattle.brl_cert.specs.declared.pair.CertPair.{CertPair}
 use Rattle.std.specs.Cmp.{first_so, second_so}
 use Rattle.brl_cert.specs.contracts.pair.CertPairPartialEq.TheImpl.{eq-value as pair-eq}
-use Rattle.brl_cert.specs.Lines.{States, BodyView, Line, State, Pair, End, placed, ◌>>>◌, spelled_line, whole_line, spelled_body, strict_line, line_of, may_stand, loose_line, is_end, add_line, one_line, body_of}
+use Rattle.brl_cert.specs.declared.line.Line.{Line}
+use Rattle.brl_cert.specs.declared.line.Line.TheVariants.{State, Pair, End}
+use Rattle.brl_cert.specs.Lines.{States, BodyView, placed, ◌>>>◌, spelled_line, whole_line, spelled_body, strict_line, line_of, may_stand, loose_line, is_end, add_line, one_line, body_of}
 use Rattle.brl_cert.specs.Reading.{CertView, Windows, spelling, reading, certificate_of, spelled_header, strict_header, header_of, loose_header, nothing, version_of}
 use Rattle.brl_cert.specs.Window.{windows}
 

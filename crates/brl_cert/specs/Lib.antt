@@ -5,3 +5,4 @@ pub mod Window
 pub mod Reading
 pub mod Valid
 pub mod Examples
+pub mod Views

@@ -6,6 +6,8 @@ use Rattle.std.specs.List.{slice_split, join_with_byte, flat_map, list_any}
 use Rattle.brl_cert.specs.declared.fault.Wrong.{Wrong}
 use Rattle.brl_cert.specs.declared.fault.Wrong.TheVariants.{Syntax, NotCanonical, DuplicateState, DuplicatePair, NoSuchState, WrongCount, Truncated}
 use Rattle.brl_cert.specs.declared.pair.CertPair.{CertPair}
+use Rattle.brl_cert.specs.declared.line.Line.{Line}
+use Rattle.brl_cert.specs.declared.line.Line.TheVariants.{State, Pair, End}
 use Rattle.brl_cert.specs.contracts.pair.CertPairPartialEq.TheImpl.{eq-value as pair-eq}
 use Rattle.brl_cert.specs.Fields.{◌>>=◌, Form, number, lead}
 
@@ -20,12 +22,6 @@ pub record States (S : Type 0) : Type 0 where
 pub record BodyView (S : Type 0) : Type 0 where
   pub states : List S
   pub pairs : List CertPair
-
--- a line behind the header
-pub data Line (S : Type 0) : Type 0 where
-  State : S → Line S
-  Pair : CertPair → Line S
-  End : ℕ → ℕ → Line S
 
 -- numbers of states, and counts
 abbrev pub count : Form ℕ
@@ -54,13 +50,23 @@ module _ {S : Type 0} where
   is_end (Pair p) = false
   is_end (End s p) = true
 
-module _ {S : Type 0} (form : States S) where
-  -- ---- Spelling
+-- ---- Spelling
 
+-- fields, each behind a blank
+abbrev pub behind_blanks : List (List ℕ) → List ℕ
+behind_blanks fields = flat_map (λ field. 32 ∷ field) fields
+
+abbrev pub pair_fields : CertPair → List (List ℕ)
+pair_fields p = codes "pair" ∷ decimal p.ahead ∷ decimal p.behind ∷ lead.spell p.lead ∷ []
+
+abbrev pub end_fields : ℕ → ℕ → List (List ℕ)
+end_fields s p = codes "end" ∷ decimal s ∷ decimal p ∷ []
+
+module _ {S : Type 0} (form : States S) where
   abbrev pub fields_of : Line S → List (List ℕ)
   fields_of (State s) = codes "state" ∷ form.fields s
-  fields_of (Pair p) = codes "pair" ∷ decimal p.ahead ∷ decimal p.behind ∷ lead.spell p.lead ∷ []
-  fields_of (End s p) = codes "end" ∷ decimal s ∷ decimal p ∷ []
+  fields_of (Pair p) = pair_fields p
+  fields_of (End s p) = end_fields s p
 
   -- a line without its line feed: its fields, parted by one blank
   abbrev pub spelled_line : Line S → List ℕ

@@ -5,10 +5,14 @@
 mod body;
 mod cert;
 mod fault;
+mod field;
 mod laws;
+mod line;
 mod members;
 mod pair;
 mod state;
+mod state_line;
+mod writing;
 
 pub use body::Body;
 pub use cert::Cert;
@@ -17,6 +21,8 @@ pub use laws::certificate_laws;
 pub use members::Members;
 pub use pair::CertPair;
 pub use state::WindowState;
+pub use state_line::StateLine;
+pub use writing::write_cert;
 
 #[cfg(test)]
 mod tests;

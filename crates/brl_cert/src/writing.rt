@@ -1,0 +1,129 @@
+//! Writing certificates.
+ghost use Rattle.std.specs.Prelude.{◌≡◌, ◌++◌, ◌∷◌, [], All, IfOk, OnOk, Ok, codes};
+ghost use Rattle.std.specs.List.{flat_map, join_with_byte};
+ghost use Rattle.brl_cells.specs.Dots.{AreCells};
+ghost use Rattle.brl_cert.specs.Lines.{end_fields, pair_fields, spelled_body, spelled_line, whole_line};
+ghost use Rattle.brl_cert.specs.Reading.{Windows, reading, spelling};
+ghost use Rattle.brl_cert.specs.Valid.{IsBody};
+ghost use Rattle.brl_cert.specs.Views.{cert_view, listed};
+ghost use Rattle.brl_cert.specs.declared.line.Line.TheVariants.{State, Pair, End};
+
+use crate::field::{push_lead, push_number};
+use crate::line::Line;
+use crate::{Body, Cert, CertPair, StateLine, WindowState, certificate_laws};
+use std::alloc::{AllocError, Global};
+
+/// Writes a state line without its line feed.
+fn push_state<S: StateLine>(alloc: Global, out: &mut Vec<u8>, state: &S) -> Result<(), AllocError>
+    ensures written { OnOk result (out.new.items ≡ out.old.items ++ join_with_byte 32 (codes "state" ∷ S.form.fields state.now)) }
+    ensures in_range { OnOk result (S.is_state state.now) }
+{
+    out.extend_from_slice(b"state")?;
+    state.push_fields(alloc, out)
+}
+
+/// Writes a pair line without its line feed.
+fn push_pair(alloc: Global, out: &mut Vec<u8>, pair: &CertPair) -> Result<(), AllocError>
+    ensures written { OnOk result (out.new.items ≡ out.old.items ++ join_with_byte 32 (pair_fields pair.now)) }
+    ensures in_range { OnOk result (AreCells pair.now.lead) }
+{
+    out.extend_from_slice(b"pair ")?;
+    push_number(alloc, out, pair.ahead)?;
+    out.push(b' ')?;
+    push_number(alloc, out, pair.behind)?;
+    out.push(b' ')?;
+    push_lead(alloc, out, pair.lead.as_slice())
+}
+
+/// Writes an end line without its line feed.
+fn push_end(alloc: Global, out: &mut Vec<u8>, states: u32, pairs: u32) -> Result<(), AllocError>
+    ensures { OnOk result (out.new.items ≡ out.old.items ++ join_with_byte 32 (end_fields states pairs)) }
+{
+    out.extend_from_slice(b"end ")?;
+    push_number(alloc, out, states)?;
+    out.push(b' ')?;
+    push_number(alloc, out, pairs)
+}
+
+/// Writes a line without its line feed.
+pub fn push_line<S: StateLine>(
+    alloc: Global,
+    out: &mut Vec<u8>,
+    line: &Line<S>,
+) -> Result<(), AllocError>
+    ensures { OnOk result (out.new.items ≡ out.old.items ++ spelled_line S.form line.now) }
+{
+    match line {
+        Line::State(state) => push_state(alloc, out, state),
+        Line::Pair(pair) => push_pair(alloc, out, pair),
+        Line::End(states, pairs) => push_end(alloc, out, *states, *pairs),
+    }
+}
+
+/// Writes the state lines.
+fn push_states<S: StateLine>(
+    alloc: Global,
+    out: &mut Vec<u8>,
+    states: &[S],
+) -> Result<(), AllocError>
+    ensures written { OnOk result (out.new.items ≡ out.old.items ++ flat_map (λ s. whole_line S.form (State s)) states.now) }
+    ensures in_range { OnOk result (All S.is_state states.now) }
+{
+    for state in states {
+        push_state(alloc, out, state)?;
+        out.push(b'\n')?;
+    }
+    Ok(())
+}
+
+/// Writes the pair lines.
+fn push_pairs(alloc: Global, out: &mut Vec<u8>, pairs: &[CertPair]) -> Result<(), AllocError>
+    ensures written { OnOk result (out.new.items ≡ out.old.items ++ flat_map (λ p. join_with_byte 32 (pair_fields p) ++ 10 ∷ []) pairs.now) }
+    ensures in_range { OnOk result (All (λ p. AreCells p.lead) pairs.now) }
+{
+    for pair in pairs {
+        push_pair(alloc, out, pair)?;
+        out.push(b'\n')?;
+    }
+    Ok(())
+}
+
+/// Writes the lines behind the header.
+fn push_body<S: StateLine>(
+    alloc: Global,
+    out: &mut Vec<u8>,
+    body: &Body<S>,
+) -> Result<(), AllocError>
+    ensures written { OnOk result (out.new.items ≡ out.old.items ++ spelled_body S.form (listed body.now.states body.now.pairs)) }
+    ensures in_range { OnOk result (IsBody S.form S.is_state (listed body.now.states body.now.pairs)) }
+{
+    let states = body.states.as_slice();
+    let pairs = body.pairs.as_slice();
+    push_states(alloc, out, states)?;
+    push_pairs(alloc, out, pairs)?;
+    push_end(alloc, out, states.len() as u32, pairs.len() as u32)?;
+    out.push(b'\n')?;
+    Ok(())
+}
+
+/// The bytes of a certificate of version 1.
+fn write_windows(alloc: Global, body: &Body<WindowState>) -> Result<Vec<u8>, AllocError>
+    ensures spelled { IfOk result (λ bytes. bytes.items ≡ spelling (Windows (listed body.now.states body.now.pairs))) }
+    ensures read_back { IfOk result (λ bytes. reading bytes.items ≡ Ok (Windows (listed body.now.states body.now.pairs))) }
+{
+    certificate_laws();
+    let mut out = Vec::from_slice(alloc, b"BRLCERT 1\n")?;
+    push_body(alloc, &mut out, body)?;
+    Ok(out)
+}
+
+/// The bytes of a certificate: its one spelling. `AllocError` where they find no memory.
+pub fn write_cert(alloc: Global, cert: &Cert) -> Result<Vec<u8>, AllocError>
+    ensures spelled { IfOk result (λ bytes. bytes.items ≡ spelling (cert_view cert.now)) }
+    // The certificate is read back from them.
+    ensures read_back { IfOk result (λ bytes. reading bytes.items ≡ Ok (cert_view cert.now)) }
+{
+    match cert {
+        Cert::Window(body) => write_windows(alloc, body),
+    }
+}
