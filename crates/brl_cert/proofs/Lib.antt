@@ -8,3 +8,6 @@ pub mod Rows
 pub mod Numbers
 pub mod Lists
 pub mod Written
+pub mod Each
+pub mod Ascii
+pub mod Turns

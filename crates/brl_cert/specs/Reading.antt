@@ -57,6 +57,6 @@ abbrev pub reading : List ℕ → Result CertView (Wrong × ℕ)
 reading bytes = certificate_of (slice_split (λ b. b == 10) bytes)
 
 -- a fault is the one that decides, or memory was wanting, which it may at any bytes
-abbrev pub IsFaultOf : Result CertView (Wrong × ℕ) → CertFault → Type 0
+abbrev pub IsFaultOf : {A : Type 0} → Result A (Wrong × ℕ) → CertFault → Type 0
 IsFaultOf read Memory = Unit {0}
 IsFaultOf read (Refused wrong line) = read ≡ Err (wrong, line)

@@ -1,5 +1,5 @@
 //! Fields of a line: reading their loose form, and writing their spelling.
-ghost use Rattle.std.specs.Prelude.{◌≡◌, ◌<◌, ◌≤◌, ◌^◌, ◌++◌, ◌∷◌, ◌==◌, map, IfOk, OnOk, All, true, false};
+ghost use Rattle.std.specs.Prelude.{◌≡◌, ◌<◌, ◌≤◌, ◌^◌, ◌++◌, ◌∷◌, ◌==◌, map, IfOk, IfSome, OnOk, All, true, false};
 ghost use Rattle.std.specs.Char.{digit_value};
 ghost use Rattle.std.specs.Fmt.{decimal, digits};
 ghost use Rattle.std.specs.List.{flat_map, slice_split};
@@ -26,7 +26,8 @@ pub fn read_number(field: &[u8], radix: u64, greatest: u64) -> Option<u64>
     requires radix_from { 1 ≤ radix }
     requires radix_to { radix ≤ 16 }
     requires greatest { greatest < 2 ^ 32 }
-    ensures { result ≡ loose_number radix greatest field.now }
+    ensures number { result ≡ loose_number radix greatest field.now }
+    ensures limited { IfSome result (λ number. number ≤ greatest) }
 {
     if field.is_empty() {
         return None;

@@ -1,12 +1,14 @@
 //! States as a version of certificates writes them.
-ghost use Rattle.std.specs.Prelude.{◌≡◌, ◌++◌, ℕ, Bool, OnOk};
+ghost use Rattle.std.specs.Prelude.{◌≡◌, ◌++◌, ◌∷◌, [], ℕ, Bool, map, IfOk, OnOk};
 ghost use Rattle.brl_cert.specs.Lines.{States, behind_blanks};
 ghost use Rattle.brl_cert.specs.Valid.{IsWindow};
-ghost use Rattle.brl_cert.specs.Window.{windows};
+ghost use Rattle.brl_cert.specs.Window.{loose_window, windows};
 ghost use Rattle.std.specs.Prelude.{refl};
 
 use crate::WindowState;
-use crate::field::{push_chars, push_flag, push_number};
+use crate::field::{push_chars, push_flag, push_number, read_flag, read_number};
+use crate::reading_fields::read_chars;
+use brl_table::Class;
 use std::alloc::{AllocError, Global};
 use std::hash::Hash;
 
@@ -22,6 +24,10 @@ pub trait StateLine: Eq + Hash + Drop {
     fn push_fields(&self, alloc: Global, out: &mut Vec<u8>) -> Result<(), AllocError>
         ensures written { OnOk result (out.new.items ≡ out.old.items ++ behind_blanks (form.fields self.now)) }
         ensures in_range { OnOk result (is_state self.now) };
+
+    /// The state of fields in their loose form.
+    fn read_fields(alloc: Global, fields: &[&[u8]]) -> Result<Option<Self>, AllocError>
+        ensures { IfOk result (λ state. state ≡ form.loose (map (λ field. field.now) fields.now)) };
 
     // Two states are the same exactly where they are equal.
     ghost same: { form.same ≡ Self.PartialEq.eq };
@@ -43,5 +49,43 @@ impl StateLine for WindowState {
         push_chars(alloc, out, self.coming.as_slice())
     }
 
+    fn read_fields(alloc: Global, fields: &[&[u8]]) -> Result<Option<WindowState>, AllocError> {
+        let [before, numeric, ended, coming] = fields else {
+            return Ok(None);
+        };
+        read_window(alloc, before, numeric, ended, coming)
+    }
+
     ghost same = { refl };
+}
+
+/// The state of four fields in their loose form.
+fn read_window(
+    alloc: Global,
+    before: &[u8],
+    numeric: &[u8],
+    ended: &[u8],
+    coming: &[u8],
+) -> Result<Option<WindowState>, AllocError>
+    ensures { IfOk result (λ state. state ≡ loose_window (before.now ∷ numeric.now ∷ ended.now ∷ coming.now ∷ [])) }
+{
+    let Some(before) = read_number(before, 10, 255) else {
+        return Ok(None);
+    };
+    let Some(numeric) = read_flag(numeric) else {
+        return Ok(None);
+    };
+    let Some(ended) = read_flag(ended) else {
+        return Ok(None);
+    };
+    let Some(coming) = read_chars(alloc, coming)? else {
+        return Ok(None);
+    };
+    let before = Class(before as u8);
+    Ok(Some(WindowState {
+        before,
+        numeric,
+        ended,
+        coming,
+    }))
 }

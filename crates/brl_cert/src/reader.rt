@@ -1,0 +1,179 @@
+//! Reading the lines of a certificate one after another.
+ghost use Rattle.std.specs.Prelude.{◌≡◌, ◌≤◌, All, [], length, true, false, IfErr, IfOk, OnOk, Ok};
+ghost use Rattle.brl_cert.specs.Lines.{add_line, is_end, line_of, may_stand, one_line, placed};
+ghost use Rattle.brl_cert.specs.Range.{HasShortLead, IsPairOf};
+ghost use Rattle.brl_cert.specs.Reading.{IsFaultOf};
+ghost use Rattle.brl_cert.specs.Views.{listed};
+ghost use Rattle.brl_cert.specs.declared.line.Line.TheVariants.{State, Pair, End};
+
+use crate::line::Line;
+use crate::reading_lines::read_line;
+use crate::writing::push_line;
+use crate::{Body, CertFault, CertPair, Members, StateLine, Wrong};
+use std::alloc::Global;
+
+/// What the lines so far gave.
+#[derive(Drop)]
+pub struct Reader<S: StateLine> {
+    pub states: Members<S>,
+    pub pairs: Members<CertPair>,
+    pub ghost in_range: { All (IsPairOf (length states)) pairs },
+}
+
+impl<S: StateLine> Reader<S> {
+    pub fn new(alloc: Global) -> Reader<S>
+        ensures states { result.states ≡ [] }
+        ensures pairs { result.pairs ≡ [] }
+    {
+        Reader {
+            states: Members::new(alloc),
+            pairs: Members::new(alloc),
+        }
+    }
+
+    /// What was read, as a body.
+    pub fn into_body(self) -> Body<S>
+        requires few_states { length self.states ≤ 4294967295 }
+        requires few_pairs { length self.pairs ≤ 4294967295 }
+        ensures states { result.states ≡ self.states }
+        ensures pairs { result.pairs ≡ self.pairs }
+    {
+        let Reader { states, pairs } = self;
+        Body { states, pairs }
+    }
+
+    /// Whether a line may stand here.
+    fn may_stand(&self, line: &Line<S>) -> bool
+        ensures { result ≡ may_stand (listed self.now.states self.now.pairs) line.now }
+    {
+        match line {
+            Line::State(_) => self.pairs.len() == 0,
+            Line::Pair(_) => true,
+            Line::End(_, _) => true,
+        }
+    }
+
+    /// What a line of this number stands for by its form alone.
+    fn read(&self, alloc: Global, number: u64, bytes: &[u8]) -> Result<Line<S>, CertFault>
+        ensures line { IfOk result (λ line. placed number (line_of S.form (listed self.now.states self.now.pairs) bytes.now) ≡ Ok line) }
+        ensures lead { IfOk result HasShortLead }
+        ensures stands { IfOk result (λ line. may_stand (listed self.now.states self.now.pairs) line ≡ true) }
+        ensures fault { IfErr result (IsFaultOf (placed number (line_of S.form (listed self.now.states self.now.pairs) bytes.now))) }
+    {
+        let Some(line) = read_line::<S>(alloc, bytes)? else {
+            return Err(CertFault::Refused {
+                wrong: Wrong::Syntax,
+                line: number,
+            });
+        };
+        if !self.may_stand(&line) {
+            return Err(CertFault::Refused {
+                wrong: Wrong::Syntax,
+                line: number,
+            });
+        }
+        let mut spelled = Vec::new(alloc);
+        push_line(alloc, &mut spelled, &line)?;
+        if spelled.as_slice() == bytes {
+            Ok(line)
+        } else {
+            Err(CertFault::Refused {
+                wrong: Wrong::NotCanonical,
+                line: number,
+            })
+        }
+    }
+
+    /// Adds the state of the line of this number.
+    fn add_state(&mut self, number: u64, state: S) -> Result<(), CertFault>
+        requires { length self.old.pairs ≡ 0 }
+        ensures ok { OnOk result (placed number (add_line S.form (listed self.old.states self.old.pairs) (State state)) ≡ Ok (listed self.new.states self.new.pairs)) }
+        ensures fault { IfErr result (IsFaultOf (placed number (add_line S.form (listed self.old.states self.old.pairs) (State state)))) }
+    {
+        if self.states.insert(state)? {
+            Ok(())
+        } else {
+            Err(CertFault::Refused {
+                wrong: Wrong::DuplicateState,
+                line: number,
+            })
+        }
+    }
+
+    /// Adds the pair of the line of this number.
+    fn add_pair(&mut self, number: u64, pair: CertPair) -> Result<(), CertFault>
+        requires { length pair.lead ≤ 1024 }
+        ensures ok { OnOk result (placed number (add_line S.form (listed self.old.states self.old.pairs) (Pair pair)) ≡ Ok (listed self.new.states self.new.pairs)) }
+        ensures fault { IfErr result (IsFaultOf (placed number (add_line S.form (listed self.old.states self.old.pairs) (Pair pair)))) }
+    {
+        let count = self.states.len();
+        if pair.ahead as usize >= count || pair.behind as usize >= count {
+            return Err(CertFault::Refused {
+                wrong: Wrong::NoSuchState,
+                line: number,
+            });
+        }
+        if self.pairs.insert(pair)? {
+            Ok(())
+        } else {
+            Err(CertFault::Refused {
+                wrong: Wrong::DuplicatePair,
+                line: number,
+            })
+        }
+    }
+
+    /// Compares the counts of the end line of this number.
+    fn close(&self, number: u64, states: u32, pairs: u32) -> Result<(), CertFault>
+        ensures ok { OnOk result (placed number (add_line S.form (listed self.now.states self.now.pairs) (End states pairs)) ≡ Ok (listed self.now.states self.now.pairs)) }
+        ensures few_states { OnOk result (length self.now.states ≤ 4294967295) }
+        ensures few_pairs { OnOk result (length self.now.pairs ≤ 4294967295) }
+        ensures fault { IfErr result (IsFaultOf (placed number (add_line S.form (listed self.now.states self.now.pairs) (End states pairs)))) }
+    {
+        if self.states.len() == states as usize && self.pairs.len() == pairs as usize {
+            Ok(())
+        } else {
+            Err(CertFault::Refused {
+                wrong: Wrong::WrongCount,
+                line: number,
+            })
+        }
+    }
+
+    /// Adds what a line of this number says, and answers whether it is the end line.
+    fn add(&mut self, number: u64, line: Line<S>) -> Result<bool, CertFault>
+        requires lead { HasShortLead line }
+        requires stands { may_stand (listed self.old.states self.old.pairs) line ≡ true }
+        ensures ok { OnOk result (placed number (add_line S.form (listed self.old.states self.old.pairs) line) ≡ Ok (listed self.new.states self.new.pairs)) }
+        ensures end { IfOk result (λ last. last ≡ is_end line) }
+        ensures few_states { IfOk result (λ last. last ≡ true → length self.new.states ≤ 4294967295) }
+        ensures few_pairs { IfOk result (λ last. last ≡ true → length self.new.pairs ≤ 4294967295) }
+        ensures fault { IfErr result (IsFaultOf (placed number (add_line S.form (listed self.old.states self.old.pairs) line))) }
+    {
+        match line {
+            Line::State(state) => {
+                self.add_state(number, state)?;
+                Ok(false)
+            }
+            Line::Pair(pair) => {
+                self.add_pair(number, pair)?;
+                Ok(false)
+            }
+            Line::End(states, pairs) => {
+                self.close(number, states, pairs)?;
+                Ok(true)
+            }
+        }
+    }
+
+    /// Reads the line of this number, and answers whether it is the end line.
+    pub fn take_line(&mut self, alloc: Global, number: u64, bytes: &[u8]) -> Result<bool, CertFault>
+        ensures ok { IfOk result (λ last. placed number (one_line S.form (listed self.old.states self.old.pairs) bytes.now) ≡ Ok (last, listed self.new.states self.new.pairs)) }
+        ensures few_states { IfOk result (λ last. last ≡ true → length self.new.states ≤ 4294967295) }
+        ensures few_pairs { IfOk result (λ last. last ≡ true → length self.new.pairs ≤ 4294967295) }
+        ensures fault { IfErr result (IsFaultOf (placed number (one_line S.form (listed self.old.states self.old.pairs) bytes.now))) }
+    {
+        let line = self.read(alloc, number, bytes)?;
+        self.add(number, line)
+    }
+}
