@@ -22,7 +22,7 @@ use Rattle.brl_cert.specs.Range.{IsPairOf}
 use Rattle.brl_cert.specs.declared.line.Line.{Line}
 use Rattle.brl_cert.specs.declared.line.Line.TheVariants.{State, Pair, End}
 use Rattle.brl_cert.specs.Lines.{States, BodyView, ◌>>>◌, placed, count, spelled_line, loose_line, loose_pair, loose_end, strict_line, line_of, may_stand, is_end, add_line, one_line, body_of}
-use Rattle.brl_cert.specs.declared.state.WindowState.{WindowState}
+use Rattle.brl_window.specs.declared.state.WindowState.{WindowState}
 use Rattle.brl_cert.specs.Window.{windows, loose_window}
 use Rattle.brl_cert.specs.Reading.{CertView, Windows, reading, certificate_of, version_of, header_of, nothing}
 use Rattle.brl_cert.specs.Valid.{IsBody, IsWindow, IsCertificate}

@@ -9,10 +9,10 @@ use Rattle.std.proofs.lemmas.Bool.Decides.{Decides-eqb, same_from_decides}
 use Rattle.std.proofs.lemmas.Slice.Eq.{bytes_eq-Decides}
 use Rattle.std.proofs.lemmas.List.Splits.{slice_split_at}
 use Rattle.brl_cert.specs.declared.fault.Wrong.{Wrong}
-use Rattle.brl_cert.specs.declared.state.WindowState.{WindowState}
+use Rattle.brl_window.specs.declared.state.WindowState.{WindowState}
 use Rattle.brl_cert.specs.declared.pair.CertPair.{CertPair}
 use Rattle.brl_cert.specs.contracts.pair.CertPairPartialEq.TheImpl.{eq-value as pair-eq}
-use Rattle.brl_cert.specs.contracts.state.WindowStatePartialEq.TheImpl.{eq-value as window-eq}
+use Rattle.brl_window.specs.contracts.state.WindowStatePartialEq.TheImpl.{eq-value as window-eq}
 use Rattle.brl_cert.specs.Lines.{BodyView, spelled_body, body_of, ◌>>>◌}
 use Rattle.brl_cert.specs.Window.{window_fields, loose_window, windows}
 use Rattle.brl_cert.specs.Reading.{CertView, Windows, spelled_header, header_of, certificate_of, nothing, reading, spelling}

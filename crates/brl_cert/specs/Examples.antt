@@ -3,7 +3,7 @@ use Rattle.std.specs.Prelude.{◌≡◌, ℕ, Bool, true, false, List, [], ◌�
 use Rattle.std.specs.List.{flat_map}
 use Rattle.brl_cert.specs.declared.fault.Wrong.{Wrong}
 use Rattle.brl_cert.specs.declared.fault.Wrong.TheVariants.{Version, Syntax, NotCanonical, DuplicateState, DuplicatePair, NoSuchState, WrongCount, Truncated}
-use Rattle.brl_cert.specs.declared.state.WindowState.{WindowState}
+use Rattle.brl_window.specs.declared.state.WindowState.{WindowState}
 use Rattle.brl_cert.specs.Reading.{CertView, Windows, reading}
 
 -- the bytes of lines, each with its line feed

@@ -7,7 +7,7 @@ use Rattle.brl_cert.specs.declared.fault.CertFault.{CertFault}
 use Rattle.brl_cert.specs.declared.fault.CertFault.TheVariants.{Refused, Memory}
 use Rattle.brl_cert.specs.declared.fault.Wrong.{Wrong}
 use Rattle.brl_cert.specs.declared.fault.Wrong.TheVariants.{Version, Syntax, NotCanonical, Truncated}
-use Rattle.brl_cert.specs.declared.state.WindowState.{WindowState}
+use Rattle.brl_window.specs.declared.state.WindowState.{WindowState}
 use Rattle.brl_cert.specs.Lines.{count, BodyView, spelled_body, body_of, placed, ◌>>>◌}
 use Rattle.brl_cert.specs.Window.{windows}
 

@@ -2,7 +2,7 @@
 use Rattle.std.specs.Prelude.{◌≡◌, ◌<◌, ◌≤◌, All, true, length}
 use Rattle.std.specs.List.{IsDistinct}
 use Rattle.brl_cells.specs.Dots.{AreCells}
-use Rattle.brl_cert.specs.declared.state.WindowState.{WindowState}
+use Rattle.brl_window.specs.declared.state.WindowState.{WindowState}
 use Rattle.brl_cert.specs.contracts.pair.CertPairPartialEq.TheImpl.{eq-value as pair-eq}
 use Rattle.brl_cert.specs.Fields.{is_char}
 use Rattle.brl_cert.specs.Range.{IsPairOf}

@@ -1,7 +1,7 @@
 -- States of version 1 (the project's own choice).
 use Rattle.std.specs.Prelude.{ℕ, List, [], ◌∷◌, Option, Some, None}
-use Rattle.brl_cert.specs.declared.state.WindowState.{WindowState}
-use Rattle.brl_cert.specs.contracts.state.WindowStatePartialEq.TheImpl.{eq-value}
+use Rattle.brl_window.specs.declared.state.WindowState.{WindowState}
+use Rattle.brl_window.specs.contracts.state.WindowStatePartialEq.TheImpl.{eq-value}
 use Rattle.brl_cert.specs.Fields.{◌>>=◌, number, flag, chars}
 use Rattle.brl_cert.specs.Lines.{States}
 

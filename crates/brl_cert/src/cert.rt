@@ -1,5 +1,6 @@
 //! Certificates.
-use crate::{Body, WindowState};
+use crate::Body;
+use brl_window::WindowState;
 
 /// A certificate, by the machine whose states it lists.
 #[derive(Drop)]

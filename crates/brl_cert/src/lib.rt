@@ -14,7 +14,6 @@ mod reader;
 mod reading;
 mod reading_fields;
 mod reading_lines;
-mod state;
 mod state_line;
 mod writing;
 
@@ -25,7 +24,6 @@ pub use laws::certificate_laws;
 pub use members::Members;
 pub use pair::CertPair;
 pub use reading::read_cert;
-pub use state::WindowState;
 pub use state_line::StateLine;
 pub use writing::write_cert;
 

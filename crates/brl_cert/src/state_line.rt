@@ -1,14 +1,13 @@
 //! States as a version of certificates writes them.
-ghost use Rattle.std.specs.Prelude.{◌≡◌, ◌++◌, ◌∷◌, [], ℕ, Bool, map, IfOk, OnOk};
+ghost use Rattle.std.specs.Prelude.{◌≡◌, ◌++◌, ◌∷◌, [], ℕ, Bool, map, refl, IfOk, OnOk};
 ghost use Rattle.brl_cert.specs.Lines.{States, behind_blanks};
 ghost use Rattle.brl_cert.specs.Valid.{IsWindow};
 ghost use Rattle.brl_cert.specs.Window.{loose_window, windows};
-ghost use Rattle.std.specs.Prelude.{refl};
 
-use crate::WindowState;
 use crate::field::{push_chars, push_flag, push_number, read_flag, read_number};
 use crate::reading_fields::read_chars;
 use brl_table::Class;
+use brl_window::WindowState;
 use std::alloc::{AllocError, Global};
 use std::hash::Hash;
 

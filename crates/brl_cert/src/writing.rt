@@ -10,7 +10,8 @@ ghost use Rattle.brl_cert.specs.declared.line.Line.TheVariants.{State, Pair, End
 
 use crate::field::{push_lead, push_number};
 use crate::line::Line;
-use crate::{Body, Cert, CertPair, StateLine, WindowState, certificate_laws};
+use crate::{Body, Cert, CertPair, StateLine, certificate_laws};
+use brl_window::WindowState;
 use std::alloc::{AllocError, Global};
 
 /// Writes a state line without its line feed.
