@@ -478,7 +478,15 @@ static REQUESTS: [Request; 19] = [
     },
 ];
 
-static COMPARISONS: [Comparison; 19] = [
+static COMPARISONS: [Comparison; 20] = [
+    Comparison {
+        table: "letter a 21-0\nletter b 12-0\n",
+        left: "a",
+        right: "b",
+        out: "left: a\nright: b\ncells: 12-0\n",
+        err: "",
+        status: 1,
+    },
     Comparison {
         table: ALIKE,
         left: "ab",
