@@ -138,6 +138,35 @@ expect '1,025 includes' 2 '' 'L8 TooManyIncludes tables/empty.ctb at tables/many
 including /dev/zero
 expect 'an include without end' 2 '' 'L9 TooLarge /dev/zero at tables/t.ctb:2\n'
 
+# Two texts by a table.
+clash() {
+    "$program" clash "$1" "$2" "$3" >out 2>err
+    status=$?
+}
+
+# Rules by place.
+printf 'letter a 1\nletter b 12\nletter x 1-12\nalways ab 14\n' >contraction.ctb
+translate contraction.ctb 'aab\n'
+expect 'the longer rule is taken' 0 'AC\n' ''
+clash contraction.ctb ab x
+expect 'a rule keeps two texts apart' 0 'no clash\n' ''
+
+printf 'letter a 1\nletter b 12\nletter c 14\nalways ab 14\n' >contraction.ctb
+clash contraction.ctb ab c
+expect 'a rule with the cells of a letter' 1 'left: ab\nright: c\ncells: 14\n' ''
+
+printf 'space \\s 0\nletter b 12\nletter u 136\nletter t 2345\nword but 12\n' >word.ctb
+translate word.ctb 'b but tub\n'
+expect 'a word by a rule' 0 'B B TUB\n' ''
+clash word.ctb but b
+expect 'a word with the cells of a letter' 1 'left: but\nright: b\ncells: 12\n' ''
+
+echo 'word b 56-12' >>word.ctb
+translate word.ctb 'b but\n'
+expect 'a letter that stands alone' 0 ';B B\n' ''
+clash word.ctb but b
+expect 'a rule for the letter keeps them apart' 0 'no clash\n' ''
+
 translate t.ctb 'ab\nc\nz\na\n'
 expect 'the lines before a fault stand written' 2 'AB\nC\n' 'F1 UnknownChar 0 at line 3\n'
 
