@@ -145,7 +145,8 @@ fn files_of(alloc: Global, files: &[(&str, &str)]) -> Result<MapSource, Fail> {
 
 fn check_tree(rt: &impl Abort, alloc: Global, case: &Tree) -> Result<(), Fail> {
     let mut source = files_of(alloc, case.files)?;
-    let words = ["translate", case.files[0].0];
+    let (root, _) = case.files.first().ok_or("no files")?;
+    let words = ["translate", root];
     let outcome = outcome_of(alloc, &words, &mut source, case.input)?;
     check_outcome(rt, &outcome, case.out.as_bytes(), case.err, case.status)
 }
