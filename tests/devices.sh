@@ -240,26 +240,20 @@ expect 'a line without end' 2 '' 'U5 InputLineTooLong at line 1\n'
 status=$?
 expect_text 'help' 'Usage: brl'
 
-"$program" translate --help >out 2>err
-status=$?
-expect_text 'help on translate' 'first.ctb'
+# Runs the example in the help of a command, which names this table: it is one that a reader can paste.
+run_example() {
+    "$program" "$1" --help >out 2>err
+    status=$?
+    expect_text "help on $1" "$2"
+    grep -E '^  (printf|echo|brl) ' out | sed 's/brl /"$program" /' >example
+    (. ./example) >out 2>err
+    status=$?
+}
 
-# The example of the help is one that a reader can paste.
-grep "printf '%s" out >example
-grep '| brl translate' out | sed 's/| brl /| "$program" /' >>example
-(. ./example) >out 2>err
-status=$?
-expect 'the example of the help' 0 'ABC A\n' ''
+run_example translate first.ctb
+expect 'the example of the help on translate' 0 'ABC A\n' ''
 
-"$program" clash --help >out 2>err
-status=$?
-expect_text 'help on clash' 'alike.ctb'
-
-# So is the one of clash, but for its status.
-grep "printf '%s" out >example
-grep '^ *brl clash' out | sed 's/^ *brl /"$program" /' >>example
-(. ./example) >out 2>err
-status=$?
+run_example clash alike.ctb
 expect 'the example of the help on clash' 1 'left: ab\nright: x\ncells: 1-12\n' ''
 
 "$program" clash t.ctb abc cba >out 2>err
