@@ -1,177 +1,145 @@
-//! Worked translations, clashes and traces, over tables made from parts.
-
-mod cases;
-mod samples;
-mod tables;
-
+//! Worked translations, clashes and traces: rows whose fields are cut at `|`. More of them stand in brl_tool, by what the
+//! program prints.
 use crate::{ConfirmFault, ForwardFault, Side, Traced, confirm, trace, translate};
-use brl_cells::{Cell, Cells, read_dots, to_ascii, to_unicode};
-use cases::{Clashing, Step, Stepped, Translated, Undefined};
-use samples::Sample;
+use brl_cells::write_dots;
+use brl_lines::{MapSource, load};
+use brl_table::{Table, read_table};
 use std::alloc::Global;
-use std::process::Abort;
+use std::collections::BTreeMap;
 use std::test::Fail;
-use tables::table_of;
+
+/// A table's lines, a text and the dots of its translation.
+const TRANSLATIONS: &str = "\
+letter a 1; letter b 12; letter x 1-12; always ab 14|aab|1-14
+space \\s 0; letter b 12; letter u 136; letter t 2345; word but 12; word b 56-12|b but|56-12-0-12
+letter a 1; letter b 12; always ab 14; word ab 15|ab|14
+letter a 1; letter b 12; always a 14; always ab 15|ab|15
+";
+
+/// A table's lines, two texts and the dots of their clash, or nothing.
+const CLASHES: &str = "\
+letter a 1; letter b 12; letter x 1-12|ab|x|1-12
+letter a 1; letter b 12; letter x 1-12|ab|ab|
+letter a 1; letter b 12; letter x 1-12; always ab 14|ab|x|
+";
+
+/// A table's lines, a text and its steps: start, rule, length, how many indicators, dots.
+const TRACES: &str = "\
+letter a 1; letter b 12; letter x 1-12; always ab 14|aab|0 1 1 0 1, 1 0 2 0 14,
+";
+
+/// The table of lines that are cut at `; `.
+fn table_of(alloc: Global, lines: &str) -> Result<Table, Fail> {
+    let mut text = String::new(alloc);
+    for line in lines.split("; ") {
+        text.push_str(line)?;
+        text.push('\n')?;
+    }
+    let mut files = BTreeMap::new(alloc);
+    files.insert(String::from_str(alloc, "t.ctb")?, text.into_bytes())?;
+    let loaded = load(alloc, &mut MapSource::new(files), "t.ctb")?;
+    Ok(read_table(alloc, loaded.lines(alloc)?.as_slice())?)
+}
+
+/// The first field of a row, and the fields behind it.
+fn cut(row: &str) -> Result<(&str, &str), Fail> {
+    Ok(row.split_once('|').ok_or("a field is missing")?)
+}
 
 /// The characters of a text.
 fn chars(alloc: Global, text: &str) -> Result<Vec<char>, Fail> {
     Ok(text.chars().collect(alloc)?)
 }
 
-/// A text's translation as braille ASCII.
-fn ascii(alloc: Global, sample: Sample, text: &str) -> Result<String, Fail> {
-    let table = table_of(alloc, sample)?;
-    let mut marks = String::new(alloc);
-    for cell in &translate(alloc, &table, chars(alloc, text)?.as_slice())? {
-        let mark = to_ascii(*cell).ok_or("a cell has no mark")?;
-        marks.push(char::from(mark))?;
-    }
-    Ok(marks)
-}
-
-fn check_translation(rt: &impl Abort, alloc: Global, case: &Translated) -> Result<(), Fail> {
-    let got = ascii(alloc, case.sample, case.text)?;
-    assert_eq!(rt; got.as_str(), case.ascii, "{}", case.text);
-    Ok(())
+/// The dots of the translation of a text.
+fn translated(alloc: Global, table: &Table, text: &str) -> Result<String, Fail> {
+    let cells = translate(alloc, table, chars(alloc, text)?.as_slice())?;
+    Ok(write_dots(alloc, cells.as_slice())?)
 }
 
 #[test]
 fn worked_translations(rt: HostRuntime) -> Result<(), Fail> {
-    for case in cases::translations() {
-        check_translation(&rt, rt.alloc(), case)?;
+    let alloc = rt.alloc();
+    for row in TRANSLATIONS.lines() {
+        let (lines, rest) = cut(row)?;
+        let (text, dots) = cut(rest)?;
+        let given = translated(alloc, &table_of(alloc, lines)?, text)?;
+        assert!(rt; given.as_str() == dots, "at {row}");
     }
     Ok(())
 }
 
-/// The dots of a clash of two texts, or none where there is no clash. Its texts are theirs.
-fn clashing_cells(
-    rt: &impl Abort,
-    alloc: Global,
-    sample: Sample,
-    left: &[char],
-    right: &[char],
-) -> Result<Option<Cells>, Fail> {
-    let table = table_of(alloc, sample)?;
-    let Some(clash) = confirm(alloc, &table, left, right)? else {
-        return Ok(None);
+/// The dots of a clash of two texts, or nothing where there is none. Its texts are theirs.
+fn clashing(alloc: Global, table: &Table, left: &str, right: &str) -> Result<String, Fail> {
+    let left = chars(alloc, left)?;
+    let right = chars(alloc, right)?;
+    let Some(clash) = confirm(alloc, table, left.as_slice(), right.as_slice())? else {
+        return Ok(String::new(alloc));
     };
-    assert_eq!(rt; clash.left(), left);
-    assert_eq!(rt; clash.right(), right);
-    Ok(Some(Cells::from_slice(alloc, clash.cells())?))
-}
-
-/// The cells of dots: none of no dots.
-fn cells_of(alloc: Global, dots: &str) -> Result<Option<Cells>, Fail> {
-    if dots.is_empty() {
-        return Ok(None);
+    if clash.left() != left.as_slice() || clash.right() != right.as_slice() {
+        return Err(Fail::from("the texts are others"));
     }
-    Ok(Some(read_dots(alloc, dots, 16)?))
-}
-
-fn check_clash(rt: &impl Abort, alloc: Global, case: &Clashing) -> Result<(), Fail> {
-    let left = chars(alloc, case.left)?;
-    let right = chars(alloc, case.right)?;
-    let found = clashing_cells(rt, alloc, case.sample, left.as_slice(), right.as_slice())?;
-    assert!(rt;
-        found == cells_of(alloc, case.dots)?,
-        "{} and {}",
-        case.left,
-        case.right
-    );
-    Ok(())
+    Ok(write_dots(alloc, clash.cells())?)
 }
 
 #[test]
 fn worked_clashes(rt: HostRuntime) -> Result<(), Fail> {
-    for case in cases::clashes() {
-        check_clash(&rt, rt.alloc(), case)?;
+    let alloc = rt.alloc();
+    for row in CLASHES.lines() {
+        let (lines, rest) = cut(row)?;
+        let (left, rest) = cut(rest)?;
+        let (right, dots) = cut(rest)?;
+        let given = clashing(alloc, &table_of(alloc, lines)?, left, right)?;
+        assert!(rt; given.as_str() == dots, "{row}");
     }
     Ok(())
 }
 
-fn is_step(step: &Traced, want: &Step) -> bool {
-    step.start == want.start
-        && step.rule == want.rule
-        && step.length == want.length
-        && step.indicators == want.indicators
-        && are_numbers(step.cells.as_slice(), want.cells)
-}
-
-fn are_numbers(cells: &[Cell], numbers: &[u8]) -> bool {
-    cells.len() == numbers.len() && cells.iter().zip(numbers).all(|(cell, n)| cell.0 == *n)
-}
-
-fn are_steps(steps: &[Traced], want: &[Step]) -> bool {
-    steps.len() == want.len()
-        && steps
-            .iter()
-            .zip(want)
-            .all(|(step, want)| is_step(step, want))
-}
-
-fn check_trace(rt: &impl Abort, alloc: Global, case: &Stepped) -> Result<(), Fail> {
-    let table = table_of(alloc, case.sample)?;
-    let text = chars(alloc, case.text)?;
-    let steps = trace(alloc, &table, text.as_slice())?;
-    assert!(rt; are_steps(steps.as_slice(), case.steps), "{}", case.text);
-    Ok(())
+/// A step's fields, as rows of traces have them.
+fn step_text(alloc: Global, step: &Traced) -> Result<String, Fail> {
+    let dots = write_dots(alloc, step.cells.as_slice())?;
+    Ok(format!(in alloc;
+        "{} {} {} {} {dots}",
+        step.start, step.rule, step.length, step.indicators
+    )?)
 }
 
 #[test]
 fn worked_traces(rt: HostRuntime) -> Result<(), Fail> {
-    for case in cases::traces() {
-        check_trace(&rt, rt.alloc(), case)?;
+    let alloc = rt.alloc();
+    for row in TRACES.lines() {
+        let (lines, rest) = cut(row)?;
+        let (text, want) = cut(rest)?;
+        let table = table_of(alloc, lines)?;
+        let mut given = String::new(alloc);
+        for step in &trace(alloc, &table, chars(alloc, text)?.as_slice())? {
+            given.push_str(step_text(alloc, step)?.as_str())?;
+            given.push_str(", ")?;
+        }
+        assert!(rt; given.as_str() == want, "{row}");
     }
     Ok(())
 }
 
 #[test]
-fn unknown_characters_of_a_text(rt: HostRuntime) -> Result<(), Fail> {
+fn unknown_characters(rt: HostRuntime) -> Result<(), Fail> {
     let alloc = rt.alloc();
-    let table = table_of(alloc, Sample::Letters)?;
-    let text = chars(alloc, "az")?;
+    let table = table_of(alloc, "letter a 1")?;
     let fault = Some(ForwardFault::UnknownChar(1));
-    assert_eq!(rt; translate(alloc, &table, text.as_slice()).err(), fault);
-    assert_eq!(rt; trace(alloc, &table, text.as_slice()).err(), fault);
-    Ok(())
-}
-
-fn check_unknown(rt: &impl Abort, alloc: Global, case: &Undefined) -> Result<(), Fail> {
-    let table = table_of(alloc, Sample::TwoCells)?;
-    let left = chars(alloc, case.left)?;
-    let right = chars(alloc, case.right)?;
-    let fault = confirm(alloc, &table, left.as_slice(), right.as_slice()).err();
-    assert_eq!(rt; fault, Some(ConfirmFault::UnknownChar(case.side, 0)));
+    assert!(rt; translate(alloc, &table, &['a', 'z']).err() == fault);
+    assert!(rt; trace(alloc, &table, &['a', 'z']).err() == fault);
+    let left = confirm(alloc, &table, &['z'], &['y']).err();
+    assert!(rt; left == Some(ConfirmFault::UnknownChar(Side::Left, 0)));
+    let right = confirm(alloc, &table, &['a'], &['a', 'z']).err();
+    assert!(rt; right == Some(ConfirmFault::UnknownChar(Side::Right, 1)));
     Ok(())
 }
 
 #[test]
-fn unknown_characters_of_two_texts(rt: HostRuntime) -> Result<(), Fail> {
-    for case in cases::undefined_first() {
-        check_unknown(&rt, rt.alloc(), case)?;
-    }
-    Ok(())
-}
-
-#[test]
-fn eight_dots(rt: HostRuntime) -> Result<(), Fail> {
+fn faults_are_printed(rt: HostRuntime) -> Result<(), Fail> {
     let alloc = rt.alloc();
-    let table = table_of(alloc, Sample::EightDots)?;
-    let cells = translate(alloc, &table, &['q'])?;
-    assert_eq!(rt; cells.len(), 1);
-    assert_eq!(rt; to_ascii(cells[0]), None);
-    assert_eq!(rt; to_unicode(cells[0]), '\u{2841}');
-    Ok(())
-}
-
-#[test]
-fn faults_are_spelled(rt: HostRuntime) -> Result<(), Fail> {
-    let alloc = rt.alloc();
-    let unknown = format!(in alloc; "{}", ForwardFault::UnknownChar(1))?;
-    assert_eq!(rt; unknown.as_str(), "F1 UnknownChar 1");
-    let left = format!(in alloc; "{}", ConfirmFault::UnknownChar(Side::Left, 0))?;
-    assert_eq!(rt; left.as_str(), "F1 UnknownChar 0 at left");
-    let right = format!(in alloc; "{}", ConfirmFault::UnknownChar(Side::Right, 7))?;
-    assert_eq!(rt; right.as_str(), "F1 UnknownChar 7 at right");
+    let unknown = ConfirmFault::UnknownChar(Side::Right, 7);
+    let text = format!(in alloc; "{}, {unknown}", ForwardFault::UnknownChar(1))?;
+    assert!(rt; text.as_str() == "F1 UnknownChar 1, F1 UnknownChar 7 at right");
     Ok(())
 }
