@@ -5,37 +5,61 @@ mod devices;
 
 use crate::{Watched, run};
 use brl_lines::{MapSource, Source};
-use cases::{Comparison, Request, Run, Tree};
 use devices::{Broken, Closed, Refusing};
 use std::alloc::Global;
 use std::collections::BTreeMap;
-use std::io::Write;
 use std::process::Abort;
 use std::test::Fail;
 
-/// No files.
-fn no_files(alloc: Global) -> MapSource {
-    MapSource::new(BTreeMap::new(alloc))
+/// The first field of a row, and the fields behind it.
+fn cut(row: &str) -> Result<(&str, &str), Fail> {
+    Ok(row.split_once('|').ok_or("a field is missing")?)
+}
+
+/// The lines of a field, each with its LF.
+fn lines_of(alloc: Global, field: &str) -> Result<Vec<u8>, Fail> {
+    let mut bytes = Vec::new(alloc);
+    if field.is_empty() {
+        return Ok(bytes);
+    }
+    for line in field.split("; ") {
+        bytes.extend_from_slice(line.as_bytes())?;
+        bytes.push(b'\n')?;
+    }
+    Ok(bytes)
+}
+
+/// The files of a field.
+fn files_of(alloc: Global, field: &str) -> Result<MapSource, Fail> {
+    let mut source = MapSource::new(BTreeMap::new(alloc));
+    if field.is_empty() {
+        return Ok(source);
+    }
+    for file in field.split(" & ") {
+        let (path, lines) = file.split_once(": ").ok_or("a path is missing")?;
+        let bytes = lines_of(alloc, lines)?;
+        source.files.insert(String::from_str(alloc, path)?, bytes)?;
+    }
+    Ok(source)
+}
+
+/// The words of a field.
+fn words_of(alloc: Global, field: &str) -> Result<Vec<String>, Fail> {
+    let mut words = Vec::new(alloc);
+    for word in field.split(',') {
+        words.push(String::from_str(alloc, word)?)?;
+    }
+    Ok(words)
 }
 
 /// The file `t.ctb` with these bytes.
 fn table_file(alloc: Global, bytes: &[u8]) -> Result<MapSource, Fail> {
-    let mut source = no_files(alloc);
+    let mut source = MapSource::new(BTreeMap::new(alloc));
     source.files.insert(
         String::from_str(alloc, "t.ctb")?,
         Vec::from_slice(alloc, bytes)?,
     )?;
     Ok(source)
-}
-
-/// The words with the program's name before them.
-fn words_of(alloc: Global, words: &[&str]) -> Result<Vec<String>, Fail> {
-    let mut list = Vec::new(alloc);
-    list.push(String::from_str(alloc, "brl")?)?;
-    for word in words {
-        list.push(String::from_str(alloc, word)?)?;
-    }
-    Ok(list)
 }
 
 /// What a run wrote, and its status.
@@ -46,10 +70,17 @@ struct Outcome {
     status: u8,
 }
 
-/// Runs over a source, an input and these words.
+impl Outcome {
+    /// Whether this was written, with this status.
+    fn is(&self, out: &[u8], err: &[u8], status: u8) -> bool {
+        self.out.as_slice() == out && self.err.as_slice() == err && self.status == status
+    }
+}
+
+/// Runs over a source, an input and the words of a field.
 fn outcome_of<S: Source>(
     alloc: Global,
-    words: &[&str],
+    words: &str,
     source: &mut S,
     input: &[u8],
 ) -> Result<Outcome, Fail> {
@@ -72,44 +103,67 @@ fn outcome_of<S: Source>(
     })
 }
 
-/// `brl translate t.ctb` over that file and an input.
-fn translated(alloc: Global, table: &[u8], input: &[u8]) -> Result<Outcome, Fail> {
-    let mut source = table_file(alloc, table)?;
-    outcome_of(alloc, &["translate", "t.ctb"], &mut source, input)
+/// Whether a run is answered as its row says.
+fn is_answered(alloc: Global, row: &str) -> Result<bool, Fail> {
+    let (files, rest) = cut(row)?;
+    let (words, rest) = cut(rest)?;
+    let (input, rest) = cut(rest)?;
+    let (out, rest) = cut(rest)?;
+    let (err, status) = cut(rest)?;
+    let mut source = files_of(alloc, files)?;
+    let input = lines_of(alloc, input)?;
+    let outcome = outcome_of(alloc, words, &mut source, input.as_slice())?;
+    let out = lines_of(alloc, out)?;
+    let err = lines_of(alloc, err)?;
+    Ok(outcome.is(out.as_slice(), err.as_slice(), status.parse()?))
 }
 
-fn check_outcome(
-    rt: &impl Abort,
-    outcome: &Outcome,
-    out: &[u8],
-    err: &str,
-    status: u8,
-) -> Result<(), Fail> {
-    assert_eq!(rt; std::str::from_utf8(outcome.err.as_slice())?, err);
-    assert_eq!(rt; outcome.out.as_slice(), out);
-    assert_eq!(rt; outcome.status, status, "{err}");
+fn check_rows(rt: &impl Abort, alloc: Global, rows: &str) -> Result<(), Fail> {
+    for row in rows.lines() {
+        assert!(rt; is_answered(alloc, row)?, "{row}");
+    }
     Ok(())
-}
-
-fn check_run(rt: &impl Abort, alloc: Global, case: &Run) -> Result<(), Fail> {
-    let outcome = translated(alloc, case.table.as_bytes(), case.input)?;
-    check_outcome(rt, &outcome, case.out.as_bytes(), case.err, case.status)
 }
 
 #[test]
 fn worked_runs(rt: HostRuntime) -> Result<(), Fail> {
-    for case in cases::runs() {
-        check_run(&rt, rt.alloc(), case)?;
+    check_rows(&rt, rt.alloc(), cases::TRANSLATIONS)?;
+    check_rows(&rt, rt.alloc(), cases::INCLUDES)?;
+    check_rows(&rt, rt.alloc(), cases::COMPARISONS)
+}
+
+/// Whether a text that isn't empty stands in what was written; of the empty text, whether nothing was written.
+fn has_text(written: &[u8], text: &str) -> Result<bool, Fail> {
+    let written = std::str::from_utf8(written)?;
+    Ok(written.is_empty() == text.is_empty() && written.contains(text))
+}
+
+/// Whether words are answered as their row says.
+fn is_request_answered(alloc: Global, row: &str) -> Result<bool, Fail> {
+    let (words, rest) = cut(row)?;
+    let (out, rest) = cut(rest)?;
+    let (err, status) = cut(rest)?;
+    let outcome = outcome_of(alloc, words, &mut files_of(alloc, "")?, b"")?;
+    let status: u8 = status.parse()?;
+    Ok(
+        outcome.status == status
+            && has_text(outcome.out.as_slice(), out)?
+            && has_text(outcome.err.as_slice(), err)?,
+    )
+}
+
+#[test]
+fn words_are_answered(rt: HostRuntime) -> Result<(), Fail> {
+    for row in cases::REQUESTS.lines() {
+        assert!(rt; is_request_answered(rt.alloc(), row)?, "{row}");
     }
     Ok(())
 }
 
-#[test]
-fn worked_rules(rt: HostRuntime) -> Result<(), Fail> {
-    for case in cases::rules() {
-        check_run(&rt, rt.alloc(), case)?;
-    }
-    Ok(())
+/// `brl translate t.ctb` over that file and an input.
+fn translated(alloc: Global, table: &[u8], input: &[u8]) -> Result<Outcome, Fail> {
+    let mut source = table_file(alloc, table)?;
+    outcome_of(alloc, "brl,translate,t.ctb", &mut source, input)
 }
 
 /// A table of the letters `a` and `b` and so many rules of both.
@@ -126,92 +180,10 @@ fn a_table_has_4096_rules(rt: HostRuntime) -> Result<(), Fail> {
     let alloc = rt.alloc();
     let most = with_rules(alloc, 4096)?;
     let outcome = translated(alloc, most.as_slice(), b"aba\n")?;
-    check_outcome(&rt, &outcome, b"3A\n", "", 0)?;
+    assert!(rt; outcome.is(b"3A\n", b"", 0));
     let more = with_rules(alloc, 4097)?;
     let outcome = translated(alloc, more.as_slice(), b"")?;
-    let err = "B8 TooMany always at t.ctb:4099\n";
-    check_outcome(&rt, &outcome, b"", err, 2)
-}
-
-/// Files with these texts at these paths.
-fn files_of(alloc: Global, files: &[(&str, &str)]) -> Result<MapSource, Fail> {
-    let mut source = no_files(alloc);
-    for (path, text) in files {
-        let bytes = Vec::from_slice(alloc, text.as_bytes())?;
-        source.files.insert(String::from_str(alloc, path)?, bytes)?;
-    }
-    Ok(source)
-}
-
-fn check_tree(rt: &impl Abort, alloc: Global, case: &Tree) -> Result<(), Fail> {
-    let mut source = files_of(alloc, case.files)?;
-    let (root, _) = case.files.first().ok_or("no files")?;
-    let words = ["translate", root];
-    let outcome = outcome_of(alloc, &words, &mut source, case.input)?;
-    check_outcome(rt, &outcome, case.out.as_bytes(), case.err, case.status)
-}
-
-#[test]
-fn tables_of_several_files(rt: HostRuntime) -> Result<(), Fail> {
-    for case in cases::trees() {
-        check_tree(&rt, rt.alloc(), case)?;
-    }
-    Ok(())
-}
-
-fn check_comparison(rt: &impl Abort, alloc: Global, case: &Comparison) -> Result<(), Fail> {
-    let mut source = table_file(alloc, case.table.as_bytes())?;
-    let words = ["clash", "t.ctb", case.left, case.right];
-    let outcome = outcome_of(alloc, &words, &mut source, b"")?;
-    check_outcome(rt, &outcome, case.out.as_bytes(), case.err, case.status)
-}
-
-#[test]
-fn worked_comparisons(rt: HostRuntime) -> Result<(), Fail> {
-    for case in cases::comparisons() {
-        check_comparison(&rt, rt.alloc(), case)?;
-    }
-    Ok(())
-}
-
-#[test]
-fn cells_have_two_forms(rt: HostRuntime) -> Result<(), Fail> {
-    let alloc = rt.alloc();
-    let cases: [(&str, &[u8]); 2] = [
-        ("ascii", b"A \n"),
-        ("unicode", b"\xe2\xa0\x81\xe2\xa0\x80\n"),
-    ];
-    for (form, out) in cases {
-        let mut source = table_file(alloc, b"space \\s 0\nletter a 1\n")?;
-        let words = ["translate", "t.ctb", "--form", form];
-        let outcome = outcome_of(alloc, &words, &mut source, b"a \n")?;
-        check_outcome(&rt, &outcome, out, "", 0)?;
-    }
-    let mut source = table_file(alloc, b"letter q 17\n")?;
-    let words = ["translate", "--form=unicode", "t.ctb"];
-    let outcome = outcome_of(alloc, &words, &mut source, b"q\n")?;
-    check_outcome(&rt, &outcome, b"\xe2\xa1\x81\n", "", 0)
-}
-
-/// Whether a text that isn't empty stands in what was written; of the empty text, whether nothing was written.
-fn has_text(written: &[u8], text: &str) -> Result<bool, Fail> {
-    let written = std::str::from_utf8(written)?;
-    Ok(written.is_empty() == text.is_empty() && written.contains(text))
-}
-
-fn check_request(rt: &impl Abort, alloc: Global, case: &Request) -> Result<(), Fail> {
-    let outcome = outcome_of(alloc, case.words, &mut no_files(alloc), b"")?;
-    assert!(rt; has_text(outcome.out.as_slice(), case.out)?, "{}", case.out);
-    assert!(rt; has_text(outcome.err.as_slice(), case.err)?, "{}", case.err);
-    assert_eq!(rt; outcome.status, case.status, "{} {}", case.out, case.err);
-    Ok(())
-}
-
-#[test]
-fn words_are_answered(rt: HostRuntime) -> Result<(), Fail> {
-    for case in cases::requests() {
-        check_request(&rt, rt.alloc(), case)?;
-    }
+    assert!(rt; outcome.is(b"", b"B8 TooMany always at t.ctb:4099\n", 2));
     Ok(())
 }
 
@@ -224,11 +196,11 @@ fn repeated(alloc: Global, byte: u8, count: usize) -> Result<Vec<u8>, Fail> {
 fn a_table_line_has_2048_bytes(rt: HostRuntime) -> Result<(), Fail> {
     let alloc = rt.alloc();
     let long = repeated(alloc, b'#', 2048)?;
-    let outcome = translated(alloc, long.as_slice(), b"")?;
-    check_outcome(&rt, &outcome, b"", "", 0)?;
+    assert!(rt; translated(alloc, long.as_slice(), b"")?.is(b"", b"", 0));
     let longer = repeated(alloc, b'#', 2049)?;
     let outcome = translated(alloc, longer.as_slice(), b"")?;
-    check_outcome(&rt, &outcome, b"", "L6 LineTooLong t.ctb at t.ctb:1\n", 2)
+    assert!(rt; outcome.is(b"", b"L6 LineTooLong t.ctb at t.ctb:1\n", 2));
+    Ok(())
 }
 
 #[test]
@@ -236,143 +208,115 @@ fn an_input_line_has_65536_bytes(rt: HostRuntime) -> Result<(), Fail> {
     let alloc = rt.alloc();
     let long = repeated(alloc, b'a', 65_537)?;
     let outcome = translated(alloc, b"letter a 1", long.as_slice())?;
-    check_outcome(&rt, &outcome, b"", "U5 InputLineTooLong at line 1\n", 2)
+    assert!(rt; outcome.is(b"", b"U5 InputLineTooLong at line 1\n", 2));
+    Ok(())
 }
 
 #[test]
-fn a_table_is_utf8(rt: HostRuntime) -> Result<(), Fail> {
-    let outcome = translated(rt.alloc(), b"letter \xff 1\n", b"")?;
-    check_outcome(&rt, &outcome, b"", "L3 NotUtf8 t.ctb\n", 2)
+fn tables_and_inputs_are_utf8(rt: HostRuntime) -> Result<(), Fail> {
+    let alloc = rt.alloc();
+    let outcome = translated(alloc, b"letter \xff 1\n", b"")?;
+    assert!(rt; outcome.is(b"", b"L3 NotUtf8 t.ctb\n", 2));
+    let outcome = translated(alloc, b"letter a 1\n", b"\xff\n")?;
+    assert!(rt; outcome.is(b"", b"U2 InputNotUtf8 at line 1\n", 2));
+    Ok(())
 }
 
-fn check_source(
-    rt: &impl Abort,
-    alloc: Global,
-    source: &mut Refusing,
-    err: &str,
-    status: u8,
-) -> Result<(), Fail> {
-    let outcome = outcome_of(alloc, &["translate", "t.ctb"], source, b"a\n")?;
-    check_outcome(rt, &outcome, b"", err, status)
+/// Whether a run over a source that refuses answers this fault, with this status.
+fn is_refused(mut source: Refusing, alloc: Global, err: &[u8], status: u8) -> Result<bool, Fail> {
+    let outcome = outcome_of(alloc, "brl,translate,t.ctb", &mut source, b"a\n")?;
+    Ok(outcome.is(b"", err, status))
 }
 
 #[test]
 fn sources_refuse(rt: HostRuntime) -> Result<(), Fail> {
     let alloc = rt.alloc();
-    check_source(
-        &rt,
-        alloc,
-        &mut Refusing::failing(),
-        "L2 ReadFailed t.ctb\n",
-        2,
-    )?;
-    check_source(
-        &rt,
-        alloc,
-        &mut Refusing::too_large(),
-        "L9 TooLarge t.ctb\n",
-        2,
-    )?;
-    check_source(&rt, alloc, &mut Refusing::without_memory(), "Memory\n", 3)
+    assert!(rt; is_refused(Refusing::failing(), alloc, b"L2 ReadFailed t.ctb\n", 2)?);
+    assert!(rt; is_refused(Refusing::too_large(), alloc, b"L9 TooLarge t.ctb\n", 2)?);
+    assert!(rt; is_refused(Refusing::without_memory(), alloc, b"Memory\n", 3)?);
+    Ok(())
 }
 
 #[test]
 fn the_input_fails(rt: HostRuntime) -> Result<(), Fail> {
     let alloc = rt.alloc();
-    let mut source = table_file(alloc, b"letter a 1")?;
-    let words = words_of(alloc, &["translate", "t.ctb"])?;
+    let words = words_of(alloc, "brl,translate,t.ctb")?;
     let mut out = Watched::new(Vec::new(alloc));
     let mut err = Vec::new(alloc);
     let status = run(
         alloc,
         words.as_slice(),
-        &mut source,
+        &mut table_file(alloc, b"letter a 1")?,
         &mut Watched::new(Broken),
         &mut out,
         &mut err,
     );
-    let outcome = Outcome {
-        out: out.device,
-        err,
-        status,
-    };
-    check_outcome(&rt, &outcome, b"", "U3 InputFailed at line 1\n", 2)
+    assert_eq!(rt; status, 2);
+    assert!(rt; out.device.is_empty());
+    assert!(rt; err.as_slice() == b"U3 InputFailed at line 1\n".as_slice());
+    Ok(())
 }
 
-/// The status and standard error of a run whose standard output refuses each write.
-fn without_output(rt: &impl Abort, alloc: Global, words: &[&str], err: &str) -> Result<(), Fail> {
-    let mut source = table_file(alloc, cases::ALIKE.as_bytes())?;
+/// The words, and the fault of their run where standard output refuses each write.
+const WITHOUT_OUTPUT: &str = "\
+brl,translate,t.ctb|U4 OutputFailed at line 1
+brl,clash,t.ctb,ab,x|U4 OutputFailed
+brl,clash,t.ctb,a,b|U4 OutputFailed
+brl,--help|U4 OutputFailed
+brl,--version|U4 OutputFailed
+";
+
+/// Whether a run whose standard output refuses each write answers this fault, with status 2.
+fn is_cut_off(alloc: Global, words: &str, fault: &str) -> Result<bool, Fail> {
     let words = words_of(alloc, words)?;
-    let mut input = b"a\n".as_slice();
-    let mut written = Vec::new(alloc);
+    let mut err = Vec::new(alloc);
     let status = run(
         alloc,
         words.as_slice(),
-        &mut source,
-        &mut input,
+        &mut table_file(alloc, b"letter a 1\nletter b 12\nletter x 1-12\n")?,
+        &mut b"a\n".as_slice(),
         &mut Watched::new(Closed),
-        &mut written,
+        &mut err,
     );
-    assert_eq!(rt; std::str::from_utf8(written.as_slice())?, err);
-    assert_eq!(rt; status, 2);
-    Ok(())
+    Ok(status == 2 && err.as_slice() == lines_of(alloc, fault)?.as_slice())
 }
 
 #[test]
 fn the_output_fails(rt: HostRuntime) -> Result<(), Fail> {
-    let alloc = rt.alloc();
-    without_output(
-        &rt,
-        alloc,
-        &["translate", "t.ctb"],
-        "U4 OutputFailed at line 1\n",
-    )?;
-    without_output(
-        &rt,
-        alloc,
-        &["clash", "t.ctb", "ab", "x"],
-        "U4 OutputFailed\n",
-    )?;
-    without_output(
-        &rt,
-        alloc,
-        &["clash", "t.ctb", "a", "b"],
-        "U4 OutputFailed\n",
-    )?;
-    without_output(&rt, alloc, &["--help"], "U4 OutputFailed\n")?;
-    without_output(&rt, alloc, &["--version"], "U4 OutputFailed\n")
+    for row in WITHOUT_OUTPUT.lines() {
+        let (words, fault) = cut(row)?;
+        assert!(rt; is_cut_off(rt.alloc(), words, fault)?, "{row}");
+    }
+    Ok(())
 }
 
+/// The words, and the status of their run where standard error refuses each write.
+const SILENT: &str = "\
+brl,translate,t.ctb|0
+brl,translate,u.ctb|2
+brl,clash,t.ctb,a,z|2
+brl,--nothing|2
+";
+
 /// The status of a run whose standard error refuses each write.
-fn check_silent(
-    rt: &impl Abort,
-    alloc: Global,
-    words: &[&str],
-    input: &[u8],
-    status: u8,
-) -> Result<(), Fail> {
-    let mut source = table_file(alloc, b"letter a 1")?;
+fn silent_status(alloc: Global, words: &str) -> Result<u8, Fail> {
     let words = words_of(alloc, words)?;
-    let mut reader = input;
-    let mut out = Watched::new(Vec::new(alloc));
-    let got = run(
+    Ok(run(
         alloc,
         words.as_slice(),
-        &mut source,
-        &mut reader,
-        &mut out,
+        &mut table_file(alloc, b"letter a 1")?,
+        &mut b"a\n".as_slice(),
+        &mut Watched::new(Vec::new(alloc)),
         &mut Closed,
-    );
-    assert_eq!(rt; got, status);
-    Ok(())
+    ))
 }
 
 #[test]
 fn standard_error_refuses(rt: HostRuntime) -> Result<(), Fail> {
-    let alloc = rt.alloc();
-    check_silent(&rt, alloc, &["translate", "t.ctb"], b"a\n", 0)?;
-    check_silent(&rt, alloc, &["translate", "t.ctb"], b"z\n", 2)?;
-    check_silent(&rt, alloc, &["translate", "u.ctb"], b"", 2)?;
-    check_silent(&rt, alloc, &["clash", "t.ctb", "a", "z"], b"", 2)?;
-    check_silent(&rt, alloc, &["--nothing"], b"", 2)
+    for row in SILENT.lines() {
+        let (words, status) = cut(row)?;
+        let status: u8 = status.parse()?;
+        assert!(rt; silent_status(rt.alloc(), words)? == status, "{row}");
+    }
+    Ok(())
 }

@@ -1,722 +1,108 @@
-//! What the program answers: tables and inputs, and what they give.
+//! What the program answers, in rows whose fields are cut at `|`.
 
-/// A table's lines and an input, and what `translate` answers: what it writes, its fault's line or nothing, and its
-/// status.
-pub struct Run {
-    pub table: &'static str,
-    pub input: &'static [u8],
-    pub out: &'static str,
-    pub err: &'static str,
-    pub status: u8,
-}
+/// Files, the words, an input, what stands on standard output and on standard error, and the status. Files are cut at ` & `, a
+/// path from its lines at `: `, words at `,`, and the lines of a field at `; `. An empty field has no line.
+pub const TRANSLATIONS: &str = "\
+t.ctb: space \\s 0; letter a 1; letter b 12; letter c 14|brl,translate,t.ctb|abc a|ABC A||0
+t.ctb: space \\s 0; letter a 1; letter b 12; letter c 14|brl,translate,t.ctb||||0
+t.ctb: space \\s 0; letter a 1; letter b 12; letter c 14|brl,translate,t.ctb|az||F1 UnknownChar 1 at line 1|2
+t.ctb: space \\s 0; letter a 1; letter b 12; letter c 14|brl,translate,t.ctb|ab; c; az; b|AB; C|F1 UnknownChar 1 at line 3|2
+t.ctb: letter q 17|brl,translate,t.ctb|q||U1 NoAscii at line 1|2
+t.ctb: pass2 @1 @2|brl,translate,t.ctb|||B1 OutsideProfile pass2 at t.ctb:1|2
+t.ctb: letter a 1; letter a 12|brl,translate,t.ctb|a|A||0
+t.ctb: letter a|brl,translate,t.ctb|||B2 MissingOperand letter at t.ctb:1|2
+t.ctb: letter ab 1|brl,translate,t.ctb|||B3 BadCharacters ab at t.ctb:1|2
+t.ctb: letter \\q 1|brl,translate,t.ctb|||B3 BadCharacters \\q at t.ctb:1|2
+t.ctb: letter a 19|brl,translate,t.ctb|||B4 BadDots 19 at t.ctb:1|2
+t.ctb: letter a 1-|brl,translate,t.ctb|||B4 BadDots 1- at t.ctb:1|2
+t.ctb: letter a 9|brl,translate,t.ctb|||B4 BadDots 9 at t.ctb:1|2
+t.ctb: letter a 01|brl,translate,t.ctb|||B4 BadDots 01 at t.ctb:1|2
+t.ctb: letter a 11|brl,translate,t.ctb|||B4 BadDots 11 at t.ctb:1|2
+t.ctb: letter a 1-1-1-1-1-1-1-1-1-1-1-1-1-1-1-1-1|brl,translate,t.ctb|||B4 BadDots 1-1-1-1-1-1-1-1-1-1-1-1-1-1-1-1-1 at t.ctb:1|2
+t.ctb: letter a 21-0|brl,translate,t.ctb|a|B ||0
+t.ctb: \u{feff}letter a 1\r; punctuation . 256 full stop\r|brl,translate,t.ctb|a.\r|A4||0
+t.ctb: letter \u{e9} 123456-1|brl,translate,t.ctb|\u{e9}\u{e9}|=A=A||0
+t.ctb: letter a 1; letter b 12; letter x 1-12; always ab 14|brl,translate,t.ctb|aab|AC||0
+t.ctb: space \\s 0; letter b 12; letter u 136; letter t 2345; word but 12; word b 56-12|brl,translate,t.ctb|b but|;B B||0
+t.ctb: space \\s 0; letter a 1; letter b 12; punctuation . 256; begword ab 14; endword ab 15; word ab 16; midword ab 24|brl,translate,t.ctb|ab aba aab aaba ab.|* CA AE AIA *4||0
+t.ctb: space \\s 0; letter a 1; letter b 12; partword ab 14|brl,translate,t.ctb|ab aba aab|AB CA AC||0
+t.ctb: letter a 1; always a 14; always a 15|brl,translate,t.ctb|a|C||0
+t.ctb: letter a 1; letter b 12; noback always ab 14; nofor always ba 15; display \\x2801 1|brl,translate,t.ctb|abba|CBA||0
+t.ctb: letter a 1; always ab 14|brl,translate,t.ctb|||B5 UndefinedInRule ab at t.ctb:2|2
+t.ctb: letter a 1; nofor always ab 14|brl,translate,t.ctb|||B5 UndefinedInRule ab at t.ctb:2|2
+t.ctb: always ab =|brl,translate,t.ctb|||B5 UndefinedInRule ab at t.ctb:1|2
+t.ctb: always ab =; letter a 1; letter b 12; letter c 14; always ab 14|brl,translate,t.ctb|abc|ABC||0
+t.ctb: letter a 1; letter b 12; letter c 14; always ab 14; always ab =|brl,translate,t.ctb|abc|CC||0
+t.ctb: letter a 1; always aaaaaaaaaaaaaaaaaaaaaaaaaaaaaaaa 14|brl,translate,t.ctb|aaaaaaaaaaaaaaaaaaaaaaaaaaaaaaaaa|CA||0
+t.ctb: letter a 1; always aaaaaaaaaaaaaaaaaaaaaaaaaaaaaaaaa 14|brl,translate,t.ctb|||B8 TooMany always at t.ctb:2|2
+t.ctb: noback|brl,translate,t.ctb|||B2 MissingOperand noback at t.ctb:1|2
+t.ctb: nofor always a|brl,translate,t.ctb|||B2 MissingOperand always at t.ctb:1|2
+t.ctb: noback letter a 1|brl,translate,t.ctb|||B1 OutsideProfile letter at t.ctb:1|2
+t.ctb: letter a =|brl,translate,t.ctb|||B4 BadDots = at t.ctb:1|2
+t.ctb: always \\q 14|brl,translate,t.ctb|||B3 BadCharacters \\q at t.ctb:1|2
+t.ctb: digit 1 1; lowercase b 12; uppercase C 14; sign + 346; math = 2356|brl,translate,t.ctb|1bC+=|ABC+7||0
+t.ctb: letter a 1; # letter a; ; letter b|brl,translate,t.ctb|a||B2 MissingOperand letter at t.ctb:4|2
+t.ctb: space \\s 0; letter a 1|brl,translate,t.ctb,--form,ascii|a |A ||0
+t.ctb: space \\s 0; letter a 1|brl,translate,t.ctb,--form,unicode|a |\u{2801}\u{2800}||0
+t.ctb: letter q 17|brl,translate,--form=unicode,t.ctb|q|\u{2841}||0
+";
 
-/// Words behind the program's name, and what the program answers to them over no files: a text that stands in what
-/// is written to each stream, or where it is empty, that nothing is written there.
-pub struct Request {
-    pub words: &'static [&'static str],
-    pub out: &'static str,
-    pub err: &'static str,
-    pub status: u8,
-}
+/// Tables of several files, in the same form.
+pub const INCLUDES: &str = "\
+d/t.ctb: include u.ctb & d/u.ctb: include v/w.ctb & d/v/w.ctb: include x.ctb & d/x.ctb: letter a 1|brl,translate,d/t.ctb|a|A||0
+d/t.ctb: include /v.ctb & /v.ctb: letter a 1|brl,translate,d/t.ctb|a|A||0
+t.ctb: letter a 1; include u.ctb; letter b 12 & u.ctb: letter a 12; letter c 14|brl,translate,t.ctb|abc|ABC||0
+t.ctb: include u.ctb & u.ctb: include t.ctb|brl,translate,t.ctb|||L4 Cycle t.ctb at u.ctb:1|2
+t.ctb: include u|brl,translate,t.ctb|||L1 NotFound u at t.ctb:1|2
+t.ctb: include|brl,translate,t.ctb|||B2 MissingOperand include at t.ctb:1|2
+t.ctb: letter a; include u|brl,translate,t.ctb|||L1 NotFound u at t.ctb:2|2
+t.ctb: include u; pass2 @1 @2 & u: letter a 1; letter a 19|brl,translate,t.ctb|||B4 BadDots 19 at u:2|2
+";
 
-/// A table's lines and two texts, and what `clash` answers.
-pub struct Comparison {
-    pub table: &'static str,
-    pub left: &'static str,
-    pub right: &'static str,
-    pub out: &'static str,
-    pub err: &'static str,
-    pub status: u8,
-}
+/// Two texts, in the same form.
+pub const COMPARISONS: &str = "\
+t.ctb: letter a 21-0; letter b 12-0|brl,clash,t.ctb,a,b||left: a; right: b; cells: 12-0||1
+t.ctb: letter a 1; letter b 12; letter x 1-12|brl,clash,t.ctb,ab,x||left: ab; right: x; cells: 1-12||1
+t.ctb: letter a 1; letter b 12; letter x 1-12|brl,clash,t.ctb,x,ab||left: x; right: ab; cells: 1-12||1
+t.ctb: letter a 1; letter b 12; letter x 1-12|brl,clash,t.ctb,ab,ab||no clash||0
+t.ctb: letter a 1; letter b 12; letter x 1-12|brl,clash,t.ctb,a,b||no clash||0
+t.ctb: letter a 1; letter b 12; letter x 1-12|brl,clash,t.ctb,xab,abx||left: xab; right: abx; cells: 1-12-1-12||1
+t.ctb: letter a 1; letter b 12; letter x 1-12|brl,clash,t.ctb,zb,y|||F1 UnknownChar 0 at left|2
+t.ctb: letter a 1; letter b 12; letter x 1-12|brl,clash,t.ctb,a,z|||F1 UnknownChar 0 at right|2
+t.ctb: letter a 1; letter b 12; letter x 1-12|brl,clash,t.ctb,abz,a|||F1 UnknownChar 2 at left|2
+t.ctb: letter a 1; letter b 12; letter x 1-12|brl,clash,t.ctb,z,z|||F1 UnknownChar 0 at left|2
+t.ctb: space \\s 1; punctuation \\\\ 1; space \\t 1; space \\x0001 1; letter \u{56fd} 1|brl,clash,t.ctb,\u{56fd},\u{e9}|||F1 UnknownChar 0 at right|2
+t.ctb: letter a 0-123456; letter b 87-12; letter c 0-123456-78-12|brl,clash,t.ctb,ab,c||left: ab; right: c; cells: 0-123456-78-12||1
+t.ctb: letter a 19|brl,clash,t.ctb,z,y|||B4 BadDots 19 at t.ctb:1|2
+t.ctb: letter a 1; letter b 12; letter c 14; always ab 14|brl,clash,t.ctb,ab,c||left: ab; right: c; cells: 14||1
+t.ctb: space \\s 0; letter b 12; letter u 136; letter t 2345; word but 12|brl,clash,t.ctb,but,b||left: but; right: b; cells: 12||1
+t.ctb: letter a 1; letter b 12; letter x 1-12; always ab 14|brl,clash,t.ctb,ab,x||no clash||0
+t.ctb: letter a 1; letter b 12; letter x 1-12|brl,clash,t.ctb,,||no clash||0
+t.ctb: letter a 1; letter b 12; letter x 1-12|brl,clash,t.ctb,,a||no clash||0
+t.ctb: space \\s 1; punctuation \\\\ 1; space \\t 1; space \\x0001 1; letter \u{56fd} 1|brl,clash,t.ctb, ,\\||left: \\s; right: \\\\; cells: 1||1
+t.ctb: space \\s 1; punctuation \\\\ 1; space \\t 1; space \\x0001 1; letter \u{56fd} 1|brl,clash,t.ctb,\t\u{1},\u{56fd} ||left: \\t\\x0001; right: \u{56fd}\\s; cells: 1-1||1
+";
 
-/// Files by their paths, the first being the table, an input, and what `translate` answers.
-pub struct Tree {
-    pub files: &'static [(&'static str, &'static str)],
-    pub input: &'static [u8],
-    pub out: &'static str,
-    pub err: &'static str,
-    pub status: u8,
-}
-
-pub fn trees() -> &'static [Tree] {
-    &TREES
-}
-
-pub fn comparisons() -> &'static [Comparison] {
-    &COMPARISONS
-}
-
-pub fn runs() -> &'static [Run] {
-    &RUNS
-}
-
-/// Runs over tables with rules.
-pub fn rules() -> &'static [Run] {
-    &RULES
-}
-
-pub fn requests() -> &'static [Request] {
-    &REQUESTS
-}
-
-const LETTERS: &str = "space \\s 0\nletter a 1\nletter b 12\nletter c 14\n";
-
-/// A table in which `x` looks like `ab`.
-pub const ALIKE: &str = "letter a 1\nletter b 12\nletter x 1-12\n";
-
-/// A table of one cell for characters that are spelled by escapes.
-const ESCAPES: &str =
-    "space \\s 1\npunctuation \\\\ 1\nspace \\t 1\nspace \\x0001 1\nletter \u{56fd} 1\n";
-
-static RUNS: [Run; 23] = [
-    Run {
-        table: LETTERS,
-        input: b"abc a\n",
-        out: "ABC A\n",
-        err: "",
-        status: 0,
-    },
-    Run {
-        table: LETTERS,
-        input: b"abc a",
-        out: "ABC A\n",
-        err: "",
-        status: 0,
-    },
-    Run {
-        table: LETTERS,
-        input: b"",
-        out: "",
-        err: "",
-        status: 0,
-    },
-    Run {
-        table: LETTERS,
-        input: b"az\n",
-        out: "",
-        err: "F1 UnknownChar 1 at line 1\n",
-        status: 2,
-    },
-    Run {
-        table: LETTERS,
-        input: b"ab\nc\naz\nb\n",
-        out: "AB\nC\n",
-        err: "F1 UnknownChar 1 at line 3\n",
-        status: 2,
-    },
-    Run {
-        table: LETTERS,
-        input: b"\xff\n",
-        out: "",
-        err: "U2 InputNotUtf8 at line 1\n",
-        status: 2,
-    },
-    Run {
-        table: "",
-        input: b"\n",
-        out: "\n",
-        err: "",
-        status: 0,
-    },
-    Run {
-        table: "letter q 17\n",
-        input: b"q\n",
-        out: "",
-        err: "U1 NoAscii at line 1\n",
-        status: 2,
-    },
-    Run {
-        table: "pass2 @1 @2\n",
-        input: b"",
-        out: "",
-        err: "B1 OutsideProfile pass2 at t.ctb:1\n",
-        status: 2,
-    },
-    Run {
-        table: "letter a 1\nletter a 12\n",
-        input: b"a\n",
-        out: "A\n",
-        err: "",
-        status: 0,
-    },
-    Run {
-        table: "letter a\n",
-        input: b"",
-        out: "",
-        err: "B2 MissingOperand letter at t.ctb:1\n",
-        status: 2,
-    },
-    Run {
-        table: "letter ab 1\n",
-        input: b"",
-        out: "",
-        err: "B3 BadCharacters ab at t.ctb:1\n",
-        status: 2,
-    },
-    Run {
-        table: "letter \\q 1\n",
-        input: b"",
-        out: "",
-        err: "B3 BadCharacters \\q at t.ctb:1\n",
-        status: 2,
-    },
-    Run {
-        table: "letter a 19\n",
-        input: b"",
-        out: "",
-        err: "B4 BadDots 19 at t.ctb:1\n",
-        status: 2,
-    },
-    Run {
-        table: "letter a 1-\n",
-        input: b"",
-        out: "",
-        err: "B4 BadDots 1- at t.ctb:1\n",
-        status: 2,
-    },
-    Run {
-        table: "letter a 9\n",
-        input: b"",
-        out: "",
-        err: "B4 BadDots 9 at t.ctb:1\n",
-        status: 2,
-    },
-    Run {
-        table: "letter a 01\n",
-        input: b"",
-        out: "",
-        err: "B4 BadDots 01 at t.ctb:1\n",
-        status: 2,
-    },
-    Run {
-        table: "letter a 11\n",
-        input: b"",
-        out: "",
-        err: "B4 BadDots 11 at t.ctb:1\n",
-        status: 2,
-    },
-    Run {
-        table: "letter a 1-1-1-1-1-1-1-1-1-1-1-1-1-1-1-1-1\n",
-        input: b"",
-        out: "",
-        err: "B4 BadDots 1-1-1-1-1-1-1-1-1-1-1-1-1-1-1-1-1 at t.ctb:1\n",
-        status: 2,
-    },
-    Run {
-        table: "letter a 21-0\n",
-        input: b"a\n",
-        out: "B \n",
-        err: "",
-        status: 0,
-    },
-    Run {
-        table: "letter a 1\n# letter a\n\nletter b\n",
-        input: b"\xff\n",
-        out: "",
-        err: "B2 MissingOperand letter at t.ctb:4\n",
-        status: 2,
-    },
-    Run {
-        table: "\u{feff}letter a 1\r\npunctuation . 256 full stop\r\n",
-        input: b"a.\r\n",
-        out: "A4\n",
-        err: "",
-        status: 0,
-    },
-    Run {
-        table: "letter \u{e9} 123456-1\n",
-        input: b"\xc3\xa9\xc3\xa9\n",
-        out: "=A=A\n",
-        err: "",
-        status: 0,
-    },
-];
-
-static RULES: [Run; 18] = [
-    Run {
-        table: "letter a 1\nletter b 12\nletter x 1-12\nalways ab 14\n",
-        input: b"aab\n",
-        out: "AC\n",
-        err: "",
-        status: 0,
-    },
-    Run {
-        table: "space \\s 0\nletter b 12\nletter u 136\nletter t 2345\nword but 12\nword b 56-12\n",
-        input: b"b but\n",
-        out: ";B B\n",
-        err: "",
-        status: 0,
-    },
-    Run {
-        table: "space \\s 0\nletter a 1\nletter b 12\npunctuation . 256\nbegword ab 14\nendword ab 15\nword ab 16\nmidword ab 24\n",
-        input: b"ab aba aab aaba ab.\n",
-        out: "* CA AE AIA *4\n",
-        err: "",
-        status: 0,
-    },
-    Run {
-        table: "space \\s 0\nletter a 1\nletter b 12\npartword ab 14\n",
-        input: b"ab aba aab\n",
-        out: "AB CA AC\n",
-        err: "",
-        status: 0,
-    },
-    Run {
-        table: "letter a 1\nalways a 14\nalways a 15\n",
-        input: b"a\n",
-        out: "C\n",
-        err: "",
-        status: 0,
-    },
-    Run {
-        table: "letter a 1\nletter b 12\nnoback always ab 14\nnofor always ba 15\ndisplay \\x2801 1\n",
-        input: b"abba\n",
-        out: "CBA\n",
-        err: "",
-        status: 0,
-    },
-    Run {
-        table: "letter a 1\nalways ab 14\n",
-        input: b"",
-        out: "",
-        err: "B5 UndefinedInRule ab at t.ctb:2\n",
-        status: 2,
-    },
-    Run {
-        table: "letter a 1\nnofor always ab 14\n",
-        input: b"",
-        out: "",
-        err: "B5 UndefinedInRule ab at t.ctb:2\n",
-        status: 2,
-    },
-    Run {
-        table: "always ab =\n",
-        input: b"",
-        out: "",
-        err: "B5 UndefinedInRule ab at t.ctb:1\n",
-        status: 2,
-    },
-    Run {
-        table: "always ab =\nletter a 1\nletter b 12\nletter c 14\nalways ab 14\n",
-        input: b"abc\n",
-        out: "ABC\n",
-        err: "",
-        status: 0,
-    },
-    Run {
-        table: "letter a 1\nletter b 12\nletter c 14\nalways ab 14\nalways ab =\n",
-        input: b"abc\n",
-        out: "CC\n",
-        err: "",
-        status: 0,
-    },
-    Run {
-        table: "letter a 1\nalways aaaaaaaaaaaaaaaaaaaaaaaaaaaaaaaa 14\n",
-        input: b"aaaaaaaaaaaaaaaaaaaaaaaaaaaaaaaaa\n",
-        out: "CA\n",
-        err: "",
-        status: 0,
-    },
-    Run {
-        table: "letter a 1\nalways aaaaaaaaaaaaaaaaaaaaaaaaaaaaaaaaa 14\n",
-        input: b"",
-        out: "",
-        err: "B8 TooMany always at t.ctb:2\n",
-        status: 2,
-    },
-    Run {
-        table: "noback\n",
-        input: b"",
-        out: "",
-        err: "B2 MissingOperand noback at t.ctb:1\n",
-        status: 2,
-    },
-    Run {
-        table: "nofor always a\n",
-        input: b"",
-        out: "",
-        err: "B2 MissingOperand always at t.ctb:1\n",
-        status: 2,
-    },
-    Run {
-        table: "noback letter a 1\n",
-        input: b"",
-        out: "",
-        err: "B1 OutsideProfile letter at t.ctb:1\n",
-        status: 2,
-    },
-    Run {
-        table: "letter a =\n",
-        input: b"",
-        out: "",
-        err: "B4 BadDots = at t.ctb:1\n",
-        status: 2,
-    },
-    Run {
-        table: "always \\q 14\n",
-        input: b"",
-        out: "",
-        err: "B3 BadCharacters \\q at t.ctb:1\n",
-        status: 2,
-    },
-];
-
-static REQUESTS: [Request; 19] = [
-    Request {
-        words: &["translate", "t.ctb"],
-        out: "",
-        err: "L1 NotFound t.ctb\n",
-        status: 2,
-    },
-    Request {
-        words: &["--help"],
-        out: "Usage: brl <COMMAND>",
-        err: "",
-        status: 0,
-    },
-    Request {
-        words: &["help"],
-        out: "Usage: brl <COMMAND>",
-        err: "",
-        status: 0,
-    },
-    Request {
-        words: &["translate", "--help"],
-        out: "Usage: brl translate [OPTIONS] <TABLE>",
-        err: "",
-        status: 0,
-    },
-    Request {
-        words: &["translate", "-h"],
-        out: "echo 'abc a' | brl translate first.ctb",
-        err: "",
-        status: 0,
-    },
-    Request {
-        words: &["--version"],
-        out: "brl 0.1.0\n",
-        err: "",
-        status: 0,
-    },
-    Request {
-        words: &[],
-        out: "",
-        err: "Usage: brl <COMMAND>",
-        status: 2,
-    },
-    Request {
-        words: &["translate"],
-        out: "",
-        err: "<TABLE>",
-        status: 2,
-    },
-    Request {
-        words: &["translate", "t.ctb", "more"],
-        out: "",
-        err: "unexpected argument 'more'",
-        status: 2,
-    },
-    Request {
-        words: &["translate", "--nothing", "t.ctb"],
-        out: "",
-        err: "unexpected argument '--nothing'",
-        status: 2,
-    },
-    Request {
-        words: &["translate", "--form", "unicode", "t.ctb"],
-        out: "",
-        err: "L1 NotFound t.ctb\n",
-        status: 2,
-    },
-    Request {
-        words: &["translate", "--form", "latin", "t.ctb"],
-        out: "",
-        err: "invalid value 'latin' for '--form <FORM>'",
-        status: 2,
-    },
-    Request {
-        words: &["translate", "--help"],
-        out: "[possible values: ascii, unicode]",
-        err: "",
-        status: 0,
-    },
-    Request {
-        words: &["--nothing"],
-        out: "",
-        err: "unexpected argument '--nothing'",
-        status: 2,
-    },
-    Request {
-        words: &["clash", "t.ctb", "a", "b"],
-        out: "",
-        err: "L1 NotFound t.ctb\n",
-        status: 2,
-    },
-    Request {
-        words: &["clash", "--help"],
-        out: "brl clash alike.ctb ab x",
-        err: "",
-        status: 0,
-    },
-    Request {
-        words: &["clash", "t.ctb", "a"],
-        out: "",
-        err: "<RIGHT>",
-        status: 2,
-    },
-    Request {
-        words: &["clash", "t.ctb", "a", "b", "c"],
-        out: "",
-        err: "unexpected argument 'c'",
-        status: 2,
-    },
-    Request {
-        words: &["search", "t.ctb", "o"],
-        out: "",
-        err: "unrecognized subcommand 'search'",
-        status: 2,
-    },
-];
-
-static COMPARISONS: [Comparison; 20] = [
-    Comparison {
-        table: "letter a 21-0\nletter b 12-0\n",
-        left: "a",
-        right: "b",
-        out: "left: a\nright: b\ncells: 12-0\n",
-        err: "",
-        status: 1,
-    },
-    Comparison {
-        table: ALIKE,
-        left: "ab",
-        right: "x",
-        out: "left: ab\nright: x\ncells: 1-12\n",
-        err: "",
-        status: 1,
-    },
-    Comparison {
-        table: ALIKE,
-        left: "x",
-        right: "ab",
-        out: "left: x\nright: ab\ncells: 1-12\n",
-        err: "",
-        status: 1,
-    },
-    Comparison {
-        table: ALIKE,
-        left: "ab",
-        right: "ab",
-        out: "no clash\n",
-        err: "",
-        status: 0,
-    },
-    Comparison {
-        table: ALIKE,
-        left: "a",
-        right: "b",
-        out: "no clash\n",
-        err: "",
-        status: 0,
-    },
-    Comparison {
-        table: ALIKE,
-        left: "",
-        right: "",
-        out: "no clash\n",
-        err: "",
-        status: 0,
-    },
-    Comparison {
-        table: ALIKE,
-        left: "",
-        right: "a",
-        out: "no clash\n",
-        err: "",
-        status: 0,
-    },
-    Comparison {
-        table: ALIKE,
-        left: "xab",
-        right: "abx",
-        out: "left: xab\nright: abx\ncells: 1-12-1-12\n",
-        err: "",
-        status: 1,
-    },
-    Comparison {
-        table: ALIKE,
-        left: "zb",
-        right: "y",
-        out: "",
-        err: "F1 UnknownChar 0 at left\n",
-        status: 2,
-    },
-    Comparison {
-        table: ALIKE,
-        left: "a",
-        right: "z",
-        out: "",
-        err: "F1 UnknownChar 0 at right\n",
-        status: 2,
-    },
-    Comparison {
-        table: ALIKE,
-        left: "abz",
-        right: "a",
-        out: "",
-        err: "F1 UnknownChar 2 at left\n",
-        status: 2,
-    },
-    Comparison {
-        table: ALIKE,
-        left: "z",
-        right: "z",
-        out: "",
-        err: "F1 UnknownChar 0 at left\n",
-        status: 2,
-    },
-    Comparison {
-        table: ESCAPES,
-        left: " ",
-        right: "\\",
-        out: "left: \\s\nright: \\\\\ncells: 1\n",
-        err: "",
-        status: 1,
-    },
-    Comparison {
-        table: ESCAPES,
-        left: "\t\u{1}",
-        right: "\u{56fd} ",
-        out: "left: \\t\\x0001\nright: \u{56fd}\\s\ncells: 1-1\n",
-        err: "",
-        status: 1,
-    },
-    Comparison {
-        table: ESCAPES,
-        left: "\u{56fd}",
-        right: "\u{e9}",
-        out: "",
-        err: "F1 UnknownChar 0 at right\n",
-        status: 2,
-    },
-    Comparison {
-        table: "letter a 0-123456\nletter b 87-12\nletter c 0-123456-78-12\n",
-        left: "ab",
-        right: "c",
-        out: "left: ab\nright: c\ncells: 0-123456-78-12\n",
-        err: "",
-        status: 1,
-    },
-    Comparison {
-        table: "letter a 19\n",
-        left: "z",
-        right: "y",
-        out: "",
-        err: "B4 BadDots 19 at t.ctb:1\n",
-        status: 2,
-    },
-    Comparison {
-        table: "letter a 1\nletter b 12\nletter c 14\nalways ab 14\n",
-        left: "ab",
-        right: "c",
-        out: "left: ab\nright: c\ncells: 14\n",
-        err: "",
-        status: 1,
-    },
-    Comparison {
-        table: "space \\s 0\nletter b 12\nletter u 136\nletter t 2345\nword but 12\n",
-        left: "but",
-        right: "b",
-        out: "left: but\nright: b\ncells: 12\n",
-        err: "",
-        status: 1,
-    },
-    Comparison {
-        table: "letter a 1\nletter b 12\nletter x 1-12\nalways ab 14\n",
-        left: "ab",
-        right: "x",
-        out: "no clash\n",
-        err: "",
-        status: 0,
-    },
-];
-
-static TREES: [Tree; 9] = [
-    Tree {
-        files: &[
-            ("d/t.ctb", "include u.ctb\n"),
-            ("d/u.ctb", "include v/w.ctb\n"),
-            ("d/v/w.ctb", "include x.ctb\n"),
-            ("d/x.ctb", "letter a 1\n"),
-        ],
-        input: b"a\n",
-        out: "A\n",
-        err: "",
-        status: 0,
-    },
-    Tree {
-        files: &[("d/t.ctb", "include /v.ctb\n"), ("/v.ctb", "letter a 1\n")],
-        input: b"a\n",
-        out: "A\n",
-        err: "",
-        status: 0,
-    },
-    Tree {
-        files: &[
-            ("t.ctb", "letter a 1\ninclude u.ctb\nletter b 12\n"),
-            ("u.ctb", "letter a 12\nletter c 14\n"),
-        ],
-        input: b"abc\n",
-        out: "ABC\n",
-        err: "",
-        status: 0,
-    },
-    Tree {
-        files: &[("t.ctb", "include u.ctb\n"), ("u.ctb", "include t.ctb\n")],
-        input: b"",
-        out: "",
-        err: "L4 Cycle t.ctb at u.ctb:1\n",
-        status: 2,
-    },
-    Tree {
-        files: &[("t.ctb", "include u\n")],
-        input: b"",
-        out: "",
-        err: "L1 NotFound u at t.ctb:1\n",
-        status: 2,
-    },
-    Tree {
-        files: &[("t.ctb", "include\n")],
-        input: b"",
-        out: "",
-        err: "B2 MissingOperand include at t.ctb:1\n",
-        status: 2,
-    },
-    Tree {
-        files: &[("t.ctb", "letter a\ninclude u\n")],
-        input: b"",
-        out: "",
-        err: "L1 NotFound u at t.ctb:2\n",
-        status: 2,
-    },
-    Tree {
-        files: &[
-            ("t.ctb", "include u\npass2 @1 @2\n"),
-            ("u", "letter a 1\nletter a 19\n"),
-        ],
-        input: b"",
-        out: "",
-        err: "B4 BadDots 19 at u:2\n",
-        status: 2,
-    },
-    Tree {
-        files: &[(
-            "t.ctb",
-            "digit 1 1\nlowercase b 12\nuppercase C 14\nsign + 346\nmath = 2356\n",
-        )],
-        input: b"1bC+=\n",
-        out: "ABC+7\n",
-        err: "",
-        status: 0,
-    },
-];
+/// The words, over no files, and a text that stands on standard output, and on standard error; where it is empty, nothing stands
+/// there; and the status.
+pub const REQUESTS: &str = "\
+brl,translate,t.ctb||L1 NotFound t.ctb|2
+brl,--help|Usage: brl <COMMAND>||0
+brl,help|Usage: brl <COMMAND>||0
+brl,translate,--help|Usage: brl translate [OPTIONS] <TABLE>||0
+brl,translate,-h|brl translate first.ctb||0
+brl,--version|brl 0.1.0||0
+brl||Usage: brl <COMMAND>|2
+brl,translate||<TABLE>|2
+brl,translate,t.ctb,more||unexpected argument 'more'|2
+brl,translate,--nothing,t.ctb||unexpected argument '--nothing'|2
+brl,translate,--form,unicode,t.ctb||L1 NotFound t.ctb|2
+brl,translate,--form,latin,t.ctb||invalid value 'latin' for '--form <FORM>'|2
+brl,translate,--help|[possible values: ascii, unicode]||0
+brl,--nothing||unexpected argument '--nothing'|2
+brl,clash,t.ctb,a,b||L1 NotFound t.ctb|2
+brl,clash,--help|brl clash alike.ctb ab x||0
+brl,clash,t.ctb,a||<RIGHT>|2
+brl,clash,t.ctb,a,b,c||unexpected argument 'c'|2
+brl,search,t.ctb,o||unrecognized subcommand 'search'|2
+";
