@@ -1,20 +1,19 @@
-//! A small table made from parts, its readers, worked translations as theorems, and tables from lines.
+//! Worked translations as theorems, the tables and faults of lines in rows whose fields are cut at `|`, and the readers.
 ghost use Rattle.std.specs.Prelude.{◌≡◌, ◌∷◌, [], codes};
 ghost use Rattle.brl_table.specs.Examples.{contracted, whole_marked, numbers_with_points};
 ghost use Rattle.brl_table.specs.Translation.{translation, IsClash};
 ghost use Rattle.brl_table.specs.Examples.{two_cells};
 
-mod rules;
-
 use crate::{
-    Chars, Class, Cond, Context, Info, Notice, Place, Rule, Sign, Table, TableFault, TableParts,
-    Wrong, holds, read_table,
+    Chars, Class, Cond, Context, Info, Notice, Place, Rule, Sign, Table, TableParts, holds,
+    read_table,
 };
 use bitflags::Flags;
-use brl_cells::{Cell, Cells};
-use brl_lines::{Line, Token};
+use brl_cells::{Cell, Cells, write_dots};
+use brl_lines::{Line, MapSource, Token, load};
 use indexmap::IndexMap;
 use std::alloc::Global;
+use std::collections::BTreeMap;
 use std::test::Fail;
 
 /// Worked translations and a clash, computed from the definitions.
@@ -25,105 +24,188 @@ fn worked_theorems()
     ensures clash { IsClash two_cells (codes "ab") (codes "x") (1 ∷ 3 ∷ []) }
 {}
 
+/// Lines, and what they define: the characters with their dots, their classes and the line of their dots; the rules in rank;
+/// the notices.
+const TABLES: &str = "\
+letter a 1; punctuation a 12|a 1 10 at 1;again a at 2;
+space a 1; digit b 1; lowercase c 1; uppercase d 1; sign e 1; math f 1|a 1 1 at 1;b 1 4 at 2;c 1 24 at 3;d 1 40 at 4;e 1 64 at 5;f 1 128 at 6;
+letter a 1; always a 14; always a 15|a 1 8 at 1;Always a 14 at 2;Always a 15 at 3;
+letter a 1; letter b 12; always a 14; always ab 15; word b 16; always ba 17|a 1 8 at 1;b 12 8 at 2;Always ab 15 at 4;Always ba 17 at 6;Always a 14 at 3;Word b 16 at 5;
+letter a 1; letter b 12; noback always ab 14; nofor always ba 15; display \\x2801 1|a 1 8 at 1;b 12 8 at 2;Always ab 14 at 3;
+always ab =; letter a 1; letter b 12|a 1 8 at 2;b 12 8 at 3;Always ab 1-12 at 1;
+letter a 1; letter b 12-3; always aba =|a 1 8 at 1;b 12-3 8 at 2;Always aba 1-12-3-1 at 3;
+letter a 1; punctuation a 2; always aa =; nofor word a =|a 1 10 at 1;Always aa 1-1 at 3;again a at 2;
+letter a 1; always a 0 = all behind is a comment|a 1 8 at 1;Always a 0 at 2;
+letter a 1; always \\x0061a 14-5|a 1 8 at 1;Always aa 14-5 at 2;
+letter a 1; sufword a 1; prfword a 1; begword a 1; begmidword a 1; midword a 1; midendword a 1|a 1 8 at 1;Sufword a 1 at 2;Prfword a 1 at 3;Begword a 1 at 4;Begmidword a 1 at 5;Midword a 1 at 6;Midendword a 1 at 7;
+letter a 1; endword a 1; partword a 1; begnum a 1; midnum a 1; endnum a 1|a 1 8 at 1;Endword a 1 at 2;Partword a 1 at 3;Begnum a 1 at 4;Midnum a 1 at 5;Endnum a 1 at 6;
+";
+
+/// Lines, and the fault that decides.
+const FAULTS: &str = "\
+pass2 @1 @2|B1 OutsideProfile pass2 at t.ctb:1
+letter ab 1|B3 BadCharacters ab at t.ctb:1
+letter a 19|B4 BadDots 19 at t.ctb:1
+always ab =|B5 UndefinedInRule ab at t.ctb:1
+letter a 1; noback word \\x0062 =|B5 UndefinedInRule \\x0062 at t.ctb:2
+always a 1; always b 1; letter a 1|B5 UndefinedInRule b at t.ctb:2
+display b 1; always b 1|B5 UndefinedInRule b at t.ctb:2
+always x 1; letter a 1; pass2 @1 @2|B1 OutsideProfile pass2 at t.ctb:3
+nofor|B2 MissingOperand nofor at t.ctb:1
+noback nofor always a 1|B1 OutsideProfile nofor at t.ctb:1
+nofor always|B2 MissingOperand always at t.ctb:1
+noback endnum a|B2 MissingOperand endnum at t.ctb:1
+display a|B2 MissingOperand display at t.ctb:1
+always a 1,2|B4 BadDots 1,2 at t.ctb:1
+display a =|B4 BadDots = at t.ctb:1
+display ab 1|B3 BadCharacters ab at t.ctb:1
+nofor always a\\x00 9|B3 BadCharacters a\\x00 at t.ctb:1
+letter a 1; nofor word aaaaaaaaaaaaaaaaaaaaaaaaaaaaaaaaa 1|B8 TooMany word at t.ctb:2
+";
+
+/// What lines that are cut at `; ` define, or their fault.
+fn shown(alloc: Global, lines: &str) -> Result<String, Fail> {
+    let mut text = String::new(alloc);
+    for line in lines.split("; ") {
+        text.push_str(line)?;
+        text.push('\n')?;
+    }
+    let mut files = BTreeMap::new(alloc);
+    files.insert(String::from_str(alloc, "t.ctb")?, text.into_bytes())?;
+    let loaded = load(alloc, &mut MapSource::new(files), "t.ctb")?;
+    match read_table(alloc, loaded.lines(alloc)?.as_slice()) {
+        Ok(table) => table_text(alloc, &table),
+        Err(fault) => Ok(format!(in alloc; "{fault}")?),
+    }
+}
+
+fn table_text(alloc: Global, table: &Table) -> Result<String, Fail> {
+    let mut text = characters_text(alloc, table)?;
+    for rule in table.rules_in_rank() {
+        text.push_str(rule_text(alloc, rule)?.as_str())?;
+    }
+    for notice in table.notices() {
+        let again = format!(in alloc; "again {} at {};", notice.character, notice.line)?;
+        text.push_str(again.as_str())?;
+    }
+    Ok(text)
+}
+
+fn characters_text(alloc: Global, table: &Table) -> Result<String, Fail> {
+    let mut text = String::new(alloc);
+    for number in 0..table.char_count() {
+        let character = table.char_at(number as u32);
+        let info = table.info(character).ok_or("it isn't defined")?;
+        let dots = write_dots(alloc, info.cells.as_slice())?;
+        let one = format!(in alloc; "{character} {dots} {} at {};", info.classes.0, info.line)?;
+        text.push_str(one.as_str())?;
+    }
+    Ok(text)
+}
+
+fn rule_text(alloc: Global, rule: &Rule) -> Result<String, Fail> {
+    let mut chars = String::new(alloc);
+    for character in rule.chars.as_slice() {
+        chars.push(*character)?;
+    }
+    let dots = write_dots(alloc, rule.cells.as_slice())?;
+    Ok(format!(in alloc; "{:?} {chars} {dots} at {};", rule.place, rule.line)?)
+}
+
+#[test]
+fn tables_and_faults_of_lines(rt: HostRuntime) -> Result<(), Fail> {
+    for row in TABLES.lines().chain(FAULTS.lines()) {
+        let (lines, want) = row.split_once('|').ok_or("a field is missing")?;
+        let given = shown(rt.alloc(), lines)?;
+        assert!(rt; given.as_str() == want, "{lines}: {given}");
+    }
+    Ok(())
+}
+
+fn token(text: &str) -> Token<'_> {
+    Token { text, start: 0 }
+}
+
+/// A line that `load` never leaves.
+#[test]
+fn an_include_line_that_is_left(rt: HostRuntime) -> Result<(), Fail> {
+    let alloc = rt.alloc();
+    let line = Line {
+        file: "t.ctb",
+        line: 1,
+        opcode: token("include"),
+        operands: vec![in alloc; token("u")]?,
+    };
+    let Err(fault) = read_table(alloc, vec![in alloc; line]?.as_slice()) else {
+        return Err(Fail::from("no fault"));
+    };
+    let text = format!(in alloc; "{fault}")?;
+    assert!(rt; text.as_str() == "B1 OutsideProfile include at t.ctb:1");
+    Ok(())
+}
+
+/// The fault of a table of so many characters, if it has one.
+fn fault_of_characters(alloc: Global, count: u32) -> Result<String, Fail> {
+    let mut lines = String::new(alloc);
+    for number in 0..count {
+        lines.push_str(format!(in alloc; "letter \\y{number:05x} 1; ")?.as_str())?;
+    }
+    lines.push('#')?;
+    let text = shown(alloc, lines.as_str())?;
+    Ok(String::from_str(
+        alloc,
+        text.split_once("TooMany").map_or("", |parts| parts.1),
+    )?)
+}
+
+#[test]
+fn as_many_characters_as_a_table_may_have(rt: HostRuntime) -> Result<(), Fail> {
+    assert!(rt; fault_of_characters(rt.alloc(), 1024)?.is_empty());
+    let fault = fault_of_characters(rt.alloc(), 1025)?;
+    assert!(rt; fault.as_str() == " letter at t.ctb:1025");
+    Ok(())
+}
+
 fn one_cell(alloc: Global, cell: Cell) -> Result<Cells, Fail> {
     Ok(Cells::from_slice(alloc, &[cell])?)
 }
 
-fn letter(alloc: Global, number: u32, character: char, cell: Cell) -> Result<Info, Fail> {
-    Ok(Info {
-        number,
-        cells: one_cell(alloc, cell)?,
+/// `letter a 1; always a 14`, with a number sign and a notice.
+fn parts(alloc: Global) -> Result<TableParts, Fail> {
+    let mut characters = IndexMap::new(alloc);
+    let info = Info {
+        number: 0,
+        cells: one_cell(alloc, Cell(1))?,
         classes: Class::LETTER,
         literary: false,
         mode: false,
         nocont: false,
-        fold: character,
+        fold: 'a',
         file: 0,
         line: 1,
-    })
-}
-
-/// `letter a 1; letter b 12; always a 14; always ab 15; numsign 3456; letter a 1`
-fn parts(alloc: Global) -> Result<TableParts, Fail> {
-    let mut characters = IndexMap::new(alloc);
-    characters.insert('a', letter(alloc, 0, 'a', Cell(1))?)?;
-    characters.insert('b', letter(alloc, 1, 'b', Cell(3))?)?;
+    };
+    characters.insert('a', info)?;
+    let rule = Rule {
+        chars: Chars::from_vec(vec![in alloc; 'a']?),
+        cells: one_cell(alloc, Cell(9))?,
+        place: Place::Always,
+        file: 0,
+        line: 2,
+    };
+    let notice = Notice {
+        character: 'a',
+        file: 0,
+        line: 3,
+    };
     Ok(TableParts {
         characters,
-        rules: vec![in alloc; rule(alloc, "a", Cell(9))?, rule(alloc, "ab", Cell(17))?]?,
+        rules: vec![in alloc; rule]?,
         caps_letter: Cells::new(alloc),
         num_sign: one_cell(alloc, Cell(60))?,
         no_contract_sign: Cells::new(alloc),
         files: vec![in alloc; String::from_str(alloc, "t.ctb")?]?,
-        notices: vec![in alloc;
-            Notice {
-                character: 'a',
-                file: 0,
-                line: 6
-            },
-        ]?,
+        notices: vec![in alloc; notice]?,
     })
-}
-
-fn rule(alloc: Global, chars: &str, cell: Cell) -> Result<Rule, Fail> {
-    Ok(Rule {
-        chars: Chars::from_vec(chars.chars().collect(alloc)?),
-        cells: one_cell(alloc, cell)?,
-        place: Place::Always,
-        file: 0,
-        line: 3,
-    })
-}
-
-fn table(alloc: Global) -> Result<Table, Fail> {
-    let parts = parts(alloc)?;
-    if !parts.are_valid() {
-        return Err(Fail::from("the parts make no table"));
-    }
-    Ok(Table::from_parts(parts)?)
-}
-
-#[test]
-fn characters_of_a_table(rt: HostRuntime) -> Result<(), Fail> {
-    let table = table(rt.alloc())?;
-    assert_eq!(rt; table.char_count(), 2);
-    assert_eq!(rt; table.char_at(1), 'b');
-    assert!(rt; table.info('a').is_some_and(|info| info.number == 0));
-    assert!(rt; table.info('z').is_none());
-    Ok(())
-}
-
-#[test]
-fn rules_of_a_table(rt: HostRuntime) -> Result<(), Fail> {
-    let table = table(rt.alloc())?;
-    let rules = table.rules_in_rank();
-    assert_eq!(rt; rules.len(), 2);
-    assert_eq!(rt; rules[0].chars.as_slice(), ['a', 'b'].as_slice());
-    assert_eq!(rt; rules[1].chars.len(), 1);
-    Ok(())
-}
-
-#[test]
-fn other_parts_of_a_table(rt: HostRuntime) -> Result<(), Fail> {
-    let table = table(rt.alloc())?;
-    assert_eq!(rt; table.indicator(Sign::NumSign), [Cell(60)].as_slice());
-    assert!(rt; table.indicator(Sign::CapsLetter).is_empty());
-    assert_eq!(rt; table.notices().len(), 1);
-    let notice = table.notices()[0];
-    assert_eq!(rt; notice.line, 6);
-    Ok(())
-}
-
-#[test]
-fn choices_of_a_table(rt: HostRuntime) -> Result<(), Fail> {
-    let table = table(rt.alloc())?;
-    let longest = table.choice(Class::SPACE, &['a', 'b']);
-    assert_eq!(rt; longest.number, 0);
-    assert_eq!(rt; longest.taken, 2);
-    assert_eq!(rt; longest.cells, [Cell(17)].as_slice());
-    let own = table.choice(Class::SPACE, &['b', 'a']);
-    assert_eq!(rt; own.number, 3);
-    Ok(())
 }
 
 #[test]
@@ -134,172 +216,63 @@ fn parts_without_a_file(rt: HostRuntime) -> Result<(), Fail> {
     Ok(())
 }
 
+fn table_of_parts(alloc: Global) -> Result<Table, Fail> {
+    let parts = parts(alloc)?;
+    if !parts.are_valid() {
+        return Err(Fail::from("the parts make no table"));
+    }
+    Ok(Table::from_parts(parts)?)
+}
+
 #[test]
-fn conditions_of_places(rt: HostRuntime) {
-    let letter = Cond::Meets(Class::LETTER);
-    assert_eq!(rt; Place::Begword.before(), Cond::Meets(Class(3)));
-    assert_eq!(rt; Place::Endword.after(Class::LETTER), Cond::Meets(Class(3)));
-    assert_eq!(rt; Place::Partword.after(Class::SPACE), letter);
-    assert_eq!(rt; Place::Partword.after(Class::LETTER), Cond::Any);
-    assert_eq!(rt; Place::Endnum.after(Class::DIGIT), Cond::Avoids(Class(4)));
-    assert!(rt; holds(letter, Class::LETTER.union(Class::UPPERCASE)));
-    assert!(rt; !holds(Cond::Avoids(Class(4)), Class::DIGIT));
+fn names_and_indicators_of_a_table(rt: HostRuntime) -> Result<(), Fail> {
+    let table = table_of_parts(rt.alloc())?;
+    table.law();
+    let notice = table.notices().first().ok_or("no notice")?;
+    assert!(rt; table.file_name(notice.file) == "t.ctb");
+    assert!(rt; table.indicator(Sign::NumSign) == [Cell(60)].as_slice());
+    assert!(rt; table.indicator(Sign::CapsLetter).is_empty());
+    Ok(())
+}
+
+#[test]
+fn choices_of_a_table(rt: HostRuntime) -> Result<(), Fail> {
+    let table = table_of_parts(rt.alloc())?;
+    let choice = table.choice(Class::SPACE, &['a']);
+    assert!(rt; choice.number == 0 && choice.taken == 1);
+    assert!(rt; choice.cells == [Cell(9)].as_slice());
+    Ok(())
 }
 
 #[test]
 fn contexts_and_indicators(rt: HostRuntime) -> Result<(), Fail> {
-    let alloc = rt.alloc();
-    let table = table(alloc)?;
+    let table = table_of_parts(rt.alloc())?;
     let here = table.context_behind(Context::START, &['a']);
-    assert_eq!(rt; here.classes, Class::LETTER);
-    let mut cells = Vec::new(alloc);
-    table.push_indicators(here, &['b'], &mut cells)?;
+    assert!(rt; here.classes == Class::LETTER);
+    let mut cells = Vec::new(rt.alloc());
+    table.push_indicators(here, &['a'], &mut cells)?;
     assert!(rt; cells.is_empty());
     Ok(())
+}
+
+#[test]
+fn conditions_of_places(rt: HostRuntime) {
+    let letter = Cond::Meets(Class::LETTER);
+    assert!(rt; Place::Begword.before() == Cond::Meets(Class(3)));
+    assert!(rt; Place::Partword.after(Class::SPACE) == letter);
+    assert!(rt; Place::Partword.after(Class::LETTER) == Cond::Any);
+    assert!(rt; Place::Endnum.after(Class::DIGIT) == Cond::Avoids(Class(4)));
+    assert!(rt; holds(letter, Class::LETTER.union(Class::UPPERCASE)));
+    assert!(rt; !holds(Cond::Avoids(Class(4)), Class::DIGIT));
 }
 
 #[test]
 fn lists_of_characters(rt: HostRuntime) -> Result<(), Fail> {
     let alloc = rt.alloc();
     let chars = Chars::from_vec(vec![in alloc; 'a', 'b']?);
-    assert_eq!(rt; chars.len(), 2);
+    assert!(rt; chars.len() == 2);
     let copy = chars.copy(alloc)?;
     assert!(rt; copy == chars);
-    assert_eq!(rt; copy.into_vec().as_slice(), chars.as_slice());
-    Ok(())
-}
-
-/// A line of `t.ctb`: an opcode and its two operands.
-fn line<'a>(
-    alloc: Global,
-    number: u32,
-    opcode: &'a str,
-    first: &'a str,
-    second: &'a str,
-) -> Result<Line<'a>, Fail> {
-    Ok(Line {
-        file: "t.ctb",
-        line: number,
-        opcode: token(opcode),
-        operands: vec![in alloc; token(first), token(second)]?,
-    })
-}
-
-fn token(text: &str) -> Token<'_> {
-    Token { text, start: 0 }
-}
-
-#[test]
-fn a_character_that_is_defined_again(rt: HostRuntime) -> Result<(), Fail> {
-    let alloc = rt.alloc();
-    let first = line(alloc, 1, "letter", "a", "1")?;
-    let second = line(alloc, 2, "punctuation", "a", "12")?;
-    let table = read_table(alloc, vec![in alloc; first, second]?.as_slice())?;
-    let info = table.info('a').ok_or("a isn't defined")?;
-    assert_eq!(rt; info.cells.as_slice(), [Cell(1)].as_slice());
-    assert_eq!(rt; info.classes, Class(10));
-    assert_eq!(rt; table.notices().len(), 1);
-    let notice = table.notices()[0];
-    assert_eq!(rt; notice.line, 2);
-    Ok(())
-}
-
-/// The fault of a table of one line.
-fn fault(alloc: Global, opcode: &str, first: &str, second: &str) -> Result<String, Fail> {
-    let line = line(alloc, 7, opcode, first, second)?;
-    match read_table(alloc, vec![in alloc; line]?.as_slice()) {
-        Ok(_) => Err(Fail::from("no fault")),
-        Err(fault) => Ok(format!(in alloc; "{fault}")?),
-    }
-}
-
-#[test]
-fn faults_of_lines(rt: HostRuntime) -> Result<(), Fail> {
-    let alloc = rt.alloc();
-    let got = fault(alloc, "pass2", "@1", "@2")?;
-    assert_eq!(rt; got.as_str(), "B1 OutsideProfile pass2 at t.ctb:7");
-    let got = fault(alloc, "letter", "ab", "1")?;
-    assert_eq!(rt; got.as_str(), "B3 BadCharacters ab at t.ctb:7");
-    let got = fault(alloc, "letter", "a", "19")?;
-    assert_eq!(rt; got.as_str(), "B4 BadDots 19 at t.ctb:7");
-    Ok(())
-}
-
-/// The opcodes that define a character, with the classes that they give.
-static DEFINING: [(&str, Class); 8] = [
-    ("space", Class(1)),
-    ("punctuation", Class(2)),
-    ("digit", Class(4)),
-    ("letter", Class(8)),
-    ("lowercase", Class(24)),
-    ("uppercase", Class(40)),
-    ("sign", Class(64)),
-    ("math", Class(128)),
-];
-
-fn defining() -> &'static [(&'static str, Class)] {
-    &DEFINING
-}
-
-#[test]
-fn classes_of_opcodes(rt: HostRuntime) -> Result<(), Fail> {
-    let alloc = rt.alloc();
-    for (opcode, classes) in defining() {
-        let line = line(alloc, 1, opcode, "a", "1")?;
-        let table = read_table(alloc, vec![in alloc; line]?.as_slice())?;
-        let info = table.info('a').ok_or("a isn't defined")?;
-        assert_eq!(rt; info.classes, *classes);
-    }
-    Ok(())
-}
-
-#[test]
-fn an_include_line_that_is_left(rt: HostRuntime) -> Result<(), Fail> {
-    let alloc = rt.alloc();
-    let got = fault(alloc, "include", "u", "v")?;
-    assert_eq!(rt; got.as_str(), "B1 OutsideProfile include at t.ctb:7");
-    let line = Line {
-        file: "t.ctb",
-        line: 1,
-        opcode: token("include"),
-        operands: Vec::new(alloc),
-    };
-    let Err(fault) = read_table(alloc, vec![in alloc; line]?.as_slice()) else {
-        return Err(Fail::from("no fault"));
-    };
-    let got = format!(in alloc; "{fault}")?;
-    assert_eq!(rt; got.as_str(), "B2 MissingOperand include at t.ctb:1");
-    Ok(())
-}
-
-/// As many lines as there are names, each of which defines a character.
-fn letters<'a>(alloc: Global, names: &'a [String]) -> Result<Vec<Line<'a>>, Fail> {
-    let mut lines = Vec::new(alloc);
-    for name in names {
-        lines.push(line(alloc, 1, "letter", name.as_str(), "1")?)?;
-    }
-    Ok(lines)
-}
-
-#[test]
-fn as_many_characters_as_a_table_may_have(rt: HostRuntime) -> Result<(), Fail> {
-    let alloc = rt.alloc();
-    let mut names: Vec<String> = Vec::new(alloc);
-    for number in 0x4e00u32..0x5200 {
-        names.push(format!(in alloc; "\\x{number:04x}")?)?;
-    }
-    let table = read_table(alloc, letters(alloc, names.as_slice())?.as_slice())?;
-    assert_eq!(rt; table.char_count(), 1024);
-    names.push(String::from_str(alloc, "a")?)?;
-    let fault = read_table(alloc, letters(alloc, names.as_slice())?.as_slice()).err();
-    assert!(rt;
-        matches!(
-            fault,
-            Some(TableFault::Refused {
-                wrong: Wrong::TooMany,
-                ..
-            })
-        )
-    );
+    assert!(rt; copy.into_vec().as_slice() == chars.as_slice());
     Ok(())
 }
