@@ -1,23 +1,26 @@
 -- When all lines passed the first look: what the second look finds, and the rules of a table that passes it.
 use Rattle.std.proofs.Common.{ℕ, zero, suc, ◌<◌, ◌≤◌, ◌≡◌, Bool, true, false, cond, inr, List, [], ◌∷◌, length, map, take, refl, arith, sym, ◌∙◌, ap, subst, Some, None, Result, Ok}
-use Rattle.std.specs.Prelude.{All, option_map, slice_get}
+use Rattle.std.specs.Prelude.{All, not, option_map, slice_get, if◌then◌else◌}
 use Rattle.std.proofs.lemmas.List.{length-map, map-append, take_all}
 use Rattle.std.proofs.lemmas.List.Elements.{All-nil, All-cons, All-head, All-tail, All-append}
 use Rattle.std.proofs.lemmas.Option.{slice_get-map, slice_get-get_or, slice_get_within}
 use Rattle.brl_lines.specs.Tokens.{LineView}
 use Rattle.brl_table.specs.declared.item.Item.{Item}
-use Rattle.brl_table.specs.declared.item.Item.TheVariants.{Defines, Rules, Nothing}
+use Rattle.brl_table.specs.declared.item.Item.TheVariants.{Defines, DefinesBoth, Rules, Indicates, Lists, Nothing}
+use Rattle.brl_table.specs.declared.item.Role.{Role}
+use Rattle.brl_table.specs.declared.item.Role.TheVariants.{Mode, Nocont}
+use Rattle.brl_table.specs.declared.table.Sign.TheVariants.{CapsLetter, NumSign, NoContractSign}
 use Rattle.brl_table.specs.declared.rule.Info.{Info}
 use Rattle.brl_table.specs.declared.rule.Notice.{Notice}
 use Rattle.brl_table.specs.declared.rule.Rule.{Rule}
 use Rattle.brl_table.specs.declared.table_fault.TableFault.{TableFault}
 use Rattle.brl_table.specs.declared.table_fault.TableFault.TheVariants as faults
-use Rattle.brl_table.specs.declared.table_fault.Wrong.TheVariants.{UndefinedInRule}
+use Rattle.brl_table.specs.declared.table_fault.Wrong.TheVariants.{TwoRoles, UndefinedInList, UndefinedInRule}
 use Rattle.brl_table.specs.Items.{Fault, fault}
 use Rattle.brl_table.specs.Good.{IsGoodItem}
 use Rattle.brl_table.specs.Limits.{IsEntry, IsRule}
 use Rattle.brl_table.specs.Rank.{in_rank}
-use Rattle.brl_table.specs.Reading.{characters_alone, characters_in, characters_table, definitions, entries_said, fault_among, fault_among_all, fault_where_read, files_of, item_in, items, notices_behind, rule_of, table_of, used_in, used_rules, IsFaultOf, PassesBefore, PassesFirst}
+use Rattle.brl_table.specs.Reading.{characters_alone, characters_in, characters_table, definitions, entries_said, listed_said, operand_of, has_two_roles, sign_said, fault_among, fault_among_all, fault_where_read, files_of, item_in, items, notices_behind, rule_of, table_of, used_in, used_rules, IsFaultOf, PassesBefore, PassesFirst}
 use Rattle.brl_table.specs.Said.{over, IsFaultAgain, PassesAgain}
 use Rattle.brl_table.specs.TableView.{TableView}
 use Rattle.brl_table.specs.Text.{is_text}
@@ -37,7 +40,18 @@ at (x ∷ xs) (suc i) h = at xs i (omega (arith, h))
 same-look : (characters : List (ℕ × Info)) (files : List (List ℕ)) (notices : List Notice) (line : LineView) (item : Item)
     → fault_among (characters_alone characters files notices) line item ≡ fault_among (over characters) line item
 same-look characters files notices line (Defines d) = refl
+same-look characters files notices line (DefinesBoth upper lower) = refl
 same-look characters files notices line (Rules r) = refl
+same-look characters files notices line (Indicates sign cells) = refl
+same-look characters files notices line (Lists l) = by_role l.role
+  where
+    by_role : (role : Role)
+        → (let t = characters_alone characters files notices in
+        if not (is_text t l.chars) then Some (fault UndefinedInList (operand_of line 0)) else if has_two_roles t role l.chars then Some (fault TwoRoles (operand_of line 0)) else None)
+        ≡ (let t = over characters in
+        if not (is_text t l.chars) then Some (fault UndefinedInList (operand_of line 0)) else if has_two_roles t role l.chars then Some (fault TwoRoles (operand_of line 0)) else None)
+    by_role Mode = refl
+    by_role Nocont = refl
 same-look characters files notices line Nothing = refl
 
 -- two tables whose fields are the same are the same
@@ -63,7 +77,7 @@ fields_of t u a b c d e f g =
     ≡ made u.characters u.rules u.caps_letter u.num_sign u.no_contract_sign u.files u.notices = cc in
     made-fields t ∙ same ∙ sym (made-fields u)
 
-module _ (lines : List LineView) (said : List Item) (aligned : map Ok said ≡ map (item_in (files_of lines)) lines) (characters : List (ℕ × Info)) (entries : characters ≡ entries_said (definitions said)) where
+module _ (lines : List LineView) (said : List Item) (aligned : map Ok said ≡ map (item_in (files_of lines)) lines) (characters : List (ℕ × Info)) (entries : characters ≡ entries_said (definitions said) (listed_said said)) where
   pub same-length : length lines ≡ length said
   same-length =
       let ok : Item → Result Item Fault = λ item. Ok item in
@@ -82,7 +96,7 @@ module _ (lines : List LineView) (said : List Item) (aligned : map Ok said ≡ m
       let F = files_of lines in
       ap (fault_where_read (characters_table F (items F lines)) line) (says place line item there at)
       ∙ ap (λ xs. fault_among (characters_table F xs) line item) (aligned-items F lines said aligned)
-      ∙ same-look (entries_said (definitions said)) F (notices_behind [] (definitions said)) line item
+      ∙ same-look (entries_said (definitions said) (listed_said said)) F (notices_behind [] (definitions said)) line item
       ∙ ap (λ es. fault_among (over es) line item) (sym entries)
 
   pub passes-second : (end : ℕ) → PassesAgain characters lines said end → PassesBefore (fault_among_all lines) lines end
@@ -109,13 +123,19 @@ module _ (lines : List LineView) (said : List Item) (aligned : map Ok said ≡ m
 
   -- the table of these lines
   pub table-is : (notices : List Notice) → notices ≡ notices_behind [] (definitions said) → (rules : List Rule) → rules ≡ map (rule_of (over characters)) (used_rules said)
-      → (t : TableView) → t.characters ≡ characters → t.rules ≡ in_rank rules → t.caps_letter ≡ [] → t.num_sign ≡ [] → t.no_contract_sign ≡ []
+      → (t : TableView) → t.characters ≡ characters → t.rules ≡ in_rank rules
+      → t.caps_letter ≡ sign_said said CapsLetter → t.num_sign ≡ sign_said said NumSign → t.no_contract_sign ≡ sign_said said NoContractSign
       → t.files ≡ files_of lines → t.notices ≡ notices → t ≡ table_of lines
   table-is notices noticed rules ruled t its_characters its_rules its_caps_letter its_num_sign its_no_contract_sign its_files its_notices =
       let F = files_of lines in
       let of_items : List Item → TableView = λ xs.
-      record (characters_table F xs) { rules = in_rank (map (rule_of (characters_table F xs)) (used_rules xs)) } in
-      let these : t.rules ≡ in_rank (map (rule_of (over (entries_said (definitions said)))) (used_rules said)) =
+      record (characters_table F xs) {
+        rules = in_rank (map (rule_of (characters_table F xs)) (used_rules xs));
+        caps_letter = sign_said xs CapsLetter;
+        num_sign = sign_said xs NumSign;
+        no_contract_sign = sign_said xs NoContractSign;
+      } in
+      let these : t.rules ≡ in_rank (map (rule_of (over (entries_said (definitions said) (listed_said said)))) (used_rules said)) =
       its_rules ∙ ap in_rank (ruled ∙ ap (λ es. map (rule_of (over es)) (used_rules said)) entries) in
       let same : t ≡ of_items said =
       fields_of t (of_items said) (its_characters ∙ entries) these its_caps_letter its_num_sign its_no_contract_sign its_files (its_notices ∙ noticed) in
@@ -138,6 +158,9 @@ module _ (characters : List (ℕ × Info)) (files : ℕ) (entries : All (λ entr
 
   one-good : (item : Item) → IsGoodItem files item → Passed item → All (IsRule characters files) (map (rule_of (over characters)) (used_in item))
   one-good (Defines d) good passed = All-nil (IsRule characters files)
+  one-good (DefinesBoth upper lower) good passed = All-nil (IsRule characters files)
+  one-good (Indicates sign cells) good passed = All-nil (IsRule characters files)
+  one-good (Lists l) good passed = All-nil (IsRule characters files)
   one-good Nothing good passed = All-nil (IsRule characters files)
   one-good (Rules r) good passed = cases r.head.used
     where

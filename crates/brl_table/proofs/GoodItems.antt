@@ -1,15 +1,18 @@
 -- What items keep, their definitions and their rules keep.
-use Rattle.std.proofs.Common.{ℕ, ◌*◌, ◌≤◌, ◌≡◌, true, List, [], ◌∷◌, length, map, nat_eq, refl, arith, subst, Option, Some, None, length-append}
+use Rattle.std.proofs.Common.{ℕ, ◌*◌, ◌≤◌, ◌≡◌, Bool, true, false, ◌||◌, List, [], ◌∷◌, ◌++◌, length, map, nat_eq, refl, arith, ap, ◌∙◌, subst, append_assoc, Option, Some, None, length-append}
 use Rattle.std.specs.Prelude.{All, IfSome, is_some, unwrap_or}
 use Rattle.std.specs.List.{flat_map}
 use Rattle.std.specs.Cmp.{first_so, second_so}
 use Rattle.std.specs.Map.{lookup}
 use Rattle.std.proofs.lemmas.List.{length-map}
-use Rattle.std.proofs.lemmas.List.Elements.{All-nil, All-cons, All-head, All-tail, All-append}
+use Rattle.std.proofs.lemmas.List.Elements.{All-nil, All-cons, All-head, All-tail, All-append, All-weaker}
+use Rattle.std.proofs.lemmas.List.Folds.{list_any-append}
+use Rattle.std.proofs.lemmas.Bool.{eq-eqb}
 use Rattle.std.proofs.lemmas.Map.Entries.{place_from_lookup}
 use Rattle.std.proofs.lemmas.Option.{get_or_from_slice_get, slice_get_within}
+use Rattle.brl_table.specs.declared.item.Definition.{Definition}
 use Rattle.brl_table.specs.declared.item.Item.{Item}
-use Rattle.brl_table.specs.declared.item.Item.TheVariants.{Defines, Rules, Nothing}
+use Rattle.brl_table.specs.declared.item.Item.TheVariants.{Defines, DefinesBoth, Rules, Indicates, Lists, Nothing}
 use Rattle.brl_table.specs.declared.item.RuleLine.{RuleLine}
 use Rattle.brl_table.specs.declared.rule.Info.{Info}
 use Rattle.brl_table.specs.Good.{IsGood, IsGoodItem, IsGoodRule}
@@ -17,10 +20,15 @@ use Rattle.brl_table.specs.Limits.{IsAmong, IsEntry, IsRule}
 use Rattle.brl_table.specs.Reading.{definition_in, definitions, own_cells, rule_of}
 use Rattle.brl_table.specs.Said.{over}
 use Rattle.brl_table.specs.Text.{fold_of, is_defined, is_text}
+use Rattle.brl_table.proofs.SaidSteps.{is_known}
 
 one-good : (files : ℕ) (item : Item) → IsGoodItem files item → All (IsGood files) (definition_in item)
-one-good files (Defines d) good = All-cons (IsGood files) d [] good (All-nil (IsGood files))
+one-good files (Defines d) good = All-cons (IsGood files) d [] good.good (All-nil (IsGood files))
+one-good files (DefinesBoth upper lower) good =
+    All-cons (IsGood files) upper (lower ∷ []) good.upper_good (All-cons (IsGood files) lower [] good.lower_good (All-nil (IsGood files)))
 one-good files (Rules r) good = All-nil (IsGood files)
+one-good files (Indicates sign cells) good = All-nil (IsGood files)
+one-good files (Lists l) good = All-nil (IsGood files)
 one-good files Nothing good = All-nil (IsGood files)
 
 pub good-definitions : (files : ℕ) (said : List Item) → All (IsGoodItem files) said → All (IsGood files) (definitions said)
@@ -28,6 +36,47 @@ good-definitions files [] good = All-nil (IsGood files)
 good-definitions files (item ∷ said) good =
     All-append (IsGood files) (definition_in item) (definitions said) (one-good files item (All-head (IsGoodItem files) item said good))
     (good-definitions files said (All-tail (IsGoodItem files) item said good))
+
+-- ---- Folds are defined
+
+or-true : (b : Bool) → b || true ≡ true
+or-true true = refl
+or-true false = refl
+
+abbrev Folded : List Definition → Definition → Type 0
+Folded said d = is_known said d.fold ≡ true
+
+own-fold : (files : ℕ) (item : Item) → IsGoodItem files item → All (Folded (definition_in item)) (definition_in item)
+own-fold files (Defines d) good = All-cons (Folded (d ∷ [])) d [] (rw (eq-eqb d.fold d.character good.own_fold) refl) (All-nil (Folded (d ∷ [])))
+own-fold files (DefinesBoth upper lower) good =
+    All-cons (Folded (upper ∷ lower ∷ [])) upper (lower ∷ []) (rw (eq-eqb upper.fold lower.character good.upper_fold) (or-true (nat_eq upper.fold upper.character)))
+    (All-cons (Folded (upper ∷ lower ∷ [])) lower [] (rw (eq-eqb lower.fold lower.character good.lower_fold) (or-true (nat_eq lower.fold upper.character)))
+    (All-nil (Folded (upper ∷ lower ∷ []))))
+own-fold files (Rules r) good = All-nil (Folded [])
+own-fold files (Indicates sign cells) good = All-nil (Folded [])
+own-fold files (Lists l) good = All-nil (Folded [])
+own-fold files Nothing good = All-nil (Folded [])
+
+known-among_more : (front middle rest : List Definition) (c : ℕ) → is_known middle c ≡ true → is_known (front ++ (middle ++ rest)) c ≡ true
+known-among_more front middle rest c h =
+    list_any-append (λ d. nat_eq c d.character) front (middle ++ rest)
+    ∙ ap (λ b. is_known front c || b) (list_any-append (λ d. nat_eq c d.character) middle rest ∙ ap (λ b. b || is_known rest c) h)
+    ∙ or-true (is_known front c)
+
+folds-behind : (files : ℕ) (front : List Definition) (said : List Item) → All (IsGoodItem files) said → All (Folded (front ++ definitions said)) (definitions said)
+folds-behind files front [] good = All-nil (Folded (front ++ []))
+folds-behind files front (item ∷ said) good =
+    let whole = front ++ (definition_in item ++ definitions said) in
+    let P : List Definition → Type 0 = λ all. All (Folded all) (definitions said) in
+    All-append (Folded whole) (definition_in item) (definitions said)
+    (All-weaker (Folded (definition_in item)) (Folded whole) (λ d h. known-among_more front (definition_in item) (definitions said) d.fold h) (definition_in item)
+    (own-fold files item (All-head (IsGoodItem files) item said good)))
+    (subst P (append_assoc front (definition_in item) (definitions said))
+    (folds-behind files (front ++ definition_in item) said (All-tail (IsGoodItem files) item said good)))
+
+-- the fold of each definition is one of the characters
+pub good-folds : (files : ℕ) (said : List Item) → All (IsGoodItem files) said → All (λ d. is_known (definitions said) d.fold ≡ true) (definitions said)
+good-folds files said good = folds-behind files [] said good
 
 -- ---- Rules over characters whose entries are good
 

@@ -1,3 +1,4 @@
+pub mod Commas
 pub mod Ranking
 pub mod Entries
 pub mod Taken
@@ -6,7 +7,9 @@ pub mod Positions
 pub mod Chosen
 pub mod Ranked
 pub mod InRank
+pub mod Numbered
 pub mod SaidSteps
+pub mod Marked
 pub mod ItemSteps
 pub mod LookSteps
 pub mod GoodItems

@@ -1,5 +1,5 @@
 -- One more line of those that a table is read from.
-use Rattle.std.proofs.Common.{ℕ, zero, suc, ◌+◌, ◌<◌, ◌≤◌, ◌≡◌, Bool, true, false, ◌||◌, cond, ◌⊎◌, inl, inr, List, [], ◌∷◌, ◌++◌, length, map, fold, take, refl, arith, sym, ◌∙◌, ap, subst, Option, Some, None, Result, Ok, get_or}
+use Rattle.std.proofs.Common.{ℕ, zero, suc, ◌+◌, ◌<◌, ◌≡◌, Bool, true, false, ◌||◌, cond, ◌⊎◌, inl, inr, List, [], ◌∷◌, ◌++◌, length, map, fold, take, refl, arith, sym, ◌∙◌, ap, subst, Option, Some, None, Result, Ok, get_or}
 use Rattle.std.specs.Prelude.{position, string_bytes, slice_get, unwrap_or, All, IsSome, option_map}
 use Rattle.std.proofs.lemmas.Option.{slice_get-map, slice_get-get_or}
 use Rattle.std.proofs.lemmas.Slice.Eq.{bytes_eq-Decides}
@@ -12,10 +12,11 @@ use Rattle.std.proofs.lemmas.Iterator.Adapters.{position_from-zero}
 use Rattle.brl_lines.specs.Tokens.{LineView}
 use Rattle.brl_lines.specs.Views.{line_view}
 use Rattle.brl_lines.specs.declared.line.Line.{Line}
-use Rattle.brl_table.specs.declared.rule.Info.{Info}
-use Rattle.brl_table.specs.declared.rule.Notice.{Notice}
+use Rattle.brl_table.specs.declared.characters.Characters.{Characters}
+use Rattle.brl_table.specs.declared.signs.Signs.{Signs}
+use Rattle.brl_table.specs.declared.item.Definition.{Definition}
 use Rattle.brl_table.specs.declared.item.Item.{Item}
-use Rattle.brl_table.specs.declared.item.Item.TheVariants.{Defines, Rules, Nothing}
+use Rattle.brl_table.specs.declared.item.Item.TheVariants.{Defines, DefinesBoth, Rules, Indicates, Lists, Nothing}
 use Rattle.brl_table.specs.Items.{Fault, fault, item_of}
 use Rattle.brl_table.specs.declared.table_fault.Wrong.{Wrong}
 use Rattle.std.proofs.lemmas.Bool.{cases_order}
@@ -28,9 +29,9 @@ use Rattle.brl_table.specs.declared.item.LineFault.TheVariants as line_faults
 use Rattle.brl_table.specs.declared.table_fault.TableFault.{TableFault}
 use Rattle.brl_table.specs.declared.table_fault.TableFault.TheVariants as faults
 use Rattle.std.specs.Borrow.{Bor}
-use Rattle.brl_table.specs.Good.{IsGoodItem}
-use Rattle.brl_table.specs.Reading.{item_in, items, ok_of, fault_behind, fault_of, file_number, files_of, place_among, put, PassesBefore}
-use Rattle.brl_table.specs.Said.{StandFor}
+use Rattle.brl_table.specs.Good.{IsGood, IsGoodItem}
+use Rattle.brl_table.specs.Reading.{item_in, items, ok_of, fault_behind, fault_of, file_number, files_of, is_twice, place_among, put, PassesBefore}
+use Rattle.brl_table.specs.Said.{AreWithin, StandFor}
 use Rattle.brl_table.proofs.ItemSteps.{fault-none}
 
 -- ---- the number of a file
@@ -97,9 +98,18 @@ aligned-items files (line ∷ lines) (item ∷ said) h =
     ap (λ r. ok_of r ++ items files lines) first ∙ ap (λ xs. item ∷ xs) more
 
 -- an item of a file that is known
-good-among : (files : ℕ) {file : ℕ} (item : Item) → file < files → IsGoodItem (file + 1) item → IsGoodItem files item
-good-among files (Defines d) within good =
+more-good : (files : ℕ) {file : ℕ} (d : Definition) → file < files → IsGood (file + 1) d → IsGood files d
+more-good files d within good =
     record { some_cells = good.some_cells; few_cells = good.few_cells; file_named = omega (arith, good.file_named, within) }
+
+good-among : (files : ℕ) {file : ℕ} (item : Item) → file < files → IsGoodItem (file + 1) item → IsGoodItem files item
+good-among files (Defines d) within good = record { good = more-good files d within good.good; own_fold = good.own_fold }
+good-among files (DefinesBoth upper lower) within good = record {
+  upper_good = more-good files upper within good.upper_good;
+  lower_good = more-good files lower within good.lower_good;
+  upper_fold = good.upper_fold;
+  lower_fold = good.lower_fold;
+}
 good-among files (Rules r) within good = record {
   some_characters = good.some_characters;
   few_characters = good.few_characters;
@@ -107,6 +117,8 @@ good-among files (Rules r) within good = record {
   few_cells = good.few_cells;
   file_named = omega (arith, good.file_named, within);
 }
+good-among files (Indicates sign cells) within good = good
+good-among files (Lists l) within good = tt
 good-among files Nothing within good = tt
 
 -- ---- one line
@@ -171,15 +183,15 @@ module _ (lines : List Line) (names : List (String Global)) (named : map string_
           ∙ sym (map-append (item_in F) (take i (map line_view lines)) (line_view line ∷ [])) ∙ ap (map (item_in F)) (sym taken)
 
       -- the next line passes
-      pub passes-more : (item : Item) (characters : List (ℕ × Info)) (notices : List Notice) (used : ℕ) → item_of file (line_view line) ≡ Ok item
-          → StandFor (said ++ item ∷ []) characters notices used → length characters ≤ 1024 → used ≤ 4096
+      pub passes-more : (item : Item) (characters : Characters) (signs : Signs) (used : ℕ) → item_of file (line_view line) ≡ Ok item → is_twice said item ≡ false
+          → StandFor (said ++ item ∷ []) characters signs used → AreWithin characters signs used
           → PassesBefore (fault_of (map line_view lines)) (map line_view lines) i → PassesBefore (fault_of (map line_view lines)) (map line_view lines) (i + 1)
-      passes-more item characters notices used h stands few_characters few_rules before place other lower at = by_place (cases_order place i)
+      passes-more item characters signs used h once stands within before place other lower at = by_place (cases_order place i)
         where
           here : (other : LineView) → other ≡ line_view line → fault_of (map line_view lines) i other ≡ None
           here other e =
               ap (fault_of (map line_view lines) i) e ∙ looked (Ok item) (sym h ∙ says)
-              ∙ fault-none said (line_view line) item characters notices used stands few_characters few_rules
+              ∙ fault-none said (line_view line) item once characters signs used stands within.few_characters within.few_rules
 
           by_place : (place ≡ i) ⊎ ((place < i) ⊎ (i < place)) → fault_of (map line_view lines) place other ≡ None
           by_place (inl e) =

@@ -1,182 +1,145 @@
--- One more definition: the characters with what is said of each, and the notices.
-use Rattle.std.proofs.Common.{ℕ, suc, ◌+◌, ◌<◌, ◌≤◌, ◌≡◌, Bool, true, false, ◌||◌, cond, if◌then◌else◌, List, [], ◌∷◌, ◌++◌, length, map, fold, nat_eq, nat_lt, refl, arith, sym, ◌∙◌, ap, Option, Some, None, append-nil, append_assoc}
-use Rattle.std.specs.Prelude.{bit_or}
+-- One more definition: the characters with what is said of each, those of plain lines, and the notices.
+use Rattle.std.proofs.Common.{ℕ, ◌+◌, ◌<◌, ◌≤◌, ◌≡◌, Bool, true, false, ◌||◌, ◌&&◌, cond, if◌then◌else◌, List, [], ◌∷◌, ◌++◌, length, map, nat_eq, nat_lt, refl, arith, sym, ◌∙◌, ap, Option, Some, None, append-nil, append_assoc}
+use Rattle.std.specs.Prelude.{bit_or, is_some, not}
 use Rattle.std.specs.Int.Bits.{or_zero_l}
-use Rattle.std.specs.List.{list_any}
+use Rattle.std.specs.List.{find, list_any}
 use Rattle.std.specs.Map.{lookup, set_value}
+use Rattle.std.specs.Option.{option_map_or, option_or}
 use Rattle.std.proofs.lemmas.Bool.{eqb-true, eq-eqb}
 use Rattle.std.proofs.lemmas.Bool.Decides.{nat_tests}
 use Rattle.std.proofs.lemmas.List.{map-append}
+use Rattle.std.proofs.lemmas.List.Folds.{find-append}
 use Rattle.std.proofs.lemmas.List.Sums.{fold-append}
 use Rattle.std.proofs.lemmas.List.Elements.{filter-append}
 use Rattle.indexmap.specs.IndexMap.{insert_entry}
+use Rattle.indexmap.specs.IndexSet.{contains}
+use Rattle.brl_table.specs.declared.class.Class.{Class}
+use Rattle.brl_table.specs.declared.characters.Characters.{Characters}
 use Rattle.brl_table.specs.declared.item.Definition.{Definition}
 use Rattle.brl_table.specs.declared.rule.Info.{Info}
-use Rattle.brl_table.specs.declared.rule.Notice.{Notice}
-use Rattle.brl_table.specs.Reading.{put, once, about, characters_said, info_said, numbered, entries_said, is_again, notice_of, notices_behind}
-use Rattle.brl_table.specs.Said.{Stands}
+use Rattle.brl_table.specs.Reading.{Listed, put, once, about, characters_said, classes_said, entries_said, first_literary, first_plain, first_uplow, info_said, is_again, notice_of, notices_behind, numbered}
+use Rattle.brl_table.specs.Said.{info_first, joined, nowhere, Stands}
+use Rattle.brl_table.proofs.Numbered.{absent, any-fold, eq-flip, found-numbered, is_there, length-numbered, numbered-new, numbered-old, or-false, put-known, single-fold, there}
 
-eq-flip : (a b : ℕ) → nat_eq a b ≡ nat_eq b a
-eq-flip a b = grind (arith, nat_tests)
+-- ---- whether a character is known
 
-or-false : (a b : Bool) → a || b ≡ false → (a ≡ false) × (b ≡ false)
-or-false true b h = cc
-or-false false b h = (refl, h)
+abbrev pub is_known : List Definition → ℕ → Bool
+is_known said c = list_any (λ d. nat_eq c d.character) said
 
-or-nothing : (b : Bool) → b || false ≡ b
-or-nothing true = refl
-or-nothing false = refl
+any-map : (c : ℕ) (said : List Definition) → list_any (nat_eq c) (map (λ d. d.character) said) ≡ is_known said c
+any-map c [] = refl
+any-map c (d ∷ said) = ap (λ b. nat_eq c d.character || b) (any-map c said)
 
--- ---- no character twice
+pub known-listed : (said : List Definition) (c : ℕ) → list_any (nat_eq c) (characters_said said) ≡ is_known said c
+known-listed said c = any-fold c (map (λ d. d.character) said) [] ∙ any-map c said
 
-abbrev pub IsSingle : List ℕ → Type 0
-IsSingle [] = Unit {0}
-IsSingle (x ∷ xs) = (list_any (λ y. nat_eq y x) xs ≡ false) × IsSingle xs
+pub known-found : (said : List Definition) (listed : Listed) (c : ℕ) → is_there (lookup (nat_eq c) (entries_said said listed)) ≡ is_known said c
+known-found said listed c = found-numbered (info_said said listed) c 0 (characters_said said) ∙ known-listed said c
 
-any-put-other : (z c : ℕ) (xs : List ℕ) → nat_eq c z ≡ false → list_any (λ y. nat_eq y z) xs ≡ false → list_any (λ y. nat_eq y z) (put nat_eq xs c) ≡ false
-any-put-other z c [] h k = rw h refl
-any-put-other z c (x ∷ xs) h k = cases (nat_eq c x) (or-false (nat_eq x z) (list_any (λ y. nat_eq y z) xs) k) (any-put-other z c xs h)
+unknown-about : (said : List Definition) (c : ℕ) → is_known said c ≡ false → about said c ≡ []
+unknown-about [] c h = refl
+unknown-about (d ∷ said) c h =
+    let p = or-false (nat_eq c d.character) (is_known said c) h in
+    rw p.0 (unknown-about said c p.1)
+
+-- no line of any kind is one of a character that isn't known
+unknown-find : (kind : Definition → Bool) (said : List Definition) (c : ℕ) → is_known said c ≡ false → find (λ d. nat_eq c d.character && kind d) said ≡ None
+unknown-find kind [] c h = refl
+unknown-find kind (d ∷ said) c h =
+    let p = or-false (nat_eq c d.character) (is_known said c) h in
+    rw p.0 (unknown-find kind said c p.1)
+
+-- one that is known and has no `litdigit` line has a plain one
+pub plain-known : (said : List Definition) (c : ℕ) → is_known said c ≡ true → first_literary said c ≡ None → (d : Definition) × (first_plain said c ≡ Some d)
+plain-known [] c h none = cc
+plain-known (d ∷ said) c h none = cases (nat_eq c d.character) d.literary h none (plain-known said c)
   where
-    cases : (b : Bool) → (nat_eq x z ≡ false) × (list_any (λ y. nat_eq y z) xs ≡ false) → (list_any (λ y. nat_eq y z) xs ≡ false → list_any (λ y. nat_eq y z) (put nat_eq xs c) ≡ false)
-        → list_any (λ y. nat_eq y z) (cond b (x ∷ xs) (x ∷ put nat_eq xs c)) ≡ false
-    cases true p more = k
-    cases false p more = rw (p.0, more p.1) refl
+    cases : (b l : Bool) → b || is_known said c ≡ true → cond (b && l) (Some d) (first_literary said c) ≡ None
+        → (is_known said c ≡ true → first_literary said c ≡ None → (e : Definition) × (first_plain said c ≡ Some e))
+        → (e : Definition) × (cond (b && not l) (Some d) (first_plain said c) ≡ Some e)
+    cases true true k none more = cc
+    cases true false k none more = (d, refl)
+    cases false l k none more = more k none
 
-single-put : (xs : List ℕ) (c : ℕ) → IsSingle xs → IsSingle (put nat_eq xs c)
-single-put [] c h = (refl, tt)
-single-put (x ∷ xs) c h = cases (nat_eq c x) refl (single-put xs c h.1)
+-- what is found passes
+find-passes : {X : Type 0} (p : X → Bool) (xs : List X) (x : X) → find p xs ≡ Some x → p x ≡ true
+find-passes p [] x h = cc
+find-passes p (y ∷ ys) x h = cases (p y) refl h (find-passes p ys x)
   where
-    cases : (b : Bool) → nat_eq c x ≡ b → IsSingle (put nat_eq xs c) → IsSingle (cond b (x ∷ xs) (x ∷ put nat_eq xs c))
-    cases true e more = h
-    cases false e more = (any-put-other x c xs e h.0, more)
+    cases : (b : Bool) → p y ≡ b → cond b (Some y) (find p ys) ≡ Some x → (find p ys ≡ Some x → p x ≡ true) → p x ≡ true
+    cases true e k more = let s : y ≡ x = cc (k) in ap p (sym s) ∙ e
+    cases false e k more = more k
 
-single-fold : (cs xs : List ℕ) → IsSingle xs → IsSingle (fold (put nat_eq) xs cs)
-single-fold [] xs h = h
-single-fold (c ∷ cs) xs h = single-fold cs (put nat_eq xs c) (single-put xs c h)
+second-so : (a b : Bool) → a && not b ≡ true → b ≡ false
+second-so true true h = cc
+second-so true false h = refl
+second-so false b h = cc
 
--- ---- entries
+uplow-other : (said : List Definition) (c : ℕ) (d : Definition) → first_uplow said c ≡ Some d → nat_eq c d.fold ≡ false
+uplow-other said c d h =
+    second-so (nat_eq c d.character) (nat_eq c d.fold) (find-passes (λ e. nat_eq c e.character && not (nat_eq c e.fold)) said d h)
 
-module _ (f g : ℕ → ℕ → Info) (c : ℕ) (same : (n x : ℕ) → nat_eq x c ≡ false → g n x ≡ f n x) where
-  numbered-same : (n : ℕ) (xs : List ℕ) → list_any (λ y. nat_eq y c) xs ≡ false → numbered f n xs ≡ numbered g n xs
-  numbered-same n [] h = refl
-  numbered-same n (x ∷ xs) h =
-      let p = or-false (nat_eq x c) (list_any (λ y. nat_eq y c) xs) h in
-      let s = same n x p.0 in
-      let m = numbered-same (n + 1) xs p.1 in
-      cc (s, m)
+-- ---- what is said of a character, told by its first lines
 
-  -- a character that is there: what is said of it changes
-  module _ (update : Info → Info) (at : (n : ℕ) → g n c ≡ update (f n c)) where
-    numbered-old : (n : ℕ) (xs : List ℕ) (old : Info) → IsSingle xs → lookup (nat_eq c) (numbered f n xs) ≡ Some old
-        → set_value (nat_eq c) (numbered f n xs) (update old) ≡ numbered g n (put nat_eq xs c)
-    numbered-old n [] old h k = cc
-    numbered-old n (x ∷ xs) old h k = cases (nat_eq c x) refl k (numbered-old (n + 1) xs old h.1)
-      where
-        cases : (b : Bool) → nat_eq c x ≡ b → cond b (Some (f n x)) (lookup (nat_eq c) (numbered f (n + 1) xs)) ≡ Some old
-            → (lookup (nat_eq c) (numbered f (n + 1) xs) ≡ Some old → set_value (nat_eq c) (numbered f (n + 1) xs) (update old) ≡ numbered g (n + 1) (put nat_eq xs c))
-            → cond b ((x, update old) ∷ numbered f (n + 1) xs) ((x, f n x) ∷ set_value (nat_eq c) (numbered f (n + 1) xs) (update old))
-            ≡ numbered g n (cond b (x ∷ xs) (x ∷ put nat_eq xs c))
-        cases true e j more =
-            let q : c ≡ x = eqb-true c x e in
-            let o : f n x ≡ old = cc (j) in
-            let m : numbered f (n + 1) xs ≡ numbered g (n + 1) xs = numbered-same (n + 1) xs (rw q h.0) in
-            let a : g n x ≡ update old = ap (g n) (sym q) ∙ at n ∙ ap (λ y. update (f n y)) q ∙ ap update o in
-            cc (a, m)
-        cases false e j more =
-            let d = same n x (sym (eq-flip c x) ∙ e) in
-            let m = more j in
-            cc (d, m)
+abbrev told : Listed → ℕ → ℕ → Class → Option Definition → Option Definition → Option Definition → Info
+told listed n c classes literary plain uplow = record {
+  number = n;
+  cells = option_map_or (λ d. d.cells) (option_or literary plain) [];
+  classes = classes;
+  literary = is_some literary;
+  mode = list_any (nat_eq c) listed.mode;
+  nocont = list_any (nat_eq c) listed.nocont;
+  fold = option_map_or (λ d. d.fold) uplow c;
+  file = option_map_or (λ d. d.file) (option_or literary plain) 0;
+  line = option_map_or (λ d. d.line) (option_or literary plain) 0;
+}
 
-  -- a character that isn't there goes last
-  numbered-new : (n : ℕ) (xs : List ℕ) → lookup (nat_eq c) (numbered f n xs) ≡ None
-      → insert_entry nat_eq (numbered f n xs) c (g (n + length xs) c) ≡ numbered g n (put nat_eq xs c)
-  numbered-new n [] k = let e : n + 0 ≡ n = omega arith in ap (λ m. (c, g m c) ∷ []) e
-  numbered-new n (x ∷ xs) k = cases (nat_eq c x) refl k (numbered-new (n + 1) xs)
-    where
-      cases : (b : Bool) → nat_eq c x ≡ b → cond b (Some (f n x)) (lookup (nat_eq c) (numbered f (n + 1) xs)) ≡ None
-          → (lookup (nat_eq c) (numbered f (n + 1) xs) ≡ None → insert_entry nat_eq (numbered f (n + 1) xs) c (g (n + 1 + length xs) c) ≡ numbered g (n + 1) (put nat_eq xs c))
-          → cond b ((x, g (n + suc (length xs)) c) ∷ numbered f (n + 1) xs) ((x, f n x) ∷ insert_entry nat_eq (numbered f (n + 1) xs) c (g (n + suc (length xs)) c))
-          ≡ numbered g n (cond b (x ∷ xs) (x ∷ put nat_eq xs c))
-      cases true e j more = cc
-      cases false e j more =
-          let d = same n x (sym (eq-flip c x) ∙ e) in
-          let p : n + suc (length xs) ≡ n + 1 + length xs = omega arith in
-          let m = ap (λ k. insert_entry nat_eq (numbered f (n + 1) xs) c (g k c)) p ∙ more j in
-          cc (d, m)
+abbrev given : Bool → Definition → Option Definition
+given b d = cond b (Some d) None
 
-pub length-numbered : (f : ℕ → ℕ → Info) (n : ℕ) (xs : List ℕ) → length (numbered f n xs) ≡ length xs
-length-numbered f n [] = refl
-length-numbered f n (x ∷ xs) = ap suc (length-numbered f (n + 1) xs)
+or-none : {X : Type 0} (o : Option X) → option_or o None ≡ o
+or-none None = refl
+or-none (Some x) = refl
 
--- ---- what is there
+-- the line that gives a character its cells, with one more line
+module _ {X : Type 0} (part : Definition → X) (none : X) (d : Definition) where
+  giving-more : (literary plain : Option Definition) (b : Bool) → (literary ≡ None → (e : Definition) × (plain ≡ Some e))
+      → option_map_or part (option_or (option_or literary (given b d)) (option_or plain (given (not b) d))) none
+      ≡ cond (b && not (is_some literary)) (part d) (option_map_or part (option_or literary plain) none)
+  giving-more (Some e) plain true h = refl
+  giving-more (Some e) plain false h = refl
+  giving-more None plain true h = refl
+  giving-more None plain false h = let e = h refl in rw e.1 refl
 
-is_there : {X : Type 0} → Option X → Bool
-is_there None = false
-is_there (Some x) = true
+  giving-first : (b : Bool) → option_map_or part (option_or (given b d) (given (not b) d)) none ≡ part d
+  giving-first true = refl
+  giving-first false = refl
 
-or-assoc : (a b c : Bool) → a || (b || c) ≡ (a || b) || c
-or-assoc true b c = refl
-or-assoc false b c = refl
+literary-more : (literary : Option Definition) (b : Bool) (d : Definition) → is_some (option_or literary (given b d)) ≡ is_some literary || b
+literary-more (Some e) b d = refl
+literary-more None true d = refl
+literary-more None false d = refl
 
-any-put : (c x : ℕ) (xs : List ℕ) → list_any (nat_eq c) (put nat_eq xs x) ≡ list_any (nat_eq c) xs || nat_eq c x
-any-put c x [] = or-nothing (nat_eq c x)
-any-put c x (y ∷ ys) = cases (nat_eq x y) refl (any-put c x ys)
-  where
-    twice : (a b : Bool) → a || b ≡ (a || b) || a
-    twice true b = refl
-    twice false true = refl
-    twice false false = refl
+literary-first : (b : Bool) (d : Definition) → is_some (given b d) ≡ b
+literary-first true d = refl
+literary-first false d = refl
 
-    cases : (b : Bool) → nat_eq x y ≡ b → list_any (nat_eq c) (put nat_eq ys x) ≡ list_any (nat_eq c) ys || nat_eq c x
-        → list_any (nat_eq c) (cond b (y ∷ ys) (y ∷ put nat_eq ys x)) ≡ (nat_eq c y || list_any (nat_eq c) ys) || nat_eq c x
-    cases true e more = rw (eqb-true x y e) (twice (nat_eq c y) (list_any (nat_eq c) ys))
-    cases false e more = ap (λ b. nat_eq c y || b) more ∙ or-assoc (nat_eq c y) (list_any (nat_eq c) ys) (nat_eq c x)
+fold-given : (c : ℕ) (d : Definition) (b : Bool) → nat_eq c d.fold ≡ b → option_map_or (λ e. e.fold) (given (not b) d) c ≡ d.fold
+fold-given c d true e = eqb-true c d.fold e
+fold-given c d false e = refl
 
-any-fold : (c : ℕ) (cs xs : List ℕ) → list_any (nat_eq c) (fold (put nat_eq) xs cs) ≡ list_any (nat_eq c) xs || list_any (nat_eq c) cs
-any-fold c [] xs = sym (or-nothing (list_any (nat_eq c) xs))
-any-fold c (x ∷ cs) xs =
-    any-fold c cs (put nat_eq xs x) ∙ ap (λ b. b || list_any (nat_eq c) cs) (any-put c x xs)
-    ∙ sym (or-assoc (list_any (nat_eq c) xs) (nat_eq c x) (list_any (nat_eq c) cs))
+fold-more : (c : ℕ) (d : Definition) (uplow : Option Definition) → ((e : Definition) → uplow ≡ Some e → nat_eq c e.fold ≡ false)
+    → option_map_or (λ e. e.fold) (option_or uplow (given (not (nat_eq c d.fold)) d)) c
+    ≡ cond (nat_eq c (option_map_or (λ e. e.fold) uplow c)) d.fold (option_map_or (λ e. e.fold) uplow c)
+fold-more c d None h = rw (eq-eqb c c refl) (fold-given c d (nat_eq c d.fold) refl)
+fold-more c d (Some e) h = rw (h e refl) refl
 
--- what is looked up is among the characters
-found-numbered : (f : ℕ → ℕ → Info) (c n : ℕ) (xs : List ℕ) → is_there (lookup (nat_eq c) (numbered f n xs)) ≡ list_any (nat_eq c) xs
-unfolding is_there
-found-numbered f c n [] = refl
-found-numbered f c n (x ∷ xs) = cases (nat_eq c x) (found-numbered f c (n + 1) xs)
-  where
-    cases : (b : Bool) → is_there (lookup (nat_eq c) (numbered f (n + 1) xs)) ≡ list_any (nat_eq c) xs
-        → is_there (cond b (Some (f n x)) (lookup (nat_eq c) (numbered f (n + 1) xs))) ≡ b || list_any (nat_eq c) xs
-    cases true more = refl
-    cases false more = more
-
--- and one of them defines it
-again-any : (c : ℕ) (said : List Definition) → list_any (λ e. nat_eq e.character c) said ≡ list_any (nat_eq c) (map (λ d. d.character) said)
-again-any c [] = refl
-again-any c (d ∷ said) =
-    ap (λ b. b || list_any (λ e. nat_eq e.character c) said) (eq-flip d.character c) ∙ ap (λ b. nat_eq c d.character || b) (again-any c said)
-
-found-again : (said : List Definition) (d : Definition) → is_there (lookup (nat_eq d.character) (entries_said said)) ≡ is_again said d
-found-again said d =
-    found-numbered (info_said said) d.character 0 (characters_said said) ∙ any-fold d.character (map (λ e. e.character) said) []
-    ∙ sym (again-any d.character said)
-
-about-none : (said : List Definition) (c : ℕ) → list_any (λ e. nat_eq e.character c) said ≡ false → about said c ≡ []
-about-none [] c h = refl
-about-none (d ∷ said) c h =
-    let p = or-false (nat_eq d.character c) (list_any (λ e. nat_eq e.character c) said) h in
-    rw (sym (eq-flip d.character c) ∙ p.0) (about-none said c p.1)
-
-about-some : (said : List Definition) (c : ℕ) → list_any (λ e. nat_eq e.character c) said ≡ true → (d : Definition) × (ds : List Definition) × (about said c ≡ d ∷ ds)
-about-some [] c h = cc
-about-some (d ∷ said) c h = cases (nat_eq d.character c) refl h (about-some said c)
-  where
-    cases : (b : Bool) → nat_eq d.character c ≡ b → b || list_any (λ e. nat_eq e.character c) said ≡ true
-        → (list_any (λ e. nat_eq e.character c) said ≡ true → (e : Definition) × (ds : List Definition) × (about said c ≡ e ∷ ds))
-        → (e : Definition) × (ds : List Definition) × (about (d ∷ said) c ≡ e ∷ ds)
-    cases true e k more = (d, about said c, rw (sym (eq-flip d.character c) ∙ e) refl)
-    cases false e k more =
-        let found = more k in
-        (found.0, found.1, rw (sym (eq-flip d.character c) ∙ e) found.2)
+-- two with the same parts are the same
+same-info : (listed : Listed) (n c : ℕ) (classes : Class) (cells cells' : List ℕ) (literary literary' : Bool) (fold fold' file file' line line' : ℕ)
+    → cells ≡ cells' → literary ≡ literary' → fold ≡ fold' → file ≡ file' → line ≡ line'
+    → (let info : Info = record { number = n; cells = cells; classes = classes; literary = literary; mode = list_any (nat_eq c) listed.mode; nocont = list_any (nat_eq c) listed.nocont; fold = fold; file = file; line = line } in info)
+    ≡ record { number = n; cells = cells'; classes = classes; literary = literary'; mode = list_any (nat_eq c) listed.mode; nocont = list_any (nat_eq c) listed.nocont; fold = fold'; file = file'; line = line' }
+same-info listed n c classes cells cells' literary literary' fold fold' file file' line line' a b e f g = cc
 
 -- ---- one more definition
 
@@ -187,37 +150,108 @@ module _ (said : List Definition) (d : Definition) where
   about-same : about (said ++ d ∷ []) d.character ≡ about said d.character ++ d ∷ []
   about-same = rw (filter-append, eq-eqb d.character d.character refl) refl
 
-  info-other : (n x : ℕ) → nat_eq x d.character ≡ false → info_said (said ++ d ∷ []) n x ≡ info_said said n x
-  info-other n x h = rw (about-other x h) refl
+  find-other : (kind : Definition → Bool) (x : ℕ) → nat_eq x d.character ≡ false
+      → find (λ e. nat_eq x e.character && kind e) (said ++ d ∷ []) ≡ find (λ e. nat_eq x e.character && kind e) said
+  find-other kind x h = rw (find-append (λ e. nat_eq x e.character && kind e) said (d ∷ []), h) (or-none (find (λ e. nat_eq x e.character && kind e) said))
 
-  characters-more : characters_said (said ++ d ∷ []) ≡ put nat_eq (characters_said said) d.character
+  find-same : (kind : Definition → Bool)
+      → find (λ e. nat_eq d.character e.character && kind e) (said ++ d ∷ []) ≡ option_or (find (λ e. nat_eq d.character e.character && kind e) said) (given (kind d) d)
+  find-same kind = rw (find-append (λ e. nat_eq d.character e.character && kind e) said (d ∷ []), eq-eqb d.character d.character refl) refl
+
+  info-other : (listed : Listed) (n x : ℕ) → nat_eq x d.character ≡ false → info_said (said ++ d ∷ []) listed n x ≡ info_said said listed n x
+  info-other listed n x h =
+      rw (about-other x h, find-other (λ e. e.literary) x h, find-other (λ e. not e.literary) x h, find-other (λ e. not (nat_eq x e.fold)) x h) refl
+
+  pub characters-more : characters_said (said ++ d ∷ []) ≡ put nat_eq (characters_said said) d.character
   characters-more =
       ap (once nat_eq) (map-append (λ e. e.character) said (d ∷ []))
       ∙ fold-append (put nat_eq) [] (map (λ e. e.character) said) (d.character ∷ [])
 
-  -- the classes join
-  abbrev joined : Info → Info
-  joined info = record info { classes = record { 0 = bit_or info.classes.0 d.classes.0 } }
+  info-more : (listed : Listed) (n : ℕ)
+      → info_said (said ++ d ∷ []) listed n d.character
+      ≡ told listed n d.character (record { 0 = bit_or (classes_said said d.character).0 d.classes.0 })
+      (option_or (first_literary said d.character) (given d.literary d)) (option_or (first_plain said d.character) (given (not d.literary) d))
+      (option_or (first_uplow said d.character) (given (not (nat_eq d.character d.fold)) d))
+  info-more listed n =
+      rw (about-same, map-append, fold-append, find-same (λ e. e.literary), find-same (λ e. not e.literary), find-same (λ e. not (nat_eq d.character e.fold))) refl
 
-  info-again : is_again said d ≡ true → (n : ℕ) → info_said (said ++ d ∷ []) n d.character ≡ joined (info_said said n d.character)
-  info-again h n =
-      let some = about-some said d.character h in
-      rw (about-same, some.2, map-append, fold-append) refl
+  info-again : is_known said d.character ≡ true → (listed : Listed) (n : ℕ) → info_said (said ++ d ∷ []) listed n d.character ≡ joined d (info_said said listed n d.character)
+  info-again h listed n =
+      let c = d.character in
+      let plain = plain-known said c h in
+      info-more listed n
+      ∙ same-info listed n c _ _ _ _ _ _ _ _ _ _ _
+      (giving-more (λ e. e.cells) [] d (first_literary said c) (first_plain said c) d.literary plain)
+      (literary-more (first_literary said c) d.literary d)
+      (fold-more c d (first_uplow said c) (uplow-other said c))
+      (giving-more (λ e. e.file) 0 d (first_literary said c) (first_plain said c) d.literary plain)
+      (giving-more (λ e. e.line) 0 d (first_literary said c) (first_plain said c) d.literary plain)
 
-  info-first : is_again said d ≡ false → (n : ℕ) → info_said (said ++ d ∷ []) n d.character ≡ record {
-    number = n;
-    cells = d.cells;
-    classes = d.classes;
-    literary = false;
-    mode = false;
-    nocont = false;
-    fold = d.character;
-    file = d.file;
-    line = d.line;
-  }
-  info-first h n = rw (about-same, about-none said d.character h, or_zero_l) refl
+  info-new : is_known said d.character ≡ false → (n : ℕ) → info_said (said ++ d ∷ []) nowhere n d.character ≡ info_first n d
+  info-new h n =
+      let c = d.character in
+      info-more nowhere n
+      ∙ rw (unknown-about said c h, unknown-find (λ e. e.literary) said c h, unknown-find (λ e. not e.literary) said c h, unknown-find (λ e. not (nat_eq c e.fold)) said c h, or_zero_l)
+      (same-info nowhere n c _ _ _ _ _ _ _ _ _ _ _
+      (giving-first (λ e. e.cells) [] d d.literary) (literary-first d.literary d) (fold-given c d (nat_eq c d.fold) refl)
+      (giving-first (λ e. e.file) 0 d d.literary) (giving-first (λ e. e.line) 0 d d.literary))
 
-notices-more : (earlier said : List Definition) (d : Definition) → notices_behind earlier (said ++ d ∷ []) ≡ notices_behind earlier said ++ (if is_again (earlier ++ said) d then notice_of d ∷ [] else [])
+  -- ---- the entries
+
+  -- a character that is known
+  pub entries-again : (old new : Info) (characters after : List (ℕ × Info)) → characters ≡ entries_said said nowhere → lookup (nat_eq d.character) characters ≡ Some old
+      → new ≡ joined d old → after ≡ set_value (nat_eq d.character) characters new → after ≡ entries_said (said ++ d ∷ []) nowhere
+  entries-again old new characters after e found is set =
+      let c = d.character in
+      let look : lookup (nat_eq c) (entries_said said nowhere) ≡ Some old = ap (lookup (nat_eq c)) (sym e) ∙ found in
+      let known : is_known said c ≡ true = sym (known-found said nowhere c) ∙ there (lookup (nat_eq c) (entries_said said nowhere)) old look in
+      let single = single-fold (map (λ x. x.character) said) [] tt in
+      let step = numbered-old (info_said said nowhere) (info_said (said ++ d ∷ []) nowhere) c (info-other nowhere) (joined d) (info-again known nowhere) 0 (characters_said said) old single look in
+      let stay : characters_said said ≡ characters_said (said ++ d ∷ []) = sym (characters-more ∙ put-known c (characters_said said) (known-listed said c ∙ known)) in
+      set ∙ ap (λ i. set_value (nat_eq c) characters i) is ∙ ap (λ es. set_value (nat_eq c) es (joined d old)) e
+      ∙ step ∙ ap (numbered (info_said (said ++ d ∷ []) nowhere) 0) stay
+
+  -- a character that is new
+  pub entries-new : (number : ℕ) (characters after : List (ℕ × Info)) → characters ≡ entries_said said nowhere → lookup (nat_eq d.character) characters ≡ None
+      → number ≡ length characters → after ≡ insert_entry nat_eq characters d.character (info_first number d) → after ≡ entries_said (said ++ d ∷ []) nowhere
+  entries-new number characters after e found counted inserted =
+      let c = d.character in
+      let look : lookup (nat_eq c) (entries_said said nowhere) ≡ None = ap (lookup (nat_eq c)) (sym e) ∙ found in
+      let new : is_known said c ≡ false = sym (known-found said nowhere c) ∙ absent (lookup (nat_eq c) (entries_said said nowhere)) look in
+      let place : number ≡ 0 + length (characters_said said) =
+      counted ∙ ap length e ∙ length-numbered (info_said said nowhere) 0 (characters_said said) ∙ (let z : length (characters_said said) ≡ 0 + length (characters_said said) = omega arith in z) in
+      let step = numbered-new (info_said said nowhere) (info_said (said ++ d ∷ []) nowhere) c (info-other nowhere) 0 (characters_said said) look in
+      inserted ∙ ap (insert_entry nat_eq characters c) (sym (info-new new number))
+      ∙ ap (λ n. insert_entry nat_eq characters c (info_said (said ++ d ∷ []) nowhere n c)) place
+      ∙ ap (λ es. insert_entry nat_eq es c (info_said (said ++ d ∷ []) nowhere (0 + length (characters_said said)) c)) e
+      ∙ step ∙ ap (numbered (info_said (said ++ d ∷ []) nowhere) 0) (sym characters-more)
+
+  -- ---- the plain lines
+
+  plain-same : (c : ℕ) → d.literary ≡ true → first_plain (said ++ d ∷ []) c ≡ first_plain said c
+  plain-same c h =
+      find-append (λ e. nat_eq c e.character && not e.literary) said (d ∷ [])
+      ∙ ap (λ l. option_or (first_plain said c) (given (nat_eq c d.character && not l) d)) h ∙ cases (nat_eq c d.character)
+    where
+      cases : (b : Bool) → option_or (first_plain said c) (given (b && false) d) ≡ first_plain said c
+      cases true = or-none (first_plain said c)
+      cases false = or-none (first_plain said c)
+
+  plain-added : (c : ℕ) → d.literary ≡ false → is_some (first_plain (said ++ d ∷ []) c) ≡ cond (nat_eq d.character c) true (is_some (first_plain said c))
+  plain-added c h =
+      ap is_some (find-append (λ e. nat_eq c e.character && not e.literary) said (d ∷ []))
+      ∙ ap (λ l. is_some (option_or (first_plain said c) (given (nat_eq c d.character && not l) d))) h
+      ∙ ap (λ b. is_some (option_or (first_plain said c) (given (b && true) d))) (eq-flip c d.character) ∙ cases (nat_eq d.character c) (first_plain said c)
+    where
+      cases : (b : Bool) (plain : Option Definition) → is_some (option_or plain (given (b && true) d)) ≡ cond b true (is_some plain)
+      cases true None = refl
+      cases true (Some e) = refl
+      cases false None = refl
+      cases false (Some e) = refl
+
+-- ---- the notices
+
+pub notices-more : (earlier said : List Definition) (d : Definition) → notices_behind earlier (said ++ d ∷ []) ≡ notices_behind earlier said ++ (if is_again (earlier ++ said) d then notice_of d ∷ [] else [])
 notices-more earlier [] d =
     append-nil (if is_again earlier d then notice_of d ∷ [] else [])
     ∙ ap (λ es. if is_again es d then notice_of d ∷ [] else []) (sym (append-nil earlier))
@@ -226,80 +260,90 @@ notices-more earlier (e ∷ said) d =
     ap (λ es. notices_behind (earlier ++ e ∷ []) said ++ (if is_again es d then notice_of d ∷ [] else [])) (append_assoc earlier (e ∷ []) said))
     ∙ sym (append_assoc (if is_again earlier e then notice_of e ∷ [] else []) (notices_behind (earlier ++ e ∷ []) said) (if is_again (earlier ++ e ∷ said) d then notice_of d ∷ [] else []))
 
--- ---- the steps
+-- ---- lines of the same kind
 
-there : {X : Type 0} (o : Option X) (x : X) → o ≡ Some x → is_there o ≡ true
-unfolding is_there
-there o x h = ap is_there h
+literary-numbered : (said : List Definition) (listed : Listed) (c n : ℕ) (xs : List ℕ)
+    → option_map_or (λ i. i.literary) (lookup (nat_eq c) (numbered (info_said said listed) n xs)) false ≡ list_any (nat_eq c) xs && is_some (first_literary said c)
+literary-numbered said listed c n [] = refl
+literary-numbered said listed c n (x ∷ xs) = cases (nat_eq c x) refl (literary-numbered said listed c (n + 1) xs)
+  where
+    cases : (b : Bool) → nat_eq c x ≡ b
+        → option_map_or (λ i. i.literary) (lookup (nat_eq c) (numbered (info_said said listed) (n + 1) xs)) false ≡ list_any (nat_eq c) xs && is_some (first_literary said c)
+        → option_map_or (λ i. i.literary) (cond b (Some (info_said said listed n x)) (lookup (nat_eq c) (numbered (info_said said listed) (n + 1) xs))) false
+        ≡ (b || list_any (nat_eq c) xs) && is_some (first_literary said c)
+    cases true e more = ap (λ y. is_some (first_literary said y)) (sym (eqb-true c x e))
+    cases false e more = more
 
-absent : {X : Type 0} (o : Option X) → o ≡ None → is_there o ≡ false
-unfolding is_there
-absent o h = ap is_there h
+literary-known : (said : List Definition) (c : ℕ) (b : Bool) → is_known said c ≡ b → b && is_some (first_literary said c) ≡ is_some (first_literary said c)
+literary-known said c true h = refl
+literary-known said c false h = ap is_some (sym (unknown-find (λ d. d.literary) said c h))
 
-some-of : (b : Bool) (n : Notice) → b ≡ true → (if b then n ∷ [] else []) ≡ n ∷ []
-some-of b n h = rw h refl
+-- whether a character has a `litdigit` line
+pub literary-is : (said : List Definition) (listed : Listed) (characters : List (ℕ × Info)) (c : ℕ) → characters ≡ entries_said said listed
+    → option_map_or (λ i. i.literary) (lookup (nat_eq c) characters) false ≡ is_some (first_literary said c)
+literary-is said listed characters c e =
+    ap (λ es. option_map_or (λ i. i.literary) (lookup (nat_eq c) es) false) e ∙ literary-numbered said listed c 0 (characters_said said)
+    ∙ ap (λ b. b && is_some (first_literary said c)) (known-listed said c) ∙ literary-known said c (is_known said c) refl
 
-none-of : (b : Bool) (n : Notice) → b ≡ false → (if b then n ∷ [] else []) ≡ []
-none-of b n h = rw h refl
+-- the characters of plain lines, with one more definition
+abbrev PlainMore : Definition → (ℕ → Bool) → (ℕ → Bool) → Type 0
+PlainMore d old after = (c : ℕ) → after c ≡ cond d.literary (old c) (cond (nat_eq d.character c) true (old c))
 
--- a character that is defined again
-pub stands-again : (said : List Definition) (d : Definition) (characters after : List (ℕ × Info)) (notices later : List Notice) (old new : Info)
-    → Stands said characters notices → lookup (nat_eq d.character) characters ≡ Some old → new ≡ record old { classes = record { 0 = bit_or old.classes.0 d.classes.0 } }
-    → after ≡ set_value (nat_eq d.character) characters new → later ≡ notices ++ notice_of d ∷ []
-    → Stands (said ++ d ∷ []) after later
-stands-again said d characters after notices later old new stands found is set pushed =
-    let e = stands.characters_stand in
-    let look : lookup (nat_eq d.character) (entries_said said) ≡ Some old = ap (lookup (nat_eq d.character)) (sym e) ∙ found in
-    let again : is_again said d ≡ true = sym (found-again said d) ∙ there (lookup (nat_eq d.character) (entries_said said)) old look in
-    let single = single-fold (map (λ x. x.character) said) [] tt in
-    let step = numbered-old (info_said said) (info_said (said ++ d ∷ [])) d.character (info-other said d) (joined said d) (info-again said d again) 0 (characters_said said) old single look in
-    record {
-      characters_stand = set ∙ ap (λ i. set_value (nat_eq d.character) characters i) is ∙ ap (λ es. set_value (nat_eq d.character) es (joined said d old)) e
-          ∙ step ∙ ap (numbered (info_said (said ++ d ∷ [])) 0) (sym (characters-more said d));
-      notices_stand = pushed ∙ ap (λ ns. ns ++ notice_of d ∷ []) stands.notices_stand
-          ∙ ap (λ ns. notices_behind [] said ++ ns) (sym (some-of (is_again said d) (notice_of d) again)) ∙ sym (notices-more [] said d);
-    }
+pub plain-kept : (d : Definition) (old after : ℕ → Bool) → d.literary ≡ true → ((c : ℕ) → after c ≡ old c) → PlainMore d old after
+plain-kept d old after h e c = e c ∙ ap (λ l. cond l (old c) (cond (nat_eq d.character c) true (old c))) (sym h)
 
--- a character that is defined first
-pub stands-first : (said : List Definition) (d : Definition) (characters after : List (ℕ × Info)) (notices : List Notice) (number : ℕ)
-    → Stands said characters notices → lookup (nat_eq d.character) characters ≡ None → number ≡ length characters
-    → after ≡ insert_entry nat_eq characters d.character (record {
-      number = number;
-      cells = d.cells;
-      classes = d.classes;
-      literary = false;
-      mode = false;
-      nocont = false;
-      fold = d.character;
-      file = d.file;
-      line = d.line;
-    })
-    → Stands (said ++ d ∷ []) after notices
-stands-first said d characters after notices number stands found counted inserted =
-    let e = stands.characters_stand in
-    let look : lookup (nat_eq d.character) (entries_said said) ≡ None = ap (lookup (nat_eq d.character)) (sym e) ∙ found in
-    let first : is_again said d ≡ false = sym (found-again said d) ∙ absent (lookup (nat_eq d.character) (entries_said said)) look in
-    let place : number ≡ 0 + length (characters_said said) =
-    counted ∙ ap length e ∙ length-numbered (info_said said) 0 (characters_said said) ∙ (let z : length (characters_said said) ≡ 0 + length (characters_said said) = omega arith in z) in
-    let step = numbered-new (info_said said) (info_said (said ++ d ∷ [])) d.character (info-other said d) 0 (characters_said said) look in
-    record {
-      characters_stand = inserted ∙ ap (insert_entry nat_eq characters d.character) (sym (info-first said d first number))
-          ∙ ap (λ n. insert_entry nat_eq characters d.character (info_said (said ++ d ∷ []) n d.character)) place
-          ∙ ap (λ es. insert_entry nat_eq es d.character (info_said (said ++ d ∷ []) (0 + length (characters_said said)) d.character)) e
-          ∙ step ∙ ap (numbered (info_said (said ++ d ∷ [])) 0) (sym (characters-more said d));
-      notices_stand = stands.notices_stand ∙ sym (append-nil (notices_behind [] said))
-          ∙ ap (λ ns. notices_behind [] said ++ ns) (sym (none-of (is_again said d) (notice_of d) first)) ∙ sym (notices-more [] said d);
-    }
+pub plain-inserted : (d : Definition) (old after : ℕ → Bool) → d.literary ≡ false → ((c : ℕ) → after c ≡ cond (nat_eq d.character c) true (old c)) → PlainMore d old after
+plain-inserted d old after h e c = e c ∙ ap (λ l. cond l (old c) (cond (nat_eq d.character c) true (old c))) (sym h)
+
+module _ (said : List Definition) (d : Definition) (characters : Characters) (stands : Stands said characters) where
+  pub again-literary : (b : Bool) → b ≡ option_map_or (λ i. i.literary) (lookup (nat_eq d.character) characters.infos.entries) false → d.literary ≡ true → b ≡ is_again said d
+  again-literary b h l =
+      h ∙ literary-is said nowhere characters.infos.entries d.character stands.characters_stand
+      ∙ ap (λ k. is_some (cond k (first_literary said d.character) (first_plain said d.character))) (sym l)
+
+  pub again-plain : (b : Bool) → b ≡ contains nat_eq characters.plain d.character → d.literary ≡ false → b ≡ is_again said d
+  again-plain b h l =
+      h ∙ stands.plain_stand d.character ∙ ap (λ k. is_some (cond k (first_literary said d.character) (first_plain said d.character))) (sym l)
+
+  -- all that is known, with one more definition
+  pub stands-more : (after : Characters) → after.infos.entries ≡ entries_said (said ++ d ∷ []) nowhere
+      → PlainMore d (contains nat_eq characters.plain) (contains nat_eq after.plain)
+      → after.notices.items ≡ characters.notices.items ++ cond (is_again said d) (notice_of d ∷ []) [] → Stands (said ++ d ∷ []) after
+  stands-more after entries plain notices = record {
+    characters_stand = entries;
+    plain_stand = λ c. plain c ∙ by_kind c d.literary refl;
+    notices_stand = notices ∙ ap (λ ns. ns ++ cond (is_again said d) (notice_of d ∷ []) []) stands.notices_stand ∙ sym (notices-more [] said d);
+  }
+    where
+      by_kind : (c : ℕ) (l : Bool) → d.literary ≡ l
+          → cond l (contains nat_eq characters.plain c) (cond (nat_eq d.character c) true (contains nat_eq characters.plain c)) ≡ is_some (first_plain (said ++ d ∷ []) c)
+      by_kind c true h = stands.plain_stand c ∙ ap is_some (sym (plain-same said d c h))
+      by_kind c false h = ap (cond (nat_eq d.character c) true) (stands.plain_stand c) ∙ sym (plain-added said d c h)
 
 -- ---- too many characters
 
-pub count-said : (said : List Definition) (characters : List (ℕ × Info)) (notices : List Notice) → Stands said characters notices
-    → length characters ≡ length (characters_said said)
-count-said said characters notices stands =
-    ap length stands.characters_stand ∙ length-numbered (info_said said) 0 (characters_said said)
+pub count-said : (said : List Definition) (listed : Listed) → length (entries_said said listed) ≡ length (characters_said said)
+count-said said listed = length-numbered (info_said said listed) 0 (characters_said said)
 
 pub above : (m n : ℕ) → m < n → nat_lt m n ≡ true
 above m n h = grind (arith, nat_tests)
 
 pub not_above : (m n : ℕ) → n ≤ m → nat_lt m n ≡ false
 not_above m n h = grind (arith, nat_tests)
+
+put-one_more : (xs : List ℕ) (c : ℕ) → length (put nat_eq xs c) ≤ length xs + 1
+put-one_more [] c = omega arith
+put-one_more (x ∷ xs) c = cases (nat_eq c x) (put-one_more xs c)
+  where
+    cases : (b : Bool) → length (put nat_eq xs c) ≤ length xs + 1 → length (cond b (x ∷ xs) (x ∷ put nat_eq xs c)) ≤ length (x ∷ xs) + 1
+    cases true h = omega arith
+    cases false h = omega (arith, h)
+
+-- a definition gives one character more at most
+pub one-more : (said : List Definition) (d : Definition) (old new : Characters) → Stands said old → Stands (said ++ d ∷ []) new
+    → length new.infos.entries ≤ length old.infos.entries + 1
+one-more said d old new before after =
+    let first : length old.infos.entries ≡ length (characters_said said) = ap length before.characters_stand ∙ count-said said nowhere in
+    let last : length new.infos.entries ≡ length (put nat_eq (characters_said said) d.character) =
+    ap length after.characters_stand ∙ count-said (said ++ d ∷ []) nowhere ∙ ap length (characters-more said d) in
+    omega (arith, first, last, put-one_more (characters_said said) d.character)

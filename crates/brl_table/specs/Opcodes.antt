@@ -1,10 +1,13 @@
 -- The opcodes of the profile: one table of their words, what their lines do, and the classes or the places that they give. The
--- manual has them in sections "Character-Definition Opcodes", "Translation Opcodes" and "Miscellaneous Opcodes".
+-- manual has them in sections "Character-Definition Opcodes", "Translation Opcodes", "Braille Indicator Opcodes" and "Miscellaneous Opcodes".
+-- That `capsign` is another name of `capsletter` is this project's own choice.
 use Rattle.std.specs.Prelude.{ℕ, List, [], ◌∷◌, codes, Option, Some, None, if◌then◌else◌}
 use Rattle.std.specs.Str.{bytes_eq}
 use Rattle.brl_table.specs.declared.opcode.Opcode.{Opcode}
-use Rattle.brl_table.specs.declared.opcode.Opcode.TheVariants.{Plain, Placed, Noback, Nofor, Display, Include}
+use Rattle.brl_table.specs.declared.opcode.Opcode.TheVariants.{Plain, Literary, Uplow, Placed, Noback, Nofor, Display, Indicator, Listing, Include}
+use Rattle.brl_table.specs.declared.item.Role.TheVariants.{Mode, Nocont}
 use Rattle.brl_table.specs.declared.place.Place.TheVariants.{Always, Word, Sufword, Prfword, Begword, Begmidword, Midword, Midendword, Endword, Partword, Begnum, Midnum, Endnum}
+use Rattle.brl_table.specs.declared.table.Sign.TheVariants.{CapsLetter, NumSign, NoContractSign}
 use Rattle.brl_table.specs.Places.{space, punctuation, digit, letter, lowercase_letter, uppercase_letter, sign, math}
 
 abbrev pub opcodes : List (List ℕ × Opcode)
@@ -17,6 +20,8 @@ opcodes =
     ∷ (codes "uppercase", Plain uppercase_letter)
     ∷ (codes "sign", Plain sign)
     ∷ (codes "math", Plain math)
+    ∷ (codes "litdigit", Literary)
+    ∷ (codes "uplow", Uplow)
     ∷ (codes "always", Placed Always)
     ∷ (codes "word", Placed Word)
     ∷ (codes "sufword", Placed Sufword)
@@ -33,6 +38,12 @@ opcodes =
     ∷ (codes "noback", Noback)
     ∷ (codes "nofor", Nofor)
     ∷ (codes "display", Display)
+    ∷ (codes "capsletter", Indicator CapsLetter)
+    ∷ (codes "capsign", Indicator CapsLetter)
+    ∷ (codes "numsign", Indicator NumSign)
+    ∷ (codes "nocontractsign", Indicator NoContractSign)
+    ∷ (codes "numericmodechars", Listing Mode)
+    ∷ (codes "numericnocontchars", Listing Nocont)
     ∷ (codes "include", Include)
     ∷ []
 

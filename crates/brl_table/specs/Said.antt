@@ -1,44 +1,124 @@
 -- What the steps of reading a table keep: this speaks of private functions alone.
-use Rattle.std.specs.Prelude.{ℕ, ◌≡◌, ◌+◌, ◌≤◌, ◌<◌, List, [], ◌∷◌, ◌++◌, length, map, slice_get, string_bytes, None, Result, Ok, Err, Some}
+use Rattle.std.specs.Prelude.{ℕ, ◌≡◌, ◌+◌, ◌≤◌, ◌<◌, true, false, ◌&&◌, ◌||◌, not, nat_eq, if◌then◌else◌, List, [], ◌∷◌, ◌++◌, length, map, slice_get, string_bytes, is_some, None, Result, Ok, Err, Some}
+use Rattle.std.specs.Int.RustNames.{bit_or}
+use Rattle.indexmap.specs.IndexSet.{contains}
 use Rattle.brl_lines.specs.Tokens.{LineView}
+use Rattle.brl_table.specs.declared.characters.Characters.{Characters}
 use Rattle.brl_table.specs.declared.item.Definition.{Definition}
 use Rattle.brl_table.specs.declared.item.Item.{Item}
 use Rattle.brl_table.specs.declared.item.LineFault.{LineFault}
 use Rattle.brl_table.specs.declared.item.LineFault.TheVariants as line_faults
+use Rattle.brl_table.specs.declared.item.Role.{Role}
+use Rattle.brl_table.specs.declared.item.Role.TheVariants.{Mode, Nocont}
 use Rattle.brl_table.specs.declared.rule.Info.{Info}
-use Rattle.brl_table.specs.declared.rule.Notice.{Notice}
 use Rattle.brl_table.specs.declared.rule.Rule.{Rule}
+use Rattle.brl_table.specs.declared.signs.Signs.{Signs}
+use Rattle.brl_table.specs.declared.table.Sign.{Sign}
+use Rattle.brl_table.specs.declared.table.Sign.TheVariants.{CapsLetter, NumSign, NoContractSign}
 use Rattle.brl_table.specs.declared.table_fault.TableFault.{TableFault}
 use Rattle.brl_table.specs.declared.table_fault.TableFault.TheVariants as faults
 use Rattle.brl_table.specs.Items.{Fault, fault}
 use Rattle.brl_table.specs.Good.{IsGoodItem}
-use Rattle.brl_table.specs.Reading.{characters_alone, definitions, entries_said, fault_among, fault_behind, notices_behind, rule_of, used_in, used_rules}
+use Rattle.brl_table.specs.Reading.{Listed, characters_alone, definitions, entries_said, fault_among, fault_behind, first_plain, is_twice, listed_said, notices_behind, rule_of, sign_said, used_in, used_rules}
 use Rattle.brl_table.specs.TableView.{TableView}
 
--- these characters and notices are what the definitions say
-pub record Stands (said : List Definition) (characters : List (ℕ × Info)) (notices : List Notice) : Type 0 where
-  pub characters_stand : characters ≡ entries_said said
-  pub notices_stand : notices ≡ notices_behind [] said
+-- what is known of a character by its first definition
+abbrev pub info_first : ℕ → Definition → Info
+info_first number d = record {
+  number = number;
+  cells = d.cells;
+  classes = d.classes;
+  literary = d.literary;
+  mode = false;
+  nocont = false;
+  fold = d.fold;
+  file = d.file;
+  line = d.line;
+}
 
--- these characters, these notices and so many used rules are what the items say
-pub record StandFor (said : List Item) (characters : List (ℕ × Info)) (notices : List Notice) (used : ℕ) : Type 0 where
-  pub defined : Stands (definitions said) characters notices
+-- what is known of a character with one more definition: a `litdigit` line gives its cells, if it is the first of these
+abbrev pub joined : Definition → Info → Info
+joined d info =
+    let gives = d.literary && not info.literary in
+    record info {
+      cells = if gives then d.cells else info.cells;
+      classes = record { 0 = bit_or info.classes.0 d.classes.0 };
+      literary = info.literary || d.literary;
+      fold = if nat_eq d.character info.fold then d.fold else info.fold;
+      file = if gives then d.file else info.file;
+      line = if gives then d.line else info.line;
+    }
+
+-- nothing is listed
+abbrev pub nowhere : Listed
+nowhere = record { mode = []; nocont = [] }
+
+-- some characters more in a role
+abbrev pub listed_more : Role → List ℕ → Listed → Listed
+listed_more Mode chars listed = record listed { mode = listed.mode ++ chars }
+listed_more Nocont chars listed = record listed { nocont = listed.nocont ++ chars }
+
+-- what is known of a character that a list line names
+abbrev pub flagged : Role → Info → Info
+flagged Mode info = record info { mode = true }
+flagged Nocont info = record info { nocont = true }
+
+-- and the characters that the list lines among some items name
+abbrev pub listed_behind : Listed → List Item → Listed
+listed_behind listed said = record { mode = listed.mode ++ (listed_said said).mode; nocont = listed.nocont ++ (listed_said said).nocont }
+
+-- these characters, those of plain lines and the notices are what the definitions say
+pub record Stands (said : List Definition) (characters : Characters) : Type 0 where
+  pub characters_stand : characters.infos.entries ≡ entries_said said nowhere
+  pub plain_stand : (c : ℕ) → contains nat_eq characters.plain c ≡ is_some (first_plain said c)
+  pub notices_stand : characters.notices.items ≡ notices_behind [] said
+
+-- the cells of an indicator
+abbrev pub cells_of_sign : Signs → Sign → List ℕ
+cells_of_sign signs CapsLetter = signs.caps_letter
+cells_of_sign signs NumSign = signs.num_sign
+cells_of_sign signs NoContractSign = signs.no_contract_sign
+
+abbrev pub with_cells : Signs → Sign → List ℕ → Signs
+with_cells signs CapsLetter cells = record signs { caps_letter = cells }
+with_cells signs NumSign cells = record signs { num_sign = cells }
+with_cells signs NoContractSign cells = record signs { no_contract_sign = cells }
+
+-- these indicators are what the items say
+abbrev pub SignsStand : List Item → Signs → Type 0
+SignsStand said signs = (sign : Sign) → cells_of_sign signs sign ≡ sign_said said sign
+
+-- these characters, these indicators and so many used rules are what the items say
+pub record StandFor (said : List Item) (characters : Characters) (signs : Signs) (used : ℕ) : Type 0 where
+  pub defined : Stands (definitions said) characters
+  pub indicated : SignsStand said signs
   pub counted : used ≡ length (used_rules said)
 
--- an item of the file with this number stands behind others, none of which are too many
-pub record HasAdded (said : List Item) (file : ℕ) (item : Item) (items : List Item) (characters : List (ℕ × Info)) (notices : List Notice) (used : ℕ) : Type 0 where
-  pub added : items ≡ said ++ item ∷ []
-  pub good : IsGoodItem (file + 1) item
-  pub stands : StandFor (said ++ item ∷ []) characters notices used
-  pub few_characters : length characters ≤ 1024
+-- these characters and notices are what the items say, list lines too
+pub record AreMarked (said : List Item) (characters : Characters) : Type 0 where
+  pub characters_stand : characters.infos.entries ≡ entries_said (definitions said) (listed_said said)
+  pub notices_stand : characters.notices.items ≡ notices_behind [] (definitions said)
+
+-- none of these are too many
+pub record AreWithin (characters : Characters) (signs : Signs) (used : ℕ) : Type 0 where
+  pub few_characters : length characters.infos.entries ≤ 1024
+  pub few_cells : (sign : Sign) → length (cells_of_sign signs sign) ≤ 16
   pub few_rules : used ≤ 4096
 
+-- an item of the file with this number stands behind others, and none are too many
+pub record HasAdded (said : List Item) (file : ℕ) (item : Item) (items : List Item) (characters : Characters) (signs : Signs) (used : ℕ) : Type 0 where
+  pub added : items ≡ said ++ item ∷ []
+  pub once : is_twice said item ≡ false
+  pub good : IsGoodItem (file + 1) item
+  pub stands : StandFor (said ++ item ∷ []) characters signs used
+  pub within : AreWithin characters signs used
+
 -- one more line, of the file with this number, which says this: its item is added, or its fault is told
-abbrev pub Adds : List Item → LineView → ℕ → Result Item Fault → List Item → List (ℕ × Info) → List Notice → ℕ → Result (Unit {0}) LineFault → Type 0
-Adds said line file want items characters notices used (Ok done) =
-    (item : Item) × (want ≡ Ok item) × HasAdded said file item items characters notices used
-Adds said line file want items characters notices used (Err line_faults.Memory) = Unit {0}
-Adds said line file want items characters notices used (Err (line_faults.Wrong wrong subject)) =
+abbrev pub Adds : List Item → LineView → ℕ → Result Item Fault → List Item → Characters → Signs → ℕ → Result (Unit {0}) LineFault → Type 0
+Adds said line file want items characters signs used (Ok done) =
+    (item : Item) × (want ≡ Ok item) × HasAdded said file item items characters signs used
+Adds said line file want items characters signs used (Err line_faults.Memory) = Unit {0}
+Adds said line file want items characters signs used (Err (line_faults.Wrong wrong subject)) =
     fault_behind said line want ≡ Some (fault wrong subject.now)
 
 -- what the second look sees of characters

@@ -10,11 +10,14 @@ mod context;
 mod front;
 mod item;
 mod laws;
+mod line;
 mod opcode;
+mod operand;
 mod parts;
 mod place;
 mod reading;
 mod rule;
+mod signs;
 mod table;
 mod table_fault;
 

@@ -2,13 +2,19 @@
 ghost use Rattle.std.specs.Prelude.{◌≡◌};
 ghost use Rattle.brl_table.specs.Opcodes.{opcode_of};
 
-use crate::{Class, Place};
+use crate::item::Role;
+use crate::{Class, Place, Sign};
 
 /// What a line with an opcode does.
 #[derive(Clone, Copy, PartialEq, Eq, Debug)]
 pub enum Opcode {
     /// Defines a character, with these classes: one character, then dots.
     Plain(Class),
+    /// Defines a digit that begins numbers: one character, then dots.
+    Literary,
+    /// Defines an uppercase character and its lowercase one: these two, then dots for both, or for each with a comma
+    /// between.
+    Uplow,
     /// Gives a rule for this place: characters, then dots or `=`.
     Placed(Place),
     /// Stands before a place opcode: its rule is used, since this project translates forward alone.
@@ -17,6 +23,10 @@ pub enum Opcode {
     Nofor,
     /// Is checked and not used: one character, then dots.
     Display,
+    /// Gives an indicator its cells: dots.
+    Indicator(Sign),
+    /// Says this of each of some characters.
+    Listing(Role),
     /// Puts the lines of a file in its place: a line that is left has no operand.
     Include,
 }
@@ -34,6 +44,8 @@ pub fn opcode_named(word: &str) -> Option<Opcode>
         "uppercase" => Some(Opcode::Plain(Class::UPPERCASE_LETTER)),
         "sign" => Some(Opcode::Plain(Class::SIGN)),
         "math" => Some(Opcode::Plain(Class::MATH)),
+        "litdigit" => Some(Opcode::Literary),
+        "uplow" => Some(Opcode::Uplow),
         "always" => Some(Opcode::Placed(Place::Always)),
         "word" => Some(Opcode::Placed(Place::Word)),
         "sufword" => Some(Opcode::Placed(Place::Sufword)),
@@ -50,6 +62,11 @@ pub fn opcode_named(word: &str) -> Option<Opcode>
         "noback" => Some(Opcode::Noback),
         "nofor" => Some(Opcode::Nofor),
         "display" => Some(Opcode::Display),
+        "capsletter" | "capsign" => Some(Opcode::Indicator(Sign::CapsLetter)),
+        "numsign" => Some(Opcode::Indicator(Sign::NumSign)),
+        "nocontractsign" => Some(Opcode::Indicator(Sign::NoContractSign)),
+        "numericmodechars" => Some(Opcode::Listing(Role::Mode)),
+        "numericnocontchars" => Some(Opcode::Listing(Role::Nocont)),
         "include" => Some(Opcode::Include),
         _ => None,
     }

@@ -1,13 +1,31 @@
 //! The table that a list of lines defines.
-ghost use Rattle.std.specs.Prelude.{◌≡◌, ◌≤◌, ◌∷◌, ◌++◌, [], All, IfOk, IfErr, OnOk, length, map, position, vec_len, string_bytes};
+ghost use Rattle.std.specs.Prelude.{◌≡◌, ◌≤◌, ◌∷◌, ◌++◌, [], false, All, IfOk, IfErr, List, OnOk, length, map, position, vec_len, string_bytes};
 ghost use Rattle.std.specs.Str.{bytes_eq};
 ghost use Rattle.brl_lines.specs.Views.{line_view};
 ghost use Rattle.brl_table.specs.Items.{item_of as item_said};
 ghost use Rattle.brl_table.specs.Good.{IsGoodItem};
 ghost use Rattle.brl_table.specs.Limits.{IsRule};
 ghost use Rattle.brl_table.specs.Rank.{in_rank};
-ghost use Rattle.brl_table.specs.Said.{over, Adds, IsFaultAgain, LooksAgain, PassesAgain, StandFor};
+ghost use Rattle.brl_table.specs.Said.{
+  listed_behind,
+  over,
+  Adds,
+  AreMarked,
+  AreWithin,
+  IsFaultAgain,
+  LooksAgain,
+  PassesAgain,
+  SignsStand,
+  StandFor,
+};
+ghost use Rattle.brl_table.specs.declared.item.Definition.{Definition};
+ghost use Rattle.brl_table.specs.declared.item.Item.{Item as ItemView};
+ghost use Rattle.brl_table.specs.declared.item.Item.TheVariants as items;
+ghost use Rattle.brl_table.specs.declared.rule.Rule.{Rule as RuleView};
 ghost use Rattle.brl_table.specs.Reading.{
+  Listed,
+  entries_said,
+  is_twice as is_twice_by,
   files_of,
   characters_in as characters_said,
   opcode_in as opcode_said,
@@ -21,9 +39,10 @@ ghost use Rattle.brl_table.specs.Reading.{
 };
 
 use crate::characters::Characters;
-use crate::item::{Item, LineFault, RuleLine, item_of};
+use crate::item::{Item, LineFault, ListLine, Role, RuleLine};
+use crate::line::item_of;
+use crate::signs::Signs;
 use crate::{Rule, Table, TableFault, TableParts, Wrong, rank_law};
-use brl_cells::Cells;
 use brl_lines::Line;
 use std::alloc::{AllocError, Global};
 
@@ -34,9 +53,10 @@ const MOST_CHARACTERS: usize = 1024;
 const MOST_RULES: usize = 4096;
 
 /// The table that lines define. Lines are looked at in order, and the first fault decides: a line's opcode, its
-/// operands, its characters, its dots, whether its rule has too many characters, and then whether the table has too many
-/// characters or used rules with it. Where all lines pass, they are looked at in order again: whether the characters of a
-/// rule are the table's.
+/// operands, its characters, its dots, whether its rule has too many characters, then whether the table has too many
+/// characters or used rules with it, and whether its indicator is defined already. Where all lines pass, they are looked at
+/// in order again: whether the characters of a rule or of a list are the table's, and then whether a character that could
+/// be read as a digit is one.
 pub fn read_table(alloc: Global, lines: &[Line<'_>]) -> Result<Table, TableFault>
     ensures passes { IfOk result (λ _. PassesAll (map line_view lines.now)) }
     ensures table { IfOk result (λ table. table ≡ table_of (map line_view lines.now)) }
@@ -51,11 +71,12 @@ pub fn read_table(alloc: Global, lines: &[Line<'_>]) -> Result<Table, TableFault
             Err(fault) => return Err(fault_at(alloc, fault, line)),
         }
     }
+    mark(said.items.as_slice(), &mut said.characters);
     let rules = match said.rules(alloc, lines) {
         Ok(rules) => rules,
         Err(fault) => return Err(fault),
     };
-    Ok(said.table(alloc, files, rules)?)
+    Ok(said.table(files, rules)?)
 }
 
 /// What some lines say together.
@@ -65,6 +86,8 @@ struct Said {
     items: Vec<Item>,
     /// The characters that they define.
     characters: Characters,
+    /// The indicators that they define.
+    signs: Signs,
     /// How many rules of theirs are used.
     used: usize,
 }
@@ -72,31 +95,33 @@ struct Said {
 impl Said {
     fn new(alloc: Global) -> Said
         ensures items { result.items.items ≡ [] }
-        ensures infos { result.characters.infos.entries ≡ [] }
-        ensures notices { result.characters.notices.items ≡ [] }
-        ensures used { result.used ≡ 0 }
+        ensures stands { StandFor [] result.characters result.signs result.used }
+        ensures within { AreWithin result.characters result.signs result.used }
     {
         Said {
             items: Vec::new(alloc),
             characters: Characters::new(alloc),
+            signs: Signs::new(alloc),
             used: 0,
         }
     }
 
     /// One more line, of the file with this number.
     fn add<'a>(&mut self, alloc: Global, file: usize, line: &Line<'a>) -> Result<(), LineFault<'a>>
-        requires stands { StandFor self.old.items.items self.old.characters.infos.entries self.old.characters.notices.items self.old.used }
-        requires few_characters { length self.old.characters.infos.entries ≤ 1024 }
-        requires few_rules { self.old.used ≤ 4096 }
+        requires stands { StandFor self.old.items.items self.old.characters self.old.signs self.old.used }
+        requires within { AreWithin self.old.characters self.old.signs self.old.used }
         ensures { let view = line_view line.now in
             Adds self.old.items.items view file (item_said file view) self.new.items.items
-            self.new.characters.infos.entries self.new.characters.notices.items self.new.used result }
+            self.new.characters self.new.signs self.new.used result }
     {
         let item = match item_of(alloc, file, line) {
             Ok(item) => item,
             Err(fault) => return Err(fault),
         };
         let opcode = opcode_in(line, &item);
+        if self.is_twice(&item) {
+            return Err(LineFault::Wrong(Wrong::IndicatorTwice, opcode));
+        }
         self.count(&item)?;
         self.items.push(item)?;
         if self.characters.infos.len() > MOST_CHARACTERS || self.used > MOST_RULES {
@@ -105,23 +130,35 @@ impl Said {
         Ok(())
     }
 
-    /// The characters and the used rules with one more item, which the items don't have yet.
+    /// Whether an item gives an indicator its cells that has some.
+    fn is_twice(&self, item: &Item) -> bool
+        ensures { (said : List ItemView) → SignsStand said self.now.signs → result ≡ is_twice_by said item.now }
+    {
+        match item {
+            Item::Indicates(sign, _) => !self.signs.cells(*sign).is_empty(),
+            _ => false,
+        }
+    }
+
+    /// The characters, the indicators and the used rules with one more item, which the items don't have yet.
     fn count(&mut self, item: &Item) -> Result<(), AllocError>
-        requires stands { StandFor self.old.items.items self.old.characters.infos.entries self.old.characters.notices.items self.old.used }
-        requires few_characters { length self.old.characters.infos.entries ≤ 1024 }
-        requires few_rules { self.old.used ≤ 4096 }
-        ensures stands { OnOk result (StandFor (self.old.items.items ++ item.now ∷ [])
-            self.new.characters.infos.entries self.new.characters.notices.items self.new.used) }
+        requires once { is_twice_by self.old.items.items item.now ≡ false }
+        requires stands { StandFor self.old.items.items self.old.characters self.old.signs self.old.used }
+        requires within { AreWithin self.old.characters self.old.signs self.old.used }
+        ensures stands { OnOk result (StandFor (self.old.items.items ++ item.now ∷ []) self.new.characters self.new.signs self.new.used) }
         ensures items { self.new.items.items ≡ self.old.items.items }
     {
         match item {
-            Item::Defines(definition) => self.characters.define(definition),
-            Item::Rules(rule) if rule.head.used => {
-                self.used += 1;
-                Ok(())
+            Item::Defines(definition) => self.characters.define(definition)?,
+            Item::DefinesBoth(upper, lower) => {
+                self.characters.define(upper)?;
+                self.characters.define(lower)?;
             }
-            Item::Rules(_) | Item::Nothing => Ok(()),
+            Item::Rules(rule) if rule.head.used => self.used += 1,
+            Item::Indicates(sign, cells) => self.signs.set(*sign, cells.copy()?),
+            Item::Rules(_) | Item::Lists(_) | Item::Nothing => {}
         }
+        Ok(())
     }
 
     /// The used rules in the order of these lines, which say the items; or the first fault of the second look.
@@ -152,30 +189,50 @@ impl Said {
     ) -> Result<(), LineFault<'a>>
         ensures { LooksAgain self.now.characters.infos.entries (line_view line.now) item.now rules.old.items rules.new.items result }
     {
-        let Item::Rules(written) = item else {
-            return Ok(());
-        };
-        let Some(rule) = self.characters.rule(alloc, written)? else {
-            return Err(LineFault::Wrong(Wrong::UndefinedInRule, characters_in(line, written)));
-        };
-        if written.head.used {
-            rules.push(rule)?;
+        match item {
+            Item::Rules(written) => {
+                let Some(rule) = self.characters.rule(alloc, written)? else {
+                    return Err(LineFault::Wrong(
+                        Wrong::UndefinedInRule,
+                        characters_in(line, written),
+                    ));
+                };
+                if written.head.used {
+                    rules.push(rule)?;
+                }
+                Ok(())
+            }
+            Item::Lists(list) => self.look_at_list(line, list),
+            _ => Ok(()),
+        }
+    }
+
+    /// The second look at a line of characters of which one thing is said.
+    fn look_at_list<'a>(&self, line: &Line<'a>, list: &ListLine) -> Result<(), LineFault<'a>>
+        ensures { (rules : List RuleView) → LooksAgain self.now.characters.infos.entries (line_view line.now) (items.Lists list.now) rules rules result }
+    {
+        let characters = list.chars.as_slice();
+        if !self.characters.defines_all(characters) {
+            return Err(LineFault::Wrong(Wrong::UndefinedInList, operand_of(line, 0)));
+        }
+        if list.role == Role::Nocont && self.characters.has_literary(characters) {
+            return Err(LineFault::Wrong(Wrong::TwoRoles, operand_of(line, 0)));
         }
         Ok(())
     }
 
     /// The table of what was said, with these rules, over the files with these names.
-    fn table(self, alloc: Global, files: Vec<String>, rules: Vec<Rule>) -> Result<Table, AllocError>
-        requires stands { StandFor self.items.items self.characters.infos.entries self.characters.notices.items self.used }
+    fn table(self, files: Vec<String>, rules: Vec<Rule>) -> Result<Table, AllocError>
+        requires marked { AreMarked self.items.items self.characters }
         requires good { All (IsGoodItem (vec_len files)) self.items.items }
-        requires few_characters { length self.characters.infos.entries ≤ 1024 }
+        requires within { AreWithin self.characters self.signs self.used }
         requires few_rules { length rules.items ≤ 4096 }
         requires rules { All (IsRule self.characters.infos.entries (vec_len files)) rules.items }
         ensures characters { IfOk result (λ t. t.characters ≡ self.characters.infos.entries) }
         ensures rules { IfOk result (λ t. t.rules ≡ in_rank rules.items) }
-        ensures caps_letter { IfOk result (λ t. t.caps_letter ≡ []) }
-        ensures num_sign { IfOk result (λ t. t.num_sign ≡ []) }
-        ensures no_contract_sign { IfOk result (λ t. t.no_contract_sign ≡ []) }
+        ensures caps_letter { IfOk result (λ t. t.caps_letter ≡ self.signs.caps_letter) }
+        ensures num_sign { IfOk result (λ t. t.num_sign ≡ self.signs.num_sign) }
+        ensures no_contract_sign { IfOk result (λ t. t.no_contract_sign ≡ self.signs.no_contract_sign) }
         ensures files { IfOk result (λ t. t.files ≡ map string_bytes files.items) }
         ensures notices { IfOk result (λ t. t.notices ≡ self.characters.notices.items) }
     {
@@ -184,18 +241,32 @@ impl Said {
         let Said {
             items: _,
             characters,
+            signs,
             used: _,
         } = self;
-        let Characters { infos, notices } = characters;
         Table::from_parts(TableParts {
-            characters: infos,
+            characters: characters.infos,
             rules,
-            caps_letter: Cells::new(alloc),
-            num_sign: Cells::new(alloc),
-            no_contract_sign: Cells::new(alloc),
+            caps_letter: signs.caps_letter,
+            num_sign: signs.num_sign,
+            no_contract_sign: signs.no_contract_sign,
             files,
-            notices,
+            notices: characters.notices,
         })
+    }
+}
+
+/// Marks the characters that list lines among these name.
+fn mark(items: &[Item], characters: &mut Characters)
+    ensures marks { (said : List Definition) (listed : Listed) →
+        characters.old.infos.entries ≡ entries_said said listed →
+        characters.new.infos.entries ≡ entries_said said (listed_behind listed items.now) }
+    ensures notices { characters.new.notices ≡ characters.old.notices }
+{
+    for item in items {
+        if let Item::Lists(line) = item {
+            characters.mark(line);
+        }
     }
 }
 

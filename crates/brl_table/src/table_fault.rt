@@ -20,9 +20,18 @@ pub enum Wrong {
     /// A character of its rule isn't one of the table's.
     #[error("B5 UndefinedInRule")]
     UndefinedInRule,
+    /// A character of its list isn't one of the table's.
+    #[error("B6 UndefinedInList")]
+    UndefinedInList,
+    /// A character of its list could be read as a digit and is one: it has a `litdigit` line.
+    #[error("B7 TwoRoles")]
+    TwoRoles,
     /// Its rule has more characters than a rule may, or with it the table has more characters or used rules than it may.
     #[error("B8 TooMany")]
     TooMany,
+    /// It defines an indicator again.
+    #[error("B9 IndicatorTwice")]
+    IndicatorTwice,
 }
 
 /// Why lines define no table: what is wrong with the first line that has a fault, the word of it that the fault is

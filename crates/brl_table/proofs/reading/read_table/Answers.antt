@@ -4,14 +4,16 @@ use Rattle.std.specs.Global.{Global}
 use Rattle.std.specs.Str.{bytes_eq}
 use Rattle.std.proofs.lemmas.List.{length-map}
 use Rattle.brl_lines.specs.Views.{line_view}
+use Rattle.brl_table.specs.declared.table.Sign.TheVariants.{CapsLetter, NumSign, NoContractSign}
 use Rattle.brl_table.specs.Good.{IsGoodItem}
 use Rattle.brl_table.specs.Limits.{IsRule}
-use Rattle.brl_table.specs.Reading.{files_of, rule_of, used_rules}
+use Rattle.brl_table.specs.Reading.{definitions, files_of, listed_said, rule_of, used_rules}
 use Rattle.brl_table.specs.Said.{over, PassesAgain, StandFor}
 use Rattle.brl_table.proofs.AllLooked.{passes-second, rules-good, same-length, second-fault, table-is, whole}
-use Rattle.brl_table.proofs.GoodItems.{good-definitions}
+use Rattle.brl_table.proofs.GoodItems.{good-definitions, good-folds}
+use Rattle.brl_table.proofs.Marked.{all-marked, still-within}
 use Rattle.brl_table.proofs.ReadSteps.{aligned-more, first-fault, good-more, has_file, number-of, number-within, passes-more, refusal}
-use Rattle.brl_table.proofs.SaidParts.{entries-stand}
+use Rattle.brl_table.proofs.SaidParts.{entries-good}
 use Rattle.brl_table.proofs.reading.read_table.Goals as goal
 
 pub unwrap-file-requires : goal.unwrap-file-requires
@@ -38,12 +40,11 @@ loop-line-preserved c =
     let after = c.add.new.self in
     record {
       aligned = aligned-more lines names named i line c.loop-line-test.true c.line-item.is c.unwrap-file.result number said before.aligned item _ is more.added;
-      stands = subst (λ xs. StandFor xs after.characters.infos.entries after.characters.notices.items after.used) (sym more.added) more.stands;
+      stands = subst (λ xs. StandFor xs after.characters after.signs after.used) (sym more.added) more.stands;
       good = good-more lines names named i line c.loop-line-test.true c.line-item.is c.unwrap-file.result number said _ item within more.good more.added before.good;
-      few_characters = more.few_characters;
-      few_rules = more.few_rules;
+      within = more.within;
       passed = passes-more lines names named i line c.loop-line-test.true c.line-item.is c.unwrap-file.result number said before.aligned item _ _ _ is
-          more.stands more.few_characters more.few_rules before.passed;
+          more.once more.stands more.within before.passed;
     }
 
 pub returns-in-Err-clause-fault : goal.returns-in-Err-clause-fault
@@ -69,7 +70,9 @@ rules-requires c =
     let past : length lines ≤ c.loop-line.line-index = omega (arith, c.loop-line-test.false, count) in
     let said = c.loop-line.said.items.items in
     let aligned = whole lines said c.loop-line.line-index past c.loop-line.invariant.aligned in
-    sym count ∙ same-length lines said aligned c.loop-line.said.characters.infos.entries c.loop-line.invariant.stands.defined.characters_stand
+    let marked = all-marked said c.as_slice-2.result.now c.loop-line.said.characters c.mark.new.characters c.loop-line.invariant.stands.defined c.as_slice-2.ensures.value
+    c.mark.ensures.marks c.mark.ensures.notices in
+    sym count ∙ same-length lines said aligned c.mark.new.characters.infos.entries marked.characters_stand
 
 pub returns-in-Err-rules-clause-fault : goal.returns-in-Err-rules-clause-fault
 returns-in-Err-rules-clause-fault c =
@@ -78,9 +81,24 @@ returns-in-Err-rules-clause-fault c =
     let past : length lines ≤ c.loop-line.line-index = omega (arith, c.loop-line-test.false, count) in
     let said = c.loop-line.said.items.items in
     let aligned = whole lines said c.loop-line.line-index past c.loop-line.invariant.aligned in
-    second-fault lines said aligned c.loop-line.said.characters.infos.entries c.loop-line.invariant.stands.defined.characters_stand c.in-Err-rules.fault
+    let marked = all-marked said c.as_slice-2.result.now c.loop-line.said.characters c.mark.new.characters c.loop-line.invariant.stands.defined c.as_slice-2.ensures.value
+    c.mark.ensures.marks c.mark.ensures.notices in
+    second-fault lines said aligned c.mark.new.characters.infos.entries marked.characters_stand c.in-Err-rules.fault
     (λ place line within there. c.loop-line.invariant.passed place line (omega (arith, within, past)) there)
     c.in-Err-rules.ensures.fault
+
+pub table-requires-clause-marked : goal.table-requires-clause-marked
+table-requires-clause-marked c =
+    all-marked c.loop-line.said.items.items c.as_slice-2.result.now c.loop-line.said.characters c.mark.new.characters c.loop-line.invariant.stands.defined c.as_slice-2.ensures.value
+    c.mark.ensures.marks c.mark.ensures.notices
+
+pub table-requires-clause-within : goal.table-requires-clause-within
+table-requires-clause-within c =
+    let said = c.loop-line.said.items.items in
+    let stands = c.loop-line.invariant.stands.defined in
+    let marked = all-marked said c.as_slice-2.result.now c.loop-line.said.characters c.mark.new.characters stands c.as_slice-2.ensures.value
+    c.mark.ensures.marks c.mark.ensures.notices in
+    still-within said c.loop-line.said.characters c.mark.new.characters c.loop-line.said.signs c.loop-line.said.used stands marked c.loop-line.invariant.within
 
 pub table-requires-clause-good : goal.table-requires-clause-good
 table-requires-clause-good c =
@@ -94,23 +112,25 @@ table-requires-clause-rules c =
     let count = length-map c.args.lines.now line_view in
     let past : length lines ≤ c.loop-line.line-index = omega (arith, c.loop-line-test.false, count) in
     let said = c.loop-line.said.items.items in
-    let characters = c.loop-line.said.characters.infos.entries in
-    let stands = c.loop-line.invariant.stands.defined in
+    let characters = c.mark.new.characters.infos.entries in
+    let marked = all-marked said c.as_slice-2.result.now c.loop-line.said.characters c.mark.new.characters c.loop-line.invariant.stands.defined c.as_slice-2.ensures.value
+    c.mark.ensures.marks c.mark.ensures.notices in
     let aligned = whole lines said c.loop-line.line-index past c.loop-line.invariant.aligned in
-    let same = same-length lines said aligned characters stands.characters_stand in
+    let same = same-length lines said aligned characters marked.characters_stand in
     let names = c.in_ok-files.files in
-    let named : length (files_of lines) ≡ vec_len names = omega (arith, ap length c.in_ok-files.ensures, length-map names.items (string_bytes {Z = Global})) in
+    let files = vec_len names in
+    let named : length (files_of lines) ≡ files = omega (arith, ap length c.in_ok-files.ensures, length-map names.items (string_bytes {Z = Global})) in
     let good = subst (λ n. All (IsGoodItem n) said) named c.loop-line.invariant.good in
-    let entries = entries-stand (vec_len names) stands (good-definitions (vec_len names) said good) in
+    let entries = entries-good files (definitions said) (listed_said said) (good-definitions files said good) (good-folds files said good) characters marked.characters_stand in
     let passed = subst (PassesAgain characters lines said) (sym count) c.in-Ok-rules.ensures.passes in
-    subst (All (IsRule characters (vec_len names))) (sym c.in-Ok-rules.ensures.rules) (rules-good characters (vec_len names) entries lines said same good passed)
+    subst (All (IsRule characters files)) (sym c.in-Ok-rules.ensures.rules) (rules-good characters files entries lines said same good passed)
 
 pub table-requires-clause-few_rules : goal.table-requires-clause-few_rules
 table-requires-clause-few_rules c =
     let said = c.loop-line.said.items.items in
-    let characters = c.loop-line.said.characters.infos.entries in
+    let characters = c.mark.new.characters.infos.entries in
     let used = c.loop-line.invariant.stands.counted in
-    let few = c.loop-line.invariant.few_rules in
+    let few = c.loop-line.invariant.within.few_rules in
     let all : length c.in-Ok-rules.rules.items ≡ length (used_rules said) =
     ap length c.in-Ok-rules.ensures.rules ∙ length-map (used_rules said) (rule_of (over characters)) in
     omega arith
@@ -121,11 +141,13 @@ returns-clause-passes c =
     let count = length-map c.args.lines.now line_view in
     let past : length lines ≤ c.loop-line.line-index = omega (arith, c.loop-line-test.false, count) in
     let said = c.loop-line.said.items.items in
-    let characters = c.loop-line.said.characters.infos.entries in
+    let characters = c.mark.new.characters.infos.entries in
+    let marked = all-marked said c.as_slice-2.result.now c.loop-line.said.characters c.mark.new.characters c.loop-line.invariant.stands.defined c.as_slice-2.ensures.value
+    c.mark.ensures.marks c.mark.ensures.notices in
     let aligned = whole lines said c.loop-line.line-index past c.loop-line.invariant.aligned in
     record {
       first = λ place line within there. c.loop-line.invariant.passed place line (omega (arith, within, past)) there;
-      second = passes-second lines said aligned characters c.loop-line.invariant.stands.defined.characters_stand (length lines)
+      second = passes-second lines said aligned characters marked.characters_stand (length lines)
           (subst (PassesAgain characters lines said) (sym count) c.in-Ok-rules.ensures.passes);
     }
 
@@ -135,9 +157,13 @@ returns-clause-table c =
     let count = length-map c.args.lines.now line_view in
     let past : length lines ≤ c.loop-line.line-index = omega (arith, c.loop-line-test.false, count) in
     let said = c.loop-line.said.items.items in
-    let stands = c.loop-line.invariant.stands.defined in
+    let signs = c.loop-line.invariant.stands.indicated in
+    let characters = c.mark.new.characters in
+    let marked = all-marked said c.as_slice-2.result.now c.loop-line.said.characters characters c.loop-line.invariant.stands.defined c.as_slice-2.ensures.value
+    c.mark.ensures.marks c.mark.ensures.notices in
     let aligned = whole lines said c.loop-line.line-index past c.loop-line.invariant.aligned in
     let t = c.in_ok-table.ensures in
-    table-is lines said aligned c.loop-line.said.characters.infos.entries stands.characters_stand c.loop-line.said.characters.notices.items stands.notices_stand
-    c.in-Ok-rules.rules.items c.in-Ok-rules.ensures.rules c.in_ok-table.field-0 t.characters t.rules t.caps_letter t.num_sign t.no_contract_sign
+    table-is lines said aligned characters.infos.entries marked.characters_stand characters.notices.items marked.notices_stand
+    c.in-Ok-rules.rules.items c.in-Ok-rules.ensures.rules c.in_ok-table.field-0 t.characters t.rules
+    (t.caps_letter ∙ signs CapsLetter) (t.num_sign ∙ signs NumSign) (t.no_contract_sign ∙ signs NoContractSign)
     (t.files ∙ c.in_ok-files.ensures) t.notices

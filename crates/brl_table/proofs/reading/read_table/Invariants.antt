@@ -1,9 +1,9 @@
-use Rattle.std.proofs.Common.{◌≡◌, ◌≤◌, Ok, length, map, take}
+use Rattle.std.proofs.Common.{◌≡◌, Ok, length, map, take}
 use Rattle.std.specs.Prelude.{All}
 use Rattle.brl_lines.specs.Views.{line_view}
 use Rattle.brl_table.specs.Good.{IsGoodItem}
 use Rattle.brl_table.specs.Reading.{fault_of, files_of, item_in, PassesBefore}
-use Rattle.brl_table.specs.Said.{StandFor}
+use Rattle.brl_table.specs.Said.{AreWithin, StandFor}
 use Rattle.brl_table.proofs.reading.read_table.Given as goal
 
 abbrev pub invariant-loop-line : goal.invariant-loop-line
@@ -13,9 +13,8 @@ invariant-loop-line l =
     let said = l.said.items.items in
     record {
       aligned : map Ok said ≡ map (item_in files) (take l.line-index lines);
-      stands : StandFor said l.said.characters.infos.entries l.said.characters.notices.items l.said.used;
+      stands : StandFor said l.said.characters l.said.signs l.said.used;
       good : All (IsGoodItem (length files)) said;
-      few_characters : length l.said.characters.infos.entries ≤ 1024;
-      few_rules : l.said.used ≤ 4096;
+      within : AreWithin l.said.characters l.said.signs l.said.used;
       passed : PassesBefore (fault_of lines) lines l.line-index;
     }

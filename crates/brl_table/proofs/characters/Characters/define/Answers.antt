@@ -1,21 +1,39 @@
-use Rattle.std.proofs.Common.{ℕ, ◌∙◌, ap, sym, nat_eq}
-use Rattle.std.specs.Map.{lookup}
-use Rattle.std.specs.Option.{option_copied_mut}
-use Rattle.brl_table.specs.declared.rule.Info.{Info}
-use Rattle.brl_table.proofs.SaidSteps.{stands-again, stands-first}
+use Rattle.std.proofs.Common.{◌++◌, ◌∷◌, [], ◌∙◌, ap, sym, refl, append-nil}
+use Rattle.std.proofs.Common.{nat_eq}
+use Rattle.indexmap.specs.IndexSet.{contains}
+use Rattle.brl_table.specs.Reading.{notice_of}
+use Rattle.brl_table.proofs.SaidSteps.{plain-inserted, plain-kept, stands-more}
 use Rattle.brl_table.proofs.characters.Characters.define.Goals as goal
+use Rattle.brl_table.proofs.characters.Characters.define.Goals.{then-not-definition+in_ok-insert, else-not-definition}
 
-pub returns-in_ok-push-in-Some : goal.returns-in_ok-push-in-Some
-returns-in_ok-push-in-Some c said stands =
-    stands-again said c.args.definition.now c.args.self.now.infos.entries _ c.args.self.now.notices.items _ c.in-Some.info.now _ stands
-    (sym c.get_mut.ensures.value ∙ ap option_copied_mut c.in-Some.is)
-    (ap (λ (k : ℕ). let info : Info = record c.in-Some.info.now { classes = record { 0 = k } } in info) (c.union-info.ensures tt))
-    (c.get_mut.follows.holds _).0 c.in_ok-push-in-Some.ensures.items
+pub returns-in_ok-push : goal.returns-in_ok-push
+returns-in_ok-push c said stands =
+    let d = c.args.definition.now in
+    let old = c.args.self.now in
+    let again = sym (c.is_again-again.ensures said stands) ∙ c.if-again.true in
+    elim c.if-not-definition.branch [
+      | then-not-definition+in_ok-insert w ↦
+          (stands-more said d old stands _ (ap (λ s. s.infos.entries) w.self-is ∙ c.in_ok-put.ensures said stands.characters_stand)
+          (plain-inserted d (contains nat_eq old.plain) (contains nat_eq c.if-not-definition.self.plain) w.if-not-definition.true (λ x. ap (λ s. contains nat_eq s.plain x) w.self-is ∙ w.in_ok-insert.ensures.updates.0 x))
+          (c.in_ok-push.ensures.items ∙ ap (λ s. s.notices.items ++ notice_of d ∷ []) w.self-is ∙ rw again refl))
+      | else-not-definition w ↦
+          (stands-more said d old stands _ (ap (λ s. s.infos.entries) w.self-is ∙ c.in_ok-put.ensures said stands.characters_stand)
+          (plain-kept d (contains nat_eq old.plain) (contains nat_eq c.if-not-definition.self.plain) w.if-not-definition.false (λ x. ap (λ s. contains nat_eq s.plain x) w.self-is))
+          (c.in_ok-push.ensures.items ∙ ap (λ s. s.notices.items ++ notice_of d ∷ []) w.self-is ∙ rw again refl))
+    ]
 
-pub returns-in_ok-insert-in-None : goal.returns-in_ok-insert-in-None
-returns-in_ok-insert-in-None c said stands =
-    let same = ap (λ m. m.entries) c.get_mut.follows.holds-at-none in
-    stands-first said c.args.definition.now c.get_mut.follows.lender-at-none.entries _ c.args.self.now.notices.items c.len-number.result
-    (record { characters_stand = same ∙ stands.characters_stand; notices_stand = stands.notices_stand })
-    (ap (lookup (nat_eq c.args.definition.now.character)) same ∙ sym c.get_mut.ensures.value ∙ ap option_copied_mut c.in-None.is)
-    c.len-number.ensures.len (rw c.in_ok-copy-in-None.ensures at c.in_ok-insert-in-None.ensures.entries)
+pub returns-else-again : goal.returns-else-again
+returns-else-again c said stands =
+    let d = c.args.definition.now in
+    let old = c.args.self.now in
+    let again = sym (c.is_again-again.ensures said stands) ∙ c.if-again.false in
+    elim c.if-not-definition.branch [
+      | then-not-definition+in_ok-insert w ↦
+          (stands-more said d old stands _ (ap (λ s. s.infos.entries) w.self-is ∙ c.in_ok-put.ensures said stands.characters_stand)
+          (plain-inserted d (contains nat_eq old.plain) (contains nat_eq c.if-not-definition.self.plain) w.if-not-definition.true (λ x. ap (λ s. contains nat_eq s.plain x) w.self-is ∙ w.in_ok-insert.ensures.updates.0 x))
+          (ap (λ s. s.notices.items) w.self-is ∙ rw again (sym (append-nil old.notices.items))))
+      | else-not-definition w ↦
+          (stands-more said d old stands _ (ap (λ s. s.infos.entries) w.self-is ∙ c.in_ok-put.ensures said stands.characters_stand)
+          (plain-kept d (contains nat_eq old.plain) (contains nat_eq c.if-not-definition.self.plain) w.if-not-definition.false (λ x. ap (λ s. contains nat_eq s.plain x) w.self-is))
+          (ap (λ s. s.notices.items) w.self-is ∙ rw again (sym (append-nil old.notices.items))))
+    ]
