@@ -24,8 +24,8 @@ fn worked_theorems()
     ensures clash { IsClash two_cells (codes "ab") (codes "x") (1 ∷ 3 ∷ []) }
 {}
 
-/// Lines, and what they define: the characters with their dots, their classes and the line of their dots; the rules in rank;
-/// the notices.
+/// Lines, and what they define: the characters with their dots, their classes, what else is said of them and the line of their
+/// dots; the rules in rank; the indicators; the notices.
 const TABLES: &str = "\
 letter a 1; punctuation a 12|a 1 10 at 1;again a at 2;
 space a 1; digit b 1; lowercase c 1; uppercase d 1; sign e 1; math f 1|a 1 1 at 1;b 1 4 at 2;c 1 24 at 3;d 1 40 at 4;e 1 64 at 5;f 1 128 at 6;
@@ -39,6 +39,12 @@ letter a 1; always a 0 = all behind is a comment|a 1 8 at 1;Always a 0 at 2;
 letter a 1; always \\x0061a 14-5|a 1 8 at 1;Always aa 14-5 at 2;
 letter a 1; sufword a 1; prfword a 1; begword a 1; begmidword a 1; midword a 1; midendword a 1|a 1 8 at 1;Sufword a 1 at 2;Prfword a 1 at 3;Begword a 1 at 4;Begmidword a 1 at 5;Midword a 1 at 6;Midendword a 1 at 7;
 letter a 1; endword a 1; partword a 1; begnum a 1; midnum a 1; endnum a 1|a 1 8 at 1;Endword a 1 at 2;Partword a 1 at 3;Begnum a 1 at 4;Midnum a 1 at 5;Endnum a 1 at 6;
+letter a 1; litdigit a 12|a 12 12 literary at 2;
+litdigit a 12; letter a 1|a 12 12 literary at 1;
+letter a 1; letter A 2; uplow Aa 12|a 1 24 at 1;A 2 40 folds to a at 2;again A at 3;again a at 3;
+uplow Aa 1,12; uplow Ab 2|A 1 40 folds to a at 1;a 12 24 at 1;b 2 24 at 2;again A at 2;
+numericmodechars .; numericnocontchars a; letter a 1; punctuation . 2; capsign 6; numsign 3456|a 1 8 nocont at 3;. 2 2 mode at 4;CapsLetter 6;NumSign 3456;
+uplow Aa 1; uplow ab 2; always A =; nocontractsign 56|A 1 40 folds to a at 1;a 1 56 folds to b at 1;b 2 24 at 2;Always a 1 at 3;NoContractSign 56;again a at 2;
 ";
 
 /// Lines, and the fault that decides.
@@ -61,6 +67,18 @@ display a =|B4 BadDots = at t.ctb:1
 display ab 1|B3 BadCharacters ab at t.ctb:1
 nofor always a\\x00 9|B3 BadCharacters a\\x00 at t.ctb:1
 letter a 1; nofor word aaaaaaaaaaaaaaaaaaaaaaaaaaaaaaaaa 1|B8 TooMany word at t.ctb:2
+numsign 6; numsign 6|B9 IndicatorTwice numsign at t.ctb:2
+capsletter 6; capsign 6|B9 IndicatorTwice capsign at t.ctb:2
+numericmodechars .|B6 UndefinedInList . at t.ctb:1
+litdigit 1 1; numericnocontchars 1|B7 TwoRoles 1 at t.ctb:2
+litdigit 1 1; numericnocontchars 1z|B6 UndefinedInList 1z at t.ctb:2
+uplow Aa 1,2,3|B4 BadDots 1,2,3 at t.ctb:1
+uplow AA 1|B3 BadCharacters AA at t.ctb:1
+uplow Aab 1|B3 BadCharacters Aab at t.ctb:1
+uplow Aa|B2 MissingOperand uplow at t.ctb:1
+nocontractsign|B2 MissingOperand nocontractsign at t.ctb:1
+numericmodechars|B2 MissingOperand numericmodechars at t.ctb:1
+capsletter 9|B4 BadDots 9 at t.ctb:1
 ";
 
 /// What lines that are cut at `; ` define, or their fault.
@@ -84,7 +102,24 @@ fn table_text(alloc: Global, table: &Table) -> Result<String, Fail> {
     for rule in table.rules_in_rank() {
         text.push_str(rule_text(alloc, rule)?.as_str())?;
     }
-    for notice in table.notices() {
+    for sign in [Sign::CapsLetter, Sign::NumSign, Sign::NoContractSign] {
+        text.push_str(sign_text(alloc, sign, table.indicator(sign))?.as_str())?;
+    }
+    text.push_str(notices_text(alloc, table.notices())?.as_str())?;
+    Ok(text)
+}
+
+fn sign_text(alloc: Global, sign: Sign, cells: &[Cell]) -> Result<String, Fail> {
+    if cells.is_empty() {
+        return Ok(String::new(alloc));
+    }
+    let dots = write_dots(alloc, cells)?;
+    Ok(format!(in alloc; "{sign:?} {dots};")?)
+}
+
+fn notices_text(alloc: Global, notices: &[Notice]) -> Result<String, Fail> {
+    let mut text = String::new(alloc);
+    for notice in notices {
         let again = format!(in alloc; "again {} at {};", notice.character, notice.line)?;
         text.push_str(again.as_str())?;
     }
@@ -97,8 +132,29 @@ fn characters_text(alloc: Global, table: &Table) -> Result<String, Fail> {
         let character = table.char_at(number as u32);
         let info = table.info(character).ok_or("it isn't defined")?;
         let dots = write_dots(alloc, info.cells.as_slice())?;
-        let one = format!(in alloc; "{character} {dots} {} at {};", info.classes.0, info.line)?;
+        let said = said_text(alloc, character, info)?;
+        let classes = info.classes.0;
+        let one = format!(in alloc; "{character} {dots} {classes}{said} at {};", info.line)?;
         text.push_str(one.as_str())?;
+    }
+    Ok(text)
+}
+
+/// What else is said of a character.
+fn said_text(alloc: Global, character: char, info: &Info) -> Result<String, Fail> {
+    let mut text = String::new(alloc);
+    if info.literary {
+        text.push_str(" literary")?;
+    }
+    if info.mode {
+        text.push_str(" mode")?;
+    }
+    if info.nocont {
+        text.push_str(" nocont")?;
+    }
+    if info.fold != character {
+        text.push_str(" folds to ")?;
+        text.push(info.fold)?;
     }
     Ok(text)
 }
