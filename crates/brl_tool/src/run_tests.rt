@@ -2,6 +2,7 @@
 
 mod cases;
 mod devices;
+mod numbers;
 
 use crate::{Watched, run};
 use brl_lines::{MapSource, Source};
