@@ -167,6 +167,27 @@ expect 'a letter that stands alone' 0 ';B B\n' ''
 clash word.ctb but b
 expect 'a rule for the letter keeps them apart' 0 'no clash\n' ''
 
+# Numbers and capitals.
+printf 'letter a 1\nlitdigit 1 1\nnumsign 3456\n' >numbers.ctb
+clash numbers.ctb 1a 11
+expect 'a letter that is read as a digit' 1 'left: 1a\nright: 11\ncells: 3456-1-1\n' ''
+
+printf 'nocontractsign 56\nnumericnocontchars a\n' >>numbers.ctb
+translate numbers.ctb '1a\n'
+expect 'a sign between a number and a letter' 0 '#A;A\n' ''
+clash numbers.ctb 1a 11
+expect 'it keeps them apart' 0 'no clash\n' ''
+
+printf 'uplow Aa 1\nuplow Bb 12\ncapsletter 6\nalways ab 14\n' >capitals.ctb
+translate capitals.ctb 'Ab aB\n'
+expect 'a blank that is not defined' 2 '' 'F1 UnknownChar 2 at line 1\n'
+translate capitals.ctb 'Ab\naB\n'
+expect 'capitals with a rule' 0 ',C\nA,B\n' ''
+
+printf 'capsletter 6\ncapsign 6\n' >tables/twice.ctb
+including twice.ctb
+expect 'an indicator that is defined twice' 2 '' 'B9 IndicatorTwice capsign at tables/twice.ctb:2\n'
+
 translate t.ctb 'ab\nc\nz\na\n'
 expect 'the lines before a fault stand written' 2 'AB\nC\n' 'F1 UnknownChar 0 at line 3\n'
 
