@@ -21,11 +21,16 @@ const CLASHES: &str = "\
 letter a 1; letter b 12; letter x 1-12|ab|x|1-12
 letter a 1; letter b 12; letter x 1-12|ab|ab|
 letter a 1; letter b 12; letter x 1-12; always ab 14|ab|x|
+letter a 1; litdigit 1 1; numsign 3456|1a|11|3456-1-1
+letter a 1; litdigit 1 1; numsign 3456; nocontractsign 56; numericnocontchars a|1a|11|
+uplow Aa 1|A|a|1
+uplow Aa 1; uplow Bb 12; capsletter 6; always ab 14|A|a|
 ";
 
 /// A table's lines, a text and its steps: start, rule, length, how many indicators, dots.
 const TRACES: &str = "\
-letter a 1; letter b 12; letter x 1-12; always ab 14|aab|0 1 1 0 1, 1 0 2 0 14,
+letter a 1; letter b 12; letter x 1-12; always ab 14|aab|0 1 1 0 1,1 0 2 0 14,
+uplow Aa 1; uplow Bb 12; capsletter 6; always ab 14|aB|0 2 1 0 1,1 3 1 1 6-12,
 ";
 
 /// The table of lines that are cut at `; `.
@@ -114,7 +119,7 @@ fn worked_traces(rt: HostRuntime) -> Result<(), Fail> {
         let mut given = String::new(alloc);
         for step in &trace(alloc, &table, chars(alloc, text)?.as_slice())? {
             given.push_str(step_text(alloc, step)?.as_str())?;
-            given.push_str(", ")?;
+            given.push(',')?;
         }
         assert!(rt; given.as_str() == want, "{row}");
     }

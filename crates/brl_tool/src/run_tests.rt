@@ -2,7 +2,6 @@
 
 mod cases;
 mod devices;
-mod numbers;
 
 use crate::{Watched, run};
 use brl_lines::{MapSource, Source};

@@ -45,6 +45,24 @@ t.ctb: letter a 1; # letter a; ; letter b|brl,translate,t.ctb|a||B2 MissingOpera
 t.ctb: space \\s 0; letter a 1|brl,translate,t.ctb,--form,ascii|a |A ||0
 t.ctb: space \\s 0; letter a 1|brl,translate,t.ctb,--form,unicode|a |\u{2801}\u{2800}||0
 t.ctb: letter q 17|brl,translate,--form=unicode,t.ctb|q|\u{2841}||0
+t.ctb: letter a 1; litdigit 1 1; numsign 3456|brl,translate,t.ctb|1a|#AA||0
+t.ctb: letter a 1; litdigit 1 1; numsign 3456|brl,translate,t.ctb|11|#AA||0
+t.ctb: letter a 1; litdigit 1 1; numsign 3456; nocontractsign 56; numericnocontchars a|brl,translate,t.ctb|1a|#A;A||0
+t.ctb: uplow Aa 1; uplow Bb 12; capsletter 6; always ab 14|brl,translate,t.ctb|Ab|,C||0
+t.ctb: uplow Aa 1; uplow Bb 12; capsletter 6; always ab 14|brl,translate,t.ctb|aB|A,B||0
+t.ctb: uplow Aa 1,12; capsign 6|brl,translate,t.ctb|Aa|,AB||0
+t.ctb: litdigit 1 1; numsign 3456; punctuation . 256|brl,translate,t.ctb|1.1|#A4#A||0
+t.ctb: litdigit 1 1; numsign 3456; punctuation . 256|brl,translate,t.ctb|.1|4#A||0
+t.ctb: litdigit 1 1; numsign 3456; punctuation . 256; numericmodechars .|brl,translate,t.ctb|1.1|#A4A||0
+t.ctb: litdigit 1 1; numsign 3456; punctuation . 256; numericmodechars .|brl,translate,t.ctb|.1|4#A||0
+t.ctb: numericmodechars .; punctuation . 256; litdigit 1 1; numsign 3456|brl,translate,t.ctb|1.1|#A4A||0
+t.ctb: litdigit 1 1; letter t 2345; letter h 125; numsign 3456; endnum th 1456|brl,translate,t.ctb|1th|#A?||0
+t.ctb: litdigit 1 1; letter t 2345; letter h 125; numsign 3456; endnum th 1456|brl,translate,t.ctb|th|TH||0
+t.ctb: numsign 6; numsign 6|brl,translate,t.ctb|||B9 IndicatorTwice numsign at t.ctb:2|2
+t.ctb: capsletter 6; capsign 6|brl,translate,t.ctb|||B9 IndicatorTwice capsign at t.ctb:2|2
+t.ctb: numericmodechars .|brl,translate,t.ctb|||B6 UndefinedInList . at t.ctb:1|2
+t.ctb: litdigit 1 1; numericnocontchars 1|brl,translate,t.ctb|||B7 TwoRoles 1 at t.ctb:2|2
+t.ctb: uplow Aa 1,2,3|brl,translate,t.ctb|||B4 BadDots 1,2,3 at t.ctb:1|2
 ";
 
 /// Tables of several files, in the same form.
@@ -81,6 +99,8 @@ t.ctb: letter a 1; letter b 12; letter x 1-12|brl,clash,t.ctb,,||no clash||0
 t.ctb: letter a 1; letter b 12; letter x 1-12|brl,clash,t.ctb,,a||no clash||0
 t.ctb: space \\s 1; punctuation \\\\ 1; space \\t 1; space \\x0001 1; letter \u{56fd} 1|brl,clash,t.ctb, ,\\||left: \\s; right: \\\\; cells: 1||1
 t.ctb: space \\s 1; punctuation \\\\ 1; space \\t 1; space \\x0001 1; letter \u{56fd} 1|brl,clash,t.ctb,\t\u{1},\u{56fd} ||left: \\t\\x0001; right: \u{56fd}\\s; cells: 1-1||1
+t.ctb: letter a 1; litdigit 1 1; numsign 3456|brl,clash,t.ctb,1a,11||left: 1a; right: 11; cells: 3456-1-1||1
+t.ctb: uplow Aa 1|brl,clash,t.ctb,A,a||left: A; right: a; cells: 1||1
 ";
 
 /// The words, over no files, and a text that stands on standard output, and on standard error; where it is empty, nothing stands
