@@ -1,0 +1,69 @@
+-- A body of which nothing is lost is closed, and one that is refused isn't.
+use Rattle.std.proofs.Common.{◌≡◌, ◌≢◌, ℕ, ◌<◌, inl, inr, length, min, max, Bool, true, Option, Some, None, slice_get, refl}
+use Rattle.std.proofs.lemmas.Option.{slice_get_within}
+use Rattle.brl_accept.specs.Refusals.{HasStart, HasTwoEnds, IsRefused, KeepsMoves, KeepsSplits, KeepsSteps, LosesMove, LosesSplit, LosesStep}
+use Rattle.brl_accept.specs.Sets.{pair_at, pair_of, sets_of}
+use Rattle.brl_accept.specs.declared.accept_fault.AcceptFault.{AcceptFault}
+use Rattle.brl_accept.specs.declared.accept_fault.AcceptFault.TheVariants.{NoStart, StateMissing, SplitMissing, PairMissing, BothEnd, Memory}
+use Rattle.brl_accept.proofs.Deciding.{has_state_or, has_pair_or}
+use Rattle.brl_cert.specs.Fields.{◌>>=◌}
+use Rattle.brl_cert.specs.Lines.{BodyView}
+use Rattle.brl_cert.specs.declared.pair.CertPair.{CertPair}
+use Rattle.brl_pairs.specs.Pairs.{IsClosed}
+use Rattle.brl_pairs.specs.Runs.{Behaviour}
+use Rattle.brl_pairs.specs.declared.step.Pair.{Pair}
+
+module _ {S : Type 0} (m : Behaviour S) (body : BodyView S) where
+  pub closed_where_kept : {eq : S → S → Bool} → ((x y : S) → eq x y ≡ true → x ≡ y) → ((x : S) → eq x x ≡ true) → HasStart m body → KeepsSteps m body → KeepsSplits m body → KeepsMoves m body → ((k : ℕ) → HasTwoEnds m body k → ⊥) → IsClosed m (sets_of body)
+  closed_where_kept same itself start steps splits moves ends = record {
+    start = start;
+    steps = λ s x has listed. elim (has_state_or same itself body x.next) [
+      | inl there ↦ there
+      | inr missing ↦ absurd (steps has.0 x.rule (record { state = s; is_state = has.1; step = x; listed = listed; has_rule = refl; missing = missing }))
+    ];
+    splits = λ s p has split. elim (has_pair_or same itself body p) [
+      | inl there ↦ there
+      | inr missing ↦ absurd (splits has.0 (min split.longer.rule split.shorter.rule) (max split.longer.rule split.shorter.rule) (record { state = s; is_state = has.1; pair = p; split = split; has_lesser = refl; has_greater = refl; missing = missing }))
+    ];
+    moves = λ p q has moved. elim (has_pair_or same itself body q) [
+      | inl there ↦ there
+      | inr missing ↦ absurd (moves has.0 moved.step.rule (record { pair = p; is_pair = has.1; next = q; moves = moved; has_rule = refl; missing = missing }))
+    ];
+    ends = λ p has level ahead behind. ends has.0 (record { pair = p; is_pair = has.1; level = level; ahead = ahead; behind = behind });
+  }
+
+  pub open_where_refused : (fault : AcceptFault) → IsRefused m body fault → fault ≢ Memory → IsClosed m (sets_of body) → ⊥
+  open_where_refused NoStart h apart closed = h closed.start
+  open_where_refused (StateMissing k rule) h apart closed =
+      let lost = h.2.has in
+      lost.missing (closed.steps lost.state lost.step (k, lost.is_state) lost.listed)
+  open_where_refused (SplitMissing k lesser greater) h apart closed =
+      let lost = h.4.has in
+      lost.missing (closed.splits lost.state lost.pair (k, lost.is_state) lost.split)
+  open_where_refused (PairMissing k rule) h apart closed =
+      let lost = h.4.has in
+      lost.missing (closed.moves lost.pair lost.next (k, lost.is_pair) lost.moves)
+  open_where_refused (BothEnd k) h apart closed =
+      let both = h.4.has in
+      closed.ends both.pair (k, both.is_pair) both.level both.ahead both.behind
+  open_where_refused Memory h apart closed = apart refl
+
+  pair_within : (k : ℕ) (p : Pair S) → pair_at body k ≡ Some p → k < length body.pairs
+  pair_within k p e = by_look (slice_get body.pairs k) refl e
+    where
+      by_look : (o : Option CertPair) → slice_get body.pairs k ≡ o → (o >>= λ pair. pair_of body.states pair) ≡ Some p → k < length body.pairs
+      by_look None is e = absurd cc
+      by_look (Some pair) is e = slice_get_within body.pairs k pair is
+
+  -- what is lost has a number below the count
+  pub step_within : (k : ℕ) → (rule : ℕ) × LosesStep m body k rule → k < length body.states
+  step_within k h = slice_get_within body.states k h.1.state h.1.is_state
+
+  pub split_within : (k : ℕ) → (lesser greater : ℕ) × LosesSplit m body k lesser greater → k < length body.states
+  split_within k h = slice_get_within body.states k h.2.state h.2.is_state
+
+  pub move_within : (k : ℕ) → (rule : ℕ) × LosesMove m body k rule → k < length body.pairs
+  move_within k h = pair_within k h.1.pair h.1.is_pair
+
+  pub ends_within : (k : ℕ) → HasTwoEnds m body k → k < length body.pairs
+  ends_within k h = pair_within k h.pair h.is_pair

@@ -1,0 +1,8 @@
+use Rattle.brl_accept.specs.Sets.{sets_of}
+use Rattle.brl_accept.specs.Steps.{LosesPair}
+use Rattle.brl_accept.proofs.OfRule.{NoneBelow}
+use Rattle.brl_cert.specs.Views.{listed as body_of}
+use Rattle.brl_accept.proofs.losses.lost_move.Given as goal
+
+abbrev pub invariant-loop-step : goal.invariant-loop-step
+invariant-loop-step g l = NoneBelow (LosesPair (sets_of (body_of l.body.states l.body.pairs)) l.ahead l.lead) l.listed l.step-index

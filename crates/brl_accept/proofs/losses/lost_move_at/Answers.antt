@@ -1,0 +1,15 @@
+use Rattle.std.proofs.Common.{◌∙◌}
+use Rattle.std.proofs.lemmas.Result.{IfOk-weaker}
+use Rattle.brl_accept.specs.Steps.{runs}
+use Rattle.brl_accept.proofs.At.{move_at, pair_read}
+use Rattle.brl_cert.specs.Views.{listed as body_of}
+use Rattle.brl_accept.proofs.losses.lost_move_at.Goals as goal
+
+pub returns : goal.returns
+returns g c =
+    let b = c.args.body.now in
+    let body = body_of b.states b.pairs in
+    IfOk-weaker c.lost_move.result _ _
+    (λ found least. move_at (g.M.Machine.behaviour c.args.machine.now) body c.args.number (runs c.states_of.result.0.now c.states_of.result.1.now c.as_slice-3.result.now) (pair_read body c.args.number c.requires.number c.as_slice.result.now c.as_slice.ensures.members c.as_slice-2.result.now c.as_slice-2.ensures.members c.index-as_slice-number.result c.index-as_slice-number.is c.states_of.result.0.now c.states_of.result.1.now c.states_of.ensures.ahead c.states_of.ensures.behind c.as_slice-3.result.now c.as_slice-3.ensures)
+    c.as_slice-4.result.now (c.as_slice-4.ensures.value ∙ c.in_ok-listed.ensures) found least)
+    c.lost_move.ensures

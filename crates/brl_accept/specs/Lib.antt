@@ -1,0 +1,4 @@
+pub mod Sets
+pub mod Least
+pub mod Refusals
+pub mod Steps

@@ -1,0 +1,146 @@
+//! Accepting a certificate.
+ghost use Rattle.std.specs.Prelude.{◌≡◌, ◌≢◌, ℕ, IfErr, IfOk, OnOk, length};
+ghost use Rattle.brl_accept.specs.Refusals.{HasStart, HasTwoEnds, IsRefused, KeepsMoves, KeepsSplits, KeepsSteps};
+ghost use Rattle.brl_accept.specs.Sets.{sets_of};
+ghost use Rattle.brl_cert.specs.Views.{listed};
+ghost use Rattle.brl_pairs.specs.Pairs.{IsClosed};
+ghost use Rattle.brl_pairs.specs.Runs.{IsUnambiguous, KeepsLaws};
+
+use crate::lookup::has_state;
+use crate::losses::{has_two_ends_at, lost_move_at, lost_split_at, lost_step_at};
+use crate::{AcceptFault, Accepted};
+use brl_cert::Body;
+use brl_pairs::{Machine, numbered_sets_law};
+use std::alloc::Global;
+
+/// Each step from one of the states leads to one of them.
+fn check_steps<M: Machine>(
+    alloc: Global,
+    machine: &M,
+    body: &Body<M::State>,
+) -> Result<(), AcceptFault>
+    requires laws { KeepsLaws (M.behaviour machine.now) }
+    requires start { HasStart (M.behaviour machine.now) (listed body.now.states body.now.pairs) }
+    ensures keeps { OnOk result (KeepsSteps (M.behaviour machine.now) (listed body.now.states body.now.pairs)) }
+    ensures refused { IfErr result (IsRefused (M.behaviour machine.now) (listed body.now.states body.now.pairs)) }
+{
+    for number in 0..body.states.len() {
+        let lost = lost_step_at(alloc, machine, body, number)?;
+        if let Some(rule) = lost {
+            let state = number as u32;
+            return Err(AcceptFault::StateMissing { state, rule });
+        }
+    }
+    Ok(())
+}
+
+/// Each split of one of the states is there.
+fn check_splits<M: Machine>(
+    alloc: Global,
+    machine: &M,
+    body: &Body<M::State>,
+) -> Result<(), AcceptFault>
+    requires laws { KeepsLaws (M.behaviour machine.now) }
+    requires start { HasStart (M.behaviour machine.now) (listed body.now.states body.now.pairs) }
+    requires steps { KeepsSteps (M.behaviour machine.now) (listed body.now.states body.now.pairs) }
+    ensures keeps { OnOk result (KeepsSplits (M.behaviour machine.now) (listed body.now.states body.now.pairs)) }
+    ensures refused { IfErr result (IsRefused (M.behaviour machine.now) (listed body.now.states body.now.pairs)) }
+{
+    for number in 0..body.states.len() {
+        let lost = lost_split_at(alloc, machine, body, number)?;
+        if let Some((lesser, greater)) = lost {
+            let state = number as u32;
+            return Err(AcceptFault::SplitMissing {
+                state,
+                lesser,
+                greater,
+            });
+        }
+    }
+    Ok(())
+}
+
+/// What each of the pairs moves to is there.
+fn check_moves<M: Machine>(
+    alloc: Global,
+    machine: &M,
+    body: &Body<M::State>,
+) -> Result<(), AcceptFault>
+    requires laws { KeepsLaws (M.behaviour machine.now) }
+    requires start { HasStart (M.behaviour machine.now) (listed body.now.states body.now.pairs) }
+    requires steps { KeepsSteps (M.behaviour machine.now) (listed body.now.states body.now.pairs) }
+    requires splits { KeepsSplits (M.behaviour machine.now) (listed body.now.states body.now.pairs) }
+    ensures keeps { OnOk result (KeepsMoves (M.behaviour machine.now) (listed body.now.states body.now.pairs)) }
+    ensures refused { IfErr result (IsRefused (M.behaviour machine.now) (listed body.now.states body.now.pairs)) }
+{
+    for number in 0..body.pairs.len() {
+        let lost = lost_move_at(alloc, machine, body, number)?;
+        if let Some(rule) = lost {
+            let pair = number as u32;
+            return Err(AcceptFault::PairMissing { pair, rule });
+        }
+    }
+    Ok(())
+}
+
+/// None of the pairs has an empty lead and two states that end.
+fn check_ends<M: Machine>(machine: &M, body: &Body<M::State>) -> Result<(), AcceptFault>
+    requires start { HasStart (M.behaviour machine.now) (listed body.now.states body.now.pairs) }
+    requires steps { KeepsSteps (M.behaviour machine.now) (listed body.now.states body.now.pairs) }
+    requires splits { KeepsSplits (M.behaviour machine.now) (listed body.now.states body.now.pairs) }
+    requires moves { KeepsMoves (M.behaviour machine.now) (listed body.now.states body.now.pairs) }
+    ensures keeps { OnOk result ((number : ℕ) → HasTwoEnds (M.behaviour machine.now) (listed body.now.states body.now.pairs) number → ⊥) }
+    ensures refused { IfErr result (IsRefused (M.behaviour machine.now) (listed body.now.states body.now.pairs)) }
+{
+    for number in 0..body.pairs.len() {
+        if has_two_ends_at(machine, body, number) {
+            let pair = number as u32;
+            return Err(AcceptFault::BothEnd { pair });
+        }
+    }
+    Ok(())
+}
+
+/// Whether the states and pairs are closed: each part of that after the other.
+fn check<M: Machine>(alloc: Global, machine: &M, body: &Body<M::State>) -> Result<(), AcceptFault>
+    ensures closed { OnOk result (IsClosed (M.behaviour machine.now) (sets_of (listed body.now.states body.now.pairs))) }
+    ensures refused { IfErr result (IsRefused (M.behaviour machine.now) (listed body.now.states body.now.pairs)) }
+{
+    if !has_state::<M>(body, &machine.start()) {
+        return Err(AcceptFault::NoStart);
+    }
+    check_steps(alloc, machine, body)?;
+    check_splits(alloc, machine, body)?;
+    check_moves(alloc, machine, body)?;
+    check_ends(machine, body)
+}
+
+/// Accepts a certificate's states and pairs for a machine exactly where they are closed; then no two different texts of the
+/// machine, of whatever length, are translated alike. It answers how many states and pairs there are.
+///
+/// Else it names the first of these that holds: `NoStart`, `StateMissing`, `SplitMissing`, `PairMissing`, `BothEnd`; with
+/// the least number of a state or a pair of which it holds, and then the least numbers of rules. Of two rules the lesser
+/// comes first. `Memory` where a growth was refused.
+pub fn accept<M: Machine>(
+    alloc: Global,
+    machine: &M,
+    body: &Body<M::State>,
+) -> Result<Accepted, AcceptFault>
+    // The states and pairs are closed.
+    ensures closed { OnOk result (IsClosed (M.behaviour machine.now) (sets_of (listed body.now.states body.now.pairs))) }
+    // Texts of the machine that are translated alike are one text.
+    ensures unambiguous { OnOk result (IsUnambiguous (M.behaviour machine.now)) }
+    ensures states { IfOk result (λ accepted. accepted.states ≡ length body.now.states) }
+    ensures pairs { IfOk result (λ accepted. accepted.pairs ≡ length body.now.pairs) }
+    // What the refusal names holds, and it is the first and the least that does.
+    ensures refused { IfErr result (IsRefused (M.behaviour machine.now) (listed body.now.states body.now.pairs)) }
+    // Closed states and pairs are refused for want of memory alone.
+    ensures not_closed { IfErr result (λ fault. fault ≢ AcceptFault.Memory → IsClosed (M.behaviour machine.now) (sets_of (listed body.now.states body.now.pairs)) → ⊥) }
+{
+    numbered_sets_law(machine);
+    check(alloc, machine, body)?;
+    Ok(Accepted {
+        states: body.states.len() as u32,
+        pairs: body.pairs.len() as u32,
+    })
+}
