@@ -6,3 +6,4 @@ pub mod Splitting
 pub mod At
 pub mod Deciding
 pub mod Closing
+pub mod Judged

@@ -2,3 +2,5 @@ pub mod Sets
 pub mod Least
 pub mod Refusals
 pub mod Steps
+pub mod Files
+pub mod Judging

@@ -5,9 +5,13 @@
 mod accept_fault;
 mod accepted;
 mod accepting;
+mod judge_fault;
+mod judging;
 mod lookup;
 mod losses;
 
 pub use accept_fault::AcceptFault;
 pub use accepted::Accepted;
 pub use accepting::accept;
+pub use judge_fault::JudgeFault;
+pub use judging::judge;

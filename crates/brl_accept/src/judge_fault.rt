@@ -1,0 +1,109 @@
+//! Why a certificate isn't accepted for the table of some files.
+use crate::AcceptFault;
+use brl_cert::CertFault;
+use brl_lines::LoadFault;
+use brl_table::TableFault;
+use brl_window::TooWide;
+use std::alloc::AllocError;
+use thiserror::Error;
+
+/// The first stage that refused, and its fault.
+#[derive(Debug, Drop, Error)]
+pub enum JudgeFault {
+    /// The table's files were refused.
+    #[error("{0}")]
+    Load(LoadFault),
+    /// A line of the table was refused.
+    #[error("{0}")]
+    Table(TableFault),
+    /// The bytes spell no certificate.
+    #[error("{0}")]
+    Cert(CertFault),
+    /// The table has no machine of the certificate's kind.
+    #[error("{0}")]
+    Wide(TooWide),
+    /// The certificate's states and pairs aren't closed.
+    #[error("{0}")]
+    Refused(AcceptFault),
+    /// A growth was refused.
+    #[error("Memory")]
+    Memory,
+}
+
+impl From<AllocError> for JudgeFault {
+    ghost use Rattle.std.specs.Prelude.{◌≡◌};
+    ghost use Rattle.brl_accept.specs.declared.judge_fault.JudgeFault.TheVariants.{Memory};
+
+    ghost from_gives = { λ _ fault. fault ≡ Memory };
+
+    fn from(_error: AllocError) -> JudgeFault {
+        JudgeFault::Memory
+    }
+}
+
+impl From<LoadFault> for JudgeFault {
+    ghost use Rattle.std.specs.Prelude.{◌≡◌};
+    ghost use Rattle.brl_accept.specs.Judging.{of_load};
+
+    ghost from_gives = { λ load fault. fault ≡ of_load load };
+
+    fn from(fault: LoadFault) -> JudgeFault {
+        match fault {
+            LoadFault::Memory => JudgeFault::Memory,
+            refused => JudgeFault::Load(refused),
+        }
+    }
+}
+
+impl From<TableFault> for JudgeFault {
+    ghost use Rattle.std.specs.Prelude.{◌≡◌};
+    ghost use Rattle.brl_accept.specs.Judging.{of_table};
+
+    ghost from_gives = { λ table fault. fault ≡ of_table table };
+
+    fn from(fault: TableFault) -> JudgeFault {
+        match fault {
+            TableFault::Memory => JudgeFault::Memory,
+            refused => JudgeFault::Table(refused),
+        }
+    }
+}
+
+impl From<CertFault> for JudgeFault {
+    ghost use Rattle.std.specs.Prelude.{◌≡◌};
+    ghost use Rattle.brl_accept.specs.Judging.{of_cert};
+
+    ghost from_gives = { λ cert fault. fault ≡ of_cert cert };
+
+    fn from(fault: CertFault) -> JudgeFault {
+        match fault {
+            CertFault::Memory => JudgeFault::Memory,
+            refused => JudgeFault::Cert(refused),
+        }
+    }
+}
+
+impl From<TooWide> for JudgeFault {
+    ghost use Rattle.std.specs.Prelude.{◌≡◌};
+    ghost use Rattle.brl_accept.specs.declared.judge_fault.JudgeFault.TheVariants.{Wide};
+
+    ghost from_gives = { λ wide fault. fault ≡ Wide wide };
+
+    fn from(fault: TooWide) -> JudgeFault {
+        JudgeFault::Wide(fault)
+    }
+}
+
+impl From<AcceptFault> for JudgeFault {
+    ghost use Rattle.std.specs.Prelude.{◌≡◌};
+    ghost use Rattle.brl_accept.specs.Judging.{of_accept};
+
+    ghost from_gives = { λ accept fault. fault ≡ of_accept accept };
+
+    fn from(fault: AcceptFault) -> JudgeFault {
+        match fault {
+            AcceptFault::Memory => JudgeFault::Memory,
+            refused => JudgeFault::Refused(refused),
+        }
+    }
+}
