@@ -1,4 +1,5 @@
 pub mod KnownBytes
+pub mod CheckingLemmas
 pub mod FindingLemmas
 pub mod FrontLemmas
 pub mod LineLemmas

@@ -1,10 +1,11 @@
 -- How the work ends where the stream ends by a fault.
 use Rattle.std.proofs.Common.{◌≡◌, ℕ, List, Option, Some, Result, Ok, Err, IsErrAnd, inr, subst, sym}
+use Rattle.brl_accept.specs.Files.{IsTableOf}
 use Rattle.brl_lines.specs.Answer.{Answer}
 use Rattle.brl_table.specs.TableView.{TableView}
 use Rattle.brl_tool.specs.Output.{HasWritten, verdict}
 use Rattle.brl_tool.specs.Status.{of_stream}
-use Rattle.brl_tool.specs.Work.{IsTableOf, Works}
+use Rattle.brl_tool.specs.Work.{Works}
 use Rattle.brl_tool.specs.declared.fault.StreamFault.{StreamFault}
 use Rattle.brl_tool.specs.declared.fault.StreamFault.TheVariants as stream
 use Rattle.brl_tool.specs.declared.form.Form.{Form}

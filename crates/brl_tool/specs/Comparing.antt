@@ -2,6 +2,7 @@
 use Rattle.std.specs.Prelude.{ℕ, ◌≡◌, IsTrue, List, [], ◌∷◌, ◌++◌, Option, Result, Ok, Err, codes}
 use Rattle.std.specs.Io.KnownBytes.{Appends}
 use Rattle.std.specs.Str.{encode_utf8_all}
+use Rattle.brl_accept.specs.Files.{IsTableOf}
 use Rattle.brl_cells.specs.Dots.{spelling}
 use Rattle.brl_forward.specs.Faults.{IsFaultOfTwo}
 use Rattle.brl_lines.specs.Answer.{Answer}
@@ -9,7 +10,7 @@ use Rattle.brl_lines.specs.Spelling.{text_spelling}
 use Rattle.brl_table.specs.TableView.{TableView}
 use Rattle.brl_table.specs.Text.{is_text}
 use Rattle.brl_table.specs.Translation.{IsClash}
-use Rattle.brl_tool.specs.Work.{IsFaultAt, IsTableOf}
+use Rattle.brl_tool.specs.Work.{IsFaultAt}
 use Rattle.brl_tool.specs.declared.finding.Finding.{Finding}
 use Rattle.brl_tool.specs.declared.finding.Finding.TheVariants.{Clash, NoClash}
 use Rattle.brl_tool.specs.declared.run_fault.RunFault.{RunFault}

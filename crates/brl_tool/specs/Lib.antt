@@ -1,3 +1,4 @@
+pub mod Checking
 pub mod Comparing
 pub mod InputLines
 pub mod Output

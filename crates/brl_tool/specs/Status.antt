@@ -9,7 +9,7 @@ use Rattle.brl_table.specs.declared.table_fault.TableFault.TheVariants as table
 use Rattle.brl_tool.specs.declared.fault.StreamFault.{StreamFault}
 use Rattle.brl_tool.specs.declared.fault.StreamFault.TheVariants as stream
 use Rattle.brl_tool.specs.declared.run_fault.RunFault.{RunFault}
-use Rattle.brl_tool.specs.declared.run_fault.RunFault.TheVariants.{Load, Table, Stream, Confirm, Memory}
+use Rattle.brl_tool.specs.declared.run_fault.RunFault.TheVariants.{Load, Table, Stream, Confirm, Wide, Memory}
 
 -- want of memory is the same fault wherever it came
 abbrev pub of_load : LoadFault → RunFault
@@ -28,9 +28,10 @@ abbrev pub of_confirm : ConfirmFault → RunFault
 of_confirm confirm.Memory = Memory
 of_confirm fault = Confirm fault
 
--- 3 for want of memory, 2 for every other fault
+-- 3 for want of memory and for a table that is too wide, 2 for every other fault
 abbrev pub status_of : RunFault → ℕ
 status_of Memory = 3
+status_of (Wide fault) = 3
 status_of fault = 2
 
 -- the status of an outcome, where that of finished work depends on what came of it
@@ -38,7 +39,8 @@ abbrev pub status_after : {T : Type 0} → (T → ℕ) → Result T RunFault →
 status_after finished (Ok value) = finished value
 status_after finished (Err fault) = status_of fault
 
--- 0 where the work was done, 1 where two texts clash, 2 for a fault, 3 for want of memory
+-- 0 where the work was done, 1 where two texts clash or a certificate is refused, 2 for a fault, 3 for want of memory and for a
+-- table that is too wide
 abbrev pub IsStatus : ℕ → Type 0
 IsStatus status = status < 4
 

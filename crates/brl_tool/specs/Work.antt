@@ -1,10 +1,11 @@
 -- What the program's work comes to: the table that files define, and what is written by it. The project's own choice.
 use Rattle.std.specs.Prelude.{ℕ, ◌≡◌, ◌⊎◌, List, Option, Some, Result, Ok, Err}
+use Rattle.brl_accept.specs.Files.{AreLinesOf, IsTableOf}
 use Rattle.brl_lines.specs.Answer.{Answer}
 use Rattle.brl_lines.specs.Lines.{Answers, lines_of}
 use Rattle.brl_lines.specs.Outcome.{AreGiven, RefusesAs}
 use Rattle.brl_lines.specs.Tokens.{LineView}
-use Rattle.brl_table.specs.Reading.{table_of, IsFaultOf, PassesAll}
+use Rattle.brl_table.specs.Reading.{IsFaultOf}
 use Rattle.brl_table.specs.TableView.{TableView}
 use Rattle.brl_tool.specs.Output.{HasWritten, verdict}
 use Rattle.brl_tool.specs.declared.fault.StreamFault.{StreamFault}
@@ -12,14 +13,6 @@ use Rattle.brl_tool.specs.declared.fault.StreamFault.TheVariants as stream
 use Rattle.brl_tool.specs.declared.form.Form.{Form}
 use Rattle.brl_tool.specs.declared.run_fault.RunFault.{RunFault}
 use Rattle.brl_tool.specs.declared.run_fault.RunFault.TheVariants.{Load, Table, Stream, Memory}
-
--- the lines of the file at a path, for answers that a source of files may give
-abbrev pub AreLinesOf : (List ℕ → Answer → Type 0) → List ℕ → List LineView → Type 0
-AreLinesOf gives path lines = (answers : Answers) × AreGiven gives answers × (lines_of answers path ≡ Ok lines)
-
--- the table that these lines define, none of which has a fault
-abbrev pub IsTableOf : (List ℕ → Answer → Type 0) → List ℕ → TableView → Type 0
-IsTableOf gives path t = (lines : List LineView) × AreLinesOf gives path lines × PassesAll lines × (t ≡ table_of lines)
 
 -- the outputs of the input's lines by that table were written, as far as the outcome says
 abbrev pub WritesBy : (List ℕ → Answer → Type 0) → List ℕ → Form → Option (List ℕ) → Option (List ℕ) → Option (List ℕ) → Result (Unit {0}) StreamFault → Type 0

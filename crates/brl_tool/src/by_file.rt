@@ -1,8 +1,9 @@
 //! Work by the table whose file stands at a path.
 ghost use Rattle.std.specs.Prelude.{◌≡◌, IfOk, IfErr};
 ghost use Rattle.std.specs.Str.{chars};
+ghost use Rattle.brl_accept.specs.Files.{IsTableOf};
 ghost use Rattle.brl_tool.specs.Comparing.{Compares};
-ghost use Rattle.brl_tool.specs.Work.{IsFaultAt, IsTableOf, Works};
+ghost use Rattle.brl_tool.specs.Work.{IsFaultAt, Works};
 
 use crate::finding::{Finding, compare};
 use crate::run_fault::RunFault;

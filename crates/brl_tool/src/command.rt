@@ -18,6 +18,11 @@ pub enum Task<'a> {
         left: &'a str,
         right: &'a str,
     },
+    /// Check the certificate in the file at this path for the table whose file stands at this path.
+    Check {
+        table: &'a str,
+        cert: &'a str,
+    },
 }
 
 /// The program's version, which `--version` prints.
@@ -34,10 +39,10 @@ const FORMS: [&str; 2] = [ASCII, UNICODE];
 
 /// What follows the options in `brl --help`.
 const STATUSES: &str = "Exit status:
-  0  the work was done; of two texts: they don't clash
-  1  two texts clash
-  2  the words, the table, a text, the input or the output had a fault, which standard error names in one line
-  3  there was not enough memory
+  0  the work was done; of two texts: they don't clash; of a certificate: it is accepted
+  1  two texts clash; a certificate is refused
+  2  the words, a file, the table, a text, the input or the output had a fault, which standard error names in one line
+  3  there was not enough memory, or a table is too wide for a certificate
 
 'brl COMMAND --help' says more of a command, with an example.";
 
@@ -90,6 +95,28 @@ It prints:
   right: x
   cells: 1-12";
 
+/// What `brl --help` says of `brl check`.
+const CHECK: &str = "Says whether a certificate proves a table unambiguous";
+
+/// What `brl check --help` says above the usage.
+const ABOUT_CHECK: &str = "Says whether a certificate proves a table unambiguous
+
+A certificate lists states and pairs of states. Where it is accepted, standard
+output gets how many there are, and no two different texts over the table's
+characters give the same cells, however long they are. Whoever made the
+certificate need not be trusted. Else standard output gets why it is refused,
+and the exit status is 1; a refusal doesn't say that two texts look alike.";
+
+/// What follows the options in `brl check --help`.
+const CHECK_EXAMPLE: &str = "Example, a table of one letter and its certificate:
+  printf '%s\\n' 'letter a 1' > a.ctb
+  printf '%s\\n' 'BRLCERT 1' 'state 1 0 0 -' 'state 8 0 0 61' 'state 8 0 1 -' \\
+      'pair 1 2 -' 'end 3 1' > a.cert
+  brl check a.ctb a.cert
+
+It prints:
+  accepted: 3 states, 1 pairs";
+
 /// An operand that must be there.
 fn operand<'a>(alloc: Global, id: &'a str, name: &'a str, help: &'a str) -> Arg<'a> {
     Arg::new(alloc, id)
@@ -138,6 +165,18 @@ fn clash_command<'a>(alloc: Global) -> Result<Command<'a>, Error> {
     )
 }
 
+/// The command line of `brl check`.
+fn check_command<'a>(alloc: Global) -> Result<Command<'a>, Error> {
+    Ok(
+        Command::new(alloc, "check")
+            .about(CHECK)
+            .long_about(ABOUT_CHECK)
+            .after_help(CHECK_EXAMPLE)
+            .arg(table_operand(alloc))?
+            .arg(operand(alloc, "cert", "CERT", "The certificate's file"))?,
+    )
+}
+
 /// The command line of `brl`.
 fn whole_command<'a>(alloc: Global) -> Result<Command<'a>, Error> {
     Ok(
@@ -150,7 +189,8 @@ fn whole_command<'a>(alloc: Global) -> Result<Command<'a>, Error> {
             .subcommand_required(true)
             .arg_required_else_help(true)
             .subcommand(translate_command(alloc)?)?
-            .subcommand(clash_command(alloc)?)?,
+            .subcommand(clash_command(alloc)?)?
+            .subcommand(check_command(alloc)?)?,
     )
 }
 
@@ -176,6 +216,10 @@ fn found_task<'a>(matches: &ArgMatches<'a>) -> Option<Task<'a>> {
             table: found.get_str("table")?,
             left: found.get_str("left")?,
             right: found.get_str("right")?,
+        }),
+        ("check", found) => Some(Task::Check {
+            table: found.get_str("table")?,
+            cert: found.get_str("cert")?,
         }),
         _ => None,
     }

@@ -3,11 +3,13 @@
 #![tactic(auto)]
 
 mod by_file;
+mod checking;
 mod command;
 mod device;
 mod fault;
 mod finding;
 mod form;
+mod judgement;
 mod line;
 mod output;
 mod program;

@@ -1,11 +1,13 @@
 //! The program over any files and streams.
-ghost use Rattle.std.specs.Prelude.{◌≡◌};
+ghost use Rattle.std.specs.Prelude.{◌≡◌, ◌⊎◌};
 ghost use Rattle.std.specs.Str.{chars};
+ghost use Rattle.brl_tool.specs.Checking.{ReportsAcceptance, ReportsRefusal};
 ghost use Rattle.brl_tool.specs.Comparing.{ReportsClash};
 ghost use Rattle.brl_tool.specs.Status.{IsAnswered, IsStatus, status_of};
-ghost use Rattle.brl_tool.specs.Running.{ComparesBy, Runs, TranslatesBy};
+ghost use Rattle.brl_tool.specs.Running.{ChecksBy, ComparesBy, Runs, TranslatesBy};
 
 use crate::by_file::{compare_by_file, translate_by_file};
+use crate::checking::check_by_file;
 use crate::command::{Task, task_of};
 use crate::finding::Finding;
 use crate::run_fault::{FAULT, RunFault};
@@ -21,14 +23,14 @@ const DONE: u8 = 0;
 /// The status of texts that clash.
 const CLASH: u8 = 1;
 
-/// Does what the words ask for, and answers the exit status: 0 where the work was done, 1 where two texts clash, 2 where
-/// the words, the table, a text, the input or the output had a fault, and 3 for want of memory. The first of the words
-/// is the program's name.
+/// Does what the words ask for, and answers the exit status: 0 where the work was done, 1 where two texts clash or a
+/// certificate is refused, 2 where the words, a file, the table, a text, the input or the output had a fault, and 3 for want
+/// of memory and for a table that is too wide. The first of the words is the program's name.
 ///
-/// Standard output gets the translation or what was found of two texts, or help or the version where these are asked
-/// for. Standard error gets one line for a fault, or the text of a use fault; what can't be written there is dropped and
-/// changes no status. Faults come in the order of the work: the words, the table's file, its lines, the texts or the
-/// input.
+/// Standard output gets the translation, what was found of two texts or what was told of a certificate, or help or the
+/// version where these are asked for. Standard error gets one line for a fault, or the text of a use fault; what can't be written there is dropped and
+/// changes no status. Faults come in the order of the work: the words, the certificate's file, the table's file, its lines,
+/// the texts, the input or the certificate.
 pub fn run<S: Source, I: Input, O: Output, E: Write>(
     alloc: Global,
     words: &[String],
@@ -39,7 +41,8 @@ pub fn run<S: Source, I: Input, O: Output, E: Write>(
 ) -> u8
     ensures status { IsStatus result }
     ensures runs { Runs (S.gives source.old) (I.remaining input.old) (O.contents out.old) (O.contents out.new) result }
-    ensures clash { result ≡ 1 → ReportsClash (S.gives source.old) (O.contents out.old) (O.contents out.new) }
+    ensures clash { result ≡ 1 → ReportsClash (S.gives source.old) (O.contents out.old) (O.contents out.new)
+        ⊎ ReportsRefusal (O.contents out.old) (O.contents out.new) }
 {
     match task_of(alloc, words) {
         Ok(Task::Translate { table, form }) => {
@@ -48,6 +51,7 @@ pub fn run<S: Source, I: Input, O: Output, E: Write>(
         Ok(Task::Clash { table, left, right }) => {
             compare(alloc, source, table, left, right, out, err)
         }
+        Ok(Task::Check { table, cert }) => check(alloc, source, table, cert, out, err),
         Err(error) => answer(alloc, &error, out, err),
     }
 }
@@ -87,6 +91,26 @@ fn compare<S: Source, O: Output, E: Write>(
     match compare_by_file(alloc, source, table, left, right, out) {
         Ok(Finding::NoClash) => DONE,
         Ok(Finding::Clash) => CLASH,
+        Err(fault) => tell(&fault, err),
+    }
+}
+
+/// `brl check`.
+fn check<S: Source, O: Output, E: Write>(
+    alloc: Global,
+    source: &mut S,
+    table: &str,
+    cert: &str,
+    out: &mut O,
+    err: &mut E,
+) -> u8
+    ensures checks { ChecksBy (S.gives source.old) table.now cert.now (O.contents out.old) (O.contents out.new) result }
+    // Where it accepts, no two different texts of the table are translated alike.
+    ensures accepted { result ≡ 0 → ReportsAcceptance (S.gives source.old) table.now (O.contents out.old) (O.contents out.new) }
+    ensures refused { result ≡ 1 → ReportsRefusal (O.contents out.old) (O.contents out.new) }
+{
+    match check_by_file(alloc, source, table, cert, out) {
+        Ok(judgement) => judgement.status(),
         Err(fault) => tell(&fault, err),
     }
 }

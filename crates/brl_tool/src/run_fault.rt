@@ -3,6 +3,7 @@ use crate::{Failed, StreamFault};
 use brl_forward::ConfirmFault;
 use brl_lines::LoadFault;
 use brl_table::TableFault;
+use brl_window::TooWide;
 use std::alloc::AllocError;
 use thiserror::Error;
 
@@ -11,6 +12,9 @@ pub const FAULT: u8 = 2;
 
 /// The status of want of memory.
 const WANT_OF_MEMORY: u8 = 3;
+
+/// The status of a table that is too wide for a certificate.
+const TOO_WIDE: u8 = 3;
 
 /// The fault that ended the work. It is shown as the line that standard error gets.
 #[derive(Debug, Drop, Error)]
@@ -27,6 +31,9 @@ pub enum RunFault {
     /// A text to be compared has a character that the table doesn't define.
     #[error("{0}")]
     Confirm(ConfirmFault),
+    /// The table has no machine of the kind that a certificate asks for.
+    #[error("{0}")]
+    Wide(TooWide),
     /// The writer failed at what was found, or at help or the version; some first bytes of it may be written.
     #[error("U4 OutputFailed")]
     OutputFailed,
@@ -39,12 +46,13 @@ impl RunFault {
     ghost use Rattle.std.specs.Prelude.{◌≡◌};
     ghost use Rattle.brl_tool.specs.Status.{status_of};
 
-    /// The exit status: 3 for want of memory, else 2.
+    /// The exit status: 3 for want of memory and for a table that is too wide, else 2.
     pub fn status(&self) -> u8
         ensures { result ≡ status_of self.now }
     {
         match self {
             RunFault::Memory => WANT_OF_MEMORY,
+            RunFault::Wide(_) => TOO_WIDE,
             _ => FAULT,
         }
     }

@@ -1,4 +1,4 @@
-use Rattle.std.proofs.Common.{rules, ◌≡◌, ℕ}
+use Rattle.std.proofs.Common.{rules}
 use Rattle.brl_tool.proofs.FindingLemmas.{printed}
 use Rattle.brl_tool.proofs.finding.report.Goals as goal
 

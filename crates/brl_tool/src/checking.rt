@@ -1,0 +1,68 @@
+//! Checking the certificate at one path for the table at another.
+ghost use Rattle.std.specs.Prelude.{◌≡◌, ◌≤◌, ℕ, ◌↔◌, List, IfErr, IfOk, length};
+ghost use Rattle.brl_lines.specs.Answer.{Answer, Holds};
+ghost use Rattle.brl_tool.specs.Checking.{Checks, IsFaultOfFile, Judges};
+
+use crate::Output;
+use crate::judgement::Judgement;
+use crate::run_fault::RunFault;
+use brl_accept::judge;
+use brl_lines::{LoadFault, MOST_FILE_BYTES, Refused, Source, SourceFault};
+use std::alloc::Global;
+
+/// The bytes of the certificate's file.
+fn bytes_at<S: Source>(alloc: Global, source: &mut S, path: &str) -> Result<Vec<u8>, RunFault>
+    ensures bytes { IfOk result (λ bytes. S.gives source.old path.now (Holds bytes.items)) }
+    ensures short { IfOk result (λ bytes. length bytes.items ≤ 16777216) }
+    ensures fault { IfErr result (IsFaultOfFile (S.gives source.old) path.now) }
+    ensures same { (p : List ℕ) (a : Answer) → S.gives source.new p a ↔ S.gives source.old p a }
+{
+    let kind = match source.read(alloc, path) {
+        Ok(bytes) => {
+            if bytes.len() <= MOST_FILE_BYTES {
+                return Ok(bytes);
+            }
+            Refused::TooLarge
+        }
+        Err(SourceFault::TooLarge) => Refused::TooLarge,
+        Err(SourceFault::NotFound) => Refused::NotFound,
+        Err(SourceFault::Failed) => Refused::ReadFailed,
+        Err(SourceFault::Memory) => return Err(RunFault::Memory),
+    };
+    let path = String::from_str(alloc, path)?;
+    Err(RunFault::Load(LoadFault::Refused {
+        kind,
+        path,
+        place: None,
+    }))
+}
+
+/// Judges the certificate in one file for the table of another. The certificate's file is read first.
+fn judge_files<S: Source>(
+    alloc: Global,
+    source: &mut S,
+    table: &str,
+    cert: &str,
+) -> Result<Judgement, RunFault>
+    ensures { Judges (S.gives source.old) table.now cert.now result }
+{
+    let bytes = bytes_at(alloc, source, cert)?;
+    Judgement::of(judge(alloc, source, table, bytes.as_slice()))
+}
+
+/// Judges the certificate in one file for the table of another, and writes the line that tells it. Nothing is written where
+/// the certificate's file can't be read, or the table has a fault or is too wide.
+pub fn check_by_file<S: Source, W: Output>(
+    alloc: Global,
+    source: &mut S,
+    table: &str,
+    cert: &str,
+    writer: &mut W,
+) -> Result<Judgement, RunFault>
+    ensures { Checks (S.gives source.old) table.now cert.now (W.contents writer.old) (W.contents writer.new) result }
+{
+    let judgement = judge_files(alloc, source, table, cert)?;
+    let line = judgement.line(alloc)?;
+    writer.put(line.as_bytes())?;
+    Ok(judgement)
+}

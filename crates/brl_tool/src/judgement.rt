@@ -1,0 +1,86 @@
+//! What is told of a certificate.
+ghost use Rattle.std.specs.Prelude.{◌≡◌, ◌∷◌, [], ◌++◌, codes, IfOk, string_bytes};
+ghost use Rattle.brl_tool.specs.Checking.{IsLineOf, accepted_line, judgement_of};
+ghost use Rattle.brl_tool.specs.Running.{judgement_status};
+
+use crate::run_fault::RunFault;
+use brl_accept::{AcceptFault, Accepted, JudgeFault};
+use brl_cert::CertFault;
+use std::alloc::{AllocError, Global};
+
+/// What a certificate is found to be for a table.
+#[derive(PartialEq, Eq, Debug, Drop)]
+pub enum Judgement {
+    /// It is accepted.
+    Accepting(Accepted),
+    /// The bytes spell none.
+    Unreadable(CertFault),
+    /// Its states and pairs aren't closed.
+    Refusing(AcceptFault),
+}
+
+/// The status of a certificate that is accepted.
+const ACCEPTED: u8 = 0;
+
+/// The status of one that isn't.
+const REFUSED: u8 = 1;
+
+impl Judgement {
+    /// What a judge's outcome tells of the certificate; a fault of the table, or want of memory, tells nothing of it.
+    pub fn of(outcome: Result<Accepted, JudgeFault>) -> Result<Judgement, RunFault>
+        ensures { result ≡ judgement_of outcome }
+    {
+        match outcome {
+            Ok(accepted) => Ok(Judgement::Accepting(accepted)),
+            Err(JudgeFault::Load(fault)) => Err(fault.into()),
+            Err(JudgeFault::Table(fault)) => Err(fault.into()),
+            Err(JudgeFault::Cert(fault)) => Ok(Judgement::Unreadable(fault)),
+            Err(JudgeFault::Wide(fault)) => Err(RunFault::Wide(fault)),
+            Err(JudgeFault::Refused(fault)) => Ok(Judgement::Refusing(fault)),
+            Err(JudgeFault::Memory) => Err(RunFault::Memory),
+        }
+    }
+
+    /// The exit status: 0 where the certificate is accepted, else 1.
+    pub fn status(&self) -> u8
+        ensures { result ≡ judgement_status self.now }
+    {
+        match self {
+            Judgement::Accepting(_) => ACCEPTED,
+            _ => REFUSED,
+        }
+    }
+
+    /// The line that tells it.
+    pub fn line(&self, alloc: Global) -> Result<String, AllocError>
+        ensures { IfOk result (λ text. IsLineOf self.now (string_bytes text)) }
+    {
+        match self {
+            Judgement::Accepting(accepted) => accepted_text(alloc, accepted),
+            Judgement::Unreadable(fault) => {
+                let text = fault.to_string(alloc)?;
+                refused_text(alloc, text.as_str())
+            }
+            Judgement::Refusing(fault) => {
+                let text = fault.to_string(alloc)?;
+                refused_text(alloc, text.as_str())
+            }
+        }
+    }
+}
+
+/// The line of an acceptance.
+fn accepted_text(alloc: Global, accepted: &Accepted) -> Result<String, AllocError>
+    ensures { IfOk result (λ text. string_bytes text ≡ accepted_line accepted.now.states accepted.now.pairs) }
+{
+    let states = accepted.states.to_string(alloc)?;
+    let pairs = accepted.pairs.to_string(alloc)?;
+    format!(in alloc; "accepted: {states} states, {pairs} pairs\n")
+}
+
+/// The line of a refusal with this reason.
+fn refused_text(alloc: Global, reason: &str) -> Result<String, AllocError>
+    ensures { IfOk result (λ text. string_bytes text ≡ codes "refused: " ++ reason.now ++ 10 ∷ []) }
+{
+    format!(in alloc; "refused: {reason}\n")
+}
