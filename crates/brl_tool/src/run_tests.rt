@@ -1,6 +1,7 @@
 //! Worked runs of the program over files, streams and words in memory.
 
 mod cases;
+mod checks;
 mod devices;
 
 use crate::{Watched, run};
