@@ -277,6 +277,17 @@ expect 'the example of the help on translate' 0 'ABC A\n' ''
 run_example clash alike.ctb
 expect 'the example of the help on clash' 1 'left: ab\nright: x\ncells: 1-12\n' ''
 
+run_example check a.ctb
+expect 'the example of the help on check' 0 'accepted: 3 states, 1 pairs\n' ''
+
+"$program" check missing.ctb missing.cert >out 2>err
+status=$?
+expect 'a missing certificate comes before the table' 2 '' 'L1 NotFound missing.cert\n'
+
+"$program" check first.ctb first.ctb >out 2>err
+status=$?
+expect 'a file that is no certificate' 1 'refused: K2 Syntax line 1\n' ''
+
 "$program" clash t.ctb abc cba >out 2>err
 status=$?
 expect 'texts that do not clash' 0 'no clash\n' ''

@@ -1,7 +1,8 @@
 #!/bin/sh
 # Runs the examples. Usage: tests/examples.sh PROGRAM
-# examples/NAME.brf is what `translate examples/NAME.ctb` writes of examples/NAME.txt, and examples/NAME.report what `clash
-# examples/NAME.ctb` writes of the two lines of examples/NAME.texts.
+# examples/NAME.brf is what `translate examples/NAME.ctb` writes of examples/NAME.txt, examples/NAME.report what `clash
+# examples/NAME.ctb` writes of the two lines of examples/NAME.texts, and examples/NAME.verdict what `check examples/NAME.ctb
+# examples/NAME.cert` writes.
 set -u
 
 if [ $# -ne 1 ]; then
@@ -32,5 +33,14 @@ for want in *.report; do
         exit 1
     fi
     rm -f "$got"
+    echo "ok: examples/$name"
+done
+
+for want in *.verdict; do
+    name=${want%.verdict}
+    if ! "$program" check "$name.ctb" "$name.cert" | cmp - "$want"; then
+        echo "FAILED: examples/$name"
+        exit 1
+    fi
     echo "ok: examples/$name"
 done

@@ -109,9 +109,9 @@ and the exit status is 1; a refusal doesn't say that two texts look alike.";
 
 /// What follows the options in `brl check --help`.
 const CHECK_EXAMPLE: &str = "Example, a table of one letter and its certificate:
-  printf '%s\\n' 'letter a 1' > a.ctb
-  printf '%s\\n' 'BRLCERT 1' 'state 1 0 0 -' 'state 8 0 0 61' 'state 8 0 1 -' \\
-      'pair 1 2 -' 'end 3 1' > a.cert
+  printf 'letter a 1\\n' > a.ctb
+  printf 'BRLCERT 1\\nstate 1 0 0 -\\nstate 8 0 0 61\\nstate 8 0 1 -\\n' > a.cert
+  printf 'pair 1 2 -\\nend 3 1\\n' >> a.cert
   brl check a.ctb a.cert
 
 It prints:
