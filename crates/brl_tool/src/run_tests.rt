@@ -130,7 +130,8 @@ fn check_rows(rt: &impl Abort, alloc: Global, rows: &str) -> Result<(), Fail> {
 fn worked_runs(rt: HostRuntime) -> Result<(), Fail> {
     check_rows(&rt, rt.alloc(), cases::TRANSLATIONS)?;
     check_rows(&rt, rt.alloc(), cases::INCLUDES)?;
-    check_rows(&rt, rt.alloc(), cases::COMPARISONS)
+    check_rows(&rt, rt.alloc(), cases::COMPARISONS)?;
+    check_rows(&rt, rt.alloc(), cases::CHECKS)
 }
 
 /// Whether a text that isn't empty stands in what was written; of the empty text, whether nothing was written.

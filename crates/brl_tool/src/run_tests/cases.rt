@@ -103,6 +103,33 @@ t.ctb: letter a 1; litdigit 1 1; numsign 3456|brl,clash,t.ctb,1a,11||left: 1a; r
 t.ctb: uplow Aa 1|brl,clash,t.ctb,A,a||left: A; right: a; cells: 1||1
 ";
 
+/// The words that check the certificate `c` for the table `t.ctb`.
+pub const CHECK: &str = "brl,check,t.ctb,c";
+
+/// Certificates, in the same form.
+pub const CHECKS: &str = "\
+t.ctb: letter a 1 & c: BRLCERT 1; state 1 0 0 -; state 8 0 0 61; state 8 0 1 -; pair 1 2 -; end 3 1|brl,check,t.ctb,c||accepted: 3 states, 1 pairs||0
+t.ctb: # & c: BRLCERT 1; state 1 0 0 -; end 1 0|brl,check,t.ctb,c||accepted: 1 states, 0 pairs||0
+t.ctb: include u & u: letter a 1 & c: BRLCERT 1; state 1 0 0 -; state 8 0 0 61; state 8 0 1 -; pair 1 2 -; end 3 1|brl,check,t.ctb,c||accepted: 3 states, 1 pairs||0
+t.ctb: letter a 1 & c: BRLCERT 1; end 0 0|brl,check,t.ctb,c||refused: A1 NoStart||1
+t.ctb: letter a 1 & c: BRLCERT 1; state 1 0 0 -; end 1 0|brl,check,t.ctb,c||refused: A2 StateMissing state 0 rule 0||1
+t.ctb: letter a 1 & c: BRLCERT 1; state 1 0 0 -; state 8 0 0 61; state 8 0 1 -; end 3 0|brl,check,t.ctb,c||refused: A3 SplitMissing state 0 rules 0 0||1
+t.ctb: letter a 1 & c: BRLCERT 1; state 1 0 0 -; state 8 0 0 61; state 8 0 1 -; pair 2 1 -; end 3 1|brl,check,t.ctb,c||refused: A4 PairMissing pair 0 rule 0||1
+t.ctb: letter a 1 & c: BRLCERT 1; state 1 0 0 -; state 8 0 0 61; state 8 0 1 -; pair 1 2 -; pair 2 2 -; end 3 2|brl,check,t.ctb,c||refused: A5 BothEnd pair 1||1
+t.ctb: letter a 1 & c: BRLCERT 1; state 1 0 0 -; state 8 0 0 61; state 8 0 1 -; pair 1 2 -|brl,check,t.ctb,c||refused: K8 Truncated line 6||1
+t.ctb: letter a 1 & c: BRLCERT 1; state 1 0 0 -; state 8 0 0 061; state 8 0 1 -; pair 1 2 -; end 3 1|brl,check,t.ctb,c||refused: K3 NotCanonical line 3||1
+t.ctb: letter a 1 & c: BRLCERT 1; state 1 0 0 -; state 8 0 0 61; state 8 0 0 61; state 8 0 1 -; pair 1 2 -; end 3 1|brl,check,t.ctb,c||refused: K4 DuplicateState line 4||1
+t.ctb: letter a 1 & c: BRLCERT 1; state 1 0 0 -; state 8 0 0 61; state 8 0 1 -; pair 1 2 -; pair 1 2 -; end 3 1|brl,check,t.ctb,c||refused: K5 DuplicatePair line 6||1
+t.ctb: letter a 1 & c: BRLCERT 1; state 1 0 0 -; state 8 0 0 61; state 8 0 1 -; pair 1 3 -; end 3 1|brl,check,t.ctb,c||refused: K6 NoSuchState line 5||1
+t.ctb: letter a 1 & c: BRLCERT 1; state 1 0 0 -; state 8 0 0 61; state 8 0 1 -; pair 1 2 -; end 3 2|brl,check,t.ctb,c||refused: K7 WrongCount line 6||1
+t.ctb: letter a 1 & c: BRLCERT 9; state 1 0 0 -; state 8 0 0 61; state 8 0 1 -; pair 1 2 -; end 3 1|brl,check,t.ctb,c||refused: K1 Version line 1||1
+t.ctb: letter a 1 & c: BRLCERT 2; state 1 0 0 -; state 8 0 0 61; state 8 0 1 -; pair 1 2 -; end 3 1|brl,check,t.ctb,c||refused: K1 Version line 1||1
+t.ctb: pass2 @1 @2 & c: BRLCERT 1; end 0 0|brl,check,t.ctb,c|||B1 OutsideProfile pass2 at t.ctb:1|2
+t.ctb: include t.ctb & c: BRLCERT 1; end 0 0|brl,check,t.ctb,c|||L4 Cycle t.ctb at t.ctb:1|2
+|brl,check,t.ctb,c|||L1 NotFound c|2
+c: BRLCERT 1|brl,check,t.ctb,c|||L1 NotFound t.ctb|2
+";
+
 /// The words, over no files, and a text that stands on standard output, and on standard error; where it is empty, nothing stands
 /// there; and the status.
 pub const REQUESTS: &str = "\
