@@ -1,0 +1,64 @@
+-- Pairs that wait, where one is put in and where the first is taken out.
+use Rattle.std.proofs.Common.{◌≡◌, ◌≢◌, ℕ, zero, suc, ◌+◌, ◌<◌, All, Contains, List, ◌∷◌, ◌⊎◌, inl, inr, length, get_or, refl, sym, ap, arith}
+use Rattle.std.specs.List.Sorted.{IsPermutation}
+use Rattle.std.specs.declared.cmp.Reverse.{Reverse}
+use Rattle.std.proofs.lemmas.List.Sorted.{Contains-permutation, All-permutation}
+use Rattle.brl_search.specs.Work.{Waits, is_below}
+
+module _ {X : Type 0} where
+  in_tail : (x : X) (xs : List X) (y : X) → Contains xs y → Contains (x ∷ xs) y
+  in_tail x xs y h = (suc h.0, omega (arith, h.1), h.2)
+
+  at_head : (x : X) (xs : List X) → Contains (x ∷ xs) x
+  at_head x xs = (0, omega arith, refl)
+
+  head_or_tail : (x : X) (xs : List X) (y : X) → Contains (x ∷ xs) y → (x ≡ y) ⊎ Contains xs y
+  head_or_tail x xs y h = by h.0 h.1 h.2
+    where
+      by : (k : ℕ) → k < length (x ∷ xs) → get_or (x ∷ xs) k y ≡ y → (x ≡ y) ⊎ Contains xs y
+      by zero lt is = inl is
+      by (suc k) lt is = inr (k, omega (arith, lt), is)
+
+  all_cons : (P : X → Type 0) (x : X) (xs : List X) → P x → All P xs → All P (x ∷ xs)
+  all_cons P x xs here rest zero d lt = here
+  all_cons P x xs here rest (suc k) d lt = rest k d (omega (arith, lt))
+
+  all_head : (P : X → Type 0) (x : X) (xs : List X) → All P (x ∷ xs) → P x
+  all_head P x xs h = h 0 x (omega arith)
+
+  all_tail : (P : X → Type 0) (x : X) (xs : List X) → All P (x ∷ xs) → All P xs
+  all_tail P x xs h k d lt = h (suc k) d (omega (arith, lt))
+
+  all_weaker : (P Q : X → Type 0) (xs : List X) → ((x : X) → P x → Q x) → All P xs → All Q xs
+  all_weaker P Q xs then h k d lt = then (get_or xs k d) (h k d lt)
+
+-- ---- One more waits
+
+pub waits_more : (x : Reverse (ℕ × ℕ)) (xs ys : List (Reverse (ℕ × ℕ))) → IsPermutation (x ∷ xs) ys → (n : ℕ) → Waits n xs → Waits n ys
+waits_more x xs ys same n h = (h.0, Contains-permutation (x ∷ xs) ys _ same (in_tail x xs _ h.1))
+
+pub waits_new : (behind n : ℕ) (xs ys : List (Reverse (ℕ × ℕ))) → IsPermutation (record { 0 = (behind, n) } ∷ xs) ys → Waits n ys
+waits_new behind n xs ys same = (behind, Contains-permutation (record { 0 = (behind, n) } ∷ xs) ys _ same (at_head _ xs))
+
+pub below_pushed : (behind n : ℕ) (xs ys : List (Reverse (ℕ × ℕ))) → IsPermutation (record { 0 = (behind, n) } ∷ xs) ys → All (is_below n) xs → All (is_below (n + 1)) ys
+below_pushed behind n xs ys same h =
+    All-permutation (is_below (n + 1)) (record { 0 = (behind, n) } ∷ xs) ys same
+    (all_cons (is_below (n + 1)) (record { 0 = (behind, n) }) xs (omega arith) (all_weaker (is_below n) (is_below (n + 1)) xs (λ x lt. (let less : x.0.1 < n = lt in omega arith)) h))
+
+-- ---- The first is taken out
+
+pub waits_popped : (x : Reverse (ℕ × ℕ)) (xs ys : List (Reverse (ℕ × ℕ))) → IsPermutation xs (x ∷ ys) → (n : ℕ) → n ≢ x.0.1 → Waits n xs → Waits n ys
+waits_popped x xs ys same n other h =
+    elim (head_or_tail x ys (record { 0 = (h.0, n) }) (Contains-permutation xs (x ∷ ys) _ same h.1)) [
+      | inl e ↦ absurd (other (ap (λ (y : Reverse (ℕ × ℕ)). y.0.1) (sym e)))
+      | inr rest ↦ (h.0, rest)
+    ]
+
+pub below_popped : (n : ℕ) (x : Reverse (ℕ × ℕ)) (xs ys : List (Reverse (ℕ × ℕ))) → IsPermutation xs (x ∷ ys) → All (is_below n) xs → (x.0.1 < n) × All (is_below n) ys
+below_popped n x xs ys same h =
+    let all = All-permutation (is_below n) xs (x ∷ ys) same h in
+    (all_head (is_below n) x ys all, all_tail (is_below n) x ys all)
+
+-- nothing waits among none
+pub none_waits : (n : ℕ) (xs : List (Reverse (ℕ × ℕ))) → length xs ≡ 0 → Waits n xs → ⊥
+none_waits n xs none h = absurd (omega (arith, none, h.1.1))

@@ -1,0 +1,13 @@
+use Rattle.std.proofs.Common.{◌≡◌, ◌<◌, ℕ, Some, slice_get}
+use Rattle.brl_search.specs.declared.edge.Edge.{Edge}
+use Rattle.brl_search.specs.Edges.{IsFollowed}
+use Rattle.brl_search.specs.Trail.{Grows, IsKept}
+use Rattle.brl_search.proofs.expanding.find_splits_of.Given as goal
+
+abbrev pub invariant-loop-second : goal.invariant-loop-second
+invariant-loop-second g l = record {
+  kept : IsKept (g.M.Machine.behaviour l.machine) l.trail;
+  grows : Grows l.fn.trail l.trail;
+  states : l.trail.states ≡ l.fn.trail.states;
+  followed : (j : ℕ) (y : Edge) → l.first < j → j < l.second → slice_get l.edges j ≡ Some y → IsFollowed l.trail.pairs l.ahead.next l.ahead.cells y;
+}

@@ -1,0 +1,62 @@
+-- Steps told by numbers: their cells and the number of the state behind (this project's own choice).
+use Rattle.std.specs.Prelude.{◌≡◌, ◌≢◌, ℕ, ◌<◌, ◌≤◌, List, [], ◌++◌, ◌⊎◌, length, Some, slice_get}
+use Rattle.brl_cert.specs.declared.pair.CertPair.{CertPair}
+use Rattle.brl_pairs.specs.declared.step.Step.{Step}
+use Rattle.brl_pairs.specs.Runs.{Behaviour, IsListedAt}
+use Rattle.brl_search.specs.declared.edge.Edge.{Edge}
+use Rattle.brl_search.specs.declared.trail.Origins.{Origins}
+use Rattle.brl_search.specs.Trail.{IsPairOrigin}
+
+-- the edge has the step's cells and the number of the state behind it
+pub record IsEdge {S : Type 0} (states : List S) (x : Step S) (e : Edge) : Type 0 where
+  pub cells : e.cells ≡ x.cells
+  pub next : slice_get states e.next ≡ Some x.next
+
+-- the first n steps of this list have these edges, in its order
+pub record AreFirstEdges {S : Type 0} (states : List S) (listed : List (Step S)) (n : ℕ) (edges : List Edge) : Type 0 where
+  pub count : length edges ≡ n
+  pub each : (place : ℕ) (x : Step S) (e : Edge) → IsListedAt listed place x → slice_get edges place ≡ Some e → IsEdge states x e
+
+-- the steps of the state with this number have these edges, in listed order
+pub record AreEdges {S : Type 0} (m : Behaviour S) (states : List S) (number : ℕ) (edges : List Edge) : Type 0 where
+  pub state : S
+  pub at : slice_get states number ≡ Some state
+  pub listed : AreFirstEdges states (m.steps state) (length (m.steps state)) edges
+
+-- the pair is listed as it stands, or in its other order where its lead is empty
+abbrev pub HasNumbers : List CertPair → ℕ → ℕ → List ℕ → Type 0
+HasNumbers pairs ahead behind lead = (n : ℕ) × (slice_get pairs n ≡ Some (record { ahead = ahead; behind = behind; lead = lead }))
+
+abbrev pub IsThere : List CertPair → ℕ → ℕ → List ℕ → Type 0
+IsThere pairs ahead behind lead = HasNumbers pairs ahead behind lead ⊎ ((lead ≡ []) × HasNumbers pairs behind ahead lead)
+
+-- what a run behind makes of its lead by this edge is among the pairs
+pub record IsFollowed (pairs : List CertPair) (ahead : ℕ) (lead : List ℕ) (e : Edge) : Type 0 where
+  pub still : (rest : List ℕ) → lead ≡ e.cells ++ rest → IsThere pairs ahead e.next rest
+  pub swapped : (rest : List ℕ) → rest ≢ [] → e.cells ≡ lead ++ rest → IsThere pairs e.next ahead rest
+
+-- what becomes of a run ahead of so many states and the edge that the run behind takes is in range
+pub record FitsFollowing (states ahead : ℕ) (lead : List ℕ) (e : Edge) : Type 0 where
+  pub ahead_there : ahead < states
+  pub behind_there : e.next < states
+  pub short_lead : length lead ≤ 1024
+  pub short_cells : length e.cells ≤ 1024
+
+-- the origins tell how the pair is found that the run behind makes by this edge
+pub record Explains {S : Type 0} (m : Behaviour S) (states : List S) (pairs : List CertPair) (ahead : ℕ) (lead : List ℕ) (e : Edge) (origins : Origins) : Type 0 where
+  pub still : (p : CertPair) → p.ahead ≡ ahead → p.behind ≡ e.next → lead ≡ e.cells ++ p.lead → IsPairOrigin m states pairs p origins.still
+  pub swapped : (p : CertPair) → p.ahead ≡ e.next → p.behind ≡ ahead → p.lead ≢ [] → e.cells ≡ lead ++ p.lead → IsPairOrigin m states pairs p origins.swapped
+
+-- each split of the state with this number is among the pairs, and the states behind its steps are among the states
+pub record IsExpanded {S : Type 0} (m : Behaviour S) (states : List S) (pairs : List CertPair) (number : ℕ) : Type 0 where
+  pub edges : List Edge
+  pub are_edges : AreEdges m states number edges
+  pub splits : (i j : ℕ) (x y : Edge) → i < j → slice_get edges i ≡ Some x → slice_get edges j ≡ Some y → IsFollowed pairs x.next x.cells y
+
+-- what the pair with this number moves to is among the pairs
+pub record IsWalked {S : Type 0} (m : Behaviour S) (states : List S) (pairs : List CertPair) (number : ℕ) : Type 0 where
+  pub pair : CertPair
+  pub at : slice_get pairs number ≡ Some pair
+  pub edges : List Edge
+  pub are_edges : AreEdges m states pair.behind edges
+  pub moves : (k : ℕ) (e : Edge) → slice_get edges k ≡ Some e → IsFollowed pairs pair.ahead pair.lead e

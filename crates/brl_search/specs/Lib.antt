@@ -1,0 +1,4 @@
+pub mod Reached
+pub mod Trail
+pub mod Edges
+pub mod Work

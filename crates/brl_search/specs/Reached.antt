@@ -1,0 +1,34 @@
+-- What a search may find of a machine: the states and pairs that are reached from its start. Pairs of runs are those of Sardinas
+-- and Patterson; that they are asked of a machine is this project's own choice.
+use Rattle.std.specs.Prelude.{◌≡◌, ℕ, ◌<◌, List, [], ◌⊎◌, length, Some, slice_get}
+use Rattle.brl_pairs.specs.declared.step.Pair.{Pair}
+use Rattle.brl_pairs.specs.declared.step.Step.{Step}
+use Rattle.brl_pairs.specs.Runs.{Behaviour, IsListed}
+use Rattle.brl_pairs.specs.Pairs.{Splits, Moves, turned}
+
+-- the start is reached, and so is the state in which a step from a reached state ends
+pub data Reached {S : Type 0} (m : Behaviour S) : S → Type 0 where
+  start : Reached m m.start
+  step : {s : S} {x : Step S} → Reached m s → IsListed (m.steps s) x → Reached m x.next
+
+-- Splits of reached states are reached pairs, and so is what a step of the run behind makes of a reached pair. With a pair whose
+-- lead is empty its other order is reached.
+pub data ReachedPair {S : Type 0} (m : Behaviour S) : Pair S → Type 0 where
+  split : {s : S} {p : Pair S} → Reached m s → Splits (m.steps s) p → ReachedPair m p
+  move : {p q : Pair S} → ReachedPair m p → Moves m p q → ReachedPair m q
+  other_order : {p : Pair S} → ReachedPair m p → p.lead ≡ [] → ReachedPair m (turned p)
+
+-- a pair and its other order, where its lead is empty, are counted as one
+abbrev pub SamePair : {S : Type 0} → Pair S → Pair S → Type 0
+SamePair p q = (p ≡ q) ⊎ ((p.lead ≡ []) × (turned p ≡ q))
+
+-- a state is counted as one with itself alone
+abbrev pub SameState : {S : Type 0} → S → S → Type 0
+SameState a b = a ≡ b
+
+-- there are n things of this kind at least: a list of n of them, no two of which are counted as one
+pub record AtLeast {A : Type 0} (n : ℕ) (Same : A → A → Type 0) (Kind : A → Type 0) : Type 0 where
+  pub list : List A
+  pub count : length list ≡ n
+  pub each : (i : ℕ) (x : A) → slice_get list i ≡ Some x → Kind x
+  pub differ : (i j : ℕ) (x y : A) → i < j → slice_get list i ≡ Some x → slice_get list j ≡ Some y → Same x y → ⊥

@@ -1,0 +1,15 @@
+//! The search for a certificate or a clash: states and pairs are found from a machine's start on until they are closed, or
+//! two texts with the same cells are met, or there are more than a limit allows.
+#![tactic(auto)]
+
+mod edge;
+mod expanding;
+mod pairs;
+mod states;
+mod stop;
+mod trail;
+mod turns;
+mod work;
+
+pub use trail::Trail;
+pub use turns::find_all;

@@ -1,0 +1,51 @@
+//! What a search has found, and how it was found.
+use brl_cert::{CertPair, Members};
+use std::hash::Hash;
+
+/// The step by which a state was found first: its place in the list of steps of an earlier state.
+#[derive(Clone, Copy)]
+pub struct StateOrigin {
+    pub parent: usize,
+    pub place: usize,
+}
+
+/// How a pair was found first.
+#[derive(Clone, Copy)]
+pub enum PairOrigin {
+    /// By two steps of a state, told by their places in its list.
+    Split {
+        state: usize,
+        longer: usize,
+        shorter: usize,
+    },
+    /// By a step of the run behind of an earlier pair, which stays behind.
+    Still {
+        pair: usize,
+        place: usize,
+    },
+    /// By a step of the run behind of an earlier pair, which gets ahead.
+    Swapped {
+        pair: usize,
+        place: usize,
+    },
+}
+
+/// The states and pairs that a search has found, in the order in which it found them, and how each was found.
+#[derive(Drop)]
+pub struct Trail<S: Eq + Hash> {
+    /// How many states, and how many pairs, it may find.
+    pub limit: u64,
+    pub states: Members<S>,
+    /// Of each state; that of the start is never read.
+    pub state_origins: Vec<StateOrigin>,
+    pub pairs: Members<CertPair>,
+    /// Of each pair.
+    pub pair_origins: Vec<PairOrigin>,
+}
+
+/// How the pair that a run behind makes was found: where it stays behind, and where it gets ahead.
+#[derive(Clone, Copy)]
+pub struct Origins {
+    pub still: PairOrigin,
+    pub swapped: PairOrigin,
+}
