@@ -6,3 +6,4 @@ pub mod Reading
 pub mod Valid
 pub mod Examples
 pub mod Views
+pub mod Sets
