@@ -4,3 +4,6 @@ pub mod Edges
 pub mod There
 pub mod Waiting
 pub mod Working
+pub mod Ways
+pub mod Naming
+pub mod Closing

@@ -1,4 +1,6 @@
 pub mod Reached
+pub mod Answers
 pub mod Trail
 pub mod Edges
 pub mod Work
+pub mod Ways

@@ -7,9 +7,11 @@ mod expanding;
 mod pairs;
 mod states;
 mod stop;
+mod texts;
 mod trail;
 mod turns;
 mod work;
 
+pub use texts::Texts;
 pub use trail::Trail;
 pub use turns::find_all;

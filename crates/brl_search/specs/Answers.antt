@@ -1,0 +1,61 @@
+-- What a search of a machine may answer. These are this project's own choice.
+use Rattle.std.specs.Prelude.{◌≡◌, ◌≢◌, ℕ, ◌<◌, ◌≤◌, IsTrue, All, List, [], ◌⊎◌, length, Some, slice_get}
+use Rattle.brl_cert.specs.Lines.{BodyView}
+use Rattle.brl_cert.specs.Sets.{pair_at, sets_of}
+use Rattle.brl_pairs.specs.declared.step.Pair.{Pair}
+use Rattle.brl_pairs.specs.declared.step.Step.{Step}
+use Rattle.brl_pairs.specs.Pairs.{IsClosed}
+use Rattle.brl_pairs.specs.Runs.{Behaviour, IsPath, cells_of, reads_of}
+use Rattle.brl_search.specs.Reached.{AtLeast, Reached, ReachedPair, SamePair, SameState}
+
+-- ---- Closed
+
+-- each state of a body is reached
+abbrev pub HasReachedStates : {S : Type 0} → Behaviour S → BodyView S → Type 0
+HasReachedStates {S} m body = (number : ℕ) (s : S) → slice_get body.states number ≡ Some s → Reached m s
+
+-- each pair of a body is reached
+abbrev pub HasReachedPairs : {S : Type 0} → Behaviour S → BodyView S → Type 0
+HasReachedPairs {S} m body = (number : ℕ) (p : Pair S) → pair_at body number ≡ Some p → ReachedPair m p
+
+-- it has no more than so many states and no more than so many pairs
+abbrev pub IsWithin : {S : Type 0} → ℕ → BodyView S → Type 0
+IsWithin limit body = (length body.states ≤ limit) × (length body.pairs ≤ limit)
+
+-- closed sets of reached states and pairs, within the limit
+pub record IsCertified {S : Type 0} (m : Behaviour S) (limit : ℕ) (body : BodyView S) : Type 0 where
+  pub closed : IsClosed m (sets_of body)
+  pub states : HasReachedStates m body
+  pub pairs : HasReachedPairs m body
+  pub within : IsWithin limit body
+
+-- ---- Limit
+
+-- one of the two numbers is more than the limit, and no more states or pairs are named than are reached
+pub record IsLimit {S : Type 0} (m : Behaviour S) (limit states pairs : ℕ) : Type 0 where
+  pub passed : (limit < states) ⊎ (limit < pairs)
+  pub states_reached : AtLeast states SameState (Reached m)
+  pub pairs_reached : AtLeast pairs SamePair (ReachedPair m)
+
+-- ---- Two ends
+
+-- some reached pair has an empty lead and two states that end
+pub record HasTwoEndsReached {S : Type 0} (m : Behaviour S) : Type 0 where
+  pub pair : Pair S
+  pub reached : ReachedPair m pair
+  pub level : pair.lead ≡ []
+  pub ahead_ends : IsTrue (m.ends pair.ahead)
+  pub behind_ends : IsTrue (m.ends pair.behind)
+
+-- two different paths from the start to states that end, which give the same cells, read these
+pub record AreTwoPaths {S : Type 0} (m : Behaviour S) (left right : List ℕ) : Type 0 where
+  pub one : List (Step S)
+  pub two : List (Step S)
+  pub one_path : IsPath m m.start one
+  pub two_path : IsPath m m.start two
+  pub differ : one ≢ two
+  pub alike : cells_of one ≡ cells_of two
+  pub left_reads : reads_of one ≡ left
+  pub right_reads : reads_of two ≡ right
+
+-- ---- Outcomes
