@@ -1,5 +1,5 @@
 -- Where nothing is left to do, the sets are closed.
-use Rattle.std.proofs.Common.{◌≡◌, ◌≢◌, ℕ, ◌+◌, ◌<◌, IsTrue, List, [], ◌∷◌, ◌++◌, ◌⊎◌, inl, inr, length, Some, slice_get, refl, sym, ◌∙◌, ap, subst, arith, append-nil}
+use Rattle.std.proofs.Common.{◌≡◌, ◌≢◌, ℕ, ◌<◌, IsTrue, List, [], ◌∷◌, ◌++◌, ◌⊎◌, inl, inr, length, Some, slice_get, refl, sym, ◌∙◌, ap, subst, arith, append-nil}
 use Rattle.std.proofs.lemmas.Option.{slice_get_within}
 use Rattle.brl_cert.specs.Sets.{sets_of}
 use Rattle.brl_cert.specs.Views.{listed}
@@ -8,8 +8,7 @@ use Rattle.brl_pairs.specs.Pairs.{Splits, Moves, HasPair, IsClosed, turned}
 use Rattle.brl_pairs.specs.Runs.{Behaviour, IsListed, IsListedAt}
 use Rattle.brl_pairs.specs.declared.step.Pair.{Pair}
 use Rattle.brl_pairs.specs.declared.step.Step.{Step}
-use Rattle.brl_search.specs.Edges.{AreEdges, IsEdge, IsExpanded, IsFollowed, IsThere, IsWalked}
-use Rattle.brl_search.specs.Trail.{HasTwoEnds}
+use Rattle.brl_search.specs.Edges.{AreEdges, IsEdge, IsFollowed, IsThere}
 use Rattle.brl_search.specs.Work.{IsFinished}
 use Rattle.brl_search.specs.declared.edge.Edge.{Edge}
 use Rattle.brl_search.specs.declared.trail.Trail.{Trail}

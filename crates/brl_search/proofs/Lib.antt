@@ -7,3 +7,4 @@ pub mod Working
 pub mod Ways
 pub mod Naming
 pub mod Closing
+pub mod Reaching

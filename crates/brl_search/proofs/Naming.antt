@@ -1,5 +1,5 @@
 -- The pairs that the numbers of a body name.
-use Rattle.std.proofs.Common.{◌≡◌, ℕ, List, [], ◌∷◌, Option, Some, None, slice_get, refl, sym, ◌∙◌, ap}
+use Rattle.std.proofs.Common.{◌≡◌, ℕ, List, Option, Some, None, slice_get, refl, sym, ◌∙◌, ap}
 use Rattle.brl_cert.specs.Sets.{pair_of, pair_at}
 use Rattle.brl_cert.specs.Views.{listed}
 use Rattle.brl_cert.specs.declared.pair.CertPair.{CertPair}

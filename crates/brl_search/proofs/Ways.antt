@@ -4,7 +4,7 @@ use Rattle.std.proofs.lemmas.List.{reverse-append, reverse-reverse, append_cance
 use Rattle.std.proofs.lemmas.Option.{slice_get_within, slice_get_read}
 use Rattle.brl_pairs.specs.declared.step.Step.{Step}
 use Rattle.brl_cert.specs.declared.pair.CertPair.{CertPair}
-use Rattle.brl_pairs.specs.Runs.{Behaviour, IsListed, IsPath, KeepsLaws, cells_of, reads_of}
+use Rattle.brl_pairs.specs.Runs.{Behaviour, IsPath, KeepsLaws, cells_of, reads_of}
 use Rattle.brl_search.specs.declared.trail.StateOrigin.{StateOrigin}
 use Rattle.brl_search.specs.declared.trail.PairOrigin.{PairOrigin}
 use Rattle.brl_search.specs.declared.trail.Trail.{Trail}

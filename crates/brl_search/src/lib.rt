@@ -4,6 +4,8 @@
 
 mod edge;
 mod expanding;
+mod machine_search;
+mod outcome;
 mod pairs;
 mod states;
 mod stop;
@@ -12,6 +14,5 @@ mod trail;
 mod turns;
 mod work;
 
-pub use texts::Texts;
-pub use trail::Trail;
-pub use turns::find_all;
+pub use machine_search::search_machine;
+pub use outcome::Outcome;

@@ -54,7 +54,14 @@ fn way_to<M: Machine>(
     while state > 0 {
         let origin = trail.state_origins[state];
         let states = trail.states.as_slice();
-        push_reads(alloc, machine, states, origin.parent, origin.place, &mut text)?;
+        push_reads(
+            alloc,
+            machine,
+            states,
+            origin.parent,
+            origin.place,
+            &mut text,
+        )?;
         state = origin.parent;
     }
     Ok(text)

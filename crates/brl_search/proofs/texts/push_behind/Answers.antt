@@ -1,8 +1,7 @@
-use Rattle.std.proofs.Common.{◌≡◌, ◌++◌, List, length, Some, slice_get, get_or, reverse, refl, sym, ap, ◌∙◌, subst, arith}
+use Rattle.std.proofs.Common.{◌≡◌, List, length, get_or, sym, ap, ◌∙◌, subst, arith}
 use Rattle.std.proofs.lemmas.Option.{slice_get_within}
 use Rattle.std.proofs.lemmas.Result.{on_ok_weaker}
 use Rattle.brl_cert.specs.declared.pair.CertPair.{CertPair}
-use Rattle.brl_pairs.specs.declared.step.Step.{Step}
 use Rattle.brl_search.specs.Trail.{TakesStep}
 use Rattle.brl_search.specs.Ways.{HasStepAt}
 use Rattle.brl_search.proofs.Pushing.{read_at, same_place}
@@ -24,7 +23,7 @@ returns g c =
     let at = read_at c.as_slice.result.now c.args.trail.now.pairs c.args.pair c.index-as_slice-pair.result c.as_slice.ensures.members (omega (arith, within, ap length c.as_slice.ensures.members)) c.index-as_slice-pair.is in
     on_ok_weaker c.push_reads.result
     (λ put q x q_at taken.
-        (let same : q ≡ p = same_place c.args.trail.now.pairs c.args.pair q c.index-as_slice-pair.result q_at at ∙ c.index-as_slice-pair.is in
-        put x (subst (λ (xs : List g.row.M-State.Denot). TakesStep (g.M.Machine.behaviour c.args.machine.now) xs p.behind c.args.place x) (sym c.as_slice-2.ensures.members)
-        (subst (λ (r : CertPair). TakesStep (g.M.Machine.behaviour c.args.machine.now) c.args.trail.now.states r.behind c.args.place x) same taken))))
+    (let same : q ≡ p = same_place c.args.trail.now.pairs c.args.pair q c.index-as_slice-pair.result q_at at ∙ c.index-as_slice-pair.is in
+    put x (subst (λ (xs : List g.row.M-State.Denot). TakesStep (g.M.Machine.behaviour c.args.machine.now) xs p.behind c.args.place x) (sym c.as_slice-2.ensures.members)
+    (subst (λ (r : CertPair). TakesStep (g.M.Machine.behaviour c.args.machine.now) c.args.trail.now.states r.behind c.args.place x) same taken))))
     c.push_reads.ensures

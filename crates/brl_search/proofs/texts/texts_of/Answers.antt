@@ -1,8 +1,6 @@
-use Rattle.std.proofs.Common.{◌≡◌, ◌<◌, ◌++◌, ℕ, List, [], length, reverse, refl, sym, ap, ◌∙◌, subst, arith}
+use Rattle.std.proofs.Common.{subst, arith}
 use Rattle.std.proofs.lemmas.Option.{slice_get_within}
-use Rattle.brl_pairs.specs.declared.step.Step.{Step}
-use Rattle.brl_search.specs.Trail.{IsEarlier, IsPairOrigin, TakesStep}
-use Rattle.brl_search.specs.Ways.{GoesOn}
+use Rattle.brl_search.specs.Trail.{IsEarlier, IsPairOrigin}
 use Rattle.brl_search.proofs.Ways.{ends_go_on, pair_origin_of, split_goes_on, still_back, swapped_back}
 use Rattle.brl_search.proofs.texts.texts_of.Goals as goal
 

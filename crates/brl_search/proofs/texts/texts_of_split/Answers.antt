@@ -1,7 +1,6 @@
-use Rattle.std.proofs.Common.{◌≡◌, ◌++◌, ℕ, List, length, Some, slice_get, reverse, refl, sym, ap, ◌∙◌, subst, arith}
+use Rattle.std.proofs.Common.{◌≡◌, ◌++◌, ℕ, List, reverse, sym, ap, ◌∙◌, subst}
 use Rattle.std.proofs.lemmas.Option.{slice_get_within}
 use Rattle.brl_pairs.specs.declared.step.Step.{Step}
-use Rattle.brl_search.specs.Answers.{AreTwoPaths}
 use Rattle.brl_search.specs.Trail.{TakesStep}
 use Rattle.brl_search.specs.Ways.{HasStepAt}
 use Rattle.brl_search.proofs.Ways.{two_paths}
@@ -24,9 +23,9 @@ pub returns : goal.returns
 returns g c =
     let m = g.M.Machine.behaviour c.args.machine.now in
     let left : c.reverse.new.self.items ≡ reverse (c.push_reads.new.text.items ++ c.in_ok-way.way.items) =
-        c.reverse.ensures.items ∙ ap (λ (l : List ℕ). reverse l) (c.in_ok-extend_from_slice.ensures.items ∙ ap (λ (l : List ℕ). c.push_reads.new.text.items ++ l) c.as_slice.ensures.value) in
+    c.reverse.ensures.items ∙ ap (λ (l : List ℕ). reverse l) (c.in_ok-extend_from_slice.ensures.items ∙ ap (λ (l : List ℕ). c.push_reads.new.text.items ++ l) c.as_slice.ensures.value) in
     let right : c.reverse-2.new.self.items ≡ reverse (c.push_reads-2.new.text.items ++ c.in_ok-way.way.items) =
-        c.reverse-2.ensures.items ∙ ap (λ (l : List ℕ). reverse l) (c.in_ok-extend_from_slice-2.ensures.items ∙ ap (λ (l : List ℕ). c.push_reads-2.new.text.items ++ l) c.as_slice-2.ensures.value) in
+    c.reverse-2.ensures.items ∙ ap (λ (l : List ℕ). reverse l) (c.in_ok-extend_from_slice-2.ensures.items ∙ ap (λ (l : List ℕ). c.push_reads-2.new.text.items ++ l) c.as_slice-2.ensures.value) in
     rw (left, right)
     (two_paths m c.args.trail.now c.requires.traced c.requires.laws c.args.state c.args.longer c.args.shorter c.args.texts.left.items c.args.texts.right.items c.push_reads.new.text.items c.push_reads-2.new.text.items c.in_ok-way.way.items c.requires.goes_on c.in_ok-way.ensures
     (subst (λ (xs : List g.row.M-State.Denot). (x : Step g.row.M-State.Denot) → TakesStep (g.M.Machine.behaviour c.args.machine.now) xs c.args.state c.args.longer x → c.push_reads.new.text.items ≡ c.args.texts.left.items ++ reverse x.reads) c.as_slice-states.ensures.members c.in_ok-push_reads.ensures)

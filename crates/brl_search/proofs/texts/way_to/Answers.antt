@@ -1,4 +1,4 @@
-use Rattle.std.proofs.Common.{◌≡◌, ◌<◌, ◌++◌, reverse, ℕ, List, length, Some, slice_get, refl, sym, ap, ◌∙◌, subst, arith}
+use Rattle.std.proofs.Common.{◌≡◌, ◌++◌, reverse, List, sym, subst, arith}
 use Rattle.brl_pairs.specs.declared.step.Step.{Step}
 use Rattle.brl_search.specs.Trail.{TakesStep}
 use Rattle.brl_search.specs.Ways.{HasStepAt}

@@ -1,0 +1,12 @@
+use Rattle.brl_search.proofs.Reaching.{pairs_counted, states_counted}
+use Rattle.brl_search.proofs.machine_search.counts.Goals as goal
+
+pub returns : goal.returns
+returns g c =
+    let m = g.M.Machine.behaviour c.args.machine.now in
+    rw (c.as_slice.ensures.members, c.len.ensures)
+    (record {
+      passed = c.requires.passed;
+      states_reached = states_counted m c.args.trail.now c.requires.traced (g.M.State.PartialEq.eq) g.met.M.State.Eq.laws.refl c.as_slice.ensures.distinct;
+      pairs_reached = pairs_counted m c.args.trail.now c.requires.traced (g.M.State.PartialEq.eq) g.met.M.State.Eq.laws.refl c.as_slice.ensures.distinct;
+    })
