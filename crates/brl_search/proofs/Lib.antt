@@ -8,3 +8,4 @@ pub mod Ways
 pub mod Naming
 pub mod Closing
 pub mod Reaching
+pub mod Unknown

@@ -1,5 +1,6 @@
 pub mod Reached
 pub mod Answers
+pub mod Found
 pub mod Trail
 pub mod Edges
 pub mod Work

@@ -4,15 +4,19 @@
 
 mod edge;
 mod expanding;
+mod fault;
+mod found;
 mod machine_search;
 mod outcome;
 mod pairs;
 mod states;
 mod stop;
+mod table_search;
 mod texts;
 mod trail;
 mod turns;
 mod work;
 
-pub use machine_search::search_machine;
-pub use outcome::Outcome;
+pub use fault::SearchFault;
+pub use found::Found;
+pub use table_search::search;
