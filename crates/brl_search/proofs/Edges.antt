@@ -149,3 +149,11 @@ walked_more m xs ys ps qs states pairs number h = record {
   are_edges = edges_more m xs ys states h.pair.behind h.edges h.are_edges;
   moves = λ k e at. followed_more ps qs pairs h.pair.ahead h.pair.lead e (h.moves k e at);
 }
+
+-- each edge has a cell
+pub some_cells_of : {S : Type 0} (m : Behaviour S) → KeepsLaws m → (states : List S) (number : ℕ) (edges : List Edge) → AreEdges m states number edges → (place : ℕ) (e : Edge) → slice_get edges place ≡ Some e → 1 ≤ length e.cells
+some_cells_of m laws states number edges h place e at =
+    let x = step_of m laws states number edges h place e at in
+    let some = (laws.good_steps x.taken.state x.step (place, x.taken.listed)).some_cells in
+    let same : length e.cells ≡ length x.step.cells = ap length x.is_edge.cells in
+    omega arith

@@ -3,5 +3,6 @@ pub mod Answers
 pub mod Found
 pub mod Trail
 pub mod Edges
+pub mod Alike
 pub mod Work
 pub mod Ways

@@ -1,9 +1,11 @@
 //! Expanding states, and walking pairs.
 ghost use Rattle.std.specs.Prelude.{◌≡◌, ◌<◌, ℕ, length, IfErr, IfOk, OnOk, Some, slice_get};
+ghost use Rattle.brl_search.specs.Alike.{ArePlacesBefore};
 ghost use Rattle.brl_search.specs.Edges.{AreEdges, IsExpanded, IsFollowed, IsWalked};
 ghost use Rattle.brl_search.specs.Trail.{Grows, IsKept, IsStopped};
 ghost use Rattle.brl_search.specs.declared.edge.Edge.{Edge as EdgeValue};
 
+use crate::alike::places_before;
 use crate::edge::Edge;
 use crate::pairs::follow;
 use crate::states::find_edges;
@@ -13,28 +15,32 @@ use brl_cert::CertPair;
 use brl_pairs::Machine;
 use std::alloc::{AllocError, Global};
 
-/// Adds the splits of one step of a state with each later one.
+/// Adds the splits of one step of a state with each earlier one whose cells begin alike.
 fn find_splits_of<M: Machine>(
     alloc: Global,
     machine: &M,
     trail: &mut Trail<M::State>,
     number: usize,
     edges: &[Edge],
-    first: usize,
+    before: &[usize],
+    second: usize,
 ) -> Result<(), Stop>
     requires kept { IsKept (M.behaviour machine.now) trail.old }
     requires edges { AreEdges (M.behaviour machine.now) trail.old.states number edges.now }
-    requires within { first < length edges.now }
-    ensures followed { OnOk result ((j : ℕ) (x y : EdgeValue) → first < j → slice_get edges.now first ≡ Some x
-        → slice_get edges.now j ≡ Some y → IsFollowed trail.new.pairs x.next x.cells y) }
+    requires before { ArePlacesBefore edges.now before.now }
+    requires within { second < length edges.now }
+    ensures followed { OnOk result ((i : ℕ) (x y : EdgeValue) → i < second → slice_get edges.now i ≡ Some x
+        → slice_get edges.now second ≡ Some y → IsFollowed trail.new.pairs x.next x.cells y) }
     ensures kept { OnOk result (IsKept (M.behaviour machine.now) trail.new) }
     ensures grows { OnOk result (Grows trail.old trail.new) }
     ensures states { trail.new.states ≡ trail.old.states }
     ensures stopped { IfErr result (IsStopped (M.behaviour machine.now) trail.new) }
     ensures limit { trail.new.limit ≡ trail.old.limit }
 {
-    let ahead = &edges[first];
-    for second in first + 1..edges.len() {
+    let later = &edges[second];
+    let mut place = before[second];
+    while place > 0 {
+        let first = place - 1;
         let origins = Origins {
             still: PairOrigin::Split {
                 state: number,
@@ -47,21 +53,15 @@ fn find_splits_of<M: Machine>(
                 shorter: first,
             },
         };
+        let ahead = &edges[first];
         let lead = ahead.cells.as_slice();
-        follow(
-            alloc,
-            machine,
-            trail,
-            ahead.next,
-            lead,
-            &edges[second],
-            origins,
-        )?;
+        follow(alloc, machine, trail, ahead.next, lead, later, origins)?;
+        place = before[first];
     }
     Ok(())
 }
 
-/// Adds the splits of a state.
+/// Adds the splits of a state: of two steps each, whose cells begin with the same cell.
 fn find_splits<M: Machine>(
     alloc: Global,
     machine: &M,
@@ -78,8 +78,17 @@ fn find_splits<M: Machine>(
     ensures stopped { IfErr result (IsStopped (M.behaviour machine.now) trail.new) }
     ensures limit { trail.new.limit ≡ trail.old.limit }
 {
-    for first in 0..edges.len() {
-        find_splits_of(alloc, machine, trail, number, edges, first)?;
+    let before = places_before(alloc, edges)?;
+    for second in 0..edges.len() {
+        find_splits_of(
+            alloc,
+            machine,
+            trail,
+            number,
+            edges,
+            before.as_slice(),
+            second,
+        )?;
     }
     Ok(())
 }

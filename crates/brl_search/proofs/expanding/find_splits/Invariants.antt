@@ -4,10 +4,10 @@ use Rattle.brl_search.specs.Edges.{IsFollowed}
 use Rattle.brl_search.specs.Trail.{Grows, IsKept}
 use Rattle.brl_search.proofs.expanding.find_splits.Given as goal
 
-abbrev pub invariant-loop-first : goal.invariant-loop-first
-invariant-loop-first g l = record {
+abbrev pub invariant-loop-second : goal.invariant-loop-second
+invariant-loop-second g l = record {
   kept : IsKept (g.M.Machine.behaviour l.machine) l.trail;
   grows : Grows l.fn.trail l.trail;
   states : l.trail.states ≡ l.fn.trail.states;
-  followed : (i j : ℕ) (x y : Edge) → i < l.first → i < j → slice_get l.edges i ≡ Some x → slice_get l.edges j ≡ Some y → IsFollowed l.trail.pairs x.next x.cells y;
+  followed : (i j : ℕ) (x y : Edge) → i < j → j < l.second → slice_get l.edges i ≡ Some x → slice_get l.edges j ≡ Some y → IsFollowed l.trail.pairs x.next x.cells y;
 }

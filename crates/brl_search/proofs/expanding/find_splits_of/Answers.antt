@@ -1,51 +1,97 @@
-use Rattle.std.proofs.Common.{◌≡◌, ◌<◌, ℕ, List, length, slice_get, inl, inr, refl, sym, ap, ◌∙◌, subst, arith}
+use Rattle.std.proofs.Common.{◌≡◌, ◌≢◌, ◌-◌, ◌<◌, ◌⊎◌, ℕ, List, length, get_or, slice_get, inl, inr, refl, sym, ap, ◌∙◌, subst, arith}
 use Rattle.std.proofs.lemmas.Bool.{cases_eq}
-use Rattle.std.proofs.lemmas.Option.{slice_get_within}
+use Rattle.std.proofs.lemmas.Option.{slice_get-get_or}
+use Rattle.brl_search.specs.Alike.{first_of}
 use Rattle.brl_search.specs.declared.edge.Edge.{Edge}
 use Rattle.brl_search.specs.declared.trail.PairOrigin.TheVariants.{Split}
 use Rattle.brl_search.specs.Edges.{AreEdges, Explains, FitsFollowing, IsFollowed}
-use Rattle.brl_search.proofs.Edges.{fits_splitting, explains_split}
+use Rattle.brl_search.proofs.AlikeLaws.{apart_followed}
+use Rattle.brl_search.proofs.Edges.{fits_splitting, explains_split, some_cells_of}
 use Rattle.brl_search.proofs.Pushing.{read_at, same_place}
 use Rattle.brl_search.proofs.There.{followed_more}
-use Rattle.brl_search.proofs.Tracing.{grows_trans}
+use Rattle.brl_search.proofs.Tracing.{grows_refl, grows_trans}
 use Rattle.brl_search.proofs.expanding.find_splits_of.Goals as goal
+
+pub loop-place-init : goal.loop-place-init
+loop-place-init g c =
+    let m = g.M.Machine.behaviour c.args.machine.now in
+    let y = c.index-edges-second.result in
+    let y_at = read_at c.args.edges.now c.args.edges.now c.args.second y refl c.requires.within c.index-edges-second.is in
+    let many = c.requires.before.count in
+    let last = c.requires.before.each c.args.second (get_or c.args.before.now c.args.second 0) y y_at (slice_get-get_or c.args.before.now c.args.second 0 (omega (arith, many, c.requires.within))) in
+    record {
+      kept = c.requires.kept;
+      grows = grows_refl c.args.trail.now;
+      states = refl;
+      low = last.before;
+      alike = last.alike;
+      followed = λ i x low high x_at. apart_followed c.args.trail.now.pairs x y
+          (some_cells_of m c.requires.kept.laws c.args.trail.now.states c.args.number c.args.edges.now c.requires.edges i x x_at)
+          (some_cells_of m c.requires.kept.laws c.args.trail.now.states c.args.number c.args.edges.now c.requires.edges c.args.second y y_at)
+          (last.others i x low high x_at);
+    }
 
 pub follow-requires-clause-fits : goal.follow-requires-clause-fits
 follow-requires-clause-fits g c =
-    let edges = subst (λ (xs : List g.row.M-State.Denot). AreEdges (g.M.Machine.behaviour c.args.machine.now) xs c.args.number c.args.edges.now) (sym c.loop-second.invariant.states) c.requires.edges in
-    let x_at = read_at c.args.edges.now c.args.edges.now c.args.first c.index-edges-first.result refl c.requires.within c.index-edges-first.is in
-    let y_at = read_at c.args.edges.now c.args.edges.now c.loop-second.second c.index-edges-second.result refl (omega arith) c.index-edges-second.is in
-    subst (λ (cells : List ℕ). FitsFollowing (length c.loop-second.trail.states) c.index-edges-first.result.next cells c.index-edges-second.result) (sym c.as_slice-lead.ensures)
-    (fits_splitting (g.M.Machine.behaviour c.args.machine.now) c.requires.kept.laws c.loop-second.trail.states c.args.number c.args.edges.now edges c.args.first c.loop-second.second c.index-edges-first.result c.index-edges-second.result x_at y_at)
+    let edges = subst (λ (xs : List g.row.M-State.Denot). AreEdges (g.M.Machine.behaviour c.args.machine.now) xs c.args.number c.args.edges.now) (sym c.loop-place.invariant.states) c.requires.edges in
+    let y_at = read_at c.args.edges.now c.args.edges.now c.args.second c.index-edges-second.result refl c.requires.within c.index-edges-second.is in
+    let x_at = read_at c.args.edges.now c.args.edges.now (c.loop-place.place - 1) c.index-edges-first.result refl (omega (arith, c.loop-place.invariant.low, c.requires.within)) c.index-edges-first.is in
+    subst (λ (cells : List ℕ). FitsFollowing (length c.loop-place.trail.states) c.index-edges-first.result.next cells c.index-edges-second.result) (sym c.as_slice-lead.ensures)
+    (fits_splitting (g.M.Machine.behaviour c.args.machine.now) c.requires.kept.laws c.loop-place.trail.states c.args.number c.args.edges.now edges (c.loop-place.place - 1) c.args.second c.index-edges-first.result c.index-edges-second.result x_at y_at)
 
 pub follow-requires-clause-explained : goal.follow-requires-clause-explained
 follow-requires-clause-explained g c =
-    let edges = subst (λ (xs : List g.row.M-State.Denot). AreEdges (g.M.Machine.behaviour c.args.machine.now) xs c.args.number c.args.edges.now) (sym c.loop-second.invariant.states) c.requires.edges in
-    let x_at = read_at c.args.edges.now c.args.edges.now c.args.first c.index-edges-first.result refl c.requires.within c.index-edges-first.is in
-    let y_at = read_at c.args.edges.now c.args.edges.now c.loop-second.second c.index-edges-second.result refl (omega arith) c.index-edges-second.is in
-    subst (λ (cells : List ℕ). Explains (g.M.Machine.behaviour c.args.machine.now) c.loop-second.trail.states c.loop-second.trail.pairs c.index-edges-first.result.next cells c.index-edges-second.result (record { still = Split c.args.number c.args.first c.loop-second.second; swapped = Split c.args.number c.loop-second.second c.args.first })) (sym c.as_slice-lead.ensures)
-    (explains_split (g.M.Machine.behaviour c.args.machine.now) c.requires.kept.laws c.loop-second.trail.states c.loop-second.trail.pairs c.args.number c.args.edges.now edges c.args.first c.loop-second.second c.index-edges-first.result c.index-edges-second.result (omega arith) x_at y_at)
+    let edges = subst (λ (xs : List g.row.M-State.Denot). AreEdges (g.M.Machine.behaviour c.args.machine.now) xs c.args.number c.args.edges.now) (sym c.loop-place.invariant.states) c.requires.edges in
+    let y_at = read_at c.args.edges.now c.args.edges.now c.args.second c.index-edges-second.result refl c.requires.within c.index-edges-second.is in
+    let x_at = read_at c.args.edges.now c.args.edges.now (c.loop-place.place - 1) c.index-edges-first.result refl (omega (arith, c.loop-place.invariant.low, c.requires.within)) c.index-edges-first.is in
+    subst (λ (cells : List ℕ). Explains (g.M.Machine.behaviour c.args.machine.now) c.loop-place.trail.states c.loop-place.trail.pairs c.index-edges-first.result.next cells c.index-edges-second.result (record { still = Split c.args.number (c.loop-place.place - 1) c.args.second; swapped = Split c.args.number c.args.second (c.loop-place.place - 1) })) (sym c.as_slice-lead.ensures)
+    (explains_split (g.M.Machine.behaviour c.args.machine.now) c.requires.kept.laws c.loop-place.trail.states c.loop-place.trail.pairs c.args.number c.args.edges.now edges (c.loop-place.place - 1) c.args.second c.index-edges-first.result c.index-edges-second.result (omega (arith, c.loop-place.invariant.low)) x_at y_at)
 
-pub loop-second-preserved : goal.loop-second-preserved
-loop-second-preserved g c =
-    let y_at = read_at c.args.edges.now c.args.edges.now c.loop-second.second c.index-edges-second.result refl (omega arith) c.index-edges-second.is in
+pub loop-place-smaller : goal.loop-place-smaller
+loop-place-smaller g c =
+    let many = c.requires.before.count in
+    let x_at = read_at c.args.edges.now c.args.edges.now (c.loop-place.place - 1) c.index-edges-first.result refl (omega (arith, c.loop-place.invariant.low, c.requires.within)) c.index-edges-first.is in
+    let last = c.requires.before.each (c.loop-place.place - 1) (get_or c.args.before.now (c.loop-place.place - 1) 0) c.index-edges-first.result x_at (slice_get-get_or c.args.before.now (c.loop-place.place - 1) 0 (omega (arith, many, c.loop-place.invariant.low, c.requires.within))) in
+    omega (arith, last.before)
+
+pub loop-place-preserved : goal.loop-place-preserved
+loop-place-preserved g c =
+    let m = g.M.Machine.behaviour c.args.machine.now in
+    let first = c.loop-place.place - 1 in
+    let e = c.index-edges-first.result in
+    let y = c.index-edges-second.result in
+    let many = c.requires.before.count in
+    let y_at = read_at c.args.edges.now c.args.edges.now c.args.second y refl c.requires.within c.index-edges-second.is in
+    let e_at = read_at c.args.edges.now c.args.edges.now first e refl (omega (arith, c.loop-place.invariant.low, c.requires.within)) c.index-edges-first.is in
+    let last = c.requires.before.each first (get_or c.args.before.now first 0) e e_at (slice_get-get_or c.args.before.now first 0 (omega (arith, many, c.loop-place.invariant.low, c.requires.within))) in
+    let alike : first_of e.cells ≡ first_of y.cells = c.loop-place.invariant.alike first e (omega arith) e_at in
     record {
       kept = c.in_ok-follow.ensures.kept;
-      grows = grows_trans c.args.trail.now c.loop-second.trail c.follow.new.trail c.loop-second.invariant.grows c.in_ok-follow.ensures.grows;
-      states = c.follow.ensures.states ∙ c.loop-second.invariant.states;
-      followed = λ j y above below y'_at. elim (cases_eq j c.loop-second.second) [
+      grows = grows_trans c.args.trail.now c.loop-place.trail c.follow.new.trail c.loop-place.invariant.grows c.in_ok-follow.ensures.grows;
+      states = c.follow.ensures.states ∙ c.loop-place.invariant.states;
+      low = omega (arith, last.before, c.loop-place.invariant.low);
+      alike = λ k f is f_at. last.alike k f is f_at ∙ alike;
+      followed = λ i x low high x_at. elim (cases_eq i first) [
         | inl here ↦ (
-            let same : c.index-edges-second.result ≡ y = same_place c.args.edges.now c.loop-second.second c.index-edges-second.result y y_at (ap (slice_get c.args.edges.now) (sym here) ∙ y'_at) in
-            subst (IsFollowed c.follow.new.trail.pairs c.index-edges-first.result.next c.index-edges-first.result.cells) same
-            (subst (λ (cells : List ℕ). IsFollowed c.follow.new.trail.pairs c.index-edges-first.result.next cells c.index-edges-second.result) c.as_slice-lead.ensures c.in_ok-follow.ensures.followed))
-        | inr other ↦ followed_more c.loop-second.trail.pairs c.follow.new.trail.pairs c.in_ok-follow.ensures.grows.pairs c.index-edges-first.result.next c.index-edges-first.result.cells y
-            (c.loop-second.invariant.followed j y above (omega arith) y'_at)
+            let same : e ≡ x = same_place c.args.edges.now first e x e_at (ap (slice_get c.args.edges.now) (sym here) ∙ x_at) in
+            subst (λ (z : Edge). IsFollowed c.follow.new.trail.pairs z.next z.cells y) same
+            (subst (λ (cells : List ℕ). IsFollowed c.follow.new.trail.pairs e.next cells y) c.as_slice-lead.ensures c.in_ok-follow.ensures.followed))
+        | inr other ↦ elim (below_or_above i first other) [
+          | inl before ↦ apart_followed c.follow.new.trail.pairs x y
+              (some_cells_of m c.requires.kept.laws c.args.trail.now.states c.args.number c.args.edges.now c.requires.edges i x x_at)
+              (some_cells_of m c.requires.kept.laws c.args.trail.now.states c.args.number c.args.edges.now c.requires.edges c.args.second y y_at)
+              (λ same. last.others i x low before x_at (same ∙ sym alike))
+          | inr after ↦ followed_more c.loop-place.trail.pairs c.follow.new.trail.pairs c.in_ok-follow.ensures.grows.pairs x.next x.cells y
+              (c.loop-place.invariant.followed i x (omega (arith, after)) high x_at)
+        ]
       ];
     }
+  where
+    below_or_above : (i k : ℕ) → i ≢ k → (i < k) ⊎ (k < i)
+    below_or_above i k apart = grind arith
 
 pub returns-clause-followed : goal.returns-clause-followed
-returns-clause-followed g c j x y above x_at y_at =
-    let first_at = read_at c.args.edges.now c.args.edges.now c.args.first c.index-edges-first.result refl c.requires.within c.index-edges-first.is in
-    let same : c.index-edges-first.result ≡ x = same_place c.args.edges.now c.args.first c.index-edges-first.result x first_at x_at in
-    subst (λ (e : Edge). IsFollowed c.loop-second.trail.pairs e.next e.cells y) same
-    (c.loop-second.invariant.followed j y above (let within : j < length c.args.edges.now = slice_get_within c.args.edges.now j y y_at in omega arith) y_at)
+returns-clause-followed g c i x y less x_at y_at =
+    let later_at = read_at c.args.edges.now c.args.edges.now c.args.second c.index-edges-second.result refl c.requires.within c.index-edges-second.is in
+    let same : c.index-edges-second.result ≡ y = same_place c.args.edges.now c.args.second c.index-edges-second.result y later_at y_at in
+    subst (IsFollowed c.loop-place.trail.pairs x.next x.cells) same (c.loop-place.invariant.followed i x (omega arith) less x_at)

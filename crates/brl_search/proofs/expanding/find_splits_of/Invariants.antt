@@ -1,13 +1,19 @@
-use Rattle.std.proofs.Common.{◌≡◌, ◌<◌, ℕ, Some, slice_get}
+use Rattle.std.proofs.Common.{◌≡◌, ◌+◌, ◌<◌, ◌≤◌, ℕ, Some, slice_get}
+use Rattle.brl_search.specs.Alike.{first_of}
 use Rattle.brl_search.specs.declared.edge.Edge.{Edge}
 use Rattle.brl_search.specs.Edges.{IsFollowed}
 use Rattle.brl_search.specs.Trail.{Grows, IsKept}
 use Rattle.brl_search.proofs.expanding.find_splits_of.Given as goal
 
-abbrev pub invariant-loop-second : goal.invariant-loop-second
-invariant-loop-second g l = record {
+abbrev pub invariant-loop-place : goal.invariant-loop-place
+invariant-loop-place g l = record {
   kept : IsKept (g.M.Machine.behaviour l.machine) l.trail;
   grows : Grows l.fn.trail l.trail;
   states : l.trail.states ≡ l.fn.trail.states;
-  followed : (j : ℕ) (y : Edge) → l.first < j → j < l.second → slice_get l.edges j ≡ Some y → IsFollowed l.trail.pairs l.ahead.next l.ahead.cells y;
+  low : l.place ≤ l.second;
+  alike : (k : ℕ) (e : Edge) → l.place ≡ k + 1 → slice_get l.edges k ≡ Some e → first_of e.cells ≡ first_of l.later.cells;
+  followed : (i : ℕ) (x : Edge) → l.place ≤ i → i < l.second → slice_get l.edges i ≡ Some x → IsFollowed l.trail.pairs x.next x.cells l.later;
 }
+
+abbrev pub decreases-loop-place : goal.decreases-loop-place
+decreases-loop-place g l = l.place

@@ -1,0 +1,31 @@
+//! Steps whose cells begin with the same cell. Only these can split.
+ghost use Rattle.std.specs.Prelude.{◌≡◌, ◌<◌, IfOk};
+ghost use Rattle.brl_search.specs.Alike.{ArePlacesBefore, first_of};
+
+use crate::edge::Edge;
+use std::alloc::{AllocError, Global};
+
+/// The number of the cell that an edge's cells begin with; 0 where it has none.
+fn first_cell(edge: &Edge) -> usize
+    ensures first { result ≡ first_of edge.now.cells }
+    ensures small { result < 256 }
+{
+    match edge.cells.as_slice().first() {
+        Some(cell) => cell.0 as usize,
+        None => 0,
+    }
+}
+
+/// For each edge one more than the last place before it where the cells begin with the same cell, and 0 where there is none.
+pub fn places_before(alloc: Global, edges: &[Edge]) -> Result<Vec<usize>, AllocError>
+    ensures { IfOk result (λ before. ArePlacesBefore edges.now before.items) }
+{
+    let mut latest = vec![in alloc; 0usize; 256]?;
+    let mut before = Vec::new(alloc);
+    for (place, edge) in edges.iter().enumerate() {
+        let cell = first_cell(edge);
+        before.push(latest[cell])?;
+        latest[cell] = place + 1;
+    }
+    Ok(before)
+}
