@@ -21,3 +21,6 @@ mod work;
 pub use fault::SearchFault;
 pub use found::Found;
 pub use table_search::search;
+
+#[cfg(test)]
+mod tests;
