@@ -4,7 +4,7 @@ use Rattle.std.proofs.lemmas.List.{append-nil}
 use Rattle.std.proofs.lemmas.Option.{slice_get_read}
 use Rattle.brl_accept.specs.Least.{IsLeastFound, IsLeastPairFound}
 use Rattle.brl_accept.specs.Refusals.{HasTwoEnds, LosesMove, LosesSplit, LosesStep}
-use Rattle.brl_accept.specs.Sets.{pair_at, sets_of}
+use Rattle.brl_cert.specs.Sets.{pair_at, sets_of}
 use Rattle.brl_accept.specs.Steps.{HasOfRule, HasOfRules, LosesPair, runs}
 use Rattle.brl_accept.proofs.LeastLaws.{same_least, same_least_pair}
 use Rattle.brl_cert.specs.Lines.{BodyView}

@@ -2,7 +2,7 @@
 use Rattle.std.proofs.Common.{◌≡◌, ◌≢◌, ℕ, ◌<◌, inl, inr, length, min, max, Bool, true, Option, Some, None, slice_get, refl}
 use Rattle.std.proofs.lemmas.Option.{slice_get_within}
 use Rattle.brl_accept.specs.Refusals.{HasStart, HasTwoEnds, IsRefused, KeepsMoves, KeepsSplits, KeepsSteps, LosesMove, LosesSplit, LosesStep}
-use Rattle.brl_accept.specs.Sets.{pair_at, pair_of, sets_of}
+use Rattle.brl_cert.specs.Sets.{pair_at, pair_of, sets_of}
 use Rattle.brl_accept.specs.declared.accept_fault.AcceptFault.{AcceptFault}
 use Rattle.brl_accept.specs.declared.accept_fault.AcceptFault.TheVariants.{NoStart, StateMissing, SplitMissing, PairMissing, BothEnd, Memory}
 use Rattle.brl_accept.proofs.Deciding.{has_state_or, has_pair_or}

@@ -2,7 +2,7 @@
 use Rattle.std.proofs.Common.{◌≡◌, ℕ, zero, suc, Bool, true, false, List, [], ◌∷◌, ◌⊎◌, inl, inr, Option, Some, None, slice_get, refl, sym, ◌∙◌, ap, subst, true≢false}
 use Rattle.std.proofs.lemmas.Slice.Eq.{bytes_eq-Decides}
 use Rattle.std.specs.Str.{bytes_eq}
-use Rattle.brl_accept.specs.Sets.{pair_of, sets_of}
+use Rattle.brl_cert.specs.Sets.{pair_of, sets_of}
 use Rattle.brl_cert.specs.Fields.{◌>>=◌}
 use Rattle.brl_cert.specs.Lines.{BodyView}
 use Rattle.brl_pairs.specs.Pairs.{HasPair, turned}

@@ -1,7 +1,7 @@
 -- Why a certificate is refused: what is missing for its sets to be closed. The project's own choice.
 use Rattle.std.specs.Prelude.{ℕ, ◌≡◌, IsTrue, [], min, max, Some, slice_get}
 use Rattle.brl_accept.specs.Least.{IsLeast}
-use Rattle.brl_accept.specs.Sets.{pair_at, sets_of}
+use Rattle.brl_cert.specs.Sets.{pair_at, sets_of}
 use Rattle.brl_accept.specs.declared.accept_fault.AcceptFault.{AcceptFault}
 use Rattle.brl_accept.specs.declared.accept_fault.AcceptFault.TheVariants.{NoStart, StateMissing, SplitMissing, PairMissing, BothEnd, Memory}
 use Rattle.brl_cert.specs.Lines.{BodyView}

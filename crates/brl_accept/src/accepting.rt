@@ -1,7 +1,7 @@
 //! Accepting a certificate.
 ghost use Rattle.std.specs.Prelude.{◌≡◌, ◌≢◌, ℕ, IfErr, IfOk, OnOk, length};
 ghost use Rattle.brl_accept.specs.Refusals.{HasStart, HasTwoEnds, IsRefused, KeepsMoves, KeepsSplits, KeepsSteps};
-ghost use Rattle.brl_accept.specs.Sets.{sets_of};
+ghost use Rattle.brl_cert.specs.Sets.{sets_of};
 ghost use Rattle.brl_cert.specs.Views.{listed};
 ghost use Rattle.brl_pairs.specs.Pairs.{IsClosed};
 ghost use Rattle.brl_pairs.specs.Runs.{IsUnambiguous, KeepsLaws};

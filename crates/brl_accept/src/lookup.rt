@@ -1,6 +1,6 @@
 //! Looking states and pairs up in a certificate.
 ghost use Rattle.std.specs.Prelude.{◌≡◌, ◌↔◌, ℕ, IfOk, IfSome, IsTrue, Some, length, slice_get};
-ghost use Rattle.brl_accept.specs.Sets.{sets_of};
+ghost use Rattle.brl_cert.specs.Sets.{sets_of};
 ghost use Rattle.brl_accept.specs.Steps.{IsAmong, IsAmongEither, LosesPair, numbers, runs};
 ghost use Rattle.brl_cert.specs.Range.{IsPairOf};
 ghost use Rattle.brl_cert.specs.Views.{listed};

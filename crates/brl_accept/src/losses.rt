@@ -2,7 +2,7 @@
 ghost use Rattle.std.specs.Prelude.{◌≡◌, ◌<◌, ◌↔◌, [], IfOk, IsTrue, length};
 ghost use Rattle.brl_accept.specs.Least.{IsLeastFound, IsLeastPairFound, lesser_of};
 ghost use Rattle.brl_accept.specs.Refusals.{HasTwoEnds, LosesMove, LosesSplit, LosesStep};
-ghost use Rattle.brl_accept.specs.Sets.{sets_of};
+ghost use Rattle.brl_cert.specs.Sets.{sets_of};
 ghost use Rattle.brl_accept.specs.Steps.{HasOfRule, HasOfRules, LosesPair};
 ghost use Rattle.brl_cert.specs.Views.{listed as body_of};
 ghost use Rattle.brl_pairs.specs.Runs.{IsInOrder, KeepsLaws};

@@ -1,6 +1,6 @@
 use Rattle.std.proofs.Common.{slice_get}
 use Rattle.std.proofs.lemmas.Result.{err_from_is_err_and}
-use Rattle.brl_accept.specs.Sets.{pair_at}
+use Rattle.brl_cert.specs.Sets.{pair_at}
 use Rattle.brl_accept.proofs.Closing.{open_where_refused}
 use Rattle.brl_cert.specs.Views.{listed}
 use Rattle.brl_accept.proofs.accepting.accept.Goals as goal

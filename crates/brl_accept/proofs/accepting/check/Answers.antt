@@ -1,6 +1,6 @@
 use Rattle.std.proofs.Common.{subst}
 use Rattle.std.proofs.lemmas.Result.{on_ok_weaker}
-use Rattle.brl_accept.specs.Sets.{sets_of}
+use Rattle.brl_cert.specs.Sets.{sets_of}
 use Rattle.brl_accept.proofs.Closing.{closed_where_kept}
 use Rattle.brl_cert.specs.Views.{listed}
 use Rattle.brl_accept.proofs.accepting.check.Goals as goal

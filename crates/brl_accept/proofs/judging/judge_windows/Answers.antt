@@ -1,7 +1,7 @@
 use Rattle.std.proofs.Common.{subst}
 use Rattle.std.proofs.lemmas.Result.{err_from_is_err_and}
 use Rattle.brl_accept.specs.Refusals.{IsRefused}
-use Rattle.brl_accept.specs.Sets.{sets_of}
+use Rattle.brl_cert.specs.Sets.{sets_of}
 use Rattle.brl_accept.proofs.Judged.{refused_with}
 use Rattle.brl_cert.specs.Views.{listed}
 use Rattle.brl_pairs.specs.Pairs.{IsClosed}

@@ -1,5 +1,5 @@
 use Rattle.std.proofs.Common.{refl}
-use Rattle.brl_accept.specs.Sets.{sets_of}
+use Rattle.brl_cert.specs.Sets.{sets_of}
 use Rattle.brl_accept.specs.Steps.{runs}
 use Rattle.brl_accept.proofs.Losing.{lost_where}
 use Rattle.brl_cert.specs.Views.{listed}

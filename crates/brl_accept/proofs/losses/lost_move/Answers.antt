@@ -1,5 +1,5 @@
 use Rattle.std.proofs.Common.{arith}
-use Rattle.brl_accept.specs.Sets.{sets_of}
+use Rattle.brl_cert.specs.Sets.{sets_of}
 use Rattle.brl_accept.specs.Steps.{LosesPair}
 use Rattle.brl_accept.proofs.OfRule.{refuted, none_more, none_at_all, least_found}
 use Rattle.brl_cert.specs.Views.{listed as body_of}

@@ -1,6 +1,6 @@
 use Rattle.std.proofs.Common.{◌+◌, ◌-◌, ℕ, List, length, take, drop, subst, arith, rules}
 use Rattle.brl_accept.specs.Least.{IsLeastFound}
-use Rattle.brl_accept.specs.Sets.{sets_of}
+use Rattle.brl_cert.specs.Sets.{sets_of}
 use Rattle.brl_accept.specs.Steps.{HasOfRule, LosesPair}
 use Rattle.brl_accept.proofs.Splitting.{split_turn, split_all}
 use Rattle.brl_cert.specs.Views.{listed as body_of}

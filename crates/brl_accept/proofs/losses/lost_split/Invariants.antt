@@ -1,5 +1,5 @@
 use Rattle.brl_accept.specs.Least.{IsLeastPairFound}
-use Rattle.brl_accept.specs.Sets.{sets_of}
+use Rattle.brl_cert.specs.Sets.{sets_of}
 use Rattle.brl_accept.specs.Steps.{LosesPair}
 use Rattle.brl_accept.proofs.Splitting.{HasBelow}
 use Rattle.brl_cert.specs.Views.{listed as body_of}

@@ -1,4 +1,4 @@
-use Rattle.brl_accept.specs.Sets.{sets_of}
+use Rattle.brl_cert.specs.Sets.{sets_of}
 use Rattle.brl_accept.proofs.OfRule.{NoneBelow}
 use Rattle.brl_cert.specs.Views.{listed as body_of}
 use Rattle.brl_accept.proofs.losses.lost_step.Given as goal
