@@ -14,10 +14,6 @@ module _ {T : Type 0} {eq : T → T → Bool} (same : (x y : T) → eq x y ≡ t
       let at : (x : T) × (slice_get xs k ≡ Some x) × (eq v x ≡ true) = subst (λ (o : Option ℕ). IfSome o (λ j. (x : T) × (slice_get xs j ≡ Some x) × (eq v x ≡ true))) e found in
       at.1 ∙ ap (λ (x : T). Some x) (sym (same v at.0 at.2))
 
-  pub numbers_member : (r : Option ℕ) → IfSome r (λ k. (x : T) × (slice_get xs k ≡ Some x) × (eq v x ≡ true)) → IfSome r (λ k. slice_get xs k ≡ Some v)
-  numbers_member None found = tt
-  numbers_member (Some k) found = member_at (Some k) found k refl
-
   pub number_of : (r : Option ℕ) → ((k : ℕ) (x : T) → slice_get xs k ≡ Some x → eq v x ≡ true → r ≡ Some k) → (k : ℕ) → slice_get xs k ≡ Some v → r ≡ Some k
   number_of r at k e = at k v e (itself v)
 

@@ -7,7 +7,7 @@ use Rattle.std.proofs.lemmas.List.{take_rest}
 use Rattle.brl_accept.proofs.LeastLaws.{least_of_both, same_least_pair, with_first}
 use Rattle.brl_accept.specs.Least.{IsLeastFound, IsLeastPairFound, lesser_of}
 use Rattle.brl_accept.specs.Steps.{HasOfRule, HasOfRules}
-use Rattle.brl_pairs.specs.Runs.{IsInOrder, IsListedAt}
+use Rattle.brl_pairs.specs.Runs.{IsListedAt}
 use Rattle.brl_pairs.specs.declared.step.Step.{Step}
 
 slice_get-drop : {X : Type 0} (xs : List X) (n m : ℕ) → slice_get (drop n xs) m ≡ slice_get xs (n + m)
@@ -19,18 +19,11 @@ slice_get-drop (x ∷ xs) (suc n) m =
     rest ∙ ap (slice_get (x ∷ xs)) e
 
 module _ {S : Type 0} where
-  -- the rest of steps in order is in order
-  pub rest_in_order : (listed : List (Step S)) (n : ℕ) → IsInOrder listed → IsInOrder (drop n listed)
-  rest_in_order listed n in_order i j x y lt x_at y_at = in_order (n + i) (n + j) x y (omega arith) (sym (slice_get-drop listed n i) ∙ x_at) (sym (slice_get-drop listed n j) ∙ y_at)
-
   module _ (Has : Step S → Step S → Type 0) (listed : List (Step S)) where
     -- two steps of these rules have the property, and the earlier one stands below this place
     pub record HasBelow (n first second : ℕ) : Type 0 where
       pub both : HasOfRules Has listed first second
       pub early : both.i < n
-
-    pub none_below : (first second : ℕ) → HasBelow 0 first second → ⊥
-    none_below first second h = (let lt : h.both.i < 0 = h.early in absurd (omega arith))
 
     -- one place more: those below it, and those whose earlier step stands there
     one_place : (n : ℕ) (x : Step S) → IsListedAt listed n x → (first second : ℕ)
