@@ -184,6 +184,43 @@ expect 'a blank that is not defined' 2 '' 'F1 UnknownChar 2 at line 1\n'
 translate capitals.ctb 'Ab\naB\n'
 expect 'capitals with a rule' 0 ',C\nA,B\n' ''
 
+printf 'uplow Aa 1\n' >capitals.ctb
+clash capitals.ctb A a
+expect 'capitals without a sign' 1 'left: A\nright: a\ncells: 1\n' ''
+
+printf 'litdigit 1 1\nnumsign 3456\npunctuation . 256\n' >numbers.ctb
+translate numbers.ctb '1.1\n.1\n'
+expect 'a mark that ends a number' 0 '#A4#A\n4#A\n' ''
+echo 'numericmodechars .' >>numbers.ctb
+translate numbers.ctb '1.1\n.1\n'
+expect 'a mark that a number goes on behind' 0 '#A4A\n4#A\n' ''
+
+printf 'litdigit 1 1\nletter t 2345\nletter h 125\nnumsign 3456\nendnum th 1456\n' >numbers.ctb
+translate numbers.ctb '1th\nth\n'
+expect 'a rule behind digits' 0 '#A?\nTH\n' ''
+
+printf 'letter q 17\n' >dots.ctb
+translate dots.ctb 'q\n'
+expect 'a cell without an ascii mark' 2 '' 'U1 NoAscii at line 1\n'
+printf 'q\n' | "$program" translate --form unicode dots.ctb >out 2>err
+status=$?
+expect 'its mark in Unicode braille' 0 '\342\241\201\n' ''
+
+# A table of these lines has this fault in this line.
+refused() {
+    printf "$1" >faulty.ctb
+    translate faulty.ctb ''
+    expect "$2" 2 '' "$2 at faulty.ctb:$3\n"
+}
+
+refused 'letter a 1\nalways ab 14\n' 'B5 UndefinedInRule ab' 2
+refused 'letter a\n' 'B2 MissingOperand letter' 1
+refused 'letter ab 1\n' 'B3 BadCharacters ab' 1
+refused 'letter a 19\n' 'B4 BadDots 19' 1
+refused 'numsign 6\nnumsign 6\n' 'B9 IndicatorTwice numsign' 2
+refused 'numericmodechars .\n' 'B6 UndefinedInList .' 1
+refused 'litdigit 1 1\nnumericnocontchars 1\n' 'B7 TwoRoles 1' 2
+
 printf 'capsletter 6\ncapsign 6\n' >tables/twice.ctb
 including twice.ctb
 expect 'an indicator that is defined twice' 2 '' 'B9 IndicatorTwice capsign at tables/twice.ctb:2\n'
