@@ -1,5 +1,5 @@
 -- What a source may give is the same behind a read, and what is judged of a certificate.
-use Rattle.std.proofs.Common.{◌≡◌, ◌∙◌, ℕ, List, [], ◌∷◌, inr, ◌↔◌, Option, Result, Ok, Err, IfOk, IfErr, OnOk, arith, subst, sym}
+use Rattle.std.proofs.Common.{◌≡◌, ◌∙◌, ℕ, List, [], ◌∷◌, inr, ◌↔◌, Option, Result, Ok, Err, IfOk, IfErr, OnOk, subst, sym}
 use Rattle.std.specs.Io.KnownBytes.{Appends}
 use Rattle.brl_accept.specs.Files.{IsTableOf}
 use Rattle.brl_accept.specs.Judging.{IsAcceptedBy, IsRefusedBy}
@@ -13,6 +13,7 @@ use Rattle.brl_lines.specs.declared.fault.LoadFault.TheVariants as load
 use Rattle.brl_table.specs.TableView.{TableView}
 use Rattle.brl_table.specs.declared.table_fault.TableFault.TheVariants as table
 use Rattle.brl_tool.specs.Checking.{Checks, Judges, NoneAlike, ReportsAcceptance, ReportsRefusal, judgement_of}
+use Rattle.brl_tool.proofs.StatusLemmas.{none_is_one}
 use Rattle.brl_tool.specs.Running.{judgement_status}
 use Rattle.brl_tool.specs.declared.judgement.Judgement.{Judgement}
 use Rattle.brl_tool.specs.declared.judgement.Judgement.TheVariants.{Accepting, Unreadable, Refusing}
@@ -53,12 +54,6 @@ module _ (gives behind : List ℕ → Answer → Type 0) (same : (p : List ℕ) 
     judged (Err fault) alike is refused result same = subst (Judges gives path cert) (sym same) (refused_before fault refused)
 
 -- ---- What the status says
-
-abbrev none : ℕ
-none = 0
-
-none_is_one : none ≡ 1 → ⊥
-none_is_one e = absurd (omega (arith, e))
 
 pub accepted_at_none : (gives : List ℕ → Answer → Type 0) (path cert : List ℕ) (old new : Option (List ℕ)) (judgement : Judgement) → Checks gives path cert old new (Ok judgement) → (status : ℕ) → status ≡ judgement_status judgement → status ≡ 0 → ReportsAcceptance gives path old new
 accepted_at_none gives path cert old new (Accepting accepted) h status is e =

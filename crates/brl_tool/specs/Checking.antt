@@ -1,6 +1,5 @@
 -- What the checking of a certificate comes to, and what is written of it. The project's own choice.
 use Rattle.std.specs.Prelude.{ℕ, ◌≡◌, ◌<◌, ◌⊎◌, IsTrue, List, ◌++◌, length, Option, None, Result, Ok, Err, codes, string_bytes}
-use Rattle.std.specs.Fmt.{decimal}
 use Rattle.std.specs.Io.KnownBytes.{Appends}
 use Rattle.brl_accept.specs.Files.{IsTableOf}
 use Rattle.brl_accept.specs.Judging.{IsAcceptedBy, IsRefusedBy}
@@ -16,6 +15,7 @@ use Rattle.brl_lines.specs.declared.fault.Refused.TheVariants as refused
 use Rattle.brl_table.specs.TableView.{TableView}
 use Rattle.brl_table.specs.Text.{is_text}
 use Rattle.brl_table.specs.Translation.{translation}
+use Rattle.brl_tool.specs.Counts.{counts_line}
 use Rattle.brl_tool.specs.Status.{of_load, of_table}
 use Rattle.brl_tool.specs.declared.judgement.Judgement.{Judgement}
 use Rattle.brl_tool.specs.declared.judgement.Judgement.TheVariants.{Accepting, Unreadable as NoCertificate, Refusing}
@@ -83,7 +83,7 @@ Judges gives path cert (Err fault) = IsFaultOfFile gives cert fault ⊎ ((bytes 
 
 -- the line of an acceptance
 abbrev pub accepted_line : ℕ → ℕ → List ℕ
-accepted_line states pairs = codes "accepted: " ++ (decimal states ++ (codes " states, " ++ (decimal pairs ++ codes " pairs\n")))
+accepted_line states pairs = counts_line (codes "accepted") states pairs
 
 -- the line of a judgement; that of a refusal begins with this word
 abbrev pub IsLineOf : Judgement → List ℕ → Type 0

@@ -1,12 +1,10 @@
 -- What the comparison of two texts comes to, and what is written of it. The project's own choice.
-use Rattle.std.specs.Prelude.{ℕ, ◌≡◌, IsTrue, List, [], ◌∷◌, ◌++◌, Option, Result, Ok, Err, codes}
+use Rattle.std.specs.Prelude.{ℕ, ◌≡◌, IsTrue, List, ◌++◌, Option, Result, Ok, Err, codes}
 use Rattle.std.specs.Io.KnownBytes.{Appends}
-use Rattle.std.specs.Str.{encode_utf8_all}
 use Rattle.brl_accept.specs.Files.{IsTableOf}
-use Rattle.brl_cells.specs.Dots.{spelling}
 use Rattle.brl_forward.specs.Faults.{IsFaultOfTwo}
 use Rattle.brl_lines.specs.Answer.{Answer}
-use Rattle.brl_lines.specs.Spelling.{text_spelling}
+use Rattle.brl_report.specs.Report.{report_text}
 use Rattle.brl_table.specs.TableView.{TableView}
 use Rattle.brl_table.specs.Text.{is_text}
 use Rattle.brl_table.specs.Translation.{IsClash}
@@ -16,20 +14,9 @@ use Rattle.brl_tool.specs.declared.finding.Finding.TheVariants.{Clash, NoClash}
 use Rattle.brl_tool.specs.declared.run_fault.RunFault.{RunFault}
 use Rattle.brl_tool.specs.declared.run_fault.RunFault.TheVariants.{Load, Table, Confirm, OutputFailed, Memory}
 
--- a line of the report: what it begins with, and the rest of it
-abbrev pub report_line : List ℕ → List ℕ → List ℕ
-report_line label rest = label ++ rest ++ 10 ∷ []
-
--- the report of a clash: its texts, spelled, and their cells in dots
-abbrev pub report_of : List ℕ → List ℕ → List ℕ → List ℕ
-report_of left right cells =
-    report_line (codes "left: ") (encode_utf8_all (text_spelling left))
-    ++ report_line (codes "right: ") (encode_utf8_all (text_spelling right))
-    ++ report_line (codes "cells: ") (spelling cells)
-
 -- what is found of two texts of the table, and the bytes that say it
 abbrev pub IsFound : TableView → List ℕ → List ℕ → Finding → List ℕ → Type 0
-IsFound t left right Clash bytes = (cells : List ℕ) × IsClash t left right cells × (bytes ≡ report_of left right cells)
+IsFound t left right Clash bytes = (cells : List ℕ) × IsClash t left right cells × (bytes ≡ report_text t left right cells)
 IsFound t left right NoClash bytes =
     IsTrue (is_text t left) × IsTrue (is_text t right) × ((cells : List ℕ) → IsClash t left right cells → ⊥) × (bytes ≡ codes "no clash\n")
 
@@ -51,4 +38,4 @@ Compares gives path left right old new outcome = (t : TableView) × IsTableOf gi
 -- the report of two texts that clash by the table of the file at some path was written
 abbrev pub ReportsClash : (List ℕ → Answer → Type 0) → Option (List ℕ) → Option (List ℕ) → Type 0
 ReportsClash gives old new =
-    (path left right cells : List ℕ) × (t : TableView) × IsTableOf gives path t × IsClash t left right cells × Appends old new (report_of left right cells)
+    (path left right cells : List ℕ) × (t : TableView) × IsTableOf gives path t × IsClash t left right cells × Appends old new (report_text t left right cells)

@@ -1,8 +1,12 @@
 pub mod Checking
 pub mod Comparing
+pub mod Counts
+pub mod Files
 pub mod InputLines
+pub mod Notices
 pub mod Output
 pub mod Running
+pub mod Searching
 pub mod Status
 pub mod Window
 pub mod Work

@@ -3,6 +3,7 @@ ghost use Rattle.std.specs.Prelude.{◌≡◌, IfOk, IfErr};
 ghost use Rattle.std.specs.Str.{chars};
 ghost use Rattle.brl_accept.specs.Files.{IsTableOf};
 ghost use Rattle.brl_tool.specs.Comparing.{Compares};
+ghost use Rattle.brl_tool.specs.Files.{AllStay};
 ghost use Rattle.brl_tool.specs.Work.{IsFaultAt, Works};
 
 use crate::finding::{Finding, compare};
@@ -13,9 +14,10 @@ use brl_table::{Table, read_table};
 use std::alloc::Global;
 
 /// The table whose file stands at a path, or what is wrong with the file or with a line of it.
-fn table_at<S: Source>(alloc: Global, source: &mut S, path: &str) -> Result<Table, RunFault>
+pub fn table_at<S: Source>(alloc: Global, source: &mut S, path: &str) -> Result<Table, RunFault>
     ensures table { IfOk result (IsTableOf (S.gives source.old) path.now) }
     ensures fault { IfErr result (IsFaultAt (S.gives source.old) path.now) }
+    ensures same { AllStay (S.gives source.old) (S.gives source.new) }
 {
     let loaded = load(alloc, source, path)?;
     let lines = loaded.lines(alloc)?;
@@ -31,8 +33,9 @@ pub fn translate_by_file<S: Source, R: Input, W: Output>(
     reader: &mut R,
     writer: &mut W,
 ) -> Result<(), RunFault>
-    ensures { Works (S.gives source.old) path.now form (R.remaining reader.old) (W.contents writer.old)
+    ensures works { Works (S.gives source.old) path.now form (R.remaining reader.old) (W.contents writer.old)
         (W.contents writer.new) result }
+    ensures same { AllStay (S.gives source.old) (S.gives source.new) }
 {
     let table = table_at(alloc, source, path)?;
     translate_lines(alloc, &table, form, reader, writer)?;
@@ -49,8 +52,9 @@ pub fn compare_by_file<S: Source, W: Output>(
     right: &str,
     writer: &mut W,
 ) -> Result<Finding, RunFault>
-    ensures { Compares (S.gives source.old) path.now (chars left.now) (chars right.now) (W.contents writer.old)
+    ensures compares { Compares (S.gives source.old) path.now (chars left.now) (chars right.now) (W.contents writer.old)
         (W.contents writer.new) result }
+    ensures same { AllStay (S.gives source.old) (S.gives source.new) }
 {
     let table = table_at(alloc, source, path)?;
     compare(alloc, &table, left, right, writer)

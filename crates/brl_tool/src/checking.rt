@@ -1,7 +1,8 @@
 //! Checking the certificate at one path for the table at another.
-ghost use Rattle.std.specs.Prelude.{◌≡◌, ◌≤◌, ℕ, ◌↔◌, List, IfErr, IfOk, length};
-ghost use Rattle.brl_lines.specs.Answer.{Answer, Holds};
+ghost use Rattle.std.specs.Prelude.{◌≤◌, IfErr, IfOk, length};
+ghost use Rattle.brl_lines.specs.Answer.{Holds};
 ghost use Rattle.brl_tool.specs.Checking.{Checks, IsFaultOfFile, Judges};
+ghost use Rattle.brl_tool.specs.Files.{AllStay};
 
 use crate::Output;
 use crate::judgement::Judgement;
@@ -15,7 +16,7 @@ fn bytes_at<S: Source>(alloc: Global, source: &mut S, path: &str) -> Result<Vec<
     ensures bytes { IfOk result (λ bytes. S.gives source.old path.now (Holds bytes.items)) }
     ensures short { IfOk result (λ bytes. length bytes.items ≤ 16777216) }
     ensures fault { IfErr result (IsFaultOfFile (S.gives source.old) path.now) }
-    ensures same { (p : List ℕ) (a : Answer) → S.gives source.new p a ↔ S.gives source.old p a }
+    ensures same { AllStay (S.gives source.old) (S.gives source.new) }
 {
     let kind = match source.read(alloc, path) {
         Ok(bytes) => {
@@ -44,7 +45,8 @@ fn judge_files<S: Source>(
     table: &str,
     cert: &str,
 ) -> Result<Judgement, RunFault>
-    ensures { Judges (S.gives source.old) table.now cert.now result }
+    ensures judges { Judges (S.gives source.old) table.now cert.now result }
+    ensures same { AllStay (S.gives source.old) (S.gives source.new) }
 {
     let bytes = bytes_at(alloc, source, cert)?;
     Judgement::of(judge(alloc, source, table, bytes.as_slice()))
@@ -59,7 +61,8 @@ pub fn check_by_file<S: Source, W: Output>(
     cert: &str,
     writer: &mut W,
 ) -> Result<Judgement, RunFault>
-    ensures { Checks (S.gives source.old) table.now cert.now (W.contents writer.old) (W.contents writer.new) result }
+    ensures checks { Checks (S.gives source.old) table.now cert.now (W.contents writer.old) (W.contents writer.new) result }
+    ensures same { AllStay (S.gives source.old) (S.gives source.new) }
 {
     let judgement = judge_files(alloc, source, table, cert)?;
     let line = judgement.line(alloc)?;

@@ -1,7 +1,7 @@
 //! The words of the command line.
 use crate::Form;
 use clap::error::{Error, ErrorKind};
-use clap::{Arg, ArgMatches, Command};
+use clap::{Arg, ArgMatches, Command, value_parser};
 use std::alloc::Global;
 
 /// What the words ask for.
@@ -23,6 +23,13 @@ pub enum Task<'a> {
         table: &'a str,
         cert: &'a str,
     },
+    /// Search the table whose file stands at this path, and write a certificate to the file at this path. Neither more states nor
+    /// more pairs than the limit are wanted.
+    Search {
+        table: &'a str,
+        cert: &'a str,
+        limit: u32,
+    },
 }
 
 /// The program's version, which `--version` prints.
@@ -39,10 +46,11 @@ const FORMS: [&str; 2] = [ASCII, UNICODE];
 
 /// What follows the options in `brl --help`.
 const STATUSES: &str = "Exit status:
-  0  the work was done; of two texts: they don't clash; of a certificate: it is accepted
+  0  the work was done; of two texts: they don't clash; of a certificate: it is accepted;
+     of a search: it found a certificate
   1  two texts clash; a certificate is refused
   2  the words, a file, the table, a text, the input or the output had a fault, which standard error names in one line
-  3  there was not enough memory, or a table is too wide for a certificate
+  3  there was not enough memory, a table is too wide, or a search decided nothing
 
 'brl COMMAND --help' says more of a command, with an example.";
 
@@ -117,6 +125,32 @@ const CHECK_EXAMPLE: &str = "Example, a table of one letter and its certificate:
 It prints:
   accepted: 3 states, 1 pairs";
 
+/// What `brl --help` says of `brl search`.
+const SEARCH: &str = "Decides whether any two texts look alike by a table";
+
+/// What `brl search --help` says above the usage.
+const ABOUT_SEARCH: &str = "Decides whether any two texts look alike by a table
+
+Searches for a certificate that no two different texts over the table's
+characters give the same cells, however long they are. Where there is one, it is
+written to OUT, and standard output gets how many states and pairs it lists;
+'brl check' accepts it. Where two texts clash, standard output gets their report,
+the exit status is 1, and OUT isn't written. Where more than N states or more
+than N pairs are found, nothing is decided, and the status is 3.";
+
+/// What follows the options in `brl search --help`.
+const SEARCH_EXAMPLE: &str = "Example, a table of two letters:
+  printf '%s\\n' 'letter a 1' 'letter b 12' > ab.ctb
+  brl search ab.ctb ab.cert
+  brl check ab.ctb ab.cert
+
+It prints:
+  certified: 7 states, 6 pairs
+  accepted: 7 states, 6 pairs";
+
+/// How many states, and how many pairs, a search finds at most, where the words don't say.
+const USUAL_LIMIT: &str = "1000000";
+
 /// An operand that must be there.
 fn operand<'a>(alloc: Global, id: &'a str, name: &'a str, help: &'a str) -> Arg<'a> {
     Arg::new(alloc, id)
@@ -138,6 +172,16 @@ fn form_option<'a>(alloc: Global) -> Arg<'a> {
         .help("How cells are written")
         .value_parser(FORMS.as_slice())
         .default_value(ASCII)
+}
+
+/// The option of how much a search may find.
+fn limit_option<'a>(alloc: Global) -> Arg<'a> {
+    Arg::new(alloc, "limit")
+        .long("limit")
+        .value_name("N")
+        .help("How many states, and how many pairs, may be found")
+        .value_parser(value_parser!(u32))
+        .default_value(USUAL_LIMIT)
 }
 
 /// The command line of `brl translate`.
@@ -177,20 +221,34 @@ fn check_command<'a>(alloc: Global) -> Result<Command<'a>, Error> {
     )
 }
 
+/// The command line of `brl search`.
+fn search_command<'a>(alloc: Global) -> Result<Command<'a>, Error> {
+    Ok(
+        Command::new(alloc, "search")
+            .about(SEARCH)
+            .long_about(ABOUT_SEARCH)
+            .after_help(SEARCH_EXAMPLE)
+            .arg(limit_option(alloc))?
+            .arg(table_operand(alloc))?
+            .arg(operand(alloc, "out", "OUT", "The file that gets a certificate"))?,
+    )
+}
+
 /// The command line of `brl`.
 fn whole_command<'a>(alloc: Global) -> Result<Command<'a>, Error> {
     Ok(
         Command::new(alloc, "brl")
             .version(VERSION)
             .about(
-                "Translates text into braille by liblouis tables, and finds texts that look alike",
+                "Translates text into braille by liblouis tables, and decides whether texts look alike",
             )
             .after_help(STATUSES)
             .subcommand_required(true)
             .arg_required_else_help(true)
             .subcommand(translate_command(alloc)?)?
             .subcommand(clash_command(alloc)?)?
-            .subcommand(check_command(alloc)?)?,
+            .subcommand(check_command(alloc)?)?
+            .subcommand(search_command(alloc)?)?,
     )
 }
 
@@ -220,6 +278,11 @@ fn found_task<'a>(matches: &ArgMatches<'a>) -> Option<Task<'a>> {
         ("check", found) => Some(Task::Check {
             table: found.get_str("table")?,
             cert: found.get_str("cert")?,
+        }),
+        ("search", found) => Some(Task::Search {
+            table: found.get_str("table")?,
+            cert: found.get_str("out")?,
+            limit: found.get_one("limit")?,
         }),
         _ => None,
     }

@@ -1,13 +1,12 @@
 //! What is found of two texts, and how it is told.
-ghost use Rattle.std.specs.Prelude.{◌≡◌, IfOk, string_bytes};
+ghost use Rattle.std.specs.Prelude.{◌≡◌, IfOk};
 ghost use Rattle.std.specs.Str.{chars};
-ghost use Rattle.brl_tool.specs.Comparing.{Finds, report_of};
+ghost use Rattle.brl_tool.specs.Comparing.{Finds};
 
 use crate::Output;
 use crate::run_fault::RunFault;
-use brl_cells::write_dots;
-use brl_forward::{Clash, confirm};
-use brl_lines::spell_chars;
+use brl_forward::confirm;
+use brl_report::report;
 use brl_table::Table;
 use std::alloc::{AllocError, Global};
 
@@ -35,7 +34,7 @@ pub fn compare<W: Output>(
     let right = characters(alloc, right)?;
     match confirm(alloc, table, left.as_slice(), right.as_slice())? {
         Some(clash) => {
-            writer.put(report(alloc, &clash)?.as_bytes())?;
+            writer.put(report(alloc, table, &clash)?.as_bytes())?;
             Ok(Finding::Clash)
         }
         None => {
@@ -50,14 +49,4 @@ fn characters(alloc: Global, text: &str) -> Result<Vec<char>, AllocError>
     ensures { IfOk result (λ found. found.items ≡ chars text.now) }
 {
     text.chars().collect(alloc)
-}
-
-/// The report of a clash: a line for each of its texts, spelled as in an operand of a table, and one for their cells.
-fn report(alloc: Global, clash: &Clash) -> Result<String, AllocError>
-    ensures { IfOk result (λ text. string_bytes text ≡ report_of clash.now.left clash.now.right clash.now.cells) }
-{
-    let left = spell_chars(alloc, clash.left())?;
-    let right = spell_chars(alloc, clash.right())?;
-    let cells = write_dots(alloc, clash.cells())?;
-    format!(in alloc; "left: {left}\nright: {right}\ncells: {cells}\n")
 }

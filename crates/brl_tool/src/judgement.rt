@@ -1,8 +1,9 @@
 //! What is told of a certificate.
 ghost use Rattle.std.specs.Prelude.{◌≡◌, ◌∷◌, [], ◌++◌, codes, IfOk, string_bytes};
-ghost use Rattle.brl_tool.specs.Checking.{IsLineOf, accepted_line, judgement_of};
+ghost use Rattle.brl_tool.specs.Checking.{IsLineOf, judgement_of};
 ghost use Rattle.brl_tool.specs.Running.{judgement_status};
 
+use crate::counts::counts_text;
 use crate::run_fault::RunFault;
 use brl_accept::{AcceptFault, Accepted, JudgeFault};
 use brl_cert::CertFault;
@@ -56,7 +57,12 @@ impl Judgement {
         ensures { IfOk result (λ text. IsLineOf self.now (string_bytes text)) }
     {
         match self {
-            Judgement::Accepting(accepted) => accepted_text(alloc, accepted),
+            Judgement::Accepting(accepted) => counts_text(
+                alloc,
+                "accepted",
+                u64::from(accepted.states),
+                u64::from(accepted.pairs),
+            ),
             Judgement::Unreadable(fault) => {
                 let text = fault.to_string(alloc)?;
                 refused_text(alloc, text.as_str())
@@ -67,15 +73,6 @@ impl Judgement {
             }
         }
     }
-}
-
-/// The line of an acceptance.
-fn accepted_text(alloc: Global, accepted: &Accepted) -> Result<String, AllocError>
-    ensures { IfOk result (λ text. string_bytes text ≡ accepted_line accepted.now.states accepted.now.pairs) }
-{
-    let states = accepted.states.to_string(alloc)?;
-    let pairs = accepted.pairs.to_string(alloc)?;
-    format!(in alloc; "accepted: {states} states, {pairs} pairs\n")
 }
 
 /// The line of a refusal with this reason.

@@ -3,15 +3,18 @@ ghost use Rattle.std.specs.Prelude.{◌≡◌, ◌⊎◌};
 ghost use Rattle.std.specs.Str.{chars};
 ghost use Rattle.brl_tool.specs.Checking.{ReportsAcceptance, ReportsRefusal};
 ghost use Rattle.brl_tool.specs.Comparing.{ReportsClash};
+ghost use Rattle.brl_tool.specs.Files.{AllStay};
+ghost use Rattle.brl_tool.specs.Running.{ChecksBy, ComparesBy, Runs, SearchesBy, TranslatesBy};
+ghost use Rattle.brl_tool.specs.Searching.{ReportsCertificate};
 ghost use Rattle.brl_tool.specs.Status.{IsAnswered, IsStatus, status_of};
-ghost use Rattle.brl_tool.specs.Running.{ChecksBy, ComparesBy, Runs, TranslatesBy};
 
 use crate::by_file::{compare_by_file, translate_by_file};
 use crate::checking::check_by_file;
 use crate::command::{Task, task_of};
 use crate::finding::Finding;
 use crate::run_fault::{FAULT, RunFault};
-use crate::{Form, Input, Output};
+use crate::searching::search_by_file;
+use crate::{Files, Form, Input, Output};
 use brl_lines::Source;
 use clap::error::Error;
 use std::alloc::Global;
@@ -25,33 +28,42 @@ const CLASH: u8 = 1;
 
 /// Does what the words ask for, and answers the exit status: 0 where the work was done, 1 where two texts clash or a
 /// certificate is refused, 2 where the words, a file, the table, a text, the input or the output had a fault, and 3 for want
-/// of memory and for a table that is too wide. The first of the words is the program's name.
+/// of memory, for a table that is too wide and for a search that decided nothing. The first of the words is the program's
+/// name.
 ///
-/// Standard output gets the translation, what was found of two texts or what was told of a certificate, or help or the
-/// version where these are asked for. Standard error gets one line for a fault, or the text of a use fault; what can't be written there is dropped and
-/// changes no status. Faults come in the order of the work: the words, the certificate's file, the table's file, its lines,
-/// the texts, the input or the certificate.
-pub fn run<S: Source, I: Input, O: Output, E: Write>(
+/// Standard output gets the translation, what was found of two texts, of a certificate or by a search, or help or the version
+/// where these are asked for. Standard error gets the notices of a table that is searched, one line for a fault, or the text
+/// of a use fault; what can't be written there is dropped and changes no status. Faults come in the order of the work: the
+/// words, the certificate's file, the table's file, its lines, the texts, the input, the certificate or the search, the file
+/// that gets a certificate, the verdict.
+///
+/// A file is written only where a search found a certificate: that file and no other.
+pub fn run<F: Files, I: Input, O: Output, E: Write>(
     alloc: Global,
     words: &[String],
-    source: &mut S,
+    files: &mut F,
     input: &mut I,
     out: &mut O,
     err: &mut E,
 ) -> u8
     ensures status { IsStatus result }
-    ensures runs { Runs (S.gives source.old) (I.remaining input.old) (O.contents out.old) (O.contents out.new) result }
-    ensures clash { result ≡ 1 → ReportsClash (S.gives source.old) (O.contents out.old) (O.contents out.new)
+    ensures runs { Runs (F.gives files.old) (F.gives files.new) (I.remaining input.old) (O.contents out.old)
+        (O.contents out.new) result }
+    ensures clash { result ≡ 1 → ReportsClash (F.gives files.old) (O.contents out.old) (O.contents out.new)
         ⊎ ReportsRefusal (O.contents out.old) (O.contents out.new) }
+    ensures same { result ≡ 1 → AllStay (F.gives files.old) (F.gives files.new) }
 {
     match task_of(alloc, words) {
         Ok(Task::Translate { table, form }) => {
-            translate(alloc, source, table, form, input, out, err)
+            translate(alloc, files, table, form, input, out, err)
         }
         Ok(Task::Clash { table, left, right }) => {
-            compare(alloc, source, table, left, right, out, err)
+            compare(alloc, files, table, left, right, out, err)
         }
-        Ok(Task::Check { table, cert }) => check(alloc, source, table, cert, out, err),
+        Ok(Task::Check { table, cert }) => check(alloc, files, table, cert, out, err),
+        Ok(Task::Search { table, cert, limit }) => {
+            search(alloc, files, table, cert, limit, out, err)
+        }
         Err(error) => answer(alloc, &error, out, err),
     }
 }
@@ -66,8 +78,9 @@ fn translate<S: Source, I: Input, O: Output, E: Write>(
     out: &mut O,
     err: &mut E,
 ) -> u8
-    ensures { TranslatesBy (S.gives source.old) table.now form (I.remaining input.old) (O.contents out.old)
+    ensures translates { TranslatesBy (S.gives source.old) table.now form (I.remaining input.old) (O.contents out.old)
         (O.contents out.new) result }
+    ensures same { AllStay (S.gives source.old) (S.gives source.new) }
 {
     match translate_by_file(alloc, source, table, form, input, out) {
         Ok(()) => DONE,
@@ -85,8 +98,9 @@ fn compare<S: Source, O: Output, E: Write>(
     out: &mut O,
     err: &mut E,
 ) -> u8
-    ensures { ComparesBy (S.gives source.old) table.now (chars left.now) (chars right.now) (O.contents out.old)
+    ensures compares { ComparesBy (S.gives source.old) table.now (chars left.now) (chars right.now) (O.contents out.old)
         (O.contents out.new) result }
+    ensures same { AllStay (S.gives source.old) (S.gives source.new) }
 {
     match compare_by_file(alloc, source, table, left, right, out) {
         Ok(Finding::NoClash) => DONE,
@@ -108,9 +122,35 @@ fn check<S: Source, O: Output, E: Write>(
     // Where it accepts, no two different texts of the table are translated alike.
     ensures accepted { result ≡ 0 → ReportsAcceptance (S.gives source.old) table.now (O.contents out.old) (O.contents out.new) }
     ensures refused { result ≡ 1 → ReportsRefusal (O.contents out.old) (O.contents out.new) }
+    ensures same { AllStay (S.gives source.old) (S.gives source.new) }
 {
     match check_by_file(alloc, source, table, cert, out) {
         Ok(judgement) => judgement.status(),
+        Err(fault) => tell(&fault, err),
+    }
+}
+
+/// `brl search`.
+fn search<F: Files, O: Output, E: Write>(
+    alloc: Global,
+    files: &mut F,
+    table: &str,
+    cert: &str,
+    limit: u32,
+    out: &mut O,
+    err: &mut E,
+) -> u8
+    ensures searches { SearchesBy (F.gives files.old) (F.gives files.new) table.now cert.now (O.contents out.old)
+        (O.contents out.new) result }
+    // Where it finds a certificate, no two texts of the table clash, and the certificate is written.
+    ensures certified { result ≡ 0 → ReportsCertificate (F.gives files.old) (F.gives files.new) table.now cert.now
+        (O.contents out.old) (O.contents out.new) }
+    ensures clash { result ≡ 1 → ReportsClash (F.gives files.old) (O.contents out.old) (O.contents out.new) }
+    // Where two texts clash, no file is written.
+    ensures same { result ≡ 1 → AllStay (F.gives files.old) (F.gives files.new) }
+{
+    match search_by_file(alloc, files, table, cert, limit, out, err) {
+        Ok(verdict) => verdict.status(),
         Err(fault) => tell(&fault, err),
     }
 }

@@ -13,7 +13,7 @@ pub const FAULT: u8 = 2;
 /// The status of want of memory.
 const WANT_OF_MEMORY: u8 = 3;
 
-/// The status of a table that is too wide for a certificate.
+/// The status of a table that is too wide for a certificate, or for a search.
 const TOO_WIDE: u8 = 3;
 
 /// The fault that ended the work. It is shown as the line that standard error gets.
@@ -31,12 +31,15 @@ pub enum RunFault {
     /// A text to be compared has a character that the table doesn't define.
     #[error("{0}")]
     Confirm(ConfirmFault),
-    /// The table has no machine of the kind that a certificate asks for.
+    /// The table has no machine of the kind that a certificate or a search asks for.
     #[error("{0}")]
     Wide(TooWide),
     /// The writer failed at what was found, or at help or the version; some first bytes of it may be written.
     #[error("U4 OutputFailed")]
     OutputFailed,
+    /// The file at this path couldn't be written; what stands there isn't known.
+    #[error("U7 CannotWrite {0}")]
+    CannotWrite(String),
     /// A growth was refused.
     #[error("Memory")]
     Memory,

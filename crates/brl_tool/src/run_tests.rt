@@ -3,9 +3,10 @@
 mod cases;
 mod checks;
 mod devices;
+mod searches;
 
-use crate::{Watched, run};
-use brl_lines::{MapSource, Source};
+use crate::{Files, Watched, run};
+use brl_lines::MapSource;
 use devices::{Broken, Closed, Refusing};
 use std::alloc::Global;
 use std::collections::BTreeMap;
@@ -78,11 +79,11 @@ impl Outcome {
     }
 }
 
-/// Runs over a source, an input and the words of a field.
-fn outcome_of<S: Source>(
+/// Runs over files, an input and the words of a field.
+fn outcome_of<F: Files>(
     alloc: Global,
     words: &str,
-    source: &mut S,
+    files: &mut F,
     input: &[u8],
 ) -> Result<Outcome, Fail> {
     let words = words_of(alloc, words)?;
@@ -92,7 +93,7 @@ fn outcome_of<S: Source>(
     let status = run(
         alloc,
         words.as_slice(),
-        source,
+        files,
         &mut reader,
         &mut out,
         &mut err,
@@ -111,9 +112,9 @@ fn is_answered(alloc: Global, row: &str) -> Result<bool, Fail> {
     let (input, rest) = cut(rest)?;
     let (out, rest) = cut(rest)?;
     let (err, status) = cut(rest)?;
-    let mut source = files_of(alloc, files)?;
+    let mut files = files_of(alloc, files)?;
     let input = lines_of(alloc, input)?;
-    let outcome = outcome_of(alloc, words, &mut source, input.as_slice())?;
+    let outcome = outcome_of(alloc, words, &mut files, input.as_slice())?;
     let out = lines_of(alloc, out)?;
     let err = lines_of(alloc, err)?;
     Ok(outcome.is(out.as_slice(), err.as_slice(), status.parse()?))
@@ -131,7 +132,8 @@ fn worked_runs(rt: HostRuntime) -> Result<(), Fail> {
     check_rows(&rt, rt.alloc(), cases::TRANSLATIONS)?;
     check_rows(&rt, rt.alloc(), cases::INCLUDES)?;
     check_rows(&rt, rt.alloc(), cases::COMPARISONS)?;
-    check_rows(&rt, rt.alloc(), cases::CHECKS)
+    check_rows(&rt, rt.alloc(), cases::CHECKS)?;
+    check_rows(&rt, rt.alloc(), cases::SEARCHES)
 }
 
 /// Whether a text that isn't empty stands in what was written; of the empty text, whether nothing was written.
@@ -264,6 +266,7 @@ const WITHOUT_OUTPUT: &str = "\
 brl,translate,t.ctb|U4 OutputFailed at line 1
 brl,clash,t.ctb,ab,x|U4 OutputFailed
 brl,clash,t.ctb,a,b|U4 OutputFailed
+brl,search,t.ctb,o|U4 OutputFailed
 brl,--help|U4 OutputFailed
 brl,--version|U4 OutputFailed
 ";
@@ -297,6 +300,7 @@ const SILENT: &str = "\
 brl,translate,t.ctb|0
 brl,translate,u.ctb|2
 brl,clash,t.ctb,a,z|2
+brl,search,t.ctb,o|0
 brl,--nothing|2
 ";
 

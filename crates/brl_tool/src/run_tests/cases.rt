@@ -79,28 +79,29 @@ t.ctb: include u; pass2 @1 @2 & u: letter a 1; letter a 19|brl,translate,t.ctb||
 
 /// Two texts, in the same form.
 pub const COMPARISONS: &str = "\
-t.ctb: letter a 21-0; letter b 12-0|brl,clash,t.ctb,a,b||left: a; right: b; cells: 12-0||1
-t.ctb: letter a 1; letter b 12; letter x 1-12|brl,clash,t.ctb,ab,x||left: ab; right: x; cells: 1-12||1
-t.ctb: letter a 1; letter b 12; letter x 1-12|brl,clash,t.ctb,x,ab||left: x; right: ab; cells: 1-12||1
+t.ctb: letter a 21-0; letter b 12-0|brl,clash,t.ctb,a,b||left: a; right: b; cells: 12-0; left from 0:;   a  12-0  t.ctb:1; right from 0:;   b  12-0  t.ctb:2||1
+t.ctb: letter a 1; letter b 12; letter x 1-12|brl,clash,t.ctb,ab,x||left: ab; right: x; cells: 1-12; left from 0:;   a  1   t.ctb:1;   b  12  t.ctb:2; right from 0:;   x  1-12  t.ctb:3||1
+t.ctb: letter \u{56fd} 1; letter b 12; letter x 1-12|brl,clash,t.ctb,\u{56fd}b,x||left: \u{56fd}b; right: x; cells: 1-12; left from 0:;   \u{56fd}  1   t.ctb:1;   b   12  t.ctb:2; right from 0:;   x  1-12  t.ctb:3||1
+t.ctb: letter a 1; letter b 12; letter x 1-12|brl,clash,t.ctb,x,ab||left: x; right: ab; cells: 1-12; left from 0:;   x  1-12  t.ctb:3; right from 0:;   a  1   t.ctb:1;   b  12  t.ctb:2||1
 t.ctb: letter a 1; letter b 12; letter x 1-12|brl,clash,t.ctb,ab,ab||no clash||0
 t.ctb: letter a 1; letter b 12; letter x 1-12|brl,clash,t.ctb,a,b||no clash||0
-t.ctb: letter a 1; letter b 12; letter x 1-12|brl,clash,t.ctb,xab,abx||left: xab; right: abx; cells: 1-12-1-12||1
+t.ctb: letter a 1; letter b 12; letter x 1-12|brl,clash,t.ctb,xab,abx||left: xab; right: abx; cells: 1-12-1-12; left from 0:;   x  1-12  t.ctb:3;   a  1     t.ctb:1;   b  12    t.ctb:2; right from 0:;   a  1     t.ctb:1;   b  12    t.ctb:2;   x  1-12  t.ctb:3||1
 t.ctb: letter a 1; letter b 12; letter x 1-12|brl,clash,t.ctb,zb,y|||F1 UnknownChar 0 at left|2
 t.ctb: letter a 1; letter b 12; letter x 1-12|brl,clash,t.ctb,a,z|||F1 UnknownChar 0 at right|2
 t.ctb: letter a 1; letter b 12; letter x 1-12|brl,clash,t.ctb,abz,a|||F1 UnknownChar 2 at left|2
 t.ctb: letter a 1; letter b 12; letter x 1-12|brl,clash,t.ctb,z,z|||F1 UnknownChar 0 at left|2
 t.ctb: space \\s 1; punctuation \\\\ 1; space \\t 1; space \\x0001 1; letter \u{56fd} 1|brl,clash,t.ctb,\u{56fd},\u{e9}|||F1 UnknownChar 0 at right|2
-t.ctb: letter a 0-123456; letter b 87-12; letter c 0-123456-78-12|brl,clash,t.ctb,ab,c||left: ab; right: c; cells: 0-123456-78-12||1
+t.ctb: letter a 0-123456; letter b 87-12; letter c 0-123456-78-12|brl,clash,t.ctb,ab,c||left: ab; right: c; cells: 0-123456-78-12; left from 0:;   a  0-123456  t.ctb:1;   b  78-12     t.ctb:2; right from 0:;   c  0-123456-78-12  t.ctb:3||1
 t.ctb: letter a 19|brl,clash,t.ctb,z,y|||B4 BadDots 19 at t.ctb:1|2
-t.ctb: letter a 1; letter b 12; letter c 14; always ab 14|brl,clash,t.ctb,ab,c||left: ab; right: c; cells: 14||1
-t.ctb: space \\s 0; letter b 12; letter u 136; letter t 2345; word but 12|brl,clash,t.ctb,but,b||left: but; right: b; cells: 12||1
+t.ctb: letter a 1; letter b 12; letter c 14; always ab 14|brl,clash,t.ctb,ab,c||left: ab; right: c; cells: 14; left from 0:;   ab  14  t.ctb:4; right from 0:;   c  14  t.ctb:3||1
+t.ctb: space \\s 0; letter b 12; letter u 136; letter t 2345; word but 12|brl,clash,t.ctb,but,b||left: but; right: b; cells: 12; left from 0:;   but  12  t.ctb:5; right from 0:;   b  12  t.ctb:2||1
 t.ctb: letter a 1; letter b 12; letter x 1-12; always ab 14|brl,clash,t.ctb,ab,x||no clash||0
 t.ctb: letter a 1; letter b 12; letter x 1-12|brl,clash,t.ctb,,||no clash||0
 t.ctb: letter a 1; letter b 12; letter x 1-12|brl,clash,t.ctb,,a||no clash||0
-t.ctb: space \\s 1; punctuation \\\\ 1; space \\t 1; space \\x0001 1; letter \u{56fd} 1|brl,clash,t.ctb, ,\\||left: \\s; right: \\\\; cells: 1||1
-t.ctb: space \\s 1; punctuation \\\\ 1; space \\t 1; space \\x0001 1; letter \u{56fd} 1|brl,clash,t.ctb,\t\u{1},\u{56fd} ||left: \\t\\x0001; right: \u{56fd}\\s; cells: 1-1||1
-t.ctb: letter a 1; litdigit 1 1; numsign 3456|brl,clash,t.ctb,1a,11||left: 1a; right: 11; cells: 3456-1-1||1
-t.ctb: uplow Aa 1|brl,clash,t.ctb,A,a||left: A; right: a; cells: 1||1
+t.ctb: space \\s 1; punctuation \\\\ 1; space \\t 1; space \\x0001 1; letter \u{56fd} 1|brl,clash,t.ctb, ,\\||left: \\s; right: \\\\; cells: 1; left from 0:;   \\s  1  t.ctb:1; right from 0:;   \\\\  1  t.ctb:2||1
+t.ctb: space \\s 1; punctuation \\\\ 1; space \\t 1; space \\x0001 1; letter \u{56fd} 1|brl,clash,t.ctb,\t\u{1},\u{56fd} ||left: \\t\\x0001; right: \u{56fd}\\s; cells: 1-1; left from 0:;   \\t      1  t.ctb:3;   \\x0001  1  t.ctb:4; right from 0:;   \u{56fd}  1  t.ctb:5;   \\s  1  t.ctb:1||1
+t.ctb: letter a 1; litdigit 1 1; numsign 3456|brl,clash,t.ctb,1a,11||left: 1a; right: 11; cells: 3456-1-1; left from 1:;   a  1  t.ctb:1; right from 1:;   1  1  t.ctb:2||1
+t.ctb: uplow Aa 1|brl,clash,t.ctb,A,a||left: A; right: a; cells: 1; left from 0:;   A  1  t.ctb:1; right from 0:;   a  1  t.ctb:1||1
 ";
 
 /// The words that check the certificate `c` for the table `t.ctb`.
@@ -130,6 +131,33 @@ t.ctb: include t.ctb & c: BRLCERT 1; end 0 0|brl,check,t.ctb,c|||L4 Cycle t.ctb 
 c: BRLCERT 1|brl,check,t.ctb,c|||L1 NotFound t.ctb|2
 ";
 
+/// Searches that write no file, in the same form.
+pub const SEARCHES: &str = "\
+t.ctb: letter a 1; letter b 12; letter x 1-12|brl,search,t.ctb,o,--limit,0||limit: 1 states, 0 pairs||3
+t.ctb: letter a 19|brl,search,t.ctb,o|||B4 BadDots 19 at t.ctb:1|2
+t.ctb: include u|brl,search,t.ctb,o|||L1 NotFound u at t.ctb:1|2
+t.ctb: letter a 1; letter a 1; letter b 12; letter b 1; letter x 19|brl,search,t.ctb,o|||B4 BadDots 19 at t.ctb:5|2
+";
+
+/// Tables for which a search finds a certificate, each with its notices.
+pub const CERTIFIED: &str = "\
+letter a 1; letter b 12; letter x 1-12; always ab 14|
+letter a 1; litdigit 1 1; numsign 3456; nocontractsign 56; numericnocontchars a|
+letter a 1; letter b 12|
+letter a 1; letter a 12|notice DefinedAgain a at t.ctb:2
+space \\s 0; letter a 1; space \\s 1; punctuation \\\\ 2; letter \\\\ 3|notice DefinedAgain \\s at t.ctb:3; notice DefinedAgain \\\\ at t.ctb:5
+space \\s 0; letter b 12; letter u 136; letter t 2345; word but 12; word b 56-12|
+";
+
+/// Tables of which a search finds two texts that clash.
+pub const CLASHING: &str = "\
+letter a 1; letter b 12; letter x 1-12
+letter a 1; letter b 12; letter c 14; always ab 14
+space \\s 0; letter b 12; letter u 136; letter t 2345; word but 12
+letter a 1; litdigit 1 1; numsign 3456
+uplow Aa 1
+";
+
 /// The words, over no files, and a text that stands on standard output, and on standard error; where it is empty, nothing stands
 /// there; and the status.
 pub const REQUESTS: &str = "\
@@ -151,5 +179,13 @@ brl,clash,t.ctb,a,b||L1 NotFound t.ctb|2
 brl,clash,--help|brl clash alike.ctb ab x||0
 brl,clash,t.ctb,a||<RIGHT>|2
 brl,clash,t.ctb,a,b,c||unexpected argument 'c'|2
-brl,search,t.ctb,o||unrecognized subcommand 'search'|2
+brl,search,--help|brl search ab.ctb ab.cert||0
+brl,search,t.ctb||<OUT>|2
+brl,search,t.ctb,o,p||unexpected argument 'p'|2
+brl,search,t.ctb,o||L1 NotFound t.ctb|2
+brl,search,t.ctb,o,--limit,4294967295||L1 NotFound t.ctb|2
+brl,search,t.ctb,o,--limit,4294967296||invalid value '4294967296' for '--limit <N>'|2
+brl,search,t.ctb,o,--limit,-1||'-1'|2
+brl,search,t.ctb,o,--limit,ten||invalid value 'ten' for '--limit <N>'|2
+brl,find,t.ctb||unrecognized subcommand 'find'|2
 ";

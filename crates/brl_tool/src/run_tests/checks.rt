@@ -25,5 +25,7 @@ fn a_table_of_100_letters_is_too_wide(rt: HostRuntime) -> Result<(), Fail> {
     let mut source = files_of(alloc, files.as_str())?;
     let outcome = outcome_of(alloc, cases::CHECK, &mut source, b"")?;
     assert!(rt; outcome.is(b"", b"W1 TooWide\n", 3));
+    let outcome = outcome_of(alloc, "brl,search,t.ctb,o", &mut source, b"")?;
+    assert!(rt; outcome.is(b"", b"W1 TooWide\n", 3));
     Ok(())
 }

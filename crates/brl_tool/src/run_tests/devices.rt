@@ -1,5 +1,8 @@
 //! Files and streams that fail.
-use brl_lines::{Source, SourceFault};
+ghost use Rattle.brl_lines.specs.Answer.{Answer};
+
+use crate::{Files, SinkFault};
+use brl_lines::{MapSource, Source, SourceFault};
 use std::alloc::Global;
 use std::io::{Error, ErrorKind, Read, Result as IoResult, Write};
 
@@ -45,6 +48,39 @@ impl Source for Refusing {
 
     fn failures(&self) -> u64 {
         self.failures
+    }
+}
+
+impl Files for Refusing {
+    fn write(&mut self, _alloc: Global, _path: &str, _bytes: &[u8]) -> Result<(), SinkFault> {
+        Err(SinkFault::Failed)
+    }
+}
+
+/// Files of which none can be written.
+#[derive(Drop)]
+pub struct Sealed {
+    pub files: MapSource,
+    pub refusal: SinkFault,
+}
+
+impl Source for Sealed {
+    ghost gives = { λ s p a. MapSource.gives s.files p a };
+
+    ghost faults = { λ s. MapSource.faults s.files };
+
+    fn read(&mut self, alloc: Global, path: &str) -> Result<Vec<u8>, SourceFault> {
+        self.files.read(alloc, path)
+    }
+
+    fn failures(&self) -> u64 {
+        self.files.failures()
+    }
+}
+
+impl Files for Sealed {
+    fn write(&mut self, _alloc: Global, _path: &str, _bytes: &[u8]) -> Result<(), SinkFault> {
+        Err(self.refusal)
     }
 }
 

@@ -5,8 +5,8 @@ use Rattle.brl_lines.specs.Outcome.{AreGiven}
 use Rattle.brl_tool.proofs.CheckingLemmas.{judged}
 use Rattle.brl_tool.proofs.checking.judge_files.Goals as goal
 
-pub returns : goal.returns
-returns g c =
+pub returns-clause-judges : goal.returns-clause-judges
+returns-clause-judges g c =
     let behind = g.S.Source.gives c.bytes_at.new.source in
     let same : c.as_slice.result.now ≡ c.in_ok-bytes.bytes.items = c.as_slice.ensures.value in
     judged (g.S.Source.gives c.args.source.now) behind c.in_ok-bytes.ensures.same c.args.table.now c.args.cert.now c.in_ok-bytes.bytes.items c.in_ok-bytes.ensures.bytes

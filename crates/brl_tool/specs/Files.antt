@@ -1,0 +1,41 @@
+-- What becomes of files that are written. The manual leaves open where files come from: this is the project's own choice.
+use Rattle.std.specs.Prelude.{ℕ, ◌≡◌, ◌≢◌, ◌↔◌, List, Option, Some, None}
+use Rattle.std.specs.BTreeMap.{get_by_text}
+use Rattle.std.specs.Option.{option_map}
+use Rattle.brl_lines.specs.Answer.{Answer, answer_of}
+use Rattle.brl_lines.specs.declared.map_source.MapSource.{MapSource}
+
+-- what a source may answer
+abbrev pub Gives : Type 1
+Gives = List ℕ → Answer → Type 0
+
+-- it may answer the same as before
+abbrev pub AllStay : Gives → Gives → Type 0
+AllStay old new = (p : List ℕ) (a : Answer) → new p a ↔ old p a
+
+-- it may answer the same as before for each path but this one
+abbrev pub OthersStay : Gives → Gives → List ℕ → Type 0
+OthersStay old new path = (p : List ℕ) (a : Answer) → p ≢ path → new p a ↔ old p a
+
+-- it may answer what a file with these bytes gives
+abbrev pub GivesAlso : Gives → List ℕ → List ℕ → Type 0
+GivesAlso gives path bytes = gives path (answer_of (Some bytes))
+
+-- the files behind work that writes one with these bytes, if any
+abbrev pub FilesAfter : Gives → Gives → List ℕ → Option (List ℕ) → Type 0
+FilesAfter old new path None = AllStay old new
+FilesAfter old new path (Some bytes) = GivesAlso new path bytes × OthersStay old new path
+
+-- ---- Files in memory
+
+-- the bytes at a path
+abbrev pub bytes_at : MapSource → List ℕ → Option (List ℕ)
+bytes_at source path = option_map (λ bytes. bytes.items) (get_by_text source.files path)
+
+-- all paths have the bytes that they had
+abbrev pub AllAre : MapSource → MapSource → Type 0
+AllAre old new = (p : List ℕ) → bytes_at new p ≡ bytes_at old p
+
+-- all paths but this one have the bytes that they had
+abbrev pub OthersAre : MapSource → MapSource → List ℕ → Type 0
+OthersAre old new path = (p : List ℕ) → p ≢ path → bytes_at new p ≡ bytes_at old p
