@@ -153,13 +153,15 @@ expect 'a rule keeps two texts apart' 0 'no clash\n' ''
 
 printf 'letter a 1\nletter b 12\nletter c 14\nalways ab 14\n' >contraction.ctb
 clash contraction.ctb ab c
-expect 'a rule with the cells of a letter' 1 'left: ab\nright: c\ncells: 14\n' ''
+expect 'a rule with the cells of a letter' 1 \
+    'left: ab\nright: c\ncells: 14\nleft from 0:\n  ab  14  contraction.ctb:4\nright from 0:\n  c  14  contraction.ctb:3\n' ''
 
 printf 'space \\s 0\nletter b 12\nletter u 136\nletter t 2345\nword but 12\n' >word.ctb
 translate word.ctb 'b but tub\n'
 expect 'a word by a rule' 0 'B B TUB\n' ''
 clash word.ctb but b
-expect 'a word with the cells of a letter' 1 'left: but\nright: b\ncells: 12\n' ''
+expect 'a word with the cells of a letter' 1 \
+    'left: but\nright: b\ncells: 12\nleft from 0:\n  but  12  word.ctb:5\nright from 0:\n  b  12  word.ctb:2\n' ''
 
 echo 'word b 56-12' >>word.ctb
 translate word.ctb 'b but\n'
@@ -170,7 +172,8 @@ expect 'a rule for the letter keeps them apart' 0 'no clash\n' ''
 # Numbers and capitals.
 printf 'letter a 1\nlitdigit 1 1\nnumsign 3456\n' >numbers.ctb
 clash numbers.ctb 1a 11
-expect 'a letter that is read as a digit' 1 'left: 1a\nright: 11\ncells: 3456-1-1\n' ''
+expect 'a letter that is read as a digit' 1 \
+    'left: 1a\nright: 11\ncells: 3456-1-1\nleft from 1:\n  a  1  numbers.ctb:1\nright from 1:\n  1  1  numbers.ctb:2\n' ''
 
 printf 'nocontractsign 56\nnumericnocontchars a\n' >>numbers.ctb
 translate numbers.ctb '1a\n'
@@ -186,7 +189,8 @@ expect 'capitals with a rule' 0 ',C\nA,B\n' ''
 
 printf 'uplow Aa 1\n' >capitals.ctb
 clash capitals.ctb A a
-expect 'capitals without a sign' 1 'left: A\nright: a\ncells: 1\n' ''
+expect 'capitals without a sign' 1 \
+    'left: A\nright: a\ncells: 1\nleft from 0:\n  A  1  capitals.ctb:1\nright from 0:\n  a  1  capitals.ctb:1\n' ''
 
 printf 'litdigit 1 1\nnumsign 3456\npunctuation . 256\n' >numbers.ctb
 translate numbers.ctb '1.1\n.1\n'
@@ -312,10 +316,53 @@ run_example translate first.ctb
 expect 'the example of the help on translate' 0 'ABC A\n' ''
 
 run_example clash alike.ctb
-expect 'the example of the help on clash' 1 'left: ab\nright: x\ncells: 1-12\n' ''
+expect 'the example of the help on clash' 1 \
+    'left: ab\nright: x\ncells: 1-12\nleft from 0:\n  a  1   alike.ctb:1\n  b  12  alike.ctb:2\nright from 0:\n  x  1-12  alike.ctb:3\n' ''
 
 run_example check a.ctb
 expect 'the example of the help on check' 0 'accepted: 3 states, 1 pairs\n' ''
+
+run_example search ab.ctb
+expect 'the example of the help on search' 0 'certified: 4 states, 12 pairs\naccepted: 4 states, 12 pairs\n' ''
+
+# Searches a table for a certificate.
+search() {
+    "$program" search "$@" >out 2>err
+    status=$?
+}
+
+search ab.ctb none/ab.cert
+expect 'a certificate in a folder that is missing' 2 '' 'U7 CannotWrite none/ab.cert\n'
+
+search ab.ctb folder
+expect 'a folder as the certificate' 2 '' 'U7 CannotWrite folder\n'
+
+if [ -c /dev/full ]; then
+    search ab.ctb /dev/full
+    expect 'a certificate on a full device' 2 '' 'U7 CannotWrite /dev/full\n'
+fi
+
+printf 'kept\n' >kept.cert
+search word.ctb kept.cert --limit 0
+expect 'a search that passes its limit' 3 'limit: 1 states, 0 pairs\n' ''
+search alike.ctb kept.cert
+[ "$status" = 1 ] && [ ! -s err ] || fail 'a search that finds a clash' "status $status"
+echo 'ok: a search that finds a clash'
+printf 'kept\n' | cmp -s - kept.cert || fail 'a file where texts clash' 'it was written'
+echo 'ok: a file where texts clash stays'
+
+printf 'a longer text than the certificate of two letters has, which is written over it\n%1000s\n' x >kept.cert
+search ab.ctb kept.cert
+expect 'a certificate is written over a longer file' 0 'certified: 4 states, 12 pairs\n' ''
+"$program" check ab.ctb kept.cert >out 2>err
+status=$?
+expect 'it is accepted' 0 'accepted: 4 states, 12 pairs\n' ''
+
+printf 'letter a 1\nletter a 12\n' >again.ctb
+search again.ctb again.cert
+printf 'notice DefinedAgain a at again.ctb:2\n' | cmp -s - err || fail 'a notice' "standard error: $(cat err)"
+[ "$status" = 0 ] && [ -s again.cert ] || fail 'a notice' "status $status"
+echo 'ok: a character that is defined again'
 
 "$program" check missing.ctb missing.cert >out 2>err
 status=$?

@@ -1,8 +1,9 @@
 #!/bin/sh
 # Runs the examples. Usage: tests/examples.sh PROGRAM
 # examples/NAME.brf is what `translate examples/NAME.ctb` writes of examples/NAME.txt, examples/NAME.report what `clash
-# examples/NAME.ctb` writes of the two lines of examples/NAME.texts, and examples/NAME.verdict what `check examples/NAME.ctb
-# examples/NAME.cert` writes.
+# examples/NAME.ctb` writes of the two lines of examples/NAME.texts, examples/NAME.verdict what `check examples/NAME.ctb
+# examples/NAME.cert` writes, and examples/NAME.found what `search examples/NAME.ctb OUT` writes: where that is a certificate, a check
+# accepts it with the same numbers.
 set -u
 
 if [ $# -ne 1 ]; then
@@ -42,5 +43,25 @@ for want in *.verdict; do
         echo "FAILED: examples/$name"
         exit 1
     fi
+    echo "ok: examples/$name"
+done
+
+for want in *.found; do
+    name=${want%.found}
+    work=$(mktemp -d)
+    "$program" search "$name.ctb" "$work/cert" >"$work/found"
+    status=$?
+    case $status in
+        0) "$program" check "$name.ctb" "$work/cert" | sed 's/^accepted/certified/' | cmp - "$want" ;;
+        1) [ ! -e "$work/cert" ] ;;
+        *) false ;;
+    esac
+    kept=$?
+    if [ "$kept" != 0 ] || ! cmp "$work/found" "$want"; then
+        echo "FAILED: examples/$name, status $status"
+        rm -rf "$work"
+        exit 1
+    fi
+    rm -rf "$work"
     echo "ok: examples/$name"
 done

@@ -67,29 +67,6 @@ fn worked_tables(rt: HostRuntime) -> Result<(), Fail> {
     Ok(())
 }
 
-/// One of five dots operands.
-fn dots(number: u32) -> &'static str {
-    match number % 5 {
-        0 => "1",
-        1 => "12",
-        2 => "1-12",
-        3 => "12-1",
-        _ => "1-1",
-    }
-}
-
-#[test]
-fn tables_of_three_letters(rt: HostRuntime) -> Result<(), Fail> {
-    let alloc = rt.alloc();
-    for number in 0u32..125 {
-        let (a, b, c) = (dots(number), dots(number / 5), dots(number / 25));
-        let lines = format!(in alloc; "letter a {a};letter b {b};letter c {c}")?;
-        let found = word_of(alloc, lines.as_str())?;
-        assert!(rt; found == "certified" || found == "clashing");
-    }
-    Ok(())
-}
-
 #[test]
 fn the_empty_table(rt: HostRuntime) -> Result<(), Fail> {
     let alloc = rt.alloc();

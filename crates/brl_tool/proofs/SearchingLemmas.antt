@@ -59,9 +59,13 @@ pub told_texts : (t : TableView) (limit : ℕ) (answer : SearchFault) (left righ
     → IfUnconfirmed (λ left right. (cells : List ℕ) → IsClash t left right cells → ⊥) answer
     → IfUnconfirmed (λ left right. HasTwoEndsReached (window_machine t)) answer
     → text ≡ unconfirmed_line left right → IsVerdict t limit Unconfirmed text
-told_texts t limit answer left right text same none ends text_is =
-    (left, right, subst (IfUnconfirmed (λ left right. (cells : List ℕ) → IsClash t left right cells → ⊥)) same none,
-    subst (IfUnconfirmed (λ left right. HasTwoEndsReached (window_machine t))) same ends, text_is)
+told_texts t limit answer left right text same none ends text_is = (
+  left,
+  right,
+  subst (IfUnconfirmed (λ left right. (cells : List ℕ) → IsClash t left right cells → ⊥)) same none,
+  subst (IfUnconfirmed (λ left right. HasTwoEndsReached (window_machine t))) same ends,
+  text_is,
+)
 
 -- ---- The files
 

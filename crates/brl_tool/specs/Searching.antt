@@ -16,7 +16,7 @@ use Rattle.brl_tool.specs.Counts.{counts_line}
 use Rattle.brl_tool.specs.Files.{AllStay, FilesAfter, Gives, OthersStay}
 use Rattle.brl_tool.specs.Work.{IsFaultAt}
 use Rattle.brl_tool.specs.declared.run_fault.RunFault.{RunFault}
-use Rattle.brl_tool.specs.declared.run_fault.RunFault.TheVariants.{Load, Table, Wide, CannotWrite, OutputFailed, Memory}
+use Rattle.brl_tool.specs.declared.run_fault.RunFault.TheVariants.{Wide, CannotWrite, OutputFailed, Memory}
 use Rattle.brl_tool.specs.declared.verdict.Told.{Told}
 use Rattle.brl_tool.specs.declared.verdict.Verdict.{Verdict}
 use Rattle.brl_tool.specs.declared.verdict.Verdict.TheVariants.{Certified, Clash, Limit, Unconfirmed}

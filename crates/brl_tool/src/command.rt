@@ -87,11 +87,13 @@ const CLASH: &str = "Says whether two texts look alike in braille";
 const ABOUT_CLASH: &str = "Says whether two texts look alike in braille
 
 Translates both texts by a liblouis table. Where they differ and give the same
-cells, they clash: standard output gets the texts and their cells, and the exit
-status is 1. Else it gets 'no clash', and the status is 0.
+cells, they clash: standard output gets their report, and the exit status is 1.
+Else it gets 'no clash', and the status is 0.
 
-In the report \\s stands for a blank, \\\\ for a backslash, and control characters
-are written as in a table, so that each text can be copied into one.";
+The report has the texts and their cells, and then of each text the steps of its
+translation from where the two part: the characters, their cells, and the file
+and line of the rule. A blank is written \\s, a backslash \\\\, and control
+characters as in a table, so that each text can be copied into one.";
 
 /// What follows the options in `brl clash --help`.
 const CLASH_EXAMPLE: &str = "Example, a table in which x looks like ab:
@@ -101,7 +103,12 @@ const CLASH_EXAMPLE: &str = "Example, a table in which x looks like ab:
 It prints:
   left: ab
   right: x
-  cells: 1-12";
+  cells: 1-12
+  left from 0:
+    a  1   alike.ctb:1
+    b  12  alike.ctb:2
+  right from 0:
+    x  1-12  alike.ctb:3";
 
 /// What `brl --help` says of `brl check`.
 const CHECK: &str = "Says whether a certificate proves a table unambiguous";
@@ -145,8 +152,8 @@ const SEARCH_EXAMPLE: &str = "Example, a table of two letters:
   brl check ab.ctb ab.cert
 
 It prints:
-  certified: 7 states, 6 pairs
-  accepted: 7 states, 6 pairs";
+  certified: 4 states, 12 pairs
+  accepted: 4 states, 12 pairs";
 
 /// How many states, and how many pairs, a search finds at most, where the words don't say.
 const USUAL_LIMIT: &str = "1000000";

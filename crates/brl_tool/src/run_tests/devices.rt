@@ -1,8 +1,6 @@
 //! Files and streams that fail.
-ghost use Rattle.brl_lines.specs.Answer.{Answer};
-
 use crate::{Files, SinkFault};
-use brl_lines::{MapSource, Source, SourceFault};
+use brl_lines::{Source, SourceFault};
 use std::alloc::Global;
 use std::io::{Error, ErrorKind, Read, Result as IoResult, Write};
 
@@ -59,15 +57,15 @@ impl Files for Refusing {
 
 /// Files of which none can be written.
 #[derive(Drop)]
-pub struct Sealed {
-    pub files: MapSource,
+pub struct Sealed<S> {
+    pub files: S,
     pub refusal: SinkFault,
 }
 
-impl Source for Sealed {
-    ghost gives = { λ s p a. MapSource.gives s.files p a };
+impl<S: Source> Source for Sealed<S> {
+    ghost gives = { λ s. S.gives s.files };
 
-    ghost faults = { λ s. MapSource.faults s.files };
+    ghost faults = { λ s. S.faults s.files };
 
     fn read(&mut self, alloc: Global, path: &str) -> Result<Vec<u8>, SourceFault> {
         self.files.read(alloc, path)
@@ -78,7 +76,7 @@ impl Source for Sealed {
     }
 }
 
-impl Files for Sealed {
+impl<S: Source> Files for Sealed<S> {
     fn write(&mut self, _alloc: Global, _path: &str, _bytes: &[u8]) -> Result<(), SinkFault> {
         Err(self.refusal)
     }

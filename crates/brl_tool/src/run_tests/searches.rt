@@ -98,7 +98,8 @@ fn is_decided(alloc: Global, lines: &str) -> Result<bool, Fail> {
     let mut files = table_of(alloc, lines)?;
     let found = outcome_of(alloc, SEARCH, &mut files, b"")?;
     let told = found.out.as_slice();
-    match found.status {
+    let status = found.status;
+    match status {
         0 => is_accepted(alloc, &mut files, told),
         1 => is_reported(alloc, &mut files, told),
         _ => Ok(false),
@@ -116,29 +117,14 @@ fn tables_of_three_letters_are_decided(rt: HostRuntime) -> Result<(), Fail> {
     Ok(())
 }
 
-/// A table, and the certificate that a search of it writes.
-const WRITTEN: &str = "\
-#|BRLCERT 1; state 1 0 0 -; end 1 0
-letter a 1|BRLCERT 1; state 1 0 0 -; state 8 0 0 61; state 8 0 1 -; pair 1 2 -; end 3 1
-";
-
-/// Whether a search writes this certificate.
-fn is_written(alloc: Global, row: &str) -> Result<bool, Fail> {
-    let (lines, cert) = cut(row)?;
-    let mut files = table_of(alloc, lines)?;
-    let found = outcome_of(alloc, SEARCH, &mut files, b"")?;
-    let cert = lines_of(alloc, cert)?;
-    let Some(bytes) = files.files.get("o") else {
-        return Ok(false);
-    };
-    Ok(found.status == 0 && bytes.as_slice() == cert.as_slice())
-}
-
 #[test]
-fn certificates_are_written(rt: HostRuntime) -> Result<(), Fail> {
-    for row in WRITTEN.lines() {
-        assert!(rt; is_written(rt.alloc(), row)?, "{row}");
-    }
+fn the_certificate_of_the_empty_table(rt: HostRuntime) -> Result<(), Fail> {
+    let alloc = rt.alloc();
+    let mut files = table_of(alloc, "#")?;
+    let found = outcome_of(alloc, SEARCH, &mut files, b"")?;
+    assert!(rt; found.is(b"certified: 1 states, 0 pairs\n", b"", 0));
+    let cert = files.files.get("o").ok_or("no certificate")?;
+    assert!(rt; cert.as_slice() == b"BRLCERT 1\nstate 1 0 0 -\nend 1 0\n".as_slice());
     Ok(())
 }
 

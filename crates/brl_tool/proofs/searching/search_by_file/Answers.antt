@@ -1,5 +1,4 @@
-use Rattle.std.proofs.Common.{rules, subst, sym, string_bytes}
-use Rattle.std.specs.Io.KnownBytes.{Appends}
+use Rattle.std.proofs.Common.{rules, string_bytes}
 use Rattle.brl_tool.specs.Searching.{cert_of}
 use Rattle.brl_tool.proofs.SearchingLemmas.{files_after, searched_cut}
 use Rattle.brl_tool.proofs.searching.search_by_file.Goals as goal
@@ -12,7 +11,9 @@ returns-in_err-put g c =
     c.in_ok-told.ensures (search rules)
 
 pub returns : goal.returns
-returns g c =
-    (c.in_ok-table.table, c.in_ok-table.ensures.table,
-    files_after (g.F.Source.gives c.args.files.now) _ _ c.args.out.now (cert_of c.in_ok-told.told.verdict) c.in_ok-table.ensures.same c.in_ok-keep.ensures.kept,
-    (string_bytes c.in_ok-told.told.text, c.in_ok-told.ensures, search rules))
+returns g c = (
+  c.in_ok-table.table,
+  c.in_ok-table.ensures.table,
+  files_after (g.F.Source.gives c.args.files.now) _ _ c.args.out.now (cert_of c.in_ok-told.told.verdict) c.in_ok-table.ensures.same c.in_ok-keep.ensures.kept,
+  (string_bytes c.in_ok-told.told.text, c.in_ok-told.ensures, search rules),
+)
