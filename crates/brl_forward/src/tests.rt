@@ -1,6 +1,6 @@
 //! Worked translations, clashes and traces: rows whose fields are cut at `|`. More of them stand in brl_tool, by what the
 //! program prints.
-use crate::{ConfirmFault, ForwardFault, Side, Traced, confirm, trace, translate};
+use crate::{Clash, ConfirmFault, ForwardFault, Side, Traced, confirm, trace, translate};
 use brl_cells::write_dots;
 use brl_lines::{MapSource, load};
 use brl_table::{Table, read_table};
@@ -57,8 +57,9 @@ fn chars(alloc: Global, text: &str) -> Result<Vec<char>, Fail> {
 }
 
 /// The dots of the translation of a text.
-fn translated(alloc: Global, table: &Table, text: &str) -> Result<String, Fail> {
-    let cells = translate(alloc, table, chars(alloc, text)?.as_slice())?;
+fn translated(alloc: Global, lines: &str, text: &str) -> Result<String, Fail> {
+    let table = table_of(alloc, lines)?;
+    let cells = translate(alloc, &table, chars(alloc, text)?.as_slice())?;
     Ok(write_dots(alloc, cells.as_slice())?)
 }
 
@@ -68,20 +69,26 @@ fn worked_translations(rt: HostRuntime) -> Result<(), Fail> {
     for row in TRANSLATIONS.lines() {
         let (lines, rest) = cut(row)?;
         let (text, dots) = cut(rest)?;
-        let given = translated(alloc, &table_of(alloc, lines)?, text)?;
+        let given = translated(alloc, lines, text)?;
         assert!(rt; given.as_str() == dots, "at {row}");
     }
     Ok(())
 }
 
 /// The dots of a clash of two texts, or nothing where there is none. Its texts are theirs.
-fn clashing(alloc: Global, table: &Table, left: &str, right: &str) -> Result<String, Fail> {
+fn clashing(alloc: Global, lines: &str, left: &str, right: &str) -> Result<String, Fail> {
+    let table = table_of(alloc, lines)?;
     let left = chars(alloc, left)?;
     let right = chars(alloc, right)?;
-    let Some(clash) = confirm(alloc, table, left.as_slice(), right.as_slice())? else {
-        return Ok(String::new(alloc));
-    };
-    if clash.left() != left.as_slice() || clash.right() != right.as_slice() {
+    match confirm(alloc, &table, left.as_slice(), right.as_slice())? {
+        Some(clash) => clash_text(alloc, &clash, left.as_slice(), right.as_slice()),
+        None => Ok(String::new(alloc)),
+    }
+}
+
+/// The dots of a clash that has these texts.
+fn clash_text(alloc: Global, clash: &Clash, left: &[char], right: &[char]) -> Result<String, Fail> {
+    if clash.left() != left || clash.right() != right {
         return Err(Fail::from("the texts are others"));
     }
     Ok(write_dots(alloc, clash.cells())?)
@@ -94,7 +101,7 @@ fn worked_clashes(rt: HostRuntime) -> Result<(), Fail> {
         let (lines, rest) = cut(row)?;
         let (left, rest) = cut(rest)?;
         let (right, dots) = cut(rest)?;
-        let given = clashing(alloc, &table_of(alloc, lines)?, left, right)?;
+        let given = clashing(alloc, lines, left, right)?;
         assert!(rt; given.as_str() == dots, "{row}");
     }
     Ok(())
@@ -109,33 +116,58 @@ fn step_text(alloc: Global, step: &Traced) -> Result<String, Fail> {
     )?)
 }
 
+/// The steps of a text, each with a comma behind it.
+fn traced(alloc: Global, lines: &str, text: &str) -> Result<String, Fail> {
+    let table = table_of(alloc, lines)?;
+    let steps = trace(alloc, &table, chars(alloc, text)?.as_slice())?;
+    let mut given = String::new(alloc);
+    for step in &steps {
+        given.push_str(step_text(alloc, step)?.as_str())?;
+        given.push(',')?;
+    }
+    Ok(given)
+}
+
 #[test]
 fn worked_traces(rt: HostRuntime) -> Result<(), Fail> {
     let alloc = rt.alloc();
     for row in TRACES.lines() {
         let (lines, rest) = cut(row)?;
         let (text, want) = cut(rest)?;
-        let table = table_of(alloc, lines)?;
-        let mut given = String::new(alloc);
-        for step in &trace(alloc, &table, chars(alloc, text)?.as_slice())? {
-            given.push_str(step_text(alloc, step)?.as_str())?;
-            given.push(',')?;
-        }
+        let given = traced(alloc, lines, text)?;
         assert!(rt; given.as_str() == want, "{row}");
     }
     Ok(())
 }
 
+/// The faults of the translation and of the trace of a text, in the table of one letter `a`.
+fn faults_of_text(
+    alloc: Global,
+    text: &[char],
+) -> Result<(Option<ForwardFault>, Option<ForwardFault>), Fail> {
+    let table = table_of(alloc, "letter a 1")?;
+    let fault = translate(alloc, &table, text).err();
+    Ok((fault, trace(alloc, &table, text).err()))
+}
+
+/// The fault of the comparison of two texts in that table.
+fn fault_of_texts(
+    alloc: Global,
+    left: &[char],
+    right: &[char],
+) -> Result<Option<ConfirmFault>, Fail> {
+    let table = table_of(alloc, "letter a 1")?;
+    Ok(confirm(alloc, &table, left, right).err())
+}
+
 #[test]
 fn unknown_characters(rt: HostRuntime) -> Result<(), Fail> {
     let alloc = rt.alloc();
-    let table = table_of(alloc, "letter a 1")?;
     let fault = Some(ForwardFault::UnknownChar(1));
-    assert!(rt; translate(alloc, &table, &['a', 'z']).err() == fault);
-    assert!(rt; trace(alloc, &table, &['a', 'z']).err() == fault);
-    let left = confirm(alloc, &table, &['z'], &['y']).err();
+    assert!(rt; faults_of_text(alloc, &['a', 'z'])? == (fault, fault));
+    let left = fault_of_texts(alloc, &['z'], &['y'])?;
     assert!(rt; left == Some(ConfirmFault::UnknownChar(Side::Left, 0)));
-    let right = confirm(alloc, &table, &['a'], &['a', 'z']).err();
+    let right = fault_of_texts(alloc, &['a'], &['a', 'z'])?;
     assert!(rt; right == Some(ConfirmFault::UnknownChar(Side::Right, 1)));
     Ok(())
 }
