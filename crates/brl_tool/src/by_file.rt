@@ -1,5 +1,5 @@
 //! Work by the table whose file stands at a path.
-ghost use Rattle.std.specs.Prelude.{◌≡◌, IfOk, IfErr};
+ghost use Rattle.std.specs.Prelude.{IfErr, IfOk};
 ghost use Rattle.std.specs.Str.{chars};
 ghost use Rattle.brl_accept.specs.Files.{IsTableOf};
 ghost use Rattle.brl_tool.specs.Comparing.{Compares};

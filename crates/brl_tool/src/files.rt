@@ -30,8 +30,7 @@ impl From<AllocError> for SinkFault {
 
 /// Files that can be read and written.
 pub trait Files: Source {
-    ghost use Rattle.std.specs.Prelude.{◌≡◌, ℕ, List, OnOk};
-    ghost use Rattle.brl_lines.specs.Answer.{Answer};
+    ghost use Rattle.std.specs.Prelude.{◌≡◌, OnOk};
     ghost use Rattle.brl_tool.specs.Files.{GivesAlso, OthersStay};
 
     /// Writes a file with these bytes at `path`, in place of the one that stood there. `Failed` where they couldn't all be

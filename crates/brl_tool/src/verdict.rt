@@ -1,9 +1,7 @@
 //! What a search says of a table, and how it is told.
-ghost use Rattle.std.specs.Prelude.{◌≡◌, List, ℕ, Some, IfOk, codes, length, map, string_bytes};
-ghost use Rattle.brl_cert.specs.Reading.{spelling};
-ghost use Rattle.brl_cert.specs.Views.{cert_view};
+ghost use Rattle.std.specs.Prelude.{◌≡◌, IfOk, string_bytes};
 ghost use Rattle.brl_tool.specs.Running.{verdict_status};
-ghost use Rattle.brl_tool.specs.Searching.{Tells, TellsCertificate, cert_of, unconfirmed_line};
+ghost use Rattle.brl_tool.specs.Searching.{Tells, TellsCertificate, unconfirmed_line};
 
 use crate::counts::counts_text;
 use crate::run_fault::RunFault;
