@@ -4,7 +4,6 @@ pub mod Again
 pub mod Found
 pub mod Window
 pub mod Sound
-pub mod Rows
 pub mod Numbers
 pub mod Lists
 pub mod Written

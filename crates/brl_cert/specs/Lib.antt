@@ -4,6 +4,5 @@ pub mod Lines
 pub mod Window
 pub mod Reading
 pub mod Valid
-pub mod Examples
 pub mod Views
 pub mod Sets
