@@ -81,27 +81,41 @@ fn judged(alloc: Global, root: &str, other: &str, text: &str) -> Result<String, 
     answer(alloc, &mut source, text)
 }
 
+/// Whether this is answered for a certificate and the table of two files.
+fn is_judged(alloc: Global, root: &str, other: &str, text: &str, want: &str) -> Result<bool, Fail> {
+    Ok(judged(alloc, root, other, text)?.as_str() == want)
+}
+
+/// Whether a row's first field is answered for the row's certificate.
+fn is_certificate_judged(alloc: Global, row: &str) -> Result<bool, Fail> {
+    let (want, text) = cut(row)?;
+    is_judged(alloc, "letter a 1", "", text, want)
+}
+
 #[test]
 fn worked_certificates(rt: HostRuntime) -> Result<(), Fail> {
     for row in CERTIFICATES.lines() {
-        let (want, text) = cut(row)?;
-        let given = judged(rt.alloc(), "letter a 1", "", text)?;
-        assert!(rt; given.as_str() == want, "{given} at {row}");
+        assert!(rt; is_certificate_judged(rt.alloc(), row)?, "at {row}");
     }
     Ok(())
 }
 
+/// Whether a row's first field is answered for the start alone and the row's table.
+fn is_table_judged(alloc: Global, row: &str) -> Result<bool, Fail> {
+    let (want, rest) = cut(row)?;
+    let (root, other) = cut(rest)?;
+    is_judged(alloc, root, other, START, want)
+}
+
 #[test]
 fn worked_tables(rt: HostRuntime) -> Result<(), Fail> {
+    let alloc = rt.alloc();
     for row in TABLES.lines() {
-        let (want, rest) = cut(row)?;
-        let (root, other) = cut(rest)?;
-        let given = judged(rt.alloc(), root, other, START)?;
-        assert!(rt; given.as_str() == want, "{given} at {row}");
+        assert!(rt; is_table_judged(alloc, row)?, "at {row}");
     }
     // the table is refused before the certificate
-    let foreign = judged(rt.alloc(), "pass2 @1 @2", "", "")?;
-    assert!(rt; foreign.as_str() == "B1 OutsideProfile pass2 at t.ctb:1");
+    let foreign = "B1 OutsideProfile pass2 at t.ctb:1";
+    assert!(rt; is_judged(alloc, "pass2 @1 @2", "", "", foreign)?);
     Ok(())
 }
 
@@ -114,10 +128,13 @@ fn letters(alloc: Global) -> Result<String, Fail> {
     Ok(lines)
 }
 
+fn are_100_letters_too_wide(alloc: Global) -> Result<bool, Fail> {
+    let lines = letters(alloc)?;
+    is_judged(alloc, lines.as_str(), "", START, "W1 TooWide")
+}
+
 #[test]
 fn a_table_of_100_letters_is_too_wide(rt: HostRuntime) -> Result<(), Fail> {
-    let lines = letters(rt.alloc())?;
-    let given = judged(rt.alloc(), lines.as_str(), "", START)?;
-    assert!(rt; given.as_str() == "W1 TooWide");
+    assert!(rt; are_100_letters_too_wide(rt.alloc())?);
     Ok(())
 }

@@ -37,73 +37,68 @@ fn word_of_same(same: &Clash, clash: &Clash) -> &'static str {
     }
 }
 
+/// The bytes of the certificate that lists the start alone.
+const START: &str = "BRLCERT 1\nstate 1 0 0 -\nend 1 0\n";
+
+/// What this certificate is, in a word.
+fn word_of_cert(alloc: Global, cert: &Cert) -> Result<&'static str, Fail> {
+    Ok(if write_cert(alloc, cert)?.as_slice() == START.as_bytes() {
+        "the start alone"
+    } else {
+        "certified"
+    })
+}
+
 fn word_of_found(alloc: Global, table: &Table, found: &Found) -> Result<&'static str, Fail> {
     match found {
-        Found::Certified(_) => Ok("certified"),
+        Found::Certified(cert) => word_of_cert(alloc, cert),
         Found::Clashing(clash) => word_of_clash(alloc, table, clash),
+        Found::Limit {
+            states: 1,
+            pairs: 0,
+        } => Ok("limit at the start"),
         Found::Limit { .. } => Ok("limit"),
     }
 }
 
-/// What a search of a table with the program's limit finds, in a word.
-fn word_of_table(alloc: Global, table: &Table) -> Result<&'static str, Fail> {
-    let found = search(alloc, table, 1_000_000)?;
+fn word_of_table(alloc: Global, table: &Table, limit: u32) -> Result<&'static str, Fail> {
+    let found = search(alloc, table, limit as u64)?;
     word_of_found(alloc, table, &found)
 }
 
-fn word_of(alloc: Global, lines: &str) -> Result<&'static str, Fail> {
+fn word_of(alloc: Global, lines: &str, limit: u32) -> Result<&'static str, Fail> {
     let table = table_of(alloc, lines)?;
-    word_of_table(alloc, &table)
+    word_of_table(alloc, &table, limit)
+}
+
+/// Whether a search of the table of these lines with this limit finds what the word says.
+fn finds(alloc: Global, lines: &str, limit: u32, want: &str) -> Result<bool, Fail> {
+    Ok(word_of(alloc, lines, limit)? == want)
+}
+
+/// Whether a row's first field is found.
+fn is_found(alloc: Global, row: &str) -> Result<bool, Fail> {
+    let (want, lines) = cut(row)?;
+    finds(alloc, lines, 1_000_000, want)
 }
 
 #[test]
 fn worked_tables(rt: HostRuntime) -> Result<(), Fail> {
     for row in SEARCHES.lines() {
-        let (word, lines) = cut(row)?;
-        let found = word_of(rt.alloc(), lines)?;
-        assert!(rt; found == word, "at {row}");
+        assert!(rt; is_found(rt.alloc(), row)?, "at {row}");
     }
     Ok(())
-}
-
-/// Whether these are the bytes of a certificate.
-fn is_spelled(alloc: Global, cert: &Cert, bytes: &[u8]) -> Result<bool, Fail> {
-    Ok(write_cert(alloc, cert)?.as_slice() == bytes)
-}
-
-/// Whether the start alone is found to certify a table.
-fn is_start_alone(alloc: Global, table: &Table) -> Result<bool, Fail> {
-    match search(alloc, table, 1)? {
-        Found::Certified(cert) => {
-            is_spelled(alloc, &cert, b"BRLCERT 1\nstate 1 0 0 -\nend 1 0\n")
-        }
-        _ => Ok(false),
-    }
 }
 
 #[test]
 fn the_empty_table(rt: HostRuntime) -> Result<(), Fail> {
-    let alloc = rt.alloc();
-    let table = table_of(alloc, "")?;
-    assert!(rt; is_start_alone(alloc, &table)?);
+    assert!(rt; finds(rt.alloc(), "", 1, "the start alone")?);
     Ok(())
-}
-
-/// Whether a search of a table with the limit 0 ends with one state and no pair.
-fn is_more_than_none(alloc: Global, table: &Table) -> Result<bool, Fail> {
-    Ok(matches!(
-        search(alloc, table, 0)?,
-        Found::Limit {
-            states: 1,
-            pairs: 0
-        }
-    ))
 }
 
 #[test]
 fn the_start_is_more_than_none(rt: HostRuntime) -> Result<(), Fail> {
-    let alloc = rt.alloc();
-    let table = table_of(alloc, "letter a 1; letter b 12; letter x 1-12")?;
-    assert!(rt; is_more_than_none(alloc, &table)?);
+    let lines = "letter a 1; letter b 12; letter x 1-12";
+    assert!(rt; finds(rt.alloc(), lines, 0, "limit at the start")?);
     Ok(())
 }
