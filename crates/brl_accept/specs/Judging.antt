@@ -35,7 +35,8 @@ pub record IsClosedAs {S : Type 0} (m : Behaviour S) (body : BodyView S) (accept
   pub states : accepted.states ≡ length body.states
   pub pairs : accepted.pairs ≡ length body.pairs
 
--- the states and pairs are closed for the machine of the certificate's version; for a window machine the table isn't too wide
+-- the states and pairs are closed for the machine of the certificate's version; for a window
+-- machine the table isn't too wide
 abbrev pub IsAcceptedWith : TableView → CertView → Accepted → Type 0
 IsAcceptedWith t (Windows body) accepted = (start_moves t ≤ 10000) × IsClosedAs (window_machine t) body accepted
 IsAcceptedWith t (Owing body) accepted = IsClosedAs (dues_machine t) body accepted
@@ -44,7 +45,8 @@ IsAcceptedWith t (Owing body) accepted = IsClosedAs (dues_machine t) body accept
 abbrev pub IsNotClosed : {S : Type 0} → Behaviour S → BodyView S → AcceptFault → Type 0
 IsNotClosed m body fault = (fault ≢ accept.Memory) × IsRefused m body fault
 
--- the table is too wide for a window machine, or else the states and pairs aren't closed; any table may be out of memory
+-- the table is too wide for a window machine, or else the states and pairs aren't closed; an
+-- allocation may fail at any table
 abbrev pub IsRefusedWith : TableView → CertView → JudgeFault → Type 0
 IsRefusedWith t (Windows body) (Wide fault) = 10000 < start_moves t
 IsRefusedWith t (Windows body) (Refused fault) = (start_moves t ≤ 10000) × IsNotClosed (window_machine t) body fault

@@ -77,10 +77,11 @@ fn judge_table(alloc: Global, table: &Table, cert: &[u8]) -> Result<Accepted, Ju
 /// characters that the table translates to the same cells are equal, of whatever length. It answers how many states and
 /// pairs the certificate lists.
 ///
-/// Each stage has its own refusals, and the first that refuses is named: `Load` where the files have no lines; `Table` where
-/// a line has a fault; `Cert` where the bytes spell no certificate; `Wide` where the certificate is of version 1 and the table
-/// has no window machine; `Refused` where the certificate's states and pairs aren't closed for the machine of its version.
-/// `Memory` where an allocation failed.
+/// Each stage has its own refusals, and the first that refuses is named: `Load` where the files
+/// have no lines; `Table` where a line has a fault; `Cert` where the bytes spell no certificate;
+/// `Wide` where the certificate is of version 1 and the table has no window machine; `Refused`
+/// where the certificate's states and pairs aren't closed for the machine of its version. `Memory`
+/// where an allocation failed.
 pub fn judge<S: Source>(
     alloc: Global,
     source: &mut S,
@@ -92,8 +93,8 @@ pub fn judge<S: Source>(
     ensures unambiguous { OnOk result ((t : TableView) × IsTableOf (S.gives source.old) root.now t
         × ((left right : List ℕ) → IsTrue (is_text t left) → IsTrue (is_text t right)
         → translation t left ≡ translation t right → left ≡ right)) }
-    // The bytes spell a certificate, this many of whose states and pairs are closed for the machine of its version; the
-    // table isn't too wide for version 1.
+    // The bytes spell a certificate, this many of whose states and pairs are closed for the machine
+    // of its version; the table isn't too wide for version 1.
     ensures accepted { IfOk result (λ accepted. (answers : Answers) × AreGiven (S.gives source.old) answers
         × IsAcceptedBy answers root.now cert.now accepted) }
     // The first stage that refuses is named, by its own fault.

@@ -67,6 +67,7 @@ loose_dues (b ∷ n ∷ fields) = (number 255).loose b >>= λ before. flag.loose
     Some (record { before = record { 0 = before }; numeric = numeric; dues = in_order dues })
 loose_dues fields = None
 
--- the classes before as a number, numeric mode, and the dues, which in the loose form are in any order
+-- the classes before as a number, numeric mode, and the dues, which in the loose form are in any
+-- order
 abbrev pub owing : States DuesState
 owing = record { fields = dues_fields; loose = loose_dues; same = eq-value.it }

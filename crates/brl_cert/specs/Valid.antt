@@ -43,7 +43,8 @@ abbrev pub IsDue : Due → Type 0
 IsDue (Need cond) = HasSet cond
 IsDue (Bar chars cond) = All (λ c. is_char c ≡ true) chars × HasSet cond
 
--- a state's classes are a number of eight bits, and its dues are in range, in order and without repeats
+-- a state's classes are a number of eight bits, and its dues are in range, in order and without
+-- repeats
 pub record IsOwing (s : DuesState) : Type 0 where
   pub before : s.before.0 < 256
   pub each : All IsDue s.dues

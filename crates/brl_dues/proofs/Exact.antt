@@ -34,8 +34,8 @@ ends-met t (d ∷ dues) = ap₂ (λ a b. a && b) (space-met t d) (ends-met t due
 
 -- ---- A step backwards
 
--- where a rest meets the dues after a step: the form is taken before it, and what the form reads and
--- the rest meet the dues
+-- where a rest meets the dues after a step: the form is taken before it, and what the form reads
+-- and the rest meet the dues
 pub record Takes (t : TableView) (s : DuesState) (f : Form) (u : List ℕ) : Type 0 where
   pub after : holds f.after (classes_at t u 0) ≡ true
   pub none : none_fits t s.before (f.reads ++ u) f.above ≡ true

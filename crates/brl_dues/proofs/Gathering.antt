@@ -97,8 +97,8 @@ gathered-none xs old new h = ap (λ b. cond b (Some (in_order (lefts xs))) None)
 gathered-some : (xs : List Carried) (new : List Due) → Adds xs [] new true → gathered xs ≡ Some (in_order new)
 gathered-some xs new h = ap₂ (λ b (l : List Due). cond b (Some (in_order l)) None) (sym h.whole_is) (sym (h.found refl))
 
--- the parts that a step finds: what the old dues leave, the need of its after-condition, and the bars
--- of the rules above
+-- the parts that a step finds: what the old dues leave, the need of its after-condition, and the
+-- bars of the rules above
 module _ (t : TableView) (l : LetterView) (others : List ℕ) (after : Cond) (dues slice : List Due) (reads : List ℕ) (above : List (List ℕ × Cond))
     (same_dues : slice ≡ dues) (same_reads : reads ≡ l.character ∷ others) (start one : List Due) (none : start ≡ []) (v : Bool)
     (old : Adds (map (carry t reads) slice) start one v) where

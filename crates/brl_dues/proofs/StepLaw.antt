@@ -1,6 +1,6 @@
 -- The law of one step: the dues after it hold of a rest exactly where the rest meets what the form
--- asks for, no rule ranked above fits at the start of what the form reads and the rest, and these meet
--- the state's dues.
+-- asks for, no rule ranked above fits at the start of what the form reads and the rest, and these
+-- meet the state's dues.
 use Rattle.std.proofs.Common.{◌≡◌, ℕ, Bool, true, false, not, ◌&&◌, List, [], ◌∷◌, ◌++◌, Option, Some, None, refl, sym, ap, ap₂, ◌∙◌, cond, map}
 use Rattle.std.specs.List.{list_all}
 use Rattle.std.specs.declared.cmp.Ordering.{Ordering}

@@ -9,8 +9,8 @@ use Rattle.brl_table.specs.Text.{classes_at}
 use Rattle.brl_dues.specs.declared.due.Due.{Due}
 use Rattle.brl_dues.specs.declared.due.Due.TheVariants.{Need, Bar}
 
--- a rest begins with these characters, and the classes after them meet the condition; the end of the
--- rest counts as class space
+-- a rest begins with these characters, and the classes after them meet the condition; the end of
+-- the rest counts as class space
 abbrev pub goes_on : TableView → List ℕ → List ℕ → Cond → Bool
 goes_on t rest chars cond = starts_with nat_eq rest chars && holds cond (classes_at t rest (length chars))
 

@@ -1,5 +1,5 @@
--- The case forms in which the rules of a table, in rank, may be taken after a character, and then the
--- own definitions. Each is defined by itself, and listed.
+-- The case forms in which the rules of a table, in rank, may be taken after a character, and then
+-- the own definitions. Each is defined by itself, and listed.
 use Rattle.std.specs.Prelude.{ℕ, ◌≡◌, ◌==◌, IsTrue, List, [], ◌∷◌, ◌++◌, ◌⊎◌, length, map, take, slice_get, Some, if◌then◌else◌}
 use Rattle.std.specs.List.{flat_map}
 use Rattle.std.specs.Map.{keys_of}
@@ -12,9 +12,9 @@ use Rattle.brl_table.specs.Places.{holds, before_of, after_of}
 use Rattle.brl_table.specs.TableView.{TableView}
 use Rattle.brl_table.specs.Text.{fold_of, is_defined}
 
--- a rule, or an own definition, as a step may take it: its number, the characters that it reads, what
--- it asks of the character after these, its cells without indicators, and the rules that are ranked
--- above it
+-- a rule, or an own definition, as a step may take it: its number, the characters that it reads,
+-- what it asks of the character after these, its cells without indicators, and the rules that are
+-- ranked above it
 pub record Form : Type 0 where
   pub number : ℕ
   pub reads : List ℕ

@@ -25,8 +25,9 @@ pub record GoesOnBy (t : TableView) (s : DuesState) (rest : List ℕ) (x : Step 
 abbrev pub GoesOn : TableView → DuesState → List ℕ → Type 0
 GoesOn t s rest = ((rest ≡ []) × IsTrue (ends s)) ⊎ ((x : Step DuesState) × GoesOnBy t s rest x)
 
--- The law of one step: a rest meets a state's dues exactly where it is empty and the state ends, or a
--- step goes on. Never both, by no more than one step, and by the rule that the table chooses there.
+-- The law of one step: a rest meets a state's dues exactly where it is empty and the state ends, or
+-- a step goes on. Never both, by no more than one step, and by the rule that the table chooses
+-- there.
 pub record OneStep (t : TableView) (s : DuesState) (rest : List ℕ) : Type 0 where
   pub goes_on : IsTrue (dues_met t rest s.dues) ↔ GoesOn t s rest
   pub never_both : (x : Step DuesState) → GoesOnBy t s rest x → rest ≡ [] → ⊥

@@ -1,5 +1,5 @@
--- Internal. How the steps of a state are found: by the characters that may come next, each with what
--- the rules above ask after it. That these are the steps of the machine is proved.
+-- Internal. How the steps of a state are found: by the characters that may come next, each with
+-- what the rules above ask after it. That these are the steps of the machine is proved.
 use Rattle.std.specs.Prelude.{ℕ, ◌+◌, Bool, true, false, ◌&&◌, ◌==◌, List, [], ◌∷◌, ◌++◌, filter, map, drop, if◌then◌else◌}
 use Rattle.std.specs.List.{flat_map, list_all}
 use Rattle.brl_pairs.specs.declared.step.Step.{Step}

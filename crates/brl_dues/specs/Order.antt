@@ -1,6 +1,6 @@
--- The order of dues: needs before bars; needs by their conditions; bars by their characters, as lists
--- of code points, then by their conditions. Conditions: Any, Meets, Avoids, then the number of the
--- set. The order is this project's own choice.
+-- The order of dues: needs before bars; needs by their conditions; bars by their characters, as
+-- lists of code points, then by their conditions. Conditions: Any, Meets, Avoids, then the number
+-- of the set. The order is this project's own choice.
 use Rattle.std.specs.Prelude.{ℕ, Bool, true, false, List, [], ◌∷◌, All, IsTrue}
 use Rattle.std.specs.Ordering.{nat_cmp, then_cmp, on}
 use Rattle.std.specs.Cmp.Lexicographic.{slice_cmp}

@@ -1,6 +1,6 @@
 -- The dues machine of a table: its steps, each defined by itself and listed. The machine is this
--- project's own choice; the rule that is chosen, the indicators and the context are those of the table
--- (the manual's sections "Translation Opcodes" and "Braille Indicator Opcodes").
+-- project's own choice; the rule that is chosen, the indicators and the context are those of the
+-- table (the manual's sections "Translation Opcodes" and "Braille Indicator Opcodes").
 use Rattle.std.specs.Prelude.{◌≡◌, Bool, false, List, [], ◌∷◌, ◌++◌, map, Option, Some, None}
 use Rattle.std.specs.List.{flat_map, list_all}
 use Rattle.brl_pairs.specs.Runs.{Behaviour}
@@ -62,8 +62,8 @@ step_if t s f (Some dues) = step_of t s f dues ∷ []
 abbrev pub steps_of : TableView → DuesState → Form → List (Step DuesState)
 steps_of t s f = step_if t s f (next_dues t s f)
 
--- the steps that the machine lists from a state: the forms by rank, those of one rule by the numbers
--- of their characters
+-- the steps that the machine lists from a state: the forms by rank, those of one rule by the
+-- numbers of their characters
 unfoldable pub dues_steps : TableView → DuesState → List (Step DuesState)
 dues_steps t s = flat_map (steps_of t s) (forms t s.before)
 

@@ -17,15 +17,15 @@ ghost use Rattle.brl_dues.specs.declared.state.DuesState.{DuesState as StateValu
 
 use brl_table::{Table, choice_laws, translation_laws};
 
-/// The dues machine of a table lists exactly the steps of a state, for every value of the state type.
-/// That each is listed once, by ascending rule number, is a law of every machine.
+/// The dues machine of a table lists exactly the steps of a state, for every value of the state
+/// type. That each is listed once, by ascending rule number, is a law of every machine.
 pub fn dues_law()
     ensures { (t : TableView) (s : StateValue) (x : StepValue StateValue) → IsListed (dues_steps t s) x ↔ IsStep t s x }
 {}
 
-/// The dues after a step: none of what is carried is broken, and they are what is left, in order and
-/// without repeats. Dues in order are their own order, and proper dues put in order are dues that a
-/// state may have, with the same members.
+/// The dues after a step: none of what is carried is broken, and they are what is left, in order
+/// and without repeats. Dues in order are their own order, and proper dues put in order are dues
+/// that a state may have, with the same members.
 pub fn order_law()
     ensures gathered { (carried : List CarriedValue) (dues : List DueValue) → gathered carried ≡ Some dues ↔ AreGathered carried dues }
     ensures kept { (dues : List DueValue) → AreDues dues → in_order dues ≡ dues }
@@ -42,7 +42,8 @@ pub fn step_law(table: &Table)
     table.law();
 }
 
-/// Each path of the dues machine that ends is the translation of a text, and each text has one path.
+/// Each path of the dues machine that ends is the translation of a text, and each text has one
+/// path.
 pub fn exact_law(table: &Table)
     ensures { IsExact (dues_machine table.now) }
 {

@@ -13,8 +13,8 @@ use std::alloc::{AllocError, Global};
 use std::hash::{Hash, Hasher};
 use std::marker::Model;
 
-/// A list of dues in order, needs before bars, without repeats; no need of `Any`, and no bar without
-/// characters. A contract sees the list.
+/// A list of dues in order, needs before bars, without repeats; no need of `Any`, and no bar
+/// without characters. A contract sees the list.
 #[derive(Debug, Drop)]
 pub struct DueList {
     items: Vec<Due>,
