@@ -15,6 +15,3 @@ pub use accepted::Accepted;
 pub use accepting::accept;
 pub use judge_fault::JudgeFault;
 pub use judging::judge;
-
-#[cfg(test)]
-mod tests;

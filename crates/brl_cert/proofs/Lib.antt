@@ -5,7 +5,6 @@ pub mod Found
 pub mod Window
 pub mod Versions
 pub mod Sound
-pub mod Rows
 pub mod Numbers
 pub mod Lists
 pub mod Written

@@ -5,6 +5,5 @@ pub mod Window
 pub mod Dues
 pub mod Reading
 pub mod Valid
-pub mod Examples
 pub mod Views
 pub mod Sets

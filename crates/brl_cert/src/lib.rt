@@ -27,6 +27,3 @@ pub use pair::CertPair;
 pub use reading::read_cert;
 pub use state_line::StateLine;
 pub use writing::write_cert;
-
-#[cfg(test)]
-mod tests;

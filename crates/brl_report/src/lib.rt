@@ -8,6 +8,3 @@ mod row;
 mod shown;
 
 pub use reporting::report;
-
-#[cfg(test)]
-mod tests;

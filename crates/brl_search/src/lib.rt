@@ -21,6 +21,3 @@ mod work;
 pub use fault::SearchFault;
 pub use found::Found;
 pub use table_search::search;
-
-#[cfg(test)]
-mod tests;

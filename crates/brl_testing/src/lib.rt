@@ -1,0 +1,15 @@
+//! What the tests of several crates share: rows of text cut into fields and lines, tables of lines, and sources, readers and
+//! writers that fail. No crate of the program uses it.
+#![tactic(auto)]
+
+mod readers;
+mod refusing;
+mod rows;
+mod tables;
+mod writers;
+
+pub use readers::{Broken, Slow};
+pub use refusing::Refusing;
+pub use rows::{chars, cut, lines_of};
+pub use tables::{loaded_of, one_file, table_of};
+pub use writers::{Closed, Full};

@@ -1,0 +1,27 @@
+//! A source that gives no file.
+use brl_lines::{Source, SourceFault};
+use std::alloc::Global;
+
+/// Refuses each read with the same fault, and counts its failures.
+#[derive(Drop)]
+pub struct Refusing {
+    pub refusal: SourceFault,
+    pub failures: u64,
+}
+
+impl Source for Refusing {
+    ghost gives = { λ _ _ _. Unit {0} };
+
+    ghost faults = { λ s. s.failures };
+
+    fn read(&mut self, _alloc: Global, _path: &str) -> Result<Vec<u8>, SourceFault> {
+        if self.refusal == SourceFault::Failed {
+            self.failures = self.failures.saturating_add(1);
+        }
+        Err(self.refusal)
+    }
+
+    fn failures(&self) -> u64 {
+        self.failures
+    }
+}

@@ -1,0 +1,181 @@
+//! Worked certificates: as theorems, and as bytes that are read and written.
+ghost use Rattle.std.specs.Prelude.{◌≡◌, ◌∷◌, [], codes, Ok};
+ghost use Rattle.brl_cert.specs.Reading.{spelling, reading};
+ghost use Rattle.brl_tests_high.specs.Certificates.{lines, three_states, three_lines, start_alone, faulty, AreRefused};
+
+use crate::lines::bytes_of;
+use brl_cells::{Cell, Cells};
+use brl_cert::{Body, Cert, CertFault, CertPair, Members, Wrong, read_cert, write_cert};
+use brl_testing::cut;
+use std::alloc::Global;
+use std::test::Fail;
+
+/// Worked certificates and faults, computed from the definitions.
+fn worked_theorems()
+    ensures spelled { spelling three_states ≡ lines three_lines }
+    ensures read { reading (lines three_lines) ≡ Ok three_states }
+    ensures start { reading (lines (codes "BRLCERT 1" ∷ codes "state 1 0 0 -" ∷ codes "end 1 0" ∷ [])) ≡ Ok start_alone }
+    ensures refused { AreRefused faulty }
+{}
+
+#[test]
+fn worked_examples_compute() {
+    worked_theorems();
+}
+
+/// What reading gives, and the bytes: a certificate, or the fault that they are refused with.
+const READINGS: &str = "\
+certificate|BRLCERT 1;state 1 0 0 -;state 8 0 0 61;state 8 0 1 -;pair 1 2 -;end 3 1;
+certificate|BRLCERT 1;state 1 0 0 -;end 1 0;
+certificate|BRLCERT 1;end 0 0;
+certificate|BRLCERT 1;state 1 0 0 -;state 8 0 0 61;state 8 0 1 -;pair 2 1 -;end 3 1;
+certificate|BRLCERT 1;state 1 0 0 -;state 8 0 0 61;state 8 0 1 -;pair 1 2 -;pair 2 1 -;end 3 2;
+certificate|BRLCERT 1;state 255 1 1 61.1f600.10ffff;pair 0 0 0-12345678;end 1 1;
+K8 Truncated line 1|
+K8 Truncated line 1|BRLCERT 1
+K8 Truncated line 6|BRLCERT 1;state 1 0 0 -;state 8 0 0 61;state 8 0 1 -;pair 1 2 -;end 3 1
+K2 Syntax line 7|BRLCERT 1;state 1 0 0 -;state 8 0 0 61;state 8 0 1 -;pair 1 2 -;end 3 1;x
+K2 Syntax line 7|BRLCERT 1;state 1 0 0 -;state 8 0 0 61;state 8 0 1 -;pair 1 2 -;end 3 1;;
+K2 Syntax line 1|BRLCERT;state 1 0 0 -;state 8 0 0 61;state 8 0 1 -;pair 1 2 -;end 3 1;
+K2 Syntax line 2|BRLCERT 1;state 1 0 0 -\r;state 8 0 0 61;state 8 0 1 -;pair 1 2 -;end 3 1;
+K8 Truncated line 6|BRLCERT 1;state 1 0 0 -;state 8 0 0 61;state 8 0 1 -;pair 1 2 -;
+K3 NotCanonical line 2|BRLCERT 1;state 01 0 0 -;state 8 0 0 61;state 8 0 1 -;pair 1 2 -;end 3 1;
+K3 NotCanonical line 3|BRLCERT 1;state 1 0 0 -;state 8 0 0 061;state 8 0 1 -;pair 1 2 -;end 3 1;
+K3 NotCanonical line 3|BRLCERT 1;state 1 0 0 -;state 8 0 0 6A;state 8 0 1 -;pair 1 2 -;end 3 1;
+K2 Syntax line 3|BRLCERT 1;state 1 0 0 -;state 8 0 0 d800;state 8 0 1 -;pair 1 2 -;end 3 1;
+K2 Syntax line 3|BRLCERT 1;state 1 0 0 -;state 8 00 0 61;state 8 0 1 -;pair 1 2 -;end 3 1;
+K2 Syntax line 3|BRLCERT 1;state 1 0 0 -;state 256 0 0 61;state 8 0 1 -;pair 1 2 -;end 3 1;
+K2 Syntax line 3|BRLCERT 1;state 1 0 0 -;state 8  0 0 61;state 8 0 1 -;pair 1 2 -;end 3 1;
+K4 DuplicateState line 4|BRLCERT 1;state 1 0 0 -;state 8 0 0 61;state 8 0 0 61;state 8 0 1 -;pair 1 2 -;end 3 1;
+K5 DuplicatePair line 6|BRLCERT 1;state 1 0 0 -;state 8 0 0 61;state 8 0 1 -;pair 1 2 -;pair 1 2 -;end 3 1;
+K6 NoSuchState line 5|BRLCERT 1;state 1 0 0 -;state 8 0 0 61;state 8 0 1 -;pair 1 3 -;end 3 1;
+K6 NoSuchState line 5|BRLCERT 1;state 1 0 0 -;state 8 0 0 61;state 8 0 1 -;pair 1 3 -;pair 1 3 -;end 3 1;
+K3 NotCanonical line 5|BRLCERT 1;state 1 0 0 -;state 8 0 0 61;state 8 0 1 -;pair 1 2 21;end 3 1;
+K2 Syntax line 5|BRLCERT 1;state 1 0 0 -;state 8 0 0 61;state 8 0 1 -;pair 1 2 11;end 3 1;
+K2 Syntax line 5|BRLCERT 1;state 1 0 0 -;state 8 0 0 61;state 8 0 1 -;pair 4294967296 0 -;end 3 1;
+K7 WrongCount line 6|BRLCERT 1;state 1 0 0 -;state 8 0 0 61;state 8 0 1 -;pair 1 2 -;end 3 2;
+K2 Syntax line 6|BRLCERT 1;state 1 0 0 -;state 8 0 0 61;state 8 0 1 -;pair 1 2 -;end 3 1 ;
+K2 Syntax line 6|BRLCERT 1;state 1 0 0 -;state 8 0 0 61;state 8 0 1 -;pair 1 2 -;state 9 0 0 -;end 3 1;
+K2 Syntax line 7|BRLCERT 1;state 1 0 0 -;state 8 0 0 61;state 8 0 1 -;pair 1 2 -;end 3 1;;
+K1 Version line 1|BRLCERT 2;state 1 0 0 -;state 8 0 0 61;state 8 0 1 -;pair 1 2 -;end 3 1;
+K1 Version line 1|BRLCERT 9;state 1 0 0 -;state 8 0 0 61;state 8 0 1 -;pair 1 2 -;end 3 1;
+K3 NotCanonical line 1|BRLCERT 09;state 1 0 0 -;state 8 0 0 61;state 8 0 1 -;pair 1 2 -;end 3 1;
+K2 Syntax line 1|BRLCERT 4294967296;state 1 0 0 -;state 8 0 0 61;state 8 0 1 -;pair 1 2 -;end 3 1;
+";
+
+/// What reading these bytes gives. A certificate counts where it is written as the same bytes.
+fn read(alloc: Global, bytes: &[u8]) -> Result<String, Fail> {
+    match read_cert(alloc, bytes) {
+        Ok(cert) => written(alloc, &cert, bytes),
+        Err(fault) => Ok(fault.to_string(alloc)?),
+    }
+}
+
+fn written(alloc: Global, cert: &Cert, bytes: &[u8]) -> Result<String, Fail> {
+    let written = write_cert(alloc, cert)?;
+    let answer = if written.as_slice() == bytes {
+        "certificate"
+    } else {
+        "other bytes"
+    };
+    Ok(String::from_str(alloc, answer)?)
+}
+
+/// Whether reading the bytes of a row gives what its first field says.
+fn is_read(alloc: Global, row: &str) -> Result<bool, Fail> {
+    let (want, text) = cut(row)?;
+    let bytes = bytes_of(alloc, text)?;
+    let given = read(alloc, bytes.as_slice())?;
+    Ok(given.as_str() == want)
+}
+
+#[test]
+fn reads_and_writes_the_worked_certificates(rt: HostRuntime) -> Result<(), Fail> {
+    for row in READINGS.lines() {
+        assert!(rt; is_read(rt.alloc(), row)?, "at {row}");
+    }
+    Ok(())
+}
+
+/// The bytes of a certificate whose one lead has `more` cells after its first.
+fn with_lead(alloc: Global, more: usize) -> Result<String, Fail> {
+    let mut text = String::from_str(alloc, "BRLCERT 1\nstate 1 0 0 -\npair 0 0 1")?;
+    for _ in 0..more {
+        text.push_str("-1")?;
+    }
+    text.push_str("\nend 1 1\n")?;
+    Ok(text)
+}
+
+/// The fault of that certificate, if it has one.
+fn fault_of_lead(alloc: Global, more: usize) -> Result<Option<CertFault>, Fail> {
+    let text = with_lead(alloc, more)?;
+    Ok(read_cert(alloc, text.as_bytes()).err())
+}
+
+#[test]
+fn takes_leads_of_1024_cells(rt: HostRuntime) -> Result<(), Fail> {
+    let alloc = rt.alloc();
+    assert!(rt; fault_of_lead(alloc, 1023)?.is_none());
+    let fault = CertFault::Refused {
+        wrong: Wrong::Syntax,
+        line: 3,
+    };
+    assert!(rt; fault_of_lead(alloc, 1024)? == Some(fault));
+    Ok(())
+}
+
+/// Whether 3 and 5 are added once each.
+fn adds(members: &mut Members<u32>) -> Result<bool, Fail> {
+    Ok(members.insert(3)? && !members.insert(3)? && members.insert(5)?)
+}
+
+/// Whether these are 3 and 5.
+fn are_3_and_5(members: &Members<u32>) -> bool {
+    members.len() == 2
+        && !members.is_empty()
+        && members.index_of(&5) == Some(1)
+        && members.index_of(&4).is_none()
+        && members.get(0).copied() == Some(3)
+        && members.as_slice() == [3, 5].as_slice()
+}
+
+/// The members 3 and 5.
+fn states(alloc: Global) -> Result<Members<u32>, Fail> {
+    let mut states = Members::new(alloc);
+    if adds(&mut states)? {
+        Ok(states)
+    } else {
+        Err(Fail::from("a member is added twice or not at all"))
+    }
+}
+
+/// One pair, from the first of two states to the second.
+fn pairs(alloc: Global) -> Result<Members<CertPair>, Fail> {
+    let mut pairs = Members::new(alloc);
+    let lead = Cells::from_slice(alloc, &[Cell(1)])?;
+    let pair = CertPair {
+        ahead: 0,
+        behind: 1,
+        lead,
+    };
+    if pairs.insert(pair)? {
+        Ok(pairs)
+    } else {
+        Err(Fail::from("the pair isn't added"))
+    }
+}
+
+/// Whether these states and a pair of them make a body.
+fn make_a_body(alloc: Global, states: Members<u32>) -> Result<bool, Fail> {
+    let pairs = pairs(alloc)?;
+    Ok(Body::from_parts(states, pairs).is_some())
+}
+
+#[test]
+fn makes_a_body_of_members(rt: HostRuntime) -> Result<(), Fail> {
+    let alloc = rt.alloc();
+    assert!(rt; are_3_and_5(&states(alloc)?));
+    assert!(rt; make_a_body(alloc, states(alloc)?)?);
+    Ok(())
+}

@@ -1,0 +1,13 @@
+//! Tests of the certificates, the checker, the search and the report, over their public items.
+#![tactic(auto)]
+
+#[cfg(test)]
+mod accept;
+#[cfg(test)]
+mod cert;
+#[cfg(test)]
+mod lines;
+#[cfg(test)]
+mod report;
+#[cfg(test)]
+mod search;
