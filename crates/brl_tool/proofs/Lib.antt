@@ -1,14 +1,7 @@
-pub mod KnownBytes
 pub mod CheckingLemmas
 pub mod FilesLemmas
 pub mod FindingLemmas
-pub mod FrontLemmas
-pub mod LineLemmas
 pub mod NoticesLemmas
-pub mod OutputLemmas
 pub mod SearchingLemmas
 pub mod StatusLemmas
-pub mod StreamLemmas
-pub mod VerdictLemmas
-pub mod WindowLemmas
 pub mod WorkLemmas

@@ -3,12 +3,12 @@ use Rattle.std.proofs.Common.{◌≡◌, ℕ, List, Option, Some, Result, Ok, Er
 use Rattle.brl_accept.specs.Files.{IsTableOf}
 use Rattle.brl_lines.specs.Answer.{Answer}
 use Rattle.brl_table.specs.TableView.{TableView}
-use Rattle.brl_tool.specs.Output.{HasWritten, verdict}
+use Rattle.brl_stream.specs.Output.{HasWritten, verdict}
 use Rattle.brl_tool.specs.Status.{of_stream}
 use Rattle.brl_tool.specs.Work.{Works}
-use Rattle.brl_tool.specs.declared.fault.StreamFault.{StreamFault}
-use Rattle.brl_tool.specs.declared.fault.StreamFault.TheVariants as stream
-use Rattle.brl_tool.specs.declared.form.Form.{Form}
+use Rattle.brl_stream.specs.declared.fault.StreamFault.{StreamFault}
+use Rattle.brl_stream.specs.declared.fault.StreamFault.TheVariants as stream
+use Rattle.brl_stream.specs.declared.form.Form.{Form}
 use Rattle.brl_tool.specs.declared.run_fault.RunFault.{RunFault}
 
 -- the fault of the stream is that of the work

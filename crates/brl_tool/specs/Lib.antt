@@ -2,12 +2,8 @@ pub mod Checking
 pub mod Comparing
 pub mod Counts
 pub mod Files
-pub mod InputLines
 pub mod Notices
-pub mod Output
 pub mod Running
 pub mod Searching
 pub mod Status
-pub mod Window
 pub mod Work
-pub mod Writing

@@ -9,7 +9,7 @@ use Rattle.brl_tool.specs.Status.{IsAnswered, status_after}
 use Rattle.brl_tool.specs.Work.{Works}
 use Rattle.brl_tool.specs.declared.finding.Finding.{Finding}
 use Rattle.brl_tool.specs.declared.finding.Finding.TheVariants.{Clash, NoClash}
-use Rattle.brl_tool.specs.declared.form.Form.{Form}
+use Rattle.brl_stream.specs.declared.form.Form.{Form}
 use Rattle.brl_tool.specs.declared.judgement.Judgement.{Judgement}
 use Rattle.brl_tool.specs.declared.judgement.Judgement.TheVariants.{Accepting}
 use Rattle.brl_tool.specs.declared.run_fault.RunFault.{RunFault}

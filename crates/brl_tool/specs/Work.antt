@@ -7,10 +7,10 @@ use Rattle.brl_lines.specs.Outcome.{AreGiven, RefusesAs}
 use Rattle.brl_lines.specs.Tokens.{LineView}
 use Rattle.brl_table.specs.Reading.{IsFaultOf}
 use Rattle.brl_table.specs.TableView.{TableView}
-use Rattle.brl_tool.specs.Output.{HasWritten, verdict}
-use Rattle.brl_tool.specs.declared.fault.StreamFault.{StreamFault}
-use Rattle.brl_tool.specs.declared.fault.StreamFault.TheVariants as stream
-use Rattle.brl_tool.specs.declared.form.Form.{Form}
+use Rattle.brl_stream.specs.Output.{HasWritten, verdict}
+use Rattle.brl_stream.specs.declared.fault.StreamFault.{StreamFault}
+use Rattle.brl_stream.specs.declared.fault.StreamFault.TheVariants as stream
+use Rattle.brl_stream.specs.declared.form.Form.{Form}
 use Rattle.brl_tool.specs.declared.run_fault.RunFault.{RunFault}
 use Rattle.brl_tool.specs.declared.run_fault.RunFault.TheVariants.{Load, Table, Stream, Memory}
 

@@ -10,13 +10,12 @@ ghost use Rattle.brl_tool.specs.Status.{IsAnswered, IsStatus, status_of};
 
 use crate::by_file::{compare_by_file, translate_by_file};
 use crate::checking::check_by_file;
-use crate::command::{Task, task_of};
 use crate::finding::Finding;
 use crate::run_fault::{FAULT, RunFault};
 use crate::searching::search_by_file;
 use crate::{Files, Form, Input, Output};
 use brl_lines::Source;
-use clap::error::Error;
+use brl_words::{NoTask, Task, task_of};
 use std::alloc::Global;
 use std::io::Write;
 
@@ -64,7 +63,7 @@ pub fn run<F: Files, I: Input, O: Output, E: Write>(
         Ok(Task::Search { table, cert, limit }) => {
             search(alloc, files, table, cert, limit, out, err)
         }
-        Err(error) => answer(alloc, &error, out, err),
+        Err(reply) => answer(alloc, &reply, out, err),
     }
 }
 
@@ -164,22 +163,22 @@ fn tell<E: Write>(fault: &RunFault, err: &mut E) -> u8
 }
 
 /// Answers words that ask for no work: help and the version go to standard output, a use fault to standard error.
-fn answer<O: Output, E: Write>(alloc: Global, error: &Error, out: &mut O, err: &mut E) -> u8
+fn answer<O: Output, E: Write>(alloc: Global, reply: &NoTask, out: &mut O, err: &mut E) -> u8
     ensures { IsAnswered result }
 {
-    if error.use_stderr() {
-        let _ = write!(err, "{error}");
+    if reply.is_fault() {
+        let _ = write!(err, "{reply}");
         return FAULT;
     }
-    match print(alloc, error, out) {
+    match print(alloc, reply, out) {
         Ok(()) => DONE,
         Err(fault) => tell(&fault, err),
     }
 }
 
 /// Prints help or the version.
-fn print<O: Output>(alloc: Global, error: &Error, out: &mut O) -> Result<(), RunFault> {
-    let text = format!(in alloc; "{error}")?;
+fn print<O: Output>(alloc: Global, reply: &NoTask, out: &mut O) -> Result<(), RunFault> {
+    let text = format!(in alloc; "{reply}")?;
     out.put(text.as_bytes())?;
     Ok(())
 }

@@ -1,6 +1,6 @@
 //! Worked examples.
 ghost use Rattle.std.specs.Prelude.{◌≡◌, true};
-ghost use Rattle.brl_tool.specs.Output.{EndsBy};
+ghost use Rattle.brl_stream.specs.Output.{EndsBy};
 
 use crate::{Form, LineFault, StreamFault, Watched, translate_lines};
 use brl_lines::{MapSource, load};

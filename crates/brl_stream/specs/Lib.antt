@@ -1,0 +1,4 @@
+pub mod InputLines
+pub mod Output
+pub mod Window
+pub mod Writing

@@ -1,0 +1,65 @@
+//! A stream: each line of an input is translated and written before the next is translated.
+ghost use Rattle.std.specs.Prelude.{◌≡◌, ℕ, List, Some, Err, true, OnOk};
+ghost use Rattle.std.specs.Io.KnownBytes.{IsAtEnd};
+ghost use Rattle.brl_stream.specs.Output.{verdict, output_of, HasWritten, ReadsFew, DecidesBefore, EndsBy};
+
+use crate::line::{Next, next_line};
+use crate::output::{Scratch, write_line};
+use crate::window::Window;
+use crate::{Form, Input, LineFault, Output, StreamFault};
+use brl_table::Table;
+use std::alloc::Global;
+
+/// Translates an input line by line: for each line its marks in the form, then a line feed, in one write before the
+/// next line is translated. A line ends with a line feed, or with a carriage return and a line feed; a last line
+/// without them counts.
+///
+/// The first fault ends it. At one line these decide in this order: `InputFailed`, `InputLineTooLong` (more than 65,536
+/// bytes without its end), `InputNotUtf8`, `UnknownChar`, `NoAscii`, `OutputFailed`. The lines before the fault stand
+/// written, and of the faulty one nothing, but after `OutputFailed` some first bytes may. `InputTooLong` names the
+/// line that doesn't end within the first 16,777,216 bytes of a longer input. `Memory` where a growth was refused: the
+/// outputs of some first lines stand written.
+pub fn translate_lines<R: Input, W: Output>(
+    alloc: Global,
+    table: &Table,
+    form: Form,
+    reader: &mut R,
+    writer: &mut W,
+) -> Result<(), StreamFault>
+    ensures written { (input : List ℕ) → R.remaining reader.old ≡ Some input
+        → HasWritten (verdict table.now form input) (W.contents writer.old) (W.contents writer.new) result }
+    ensures whole { OnOk result (IsAtEnd (R.remaining reader.new)) }
+    ensures few { ReadsFew (R.remaining reader.old) (R.remaining reader.new) }
+    ensures undecided { (input : List ℕ) → R.remaining reader.old ≡ Some input
+        → (n : ℕ) → result ≡ Err (StreamFault.AtLine n LineFault.InputFailed)
+        → DecidesBefore n (output_of table.now form) (R.remaining reader.old) (R.remaining reader.new) }
+    ensures read_failed { EndsBy LineFault.InputFailed result → R.has_failed reader.new ≡ true }
+    ensures write_failed { EndsBy LineFault.OutputFailed result → W.has_failed writer.new ≡ true }
+{
+    let Ok(mut window) = Window::new(alloc) else {
+        return Err(StreamFault::Memory);
+    };
+    let mut scratch = Scratch::new(alloc);
+    let mut number = 1;
+    loop {
+        match next_line(&mut window, reader) {
+            Err(fault) => {
+                return Err(StreamFault::AtLine {
+                    line: number,
+                    fault,
+                });
+            }
+            Ok(Next::End) => return Ok(()),
+            Ok(Next::Last(len)) => {
+                let line = &window.bytes()[..len];
+                return write_line(alloc, table, form, line, number, &mut scratch, writer);
+            }
+            Ok(Next::Line { len, whole }) => {
+                let line = &window.bytes()[..len];
+                write_line(alloc, table, form, line, number, &mut scratch, writer)?;
+                window.consume(whole);
+            }
+        }
+        number += 1;
+    }
+}
