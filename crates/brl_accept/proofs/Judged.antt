@@ -2,7 +2,7 @@
 use Rattle.std.proofs.Common.{◌≡◌, ◌≢◌, ℕ, ◌≤◌, inl, inr, List, Option, Result, Ok, Err, length, refl, sym, ◌∙◌, ap, subst, arith}
 use Rattle.std.proofs.lemmas.Option.{slice_get_within}
 use Rattle.brl_accept.specs.Files.{IsTableBy}
-use Rattle.brl_accept.specs.Judging.{IsAccepted, IsAcceptedBy, IsAcceptedWith, IsRefusedBy, IsRefusedFor, IsRefusedWith, of_accept}
+use Rattle.brl_accept.specs.Judging.{IsAccepted, IsAcceptedBy, IsAcceptedWith, IsNotClosed, IsRefusedBy, IsRefusedFor, IsRefusedWith, of_accept}
 use Rattle.brl_accept.specs.Refusals.{IsRefused}
 use Rattle.brl_accept.specs.declared.accept_fault.AcceptFault.{AcceptFault}
 use Rattle.brl_accept.specs.declared.accept_fault.AcceptFault.TheVariants as accept
@@ -11,11 +11,12 @@ use Rattle.brl_accept.specs.declared.judge_fault.JudgeFault.{JudgeFault}
 use Rattle.brl_accept.specs.declared.judge_fault.JudgeFault.TheVariants.{Load, Table, Cert, Wide, Refused, Memory}
 use Rattle.brl_accept.proofs.Closing.{open_where_refused}
 use Rattle.brl_cert.specs.Lines.{BodyView}
-use Rattle.brl_cert.specs.Reading.{Windows, reading}
+use Rattle.brl_cert.specs.Reading.{CertView, Owing, Windows, reading}
 use Rattle.brl_cert.specs.declared.fault.Wrong.{Wrong}
 use Rattle.brl_cert.specs.declared.fault.CertFault.TheVariants as cert
 use Rattle.brl_lines.specs.Lines.{Answers, Refusal, lines_of}
 use Rattle.brl_lines.specs.Tokens.{LineView}
+use Rattle.brl_lines.specs.declared.fault.LoadFault.{LoadFault}
 use Rattle.brl_lines.specs.declared.fault.LoadFault.TheVariants as load
 use Rattle.brl_table.specs.Items.{Fault}
 use Rattle.brl_table.specs.Reading.{IsFaultOf as IsFaultOfLines, IsFirstFound, PassesAll, PassesBefore, table_of}
@@ -24,45 +25,69 @@ use Rattle.brl_table.specs.declared.table_fault.TableFault.{TableFault}
 use Rattle.brl_table.specs.declared.table_fault.TableFault.TheVariants as table
 use Rattle.brl_window.specs.Width.{start_moves}
 use Rattle.brl_window.specs.Windows.{window_machine}
+use Rattle.brl_dues.specs.Steps.{dues_machine}
+use Rattle.brl_dues.specs.declared.state.DuesState.{DuesState}
+use Rattle.brl_pairs.specs.Runs.{Behaviour}
 use Rattle.brl_window.specs.declared.state.WindowState.{WindowState}
 
 -- the refusal of the checker
-pub refused_with : (t : TableView) (body : BodyView WindowState) → start_moves t ≤ 10000 → (fault : AcceptFault) → IsRefused (window_machine t) body fault → IsRefusedWith t body (of_accept fault)
-refused_with t body narrow accept.NoStart h = (narrow, (λ e. cc), h)
-refused_with t body narrow (accept.StateMissing state rule) h = (narrow, (λ e. cc), h)
-refused_with t body narrow (accept.SplitMissing state lesser greater) h = (narrow, (λ e. cc), h)
-refused_with t body narrow (accept.PairMissing pair rule) h = (narrow, (λ e. cc), h)
-refused_with t body narrow (accept.BothEnd pair) h = (narrow, (λ e. cc), h)
-refused_with t body narrow accept.Memory h = tt
+refused_as : {S : Type 0} (m : Behaviour S) (body : BodyView S) (Refuses : JudgeFault → Type 0) → ((fault : AcceptFault) → IsNotClosed m body fault → Refuses (Refused fault)) → Refuses Memory → (fault : AcceptFault) → IsRefused m body fault → Refuses (of_accept fault)
+refused_as m body Refuses is memory accept.NoStart h = is accept.NoStart ((λ e. cc), h)
+refused_as m body Refuses is memory (accept.StateMissing state rule) h = is (accept.StateMissing state rule) ((λ e. cc), h)
+refused_as m body Refuses is memory (accept.SplitMissing state lesser greater) h = is (accept.SplitMissing state lesser greater) ((λ e. cc), h)
+refused_as m body Refuses is memory (accept.PairMissing pair rule) h = is (accept.PairMissing pair rule) ((λ e. cc), h)
+refused_as m body Refuses is memory (accept.BothEnd pair) h = is (accept.BothEnd pair) ((λ e. cc), h)
+refused_as m body Refuses is memory accept.Memory h = memory
+
+pub refused_windows : (t : TableView) (body : BodyView WindowState) → start_moves t ≤ 10000 → (fault : AcceptFault) → IsRefused (window_machine t) body fault → IsRefusedWith t (Windows body) (of_accept fault)
+refused_windows t body narrow = refused_as (window_machine t) body (IsRefusedWith t (Windows body)) (λ fault h. (narrow, h)) tt
+
+pub refused_dues : (t : TableView) (body : BodyView DuesState) (fault : AcceptFault) → IsRefused (dues_machine t) body fault → IsRefusedWith t (Owing body) (of_accept fault)
+refused_dues t body = refused_as (dues_machine t) body (IsRefusedWith t (Owing body)) (λ fault h. h) tt
 
 -- what is refused is nowhere accepted
-one_body : (bytes : List ℕ) (a b : BodyView WindowState) → reading bytes ≡ Ok (Windows a) → reading bytes ≡ Ok (Windows b) → a ≡ b
-one_body bytes a b e f = cc
+one_cert : (bytes : List ℕ) (a b : CertView) → reading bytes ≡ Ok a → reading bytes ≡ Ok b → a ≡ b
+one_cert bytes a b e f = cc
 
-no_body : (bytes : List ℕ) (wrong : Wrong × ℕ) (body : BodyView WindowState) → reading bytes ≡ Err wrong → reading bytes ≡ Ok (Windows body) → ⊥
-no_body bytes wrong body e f = cc
+no_cert : (bytes : List ℕ) (wrong : Wrong × ℕ) (cert : CertView) → reading bytes ≡ Err wrong → reading bytes ≡ Ok cert → ⊥
+no_cert bytes wrong cert e f = cc
 
-pub not_accepted_with : (t : TableView) (body : BodyView WindowState) (fault : JudgeFault) → IsRefusedWith t body fault → fault ≢ Memory → (accepted : Accepted) → IsAcceptedWith t body accepted → ⊥
-not_accepted_with t body (Load fault) h apart accepted is = h
-not_accepted_with t body (Table fault) h apart accepted is = h
-not_accepted_with t body (Cert fault) h apart accepted is = h
-not_accepted_with t body (Wide fault) h apart accepted is = (let narrow : start_moves t ≤ 10000 = is.narrow in absurd (omega (arith, h)))
-not_accepted_with t body (Refused fault) h apart accepted is = open_where_refused (window_machine t) body fault h.2 h.1 is.closed
-not_accepted_with t body Memory h apart accepted is = apart refl
+pub not_accepted_with : (t : TableView) (cert : CertView) (fault : JudgeFault) → IsRefusedWith t cert fault → fault ≢ Memory → (accepted : Accepted) → IsAcceptedWith t cert accepted → ⊥
+not_accepted_with t (Windows body) (Load fault) h apart accepted is = h
+not_accepted_with t (Windows body) (Table fault) h apart accepted is = h
+not_accepted_with t (Windows body) (Cert fault) h apart accepted is = h
+not_accepted_with t (Windows body) (Wide fault) h apart accepted is = (let narrow : start_moves t ≤ 10000 = is.0 in absurd (omega (arith, h)))
+not_accepted_with t (Windows body) (Refused fault) h apart accepted is = open_where_refused (window_machine t) body fault h.1.1 h.1.0 is.1.closed
+not_accepted_with t (Windows body) Memory h apart accepted is = apart refl
+not_accepted_with t (Owing body) (Load fault) h apart accepted is = h
+not_accepted_with t (Owing body) (Table fault) h apart accepted is = h
+not_accepted_with t (Owing body) (Cert fault) h apart accepted is = h
+not_accepted_with t (Owing body) (Wide fault) h apart accepted is = h
+not_accepted_with t (Owing body) (Refused fault) h apart accepted is = open_where_refused (dues_machine t) body fault h.1 h.0 is.closed
+not_accepted_with t (Owing body) Memory h apart accepted is = apart refl
 
 module _ (t : TableView) (bytes : List ℕ) where
-  by_body : (fault : JudgeFault) → (body : BodyView WindowState) × (reading bytes ≡ Ok (Windows body)) × IsRefusedWith t body fault → fault ≢ Memory → (accepted : Accepted) → IsAccepted t bytes accepted → ⊥
-  by_body fault h apart accepted is =
-      not_accepted_with t h.0 fault h.2 apart accepted (subst (λ (body : BodyView WindowState). IsAcceptedWith t body accepted) (one_body bytes is.0 h.0 is.1 h.1) is.2)
+  by_cert : (fault : JudgeFault) → (cert : CertView) × (reading bytes ≡ Ok cert) × IsRefusedWith t cert fault → fault ≢ Memory → (accepted : Accepted) → IsAccepted t bytes accepted → ⊥
+  by_cert fault h apart accepted is =
+      not_accepted_with t h.0 fault h.2 apart accepted (subst (λ (cert : CertView). IsAcceptedWith t cert accepted) (one_cert bytes is.0 h.0 is.1 h.1) is.2)
 
   pub not_accepted_for : (fault : JudgeFault) → IsRefusedFor t bytes fault → fault ≢ Memory → (accepted : Accepted) → IsAccepted t bytes accepted → ⊥
-  not_accepted_for (Load fault) h apart accepted is = by_body (Load fault) h apart accepted is
-  not_accepted_for (Table fault) h apart accepted is = by_body (Table fault) h apart accepted is
+  not_accepted_for (Load fault) h apart accepted is = by_cert (Load fault) h apart accepted is
+  not_accepted_for (Table fault) h apart accepted is = by_cert (Table fault) h apart accepted is
   not_accepted_for (Cert cert.Memory) h apart accepted is = h.0 refl
-  not_accepted_for (Cert (cert.Refused wrong line)) h apart accepted is = no_body bytes (wrong, line) is.0 h.1 is.1
-  not_accepted_for (Wide fault) h apart accepted is = by_body (Wide fault) h apart accepted is
-  not_accepted_for (Refused fault) h apart accepted is = by_body (Refused fault) h apart accepted is
+  not_accepted_for (Cert (cert.Refused wrong line)) h apart accepted is = no_cert bytes (wrong, line) is.0 h.1 is.1
+  not_accepted_for (Wide fault) h apart accepted is = by_cert (Wide fault) h apart accepted is
+  not_accepted_for (Refused fault) h apart accepted is = by_cert (Refused fault) h apart accepted is
   not_accepted_for Memory h apart accepted is = apart refl
+
+-- no certificate is refused by an earlier stage
+by_load : (t : TableView) (cert : CertView) (fault : LoadFault) → IsRefusedWith t cert (Load fault) → ⊥
+by_load t (Windows body) fault h = h
+by_load t (Owing body) fault h = h
+
+by_table : (t : TableView) (cert : CertView) (fault : TableFault) → IsRefusedWith t cert (Table fault) → ⊥
+by_table t (Windows body) fault h = h
+by_table t (Owing body) fault h = h
 
 -- ---- Over what the source answered
 
@@ -106,8 +131,8 @@ module _ (answers : Answers) (root bytes : List ℕ) where
 
   -- a refusal of the table is one of the last stages
   pub refused_behind : (t : TableView) (fault : JudgeFault) → IsTableBy answers root t → IsRefusedFor t bytes fault → IsRefusedBy answers root bytes fault
-  refused_behind t (Load fault) is h = absurd h.2
-  refused_behind t (Table fault) is h = absurd h.2
+  refused_behind t (Load fault) is h = absurd (by_load t h.0 fault h.2)
+  refused_behind t (Table fault) is h = absurd (by_table t h.0 fault h.2)
   refused_behind t (Cert fault) is h = (t, is, h)
   refused_behind t (Wide fault) is h = (t, is, h)
   refused_behind t (Refused fault) is h = (t, is, h)

@@ -9,51 +9,63 @@ use Rattle.brl_accept.specs.declared.accepted.Accepted.{Accepted}
 use Rattle.brl_accept.specs.declared.judge_fault.JudgeFault.{JudgeFault}
 use Rattle.brl_accept.specs.declared.judge_fault.JudgeFault.TheVariants.{Load, Table, Cert, Wide, Refused, Memory}
 use Rattle.brl_cert.specs.Lines.{BodyView}
-use Rattle.brl_cert.specs.Reading.{Windows, reading, IsFaultOf}
+use Rattle.brl_cert.specs.Reading.{CertView, Owing, Windows, reading, IsFaultOf}
 use Rattle.brl_cert.specs.declared.fault.CertFault.{CertFault}
 use Rattle.brl_cert.specs.declared.fault.CertFault.TheVariants as cert
+use Rattle.brl_dues.specs.Steps.{dues_machine}
 use Rattle.brl_lines.specs.Lines.{Answers, lines_of}
 use Rattle.brl_lines.specs.Outcome.{RefusesAs}
 use Rattle.brl_lines.specs.Tokens.{LineView}
 use Rattle.brl_lines.specs.declared.fault.LoadFault.{LoadFault}
 use Rattle.brl_lines.specs.declared.fault.LoadFault.TheVariants as load
 use Rattle.brl_pairs.specs.Pairs.{IsClosed}
+use Rattle.brl_pairs.specs.Runs.{Behaviour}
 use Rattle.brl_table.specs.Reading.{IsFaultOf as IsFaultOfLines}
 use Rattle.brl_table.specs.TableView.{TableView}
 use Rattle.brl_table.specs.declared.table_fault.TableFault.{TableFault}
 use Rattle.brl_table.specs.declared.table_fault.TableFault.TheVariants as table
 use Rattle.brl_window.specs.Width.{start_moves}
 use Rattle.brl_window.specs.Windows.{window_machine}
-use Rattle.brl_window.specs.declared.state.WindowState.{WindowState}
 
 -- ---- Of a table and a certificate that was read
 
--- the table isn't too wide, the states and pairs are closed for its machine, and so many were counted
-pub record IsAcceptedWith (t : TableView) (body : BodyView WindowState) (accepted : Accepted) : Type 0 where
-  pub narrow : start_moves t ≤ 10000
-  pub closed : IsClosed (window_machine t) (sets_of body)
+-- the states and pairs are closed for the machine, and this is how many there are
+pub record IsClosedAs {S : Type 0} (m : Behaviour S) (body : BodyView S) (accepted : Accepted) : Type 0 where
+  pub closed : IsClosed m (sets_of body)
   pub states : accepted.states ≡ length body.states
   pub pairs : accepted.pairs ≡ length body.pairs
 
--- the table is too wide, or else the states and pairs aren't closed; memory may be wanting at any table
-abbrev pub IsRefusedWith : TableView → BodyView WindowState → JudgeFault → Type 0
-IsRefusedWith t body (Wide fault) = 10000 < start_moves t
-IsRefusedWith t body (Refused fault) = (start_moves t ≤ 10000) × (fault ≢ accept.Memory) × IsRefused (window_machine t) body fault
-IsRefusedWith t body Memory = Unit {0}
-IsRefusedWith t body fault = ⊥
+-- the states and pairs are closed for the machine of the certificate's version; for a window
+-- machine the table isn't too wide
+abbrev pub IsAcceptedWith : TableView → CertView → Accepted → Type 0
+IsAcceptedWith t (Windows body) accepted = (start_moves t ≤ 10000) × IsClosedAs (window_machine t) body accepted
+IsAcceptedWith t (Owing body) accepted = IsClosedAs (dues_machine t) body accepted
+
+-- a refusal of the checker for a machine's states and pairs
+abbrev pub IsNotClosed : {S : Type 0} → Behaviour S → BodyView S → AcceptFault → Type 0
+IsNotClosed m body fault = (fault ≢ accept.Memory) × IsRefused m body fault
+
+-- the table is too wide for a window machine, or else the states and pairs aren't closed; an
+-- allocation may fail at any table
+abbrev pub IsRefusedWith : TableView → CertView → JudgeFault → Type 0
+IsRefusedWith t (Windows body) (Wide fault) = 10000 < start_moves t
+IsRefusedWith t (Windows body) (Refused fault) = (start_moves t ≤ 10000) × IsNotClosed (window_machine t) body fault
+IsRefusedWith t (Owing body) (Refused fault) = IsNotClosed (dues_machine t) body fault
+IsRefusedWith t cert Memory = Unit {0}
+IsRefusedWith t cert fault = ⊥
 
 -- ---- Of a table and bytes
 
 -- the bytes spell a certificate that is accepted
 abbrev pub IsAccepted : TableView → List ℕ → Accepted → Type 0
 IsAccepted t bytes accepted =
-    (body : BodyView WindowState) × (reading bytes ≡ Ok (Windows body)) × IsAcceptedWith t body accepted
+    (cert : CertView) × (reading bytes ≡ Ok cert) × IsAcceptedWith t cert accepted
 
 -- the bytes spell no certificate, or one that is refused
 abbrev pub IsRefusedFor : TableView → List ℕ → JudgeFault → Type 0
 IsRefusedFor t bytes (Cert fault) = (fault ≢ cert.Memory) × IsFaultOf (reading bytes) fault
 IsRefusedFor t bytes Memory = Unit {0}
-IsRefusedFor t bytes fault = (body : BodyView WindowState) × (reading bytes ≡ Ok (Windows body)) × IsRefusedWith t body fault
+IsRefusedFor t bytes fault = (cert : CertView) × (reading bytes ≡ Ok cert) × IsRefusedWith t cert fault
 
 -- ---- Of the answers of a source, a path and bytes
 

@@ -19,7 +19,7 @@ pub enum JudgeFault {
     /// The bytes spell no certificate.
     #[error("{0}")]
     Cert(CertFault),
-    /// The table has no machine of the certificate's kind.
+    /// The certificate lists states of a window machine, and the table has none.
     #[error("{0}")]
     Wide(TooWide),
     /// The certificate's states and pairs aren't closed.

@@ -107,11 +107,11 @@ above_true low (b ∷ bytes) h = ((Decides-ltb low b).0 (first_so _ _ h), above_
 
 -- ---- Characters, one after another
 
-each_again : (cs : List ℕ) → AllByRecursion (Reads character 47) cs → each loose_char (map (digits 16 false) cs) ≡ Some cs
+pub each_again : (cs : List ℕ) → AllByRecursion (Reads character 47) cs → each loose_char (map (digits 16 false) cs) ≡ Some cs
 each_again [] h = refl
 each_again (c ∷ cs) h = rw (h.0.again, each_again cs h.1) refl
 
-all_above : (low : ℕ) → low ≤ 47 → (cs : List ℕ) → AllByRecursion (Reads character 47) cs → AllByRecursion (IsAbove low) (map (digits 16 false) cs)
+pub all_above : (low : ℕ) → low ≤ 47 → (cs : List ℕ) → AllByRecursion (Reads character 47) cs → AllByRecursion (IsAbove low) (map (digits 16 false) cs)
 all_above low le [] h = tt
 all_above low le (c ∷ cs) h = (lower low 47 le (digits 16 false c) h.0.above, all_above low le cs h.1)
 
@@ -135,7 +135,7 @@ joined_reads (c ∷ cs) h =
       above = above_joined 44 46 (omega arith) (map (digits 16 false) (c ∷ cs)) (all_above 44 (omega arith) (c ∷ cs) h);
     }
 
-each_char : (cs : List ℕ) → AllByRecursion (λ c. is_char c ≡ true) cs → AllByRecursion (Reads character 47) cs
+pub each_char : (cs : List ℕ) → AllByRecursion (λ c. is_char c ≡ true) cs → AllByRecursion (Reads character 47) cs
 each_char [] h = tt
 each_char (c ∷ cs) h = (char_reads c h.0, each_char cs h.1)
 

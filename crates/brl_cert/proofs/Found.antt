@@ -14,7 +14,8 @@ use Rattle.brl_cert.specs.contracts.pair.CertPairPartialEq.TheImpl.{eq-value as 
 use Rattle.brl_cert.specs.declared.line.Line.{Line}
 use Rattle.brl_cert.specs.declared.line.Line.TheVariants.{State, Pair, End}
 use Rattle.brl_cert.specs.Lines.{States, BodyView, placed, ◌>>>◌, spelled_line, whole_line, spelled_body, strict_line, line_of, may_stand, loose_line, is_end, add_line, one_line, body_of}
-use Rattle.brl_cert.specs.Reading.{CertView, Windows, spelling, reading, certificate_of, spelled_header, strict_header, header_of, loose_header, nothing, version_of}
+use Rattle.brl_cert.specs.Dues.{owing}
+use Rattle.brl_cert.specs.Reading.{CertView, Owing, Windows, spelling, reading, certificate_of, spelled_header, strict_header, header_of, loose_header, nothing, version_of}
 use Rattle.brl_cert.specs.Window.{windows}
 
 -- the value of a step that did not fail
@@ -128,15 +129,26 @@ header_is bytes (Some m) n e =
     let b = need_ok (bytes_eq (spelled_header m) bytes) NotCanonical (Ok m) n e in
     subst (λ (z : ℕ). spelled_header z ≡ bytes) (ok_is m n b.1) ((bytes_eq-Decides (spelled_header m) bytes).0 b.0)
 
--- lines behind a header are those of its version
+-- lines after a header are those of its version
+lines_found : {S : Type 0} (form : States S) (wrap : BodyView S → CertView) (version n : ℕ) → ((body : BodyView S) → spelling (wrap body) ≡ spelled_header n ++ 10 ∷ spelled_body form body) → version ≡ n → (parts : List (List ℕ)) (c : CertView)
+    → (body_of form 2 nothing parts >>> λ body. Ok (wrap body)) ≡ Ok c → spelling c ≡ spelled_header version ++ (10 ∷ join_with_byte 10 parts)
+lines_found form wrap version n spelled is parts c e =
+    let d = then_ok (body_of form 2 nothing parts) (λ body. Ok (wrap body)) c e in
+    let found : join_with_byte 10 parts ≡ spelled_body form d.0 = body_found form 2 nothing parts d.0 d.1 in
+    subst (λ (z : CertView). spelling z ≡ spelled_header version ++ (10 ∷ join_with_byte 10 parts)) (ok_is (wrap d.0) c d.2)
+    (spelled d.0 ∙ ap (λ (m : ℕ). spelled_header m ++ (10 ∷ spelled_body form d.0)) (sym is) ∙ ap (λ (x : List ℕ). spelled_header version ++ (10 ∷ x)) (sym found))
+
 version_found : (version : ℕ) (parts : List (List ℕ)) (c : CertView) → version_of version parts ≡ Ok c → spelling c ≡ spelled_header version ++ (10 ∷ join_with_byte 10 parts)
-version_found version parts c e =
-    let b = need_ok (eqb version 1) (Version, 1) (body_of windows 2 nothing parts >>> λ body. Ok (Windows body)) c e in
-    let one : version ≡ 1 = (Decides-eqb version 1).0 b.0 in
-    let d = then_ok (body_of windows 2 nothing parts) (λ body. Ok (Windows body)) c b.1 in
-    let found : join_with_byte 10 parts ≡ spelled_body windows d.0 = body_found windows 2 nothing parts d.0 d.1 in
-    subst (λ (z : CertView). spelling z ≡ spelled_header version ++ (10 ∷ join_with_byte 10 parts)) (ok_is (Windows d.0) c d.2)
-    (ap (λ (n : ℕ). spelled_header n ++ (10 ∷ spelled_body windows d.0)) (sym one) ∙ ap (λ (x : List ℕ). spelled_header version ++ (10 ∷ x)) (sym found))
+version_found version parts c e = by_first (eqb version 1) refl e
+  where
+    by_second : (b : Bool) → eqb version 2 ≡ b → cond b (body_of owing 2 nothing parts >>> λ body. Ok (Owing body)) (Err (Version, 1)) ≡ Ok c → spelling c ≡ spelled_header version ++ (10 ∷ join_with_byte 10 parts)
+    by_second true is e = lines_found owing Owing version 2 (λ body. refl) ((Decides-eqb version 2).0 is) parts c e
+    by_second false is e = absurd cc
+
+    by_first : (b : Bool) → eqb version 1 ≡ b → cond b (body_of windows 2 nothing parts >>> λ body. Ok (Windows body)) (cond (eqb version 2) (body_of owing 2 nothing parts >>> λ body. Ok (Owing body)) (Err (Version, 1))) ≡ Ok c
+        → spelling c ≡ spelled_header version ++ (10 ∷ join_with_byte 10 parts)
+    by_first true is e = lines_found windows Windows version 1 (λ body. refl) ((Decides-eqb version 1).0 is) parts c e
+    by_first false is e = by_second (eqb version 2) refl e
 
 certificate_found : (parts : List (List ℕ)) (c : CertView) → certificate_of parts ≡ Ok c → spelling c ≡ join_with_byte 10 parts
 certificate_found [] c e = absurd cc

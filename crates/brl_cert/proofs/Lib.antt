@@ -3,6 +3,7 @@ pub mod FieldLaws
 pub mod Again
 pub mod Found
 pub mod Window
+pub mod Versions
 pub mod Sound
 pub mod Numbers
 pub mod Lists
@@ -10,3 +11,6 @@ pub mod Written
 pub mod Each
 pub mod Ascii
 pub mod Turns
+pub mod Dues
+pub mod DuesLaws
+pub mod DuesSound

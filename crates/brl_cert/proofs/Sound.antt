@@ -24,8 +24,9 @@ use Rattle.brl_cert.specs.declared.line.Line.TheVariants.{State, Pair, End}
 use Rattle.brl_cert.specs.Lines.{States, BodyView, ◌>>>◌, placed, count, spelled_line, loose_line, loose_pair, loose_end, strict_line, line_of, may_stand, is_end, add_line, one_line, body_of}
 use Rattle.brl_window.specs.declared.state.WindowState.{WindowState}
 use Rattle.brl_cert.specs.Window.{windows, loose_window}
-use Rattle.brl_cert.specs.Reading.{CertView, Windows, reading, certificate_of, version_of, header_of, nothing}
-use Rattle.brl_cert.specs.Valid.{IsBody, IsWindow, IsCertificate}
+use Rattle.brl_cert.specs.Dues.{owing}
+use Rattle.brl_cert.specs.Reading.{CertView, Owing, Windows, reading, certificate_of, version_of, header_of, nothing}
+use Rattle.brl_cert.specs.Valid.{IsBody, IsWindow, IsOwing, IsCertificate}
 use Rattle.brl_cert.proofs.Found.{then_ok, placed_ok, guard_ok, need_ok, ok_is}
 use Rattle.brl_cert.proofs.Window.{CertPair-Decides, WindowState-Decides, flips}
 
@@ -53,7 +54,7 @@ char_valid field c e =
     let same : a.0 ≡ c = (let f = b.1 in cc) in
     subst (λ (n : ℕ). is_char n ≡ true) same b.0
 
-each_valid : (fields : List (List ℕ)) (cs : List ℕ) → each loose_char fields ≡ Some cs → AllByRecursion (λ c. is_char c ≡ true) cs
+pub each_valid : (fields : List (List ℕ)) (cs : List ℕ) → each loose_char fields ≡ Some cs → AllByRecursion (λ c. is_char c ≡ true) cs
 each_valid [] cs e = (let same : [] ≡ cs = cc in subst (AllByRecursion (λ c. is_char c ≡ true)) same tt)
 each_valid (field ∷ fields) cs e =
     let a = then_some (loose_char field) (λ c. each loose_char fields >>= λ ds. Some (c ∷ ds)) cs e in
@@ -255,7 +256,7 @@ module _ {S : Type 0} (form : States S) (IsState : S → Type 0) (cells : ReadCe
 
 -- ---- Certificates
 
-equal_from_decides : {X : Type 0} (e : X → X → Bool) → ((x y : X) → Decides (e x y) (x ≡ y)) → IsEquivalence e
+pub equal_from_decides : {X : Type 0} (e : X → X → Bool) → ((x y : X) → Decides (e x y) (x ≡ y)) → IsEquivalence e
 equal_from_decides e decides = record {
   refl = λ x. (decides x x).1 refl;
   symm = flips e decides;
@@ -277,20 +278,33 @@ window_valid fields s e = absurd cc
 reads_windows : ReadsStates windows IsWindow
 reads_windows = record { valid = window_valid; equal = equal_from_decides windows.same WindowState-Decides }
 
-version_valid : ReadCells → (version : ℕ) (parts : List (List ℕ)) (c : CertView) → version_of version parts ≡ Ok c → IsCertificate c
-version_valid cells version parts c e =
-    let b = need_ok (eqb version 1) (Version, 1) (body_of windows 2 nothing parts >>> λ body. Ok (Windows body)) c e in
-    let d = then_ok (body_of windows 2 nothing parts) (λ body. Ok (Windows body)) c b.1 in
+-- what is read by a version's form of states is a body in range
+lines_valid : {S : Type 0} (form : States S) (IsState : S → Type 0) → ReadCells → ReadsStates form IsState → (wrap : BodyView S → CertView) → ((body : BodyView S) → IsBody form IsState body → IsCertificate (wrap body)) → (parts : List (List ℕ)) (c : CertView)
+    → (body_of form 2 nothing parts >>> λ body. Ok (wrap body)) ≡ Ok c → IsCertificate c
+lines_valid form IsState cells reads wrap is parts c e =
+    let d = then_ok (body_of form 2 nothing parts) (λ body. Ok (wrap body)) c e in
     let pairs_equal = equal_from_decides pair-eq.it CertPair-Decides in
-    subst IsCertificate (ok_is (Windows d.0) c d.2) (body_valid windows IsWindow cells reads_windows pairs_equal 2 nothing parts d.0 (nothing_front windows IsWindow cells reads_windows pairs_equal) d.1)
+    subst IsCertificate (ok_is (wrap d.0) c d.2) (is d.0 (body_valid form IsState cells reads pairs_equal 2 nothing parts d.0 (nothing_front form IsState cells reads pairs_equal) d.1))
 
-parts_valid : ReadCells → (parts : List (List ℕ)) (c : CertView) → certificate_of parts ≡ Ok c → IsCertificate c
-parts_valid cells [] c e = absurd cc
-parts_valid cells (last ∷ []) c e = absurd cc
-parts_valid cells (header ∷ next ∷ more) c e =
-    let a = then_ok (placed 1 (header_of header)) (λ version. version_of version (next ∷ more)) c e in
-    version_valid cells a.0 (next ∷ more) c a.2
+module _ (cells : ReadCells) (reads_owing : ReadsStates owing IsOwing) where
+  version_valid : (version : ℕ) (parts : List (List ℕ)) (c : CertView) → version_of version parts ≡ Ok c → IsCertificate c
+  version_valid version parts c e = by_first (eqb version 1) e
+    where
+      by_second : (b : Bool) → cond b (body_of owing 2 nothing parts >>> λ body. Ok (Owing body)) (Err (Version, 1)) ≡ Ok c → IsCertificate c
+      by_second true e = lines_valid owing IsOwing cells reads_owing Owing (λ body h. h) parts c e
+      by_second false e = absurd cc
 
--- what is read is a certificate
-pub read_is_certificate : ReadCells → (bytes : List ℕ) (c : CertView) → reading bytes ≡ Ok c → IsCertificate c
-read_is_certificate cells bytes c e = parts_valid cells (slice_split (λ b. eqb b 10) bytes) c e
+      by_first : (b : Bool) → cond b (body_of windows 2 nothing parts >>> λ body. Ok (Windows body)) (cond (eqb version 2) (body_of owing 2 nothing parts >>> λ body. Ok (Owing body)) (Err (Version, 1))) ≡ Ok c → IsCertificate c
+      by_first true e = lines_valid windows IsWindow cells reads_windows Windows (λ body h. h) parts c e
+      by_first false e = by_second (eqb version 2) e
+
+  parts_valid : (parts : List (List ℕ)) (c : CertView) → certificate_of parts ≡ Ok c → IsCertificate c
+  parts_valid [] c e = absurd cc
+  parts_valid (last ∷ []) c e = absurd cc
+  parts_valid (header ∷ next ∷ more) c e =
+      let a = then_ok (placed 1 (header_of header)) (λ version. version_of version (next ∷ more)) c e in
+      version_valid a.0 (next ∷ more) c a.2
+
+  -- what is read is a certificate
+  pub read_is_certificate : (bytes : List ℕ) (c : CertView) → reading bytes ≡ Ok c → IsCertificate c
+  read_is_certificate bytes c e = parts_valid (slice_split (λ b. eqb b 10) bytes) c e

@@ -1,24 +1,19 @@
--- States of version 1 are read back, and the whole certificate.
-use Rattle.std.proofs.Common.{◌≡◌, ℕ, Bool, true, false, eqb, List, ◌∷◌, Some, Result, Ok, refl, sym, ap, subst, ◌∙◌, arith}
+-- States of version 1 are read back.
+use Rattle.std.proofs.Common.{◌≡◌, Bool, true, false, eqb, Some, refl, sym, subst, arith}
 use Rattle.std.specs.Bool.{Decides}
 use Rattle.std.specs.Cmp.{first_so, second_so}
-use Rattle.std.specs.Fmt.{digits}
 use Rattle.std.specs.List.{AllByRecursion}
 use Rattle.std.proofs.Math.Bool.{beq}
 use Rattle.std.proofs.lemmas.Bool.Decides.{Decides-eqb, same_from_decides}
 use Rattle.std.proofs.lemmas.Slice.Eq.{bytes_eq-Decides}
-use Rattle.std.proofs.lemmas.List.Splits.{slice_split_at}
-use Rattle.brl_cert.specs.declared.fault.Wrong.{Wrong}
 use Rattle.brl_window.specs.declared.state.WindowState.{WindowState}
 use Rattle.brl_cert.specs.declared.pair.CertPair.{CertPair}
 use Rattle.brl_cert.specs.contracts.pair.CertPairPartialEq.TheImpl.{eq-value as pair-eq}
 use Rattle.brl_window.specs.contracts.state.WindowStatePartialEq.TheImpl.{eq-value as window-eq}
-use Rattle.brl_cert.specs.Lines.{BodyView, spelled_body, body_of, ◌>>>◌}
 use Rattle.brl_cert.specs.Window.{window_fields, loose_window, windows}
-use Rattle.brl_cert.specs.Reading.{CertView, Windows, spelled_header, header_of, certificate_of, nothing, reading, spelling}
-use Rattle.brl_cert.specs.Valid.{IsWindow, IsCertificate}
-use Rattle.brl_cert.proofs.FieldLaws.{IsAbove, ReadsCells, lower, apart, above_true, number_reads, flag_reads, chars_read}
-use Rattle.brl_cert.proofs.Again.{KeepsStates, body_again, first_part}
+use Rattle.brl_cert.specs.Valid.{IsWindow}
+use Rattle.brl_cert.proofs.FieldLaws.{IsAbove, lower, number_reads, flag_reads, chars_read}
+use Rattle.brl_cert.proofs.Again.{KeepsStates}
 
 pub CertPair-Decides : (p q : CertPair) → Decides (pair-eq.it p q) (p ≡ q)
 CertPair-Decides p q = (
@@ -34,7 +29,7 @@ CertPair-Decides p q = (
     itself : (z : CertPair) → pair-eq.it z z ≡ true
     itself z = rw ((Decides-eqb z.ahead z.ahead).1 refl, (Decides-eqb z.behind z.behind).1 refl) ((bytes_eq-Decides z.lead z.lead).1 refl)
 
-Decides-beq : (a b : Bool) → Decides (beq a b) (a ≡ b)
+pub Decides-beq : (a b : Bool) → Decides (beq a b) (a ≡ b)
 Decides-beq true true = ((λ _. refl), (λ _. refl))
 Decides-beq false false = ((λ _. refl), (λ _. refl))
 Decides-beq true false = ((λ h. cc), (λ h. cc))
@@ -70,21 +65,5 @@ window_again s h =
     let b = number_reads 255 s.before.0 (omega (arith, h.before)) (omega (arith, h.before)) in
     rw (b.again, (flag_reads s.numeric).again, (flag_reads s.ended).again, (chars_read s.coming h.coming).again) refl
 
-keeps_windows : KeepsStates windows IsWindow
+pub keeps_windows : KeepsStates windows IsWindow
 keeps_windows = record { again = window_again; plain = window_plain; flips = flips window-eq.it WindowState-Decides }
-
-header_again : header_of (spelled_header 1) ≡ Ok 1
-unfolding digits
-header_again = refl
-
-header_bare : IsAbove 10 (spelled_header 1)
-unfolding digits
-header_bare = above_true 10 (spelled_header 1) refl
-
--- what is spelled is read
-pub spelled_is_read : ReadsCells → (c : CertView) → IsCertificate c → reading (spelling c) ≡ Ok c
-spelled_is_read law (Windows body) good =
-    let first = first_part 10 (spelled_body windows body) in
-    ap certificate_of (slice_split_at (λ b. eqb b 10) (spelled_header 1) 10 (spelled_body windows body) (apart 10 (spelled_header 1) header_bare) refl ∙ ap (λ (ps : List (List ℕ)). spelled_header 1 ∷ ps) first.2)
-    ∙ rw header_again (ap (λ (ps : List (List ℕ)). body_of windows 2 nothing ps >>> λ all. Ok (Windows all)) (sym first.2)
-    ∙ ap (λ (r : Result (BodyView WindowState) (Wrong × ℕ)). r >>> λ all. Ok (Windows all)) (body_again windows keeps_windows law (flips pair-eq.it CertPair-Decides) 2 body good))

@@ -7,13 +7,16 @@ use Rattle.brl_cert.specs.declared.fault.CertFault.{CertFault}
 use Rattle.brl_cert.specs.declared.fault.CertFault.TheVariants.{Refused, Memory}
 use Rattle.brl_cert.specs.declared.fault.Wrong.{Wrong}
 use Rattle.brl_cert.specs.declared.fault.Wrong.TheVariants.{Version, Syntax, NotCanonical, Truncated}
+use Rattle.brl_dues.specs.declared.state.DuesState.{DuesState}
 use Rattle.brl_window.specs.declared.state.WindowState.{WindowState}
+use Rattle.brl_cert.specs.Dues.{owing}
 use Rattle.brl_cert.specs.Lines.{count, BodyView, spelled_body, body_of, placed, ◌>>>◌}
 use Rattle.brl_cert.specs.Window.{windows}
 
 -- a certificate without where it lies in memory, by its version
 pub data CertView : Type 0 where
   Windows : BodyView WindowState → CertView
+  Owing : BodyView DuesState → CertView
 
 -- ---- Spelling
 
@@ -23,6 +26,7 @@ spelled_header n = join_with_byte 32 (codes "BRLCERT" ∷ decimal n ∷ [])
 -- the one spelling of a certificate
 abbrev pub spelling : CertView → List ℕ
 spelling (Windows body) = spelled_header 1 ++ 10 ∷ spelled_body windows body
+spelling (Owing body) = spelled_header 2 ++ 10 ∷ spelled_body owing body
 
 -- ---- Reading
 
@@ -44,7 +48,8 @@ nothing = record { states = []; pairs = [] }
 -- what the lines behind a header of this version stand for, these being all that follow
 abbrev pub version_of : ℕ → List (List ℕ) → Result CertView (Wrong × ℕ)
 version_of version parts =
-    if version == 1 then (body_of windows 2 nothing parts >>> λ body. Ok (Windows body)) else Err (Version, 1)
+    if version == 1 then (body_of windows 2 nothing parts >>> λ body. Ok (Windows body))
+    else (if version == 2 then (body_of owing 2 nothing parts >>> λ body. Ok (Owing body)) else Err (Version, 1))
 
 -- what the parts of a text between its line feeds stand for
 abbrev pub certificate_of : List (List ℕ) → Result CertView (Wrong × ℕ)

@@ -2,13 +2,20 @@
 use Rattle.std.specs.Prelude.{◌≡◌, ◌<◌, ◌≤◌, All, true, length}
 use Rattle.std.specs.List.{IsDistinct}
 use Rattle.brl_cells.specs.Dots.{AreCells}
+use Rattle.brl_table.specs.declared.place.Cond.{Cond}
+use Rattle.brl_table.specs.declared.place.Cond.TheVariants.{Any, Meets, Avoids}
+use Rattle.brl_dues.specs.Order.{AreDues}
+use Rattle.brl_dues.specs.declared.due.Due.{Due}
+use Rattle.brl_dues.specs.declared.due.Due.TheVariants.{Need, Bar}
+use Rattle.brl_dues.specs.declared.state.DuesState.{DuesState}
 use Rattle.brl_window.specs.declared.state.WindowState.{WindowState}
 use Rattle.brl_cert.specs.contracts.pair.CertPairPartialEq.TheImpl.{eq-value as pair-eq}
 use Rattle.brl_cert.specs.Fields.{is_char}
 use Rattle.brl_cert.specs.Range.{IsPairOf}
 use Rattle.brl_cert.specs.Lines.{States, BodyView}
+use Rattle.brl_cert.specs.Dues.{owing}
 use Rattle.brl_cert.specs.Window.{windows}
-use Rattle.brl_cert.specs.Reading.{CertView, Windows}
+use Rattle.brl_cert.specs.Reading.{CertView, Owing, Windows}
 
 -- a state's classes are a number of eight bits, and its characters are characters
 pub record IsWindow (s : WindowState) : Type 0 where
@@ -25,5 +32,24 @@ pub record IsBody {S : Type 0} (form : States S) (IsState : S → Type 0) (body 
   pub few_states : length body.states ≤ 4294967295
   pub few_pairs : length body.pairs ≤ 4294967295
 
+-- the set of a condition is a number of eight bits
+abbrev pub HasSet : Cond → Type 0
+HasSet Any = Unit {0}
+HasSet (Meets set) = set.0 < 256
+HasSet (Avoids set) = set.0 < 256
+
+-- a due's set is a number of eight bits, and its characters are characters
+abbrev pub IsDue : Due → Type 0
+IsDue (Need cond) = HasSet cond
+IsDue (Bar chars cond) = All (λ c. is_char c ≡ true) chars × HasSet cond
+
+-- a state's classes are a number of eight bits, and its dues are in range, in order and without
+-- repeats
+pub record IsOwing (s : DuesState) : Type 0 where
+  pub before : s.before.0 < 256
+  pub each : All IsDue s.dues
+  pub kept : AreDues s.dues
+
 abbrev pub IsCertificate : CertView → Type 0
 IsCertificate (Windows body) = IsBody windows IsWindow body
+IsCertificate (Owing body) = IsBody owing IsOwing body

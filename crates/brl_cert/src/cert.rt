@@ -1,5 +1,6 @@
 //! Certificates.
 use crate::Body;
+use brl_dues::DuesState;
 use brl_window::WindowState;
 
 /// A certificate, by the machine whose states it lists.
@@ -7,4 +8,6 @@ use brl_window::WindowState;
 pub enum Cert {
     /// Version 1: states of a window machine.
     Window(Body<WindowState>),
+    /// Version 2: states of a dues machine.
+    Dues(Body<DuesState>),
 }

@@ -92,7 +92,7 @@ pub fn push_flag(out: &mut Vec<u8>, flag: bool) -> Result<(), AllocError>
 }
 
 /// Writes a character by its code point.
-fn push_char(alloc: Global, out: &mut Vec<u8>, character: char) -> Result<(), AllocError>
+pub fn push_char(alloc: Global, out: &mut Vec<u8>, character: char) -> Result<(), AllocError>
     ensures written { OnOk result (out.new.items ≡ out.old.items ++ digits 16 false character) }
     ensures in_range { is_char character ≡ true }
 {
@@ -103,7 +103,7 @@ fn push_char(alloc: Global, out: &mut Vec<u8>, character: char) -> Result<(), Al
 }
 
 /// Writes characters, each behind a point.
-fn push_more(alloc: Global, out: &mut Vec<u8>, characters: &[char]) -> Result<(), AllocError>
+pub fn push_more(alloc: Global, out: &mut Vec<u8>, characters: &[char]) -> Result<(), AllocError>
     ensures written { OnOk result (out.new.items ≡ out.old.items ++ flat_map (λ c. 46 ∷ digits 16 false c) characters.now) }
     ensures in_range { OnOk result (All (λ c. is_char c ≡ true) characters.now) }
 {

@@ -4,6 +4,7 @@ ghost use Rattle.brl_cert.specs.Reading.{CertView, reading, spelling};
 ghost use Rattle.brl_cert.specs.Valid.{IsCertificate};
 
 use brl_cells::{cells_are_read, spelled_cells_are_read};
+use brl_dues::order_law;
 
 /// Each certificate is read from its spelling, and from no other bytes; and what is read is a certificate.
 pub fn certificate_laws()
@@ -13,4 +14,5 @@ pub fn certificate_laws()
 {
     spelled_cells_are_read();
     cells_are_read();
+    order_law();
 }

@@ -4,6 +4,7 @@
 
 mod body;
 mod cert;
+mod dues_line;
 mod fault;
 mod field;
 mod laws;

@@ -108,6 +108,7 @@ fn read_lines(alloc: Global, bytes: &[u8]) -> Result<Cert, CertFault>
     }
     match read_header(alloc, header)? {
         1 => Ok(Cert::Window(read_body(alloc, rest)?)),
+        2 => Ok(Cert::Dues(read_body(alloc, rest)?)),
         _ => Err(CertFault::Refused {
             wrong: Wrong::Version,
             line: 1,

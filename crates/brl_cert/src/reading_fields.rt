@@ -8,7 +8,7 @@ use brl_table::Chars;
 use std::alloc::{AllocError, Global};
 
 /// The characters of parts in their loose form, where each part has one.
-fn read_each(alloc: Global, parts: &[&[u8]]) -> Result<Option<Chars>, AllocError>
+pub fn read_each(alloc: Global, parts: &[&[u8]]) -> Result<Option<Chars>, AllocError>
     ensures { IfOk result (λ chars. chars ≡ each loose_char (map (λ part. part.now) parts.now)) }
 {
     let mut characters = Vec::new(alloc);

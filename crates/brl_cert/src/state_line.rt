@@ -1,11 +1,14 @@
 //! States as a version of certificates writes them.
 ghost use Rattle.std.specs.Prelude.{◌≡◌, ◌++◌, ◌∷◌, [], ℕ, Bool, map, refl, IfOk, OnOk};
 ghost use Rattle.brl_cert.specs.Lines.{States, behind_blanks};
-ghost use Rattle.brl_cert.specs.Valid.{IsWindow};
+ghost use Rattle.brl_cert.specs.Dues.{owing};
+ghost use Rattle.brl_cert.specs.Valid.{IsOwing, IsWindow};
 ghost use Rattle.brl_cert.specs.Window.{loose_window, windows};
 
+use crate::dues_line::{push_dues, read_dues};
 use crate::field::{push_chars, push_flag, push_number, read_flag, read_number};
 use crate::reading_fields::read_chars;
+use brl_dues::DuesState;
 use brl_table::Class;
 use brl_window::WindowState;
 use std::alloc::{AllocError, Global};
@@ -53,6 +56,22 @@ impl StateLine for WindowState {
             return Ok(None);
         };
         read_window(alloc, before, numeric, ended, coming)
+    }
+
+    ghost same = { refl };
+}
+
+impl StateLine for DuesState {
+    ghost form = { owing };
+
+    ghost is_state = { IsOwing };
+
+    fn push_fields(&self, alloc: Global, out: &mut Vec<u8>) -> Result<(), AllocError> {
+        push_dues(alloc, out, self)
+    }
+
+    fn read_fields(alloc: Global, fields: &[&[u8]]) -> Result<Option<DuesState>, AllocError> {
+        read_dues(alloc, fields)
     }
 
     ghost same = { refl };

@@ -3,7 +3,7 @@ ghost use Rattle.std.specs.Prelude.{◌≡◌, ◌++◌, ◌∷◌, [], All, IfO
 ghost use Rattle.std.specs.List.{flat_map, join_with_byte};
 ghost use Rattle.brl_cells.specs.Dots.{AreCells};
 ghost use Rattle.brl_cert.specs.Lines.{end_fields, pair_fields, spelled_body, spelled_line, whole_line};
-ghost use Rattle.brl_cert.specs.Reading.{Windows, reading, spelling};
+ghost use Rattle.brl_cert.specs.Reading.{Owing, Windows, reading, spelling};
 ghost use Rattle.brl_cert.specs.Valid.{IsBody};
 ghost use Rattle.brl_cert.specs.Views.{cert_view, listed};
 ghost use Rattle.brl_cert.specs.declared.line.Line.TheVariants.{State, Pair, End};
@@ -11,6 +11,7 @@ ghost use Rattle.brl_cert.specs.declared.line.Line.TheVariants.{State, Pair, End
 use crate::field::{push_lead, push_number};
 use crate::line::Line;
 use crate::{Body, Cert, CertPair, StateLine, certificate_laws};
+use brl_dues::DuesState;
 use brl_window::WindowState;
 use std::alloc::{AllocError, Global};
 
@@ -118,6 +119,17 @@ fn write_windows(alloc: Global, body: &Body<WindowState>) -> Result<Vec<u8>, All
     Ok(out)
 }
 
+/// The bytes of a certificate of version 2.
+fn write_dues(alloc: Global, body: &Body<DuesState>) -> Result<Vec<u8>, AllocError>
+    ensures spelled { IfOk result (λ bytes. bytes.items ≡ spelling (Owing (listed body.now.states body.now.pairs))) }
+    ensures read_back { IfOk result (λ bytes. reading bytes.items ≡ Ok (Owing (listed body.now.states body.now.pairs))) }
+{
+    certificate_laws();
+    let mut out = Vec::from_slice(alloc, b"BRLCERT 2\n")?;
+    push_body(alloc, &mut out, body)?;
+    Ok(out)
+}
+
 /// The bytes of a certificate: its one spelling. `AllocError` where they find no memory.
 pub fn write_cert(alloc: Global, cert: &Cert) -> Result<Vec<u8>, AllocError>
     ensures spelled { IfOk result (λ bytes. bytes.items ≡ spelling (cert_view cert.now)) }
@@ -126,5 +138,6 @@ pub fn write_cert(alloc: Global, cert: &Cert) -> Result<Vec<u8>, AllocError>
 {
     match cert {
         Cert::Window(body) => write_windows(alloc, body),
+        Cert::Dues(body) => write_dues(alloc, body),
     }
 }

@@ -2,17 +2,18 @@
 use Rattle.std.specs.Prelude.{ℕ, List}
 use Rattle.brl_cert.specs.Lines.{BodyView}
 use Rattle.brl_cert.specs.Views.{listed}
-use Rattle.brl_cert.specs.declared.cert.Cert.TheVariants.{Window}
+use Rattle.brl_cert.specs.declared.cert.Cert.TheVariants.{Dues, Window}
+use Rattle.brl_dues.specs.declared.state.DuesState.{DuesState}
 use Rattle.brl_forward.specs.ClashView.{ClashView}
 use Rattle.brl_search.specs.declared.fault.SearchFault.{SearchFault}
 use Rattle.brl_search.specs.declared.fault.SearchFault.TheVariants as fault
 use Rattle.brl_search.specs.declared.found.Found.{Found}
 use Rattle.brl_search.specs.declared.found.Found.TheVariants.{Certified, Clashing, Limit}
-use Rattle.brl_window.specs.declared.state.WindowState.{WindowState}
 
--- a fact of the body of the certificate, if there is one
-abbrev pub IfCertified : (BodyView WindowState → Type 0) → Found → Type 0
-IfCertified P (Certified (Window body)) = P (listed body.states body.pairs)
+-- a fact of the body of the certificate, if there is one; it is of version 2
+abbrev pub IfCertified : (BodyView DuesState → Type 0) → Found → Type 0
+IfCertified P (Certified (Dues body)) = P (listed body.states body.pairs)
+IfCertified P (Certified (Window body)) = ⊥
 IfCertified P found = Unit {0}
 
 -- a fact of the clash, if there is one
@@ -29,8 +30,3 @@ IfLimit P found = Unit {0}
 abbrev pub IfUnconfirmed : (List ℕ → List ℕ → Type 0) → SearchFault → Type 0
 IfUnconfirmed P (fault.Unconfirmed left right) = P left right
 IfUnconfirmed P other = Unit {0}
-
--- a fact, if the table is too wide
-abbrev pub IfTooWide : Type 0 → SearchFault → Type 0
-IfTooWide P fault.TooWide = P
-IfTooWide P other = Unit {0}

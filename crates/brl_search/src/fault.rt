@@ -1,17 +1,13 @@
 //! Why a search finds nothing.
 use brl_table::Chars;
-use brl_window::TooWide;
 use std::alloc::AllocError;
 use thiserror::Error;
 
 /// Why a search finds nothing.
 #[derive(Debug, Drop, Error)]
 pub enum SearchFault {
-    /// The start of the table's window machine would have more than 10,000 moves.
-    #[error("W1 TooWide")]
-    TooWide,
-    /// The search met these two texts, which aren't a clash: by the machine two paths read them and give the same cells, but
-    /// a path of the window machine needn't be a translation.
+    /// The search met these two texts, which aren't a clash: by the machine two paths read them and
+    /// give the same cells, but nothing says yet that a path of the machine is a translation.
     #[error("S1 Unconfirmed")]
     Unconfirmed(Chars, Chars),
     /// A growth was refused.
@@ -27,16 +23,5 @@ impl From<AllocError> for SearchFault {
 
     fn from(_error: AllocError) -> SearchFault {
         SearchFault::Memory
-    }
-}
-
-impl From<TooWide> for SearchFault {
-    ghost use Rattle.std.specs.Prelude.{◌≡◌};
-    ghost use Rattle.brl_search.specs.declared.fault.SearchFault.TheVariants as fault;
-
-    ghost from_gives = { λ _ made. made ≡ fault.TooWide };
-
-    fn from(_fault: TooWide) -> SearchFault {
-        SearchFault::TooWide
     }
 }

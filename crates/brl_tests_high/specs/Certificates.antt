@@ -87,8 +87,8 @@ faulty =
     ∷ row (lines (codes "BRLCERT 1" ∷ codes "state 1 0 0 -" ∷ codes "state 8 0 0 61" ∷ codes "state 8 0 1 -" ∷ codes "pair 1 2 -" ∷ codes "state 9 0 0 -" ∷ codes "end 3 1" ∷ [])) Syntax 6
     -- a line behind the end line
     ∷ row (lines (codes "BRLCERT 1" ∷ codes "state 1 0 0 -" ∷ codes "state 8 0 0 61" ∷ codes "state 8 0 1 -" ∷ codes "pair 1 2 -" ∷ codes "end 3 1" ∷ codes "" ∷ [])) Syntax 7
-    -- a version that is not known yet
-    ∷ row (lines (codes "BRLCERT 2" ∷ codes "state 1 0 0 -" ∷ codes "state 8 0 0 61" ∷ codes "state 8 0 1 -" ∷ codes "pair 1 2 -" ∷ codes "end 3 1" ∷ [])) Version 1
+    -- states of another version than the header's
+    ∷ row (lines (codes "BRLCERT 2" ∷ codes "state 1 0 0 -" ∷ codes "state 8 0 0 61" ∷ codes "state 8 0 1 -" ∷ codes "pair 1 2 -" ∷ codes "end 3 1" ∷ [])) Syntax 2
     -- a version that is not known
     ∷ row (lines (codes "BRLCERT 9" ∷ codes "state 1 0 0 -" ∷ codes "state 8 0 0 61" ∷ codes "state 8 0 1 -" ∷ codes "pair 1 2 -" ∷ codes "end 3 1" ∷ [])) Version 1
     -- a version with a leading zero: its spelling is looked at first

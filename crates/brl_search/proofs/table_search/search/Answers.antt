@@ -1,22 +1,22 @@
 use Rattle.std.proofs.Common.{slice_get, sym, ◌∙◌, subst}
 use Rattle.brl_cert.specs.Sets.{pair_at, sets_of}
 use Rattle.brl_cert.specs.Views.{listed}
+use Rattle.brl_dues.specs.Steps.{dues_machine}
 use Rattle.brl_pairs.specs.Pairs.{IsClosed}
 use Rattle.brl_pairs.specs.Runs.{IsUnambiguous}
 use Rattle.brl_search.specs.Answers.{IsCertified, IsOutcome}
 use Rattle.brl_table.specs.TableView.{TableView}
-use Rattle.brl_window.specs.Windows.{window_machine}
 use Rattle.brl_search.proofs.table_search.search.Goals as goal
 
 pub returns-in-Closed-clause-closed : goal.returns-in-Closed-clause-closed
 returns-in-Closed-clause-closed c =
-    let certified : IsCertified (window_machine c.in_ok-window.window) c.args.limit (listed c.in-Closed.body.states c.in-Closed.body.pairs) = subst (IsOutcome (window_machine c.in_ok-window.window) c.args.limit) c.in-Closed.is c.in_ok-body.ensures in
-    subst (λ (t : TableView). IsClosed (window_machine t) (sets_of (listed c.in-Closed.body.states c.in-Closed.body.pairs))) c.in_ok-window.ensures.table certified.closed
+    let certified : IsCertified (dues_machine c.new-dues.result) c.args.limit (listed c.in-Closed.body.states c.in-Closed.body.pairs) = subst (IsOutcome (dues_machine c.new-dues.result) c.args.limit) c.in-Closed.is c.in_ok-body.ensures in
+    subst (λ (t : TableView). IsClosed (dues_machine t) (sets_of (listed c.in-Closed.body.states c.in-Closed.body.pairs))) c.new-dues.ensures.table certified.closed
 
 pub returns-in-Closed-clause-unambiguous : goal.returns-in-Closed-clause-unambiguous
 returns-in-Closed-clause-unambiguous c left right cells clash =
-    let certified : IsCertified (window_machine c.in_ok-window.window) c.args.limit (listed c.in-Closed.body.states c.in-Closed.body.pairs) = subst (IsOutcome (window_machine c.in_ok-window.window) c.args.limit) c.in-Closed.is c.in_ok-body.ensures in
+    let certified : IsCertified (dues_machine c.new-dues.result) c.args.limit (listed c.in-Closed.body.states c.in-Closed.body.pairs) = subst (IsOutcome (dues_machine c.new-dues.result) c.args.limit) c.in-Closed.is c.in_ok-body.ensures in
     let body = listed c.in-Closed.body.states c.in-Closed.body.pairs in
-    let machine : IsUnambiguous (window_machine c.in_ok-window.window) = c.numbered_sets_law.ensures (slice_get body.states) (pair_at body) certified.closed in
-    let table : IsUnambiguous (window_machine c.args.table.now) = subst (λ (t : TableView). IsUnambiguous (window_machine t)) c.in_ok-window.ensures.table machine in
+    let machine : IsUnambiguous (dues_machine c.new-dues.result) = c.numbered_sets_law.ensures (slice_get body.states) (pair_at body) certified.closed in
+    let table : IsUnambiguous (dues_machine c.args.table.now) = subst (λ (t : TableView). IsUnambiguous (dues_machine t)) c.new-dues.ensures.table machine in
     clash.differ (table left right clash.left_text clash.right_text (clash.left_cells ∙ sym clash.right_cells))

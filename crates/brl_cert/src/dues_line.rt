@@ -1,0 +1,211 @@
+//! States of version 2.
+ghost use Rattle.std.specs.Prelude.{◌≡◌, ◌++◌, ◌∷◌, [], map, false, true, All, IfOk, IfSome, IsTrue, OnOk, option_map, if◌then◌else◌};
+ghost use Rattle.std.specs.Fmt.{digits};
+ghost use Rattle.std.specs.List.{join_with_byte};
+ghost use Rattle.brl_cert.specs.Dues.{dues_fields, loose_any, loose_due as due_of_field, loose_dues, loose_head, loose_parts, loose_set, spelled_cond, spelled_due};
+ghost use Rattle.brl_cert.specs.Fields.{each, is_char};
+ghost use Rattle.brl_cert.specs.Lines.{behind_blanks};
+ghost use Rattle.brl_cert.specs.Valid.{HasSet, IsDue, IsOwing};
+ghost use Rattle.brl_dues.specs.Order.{is_proper};
+ghost use Rattle.brl_table.specs.declared.place.Cond.TheVariants.{Meets, Avoids};
+
+use crate::field::{
+    parts_of, push_char, push_flag, push_more, push_number, read_flag, read_number,
+};
+use crate::reading_fields::read_each;
+use brl_dues::{Due, DueList, DuesState};
+use brl_table::{Class, Cond};
+use std::alloc::{AllocError, Global};
+
+/// Writes a condition.
+fn push_cond(alloc: Global, out: &mut Vec<u8>, cond: Cond) -> Result<(), AllocError>
+    ensures written { OnOk result (out.new.items ≡ out.old.items ++ spelled_cond cond) }
+    ensures in_range { HasSet cond }
+{
+    match cond {
+        Cond::Any => {
+            out.push(b'*')?;
+            Ok(())
+        }
+        Cond::Meets(set) => {
+            out.push(b'+')?;
+            push_number(alloc, out, u32::from(set.0))
+        }
+        Cond::Avoids(set) => {
+            out.push(b'-')?;
+            push_number(alloc, out, u32::from(set.0))
+        }
+    }
+}
+
+/// The due of a condition and what comes before it.
+fn read_head(alloc: Global, cond: Cond, head: &[u8]) -> Result<Option<Due>, AllocError>
+    ensures { IfOk result (λ due. due ≡ loose_head cond head.now) }
+{
+    match head {
+        [b'n'] => Ok(Some(Due::Need(cond))),
+        [b'b', rest @ ..] => {
+            let parts = parts_of(alloc, rest, b'.')?;
+            match read_each(alloc, parts.as_slice())? {
+                Some(chars) => Ok(Some(Due::Bar(chars, cond))),
+                None => Ok(None),
+            }
+        }
+        _ => Ok(None),
+    }
+}
+
+/// The due of a condition with a set, by its parts: what comes before the mark, and the set.
+fn read_set(alloc: Global, avoids: bool, parts: &[&[u8]]) -> Result<Option<Due>, AllocError>
+    ensures { IfOk result (λ due. due ≡ loose_set (if avoids then Avoids else Meets) (map (λ part. part.now) parts.now)) }
+{
+    let [head, set] = parts else {
+        return Ok(None);
+    };
+    let Some(number) = read_number(set, 10, 255) else {
+        return Ok(None);
+    };
+    let set = Class(number as u8);
+    let cond = if avoids {
+        Cond::Avoids(set)
+    } else {
+        Cond::Meets(set)
+    };
+    read_head(alloc, cond, head)
+}
+
+/// The bar of the condition Any, by its parts: what comes before the star, and nothing.
+fn read_any(alloc: Global, parts: &[&[u8]]) -> Result<Option<Due>, AllocError>
+    ensures { IfOk result (λ due. due ≡ loose_any (map (λ part. part.now) parts.now)) }
+{
+    let [head, set] = parts else {
+        return Ok(None);
+    };
+    if !set.is_empty() {
+        return Ok(None);
+    }
+    read_head(alloc, Cond::Any, head)
+}
+
+/// Whether a due asks for something.
+fn asks(due: &Due) -> bool
+    ensures { result ≡ is_proper due.now }
+{
+    match due {
+        Due::Need(cond) => *cond != Cond::Any,
+        Due::Bar(chars, _) => chars.len() != 0,
+    }
+}
+
+/// The due of a field in its loose form.
+fn read_due(alloc: Global, field: &[u8]) -> Result<Option<Due>, AllocError>
+    ensures due { IfOk result (λ due. due ≡ due_of_field field.now) }
+    ensures proper { IfOk result (λ found. IfSome found (λ due. IsTrue (is_proper due))) }
+{
+    match read_parts(alloc, field)? {
+        Some(due) if asks(&due) => Ok(Some(due)),
+        _ => Ok(None),
+    }
+}
+
+/// The due of a field by its parts.
+fn read_parts(alloc: Global, field: &[u8]) -> Result<Option<Due>, AllocError>
+    ensures { IfOk result (λ due. due ≡ loose_parts field.now) }
+{
+    let parts = parts_of(alloc, field, b'+')?;
+    if let Some(due) = read_set(alloc, false, parts.as_slice())? {
+        return Ok(Some(due));
+    }
+    let parts = parts_of(alloc, field, b'-')?;
+    if let Some(due) = read_set(alloc, true, parts.as_slice())? {
+        return Ok(Some(due));
+    }
+    let parts = parts_of(alloc, field, b'*')?;
+    read_any(alloc, parts.as_slice())
+}
+
+/// The dues of fields in their loose form, where each field has one.
+fn read_each_due(alloc: Global, fields: &[&[u8]]) -> Result<Option<Vec<Due>>, AllocError>
+    ensures dues { IfOk result (λ found. option_map (λ dues. dues.items) found ≡ each due_of_field (map (λ field. field.now) fields.now)) }
+    ensures proper { IfOk result (λ found. IfSome found (λ dues. All (λ due. IsTrue (is_proper due)) dues.items)) }
+{
+    let mut dues = Vec::new(alloc);
+    for field in fields {
+        let Some(due) = read_due(alloc, field)? else {
+            return Ok(None);
+        };
+        dues.push(due)?;
+    }
+    Ok(Some(dues))
+}
+
+/// The state of the fields of a line in their loose form.
+pub fn read_dues(alloc: Global, fields: &[&[u8]]) -> Result<Option<DuesState>, AllocError>
+    ensures { IfOk result (λ state. state ≡ loose_dues (map (λ field. field.now) fields.now)) }
+{
+    let [before, numeric, rest @ ..] = fields else {
+        return Ok(None);
+    };
+    let Some(before) = read_number(before, 10, 255) else {
+        return Ok(None);
+    };
+    let Some(numeric) = read_flag(numeric) else {
+        return Ok(None);
+    };
+    let Some(dues) = read_each_due(alloc, rest)? else {
+        return Ok(None);
+    };
+    let before = Class(before as u8);
+    Ok(Some(DuesState {
+        before,
+        numeric,
+        dues: DueList::in_order(dues),
+    }))
+}
+
+/// Writes characters, joined by points.
+fn push_joined(alloc: Global, out: &mut Vec<u8>, characters: &[char]) -> Result<(), AllocError>
+    ensures written { OnOk result (out.new.items ≡ out.old.items ++ join_with_byte 46 (map (digits 16 false) characters.now)) }
+    ensures in_range { OnOk result (All (λ c. is_char c ≡ true) characters.now) }
+{
+    let [first, rest @ ..] = characters else {
+        return Ok(());
+    };
+    push_char(alloc, out, *first)?;
+    push_more(alloc, out, rest)?;
+    Ok(())
+}
+
+/// Writes a due.
+fn push_due(alloc: Global, out: &mut Vec<u8>, due: &Due) -> Result<(), AllocError>
+    ensures written { OnOk result (out.new.items ≡ out.old.items ++ spelled_due due.now) }
+    ensures in_range { OnOk result (IsDue due.now) }
+{
+    match due {
+        Due::Need(cond) => {
+            out.push(b'n')?;
+            push_cond(alloc, out, *cond)
+        }
+        Due::Bar(chars, cond) => {
+            out.push(b'b')?;
+            push_joined(alloc, out, chars.as_slice())?;
+            push_cond(alloc, out, *cond)
+        }
+    }
+}
+
+/// Writes the fields of a state, each after a blank.
+pub fn push_dues(alloc: Global, out: &mut Vec<u8>, state: &DuesState) -> Result<(), AllocError>
+    ensures written { OnOk result (out.new.items ≡ out.old.items ++ behind_blanks (dues_fields state.now)) }
+    ensures in_range { OnOk result (IsOwing state.now) }
+{
+    out.push(b' ')?;
+    push_number(alloc, out, u32::from(state.before.0))?;
+    out.push(b' ')?;
+    push_flag(out, state.numeric)?;
+    for due in state.dues.as_slice() {
+        out.push(b' ')?;
+        push_due(alloc, out, due)?;
+    }
+    Ok(())
+}

@@ -1,0 +1,58 @@
+-- What carried dues leave, appended to those found so far, one after another.
+use Rattle.std.proofs.Common.{◌≡◌, ℕ, ◌+◌, ◌<◌, ◌≤◌, Bool, true, false, ◌&&◌, List, [], ◌∷◌, ◌++◌, length, take, drop, get_or, map, refl, sym, ap, ap₂, ◌∙◌, subst, append_assoc, append-nil}
+use Rattle.std.proofs.lemmas.List.{map-append, take-append-drop, take_all, take_more}
+use Rattle.std.proofs.lemmas.Grind.{flat_map-append}
+use Rattle.std.proofs.lemmas.List.Folds.{list_all-append}
+use Rattle.std.specs.List.{list_all}
+use Rattle.brl_dues.specs.declared.carry.Carried.{Carried}
+use Rattle.brl_dues.specs.declared.due.Due.{Due}
+use Rattle.brl_dues.specs.Adding.{Adds}
+use Rattle.brl_dues.specs.Carry.{is_whole, left_of, lefts}
+
+-- none of these is broken, and what they leave is appended
+pub record HasAdded (carried : List Carried) (old new : List Due) : Type 0 where
+  pub whole : list_all is_whole carried ≡ true
+  pub found : new ≡ old ++ lefts carried
+
+pub has-none : (old : List Due) → HasAdded [] old old
+has-none old = record { whole = refl; found = sym (append-nil old) }
+
+module _ {X : Type 0} (g : X → Carried) (xs : List X) (i : ℕ) where
+  one-more : (d : X) (c : Carried) → i < length xs → c ≡ g (get_or xs i d) → map g (take (i + 1) xs) ≡ map g (take i xs) ++ c ∷ []
+  one-more d c h e = ap (map g) (take_more xs i d h) ∙ map-append g (take i xs) (get_or xs i d ∷ []) ∙ ap (λ y. map g (take i xs) ++ y ∷ []) (sym e)
+
+  pub has-more : (d : X) (c : Carried) (w : Bool) (old now new : List Due) → i < length xs → c ≡ g (get_or xs i d) → HasAdded (map g (take i xs)) old now
+      → Adds (c ∷ []) now new w → w ≡ true → HasAdded (map g (take (i + 1) xs)) old new
+  has-more d c w old now new h e had adds t =
+      let cs = map g (take i xs) in
+      subst (λ l. HasAdded l old new) (sym (one-more d c h e)) (record {
+        whole = list_all-append is_whole cs (c ∷ []) ∙ ap₂ (λ a b. a && b) had.whole (sym adds.whole_is ∙ t);
+        found =
+            adds.found t ∙ ap (λ l. l ++ lefts (c ∷ [])) had.found ∙ append_assoc old (lefts cs) (lefts (c ∷ []))
+            ∙ ap (λ l. old ++ l) (sym (flat_map-append left_of cs (c ∷ [])));
+      })
+
+  pub adds-broken : (d : X) (c : Carried) (w : Bool) (old now new out : List Due) → i < length xs → c ≡ g (get_or xs i d) → HasAdded (map g (take i xs)) old now
+      → Adds (c ∷ []) now new w → w ≡ false → Adds (map g xs) old out false
+  adds-broken d c w old now new out h e had adds f =
+      let cs = map g (take i xs) in
+      let broken : list_all is_whole (map g (take (i + 1) xs)) ≡ false =
+      ap (list_all is_whole) (one-more d c h e) ∙ list_all-append is_whole cs (c ∷ []) ∙ ap₂ (λ a b. a && b) had.whole (sym adds.whole_is ∙ f) in
+      let all : map g xs ≡ map g (take (i + 1) xs) ++ map g (drop (i + 1) xs) =
+      ap (map g) (sym (take-append-drop (i + 1) xs)) ∙ map-append g (take (i + 1) xs) (drop (i + 1) xs) in
+      record {
+        whole_is = sym (ap (list_all is_whole) all ∙ list_all-append is_whole (map g (take (i + 1) xs)) (map g (drop (i + 1) xs)) ∙ ap (λ b. b && list_all is_whole (map g (drop (i + 1) xs))) broken);
+        found = λ t. cc;
+      }
+
+  pub adds-all : (old new : List Due) → length xs ≤ i → HasAdded (map g (take i xs)) old new → Adds (map g xs) old new true
+  adds-all old new h had =
+      let e : map g (take i xs) ≡ map g xs = ap (map g) (take_all i xs h) in
+      record { whole_is = sym had.whole ∙ ap (list_all is_whole) e; found = λ _. had.found ∙ ap (λ l. old ++ lefts l) e }
+
+pub map-twice : {X Y Z : Type 0} (g : Y → Z) (f : X → Y) (xs : List X) → map g (map f xs) ≡ map (λ x. g (f x)) xs
+map-twice g f [] = refl
+map-twice g f (x ∷ xs) = ap (λ l. g (f x) ∷ l) (map-twice g f xs)
+
+pub adds-same : (carried also : List Carried) (old new : List Due) (w : Bool) → carried ≡ also → Adds carried old new w → Adds also old new w
+adds-same carried also old new w e h = subst (λ l. Adds l old new w) e h

@@ -1,0 +1,281 @@
+-- The steps that are found by the characters that may come are those that the machine lists.
+use Rattle.std.proofs.Common.{◌≡◌, ℕ, zero, suc, ◌+◌, ◌≤◌, take, Bool, true, false, ◌&&◌, List, [], ◌∷◌, ◌++◌, Option, Some, None, length, map, filter, drop, refl, sym, ap, ap₂, ◌∙◌, subst, cond, nat_eq, arith, append_assoc, append-nil, length-append}
+use Rattle.std.specs.Prelude.{slice_get}
+use Rattle.std.proofs.lemmas.Grind.{flat_map-append}
+use Rattle.std.proofs.lemmas.List.{take_all}
+use Rattle.brl_table.specs.declared.rule.Info.{Info}
+use Rattle.std.proofs.lemmas.List.Folds.{list_all-append}
+use Rattle.std.specs.List.{flat_map, list_all}
+use Rattle.std.specs.Map.{keys_of}
+use Rattle.brl_pairs.specs.declared.step.Step.{Step}
+use Rattle.brl_table.specs.declared.class.Class.{Class}
+use Rattle.brl_table.specs.declared.place.Cond.{Cond}
+use Rattle.brl_table.specs.declared.rule.Rule.{Rule}
+use Rattle.brl_table.specs.Places.{after_of, before_of, holds}
+use Rattle.brl_table.specs.TableView.{TableView}
+use Rattle.brl_table.specs.Text.{classes_of, fold_of}
+use Rattle.brl_dues.specs.declared.carry.Carried.{Carried}
+use Rattle.brl_dues.specs.declared.carry.Carried.TheVariants.{Settled}
+use Rattle.brl_dues.specs.declared.due.Due.{Due}
+use Rattle.brl_dues.specs.declared.due.Due.TheVariants.{Need, Bar}
+use Rattle.brl_dues.specs.declared.state.DuesState.{DuesState}
+use Rattle.brl_dues.specs.Carry.{bar_after, bar_of, carry, carry_bar, gathered, is_whole, left_of, lefts, need, settled_if}
+use Rattle.brl_dues.specs.Form.{Form, cased, forms_from, letters, own_form, rule_form, rule_forms}
+use Rattle.brl_dues.specs.LetterView.{LetterView}
+use Rattle.brl_dues.specs.Letters.{bars_of, begins_with, left_by, letter_step, may_come, new_letter, new_letters, own_step, rule_step, steps_found, with_rule}
+use Rattle.brl_dues.specs.Order.{in_order}
+use Rattle.brl_dues.specs.Steps.{dues_steps, step_if, step_of, steps_of}
+use Rattle.brl_dues.proofs.StepLaw.{and-false}
+
+-- ---- What the rules above ask
+
+-- whether a rule may be taken after a character of these classes where one with this fold comes
+abbrev taken_by : Class → ℕ → Rule → Bool
+taken_by before fold r = holds (before_of r.place) before && begins_with fold r.chars
+
+abbrev asked_one : Class → ℕ → Rule → List (List ℕ × Cond)
+asked_one before fold r = cond (taken_by before fold r) ((drop 1 r.chars, after_of r.place before) ∷ []) []
+
+abbrev pub asked : Class → ℕ → List Rule → List (List ℕ × Cond)
+asked before fold rules = flat_map (asked_one before fold) rules
+
+-- the character after which these rules are ranked above
+abbrev pub letter_at : TableView → Class → List Rule → ℕ → LetterView
+letter_at t before above c = record { character = c; fold = fold_of t c; above = asked before (fold_of t c) above }
+
+abbrev seen : ℕ → ℕ → List (List ℕ × Cond) → LetterView
+seen c fold above = record { character = c; fold = fold; above = above }
+
+with_rule-at : (t : TableView) (before : Class) (above : List Rule) (r : Rule) (c : ℕ) → with_rule before r (letter_at t before above c) ≡ letter_at t before (above ++ r ∷ []) c
+with_rule-at t before above r c =
+    let fold = fold_of t c in
+    at (taken_by before fold r) (asked before fold above)
+    ∙ ap (seen c fold) (ap (λ l. asked before fold above ++ l) (sym (append-nil (asked_one before fold r))) ∙ sym (flat_map-append (asked_one before fold) above (r ∷ [])))
+  where
+    at : (b : Bool) (l : List (List ℕ × Cond)) →
+        cond b (seen c (fold_of t c) (l ++ (drop 1 r.chars, after_of r.place before) ∷ [])) (seen c (fold_of t c) l)
+        ≡ seen c (fold_of t c) (l ++ cond b ((drop 1 r.chars, after_of r.place before) ∷ []) [])
+    at true l = refl
+    at false l = ap (seen c (fold_of t c)) (sym (append-nil l))
+
+map-same : {X Y : Type 0} (f g : X → Y) → ((x : X) → f x ≡ g x) → (xs : List X) → map f xs ≡ map g xs
+map-same f g h [] = refl
+map-same f g h (x ∷ xs) = ap₂ (λ a b. a ∷ b) (h x) (map-same f g h xs)
+
+map-both : {X Y Z : Type 0} (g : Y → Z) (f : X → Y) (xs : List X) → map g (map f xs) ≡ map (λ x. g (f x)) xs
+map-both g f [] = refl
+map-both g f (x ∷ xs) = ap (λ l. g (f x) ∷ l) (map-both g f xs)
+
+pub letters-more : (t : TableView) (before : Class) (above : List Rule) (r : Rule) (cs : List ℕ) → map (with_rule before r) (map (letter_at t before above) cs) ≡ map (letter_at t before (above ++ r ∷ [])) cs
+letters-more t before above r cs =
+    map-both (with_rule before r) (letter_at t before above) cs
+    ∙ map-same (λ c. with_rule before r (letter_at t before above c)) (letter_at t before (above ++ r ∷ [])) (with_rule-at t before above r) cs
+
+-- ---- The bars of the rules above
+
+-- what decides what is gathered
+record Alike (xs ys : List Carried) : Type 0 where
+  whole : list_all is_whole xs ≡ list_all is_whole ys
+  left : lefts xs ≡ lefts ys
+
+cons-Alike : (c : Carried) (xs ys : List Carried) → Alike xs ys → Alike (c ∷ xs) (c ∷ ys)
+cons-Alike c xs ys h = record { whole = ap (λ b. is_whole c && b) h.whole; left = ap (λ l. left_of c ++ l) h.left }
+
+settled-Alike : (xs ys : List Carried) → Alike xs ys → Alike (Settled ∷ xs) ys
+settled-Alike xs ys h = record { whole = h.whole; left = h.left }
+
+append-Alike : (zs xs ys : List Carried) → Alike xs ys → Alike (zs ++ xs) (zs ++ ys)
+append-Alike [] xs ys h = h
+append-Alike (z ∷ zs) xs ys h = cons-Alike z (zs ++ xs) (zs ++ ys) (append-Alike zs xs ys h)
+
+gathered-Alike : (xs ys : List Carried) → Alike xs ys → gathered xs ≡ gathered ys
+gathered-Alike xs ys h = ap₂ (λ b (l : List Due). cond b (Some (in_order l)) None) h.whole h.left
+
+module _ (t : TableView) (before : Class) (c : ℕ) (others : List ℕ) where
+  bars-Alike : (above : List Rule) → Alike (map (bar_of t before (c ∷ others)) above) (bars_of t others (asked before (fold_of t c) above))
+  bars-Alike [] = record { whole = refl; left = refl }
+  bars-Alike (r ∷ above) = at (holds (before_of r.place) before) r.chars (bars-Alike above)
+    where
+      begun : (b : Bool) (rest : List ℕ) (bar : Carried) → bar ≡ carry_bar t others rest (after_of r.place before) → Alike (map (bar_of t before (c ∷ others)) above) (bars_of t others (asked before (fold_of t c) above))
+          → Alike (cond b bar Settled ∷ map (bar_of t before (c ∷ others)) above)
+          (bars_of t others (cond b ((rest, after_of r.place before) ∷ []) [] ++ asked before (fold_of t c) above))
+      begun true rest bar e more = subst (λ x. Alike (bar ∷ map (bar_of t before (c ∷ others)) above) (x ∷ bars_of t others (asked before (fold_of t c) above))) e (cons-Alike bar _ _ more)
+      begun false rest bar e more = settled-Alike _ _ more
+
+      at : (h : Bool) (chars : List ℕ) → Alike (map (bar_of t before (c ∷ others)) above) (bars_of t others (asked before (fold_of t c) above))
+          → Alike (cond h (bar_after t c others chars (after_of r.place before)) Settled ∷ map (bar_of t before (c ∷ others)) above)
+          (bars_of t others (cond (h && begins_with (fold_of t c) chars) ((drop 1 chars, after_of r.place before) ∷ []) [] ++ asked before (fold_of t c) above))
+      at false chars more = settled-Alike _ _ more
+      at true [] more = settled-Alike _ _ more
+      at true (first ∷ rest) more = begun (nat_eq (fold_of t c) first) rest (carry_bar t others rest (after_of r.place before)) refl more
+
+  -- ---- One step
+
+  same-dues : (dues : List Due) (after : Cond) (above : List Rule)
+      → gathered (map (carry t (c ∷ others)) dues ++ (need after ∷ map (bar_of t before (c ∷ others)) above)) ≡ gathered (left_by t dues (letter_at t before above c) others after)
+  same-dues dues after above =
+      gathered-Alike _ _ (append-Alike (map (carry t (c ∷ others)) dues) _ _ (cons-Alike (need after) _ _ (bars-Alike above)))
+
+  -- a character that a need refuses
+  refused : (dues : List Due) → may_come t dues c ≡ false → list_all is_whole (map (carry t (c ∷ others)) dues) ≡ false
+  refused [] h = cc
+  refused (Need cond ∷ dues) h = at (holds cond (classes_of t c)) h (refused dues)
+    where
+      at : (b : Bool) → (b && may_come t dues c) ≡ false → (may_come t dues c ≡ false → list_all is_whole (map (carry t (c ∷ others)) dues) ≡ false)
+          → (is_whole (settled_if b) && list_all is_whole (map (carry t (c ∷ others)) dues)) ≡ false
+      at true e more = more e
+      at false e more = refl
+  refused (Bar chars cond ∷ dues) h =
+      ap (λ b. is_whole (carry t (c ∷ others) (Bar chars cond)) && b) (refused dues h) ∙ and-false (is_whole (carry t (c ∷ others) (Bar chars cond)))
+
+  none-gathered : (dues : List Due) (ys : List Carried) → may_come t dues c ≡ false → gathered (map (carry t (c ∷ others)) dues ++ ys) ≡ None
+  none-gathered dues ys h =
+      ap (λ b. cond b (Some (in_order (lefts (map (carry t (c ∷ others)) dues ++ ys)))) None)
+      (list_all-append is_whole (map (carry t (c ∷ others)) dues) ys ∙ ap (λ b. b && list_all is_whole ys) (refused dues h))
+
+flat_map-same : {X Y : Type 0} (f g : X → List Y) → ((x : X) → f x ≡ g x) → (xs : List X) → flat_map f xs ≡ flat_map g xs
+flat_map-same f g h [] = refl
+flat_map-same f g h (x ∷ xs) = ap₂ (λ a b. a ++ b) (h x) (flat_map-same f g h xs)
+
+flat_map-none : {X Y : Type 0} (f : X → List Y) → ((x : X) → f x ≡ []) → (xs : List X) → flat_map f xs ≡ []
+flat_map-none f h [] = refl
+flat_map-none f h (x ∷ xs) = ap₂ (λ a b. a ++ b) (h x) (flat_map-none f h xs)
+
+-- lists of lists
+flat_map-flat_map : {X Y Z : Type 0} (f : Y → List Z) (g : X → List Y) (xs : List X) → flat_map f (flat_map g xs) ≡ flat_map (λ x. flat_map f (g x)) xs
+flat_map-flat_map f g [] = refl
+flat_map-flat_map f g (x ∷ xs) = flat_map-append f (g x) (flat_map g xs) ∙ ap (λ l. flat_map f (g x) ++ l) (flat_map-flat_map f g xs)
+
+flat_map-of_map : {X Y Z : Type 0} (f : Y → List Z) (g : X → Y) (xs : List X) → flat_map f (map g xs) ≡ flat_map (λ x. f (g x)) xs
+flat_map-of_map f g [] = refl
+flat_map-of_map f g (x ∷ xs) = ap (λ l. f (g x) ++ l) (flat_map-of_map f g xs)
+
+-- elements that give nothing may be left out
+flat_map-filter : {X Y : Type 0} (f g : X → List Y) (p : X → Bool) → ((x : X) → f x ≡ cond (p x) (g x) []) → (xs : List X) → flat_map f xs ≡ flat_map g (filter p xs)
+flat_map-filter f g p h [] = refl
+flat_map-filter f g p h (x ∷ xs) = ap₂ (λ a b. a ++ b) (h x) (flat_map-filter f g p h xs) ∙ at (p x)
+  where
+    at : (b : Bool) → cond b (g x) [] ++ flat_map g (filter p xs) ≡ flat_map g (cond b (x ∷ filter p xs) (filter p xs))
+    at true = refl
+    at false = refl
+
+module _ (t : TableView) (s : DuesState) where
+  abbrev coming : List ℕ
+  coming = filter (may_come t s.dues) (letters t)
+
+  -- the steps of a form that begins with a character
+  steps-at : (f : Form) (c : ℕ) (others : List ℕ) (above : List Rule) → f.reads ≡ c ∷ others → f.above ≡ above
+      → steps_of t s f ≡ cond (may_come t s.dues c) (letter_step t s (letter_at t s.before above c) f.number others f.after f.cells) []
+  steps-at f c others above reads is =
+      ap₂ (λ x a. step_if t s f (gathered (map (carry t x) s.dues ++ (need f.after ∷ map (bar_of t s.before x) a)))) reads is
+      ∙ at (may_come t s.dues c) refl
+    where
+      same-step : (o : Option (List Due)) → step_if t s f o ≡ step_if t s (record { number = f.number; reads = c ∷ others; after = f.after; cells = f.cells; above = [] }) o
+      same-step None = refl
+      same-step (Some dues) = ap (λ x. step_of t s (record { number = f.number; reads = x; after = f.after; cells = f.cells; above = f.above }) dues ∷ []) reads
+
+      at : (b : Bool) → may_come t s.dues c ≡ b
+          → step_if t s f (gathered (map (carry t (c ∷ others)) s.dues ++ (need f.after ∷ map (bar_of t s.before (c ∷ others)) above)))
+          ≡ cond b (letter_step t s (letter_at t s.before above c) f.number others f.after f.cells) []
+      at true e = ap (step_if t s f) (same-dues t s.before c others s.dues f.after above) ∙ same-step (gathered (left_by t s.dues (letter_at t s.before above c) others f.after))
+      at false e = ap (step_if t s f) (none-gathered t s.before c others s.dues (need f.after ∷ map (bar_of t s.before (c ∷ others)) above) e)
+
+  -- ---- The steps of one rule
+
+  rule-at : (above : List Rule) (r : Rule) (c : ℕ) → holds (before_of r.place) s.before ≡ true
+      → flat_map (steps_of t s) (cased t s.before above r r.chars c) ≡ cond (may_come t s.dues c) (rule_step t s (length above) r (letter_at t s.before above c)) []
+  rule-at above r c stands =
+      chars r.chars ∙ ap (λ h. cond (may_come t s.dues c) (cond (h && begins_with (fold_of t c) r.chars) (letter_step t s (letter_at t s.before above c) (length above) (drop 1 r.chars) (after_of r.place s.before) r.cells) []) []) (sym stands)
+    where
+      none : (b : Bool) → [] ≡ cond b (let x : List (Step DuesState) = [] in x) []
+      none true = refl
+      none false = refl
+
+      first_is : (first : ℕ) (others : List ℕ) (b : Bool)
+          → flat_map (steps_of t s) (cond b (rule_form s.before above r others c ∷ []) [])
+          ≡ cond (may_come t s.dues c) (cond b (letter_step t s (letter_at t s.before above c) (length above) others (after_of r.place s.before) r.cells) []) []
+      first_is first others true = append-nil (steps_of t s (rule_form s.before above r others c)) ∙ steps-at (rule_form s.before above r others c) c others above refl refl
+      first_is first others false = none (may_come t s.dues c)
+
+      chars : (l : List ℕ) → flat_map (steps_of t s) (cased t s.before above r l c)
+          ≡ cond (may_come t s.dues c) (cond (begins_with (fold_of t c) l) (letter_step t s (letter_at t s.before above c) (length above) (drop 1 l) (after_of r.place s.before) r.cells) []) []
+      chars [] = none (may_come t s.dues c)
+      chars (first ∷ others) = first_is first others (nat_eq (fold_of t c) first)
+
+  rule-found : (above : List Rule) (r : Rule) → flat_map (steps_of t s) (rule_forms t s.before above r) ≡ flat_map (rule_step t s (length above) r) (map (letter_at t s.before above) coming)
+  rule-found above r = at (holds (before_of r.place) s.before) refl ∙ sym (flat_map-of_map (rule_step t s (length above) r) (letter_at t s.before above) coming)
+    where
+      at : (b : Bool) → holds (before_of r.place) s.before ≡ b
+          → flat_map (steps_of t s) (cond b (flat_map (cased t s.before above r r.chars) (letters t)) []) ≡ flat_map (λ c. rule_step t s (length above) r (letter_at t s.before above c)) coming
+      at true e =
+          flat_map-flat_map (steps_of t s) (cased t s.before above r r.chars) (letters t)
+          ∙ flat_map-filter (λ c. flat_map (steps_of t s) (cased t s.before above r r.chars c)) (λ c. rule_step t s (length above) r (letter_at t s.before above c)) (may_come t s.dues) (λ c. rule-at above r c e) (letters t)
+      at false e =
+          sym (flat_map-none (λ c. rule_step t s (length above) r (letter_at t s.before above c))
+          (λ c. ap (λ h. cond (h && begins_with (fold_of t c) r.chars) (letter_step t s (letter_at t s.before above c) (length above) (drop 1 r.chars) (after_of r.place s.before) r.cells) []) e) coming)
+
+  -- ---- All steps
+
+  own-found : flat_map (steps_of t s) (map (own_form t) (letters t)) ≡ flat_map (own_step t s) (map (letter_at t s.before t.rules) coming)
+  own-found =
+      flat_map-of_map (steps_of t s) (own_form t) (letters t)
+      ∙ flat_map-filter (λ c. steps_of t s (own_form t c)) (λ c. own_step t s (letter_at t s.before t.rules c)) (may_come t s.dues) (λ c. steps-at (own_form t c) c [] t.rules refl refl) (letters t)
+      ∙ sym (flat_map-of_map (own_step t s) (letter_at t s.before t.rules) coming)
+
+  found-from : (above rules : List Rule)
+      → flat_map (steps_of t s) (forms_from t s.before above rules) ++ flat_map (own_step t s) (map (letter_at t s.before (above ++ rules)) coming)
+      ≡ steps_found t s (length above) rules (map (letter_at t s.before above) coming)
+  found-from above [] = ap (λ a. flat_map (own_step t s) (map (letter_at t s.before a) coming)) (append-nil above)
+  found-from above (r ∷ rules) =
+      let own = flat_map (own_step t s) (map (letter_at t s.before (above ++ r ∷ rules)) coming) in
+      let last = flat_map (steps_of t s) (forms_from t s.before (above ++ r ∷ []) rules) in
+      ap (λ l. l ++ own) (flat_map-append (steps_of t s) (rule_forms t s.before above r) (forms_from t s.before (above ++ r ∷ []) rules))
+      ∙ append_assoc (flat_map (steps_of t s) (rule_forms t s.before above r)) last own
+      ∙ ap (λ l. l ++ (last ++ own)) (rule-found above r)
+      ∙ ap (λ l. flat_map (rule_step t s (length above) r) (map (letter_at t s.before above) coming) ++ l)
+      (ap (λ a. last ++ flat_map (own_step t s) (map (letter_at t s.before a) coming)) (sym (append_assoc above (r ∷ []) rules))
+      ∙ found-from (above ++ r ∷ []) rules
+      ∙ ap₂ (λ n l. steps_found t s n rules l) (length-append above (r ∷ [])) (sym (letters-more t s.before above r coming)))
+
+  pub all-found : dues_steps t s ≡ steps_found t s 0 t.rules (new_letters t s.dues)
+  unfolding dues_steps
+  all-found =
+      flat_map-append (steps_of t s) (forms_from t s.before [] t.rules) (map (own_form t) (letters t))
+      ∙ ap (λ l. flat_map (steps_of t s) (forms_from t s.before [] t.rules) ++ l) own-found
+      ∙ found-from [] t.rules
+
+-- ---- The characters that may come
+
+one-letter : {X Y : Type 0} (f : X → Y) (p : X → Bool) (x : X) → map f (filter p (x ∷ [])) ≡ cond (p x) (f x ∷ []) []
+one-letter f p x = at (p x)
+  where
+    at : (b : Bool) → map f (cond b (x ∷ []) []) ≡ cond b (f x ∷ []) []
+    at true = refl
+    at false = refl
+
+pub passing-more : {X Y : Type 0} (f : X → Y) (p : X → Bool) (xs : List X) (n : ℕ) (x : X) → slice_get xs n ≡ Some x
+    → map f (filter p (take (n + 1) xs)) ≡ map f (filter p (take n xs)) ++ cond (p x) (f x ∷ []) []
+passing-more f p [] n x h = cc
+passing-more f p (y ∷ xs) zero x h = (let same : y ≡ x = cc in ap (λ z. map f (filter p (z ∷ []))) same ∙ one-letter f p x)
+passing-more f p (y ∷ xs) (suc n) x h =
+    ap (λ k. map f (filter p (take k (y ∷ xs)))) (let e : suc n + 1 ≡ suc (n + 1) = omega arith in e)
+    ∙ at (p y) (passing-more f p xs n x h)
+  where
+    at : (b : Bool) → map f (filter p (take (n + 1) xs)) ≡ map f (filter p (take n xs)) ++ cond (p x) (f x ∷ []) []
+        → map f (cond b (y ∷ filter p (take (n + 1) xs)) (filter p (take (n + 1) xs))) ≡ map f (cond b (y ∷ filter p (take n xs)) (filter p (take n xs))) ++ cond (p x) (f x ∷ []) []
+    at true e = ap (λ l. f y ∷ l) e
+    at false e = e
+
+pub passing-next : {X Y : Type 0} (f : X → Y) (p : X → Bool) (xs : List X) (n : ℕ) (x : X) (now new : List Y) → slice_get xs n ≡ Some x → now ≡ map f (filter p (take n xs))
+    → new ≡ now ++ cond (p x) (f x ∷ []) [] → new ≡ map f (filter p (take (n + 1) xs))
+passing-next f p xs n x now new h e k = k ∙ ap (λ l. l ++ cond (p x) (f x ∷ []) []) e ∙ sym (passing-more f p xs n x h)
+
+letters-count : (es : List (ℕ × Info)) → length (keys_of es) ≡ length es
+letters-count [] = refl
+letters-count (e ∷ es) = ap suc (letters-count es)
+
+letters-all : (t : TableView) (n : ℕ) → length t.characters ≤ n → take n (letters t) ≡ letters t
+letters-all t n h = take_all n (letters t) (let e = letters-count t.characters in omega (arith, e, h))
+
+pub passing-all : (t : TableView) (dues : List Due) (n : ℕ) → length t.characters ≤ n → map (new_letter t) (filter (may_come t dues) (take n (letters t))) ≡ new_letters t dues
+passing-all t dues n h = ap (λ l. map (new_letter t) (filter (may_come t dues) l)) (letters-all t n h)

@@ -1,0 +1,355 @@
+-- The states of the dues machine and the cells of its steps are in finite lists.
+use Rattle.std.proofs.Common.{◌≡◌, ℕ, zero, suc, ◌≤◌, Bool, true, false, ◌||◌, List, [], ◌∷◌, ◌++◌, ◌⊎◌, inl, inr, Option, Some, None, length, map, take, refl, sym, ap, ◌∙◌, subst, cond, nat_eq, arith, is_some, append_assoc}
+use Rattle.std.specs.List.{flat_map, list_all, Contains}
+use Rattle.std.specs.List.Sorted.{IsStrictlySortedBy}
+use Rattle.std.specs.Ordering.{eq_by_cmp, is_eq}
+use Rattle.std.specs.Option.{option_map_or}
+use Rattle.std.specs.Set.{is_member}
+use Rattle.std.specs.declared.cmp.Ordering.{Ordering}
+use Rattle.std.specs.declared.cmp.Ordering.TheVariants.{Less, Equal, Greater}
+use Rattle.std.proofs.lemmas.Cmp.{eq_by_cmp_equiv, tied_itself}
+use Rattle.std.proofs.lemmas.Map.Keys.{IsDistinct-from_sorted}
+use Rattle.std.proofs.lemmas.Map.Made.{length-le_from_is_member}
+use Rattle.brl_pairs.specs.Runs.{IsListed}
+use Rattle.brl_pairs.specs.declared.step.Step.{Step}
+use Rattle.brl_table.specs.declared.class.Class.{Class}
+use Rattle.brl_table.specs.declared.context.Context.{Context}
+use Rattle.brl_table.specs.declared.place.Cond.{Cond}
+use Rattle.brl_table.specs.declared.place.Cond.TheVariants.{Any, Meets, Avoids}
+use Rattle.brl_table.specs.declared.place.Place.{Place}
+use Rattle.brl_table.specs.declared.place.Place.TheVariants.{Always, Word, Sufword, Prfword, Begword, Begmidword, Midword, Midendword, Endword, Partword, Begnum, Midnum, Endnum}
+use Rattle.brl_table.specs.declared.rule.Info.{Info}
+use Rattle.brl_table.specs.declared.rule.Rule.{Rule}
+use Rattle.brl_table.specs.Places.{after_of, before_of, holds, letter, none, share}
+use Rattle.brl_table.specs.TableView.{TableView, info_of}
+use Rattle.brl_table.specs.Text.{classes_of, context_behind, context_behind_all, fold_of}
+use Rattle.brl_dues.specs.declared.carry.Carried.{Carried}
+use Rattle.brl_dues.specs.declared.carry.Carried.TheVariants.{Settled}
+use Rattle.brl_dues.specs.declared.due.Due.{Due}
+use Rattle.brl_dues.specs.declared.due.Due.TheVariants.{Need, Bar}
+use Rattle.brl_dues.specs.declared.state.DuesState.{DuesState}
+use Rattle.brl_dues.specs.Carry.{bar_after, bar_of, carry, carry_bar, is_whole, left_of, lefts, need, opposed, settled_if}
+use Rattle.brl_dues.specs.Finite.{after_conds, all_cells, all_classes, all_contexts, all_dues, all_leads, all_states, bars_from, both_modes, cells_in, endings, lists_up_to, needs_of, state_in}
+use Rattle.brl_dues.specs.Form.{Form, IsForm, forms, letters}
+use Rattle.brl_dues.specs.Order.{due_cmp, in_order}
+use Rattle.brl_dues.specs.Steps.{IsStep, context_of, dues_steps, first_state, next_dues, owed}
+use Rattle.brl_dues.proofs.DueOrder.{due_tied, due_total, from-in_order, in_order-sorted}
+use Rattle.brl_dues.proofs.Forms.{IsForm-forms, defined-in, listed-IsStep}
+use Rattle.brl_dues.proofs.Listing.{IsIn, from-flat_map, in-append, in-flat_map, in-left, in-right}
+use Rattle.brl_dues.proofs.Sorting.{Contains-in, in-Contains}
+
+-- ---- Lists
+
+into-map : {X Y : Type 0} (g : X → Y) (x : X) (xs : List X) → IsIn x xs → IsIn (g x) (map g xs)
+into-map g x [] h = absurd h
+into-map g x (y ∷ xs) (inl e) = inl (ap g e)
+into-map g x (y ∷ xs) (inr h) = inr (into-map g x xs h)
+
+from-map : {X Y : Type 0} (g : X → Y) (y : Y) (xs : List X) → IsIn y (map g xs) → (x : X) × IsIn x xs × (y ≡ g x)
+from-map g y [] h = absurd h
+from-map g y (x ∷ xs) (inl e) = (x, inl refl, e)
+from-map g y (x ∷ xs) (inr h) = (let m = from-map g y xs h in (m.0, inr m.1, m.2))
+
+from-take : {X : Type 0} (x : X) (n : ℕ) (xs : List X) → IsIn x (take n xs) → IsIn x xs
+from-take x zero xs h = absurd h
+from-take x (suc n) [] h = absurd h
+from-take x (suc n) (y ∷ xs) (inl e) = inl e
+from-take x (suc n) (y ∷ xs) (inr h) = inr (from-take x n xs h)
+
+into-endings : {X : Type 0} (front xs ys : List X) → xs ≡ front ++ ys → IsIn ys (endings xs)
+into-endings [] [] ys e = inl (sym e)
+into-endings [] (x ∷ xs) ys e = inl (sym e)
+into-endings (z ∷ front) [] ys e = cc
+into-endings (z ∷ front) (x ∷ xs) ys e = inr (into-endings front xs ys (let tails : xs ≡ front ++ ys = cc in tails))
+
+from-endings : {X : Type 0} (xs ys : List X) → IsIn ys (endings xs) → (front : List X) × (xs ≡ front ++ ys)
+from-endings [] ys (inl e) = ([], sym e)
+from-endings [] ys (inr h) = absurd h
+from-endings (x ∷ xs) ys (inl e) = ([], sym e)
+from-endings (x ∷ xs) ys (inr h) = (let m = from-endings xs ys h in (x ∷ m.0, ap (λ l. x ∷ l) m.1))
+
+into-lists : {X : Type 0} (us ds : List X) (n : ℕ) → ((d : X) → IsIn d ds → IsIn d us) → length ds ≤ n → IsIn ds (lists_up_to us n)
+into-lists us [] zero f few = inl refl
+into-lists us [] (suc n) f few = inl refl
+into-lists us (d ∷ ds) zero f few = absurd (omega (arith, few))
+into-lists us (d ∷ ds) (suc n) f few =
+    inr (in-flat_map (λ x. map (λ l. x ∷ l) (lists_up_to us n)) d (d ∷ ds) us (f d (inl refl))
+    (into-map (λ l. d ∷ l) ds (lists_up_to us n) (into-lists us ds n (λ x i. f x (inr i)) (omega (arith, few)))))
+
+from-lists : {X : Type 0} (us ds : List X) (n : ℕ) → IsIn ds (lists_up_to us n) → (d : X) → IsIn d ds → IsIn d us
+from-lists us ds zero (inl e) d i = absurd (subst (IsIn d) e i)
+from-lists us ds zero (inr h) d i = absurd h
+from-lists us ds (suc n) (inl e) d i = absurd (subst (IsIn d) e i)
+from-lists us ds (suc n) (inr h) d i =
+    let m = from-flat_map (λ x. map (λ l. x ∷ l) (lists_up_to us n)) ds us h in
+    let w = from-map (λ l. m.0 ∷ l) ds (lists_up_to us n) m.2 in
+    elim (subst (IsIn d) w.2 i) [ inl e ↦ subst (λ x. IsIn x us) (sym e) m.1 | inr j ↦ from-lists us w.0 n w.1 d j ]
+
+-- ---- Lists in order
+
+is-equal : (o : Ordering) → is_eq o ≡ true → o ≡ Equal
+is-equal Less e = cc
+is-equal Equal e = refl
+is-equal Greater e = cc
+
+or-true : (p q : Bool) → q ≡ true → (p || q) ≡ true
+or-true true q e = refl
+or-true false q e = e
+
+in-member : (d : Due) (us : List Due) → IsIn d us → is_member (eq_by_cmp due_cmp) us d ≡ true
+in-member d [] h = absurd h
+in-member d (e ∷ us) (inl same) =
+    subst (λ x. is_member (eq_by_cmp due_cmp) (x ∷ us) d ≡ true) same (ap (λ o. is_eq o || is_member (eq_by_cmp due_cmp) us d) (tied_itself due_total d))
+in-member d (e ∷ us) (inr h) = or-true (eq_by_cmp due_cmp d e) (is_member (eq_by_cmp due_cmp) us d) (in-member d us h)
+
+member-in : (d : Due) (us : List Due) → is_member (eq_by_cmp due_cmp) us d ≡ true → IsIn d us
+member-in d [] h = cc
+member-in d (e ∷ us) h = pick (eq_by_cmp due_cmp d e) refl h (member-in d us)
+  where
+    pick : (q : Bool) → eq_by_cmp due_cmp d e ≡ q → (q || is_member (eq_by_cmp due_cmp) us d) ≡ true → (is_member (eq_by_cmp due_cmp) us d ≡ true → IsIn d us) → (d ≡ e) ⊎ IsIn d us
+    pick true q k more = inl (due_tied d e (is-equal (due_cmp d e) q))
+    pick false q k more = inr (more k)
+
+-- a list in order is no longer than any that has its members
+in-order-short : (ds us : List Due) → IsStrictlySortedBy due_cmp ds → ((d : Due) → IsIn d ds → IsIn d us) → length ds ≤ length us
+in-order-short ds us sorted f =
+    length-le_from_is_member (eq_by_cmp_equiv due_total) ds us (IsDistinct-from_sorted due_cmp ds sorted) (λ d h. in-member d us (f d (member-in d ds h)))
+
+-- ---- Conditions
+
+after-in : (place : Place) (before : Class) → IsIn (after_of place before) after_conds
+after-in Always before = inl refl
+after-in Word before = inr (inl refl)
+after-in Sufword before = inr (inr (inl refl))
+after-in Prfword before = inr (inl refl)
+after-in Begword before = inr (inr (inr (inl refl)))
+after-in Begmidword before = inr (inr (inr (inl refl)))
+after-in Midword before = inr (inr (inr (inl refl)))
+after-in Midendword before = inr (inr (inl refl))
+after-in Endword before = inr (inl refl)
+after-in Partword before = pick (share before letter)
+  where
+    pick : (b : Bool) → IsIn (cond b Any (Meets letter)) after_conds
+    pick true = inl refl
+    pick false = inr (inr (inr (inl refl)))
+after-in Begnum before = inr (inr (inr (inr (inl refl))))
+after-in Midnum before = inr (inr (inr (inr (inl refl))))
+after-in Endnum before = inr (inr (inr (inr (inr (inl refl)))))
+
+-- ---- Dues
+
+none-settled : (d : Due) (b : Bool) → IsIn d (left_of (settled_if b)) → ⊥
+none-settled d true h = h
+none-settled d false h = h
+
+module _ (t : TableView) where
+  into-needs : (d : Due) (c : Cond) → IsIn c after_conds → IsIn d (needs_of c) → IsIn d (all_dues t)
+  into-needs d c i h = in-left d (flat_map needs_of after_conds) (flat_map bars_from t.rules) (in-flat_map needs_of c d after_conds i h)
+
+  need-in : (d : Due) (c : Cond) → IsIn c after_conds → IsIn d (left_of (need c)) → IsIn d (all_dues t)
+  need-in d c i h = into-needs d c i (in-left d (left_of (need c)) (left_of (opposed c)) h)
+
+  opposed-in : (d : Due) (c : Cond) → IsIn c after_conds → IsIn d (left_of (opposed c)) → IsIn d (all_dues t)
+  opposed-in d c i h = into-needs d c i (in-right d (left_of (need c)) (left_of (opposed c)) h)
+
+  -- a bar of the list is what the characters of a rule end with
+  pub record IsBar (chars : List ℕ) (c : Cond) : Type 0 where
+    pub rule : Rule
+    pub there : IsIn rule t.rules
+    pub front : List ℕ
+    pub ends : rule.chars ≡ front ++ chars
+    pub asks : IsIn c after_conds
+
+  bar-in : (chars : List ℕ) (c : Cond) → IsBar chars c → IsIn (Bar chars c) (all_dues t)
+  bar-in chars c h =
+      in-right (Bar chars c) (flat_map needs_of after_conds) (flat_map bars_from t.rules)
+      (in-flat_map bars_from h.rule (Bar chars c) t.rules h.there
+      (in-flat_map (λ y. map (Bar y) after_conds) chars (Bar chars c) (endings h.rule.chars) (into-endings h.front h.rule.chars chars h.ends) (into-map (Bar chars) c after_conds h.asks)))
+
+  no-bar : (chars : List ℕ) (c k : Cond) → IsIn (Bar chars c) (needs_of k) → ⊥
+  no-bar chars c Any h = h
+  no-bar chars c (Meets s) (inl e) = cc
+  no-bar chars c (Meets s) (inr (inl e)) = cc
+  no-bar chars c (Meets s) (inr (inr h)) = h
+  no-bar chars c (Avoids s) (inl e) = cc
+  no-bar chars c (Avoids s) (inr (inl e)) = cc
+  no-bar chars c (Avoids s) (inr (inr h)) = h
+
+  same-chars : (x y : List ℕ) (c d : Cond) → Bar x c ≡ Bar y d → (x ≡ y) × (c ≡ d)
+  same-chars x y c d e = (cc, cc)
+
+  from-bar : (chars : List ℕ) (c : Cond) → IsIn (Bar chars c) (all_dues t) → IsBar chars c
+  from-bar chars c h = elim (in-append (Bar chars c) (flat_map needs_of after_conds) (flat_map bars_from t.rules) h) [
+    | inl k ↦ (let m = from-flat_map needs_of (Bar chars c) after_conds k in absurd (no-bar chars c m.0 m.2))
+    | inr k ↦ (
+        let m = from-flat_map bars_from (Bar chars c) t.rules k in
+        let y = from-flat_map (λ y. map (Bar y) after_conds) (Bar chars c) (endings m.0.chars) m.2 in
+        let w = from-map (Bar y.0) (Bar chars c) after_conds y.2 in
+        let same = same-chars chars y.0 c w.0 w.2 in
+        let front = from-endings m.0.chars y.0 y.1 in
+        record {
+          rule = m.0;
+          there = m.1;
+          front = front.0;
+          ends = front.1 ∙ ap (λ l. front.0 ++ l) (sym same.0);
+          asks = subst (λ z. IsIn z after_conds) (sym same.1) w.1;
+        })
+  ]
+
+  either-in : (d : Due) (b : Bool) (r : Carried) → (IsIn d (left_of r) → IsIn d (all_dues t)) → IsIn d (left_of (cond b r Settled)) → IsIn d (all_dues t)
+  either-in d true r f h = f h
+  either-in d false r f h = absurd h
+
+  carry_bar-in : (past chars : List ℕ) (c : Cond) → IsBar chars c → (d : Due) → IsIn d (left_of (carry_bar t past chars c)) → IsIn d (all_dues t)
+  carry_bar-in [] [] c is d h = opposed-in d c is.asks h
+  carry_bar-in [] (a ∷ chars) c is d (inl e) = subst (λ x. IsIn x (all_dues t)) (sym e) (bar-in (a ∷ chars) c is)
+  carry_bar-in [] (a ∷ chars) c is d (inr h) = absurd h
+  carry_bar-in (b ∷ past) [] c is d h = absurd (none-settled d _ h)
+  carry_bar-in (b ∷ past) (a ∷ chars) c is d h =
+      either-in d (nat_eq a b) (carry_bar t past chars c)
+      (carry_bar-in past chars c (record { rule = is.rule; there = is.there; front = is.front ++ a ∷ []; ends = is.ends ∙ sym (append_assoc is.front (a ∷ []) chars); asks = is.asks }) d) h
+
+  carry-in : (past : List ℕ) (old : Due) → IsIn old (all_dues t) → (d : Due) → IsIn d (left_of (carry t past old)) → IsIn d (all_dues t)
+  carry-in [] (Need c) i d (inl e) = subst (λ x. IsIn x (all_dues t)) (sym e) i
+  carry-in [] (Need c) i d (inr h) = absurd h
+  carry-in (b ∷ past) (Need c) i d h = absurd (none-settled d _ h)
+  carry-in past (Bar [] c) i d h = absurd h
+  carry-in past (Bar (a ∷ chars) c) i d h = carry_bar-in past (a ∷ chars) c (from-bar (a ∷ chars) c i) d h
+
+  bar_after-in : (r : Rule) (c : ℕ) (past chars : List ℕ) (after : Cond) → IsIn r t.rules → IsIn after after_conds → r.chars ≡ chars → (d : Due)
+      → IsIn d (left_of (bar_after t c past chars after)) → IsIn d (all_dues t)
+  bar_after-in r c past [] after i asks e d h = absurd h
+  bar_after-in r c past (first ∷ others) after i asks e d h =
+      either-in d (nat_eq (fold_of t c) first) (carry_bar t past others after)
+      (carry_bar-in past others after (record { rule = r; there = i; front = first ∷ []; ends = e; asks = asks }) d) h
+
+  bar_of-in : (before : Class) (reads : List ℕ) (r : Rule) → IsIn r t.rules → (d : Due) → IsIn d (left_of (bar_of t before reads r)) → IsIn d (all_dues t)
+  bar_of-in before [] r i d h = absurd h
+  bar_of-in before (c ∷ past) r i d h =
+      either-in d (holds (before_of r.place) before) (bar_after t c past r.chars (after_of r.place before))
+      (bar_after-in r c past r.chars (after_of r.place before) i (after-in r.place before) refl d) h
+
+  -- ---- Forms
+
+  form-after : (before : Class) (f : Form) → IsForm t before f → IsIn f.after after_conds
+  form-after before f (inl h) = subst (λ z. IsIn z after_conds) (sym h.after) (after-in h.rule.place before)
+  form-after before f (inr h) = subst (λ z. IsIn z after_conds) (sym h.after) (inl refl)
+
+  form-above : (before : Class) (f : Form) → IsForm t before f → (r : Rule) → IsIn r f.above → IsIn r t.rules
+  form-above before f (inl h) r i = from-take r f.number t.rules (subst (IsIn r) h.above i)
+  form-above before f (inr h) r i = subst (IsIn r) h.above i
+
+  -- ---- The dues after a step
+
+  when-whole : (b : Bool) (xs dues : List Due) → cond b (Some xs) None ≡ Some dues → xs ≡ dues
+  when-whole true xs dues e = cc
+  when-whole false xs dues e = cc
+
+  left-in : (s : DuesState) (f : Form) → IsForm t s.before f → ((d : Due) → IsIn d s.dues → IsIn d (all_dues t)) → (d : Due)
+      → IsIn d (lefts (map (carry t f.reads) s.dues ++ owed t s.before f)) → IsIn d (all_dues t)
+  left-in s f is old d h =
+      let m = from-flat_map left_of d (map (carry t f.reads) s.dues ++ owed t s.before f) h in
+      elim (in-append m.0 (map (carry t f.reads) s.dues) (owed t s.before f) m.1) [
+        | inl i ↦ (
+            let w = from-map (carry t f.reads) m.0 s.dues i in
+            carry-in f.reads w.0 (old w.0 w.1) d (subst (λ c. IsIn d (left_of c)) w.2 m.2))
+        | inr (inl e) ↦ need-in d f.after (form-after s.before f is) (subst (λ c. IsIn d (left_of c)) e m.2)
+        | inr (inr i) ↦ (
+            let w = from-map (bar_of t s.before f.reads) m.0 f.above i in
+            bar_of-in s.before f.reads w.0 (form-above s.before f is w.0 w.1) d (subst (λ c. IsIn d (left_of c)) w.2 m.2))
+      ]
+
+  next-listed : (s : DuesState) (f : Form) (dues : List Due) → IsForm t s.before f → ((d : Due) → IsIn d s.dues → IsIn d (all_dues t)) → next_dues t s f ≡ Some dues
+      → IsIn dues (lists_up_to (all_dues t) (length (all_dues t)))
+  next-listed s f dues is old left =
+      let carried = map (carry t f.reads) s.dues ++ owed t s.before f in
+      let same : in_order (lefts carried) ≡ dues = when-whole (list_all is_whole carried) (in_order (lefts carried)) dues left in
+      let sorted : IsStrictlySortedBy due_cmp dues = subst (IsStrictlySortedBy due_cmp) same (in_order-sorted (lefts carried)) in
+      let each : (d : Due) → IsIn d dues → IsIn d (all_dues t) = λ d i. left-in s f is old d (from-in_order d (lefts carried) (subst (IsIn d) (sym same) i)) in
+      into-lists (all_dues t) dues (length (all_dues t)) each (in-order-short dues (all_dues t) sorted each)
+
+  -- ---- The context
+
+  classes-in : (c : ℕ) → IsIn (classes_of t c) (all_classes t)
+  classes-in c = pick (info_of t c) refl
+    where
+      pick : (o : Option Info) → info_of t c ≡ o → IsIn (classes_of t c) (all_classes t)
+      pick None e = inr (inl (ap (λ p. option_map_or (λ (info : Info). info.classes) p none) e))
+      pick (Some info) e = inr (inr (into-map (classes_of t) c (letters t) (defined-in t.characters c (ap is_some e))))
+
+  behind-in : (here : Context) (cs : List ℕ) → IsIn here.classes (all_classes t) → IsIn (context_behind_all t here cs).classes (all_classes t)
+  behind-in here [] h = h
+  behind-in here (c ∷ cs) h = behind-in (context_behind t here c) cs (classes-in c)
+
+  context-in : (here : Context) → IsIn here.classes (all_classes t) → IsIn here (all_contexts t)
+  context-in here h = in-flat_map both_modes here.classes here (all_classes t) h (mode here.numeric refl)
+    where
+      mode : (b : Bool) → here.numeric ≡ b → IsIn here (both_modes here.classes)
+      mode false e = inl (λ i. record { classes = here.classes; numeric = e i })
+      mode true e = inr (inl (λ i. record { classes = here.classes; numeric = e i }))
+
+  from-contexts : (here : Context) → IsIn here (all_contexts t) → IsIn here.classes (all_classes t)
+  from-contexts here h =
+      let m = from-flat_map both_modes here (all_classes t) h in
+      subst (λ k. IsIn k (all_classes t)) (sym (of-modes m.0 m.2)) m.1
+    where
+      of-modes : (classes : Class) → IsIn here (both_modes classes) → here.classes ≡ classes
+      of-modes classes (inl e) = ap (λ (k : Context). k.classes) e
+      of-modes classes (inr (inl e)) = ap (λ (k : Context). k.classes) e
+      of-modes classes (inr (inr k)) = absurd k
+
+  -- ---- States and cells
+
+  pub record IsPossible (s : DuesState) : Type 0 where
+    pub context : IsIn (context_of s) (all_contexts t)
+    pub dues : IsIn s.dues (lists_up_to (all_dues t) (length (all_dues t)))
+
+  from-states : (s : DuesState) → IsIn s (all_states t) → IsPossible s
+  from-states s h =
+      let m = from-flat_map (λ here. map (state_in here) (lists_up_to (all_dues t) (length (all_dues t)))) s (all_contexts t) h in
+      let w = from-map (state_in m.0) s (lists_up_to (all_dues t) (length (all_dues t))) m.2 in
+      record {
+        context = subst (λ (k : DuesState). IsIn (context_of k) (all_contexts t)) (sym w.2) m.1;
+        dues = subst (λ (k : DuesState). IsIn k.dues (lists_up_to (all_dues t) (length (all_dues t)))) (sym w.2) w.1;
+      }
+
+  into-states : (here : Context) (dues : List Due) → IsIn here (all_contexts t) → IsIn dues (lists_up_to (all_dues t) (length (all_dues t))) → IsIn (state_in here dues) (all_states t)
+  into-states here dues h i =
+      in-flat_map (λ here. map (state_in here) (lists_up_to (all_dues t) (length (all_dues t)))) here (state_in here dues) (all_contexts t) h
+      (into-map (state_in here) dues (lists_up_to (all_dues t) (length (all_dues t))) i)
+
+  first-in : IsIn first_state (all_states t)
+  first-in = into-states (context_of first_state) [] (context-in (context_of first_state) (inl refl)) (into-lists (all_dues t) [] (length (all_dues t)) (λ d h. absurd h) (omega arith))
+
+  step-in : (s : DuesState) (x : Step DuesState) → IsIn s (all_states t) → IsStep t s x → IsIn x.next (all_states t)
+  step-in s x h is =
+      let p = from-states s h in
+      let old = from-lists (all_dues t) s.dues (length (all_dues t)) p.dues in
+      let behind = context_behind_all t (context_of s) is.form.reads in
+      let here = context-in behind (behind-in (context_of s) is.form.reads (from-contexts (context_of s) p.context)) in
+      subst (λ (y : Step DuesState). IsIn y.next (all_states t)) (sym is.step) (into-states behind is.dues here (next-listed s is.form is.dues is.is_form old is.left))
+
+  cells-in : (s : DuesState) (x : Step DuesState) → IsIn s (all_states t) → IsStep t s x → IsIn x.cells (all_cells t)
+  cells-in s x h is =
+      let p = from-states s h in
+      subst (λ (y : Step DuesState). IsIn y.cells (all_cells t)) (sym is.step)
+      (in-flat_map (λ (here : Context). map (cells_in t here) (forms t here.classes)) (context_of s) (cells_in t (context_of s) is.form) (all_contexts t) p.context
+      (into-map (cells_in t (context_of s)) is.form (forms t s.before) (IsForm-forms t s.before is.form is.is_form)))
+
+  pub first-Contains : Contains (all_states t) first_state
+  first-Contains = in-Contains first_state (all_states t) first-in
+
+  pub step-Contains : (s : DuesState) (x : Step DuesState) → Contains (all_states t) s → IsListed (dues_steps t s) x → Contains (all_states t) x.next
+  step-Contains s x h listed = in-Contains x.next (all_states t) (step-in s x (Contains-in s (all_states t) h) (listed-IsStep t s x listed))
+
+  pub cells-Contains : (s : DuesState) (x : Step DuesState) → Contains (all_states t) s → IsListed (dues_steps t s) x → Contains (all_cells t) x.cells
+  cells-Contains s x h listed = in-Contains x.cells (all_cells t) (cells-in s x (Contains-in s (all_states t) h) (listed-IsStep t s x listed))
+
+  pub leads-Contains : (s : DuesState) (x : Step DuesState) (front lead : List ℕ) → Contains (all_states t) s → IsListed (dues_steps t s) x → x.cells ≡ front ++ lead → Contains (all_leads t) lead
+  leads-Contains s x front lead h listed e =
+      in-Contains lead (all_leads t)
+      (in-flat_map endings x.cells lead (all_cells t) (cells-in s x (Contains-in s (all_states t) h) (listed-IsStep t s x listed)) (into-endings front x.cells lead e))
+
+  pub dues-Contains : (s : DuesState) (d : Due) → Contains (all_states t) s → Contains s.dues d → Contains (all_dues t) d
+  dues-Contains s d h i =
+      in-Contains d (all_dues t) (from-lists (all_dues t) s.dues (length (all_dues t)) (from-states s (Contains-in s (all_states t) h)).dues d (Contains-in d s.dues i))

@@ -1,0 +1,56 @@
+-- What holds of each two members of a list, the first of which comes before the second.
+use Rattle.std.proofs.Common.{◌≡◌, ℕ, zero, suc, ◌<◌, List, [], ◌∷◌, ◌++◌, Some, arith, subst, inl, inr, refl}
+use Rattle.std.specs.Prelude.{slice_get, map}
+use Rattle.std.specs.Bool.{⊤}
+use Rattle.std.specs.List.{AllByRecursion, flat_map}
+use Rattle.brl_dues.proofs.Listing.{IsIn, in-append, from-flat_map, at-in}
+
+abbrev pub Pairwise : {X : Type 0} → (X → X → Type 0) → List X → Type 0
+Pairwise R [] = ⊤
+Pairwise R (x ∷ xs) = AllByRecursion (R x) xs × Pairwise R xs
+
+all-in : {X : Type 0} (P : X → Type 0) (xs : List X) → ((x : X) → IsIn x xs → P x) → AllByRecursion P xs
+all-in P [] h = tt
+all-in P (x ∷ xs) h = (h x (inl refl), all-in P xs (λ y i. h y (inr i)))
+
+in-all : {X : Type 0} (P : X → Type 0) (xs : List X) (x : X) → AllByRecursion P xs → IsIn x xs → P x
+in-all P [] x a h = absurd h
+in-all P (y ∷ xs) x a (inl e) = subst (λ z. P z) (let back : y ≡ x = cc in back) a.0
+in-all P (y ∷ xs) x a (inr h) = in-all P xs x a.1 h
+
+pub append-Pairwise : {X : Type 0} (R : X → X → Type 0) (xs ys : List X) → Pairwise R xs → Pairwise R ys → ((x y : X) → IsIn x xs → IsIn y ys → R x y) → Pairwise R (xs ++ ys)
+append-Pairwise R [] ys h k between = k
+append-Pairwise R (x ∷ xs) ys h k between = (
+  all-in (R x) (xs ++ ys) (λ z q. elim (in-append z xs ys q) [ inl a ↦ in-all (R x) xs z h.0 a | inr b ↦ between x z (inl refl) b ]),
+  append-Pairwise R xs ys h.1 k (λ a b i j. between a b (inr i) j),
+)
+
+pub flat_map-Pairwise : {X Y : Type 0} (R : X → X → Type 0) (S : Y → Y → Type 0) (f : X → List Y) (xs : List X) → Pairwise R xs → ((x : X) → Pairwise S (f x))
+    → ((x x' : X) (y y' : Y) → R x x' → IsIn y (f x) → IsIn y' (f x') → S y y') → Pairwise S (flat_map f xs)
+flat_map-Pairwise R S f [] h each between = tt
+flat_map-Pairwise R S f (x ∷ xs) h each between =
+    append-Pairwise S (f x) (flat_map f xs) (each x) (flat_map-Pairwise R S f xs h.1 each between)
+    (λ y z i j. (let m = from-flat_map f z xs j in between x m.0 y z (in-all (R x) xs m.0 h.0 m.1) i m.2))
+
+pub map-Pairwise : {X Y : Type 0} (R : X → X → Type 0) (S : Y → Y → Type 0) (f : X → Y) (xs : List X) → Pairwise R xs → ((x x' : X) → R x x' → S (f x) (f x')) → Pairwise S (map f xs)
+map-Pairwise R S f [] h between = tt
+map-Pairwise R S f (x ∷ xs) h between = (mapped (R x) (S (f x)) f xs h.0 (λ z k. between x z k), map-Pairwise R S f xs h.1 between)
+  where
+    mapped : {X Y : Type 0} (P : X → Type 0) (Q : Y → Type 0) (f : X → Y) (xs : List X) → AllByRecursion P xs → ((x : X) → P x → Q (f x)) → AllByRecursion Q (map f xs)
+    mapped P Q f [] h k = tt
+    mapped P Q f (x ∷ xs) h k = (k x h.0, mapped P Q f xs h.1 k)
+
+-- members by their places
+pub at-Pairwise : {X : Type 0} (R : X → X → Type 0) (xs : List X) → ((i j : ℕ) (x y : X) → i < j → slice_get xs i ≡ Some x → slice_get xs j ≡ Some y → R x y) → Pairwise R xs
+at-Pairwise R [] h = tt
+at-Pairwise R (x ∷ xs) h = (from (R x) xs (λ j y q. h 0 (suc j) x y (omega arith) refl q), at-Pairwise R xs (λ i j y z less p q. h (suc i) (suc j) y z (omega (arith, less)) p q))
+  where
+    from : {X : Type 0} (P : X → Type 0) (ys : List X) → ((j : ℕ) (y : X) → slice_get ys j ≡ Some y → P y) → AllByRecursion P ys
+    from P [] k = tt
+    from P (y ∷ ys) k = (k 0 y refl, from P ys (λ j z q. k (suc j) z q))
+
+pub Pairwise-at : {X : Type 0} (R : X → X → Type 0) (xs : List X) → Pairwise R xs → (i j : ℕ) (x y : X) → i < j → slice_get xs i ≡ Some x → slice_get xs j ≡ Some y → R x y
+Pairwise-at R [] h i j x y less p q = cc
+Pairwise-at R (z ∷ zs) h i zero x y less p q = absurd (omega (arith, less))
+Pairwise-at R (z ∷ zs) h zero (suc j) x y less p q = (let e : z ≡ x = cc in subst (λ v. R v y) e (in-all (R z) zs y h.0 (at-in y zs j q)))
+Pairwise-at R (z ∷ zs) h (suc i) (suc j) x y less p q = Pairwise-at R zs h.1 i j x y (omega (arith, less)) p q

@@ -1,0 +1,104 @@
+-- The law of one step: the dues after it hold of a rest exactly where the rest meets what the form
+-- asks for, no rule ranked above fits at the start of what the form reads and the rest, and these
+-- meet the state's dues.
+use Rattle.std.proofs.Common.{◌≡◌, ℕ, Bool, true, false, not, ◌&&◌, List, [], ◌∷◌, ◌++◌, Option, Some, None, refl, sym, ap, ap₂, ◌∙◌, cond, map}
+use Rattle.std.specs.List.{list_all}
+use Rattle.std.specs.declared.cmp.Ordering.{Ordering}
+use Rattle.std.specs.declared.cmp.Ordering.TheVariants.{Less, Equal, Greater}
+use Rattle.brl_table.specs.declared.class.Class.{Class}
+use Rattle.brl_table.specs.declared.rule.Rule.{Rule}
+use Rattle.brl_table.specs.Choice.{fits}
+use Rattle.brl_table.specs.Places.{holds}
+use Rattle.brl_table.specs.TableView.{TableView}
+use Rattle.brl_table.specs.Text.{classes_at}
+use Rattle.brl_dues.specs.declared.carry.Carried.{Carried}
+use Rattle.brl_dues.specs.declared.carry.Carried.TheVariants.{Broken, Settled, Left}
+use Rattle.brl_dues.specs.declared.due.Due.{Due}
+use Rattle.brl_dues.specs.declared.state.DuesState.{DuesState}
+use Rattle.brl_dues.specs.Carry.{bar_of, carry, gathered, is_whole, lefts}
+use Rattle.brl_dues.specs.Due.{due_met, dues_met}
+use Rattle.brl_dues.specs.Form.{Form}
+use Rattle.brl_dues.specs.Order.{due_cmp, place, insert_due, in_order}
+use Rattle.brl_dues.specs.Steps.{next_dues, owed}
+use Rattle.brl_dues.proofs.Carrying.{carried_met, carry-met, need-met, bar_of-met}
+use Rattle.brl_dues.proofs.DueOrder.{due_tied}
+
+pub and-false : (a : Bool) → (a && false) ≡ false
+and-false true = refl
+and-false false = refl
+
+pub and-assoc : (a b c : Bool) → ((a && b) && c) ≡ (a && (b && c))
+and-assoc true b c = refl
+and-assoc false b c = refl
+
+and-swap : (a b c : Bool) → (a && (b && c)) ≡ (b && (a && c))
+and-swap true b c = refl
+and-swap false true c = refl
+and-swap false false c = refl
+
+and-twice : (a b : Bool) → (a && (a && b)) ≡ (a && b)
+and-twice true b = refl
+and-twice false b = refl
+
+-- none of these rules fits
+abbrev pub none_fits : TableView → Class → List ℕ → List Rule → Bool
+none_fits t before rest rules = list_all (λ r. not (fits t before rest r)) rules
+
+abbrev pub option_met : TableView → List ℕ → Option (List Due) → Bool
+option_met t rest None = false
+option_met t rest (Some dues) = dues_met t rest dues
+
+list_all-append : {X : Type 0} (p : X → Bool) (xs ys : List X) → list_all p (xs ++ ys) ≡ (list_all p xs && list_all p ys)
+list_all-append p [] ys = refl
+list_all-append p (x ∷ xs) ys = ap (λ b. p x && b) (list_all-append p xs ys) ∙ sym (and-assoc (p x) (list_all p xs) (list_all p ys))
+
+list_all-map : {X Y : Type 0} (p : Y → Bool) (q : X → Bool) (f : X → Y) → ((x : X) → p (f x) ≡ q x) → (xs : List X) → list_all p (map f xs) ≡ list_all q xs
+list_all-map p q f h [] = refl
+list_all-map p q f h (x ∷ xs) = ap₂ (λ a b. a && b) (h x) (list_all-map p q f h xs)
+
+module _ (t : TableView) (u : List ℕ) where
+  met : Due → Bool
+  met d = due_met t u d
+
+  place-met : (o : Ordering) (d e : Due) (ds r : List Due) → due_cmp d e ≡ o → dues_met t u r ≡ (due_met t u d && dues_met t u ds)
+      → dues_met t u (place o d e ds r) ≡ (due_met t u d && (due_met t u e && dues_met t u ds))
+  place-met Less d e ds r c h = refl
+  place-met Equal d e ds r c h =
+      let same : due_met t u e ≡ due_met t u d = ap (due_met t u) (sym (due_tied d e c)) in
+      sym (and-twice (due_met t u e) (dues_met t u ds)) ∙ ap (λ b. b && (due_met t u e && dues_met t u ds)) same
+  place-met Greater d e ds r c h = ap (λ b. due_met t u e && b) h ∙ and-swap (due_met t u e) (due_met t u d) (dues_met t u ds)
+
+  insert_due-met : (d : Due) (ds : List Due) → dues_met t u (insert_due d ds) ≡ (due_met t u d && dues_met t u ds)
+  insert_due-met d [] = refl
+  insert_due-met d (e ∷ ds) = place-met (due_cmp d e) d e ds (insert_due d ds) refl (insert_due-met d ds)
+
+  in_order-met : (ds : List Due) → dues_met t u (in_order ds) ≡ dues_met t u ds
+  in_order-met [] = refl
+  in_order-met (d ∷ ds) = insert_due-met d (in_order ds) ∙ ap (λ b. due_met t u d && b) (in_order-met ds)
+
+  -- where nothing is broken, what is left is what has to be met
+  lefts-met : (cs : List Carried) → (list_all is_whole cs && dues_met t u (lefts cs)) ≡ list_all (carried_met t u) cs
+  lefts-met [] = refl
+  lefts-met (Broken ∷ cs) = refl
+  lefts-met (Settled ∷ cs) = lefts-met cs
+  lefts-met (Left d ∷ cs) = and-swap (list_all is_whole cs) (due_met t u d) (dues_met t u (lefts cs)) ∙ ap (λ b. due_met t u d && b) (lefts-met cs)
+
+  gathered-met : (cs : List Carried) → option_met t u (gathered cs) ≡ list_all (carried_met t u) cs
+  gathered-met cs = at (list_all is_whole cs) (in_order (lefts cs)) (dues_met t u (lefts cs)) (in_order-met (lefts cs)) ∙ lefts-met cs
+    where
+      at : (b : Bool) (ds : List Due) (m : Bool) → dues_met t u ds ≡ m → option_met t u (cond b (Some ds) None) ≡ (b && m)
+      at true ds m e = e
+      at false ds m e = refl
+
+  bars-met : (before : Class) (c : ℕ) (past : List ℕ) (above : List Rule) → list_all (carried_met t u) (map (bar_of t before (c ∷ past)) above) ≡ none_fits t before (c ∷ (past ++ u)) above
+  bars-met before c past above = list_all-map (carried_met t u) (λ r. not (fits t before (c ∷ (past ++ u)) r)) (bar_of t before (c ∷ past)) (bar_of-met t u before c past) above
+
+  pub step-met : (s : DuesState) (f : Form) (c : ℕ) (past : List ℕ) → f.reads ≡ c ∷ past
+      → option_met t u (next_dues t s f) ≡ (dues_met t (f.reads ++ u) s.dues && (holds f.after (classes_at t u 0) && none_fits t s.before (f.reads ++ u) f.above))
+  step-met s f c past e =
+      gathered-met (map (carry t f.reads) s.dues ++ owed t s.before f)
+      ∙ list_all-append (carried_met t u) (map (carry t f.reads) s.dues) (owed t s.before f)
+      ∙ ap₂ (λ a b. a && b)
+      (list_all-map (carried_met t u) (due_met t (f.reads ++ u)) (carry t f.reads) (carry-met t u f.reads) s.dues)
+      (ap₂ (λ a b. a && b) (need-met t u f.after)
+      (ap (λ x. list_all (carried_met t u) (map (bar_of t s.before x) f.above)) e ∙ bars-met s.before c past f.above ∙ ap (λ x. none_fits t s.before (x ++ u) f.above) (sym e)))

@@ -1,0 +1,139 @@
+-- A form that is taken where the rest meets what it asks for, and no rule ranked above fits, is the
+-- table's choice there.
+use Rattle.std.proofs.Common.{◌≡◌, ℕ, zero, suc, ◌<◌, Bool, true, false, not, ◌&&◌, List, [], ◌∷◌, ◌++◌, Some, length, take, drop, refl, sym, ap, ◌∙◌, subst, nat_eq, inl, inr, arith, eq-eqb}
+use Rattle.std.specs.Prelude.{slice_get}
+use Rattle.std.specs.List.{list_all, starts_with}
+use Rattle.std.specs.Cmp.{first_so, second_so}
+use Rattle.brl_table.specs.declared.class.Class.{Class}
+use Rattle.brl_table.specs.declared.context.Context.{Context}
+use Rattle.brl_table.specs.declared.rule.Rule.{Rule}
+use Rattle.brl_table.specs.Choice.{Choice, by_rule, chosen, fits, matches, own}
+use Rattle.brl_table.specs.Indicators.{indicators}
+use Rattle.brl_table.specs.Places.{holds, before_of, after_of}
+use Rattle.brl_table.specs.Position.{IsFirstThatFits}
+use Rattle.brl_table.specs.Rest.{translation_of_rest, TakesOneRule}
+use Rattle.brl_table.specs.TableView.{TableView}
+use Rattle.brl_table.specs.Text.{at_start, classes_at, context_behind_all, fold_of, is_defined}
+use Rattle.brl_table.specs.Translation.{translation}
+use Rattle.brl_dues.specs.Form.{Form, IsForm}
+use Rattle.brl_dues.proofs.StepLaw.{none_fits}
+
+-- ---- The laws of a table's definitions
+
+-- the chosen rule is the first in rank that fits, and the own definition where none does
+pub record Choosing (t : TableView) : Type 0 where
+  pub first : (before : Class) (rest : List ℕ) (place : ℕ) (r : Rule) → IsFirstThatFits t before rest place r → chosen t before rest ≡ by_rule place r
+  pub none : (before : Class) (rest : List ℕ) → ((place : ℕ) (r : Rule) → slice_get t.rules place ≡ Some r → fits t before rest r ≡ false) → chosen t before rest ≡ own t rest
+
+-- a translation, one rule at a time
+pub record Translating (t : TableView) : Type 0 where
+  pub whole : (text : List ℕ) → translation t text ≡ translation_of_rest t at_start text
+  pub end : (here : Context) → translation_of_rest t here [] ≡ []
+  pub rule : (here : Context) (rest : List ℕ) → 0 < length rest → TakesOneRule t here rest
+
+-- ---- None of the rules above
+
+not-true : (b : Bool) → not b ≡ true → b ≡ false
+not-true true h = cc
+not-true false h = refl
+
+all-there : {X : Type 0} (p : X → Bool) (xs : List X) (k : ℕ) (x : X) → list_all p xs ≡ true → slice_get xs k ≡ Some x → p x ≡ true
+all-there p [] k x h e = cc
+all-there p (y ∷ ys) zero x h e = (let same : y ≡ x = cc in ap p (sym same) ∙ first_so (p y) (list_all p ys) h)
+all-there p (y ∷ ys) (suc k) x h e = all-there p ys k x (second_so (p y) (list_all p ys) h) e
+
+take-there : {X : Type 0} (xs : List X) (n k : ℕ) (x : X) → k < n → slice_get xs k ≡ Some x → slice_get (take n xs) k ≡ Some x
+take-there [] n k x h e = cc
+take-there (y ∷ ys) zero k x h e = absurd (omega (arith, h))
+take-there (y ∷ ys) (suc n) zero x h e = e
+take-there (y ∷ ys) (suc n) (suc k) x h e = take-there ys n k x (omega (arith, h)) e
+
+-- ---- A form fits
+
+classes-behind : (t : TableView) (past u : List ℕ) → classes_at t (past ++ u) (length past) ≡ classes_at t u 0
+classes-behind t [] u = refl
+classes-behind t (c ∷ past) u = classes-behind t past u
+
+starts-itself : (past u : List ℕ) → starts_with nat_eq (past ++ u) past ≡ true
+starts-itself [] u = refl
+starts-itself (c ∷ past) u = ap (λ b. b && starts_with nat_eq (past ++ u) past) (eq-eqb c c refl) ∙ starts-itself past u
+
+three : (m h a b : Bool) → m ≡ true → h ≡ true → a ≡ b → ((m && h) && a) ≡ b
+three true true a b e f g = g
+three true false a b e f g = cc
+three false h a b e f g = cc
+
+matches-itself : (t : TableView) (c : ℕ) (others u : List ℕ) → matches t (c ∷ (others ++ u)) (fold_of t c ∷ others) ≡ true
+matches-itself t c others u = ap (λ b. b && starts_with nat_eq (others ++ u) others) (eq-eqb (fold_of t c) (fold_of t c) refl) ∙ starts-itself others u
+
+pub fits-form : (t : TableView) (before : Class) (c : ℕ) (others u : List ℕ) (r : Rule) → r.chars ≡ fold_of t c ∷ others → holds (before_of r.place) before ≡ true
+    → fits t before (c ∷ (others ++ u)) r ≡ holds (after_of r.place before) (classes_at t u 0)
+fits-form t before c others u r e h =
+    three (matches t (c ∷ (others ++ u)) r.chars) (holds (before_of r.place) before) (holds (after_of r.place before) (classes_at t (c ∷ (others ++ u)) (length r.chars)))
+    (holds (after_of r.place before) (classes_at t u 0))
+    (ap (matches t (c ∷ (others ++ u))) e ∙ matches-itself t c others u) h
+    (ap (λ l. holds (after_of r.place before) (classes_at t (c ∷ (others ++ u)) (length l))) e ∙ ap (holds (after_of r.place before)) (classes-behind t others u))
+
+-- ---- The choice
+
+-- what a form reads: a character of the table first
+pub record ReadsSome (t : TableView) (f : Form) : Type 0 where
+  pub character : ℕ
+  pub others : List ℕ
+  pub reads : f.reads ≡ character ∷ others
+  pub defined : is_defined t character ≡ true
+
+pub form-ReadsSome : (t : TableView) (before : Class) (f : Form) → IsForm t before f → ReadsSome t f
+form-ReadsSome t before f (inl h) = record { character = h.character; others = h.others; reads = h.reads; defined = h.defined }
+form-ReadsSome t before f (inr h) = record { character = h.character; others = []; reads = h.reads; defined = h.defined }
+
+abbrev pub as_choice : Form → Choice
+as_choice f = record { number = f.number; taken = length f.reads; cells = f.cells }
+
+pub form-chosen : (t : TableView) → Choosing t → (before : Class) (f : Form) → IsForm t before f → (u : List ℕ) → holds f.after (classes_at t u 0) ≡ true
+    → none_fits t before (f.reads ++ u) f.above ≡ true → chosen t before (f.reads ++ u) ≡ as_choice f
+form-chosen t law before f (inl h) u a n =
+    let rest = f.reads ++ u in
+    let fitting : fits t before rest h.rule ≡ true =
+    ap (λ l. fits t before (l ++ u) h.rule) h.reads ∙ fits-form t before h.character h.others u h.rule h.chars h.stands ∙ ap (λ c. holds c (classes_at t u 0)) (sym h.after) ∙ a in
+    let none = λ (earlier : ℕ) (q : Rule) (lower : earlier < f.number) (is : slice_get t.rules earlier ≡ Some q).
+    not-true (fits t before rest q)
+    (all-there (λ r. not (fits t before rest r)) (take f.number t.rules) earlier q (ap (none_fits t before rest) (sym h.above) ∙ n) (take-there t.rules f.number earlier q lower is)) in
+    let size : length h.rule.chars ≡ length f.reads = ap length h.chars ∙ sym (ap length h.reads) in
+    law.first before rest f.number h.rule (record { there = h.there; fitting = fitting; none_earlier = none })
+    ∙ (λ i. record { number = f.number; taken = size i; cells = sym h.cells i })
+form-chosen t law before f (inr h) u a n =
+    let rest = f.reads ++ u in
+    let none = λ (place : ℕ) (q : Rule) (is : slice_get t.rules place ≡ Some q).
+    not-true (fits t before rest q) (all-there (λ r. not (fits t before rest r)) t.rules place q (ap (none_fits t before rest) (sym h.above) ∙ n) is) in
+    law.none before rest none ∙ ap (λ l. own t (l ++ u)) h.reads
+    ∙ (λ i. record { number = sym h.number i; taken = sym (ap length h.reads) i; cells = sym h.cells i })
+
+-- ---- One form's cells
+
+take-front : (xs ys : List ℕ) → take (length xs) (xs ++ ys) ≡ xs
+take-front [] ys = refl
+take-front (x ∷ xs) ys = ap (λ l. x ∷ l) (take-front xs ys)
+
+drop-front : (xs ys : List ℕ) → drop (length xs) (xs ++ ys) ≡ ys
+drop-front [] ys = refl
+drop-front (x ∷ xs) ys = drop-front xs ys
+
+signs-front : (t : TableView) (here : Context) (f : Form) (u : List ℕ) → ReadsSome t f → indicators t here (f.reads ++ u) ≡ indicators t here f.reads
+signs-front t here f u r = ap (λ l. indicators t here (l ++ u)) r.reads ∙ ap (indicators t here) (sym r.reads)
+
+some-rest : (t : TableView) (f : Form) (u : List ℕ) → ReadsSome t f → 0 < length (f.reads ++ u)
+some-rest t f u r = subst (λ l. 0 < length (l ++ u)) (sym r.reads) (omega arith)
+
+-- the translation of what a form reads and a rest: the form's cells, and the translation of the
+-- rest
+pub form-translation : (t : TableView) → Translating t → (here : Context) (f : Form) (u : List ℕ) → ReadsSome t f → chosen t here.classes (f.reads ++ u) ≡ as_choice f
+    → translation_of_rest t here (f.reads ++ u) ≡ (indicators t here f.reads ++ f.cells) ++ translation_of_rest t (context_behind_all t here f.reads) u
+form-translation t law here f u r e =
+    let rest = f.reads ++ u in
+    let behind = translation_of_rest t (context_behind_all t here f.reads) u in
+    law.rule here rest (some-rest t f u r)
+    ∙ ap (λ (c : Choice). indicators t here rest ++ c.cells ++ translation_of_rest t (context_behind_all t here (take c.taken rest)) (drop c.taken rest)) e
+    ∙ ap (λ l. indicators t here rest ++ f.cells ++ translation_of_rest t (context_behind_all t here l) (drop (length f.reads) rest)) (take-front f.reads u)
+    ∙ ap (λ l. indicators t here rest ++ f.cells ++ translation_of_rest t (context_behind_all t here f.reads) l) (drop-front f.reads u)
+    ∙ ap (λ l. l ++ f.cells ++ behind) (signs-front t here f u r)

@@ -1,0 +1,80 @@
+-- The finite lists from which the states of the dues machine and the cells of its steps come. They
+-- depend on the table alone, and are this project's own choice.
+use Rattle.std.specs.Prelude.{ℕ, zero, suc, true, false, List, [], ◌∷◌, ◌++◌, length, map}
+use Rattle.std.specs.List.{flat_map}
+use Rattle.brl_table.specs.declared.class.Class.{Class}
+use Rattle.brl_table.specs.declared.context.Context.{Context}
+use Rattle.brl_table.specs.declared.place.Cond.{Cond}
+use Rattle.brl_table.specs.declared.place.Cond.TheVariants.{Any, Meets, Avoids}
+use Rattle.brl_table.specs.declared.rule.Rule.{Rule}
+use Rattle.brl_table.specs.Indicators.{indicators}
+use Rattle.brl_table.specs.Places.{digit, gap, gap_or_letter, letter, none, space}
+use Rattle.brl_table.specs.TableView.{TableView}
+use Rattle.brl_table.specs.Text.{classes_of}
+use Rattle.brl_dues.specs.declared.due.Due.{Due}
+use Rattle.brl_dues.specs.declared.due.Due.TheVariants.{Bar}
+use Rattle.brl_dues.specs.declared.state.DuesState.{DuesState}
+use Rattle.brl_dues.specs.Carry.{left_of, need, opposed}
+use Rattle.brl_dues.specs.Form.{Form, forms, letters}
+
+-- ---- Lists
+
+-- what a list ends with: itself, and what is left of it after its first elements
+abbrev pub endings : {X : Type 0} → List X → List (List X)
+endings [] = [] ∷ []
+endings (x ∷ xs) = (x ∷ xs) ∷ endings xs
+
+-- the lists of at most n of these elements
+abbrev pub lists_up_to : {X : Type 0} → List X → ℕ → List (List X)
+lists_up_to xs zero = [] ∷ []
+lists_up_to xs (suc n) = [] ∷ flat_map (λ x. map (λ l. x ∷ l) (lists_up_to xs n)) xs
+
+-- ---- The character before
+
+-- the classes of the character before: class space, those of the table's characters, and no class
+-- for any other character
+abbrev pub all_classes : TableView → List Class
+all_classes t = space ∷ none ∷ map (classes_of t) (letters t)
+
+abbrev pub both_modes : Class → List Context
+both_modes classes = record { classes = classes; numeric = false } ∷ record { classes = classes; numeric = true } ∷ []
+
+abbrev pub all_contexts : TableView → List Context
+all_contexts t = flat_map both_modes (all_classes t)
+
+-- ---- Dues
+
+-- what places ask of the character after a rule
+abbrev pub after_conds : List Cond
+after_conds = Any ∷ Meets gap ∷ Meets gap_or_letter ∷ Meets letter ∷ Meets digit ∷ Avoids digit ∷ []
+
+-- the need of such a condition, and of its opposite
+abbrev pub needs_of : Cond → List Due
+needs_of cond = left_of (need cond) ++ left_of (opposed cond)
+
+-- the bars with such a condition after what the characters of a rule end with
+abbrev pub bars_from : Rule → List Due
+bars_from r = flat_map (λ chars. map (Bar chars) after_conds) (endings r.chars)
+
+abbrev pub all_dues : TableView → List Due
+all_dues t = flat_map needs_of after_conds ++ flat_map bars_from t.rules
+
+-- ---- States and cells
+
+abbrev pub state_in : Context → List Due → DuesState
+state_in here dues = record { before = here.classes; numeric = here.numeric; dues = dues }
+
+-- the states with any of these contexts and no more dues than there are
+abbrev pub all_states : TableView → List DuesState
+all_states t = flat_map (λ here. map (state_in here) (lists_up_to (all_dues t) (length (all_dues t)))) (all_contexts t)
+
+-- the cells of a step that takes a form
+abbrev pub cells_in : TableView → Context → Form → List ℕ
+cells_in t here f = indicators t here f.reads ++ f.cells
+
+abbrev pub all_cells : TableView → List (List ℕ)
+all_cells t = flat_map (λ (here : Context). map (cells_in t here) (forms t here.classes)) (all_contexts t)
+
+-- what the cells of one step end with
+abbrev pub all_leads : TableView → List (List ℕ)
+all_leads t = flat_map endings (all_cells t)

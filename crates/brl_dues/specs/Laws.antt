@@ -1,0 +1,41 @@
+-- The laws of the dues machine, each in the words of its definitions.
+use Rattle.std.specs.Prelude.{◌≡◌, ◌↔◌, ◌⊎◌, ℕ, IsTrue, List, [], ◌++◌}
+use Rattle.std.specs.List.{Contains}
+use Rattle.std.specs.List.Sorted.{IsStrictlySortedBy}
+use Rattle.brl_pairs.specs.Runs.{IsListed}
+use Rattle.brl_pairs.specs.declared.step.Step.{Step}
+use Rattle.brl_table.specs.Choice.{chosen}
+use Rattle.brl_table.specs.TableView.{TableView}
+use Rattle.brl_dues.specs.declared.carry.Carried.{Carried}
+use Rattle.brl_dues.specs.declared.carry.Carried.TheVariants.{Broken, Left}
+use Rattle.brl_dues.specs.declared.due.Due.{Due}
+use Rattle.brl_dues.specs.declared.state.DuesState.{DuesState}
+use Rattle.brl_dues.specs.Due.{dues_met}
+use Rattle.brl_dues.specs.Order.{due_cmp}
+use Rattle.brl_dues.specs.Steps.{dues_steps, ends}
+
+-- a step's reads begin a rest, and what follows them meets the dues of its next state
+pub record GoesOnBy (t : TableView) (s : DuesState) (rest : List ℕ) (x : Step DuesState) : Type 0 where
+  pub listed : IsListed (dues_steps t s) x
+  pub left : List ℕ
+  pub begins : rest ≡ x.reads ++ left
+  pub met : IsTrue (dues_met t left x.next.dues)
+
+-- the rest is empty and the state ends, or a step goes on
+abbrev pub GoesOn : TableView → DuesState → List ℕ → Type 0
+GoesOn t s rest = ((rest ≡ []) × IsTrue (ends s)) ⊎ ((x : Step DuesState) × GoesOnBy t s rest x)
+
+-- The law of one step: a rest meets a state's dues exactly where it is empty and the state ends, or
+-- a step goes on. Never both, by no more than one step, and by the rule that the table chooses
+-- there.
+pub record OneStep (t : TableView) (s : DuesState) (rest : List ℕ) : Type 0 where
+  pub goes_on : IsTrue (dues_met t rest s.dues) ↔ GoesOn t s rest
+  pub never_both : (x : Step DuesState) → GoesOnBy t s rest x → rest ≡ [] → ⊥
+  pub only_one : (x y : Step DuesState) → GoesOnBy t s rest x → GoesOnBy t s rest y → x ≡ y
+  pub chosen : (x : Step DuesState) → GoesOnBy t s rest x → x.rule ≡ (chosen t s.before rest).number
+
+-- What is gathered: nothing is broken, and the dues that are left ascend without repeats.
+pub record AreGathered (carried : List Carried) (dues : List Due) : Type 0 where
+  pub whole : Contains carried Broken → ⊥
+  pub ascend : IsStrictlySortedBy due_cmp dues
+  pub each : (due : Due) → Contains dues due ↔ Contains carried (Left due)

@@ -1,0 +1,83 @@
+-- Internal. How the steps of a state are found: by the characters that may come next, each with
+-- what the rules above ask after it. That these are the steps of the machine is proved.
+use Rattle.std.specs.Prelude.{ℕ, ◌+◌, Bool, true, false, ◌&&◌, ◌==◌, List, [], ◌∷◌, ◌++◌, filter, map, drop, if◌then◌else◌}
+use Rattle.std.specs.List.{flat_map, list_all}
+use Rattle.brl_pairs.specs.declared.step.Step.{Step}
+use Rattle.brl_table.specs.declared.class.Class.{Class}
+use Rattle.brl_table.specs.declared.place.Cond.{Cond}
+use Rattle.brl_table.specs.declared.place.Cond.TheVariants.{Any}
+use Rattle.brl_table.specs.declared.rule.Rule.{Rule}
+use Rattle.brl_table.specs.Choice.{own}
+use Rattle.brl_table.specs.Places.{holds, before_of, after_of}
+use Rattle.brl_table.specs.TableView.{TableView}
+use Rattle.brl_table.specs.Text.{classes_of, fold_of}
+use Rattle.brl_dues.specs.declared.carry.Carried.{Carried}
+use Rattle.brl_dues.specs.declared.due.Due.{Due}
+use Rattle.brl_dues.specs.declared.due.Due.TheVariants.{Need, Bar}
+use Rattle.brl_dues.specs.declared.state.DuesState.{DuesState}
+use Rattle.brl_dues.specs.Carry.{carry, carry_bar, gathered, need}
+use Rattle.brl_dues.specs.Form.{Form, letters}
+use Rattle.brl_dues.specs.Steps.{step_if}
+use Rattle.brl_dues.specs.LetterView.{LetterView}
+
+-- ---- Characters that may come
+
+-- a due doesn't refuse a character; a bar never does
+abbrev pub lets_in : TableView → ℕ → Due → Bool
+lets_in t c (Need cond) = holds cond (classes_of t c)
+lets_in t c (Bar chars cond) = true
+
+abbrev pub may_come : TableView → List Due → ℕ → Bool
+may_come t dues c = list_all (lets_in t c) dues
+
+-- a character, with nothing above it
+abbrev pub new_letter : TableView → ℕ → LetterView
+new_letter t c = record { character = c; fold = fold_of t c; above = [] }
+
+abbrev pub new_letters : TableView → List Due → List LetterView
+new_letters t dues = map (new_letter t) (filter (may_come t dues) (letters t))
+
+-- ---- Rules above
+
+-- these characters begin with this one
+abbrev pub begins_with : ℕ → List ℕ → Bool
+begins_with a [] = false
+begins_with a (first ∷ others) = a == first
+
+-- the rule may be taken after a character of these classes where this character comes
+abbrev pub is_taken : Class → Rule → LetterView → Bool
+is_taken before r l = holds (before_of r.place) before && begins_with l.fold r.chars
+
+-- the character with one more rule above
+abbrev pub with_rule : Class → Rule → LetterView → LetterView
+with_rule before r l =
+    if is_taken before r l then record l { above = l.above ++ (drop 1 r.chars, after_of r.place before) ∷ [] } else l
+
+-- ---- Steps
+
+-- what a step that reads the character and these others leaves: of the old dues, and of what it
+-- owes
+abbrev pub bars_of : TableView → List ℕ → List (List ℕ × Cond) → List Carried
+bars_of t others above = map (λ a. carry_bar t others a.0 a.1) above
+
+abbrev pub left_by : TableView → List Due → LetterView → List ℕ → Cond → List Carried
+left_by t dues l others after = map (carry t (l.character ∷ others)) dues ++ (need after ∷ bars_of t others l.above)
+
+abbrev pub letter_form : LetterView → ℕ → List ℕ → Cond → List ℕ → Form
+letter_form l number others after cells = record { number = number; reads = l.character ∷ others; after = after; cells = cells; above = [] }
+
+abbrev pub letter_step : TableView → DuesState → LetterView → ℕ → List ℕ → Cond → List ℕ → List (Step DuesState)
+letter_step t s l number others after cells = step_if t s (letter_form l number others after cells) (gathered (left_by t s.dues l others after))
+
+-- the steps of a rule with this number that begin with the character
+abbrev pub rule_step : TableView → DuesState → ℕ → Rule → LetterView → List (Step DuesState)
+rule_step t s number r l = if is_taken s.before r l then letter_step t s l number (drop 1 r.chars) (after_of r.place s.before) r.cells else []
+
+-- the step of the character's own definition
+abbrev pub own_step : TableView → DuesState → LetterView → List (Step DuesState)
+own_step t s l = letter_step t s l (own t (l.character ∷ [])).number [] Any (own t (l.character ∷ [])).cells
+
+-- the steps of these rules in rank, from this number on, and of the own definitions
+abbrev pub steps_found : TableView → DuesState → ℕ → List Rule → List LetterView → List (Step DuesState)
+steps_found t s number [] found = flat_map (own_step t s) found
+steps_found t s number (r ∷ rules) found = flat_map (rule_step t s number r) found ++ steps_found t s (number + 1) rules (map (with_rule s.before r) found)

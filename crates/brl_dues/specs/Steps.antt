@@ -1,0 +1,88 @@
+-- The dues machine of a table: its steps, each defined by itself and listed. The machine is this
+-- project's own choice; the rule that is chosen, the indicators and the context are those of the
+-- table (the manual's sections "Translation Opcodes" and "Braille Indicator Opcodes").
+use Rattle.std.specs.Prelude.{◌≡◌, Bool, false, List, [], ◌∷◌, ◌++◌, map, Option, Some, None}
+use Rattle.std.specs.List.{flat_map, list_all}
+use Rattle.brl_pairs.specs.Runs.{Behaviour}
+use Rattle.brl_pairs.specs.declared.step.Step.{Step}
+use Rattle.brl_table.specs.declared.class.Class.{Class}
+use Rattle.brl_table.specs.declared.context.Context.{Context}
+use Rattle.brl_table.specs.Indicators.{indicators}
+use Rattle.brl_table.specs.Places.{space}
+use Rattle.brl_table.specs.TableView.{TableView}
+use Rattle.brl_table.specs.Text.{context_behind_all, is_text}
+use Rattle.brl_table.specs.Translation.{translation}
+use Rattle.brl_dues.specs.declared.carry.Carried.{Carried}
+use Rattle.brl_dues.specs.declared.due.Due.{Due}
+use Rattle.brl_dues.specs.declared.state.DuesState.{DuesState}
+use Rattle.brl_dues.specs.Carry.{bar_of, carry, gathered, need}
+use Rattle.brl_dues.specs.Due.{met_by_space}
+use Rattle.brl_dues.specs.Form.{Form, IsForm, forms}
+
+abbrev pub context_of : DuesState → Context
+context_of s = record { classes = s.before; numeric = s.numeric }
+
+-- what a step of the form owes: the need of its after-condition, and a bar for each rule that is
+-- ranked above it
+abbrev pub owed : TableView → Class → Form → List Carried
+owed t before f = need f.after ∷ map (bar_of t before f.reads) f.above
+
+-- the dues after the step: what is left of the old dues after what it reads, and what it owes; none
+-- where one of these is broken
+abbrev pub next_dues : TableView → DuesState → Form → Option (List Due)
+next_dues t s f = gathered (map (carry t f.reads) s.dues ++ owed t s.before f)
+
+-- the step of a form, with the dues after it
+abbrev pub step_of : TableView → DuesState → Form → List Due → Step DuesState
+step_of t s f dues =
+    let behind = context_behind_all t (context_of s) f.reads in
+    record {
+      rule = f.number;
+      reads = f.reads;
+      cells = indicators t (context_of s) f.reads ++ f.cells;
+      next = record { before = behind.classes; numeric = behind.numeric; dues = dues };
+    }
+
+-- ---- Each by itself
+
+-- a step from a state takes a form, breaks no due, and leaves the dues after it
+pub record IsStep (t : TableView) (s : DuesState) (x : Step DuesState) : Type 0 where
+  pub form : Form
+  pub is_form : IsForm t s.before form
+  pub dues : List Due
+  pub left : next_dues t s form ≡ Some dues
+  pub step : x ≡ step_of t s form dues
+
+-- ---- Listed
+
+abbrev pub step_if : TableView → DuesState → Form → Option (List Due) → List (Step DuesState)
+step_if t s f None = []
+step_if t s f (Some dues) = step_of t s f dues ∷ []
+
+abbrev pub steps_of : TableView → DuesState → Form → List (Step DuesState)
+steps_of t s f = step_if t s f (next_dues t s f)
+
+-- the steps that the machine lists from a state: the forms by rank, those of one rule by the
+-- numbers of their characters
+unfoldable pub dues_steps : TableView → DuesState → List (Step DuesState)
+dues_steps t s = flat_map (steps_of t s) (forms t s.before)
+
+-- ---- The machine
+
+-- before any character: class space before, no numeric mode, and nothing is due
+abbrev pub first_state : DuesState
+first_state = record { before = space; numeric = false; dues = [] }
+
+-- a state ends where class space meets every need
+abbrev pub ends : DuesState → Bool
+ends s = list_all met_by_space s.dues
+
+-- the machine's texts and their translation are the table's
+abbrev pub dues_machine : TableView → Behaviour DuesState
+dues_machine t = record {
+  start = first_state;
+  steps = dues_steps t;
+  ends = ends;
+  is_text = is_text t;
+  translation = translation t;
+}

@@ -1,0 +1,169 @@
+//! Dues carried past the characters that a step reads.
+ghost use Rattle.std.specs.Prelude.{◌≡◌, [], ◌∷◌, map, IfOk};
+ghost use Rattle.brl_table.specs.Text.{classes_of};
+ghost use Rattle.brl_dues.specs.Adding.{Adds};
+ghost use Rattle.brl_dues.specs.Carry.{carry as carried_past, carry_bar as bar_carried, need as need_of_cond, opposed, settled_if};
+ghost use Rattle.brl_dues.specs.Letters.{bars_of};
+
+use crate::Due;
+use crate::letter::Above;
+use brl_table::{Chars, Class, Cond, Table, holds};
+use std::alloc::{AllocError, Global};
+
+/// What is left of a due after the characters that a step reads.
+#[derive(Debug, Drop)]
+pub enum Carried {
+    /// The step breaks it: there is no such step.
+    Broken,
+    /// Nothing.
+    Settled,
+    /// This due.
+    Left(Due),
+}
+
+/// The classes of a character: none where the table doesn't define it.
+pub fn class_of(table: &Table, character: char) -> Class
+    ensures { result ≡ classes_of table.now character }
+{
+    match table.info(character) {
+        Some(info) => info.classes,
+        None => Class::NONE,
+    }
+}
+
+/// A bar with nothing remaining: that the next character doesn't meet the condition.
+fn opposed_to(cond: Cond) -> Carried
+    ensures { result ≡ opposed cond }
+{
+    match cond {
+        Cond::Any => Carried::Broken,
+        Cond::Meets(set) => Carried::Left(Due::Need(Cond::Avoids(set))),
+        Cond::Avoids(set) => Carried::Left(Due::Need(Cond::Meets(set))),
+    }
+}
+
+/// The need of an after-condition.
+fn need_of(cond: Cond) -> Carried
+    ensures { result ≡ need_of_cond cond }
+{
+    match cond {
+        Cond::Any => Carried::Settled,
+        _ => Carried::Left(Due::Need(cond)),
+    }
+}
+
+fn settled(holds: bool) -> Carried
+    ensures { result ≡ settled_if holds }
+{
+    if holds {
+        Carried::Settled
+    } else {
+        Carried::Broken
+    }
+}
+
+/// What is left, after the characters `past`, of a bar of these characters.
+fn carry_bar(
+    alloc: Global,
+    table: &Table,
+    past: &[char],
+    chars: &[char],
+    cond: Cond,
+) -> Result<Carried, AllocError>
+    ensures { IfOk result (λ carried. carried ≡ bar_carried table.now past.now chars.now cond) }
+{
+    let shared = past.len().min(chars.len());
+    for i in 0..shared {
+        if past[i] != chars[i] {
+            return Ok(Carried::Settled);
+        }
+    }
+    if shared < past.len() {
+        return Ok(settled(!holds(cond, class_of(table, past[shared]))));
+    }
+    if shared < chars.len() {
+        let rest = Vec::from_slice(alloc, &chars[shared..])?;
+        return Ok(Carried::Left(Due::Bar(Chars::from_vec(rest), cond)));
+    }
+    Ok(opposed_to(cond))
+}
+
+/// What is left of a due after the characters `past`.
+fn carry(alloc: Global, table: &Table, past: &[char], due: &Due) -> Result<Carried, AllocError>
+    ensures { IfOk result (λ carried. carried ≡ carried_past table.now past.now due.now) }
+{
+    match due {
+        Due::Need(cond) => match past.first() {
+            Some(first) => Ok(settled(holds(*cond, class_of(table, *first)))),
+            None => Ok(Carried::Left(Due::Need(*cond))),
+        },
+        Due::Bar(chars, cond) => {
+            if chars.len() == 0 {
+                return Ok(Carried::Settled);
+            }
+            carry_bar(alloc, table, past, chars.as_slice(), *cond)
+        }
+    }
+}
+
+/// Appends what is left to the dues found so far. It answers whether it isn't broken.
+fn add(carried: Carried, found: &mut Vec<Due>) -> Result<bool, AllocError>
+    ensures { IfOk result (λ whole. Adds (carried ∷ []) found.old.items found.new.items whole) }
+{
+    match carried {
+        Carried::Broken => Ok(false),
+        Carried::Settled => Ok(true),
+        Carried::Left(due) => {
+            found.push(due)?;
+            Ok(true)
+        }
+    }
+}
+
+/// Appends what is left of dues after the characters `past` to the dues found so far. It answers
+/// whether none is broken.
+pub fn add_dues(
+    alloc: Global,
+    table: &Table,
+    past: &[char],
+    dues: &[Due],
+    found: &mut Vec<Due>,
+) -> Result<bool, AllocError>
+    ensures { IfOk result (λ whole. Adds (map (carried_past table.now past.now) dues.now) found.old.items found.new.items whole) }
+{
+    for due in dues {
+        if !add(carry(alloc, table, past, due)?, found)? {
+            return Ok(false);
+        }
+    }
+    Ok(true)
+}
+
+/// Appends the need of an after-condition to the dues found so far.
+pub fn add_need(cond: Cond, found: &mut Vec<Due>) -> Result<bool, AllocError>
+    ensures { IfOk result (λ whole. Adds (need_of_cond cond ∷ []) found.old.items found.new.items whole) }
+{
+    add(need_of(cond), found)
+}
+
+/// Appends the bars of the rules above, after a character and these others, to the dues found so
+/// far. It answers whether none is broken.
+pub fn add_bars(
+    alloc: Global,
+    table: &Table,
+    others: &[char],
+    above: &[Above<'_>],
+    found: &mut Vec<Due>,
+) -> Result<bool, AllocError>
+    ensures { IfOk result (λ whole. Adds (bars_of table.now others.now (map (λ a. (a.others.now, a.after)) above.now)) found.old.items found.new.items whole) }
+{
+    for rule in above {
+        if !add(
+            carry_bar(alloc, table, others, rule.others, rule.after)?,
+            found,
+        )? {
+            return Ok(false);
+        }
+    }
+    Ok(true)
+}

@@ -1,0 +1,22 @@
+//! The dues machine of a table. A state holds no text: it holds what is still due of the characters
+//! to come, so that a rule of any length can be taken as soon as its first character comes.
+//!
+//! A step takes a rule, or the own definition of a character. It owes to each rule that is ranked
+//! above its own, and could still fit, that this rule does not fit: a `Due` of the next state. What
+//! the text must go on with or must not go on with is so decided one step at a time.
+#![tactic(auto)]
+
+mod carry;
+mod due;
+mod laws;
+mod letter;
+mod list;
+mod machine;
+mod state;
+mod steps;
+
+pub use due::Due;
+pub use laws::{dues_law, exact_law, finite_law, order_law, step_law};
+pub use list::DueList;
+pub use machine::Dues;
+pub use state::DuesState;

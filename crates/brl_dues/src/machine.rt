@@ -1,0 +1,80 @@
+//! The dues machine.
+ghost use Rattle.std.specs.Prelude.{◌≡◌};
+ghost use Rattle.brl_table.specs.Text.{is_text};
+ghost use Rattle.brl_table.specs.Translation.{translation};
+ghost use Rattle.brl_dues.specs.Due.{met_by_space};
+
+use crate::steps::find_steps;
+use crate::{Due, DueList, DuesState};
+use brl_pairs::{Machine, Step};
+use brl_table::{Class, Table, choice_laws, holds, translation_laws};
+use std::alloc::{AllocError, Global};
+use std::marker::Model;
+
+/// The dues machine of a table. A contract sees the table.
+#[derive(Drop)]
+pub struct Dues<'a> {
+    alloc: Global,
+    table: &'a Table,
+}
+
+impl<'a> Model for Dues<'a> {
+    ghost use Rattle.brl_table.specs.TableView.{TableView};
+
+    ghost Value = { TableView };
+
+    ghost view = { λ d. d.table.now };
+}
+
+impl<'a> Dues<'a> {
+    /// The dues machine of a table, whose texts and translation are the table's. It takes no
+    /// memory.
+    pub fn new(alloc: Global, table: &'a Table) -> Dues<'a>
+        ensures table { result ≡ table.now }
+        ensures texts { (⟦<Dues<'a> as Machine>⟧.behaviour result).is_text ≡ is_text table.now }
+        ensures translation { (⟦<Dues<'a> as Machine>⟧.behaviour result).translation ≡ translation table.now }
+    {
+        Dues { alloc, table }
+    }
+}
+
+impl<'a> Machine for Dues<'a> {
+    ghost use Rattle.brl_dues.specs.SameState.{same_states};
+    ghost use Rattle.brl_dues.specs.Steps.{dues_machine};
+
+    type State = DuesState;
+
+    ghost behaviour = { dues_machine };
+
+    fn start(&self) -> DuesState {
+        // The machine's laws follow from those of the table.
+        choice_laws();
+        translation_laws();
+        self.table.law();
+        DuesState {
+            before: Class::SPACE,
+            numeric: false,
+            dues: DueList::new(self.alloc),
+        }
+    }
+
+    fn moves(&self, alloc: Global, state: &DuesState) -> Result<Vec<Step<DuesState>>, AllocError> {
+        find_steps(alloc, self.table, state)
+    }
+
+    fn ends(&self, state: &DuesState) -> bool {
+        state.dues.as_slice().iter().all(is_met_by_space)
+    }
+
+    ghost same_state = { same_states };
+}
+
+/// Whether class space meets a due: a bar it always does.
+fn is_met_by_space(due: &Due) -> bool
+    ensures { result ≡ met_by_space due.now }
+{
+    match due {
+        Due::Need(cond) => holds(*cond, Class::SPACE),
+        Due::Bar(_, _) => true,
+    }
+}
