@@ -8,8 +8,6 @@ mod dots;
 mod fault;
 mod laws;
 mod marks;
-#[cfg(test)]
-mod tests;
 
 pub use cell::Cell;
 pub use cells::Cells;

@@ -12,6 +12,3 @@ pub use fault::{ConfirmFault, ForwardFault, Side};
 pub use laws::trace_laws;
 pub use steps::{Traced, trace};
 pub use translation::translate;
-
-#[cfg(test)]
-mod tests;

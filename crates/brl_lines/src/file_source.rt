@@ -38,7 +38,7 @@ fn room_for_a_chunk(alloc: Global) -> Result<Vec<u8>, SourceFault>
 
 /// All bytes of a reader, if they are at most `MOST_FILE_BYTES`, read a chunk at a time. At most one byte
 /// more is read to tell. An interrupted read is a failed one.
-pub(crate) fn read_whole<R: Read>(
+pub fn read_whole<R: Read>(
     alloc: Global,
     reader: &mut R,
     chunk: &mut [u8],

@@ -21,15 +21,10 @@ mod spelling;
 mod walking;
 
 pub use fault::{LoadFault, Place, Refused};
-pub use file_source::FileSource;
+pub use file_source::{FileSource, read_whole};
 pub use line::{Line, Token};
 pub use loaded::{Loaded, load};
 pub use map_source::MapSource;
 pub use operand::{CharsFault, chars_of};
 pub use source::{MOST_FILE_BYTES, Source, SourceFault};
 pub use spelling::spell_chars;
-
-#[cfg(test)]
-mod include_tests;
-#[cfg(test)]
-mod tests;

@@ -13,6 +13,3 @@ pub use lead::{Advanced, advance};
 pub use machine::Machine;
 pub use sets::Sets;
 pub use step::{Pair, Step};
-
-#[cfg(test)]
-mod tests;

@@ -32,6 +32,3 @@ pub use reading::read_table;
 pub use rule::{Info, Notice, Rule};
 pub use table::{Sign, Table};
 pub use table_fault::{TableFault, Wrong};
-
-#[cfg(test)]
-mod tests;

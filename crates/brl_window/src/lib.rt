@@ -11,6 +11,3 @@ pub use laws::window_law;
 pub use machine::Window;
 pub use state::WindowState;
 pub use too_wide::TooWide;
-
-#[cfg(test)]
-mod tests;

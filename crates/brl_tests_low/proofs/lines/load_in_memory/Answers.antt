@@ -3,7 +3,7 @@ use Rattle.std.specs.Prelude.{option_map}
 use Rattle.std.specs.BTreeMap.{get_by_text}
 use Rattle.brl_lines.specs.Answer.{Answer, answer_of}
 use Rattle.brl_lines.proofs.MemoryLemmas.{answer_of-readable, given-at, never_failed, lines_over-all}
-use Rattle.brl_lines.proofs.tests.load_in_memory.Goals as goal
+use Rattle.brl_tests_low.proofs.lines.load_in_memory.Goals as goal
 
 pub returns : goal.returns
 returns c =

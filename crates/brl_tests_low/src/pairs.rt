@@ -3,11 +3,12 @@ ghost use Rattle.std.specs.Prelude.{◌≡◌, [], ◌∷◌, IfOk};
 ghost use Rattle.brl_pairs.specs.Examples.{letter_step, letters};
 ghost use Rattle.brl_pairs.specs.Runs.{IsUnambiguous};
 
-use crate::{
+use brl_cells::{Cell, Cells, read_dots, write_dots};
+use brl_pairs::{
     Advanced, Machine, Pair, Sets, Step, advance, advance_law, closed_sets_law, numbered_sets_law,
 };
-use brl_cells::{Cell, Cells, read_dots};
 use brl_table::Chars;
+use brl_testing::cut;
 use std::alloc::{AllocError, Global};
 use std::test::Fail;
 
@@ -68,7 +69,7 @@ impl Sets<bool> for LetterSets {
     ghost sets = { numbered letter_states letter_pairs };
 }
 
-/// No two texts of the letters are translated alike: a theorem by closed sets.
+/// No two texts of the letters are translated to the same cells: a theorem by closed sets.
 fn letters_are_unambiguous()
     ensures { IsUnambiguous letters }
 {
@@ -82,7 +83,7 @@ fn numbered_letters_are_unambiguous()
     numbered_sets_law(&Letters);
 }
 
-/// The state behind a machine's last step from its start, and how many steps there are.
+/// The state after a machine's last step from its start, and how many steps there are.
 fn last_state<M: Machine>(
     alloc: Global,
     machine: &M,
@@ -92,7 +93,7 @@ fn last_state<M: Machine>(
     Ok((listed.pop().map(|step| step.next), count))
 }
 
-/// A pair whose runs are level, and whether both may end.
+/// A pair whose runs have given the same cells, and whether both may end.
 fn level<M: Machine>(alloc: Global, machine: &M) -> (Pair<M::State>, bool) {
     let pair = Pair {
         ahead: machine.start(),
@@ -103,53 +104,49 @@ fn level<M: Machine>(alloc: Global, machine: &M) -> (Pair<M::State>, bool) {
     (pair, both)
 }
 
+/// Whether there are two steps, of which the second reads `b`.
+fn are_steps_of_letters(listed: &[Step<bool>]) -> bool {
+    match listed {
+        [_, second] => {
+            second.rule == 1
+                && second.reads.as_slice() == ['b'].as_slice()
+                && second.cells.as_slice() == [Cell(1), Cell(3)].as_slice()
+        }
+        _ => false,
+    }
+}
+
 #[test]
 fn steps_of_letters(rt: HostRuntime) -> Result<(), Fail> {
-    let alloc = rt.alloc();
-    let listed = Letters.moves(alloc, &Letters.start())?;
-    assert_eq!(rt; listed.len(), 2);
-    assert_eq!(rt; listed[1].rule, 1);
-    assert_eq!(rt; listed[1].reads.as_slice(), ['b'].as_slice());
-    assert_eq!(rt; listed[1].cells.as_slice(), [Cell(1), Cell(3)].as_slice());
-    let (last, count) = last_state(alloc, &Letters)?;
-    assert_eq!(rt; last, Some(true));
-    assert_eq!(rt; count, 2);
+    let listed = Letters.moves(rt.alloc(), &Letters.start())?;
+    assert!(rt; are_steps_of_letters(listed.as_slice()));
+    Ok(())
+}
+
+#[test]
+fn the_last_step_of_letters(rt: HostRuntime) -> Result<(), Fail> {
+    let (last, count) = last_state(rt.alloc(), &Letters)?;
+    assert!(rt; last == Some(true) && count == 2);
     Ok(())
 }
 
 #[test]
 fn pairs_of_letters(rt: HostRuntime) {
     let (pair, both) = level(rt.alloc(), &Letters);
-    assert!(rt; both);
-    assert!(rt; pair.lead.is_empty());
-    assert!(rt; !pair.ahead && !pair.behind);
+    assert!(rt; both && pair.lead.is_empty() && !pair.ahead && !pair.behind);
     letters_are_unambiguous();
     numbered_letters_are_unambiguous();
     advance_law(&Letters);
 }
 
-/// What becomes of a lead, with the dots of its rest.
-#[derive(Clone, Copy)]
-enum Becomes {
-    Still(&'static str),
-    Swapped(&'static str),
-    Apart,
-}
-
 /// The dots of a lead, those of the cells that the run behind gives, and what becomes of the lead.
-type Case = (&'static str, &'static str, Becomes);
-
-static LEADS: [Case; 5] = [
-    ("1-12", "1", Becomes::Still("12")),
-    ("1", "1", Becomes::Still("")),
-    ("1", "1-12", Becomes::Swapped("12")),
-    ("", "1", Becomes::Swapped("1")),
-    ("1-12", "12", Becomes::Apart),
-];
-
-fn leads() -> &'static [Case] {
-    &LEADS
-}
+const LEADS: &str = "\
+1-12|1|still:12
+1|1|still:
+1|1-12|swapped:12
+|1|swapped:1
+1-12|12|apart
+";
 
 /// The cells of dots: none of no dots.
 fn cells_of(alloc: Global, dots: &str) -> Result<Cells, Fail> {
@@ -159,28 +156,30 @@ fn cells_of(alloc: Global, dots: &str) -> Result<Cells, Fail> {
     Ok(read_dots(alloc, dots, 16)?)
 }
 
-/// Whether the rest of a lead is that of these dots.
-fn is_rest(alloc: Global, rest: &[Cell], dots: &str) -> Result<bool, Fail> {
-    Ok(rest == cells_of(alloc, dots)?.as_slice())
+/// What becomes of a lead, with the dots of its rest.
+fn advanced_text(alloc: Global, lead: &[Cell], cells: &[Cell]) -> Result<String, Fail> {
+    let (word, rest) = match advance(lead, cells) {
+        Advanced::Still(rest) => ("still:", rest),
+        Advanced::Swapped(rest) => ("swapped:", rest),
+        Advanced::Apart => return Ok(String::from_str(alloc, "apart")?),
+    };
+    let dots = write_dots(alloc, rest)?;
+    Ok(format!(in alloc; "{word}{dots}")?)
 }
 
-fn has_become(alloc: Global, advanced: Advanced<'_>, want: Becomes) -> Result<bool, Fail> {
-    match (advanced, want) {
-        (Advanced::Still(rest), Becomes::Still(dots)) => is_rest(alloc, rest, dots),
-        (Advanced::Swapped(rest), Becomes::Swapped(dots)) => is_rest(alloc, rest, dots),
-        (Advanced::Apart, Becomes::Apart) => Ok(true),
-        _ => Ok(false),
-    }
+fn advanced(alloc: Global, lead: &str, cells: &str) -> Result<String, Fail> {
+    let lead = cells_of(alloc, lead)?;
+    let cells = cells_of(alloc, cells)?;
+    advanced_text(alloc, lead.as_slice(), cells.as_slice())
 }
 
 #[test]
 fn worked_leads(rt: HostRuntime) -> Result<(), Fail> {
-    let alloc = rt.alloc();
-    for (lead, cells, want) in leads() {
-        let lead_cells = cells_of(alloc, lead)?;
-        let given = cells_of(alloc, cells)?;
-        let advanced = advance(lead_cells.as_slice(), given.as_slice());
-        assert!(rt; has_become(alloc, advanced, *want)?, "{lead} and {cells}");
+    for row in LEADS.lines() {
+        let (lead, rest) = cut(row)?;
+        let (cells, want) = cut(rest)?;
+        let given = advanced(rt.alloc(), lead, cells)?;
+        assert!(rt; given.as_str() == want, "at {row}: {given}");
     }
     Ok(())
 }

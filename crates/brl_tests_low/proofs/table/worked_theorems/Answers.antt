@@ -1,6 +1,6 @@
 use Rattle.std.proofs.Common.{refl}
 use Rattle.brl_table.specs.Translation.{translation}
-use Rattle.brl_table.proofs.tests.worked_theorems.Goals as goal
+use Rattle.brl_tests_low.proofs.table.worked_theorems.Goals as goal
 
 pub returns : goal.returns
 unfolding translation

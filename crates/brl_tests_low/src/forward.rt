@@ -1,0 +1,152 @@
+//! Worked translations, clashes and traces: rows whose fields are cut at `|`. More of them stand in brl_tests_tool, by what the
+//! program prints.
+use brl_cells::write_dots;
+use brl_forward::{Clash, ConfirmFault, ForwardFault, Side, Traced, confirm, trace, translate};
+use brl_table::Table;
+use brl_testing::{chars, cut, table_of};
+use std::alloc::Global;
+use std::test::Fail;
+
+/// A table's lines, a text and the dots of its translation.
+const TRANSLATIONS: &str = "\
+letter a 1; letter b 12; letter x 1-12; always ab 14|aab|1-14
+space \\s 0; letter b 12; letter u 136; letter t 2345; word but 12; word b 56-12|b but|56-12-0-12
+letter a 1; letter b 12; always ab 14; word ab 15|ab|14
+letter a 1; letter b 12; always a 14; always ab 15|ab|15
+";
+
+/// A table's lines, two texts and the dots of their clash, or nothing.
+const CLASHES: &str = "\
+letter a 1; letter b 12; letter x 1-12|ab|x|1-12
+letter a 1; letter b 12; letter x 1-12|ab|ab|
+letter a 1; letter b 12; letter x 1-12; always ab 14|ab|x|
+letter a 1; litdigit 1 1; numsign 3456|1a|11|3456-1-1
+letter a 1; litdigit 1 1; numsign 3456; nocontractsign 56; numericnocontchars a|1a|11|
+uplow Aa 1|A|a|1
+uplow Aa 1; uplow Bb 12; capsletter 6; always ab 14|A|a|
+";
+
+/// A table's lines, a text and its steps: start, rule, length, how many indicators, dots.
+const TRACES: &str = "\
+letter a 1; letter b 12; letter x 1-12; always ab 14|aab|0 1 1 0 1,1 0 2 0 14,
+uplow Aa 1; uplow Bb 12; capsletter 6; always ab 14|aB|0 2 1 0 1,1 3 1 1 6-12,
+";
+
+/// The dots of the translation of a text.
+fn translated(alloc: Global, table: &Table, text: &str) -> Result<String, Fail> {
+    let cells = translate(alloc, table, chars(alloc, text)?.as_slice())?;
+    Ok(write_dots(alloc, cells.as_slice())?)
+}
+
+fn translation_of(alloc: Global, lines: &str, text: &str) -> Result<String, Fail> {
+    translated(alloc, &table_of(alloc, lines)?, text)
+}
+
+#[test]
+fn worked_translations(rt: HostRuntime) -> Result<(), Fail> {
+    for row in TRANSLATIONS.lines() {
+        let (lines, rest) = cut(row)?;
+        let (text, dots) = cut(rest)?;
+        let given = translation_of(rt.alloc(), lines, text)?;
+        assert!(rt; given.as_str() == dots, "at {row}: {given}");
+    }
+    Ok(())
+}
+
+/// The dots of a clash of two texts, or nothing where there is none. Its texts are theirs.
+fn clashing(alloc: Global, table: &Table, left: &str, right: &str) -> Result<String, Fail> {
+    let left = chars(alloc, left)?;
+    let right = chars(alloc, right)?;
+    match confirm(alloc, table, left.as_slice(), right.as_slice())? {
+        Some(clash) => clash_text(alloc, &clash, left.as_slice(), right.as_slice()),
+        None => Ok(String::new(alloc)),
+    }
+}
+
+/// The dots of a clash that has these texts.
+fn clash_text(alloc: Global, clash: &Clash, left: &[char], right: &[char]) -> Result<String, Fail> {
+    if clash.left() != left || clash.right() != right {
+        return Err(Fail::from("the texts are others"));
+    }
+    Ok(write_dots(alloc, clash.cells())?)
+}
+
+fn clash_of(alloc: Global, lines: &str, left: &str, right: &str) -> Result<String, Fail> {
+    clashing(alloc, &table_of(alloc, lines)?, left, right)
+}
+
+#[test]
+fn worked_clashes(rt: HostRuntime) -> Result<(), Fail> {
+    for row in CLASHES.lines() {
+        let (lines, rest) = cut(row)?;
+        let (left, rest) = cut(rest)?;
+        let (right, dots) = cut(rest)?;
+        let given = clash_of(rt.alloc(), lines, left, right)?;
+        assert!(rt; given.as_str() == dots, "at {row}: {given}");
+    }
+    Ok(())
+}
+
+/// A step's fields, as rows of traces have them.
+fn step_text(alloc: Global, step: &Traced) -> Result<String, Fail> {
+    let dots = write_dots(alloc, step.cells.as_slice())?;
+    Ok(format!(in alloc;
+        "{} {} {} {} {dots},",
+        step.start, step.rule, step.length, step.indicators
+    )?)
+}
+
+fn steps_text(alloc: Global, steps: &[Traced]) -> Result<String, Fail> {
+    let mut text = String::new(alloc);
+    for step in steps {
+        text.push_str(step_text(alloc, step)?.as_str())?;
+    }
+    Ok(text)
+}
+
+/// The steps of a text, each with a comma after it.
+fn traced(alloc: Global, table: &Table, text: &str) -> Result<String, Fail> {
+    let steps = trace(alloc, table, chars(alloc, text)?.as_slice())?;
+    steps_text(alloc, steps.as_slice())
+}
+
+fn trace_of(alloc: Global, lines: &str, text: &str) -> Result<String, Fail> {
+    traced(alloc, &table_of(alloc, lines)?, text)
+}
+
+#[test]
+fn worked_traces(rt: HostRuntime) -> Result<(), Fail> {
+    for row in TRACES.lines() {
+        let (lines, rest) = cut(row)?;
+        let (text, want) = cut(rest)?;
+        let given = trace_of(rt.alloc(), lines, text)?;
+        assert!(rt; given.as_str() == want, "at {row}: {given}");
+    }
+    Ok(())
+}
+
+/// Whether the translation and the trace of `az` have a fault at the `z`, and comparisons have one at a character of either text.
+fn are_unknown(alloc: Global, table: &Table) -> bool {
+    let unknown = Some(ForwardFault::UnknownChar(1));
+    let left = Some(ConfirmFault::UnknownChar(Side::Left, 0));
+    let right = Some(ConfirmFault::UnknownChar(Side::Right, 1));
+    translate(alloc, table, &['a', 'z']).err() == unknown
+        && trace(alloc, table, &['a', 'z']).err() == unknown
+        && confirm(alloc, table, &['z'], &['y']).err() == left
+        && confirm(alloc, table, &['a'], &['a', 'z']).err() == right
+}
+
+#[test]
+fn unknown_characters(rt: HostRuntime) -> Result<(), Fail> {
+    let table = table_of(rt.alloc(), "letter a 1")?;
+    assert!(rt; are_unknown(rt.alloc(), &table));
+    Ok(())
+}
+
+#[test]
+fn faults_are_printed(rt: HostRuntime) -> Result<(), Fail> {
+    let unknown = ConfirmFault::UnknownChar(Side::Right, 7);
+    let text = format!(in rt.alloc(); "{}, {unknown}", ForwardFault::UnknownChar(1))?;
+    assert!(rt; text.as_str() == "F1 UnknownChar 1, F1 UnknownChar 7 at right");
+    Ok(())
+}

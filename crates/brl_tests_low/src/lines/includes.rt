@@ -1,0 +1,277 @@
+//! Worked examples of include lines: the files of a table and the lines that they come to, and refusals.
+ghost use Rattle.std.specs.Prelude.{◌≡◌, codes};
+ghost use Rattle.brl_lines.specs.Examples.{circle_refused, in_a_circle, lacking, lacking_refused, nested, nested_lines};
+ghost use Rattle.brl_lines.specs.Lines.{lines_of};
+
+use super::{bytes_of, outcome};
+use brl_lines::{MapSource, Source, SourceFault};
+use brl_testing::cut;
+use std::alloc::Global;
+use std::collections::BTreeMap;
+use std::fmt::Write;
+use std::test::Fail;
+
+/// The worked examples of the definition.
+fn examples()
+    ensures nested { lines_of nested (codes "d/t.ctb") ≡ nested_lines }
+    ensures circle { lines_of in_a_circle (codes "t.ctb") ≡ circle_refused }
+    ensures lacking { lines_of lacking (codes "t.ctb") ≡ lacking_refused }
+{}
+
+#[test]
+fn worked_examples() {
+    examples();
+}
+
+/// Files, which are cut at ` & `, a path from its text at `: `; the root; and what comes of it.
+const INCLUDES: &str = "\
+d/t.ctb: include u.ctb & d/u.ctb: include v/w.ctb & d/v/w.ctb: include x.ctb & d/x.ctb: letter a 1|d/t.ctb|d/x.ctb:1 letter@0 a@7 1@9;
+d/t.ctb: include /v.ctb & /v.ctb: letter a 1|d/t.ctb|/v.ctb:1 letter@0 a@7 1@9;
+/d/e/t: include u & /d/e/u: letter a 1|/d/e/t|/d/e/u:1 letter@0 a@7 1@9;
+t: letter a 1;include u comment;letter c 14; \tinclude\tu;letter d 145 & u: \u{feff}# u\r;letter b 12\r;|t|t:1 letter@0 a@7 1@9;u:2 letter@5 b@12 12@14;t:3 letter@29 c@36 14@38;u:2 letter@5 b@12 12@14;t:5 letter@53 d@60 145@62;
+t.ctb: include;include ;Include u;includes u|t.ctb|t.ctb:1 include@0;t.ctb:2 include@8;t.ctb:3 Include@17 u@25;t.ctb:4 includes@27 u@36;
+t.ctb: include u|t.ctb|L1 NotFound u at t.ctb:1
+d/t.ctb: ;;include u & u: letter a 1|d/t.ctb|L1 NotFound d/u at d/t.ctb:3
+|d/t.ctb|L1 NotFound d/t.ctb
+t.ctb: include u.ctb & u.ctb: include t.ctb|t.ctb|L4 Cycle t.ctb at u.ctb:1
+t.ctb: letter a 1;include t.ctb|t.ctb|L4 Cycle t.ctb at t.ctb:2
+t: include u;include v & u: include v & v: |t|
+t.ctb: #;include u & u: letter ! 1|t.ctb|L3 NotUtf8 u at t.ctb:2
+t: include u & u: include v;include w & v: !|t|L3 NotUtf8 v at u:1
+t: include u & u: include v;!|t|L3 NotUtf8 u at t:1
+";
+
+/// Adds a file to files in memory.
+fn add(alloc: Global, files: &mut MapSource, path: &str, text: &str) -> Result<(), Fail> {
+    let bytes = bytes_of(alloc, text)?;
+    files.files.insert(String::from_str(alloc, path)?, bytes)?;
+    Ok(())
+}
+
+/// Adds the files of a field.
+fn add_files(alloc: Global, files: &mut MapSource, field: &str) -> Result<(), Fail> {
+    if field.is_empty() {
+        return Ok(());
+    }
+    for file in field.split(" & ") {
+        let (path, text) = file.split_once(": ").ok_or("a path is missing")?;
+        add(alloc, files, path, text)?;
+    }
+    Ok(())
+}
+
+fn no_files(alloc: Global) -> MapSource {
+    MapSource::new(BTreeMap::new(alloc))
+}
+
+/// What comes of the table at a root.
+fn included(alloc: Global, field: &str, root: &str) -> Result<String, Fail> {
+    let mut files = no_files(alloc);
+    add_files(alloc, &mut files, field)?;
+    outcome(alloc, &mut files, root)
+}
+
+#[test]
+fn includes(rt: HostRuntime) -> Result<(), Fail> {
+    for row in INCLUDES.lines() {
+        let (files, rest) = cut(row)?;
+        let (root, want) = cut(rest)?;
+        let given = included(rt.alloc(), files, root)?;
+        assert!(rt; given.as_str() == want, "at {row}: {given}");
+    }
+    Ok(())
+}
+
+/// Files in memory. Each read is counted, and one of them may fail, the first being 1.
+#[derive(Drop)]
+struct Watched {
+    files: MapSource,
+    reads: usize,
+    failing: usize,
+    failures: u64,
+}
+
+impl Source for Watched {
+    ghost gives = { λ _ _ _. Unit {0} };
+
+    ghost faults = { λ s. s.failures };
+
+    fn read(&mut self, alloc: Global, path: &str) -> Result<Vec<u8>, SourceFault> {
+        self.reads = self.reads.saturating_add(1);
+        if self.reads == self.failing {
+            self.failures = self.failures.saturating_add(1);
+            return Err(SourceFault::Failed);
+        }
+        match self.files.read(alloc, path) {
+            Err(SourceFault::Failed) => Err(SourceFault::NotFound),
+            outcome => outcome,
+        }
+    }
+
+    fn failures(&self) -> u64 {
+        self.failures
+    }
+}
+
+impl Watched {
+    /// No files, of which that read fails.
+    fn new(alloc: Global, failing: usize) -> Watched {
+        Watched {
+            files: no_files(alloc),
+            reads: 0,
+            failing,
+            failures: 0,
+        }
+    }
+}
+
+/// What comes of the table at a root, how many reads there were, and how many of them failed.
+fn watched_outcome(alloc: Global, source: &mut Watched, root: &str) -> Result<String, Fail> {
+    let text = outcome(alloc, source, root)?;
+    Ok(format!(in alloc;
+        "{text} after {} reads, {} failed",
+        source.reads, source.failures
+    )?)
+}
+
+/// How many lines `include e` there are, the text after them, and what comes of the table.
+const MANY_LINES: &str = "\
+1024|| after 2 reads, 0 failed
+1024|letter a 1|t.ctb:1025 letter@10240 a@10247 1@10249; after 2 reads, 0 failed
+1025||L8 TooManyIncludes e at t.ctb:1025 after 2 reads, 0 failed
+1024|include t.ctb|L8 TooManyIncludes t.ctb at t.ctb:1025 after 2 reads, 0 failed
+1023|include t.ctb|L4 Cycle t.ctb at t.ctb:1024 after 2 reads, 0 failed
+1023|include u|L1 NotFound u at t.ctb:1024 after 3 reads, 0 failed
+";
+
+/// So many lines `include e`, and a text after them.
+fn include_lines(alloc: Global, count: usize, after: &str) -> Result<String, Fail> {
+    let mut text = String::new(alloc);
+    for _ in 0..count {
+        text.push_str("include e;")?;
+    }
+    text.push_str(after)?;
+    Ok(text)
+}
+
+fn many_included(alloc: Global, count: usize, after: &str) -> Result<String, Fail> {
+    let text = include_lines(alloc, count, after)?;
+    let mut source = Watched::new(alloc, 0);
+    add(alloc, &mut source.files, "t.ctb", text.as_str())?;
+    add(alloc, &mut source.files, "e", "")?;
+    watched_outcome(alloc, &mut source, "t.ctb")
+}
+
+#[test]
+fn many_include_lines(rt: HostRuntime) -> Result<(), Fail> {
+    for row in MANY_LINES.lines() {
+        let (count, rest) = cut(row)?;
+        let (after, want) = cut(rest)?;
+        let given = many_included(rt.alloc(), count.parse()?, after)?;
+        assert!(rt; given.as_str() == want, "at {row}: {given}");
+    }
+    Ok(())
+}
+
+/// The number of the last file, its line, and what comes of the table `c1`.
+const DEEP_FILES: &str = "\
+16|letter a 1|c16:1 letter@0 a@7 1@9; after 16 reads, 0 failed
+17|letter a 1|L5 TooDeep c17 at c16:1 after 16 reads, 0 failed
+16|include c17|L5 TooDeep c17 at c16:1 after 16 reads, 0 failed
+16|include c1|L4 Cycle c1 at c16:1 after 16 reads, 0 failed
+15|include c17|L1 NotFound c17 at c15:1 after 16 reads, 0 failed
+";
+
+/// Adds the files `c1`, `c2` and on, each of which includes the next, and a last one with a line of its own.
+fn add_chain(alloc: Global, files: &mut MapSource, last: usize, line: &str) -> Result<(), Fail> {
+    for number in 1..last {
+        let path = format!(in alloc; "c{number}")?;
+        let text = format!(in alloc; "include c{}", number + 1)?;
+        add(alloc, files, path.as_str(), text.as_str())?;
+    }
+    let path = format!(in alloc; "c{last}")?;
+    add(alloc, files, path.as_str(), line)
+}
+
+fn deep_included(alloc: Global, last: usize, line: &str) -> Result<String, Fail> {
+    let mut source = Watched::new(alloc, 0);
+    add_chain(alloc, &mut source.files, last, line)?;
+    watched_outcome(alloc, &mut source, "c1")
+}
+
+#[test]
+fn deep_files(rt: HostRuntime) -> Result<(), Fail> {
+    for row in DEEP_FILES.lines() {
+        let (last, rest) = cut(row)?;
+        let (line, want) = cut(rest)?;
+        let given = deep_included(rt.alloc(), last.parse()?, line)?;
+        assert!(rt; given.as_str() == want, "at {row}: {given}");
+    }
+    Ok(())
+}
+
+/// The read that fails, and what comes of the table.
+const FAILING: &str = "\
+1|L2 ReadFailed t.ctb after 1 reads, 1 failed
+2|L2 ReadFailed u.ctb at t.ctb:1 after 2 reads, 1 failed
+3|L2 ReadFailed v.ctb at u.ctb:1 after 3 reads, 1 failed
+";
+
+/// Three files, of which each includes the next.
+const THREE_FILES: &str = "t.ctb: include u.ctb & u.ctb: include v.ctb & v.ctb: letter a 1";
+
+/// Whether a read that fails gives this outcome, and the table is loaded when it is asked for again.
+fn fails_once(alloc: Global, source: &mut Watched, want: &str) -> Result<bool, Fail> {
+    let first = watched_outcome(alloc, source, "t.ctb")?;
+    let second = outcome(alloc, source, "t.ctb")?;
+    Ok(
+        first.as_str() == want
+            && second.as_str() == "v.ctb:1 letter@0 a@7 1@9;"
+            && source.failures == 1,
+    )
+}
+
+fn read_fails_once(alloc: Global, read: usize, want: &str) -> Result<bool, Fail> {
+    let mut source = Watched::new(alloc, read);
+    add_files(alloc, &mut source.files, THREE_FILES)?;
+    fails_once(alloc, &mut source, want)
+}
+
+#[test]
+fn a_read_that_fails_once(rt: HostRuntime) -> Result<(), Fail> {
+    for row in FAILING.lines() {
+        let (read, want) = cut(row)?;
+        assert!(rt;
+            read_fails_once(rt.alloc(), read.parse()?, want)?,
+            "at {row}"
+        );
+    }
+    Ok(())
+}
+
+/// How often a byte stands in the file `u`, which the table includes, and what comes of the table.
+fn included_bytes(alloc: Global, byte: u8, count: usize) -> Result<String, Fail> {
+    let mut files = no_files(alloc);
+    add(alloc, &mut files, "t", "include u")?;
+    let bytes = vec![in alloc; byte; count]?;
+    files.files.insert(String::from_str(alloc, "u")?, bytes)?;
+    outcome(alloc, &mut files, "t")
+}
+
+#[test]
+fn long_files(rt: HostRuntime) -> Result<(), Fail> {
+    let given = included_bytes(rt.alloc(), b'a', 2048)?;
+    assert!(rt; given.as_str().starts_with("u:1 aaaa"));
+    let given = included_bytes(rt.alloc(), b'a', 2049)?;
+    assert!(rt; given.as_str() == "L6 LineTooLong u at u:1", "{given}");
+    Ok(())
+}
+
+#[test]
+fn large_files(rt: HostRuntime) -> Result<(), Fail> {
+    let given = included_bytes(rt.alloc(), b'\n', 16_777_216)?;
+    assert!(rt; given.is_empty(), "{given}");
+    let given = included_bytes(rt.alloc(), b'\n', 16_777_217)?;
+    assert!(rt; given.as_str() == "L9 TooLarge u at t:1", "{given}");
+    Ok(())
+}

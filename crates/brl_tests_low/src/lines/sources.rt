@@ -1,0 +1,156 @@
+//! Sources: files that are refused, readers, and the files of a system.
+use super::{file_of, refused};
+use brl_lines::{FileSource, Source, SourceFault, read_whole};
+use brl_testing::{Broken, Refusing, one_file};
+use std::alloc::Global;
+use std::io::{ErrorKind, Read};
+use std::test::Fail;
+use std::{env, fs, process};
+
+/// A source that gives so many line feeds for each path.
+#[derive(Drop)]
+struct LineFeeds {
+    count: usize,
+}
+
+impl Source for LineFeeds {
+    ghost gives = { λ _ _ _. Unit {0} };
+
+    ghost faults = { λ _. 0 };
+
+    fn read(&mut self, alloc: Global, _path: &str) -> Result<Vec<u8>, SourceFault> {
+        vec![in alloc; b'\n'; self.count].map_err(|_| SourceFault::Memory)
+    }
+
+    fn failures(&self) -> u64 {
+        0
+    }
+}
+
+/// What comes of the table of a source, and how often the source has failed.
+fn refused_and_failures<S: Source>(alloc: Global, source: &mut S) -> Result<String, Fail> {
+    let text = refused(alloc, source)?;
+    Ok(format!(in alloc; "{text}, {} failed;", source.failures())?)
+}
+
+fn refusal_of(alloc: Global, refusal: SourceFault, failures: u64) -> Result<String, Fail> {
+    refused_and_failures(alloc, &mut Refusing { refusal, failures })
+}
+
+/// What comes of each refusal of a source.
+fn refusals_of(alloc: Global) -> Result<String, Fail> {
+    let mut text = String::new(alloc);
+    for refusal in [
+        SourceFault::NotFound,
+        SourceFault::Failed,
+        SourceFault::TooLarge,
+        SourceFault::Memory,
+    ] {
+        text.push_str(refusal_of(alloc, refusal, 0)?.as_str())?;
+    }
+    Ok(text)
+}
+
+#[test]
+fn refusals(rt: HostRuntime) -> Result<(), Fail> {
+    let given = refusals_of(rt.alloc())?;
+    let want = "L1 NotFound t.ctb, 0 failed;L2 ReadFailed t.ctb, 1 failed;\
+        L9 TooLarge t.ctb, 0 failed;out of memory, 0 failed;";
+    assert!(rt; given.as_str() == want, "{given}");
+    Ok(())
+}
+
+#[test]
+fn files_that_are_refused(rt: HostRuntime) -> Result<(), Fail> {
+    let mut source = file_of(rt.alloc(), "letter a 1;letter ! 1;")?;
+    let given = refused(rt.alloc(), &mut source)?;
+    assert!(rt; given.as_str() == "L3 NotUtf8 t.ctb", "{given}");
+    Ok(())
+}
+
+#[test]
+fn files_that_are_not_there(rt: HostRuntime) -> Result<(), Fail> {
+    let mut source = one_file(rt.alloc(), "u.ctb", b"")?;
+    let given = refused_and_failures(rt.alloc(), &mut source)?;
+    assert!(rt; given.as_str() == "L1 NotFound t.ctb, 0 failed;", "{given}");
+    Ok(())
+}
+
+#[test]
+fn files_that_are_too_large(rt: HostRuntime) -> Result<(), Fail> {
+    let given = refused(rt.alloc(), &mut LineFeeds { count: 16_777_217 })?;
+    assert!(rt; given.as_str() == "L9 TooLarge t.ctb", "{given}");
+    let given = refused(rt.alloc(), &mut LineFeeds { count: 16_777_216 })?;
+    assert!(rt; given.as_str() == "loaded", "{given}");
+    Ok(())
+}
+
+#[test]
+fn a_failure_counts_to_the_greatest_number(rt: HostRuntime) -> Result<(), Fail> {
+    let given = refusal_of(rt.alloc(), SourceFault::Failed, u64::MAX)?;
+    let want = "L2 ReadFailed t.ctb, 18446744073709551615 failed;";
+    assert!(rt; given.as_str() == want, "{given}");
+    Ok(())
+}
+
+/// Whether a reader has these bytes.
+fn has_bytes<R: Read>(alloc: Global, reader: &mut R, bytes: &[u8]) -> Result<bool, Fail> {
+    let read = read_whole(alloc, reader, &mut [0u8; 4])?;
+    Ok(read.as_slice() == bytes)
+}
+
+#[test]
+fn readers(rt: HostRuntime) -> Result<(), Fail> {
+    let mut reader: &[u8] = b"letter a 1\n";
+    assert!(rt; has_bytes(rt.alloc(), &mut reader, b"letter a 1\n")?);
+    Ok(())
+}
+
+/// The fault of a reader that gives so many bytes and then fails.
+fn fault_of(alloc: Global, bytes: usize, kind: ErrorKind) -> Option<SourceFault> {
+    let mut reader = Broken { bytes, kind };
+    read_whole(alloc, &mut reader, &mut [0u8; 4]).err()
+}
+
+#[test]
+fn readers_that_fail(rt: HostRuntime) {
+    let failed = Some(SourceFault::Failed);
+    assert!(rt; fault_of(rt.alloc(), 100_000, ErrorKind::Interrupted) == failed);
+    assert!(rt; fault_of(rt.alloc(), 100_000, ErrorKind::NotFound) == failed);
+    assert!(rt; fault_of(rt.alloc(), 100_000, ErrorKind::Other) == failed);
+    let too_large = Some(SourceFault::TooLarge);
+    assert!(rt; fault_of(rt.alloc(), 16_777_217, ErrorKind::Other) == too_large);
+}
+
+/// Whether paths without a file are refused, and only the one that can't be read counts as a failure.
+fn are_refused<S: Source>(alloc: Global, source: &mut S) -> bool {
+    source.read(alloc, "no_such_file.ctb").err() == Some(SourceFault::NotFound)
+        && source.failures() == 0
+        && source.read(alloc, ".").err() == Some(SourceFault::Failed)
+        && source.failures() == 1
+}
+
+/// Whether a source that has failed once gives these bytes, and has failed no more.
+fn gives_bytes<S: Source>(
+    alloc: Global,
+    source: &mut S,
+    path: &str,
+    bytes: &[u8],
+) -> Result<bool, SourceFault> {
+    let read = source.read(alloc, path)?;
+    Ok(read.as_slice() == bytes && source.failures() == 1)
+}
+
+#[test]
+fn files_of_a_system(rt: HostRuntime) -> Result<(), Fail> {
+    let alloc = rt.alloc();
+    let mut source = FileSource::new(&rt);
+    assert!(rt; are_refused(alloc, &mut source));
+    let name = format!(in alloc; "brl_lines_{}.ctb", process::id(rt.process()))?;
+    let path = env::temp_dir(&rt)?.join(alloc, name.as_str())?;
+    fs::write(&rt, path.as_path(), b"letter a 1\n")?;
+    let given = gives_bytes(alloc, &mut source, path.as_str(), b"letter a 1\n");
+    fs::remove_file(&rt, path.as_path())?;
+    assert!(rt; given?);
+    Ok(())
+}
