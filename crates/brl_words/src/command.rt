@@ -2,11 +2,11 @@
 use brl_stream::Form;
 use clap::error::{Error, ErrorKind};
 use clap::{Arg, ArgMatches, Command, value_parser};
-use std::alloc::Global;
+use std::alloc::{AllocError, Global};
 use std::fmt;
 
 /// What the words ask for.
-#[derive(Clone, Copy, Debug, PartialEq, Eq)]
+#[derive(Clone, Copy)]
 pub enum Task<'a> {
     /// Translate the input to this form by the table whose file stands at this path.
     Translate {
@@ -33,6 +33,26 @@ pub enum Task<'a> {
     },
 }
 
+/// Why the words ask for no work: a use fault, or help or the version that was asked for, or memory
+/// was refused. It is shown as the text that belongs to it.
+#[derive(Drop)]
+pub struct NoTask {
+    error: Error,
+}
+
+impl NoTask {
+    /// Whether the text goes to standard error. Help and the version go to standard output.
+    pub fn is_fault(&self) -> bool {
+        self.error.use_stderr()
+    }
+}
+
+impl fmt::Display for NoTask {
+    fn fmt<W: fmt::Write>(&self, f: &mut fmt::Formatter<W>) -> fmt::Result {
+        write!(f, "{}", self.error)
+    }
+}
+
 /// The program's version, which `--version` prints.
 const VERSION: &str = "0.1.0";
 
@@ -55,20 +75,55 @@ const STATUSES: &str = "Exit status:
 
 'brl COMMAND --help' says more of a command, with an example.";
 
-/// What `brl --help` says of `brl translate`.
-const TRANSLATE: &str = "Translates text into braille by a liblouis table";
+/// An operand of a command. Each must be there.
+#[derive(Clone, Copy)]
+struct Operand {
+    id: &'static str,
+    name: &'static str,
+    help: &'static str,
+}
 
-/// What `brl translate --help` says above the usage.
-const ABOUT_TRANSLATE: &str = "Translates text into braille by a liblouis table
+/// The operand of the table's file.
+const TABLE: Operand = Operand {
+    id: "table",
+    name: "TABLE",
+    help: "The table's file",
+};
+
+/// An option of a command.
+#[derive(Clone, Copy)]
+enum Choice {
+    /// How cells are written.
+    Form,
+    /// How much a search may find.
+    Limit,
+}
+
+/// A command, as its help shows it.
+#[derive(Clone, Copy)]
+struct Page {
+    name: &'static str,
+    /// What `brl --help` says of it.
+    about: &'static str,
+    /// What its own help says above the usage.
+    long_about: &'static str,
+    /// What follows the options there.
+    example: &'static str,
+    choice: Option<Choice>,
+    operands: &'static [Operand],
+}
+
+/// `brl translate`.
+const TRANSLATE: Page = Page {
+    name: "translate",
+    about: "Translates text into braille by a liblouis table",
+    long_about: "Translates text into braille by a liblouis table
 
 Reads standard input line by line and writes the cells of each line to standard
 output, as North American Braille ASCII or as Unicode braille. A line is written
 before the next is translated. The first fault ends the work: standard error
-names it with its line, and the lines before it stand written.";
-
-/// What follows the options in `brl translate --help`.
-const TRANSLATE_EXAMPLE: &str =
-    "A table is a UTF-8 file. A line defines a character: an opcode (as letter,
+names it with its line, and the lines before it stand written.",
+    example: "A table is a UTF-8 file. A line defines a character: an opcode (as letter,
 digit, punctuation or space), the character (\\s is a blank) and its dots (0 is
 the blank cell, - joins cells). Or it has a rule: where in a word it stands (as
 always, word or endword), characters and dots. Or it includes another file. A
@@ -79,13 +134,16 @@ Example, a table of four characters and a text:
   echo 'abc a' | brl translate first.ctb
 
 It prints:
-  ABC A";
+  ABC A",
+    choice: Some(Choice::Form),
+    operands: &[TABLE],
+};
 
-/// What `brl --help` says of `brl clash`.
-const CLASH: &str = "Says whether two texts look alike in braille";
-
-/// What `brl clash --help` says above the usage.
-const ABOUT_CLASH: &str = "Says whether two texts look alike in braille
+/// `brl clash`.
+const CLASH: Page = Page {
+    name: "clash",
+    about: "Says whether two texts look alike in braille",
+    long_about: "Says whether two texts look alike in braille
 
 Translates both texts by a liblouis table. Where they differ and give the same
 cells, they clash: standard output gets their report, and the exit status is 1.
@@ -94,10 +152,8 @@ Else it gets 'no clash', and the status is 0.
 The report has the texts and their cells, and then of each text the steps of its
 translation from where the two part: the characters, their cells, and the file
 and line of the rule. A blank is written \\s, a backslash \\\\, and control
-characters as in a table, so that each text can be copied into one.";
-
-/// What follows the options in `brl clash --help`.
-const CLASH_EXAMPLE: &str = "Example, a table in which x looks like ab:
+characters as in a table, so that each text can be copied into one.",
+    example: "Example, a table in which x looks like ab:
   printf '%s\\n' 'letter a 1' 'letter b 12' 'letter x 1-12' > alike.ctb
   brl clash alike.ctb ab x
 
@@ -109,67 +165,96 @@ It prints:
     a  1   alike.ctb:1
     b  12  alike.ctb:2
   right from 0:
-    x  1-12  alike.ctb:3";
+    x  1-12  alike.ctb:3",
+    choice: None,
+    operands: &[
+        TABLE,
+        Operand {
+            id: "left",
+            name: "LEFT",
+            help: "A text, as it stands",
+        },
+        Operand {
+            id: "right",
+            name: "RIGHT",
+            help: "Another text",
+        },
+    ],
+};
 
-/// What `brl --help` says of `brl check`.
-const CHECK: &str = "Says whether a certificate proves a table unambiguous";
-
-/// What `brl check --help` says above the usage.
-const ABOUT_CHECK: &str = "Says whether a certificate proves a table unambiguous
+/// `brl check`.
+const CHECK: Page = Page {
+    name: "check",
+    about: "Says whether a certificate proves a table unambiguous",
+    long_about: "Says whether a certificate proves a table unambiguous
 
 A certificate lists states and pairs of states. Where it is accepted, standard
 output gets how many there are, and no two different texts over the table's
 characters give the same cells, however long they are. Whoever made the
 certificate need not be trusted. Else standard output gets why it is refused,
-and the exit status is 1; a refusal doesn't say that two texts look alike.";
-
-/// What follows the options in `brl check --help`.
-const CHECK_EXAMPLE: &str = "Example, a table of one letter and its certificate:
+and the exit status is 1; a refusal doesn't say that two texts look alike.",
+    example: "Example, a table of one letter and its certificate:
   printf 'letter a 1\\n' > a.ctb
   printf 'BRLCERT 1\\nstate 1 0 0 -\\nstate 8 0 0 61\\nstate 8 0 1 -\\n' > a.cert
   printf 'pair 1 2 -\\nend 3 1\\n' >> a.cert
   brl check a.ctb a.cert
 
 It prints:
-  accepted: 3 states, 1 pairs";
+  accepted: 3 states, 1 pairs",
+    choice: None,
+    operands: &[
+        TABLE,
+        Operand {
+            id: "cert",
+            name: "CERT",
+            help: "The certificate's file",
+        },
+    ],
+};
 
-/// What `brl --help` says of `brl search`.
-const SEARCH: &str = "Decides whether any two texts look alike by a table";
-
-/// What `brl search --help` says above the usage.
-const ABOUT_SEARCH: &str = "Decides whether any two texts look alike by a table
+/// `brl search`.
+const SEARCH: Page = Page {
+    name: "search",
+    about: "Decides whether any two texts look alike by a table",
+    long_about: "Decides whether any two texts look alike by a table
 
 Searches for a certificate that no two different texts over the table's
 characters give the same cells, however long they are. Where there is one, it is
 written to OUT, and standard output gets how many states and pairs it lists;
 'brl check' accepts it. Where two texts clash, standard output gets their report,
 the exit status is 1, and OUT isn't written. Where more than N states or more
-than N pairs are found, nothing is decided, and the status is 3.";
-
-/// What follows the options in `brl search --help`.
-const SEARCH_EXAMPLE: &str = "Example, a table of two letters:
+than N pairs are found, nothing is decided, and the status is 3.",
+    example: "Example, a table of two letters:
   printf '%s\\n' 'letter a 1' 'letter b 12' > ab.ctb
   brl search ab.ctb ab.cert
   brl check ab.ctb ab.cert
 
 It prints:
   certified: 4 states, 12 pairs
-  accepted: 4 states, 12 pairs";
+  accepted: 4 states, 12 pairs",
+    choice: Some(Choice::Limit),
+    operands: &[
+        TABLE,
+        Operand {
+            id: "out",
+            name: "OUT",
+            help: "The file that gets a certificate",
+        },
+    ],
+};
+
+/// The commands of `brl`.
+const PAGES: [Page; 4] = [TRANSLATE, CLASH, CHECK, SEARCH];
 
 /// How many states, and how many pairs, a search finds at most, where the words don't say.
 const USUAL_LIMIT: &str = "1000000";
 
 /// An operand that must be there.
-fn operand<'a>(alloc: Global, id: &'a str, name: &'a str, help: &'a str) -> Arg<'a> {
-    Arg::new(alloc, id)
-        .value_name(name)
-        .help(help)
+fn required_argument<'a>(alloc: Global, operand: Operand) -> Arg<'a> {
+    Arg::new(alloc, operand.id)
+        .value_name(operand.name)
+        .help(operand.help)
         .required(true)
-}
-
-/// The operand of the table's file.
-fn table_operand<'a>(alloc: Global) -> Arg<'a> {
-    operand(alloc, "table", "TABLE", "The table's file")
 }
 
 /// The option of how cells are written.
@@ -192,92 +277,51 @@ fn limit_option<'a>(alloc: Global) -> Arg<'a> {
         .default_value(USUAL_LIMIT)
 }
 
-/// The command line of `brl translate`.
-fn translate_command<'a>(alloc: Global) -> Result<Command<'a>, Error> {
-    Ok(
-        Command::new(alloc, "translate")
-            .about(TRANSLATE)
-            .long_about(ABOUT_TRANSLATE)
-            .after_help(TRANSLATE_EXAMPLE)
-            .arg(form_option(alloc))?
-            .arg(table_operand(alloc))?,
-    )
+/// The arguments of a command: its option, if any, and its operands.
+fn arguments<'a>(alloc: Global, page: &Page) -> Result<Vec<Arg<'a>>, AllocError> {
+    let mut arguments = Vec::new(alloc);
+    match page.choice {
+        Some(Choice::Form) => arguments.push(form_option(alloc))?,
+        Some(Choice::Limit) => arguments.push(limit_option(alloc))?,
+        None => {}
+    }
+    for operand in page.operands {
+        arguments.push(required_argument(alloc, *operand))?;
+    }
+    Ok(arguments)
 }
 
-/// The command line of `brl clash`.
-fn clash_command<'a>(alloc: Global) -> Result<Command<'a>, Error> {
-    Ok(
-        Command::new(alloc, "clash")
-            .about(CLASH)
-            .long_about(ABOUT_CLASH)
-            .after_help(CLASH_EXAMPLE)
-            .arg(table_operand(alloc))?
-            .arg(operand(alloc, "left", "LEFT", "A text, as it stands"))?
-            .arg(operand(alloc, "right", "RIGHT", "Another text"))?,
-    )
+/// The command line of a command.
+fn page_command<'a>(alloc: Global, page: &Page) -> Result<Command<'a>, AllocError> {
+    let arguments = arguments(alloc, page)?;
+    Command::new(alloc, page.name)
+        .about(page.about)
+        .long_about(page.long_about)
+        .after_help(page.example)
+        .args(arguments)
 }
 
-/// The command line of `brl check`.
-fn check_command<'a>(alloc: Global) -> Result<Command<'a>, Error> {
-    Ok(
-        Command::new(alloc, "check")
-            .about(CHECK)
-            .long_about(ABOUT_CHECK)
-            .after_help(CHECK_EXAMPLE)
-            .arg(table_operand(alloc))?
-            .arg(operand(alloc, "cert", "CERT", "The certificate's file"))?,
-    )
-}
-
-/// The command line of `brl search`.
-fn search_command<'a>(alloc: Global) -> Result<Command<'a>, Error> {
-    Ok(
-        Command::new(alloc, "search")
-            .about(SEARCH)
-            .long_about(ABOUT_SEARCH)
-            .after_help(SEARCH_EXAMPLE)
-            .arg(limit_option(alloc))?
-            .arg(table_operand(alloc))?
-            .arg(operand(alloc, "out", "OUT", "The file that gets a certificate"))?,
-    )
+/// The command lines of all commands, in the order in which `brl --help` shows them.
+fn page_commands<'a>(alloc: Global) -> Result<Vec<Command<'a>>, AllocError> {
+    let mut commands = Vec::new(alloc);
+    for page in &PAGES {
+        commands.push(page_command(alloc, page)?)?;
+    }
+    Ok(commands)
 }
 
 /// The command line of `brl`.
-fn whole_command<'a>(alloc: Global) -> Result<Command<'a>, Error> {
-    Ok(
-        Command::new(alloc, "brl")
-            .version(VERSION)
-            .about(
-                "Translates text into braille by liblouis tables, and decides whether texts look alike",
-            )
-            .after_help(STATUSES)
-            .subcommand_required(true)
-            .arg_required_else_help(true)
-            .subcommand(translate_command(alloc)?)?
-            .subcommand(clash_command(alloc)?)?
-            .subcommand(check_command(alloc)?)?
-            .subcommand(search_command(alloc)?)?,
-    )
-}
-
-/// Why the words ask for no work: a use fault, or help or the version that was asked for, or a growth was refused. It is shown as
-/// the text that belongs to it.
-#[derive(Debug, Drop)]
-pub struct NoTask {
-    error: Error,
-}
-
-impl NoTask {
-    /// Whether the text goes to standard error. Help and the version go to standard output.
-    pub fn is_fault(&self) -> bool {
-        self.error.use_stderr()
-    }
-}
-
-impl fmt::Display for NoTask {
-    fn fmt<W: fmt::Write>(&self, f: &mut fmt::Formatter<W>) -> fmt::Result {
-        write!(f, "{}", self.error)
-    }
+fn whole_command<'a>(alloc: Global) -> Result<Command<'a>, AllocError> {
+    let commands = page_commands(alloc)?;
+    Command::new(alloc, "brl")
+        .version(VERSION)
+        .about(
+            "Translates text into braille by liblouis tables, and decides whether texts look alike",
+        )
+        .after_help(STATUSES)
+        .subcommand_required(true)
+        .arg_required_else_help(true)
+        .subcommands(commands)
 }
 
 /// What the words ask for; the first is the program's name.
@@ -288,9 +332,14 @@ pub fn task_of<'a>(alloc: Global, words: &'a [String]) -> Result<Task<'a>, NoTas
     }
 }
 
-/// The task of the words, or the text that answers them.
+/// The task of the words; an error has the text that answers them.
 fn read_words<'a>(alloc: Global, words: &'a [String]) -> Result<Task<'a>, Error> {
     let mut command = whole_command(alloc)?;
+    read_by(&mut command, words)
+}
+
+/// The same by a command line.
+fn read_by<'a>(command: &mut Command<'a>, words: &'a [String]) -> Result<Task<'a>, Error> {
     let matches = command.try_get_matches_from_mut(words)?;
     match found_task(&matches) {
         Some(task) => Ok(task),
