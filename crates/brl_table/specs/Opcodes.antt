@@ -1,5 +1,5 @@
--- The opcodes of the profile: a table of their words, what their lines do, and the classes or the places that they give. The
--- manual has them in sections "Character-Definition Opcodes", "Translation Opcodes", "Braille Indicator Opcodes" and "Miscellaneous Opcodes".
+-- The opcodes of the profile: a table of their words, what their lines do, and the classes or the
+-- places that they give. The manual has them in sections "Character-Definition Opcodes", "Translation Opcodes", "Braille Indicator Opcodes" and "Miscellaneous Opcodes".
 -- That `capsign` is another name of `capsletter` is this project's own choice.
 use Rattle.std.specs.Prelude.{ℕ, List, [], ◌∷◌, codes, Option, Some, None, if◌then◌else◌}
 use Rattle.std.specs.Option.{option_or}

@@ -1,4 +1,5 @@
-//! The opcodes of the profile. The table of them is in the definitions, in three parts; this is proved to be that table.
+//! The opcodes of the profile. The table of them is in the definitions, in three parts; this is
+//! proved to be that table.
 ghost use Rattle.std.specs.Prelude.{◌≡◌};
 ghost use Rattle.brl_table.specs.Opcodes.{character_opcodes, entry_of, opcode_of, other_opcodes, place_opcodes};
 
