@@ -1,7 +1,8 @@
--- The opcodes of the profile: one table of their words, what their lines do, and the classes or the places that they give. The
--- manual has them in sections "Character-Definition Opcodes", "Translation Opcodes", "Braille Indicator Opcodes" and "Miscellaneous Opcodes".
+-- The opcodes of the profile: a table of their words, what their lines do, and the classes or the
+-- places that they give. The manual has them in sections "Character-Definition Opcodes", "Translation Opcodes", "Braille Indicator Opcodes" and "Miscellaneous Opcodes".
 -- That `capsign` is another name of `capsletter` is this project's own choice.
 use Rattle.std.specs.Prelude.{ℕ, List, [], ◌∷◌, codes, Option, Some, None, if◌then◌else◌}
+use Rattle.std.specs.Option.{option_or}
 use Rattle.std.specs.Str.{bytes_eq}
 use Rattle.brl_table.specs.declared.opcode.Opcode.{Opcode}
 use Rattle.brl_table.specs.declared.opcode.Opcode.TheVariants.{Plain, Literary, Uplow, Placed, Noback, Nofor, Display, Indicator, Listing, Include}
@@ -10,8 +11,9 @@ use Rattle.brl_table.specs.declared.place.Place.TheVariants.{Always, Word, Sufwo
 use Rattle.brl_table.specs.declared.table.Sign.TheVariants.{CapsLetter, NumSign, NoContractSign}
 use Rattle.brl_table.specs.Places.{space, punctuation, digit, letter, lowercase_letter, uppercase_letter, sign, math}
 
-abbrev pub opcodes : List (List ℕ × Opcode)
-opcodes =
+-- those that define characters
+abbrev pub character_opcodes : List (List ℕ × Opcode)
+character_opcodes =
     (codes "space", Plain space)
     ∷ (codes "punctuation", Plain punctuation)
     ∷ (codes "digit", Plain digit)
@@ -22,7 +24,12 @@ opcodes =
     ∷ (codes "math", Plain math)
     ∷ (codes "litdigit", Literary)
     ∷ (codes "uplow", Uplow)
-    ∷ (codes "always", Placed Always)
+    ∷ []
+
+-- those that give a rule for a place
+abbrev pub place_opcodes : List (List ℕ × Opcode)
+place_opcodes =
+    (codes "always", Placed Always)
     ∷ (codes "word", Placed Word)
     ∷ (codes "sufword", Placed Sufword)
     ∷ (codes "prfword", Placed Prfword)
@@ -35,7 +42,12 @@ opcodes =
     ∷ (codes "begnum", Placed Begnum)
     ∷ (codes "midnum", Placed Midnum)
     ∷ (codes "endnum", Placed Endnum)
-    ∷ (codes "noback", Noback)
+    ∷ []
+
+-- the others
+abbrev pub other_opcodes : List (List ℕ × Opcode)
+other_opcodes =
+    (codes "noback", Noback)
     ∷ (codes "nofor", Nofor)
     ∷ (codes "display", Display)
     ∷ (codes "capsletter", Indicator CapsLetter)
@@ -47,10 +59,10 @@ opcodes =
     ∷ (codes "include", Include)
     ∷ []
 
--- the entry of a word
+-- the entry of a word in one of the tables
 abbrev pub entry_of : List (List ℕ × Opcode) → List ℕ → Option Opcode
 entry_of [] word = None
 entry_of (entry ∷ others) word = if bytes_eq word entry.0 then Some entry.1 else entry_of others word
 
 abbrev pub opcode_of : List ℕ → Option Opcode
-opcode_of word = entry_of opcodes word
+opcode_of word = option_or (entry_of character_opcodes word) (option_or (entry_of place_opcodes word) (entry_of other_opcodes word))

@@ -1,5 +1,5 @@
 -- What the steps of reading a table keep: this speaks of private functions alone.
-use Rattle.std.specs.Prelude.{ℕ, ◌≡◌, ◌+◌, ◌≤◌, ◌<◌, true, false, ◌&&◌, ◌||◌, not, nat_eq, if◌then◌else◌, List, [], ◌∷◌, ◌++◌, length, map, slice_get, string_bytes, is_some, None, Result, Ok, Err, Some}
+use Rattle.std.specs.Prelude.{All, ℕ, ◌≡◌, ◌+◌, ◌≤◌, ◌<◌, true, false, ◌&&◌, ◌||◌, not, nat_eq, if◌then◌else◌, List, [], ◌∷◌, ◌++◌, length, map, slice_get, string_bytes, is_some, None, Result, Ok, Err, Some}
 use Rattle.std.specs.Int.RustNames.{bit_or}
 use Rattle.indexmap.specs.IndexSet.{contains}
 use Rattle.brl_lines.specs.Tokens.{LineView}
@@ -19,7 +19,8 @@ use Rattle.brl_table.specs.declared.table_fault.TableFault.{TableFault}
 use Rattle.brl_table.specs.declared.table_fault.TableFault.TheVariants as faults
 use Rattle.brl_table.specs.Items.{Fault, fault}
 use Rattle.brl_table.specs.Good.{IsGoodItem}
-use Rattle.brl_table.specs.Reading.{Listed, characters_alone, definitions, entries_said, fault_among, fault_behind, first_plain, is_twice, listed_said, notices_behind, rule_of, sign_said, used_in, used_rules}
+use Rattle.brl_table.specs.Limits.{IsRule}
+use Rattle.brl_table.specs.Reading.{Listed, PassesAll, PassesFirst, characters_alone, definitions, entries_said, fault_among, fault_behind, files_of, first_plain, is_twice, item_in, listed_said, notices_behind, rule_of, sign_said, used_in, used_rules}
 use Rattle.brl_table.specs.TableView.{TableView}
 
 -- what is known of a character by its first definition
@@ -121,6 +122,14 @@ Adds said line file want items characters signs used (Err line_faults.Memory) = 
 Adds said line file want items characters signs used (Err (line_faults.Wrong wrong subject)) =
     fault_behind said line want ≡ Some (fault wrong subject.now)
 
+-- these items are what all the lines say, which pass the first look
+pub record AreAdded (lines : List LineView) (said : List Item) (characters : Characters) (signs : Signs) (used : ℕ) : Type 0 where
+  pub aligned : map Ok said ≡ map (item_in (files_of lines)) lines
+  pub stands : StandFor said characters signs used
+  pub good : All (IsGoodItem (length (files_of lines))) said
+  pub within : AreWithin characters signs used
+  pub passed : PassesFirst lines
+
 -- what the second look sees of characters
 abbrev pub over : List (ℕ × Info) → TableView
 over characters = characters_alone characters [] []
@@ -151,3 +160,15 @@ LooksAgain characters line item old new (Ok done) =
 LooksAgain characters line item old new (Err line_faults.Memory) = Unit {0}
 LooksAgain characters line item old new (Err (line_faults.Wrong wrong subject)) =
     fault_among (over characters) line item ≡ Some (fault wrong subject.now)
+
+-- the lines pass both looks: these items are what they say, and these rules are the used ones
+pub record AreRead (lines : List LineView) (said : List Item) (characters : Characters) (signs : Signs) (used : ℕ) (rules : List Rule) : Type 0 where
+  pub aligned : map Ok said ≡ map (item_in (files_of lines)) lines
+  pub marked : AreMarked said characters
+  pub indicated : SignsStand said signs
+  pub good : All (IsGoodItem (length (files_of lines))) said
+  pub within : AreWithin characters signs used
+  pub few_rules : length rules ≤ 4096
+  pub rules_good : All (IsRule characters.infos.entries (length (files_of lines))) rules
+  pub rules_told : rules ≡ map (rule_of (over characters.infos.entries)) (used_rules said)
+  pub passed : PassesAll lines

@@ -4,7 +4,7 @@ use brl_cells::Cells;
 use std::alloc::{AllocError, AllocFailed};
 
 /// What a line says.
-#[derive(Debug, Drop)]
+#[derive(Drop)]
 pub enum Item {
     /// It defines a character.
     Defines(Definition),
@@ -22,7 +22,7 @@ pub enum Item {
 
 /// What a line says of a character: its classes, its cells and its fold. `file` is the number of the line's file,
 /// `line` its number there, from 1.
-#[derive(Debug, Drop)]
+#[derive(Drop)]
 pub struct Definition {
     pub character: char,
     /// Whether it is a `litdigit` line; else it is a plain one.
@@ -36,7 +36,7 @@ pub struct Definition {
 }
 
 /// The rule of a line, as it is written.
-#[derive(Debug, Drop)]
+#[derive(Drop)]
 pub struct RuleLine {
     pub place: Place,
     pub chars: Chars,
@@ -46,7 +46,7 @@ pub struct RuleLine {
 }
 
 /// How the line of a rule begins, and where it stands: `file` and `line` are as in a `Definition`.
-#[derive(Clone, Copy, Debug)]
+#[derive(Clone, Copy)]
 pub struct RuleHead {
     /// Whether the rule is used: one behind `nofor` isn't.
     pub used: bool,
@@ -57,14 +57,14 @@ pub struct RuleHead {
 }
 
 /// The characters of a line, and what it says of each.
-#[derive(Debug, Drop)]
+#[derive(Drop)]
 pub struct ListLine {
     pub role: Role,
     pub chars: Chars,
 }
 
 /// What a line says of each of its characters.
-#[derive(Clone, Copy, PartialEq, Eq, Debug)]
+#[derive(Clone, Copy, PartialEq, Eq)]
 pub enum Role {
     /// It keeps numeric mode.
     Mode,
@@ -73,7 +73,7 @@ pub enum Role {
 }
 
 /// What is wrong with a line, and the word of it that this is about; or memory was wanting.
-#[derive(Clone, Copy, Debug)]
+#[derive(Clone, Copy)]
 pub enum LineFault<'a> {
     Wrong(Wrong, &'a str),
     Memory,

@@ -1,12 +1,13 @@
-//! The opcodes of the profile. The one table of them stands in the definitions; this is proved to be that table.
+//! The opcodes of the profile. The table of them is in the definitions, in three parts; this is
+//! proved to be that table.
 ghost use Rattle.std.specs.Prelude.{◌≡◌};
-ghost use Rattle.brl_table.specs.Opcodes.{opcode_of};
+ghost use Rattle.brl_table.specs.Opcodes.{character_opcodes, entry_of, opcode_of, other_opcodes, place_opcodes};
 
 use crate::item::Role;
 use crate::{Class, Place, Sign};
 
 /// What a line with an opcode does.
-#[derive(Clone, Copy, PartialEq, Eq, Debug)]
+#[derive(Clone, Copy)]
 pub enum Opcode {
     /// Defines a character, with these classes: one character, then dots.
     Plain(Class),
@@ -35,6 +36,15 @@ pub enum Opcode {
 pub fn opcode_named(word: &str) -> Option<Opcode>
     ensures { result ≡ opcode_of word.now }
 {
+    character_opcode(word)
+        .or(place_opcode(word))
+        .or(other_opcode(word))
+}
+
+/// The opcode of a word, if its lines define characters.
+fn character_opcode(word: &str) -> Option<Opcode>
+    ensures { result ≡ entry_of character_opcodes word.now }
+{
     match word {
         "space" => Some(Opcode::Plain(Class::SPACE)),
         "punctuation" => Some(Opcode::Plain(Class::PUNCTUATION)),
@@ -46,6 +56,15 @@ pub fn opcode_named(word: &str) -> Option<Opcode>
         "math" => Some(Opcode::Plain(Class::MATH)),
         "litdigit" => Some(Opcode::Literary),
         "uplow" => Some(Opcode::Uplow),
+        _ => None,
+    }
+}
+
+/// The opcode of a word, if it is a place opcode.
+fn place_opcode(word: &str) -> Option<Opcode>
+    ensures { result ≡ entry_of place_opcodes word.now }
+{
+    match word {
         "always" => Some(Opcode::Placed(Place::Always)),
         "word" => Some(Opcode::Placed(Place::Word)),
         "sufword" => Some(Opcode::Placed(Place::Sufword)),
@@ -59,6 +78,15 @@ pub fn opcode_named(word: &str) -> Option<Opcode>
         "begnum" => Some(Opcode::Placed(Place::Begnum)),
         "midnum" => Some(Opcode::Placed(Place::Midnum)),
         "endnum" => Some(Opcode::Placed(Place::Endnum)),
+        _ => None,
+    }
+}
+
+/// The opcode of a word, if it is one of the others.
+fn other_opcode(word: &str) -> Option<Opcode>
+    ensures { result ≡ entry_of other_opcodes word.now }
+{
+    match word {
         "noback" => Some(Opcode::Noback),
         "nofor" => Some(Opcode::Nofor),
         "display" => Some(Opcode::Display),

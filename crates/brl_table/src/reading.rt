@@ -10,7 +10,9 @@ ghost use Rattle.brl_table.specs.Said.{
   listed_behind,
   over,
   Adds,
+  AreAdded,
   AreMarked,
+  AreRead,
   AreWithin,
   IsFaultAgain,
   LooksAgain,
@@ -64,18 +66,7 @@ pub fn read_table(alloc: Global, lines: &[Line<'_>]) -> Result<Table, TableFault
 {
     let files = file_names(alloc, lines)?;
     let mut said = Said::new(alloc);
-    for line in lines {
-        let file = place_of(files.as_slice(), line.file).unwrap();
-        match said.add(alloc, file, line) {
-            Ok(()) => {}
-            Err(fault) => return Err(fault_at(alloc, fault, line)),
-        }
-    }
-    mark(said.items.as_slice(), &mut said.characters);
-    let rules = match said.rules(alloc, lines) {
-        Ok(rules) => rules,
-        Err(fault) => return Err(fault),
-    };
+    let rules = said.read(alloc, files.as_slice(), lines)?;
     Ok(said.table(files, rules)?)
 }
 
@@ -104,6 +95,51 @@ impl Said {
             signs: Signs::new(alloc),
             used: 0,
         }
+    }
+
+    /// What lines of files with these names say, and their used rules; or the first fault.
+    fn read(
+        &mut self,
+        alloc: Global,
+        files: &[String],
+        lines: &[Line<'_>],
+    ) -> Result<Vec<Rule>, TableFault>
+        requires none { self.old.items.items ≡ [] }
+        requires stands { StandFor [] self.old.characters self.old.signs self.old.used }
+        requires within { AreWithin self.old.characters self.old.signs self.old.used }
+        requires named { map string_bytes files.now ≡ files_of (map line_view lines.now) }
+        ensures read { IfOk result (λ rules.
+            AreRead (map line_view lines.now) self.new.items.items self.new.characters self.new.signs self.new.used rules.items) }
+        ensures fault { IfErr result (IsFaultOf (map line_view lines.now)) }
+    {
+        self.add_all(alloc, files, lines)?;
+        mark(self.items.as_slice(), &mut self.characters);
+        self.rules(alloc, lines)
+    }
+
+    /// The first look at lines of files with these names.
+    fn add_all(
+        &mut self,
+        alloc: Global,
+        files: &[String],
+        lines: &[Line<'_>],
+    ) -> Result<(), TableFault>
+        requires none { self.old.items.items ≡ [] }
+        requires stands { StandFor [] self.old.characters self.old.signs self.old.used }
+        requires within { AreWithin self.old.characters self.old.signs self.old.used }
+        requires named { map string_bytes files.now ≡ files_of (map line_view lines.now) }
+        ensures added { OnOk result
+            (AreAdded (map line_view lines.now) self.new.items.items self.new.characters self.new.signs self.new.used) }
+        ensures fault { IfErr result (IsFaultOf (map line_view lines.now)) }
+    {
+        for line in lines {
+            let file = place_of(files, line.file).unwrap();
+            match self.add(alloc, file, line) {
+                Ok(()) => {}
+                Err(fault) => return Err(fault_at(alloc, fault, line)),
+            }
+        }
+        Ok(())
     }
 
     /// One more line, of the file with this number.

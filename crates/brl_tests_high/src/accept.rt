@@ -29,7 +29,8 @@ K1 Version line 1|BRLCERT 9;state 1 0 0 -;state 8 0 0 61;state 8 0 1 -;pair 1 2 
 K1 Version line 1|BRLCERT 2;state 1 0 0 -;state 8 0 0 61;state 8 0 1 -;pair 1 2 -;end 3 1;
 ";
 
-/// What is answered for the start alone and a table, the table's file, and the file that it may include.
+/// What is answered for the start alone and a table, the table's file, and the file that it may
+/// include.
 const TABLES: &str = "\
 1 states, 0 pairs||
 A2 StateMissing state 0 rule 0|include u.ctb|letter a 1;letter b 1
