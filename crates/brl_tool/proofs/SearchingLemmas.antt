@@ -4,11 +4,11 @@ use Rattle.std.specs.Io.KnownBytes.{Appends}
 use Rattle.std.specs.Prelude.{string_bytes}
 use Rattle.brl_accept.specs.Files.{IsTableOf}
 use Rattle.brl_cert.specs.Lines.{BodyView}
-use Rattle.brl_cert.specs.Reading.{Windows, spelling}
+use Rattle.brl_cert.specs.Reading.{Owing, spelling}
 use Rattle.brl_cert.specs.Sets.{sets_of}
 use Rattle.brl_cert.specs.Views.{listed}
 use Rattle.brl_cert.specs.declared.cert.Cert.{Cert}
-use Rattle.brl_cert.specs.declared.cert.Cert.TheVariants.{Window}
+use Rattle.brl_cert.specs.declared.cert.Cert.TheVariants.{Dues, Window}
 use Rattle.brl_pairs.specs.Pairs.{IsClosed}
 use Rattle.brl_search.specs.Answers.{HasReachedPairs, HasReachedStates, HasTwoEndsReached, IsCertified, IsWithin}
 use Rattle.brl_search.specs.Found.{IfCertified, IfUnconfirmed}
@@ -27,12 +27,12 @@ use Rattle.brl_tool.specs.declared.run_fault.RunFault.TheVariants.{OutputFailed}
 use Rattle.brl_tool.specs.declared.verdict.Told.{Told}
 use Rattle.brl_tool.specs.declared.verdict.Verdict.{Verdict}
 use Rattle.brl_tool.specs.declared.verdict.Verdict.TheVariants.{Certified, Clash, Limit, Unconfirmed}
-use Rattle.brl_window.specs.Windows.{window_machine}
-use Rattle.brl_window.specs.declared.state.WindowState.{WindowState}
+use Rattle.brl_dues.specs.Steps.{dues_machine}
+use Rattle.brl_dues.specs.declared.state.DuesState.{DuesState}
 
 -- the verdict that has a certificate says that the table has no clash
-verdict_of_cert : (t : TableView) (limit : ℕ) (body : BodyView WindowState) (verdict : Verdict) (text : List ℕ) → HasNoClash t → IsCertified (window_machine t) limit body
-    → cert_of verdict ≡ Some (spelling (Windows body)) → text ≡ certified_line (Windows body) → IsVerdict t limit verdict text
+verdict_of_cert : (t : TableView) (limit : ℕ) (body : BodyView DuesState) (verdict : Verdict) (text : List ℕ) → HasNoClash t → IsCertified (dues_machine t) limit body
+    → cert_of verdict ≡ Some (spelling (Owing body)) → text ≡ certified_line (Owing body) → IsVerdict t limit verdict text
 verdict_of_cert t limit body (Certified bytes) text none certified bytes_are text_is = (none, (body, certified, cc, text_is))
 verdict_of_cert t limit body Clash text none certified bytes_are text_is = cc
 verdict_of_cert t limit body Limit text none certified bytes_are text_is = cc
@@ -41,29 +41,30 @@ verdict_of_cert t limit body Unconfirmed text none certified bytes_are text_is =
 -- a certificate, told
 pub told_cert : (t : TableView) (limit : ℕ) (answer : Found) (cert : Cert) (told : Told) → answer ≡ found.Certified cert
     → IfCertified (λ body. HasNoClash t) answer
-    → IfCertified (λ body. IsClosed (window_machine t) (sets_of body)) answer
-    → IfCertified (HasReachedStates (window_machine t)) answer
-    → IfCertified (HasReachedPairs (window_machine t)) answer
+    → IfCertified (λ body. IsClosed (dues_machine t) (sets_of body)) answer
+    → IfCertified (HasReachedStates (dues_machine t)) answer
+    → IfCertified (HasReachedPairs (dues_machine t)) answer
     → IfCertified (IsWithin limit) answer
     → TellsCertificate cert told → IsVerdict t limit told.verdict (string_bytes told.text)
-told_cert t limit (found.Certified (Window body)) cert told same none closed states pairs within tells =
-    let it : cert ≡ Window body = cc in
-    let tells_it : TellsCertificate (Window body) told = subst (λ (c : Cert). TellsCertificate c told) it tells in
+told_cert t limit (found.Certified (Dues body)) cert told same none closed states pairs within tells =
+    let it : cert ≡ Dues body = cc in
+    let tells_it : TellsCertificate (Dues body) told = subst (λ (c : Cert). TellsCertificate c told) it tells in
     verdict_of_cert t limit (listed body.states body.pairs) told.verdict (string_bytes told.text) none
     (record { closed = closed; states = states; pairs = pairs; within = within }) tells_it.0 tells_it.1
+told_cert t limit (found.Certified (Window body)) cert told same none closed states pairs within tells = absurd none
 told_cert t limit (found.Clashing clash) cert told same none closed states pairs within tells = cc
 told_cert t limit (found.Limit s p) cert told same none closed states pairs within tells = cc
 
 -- two texts that aren't a clash, told
 pub told_texts : (t : TableView) (limit : ℕ) (answer : SearchFault) (left right text : List ℕ) → answer ≡ fault.Unconfirmed left right
     → IfUnconfirmed (λ left right. (cells : List ℕ) → IsClash t left right cells → ⊥) answer
-    → IfUnconfirmed (λ left right. HasTwoEndsReached (window_machine t)) answer
+    → IfUnconfirmed (λ left right. HasTwoEndsReached (dues_machine t)) answer
     → text ≡ unconfirmed_line left right → IsVerdict t limit Unconfirmed text
 told_texts t limit answer left right text same none ends text_is = (
   left,
   right,
   subst (IfUnconfirmed (λ left right. (cells : List ℕ) → IsClash t left right cells → ⊥)) same none,
-  subst (IfUnconfirmed (λ left right. HasTwoEndsReached (window_machine t))) same ends,
+  subst (IfUnconfirmed (λ left right. HasTwoEndsReached (dues_machine t))) same ends,
   text_is,
 )
 
@@ -90,7 +91,7 @@ searched_cut before behind path out limit old new t verdict bytes (Err e) same t
 pub certified_at_none : (before behind : Gives) (path out : List ℕ) (limit : ℕ) (old new : Option (List ℕ)) (verdict : Verdict) → Searches before behind path out limit old new (Ok verdict)
     → (status : ℕ) → status ≡ verdict_status verdict → status ≡ 0 → ReportsCertificate before behind path out old new
 certified_at_none before behind path out limit old new (Certified bytes) (t, table, files, (text, (none, (body, certified, bytes_are, text_is)), appends)) status is e =
-    ((t, table, none), (Windows body, subst (λ (b : List ℕ). FilesAfter before behind out (Some b)) bytes_are files, subst (Appends old new) text_is appends))
+    ((t, table, none), (Owing body, subst (λ (b : List ℕ). FilesAfter before behind out (Some b)) bytes_are files, subst (Appends old new) text_is appends))
 certified_at_none before behind path out limit old new Clash h status is e = absurd (none_is_one (sym e ∙ is))
 certified_at_none before behind path out limit old new Limit h status is e = absurd (none_is_three (sym e ∙ is))
 certified_at_none before behind path out limit old new Unconfirmed h status is e = absurd (none_is_three (sym e ∙ is))

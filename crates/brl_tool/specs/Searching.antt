@@ -1,12 +1,14 @@
 -- What a search of a table comes to, and what is written of it. The project's own choice.
-use Rattle.std.specs.Prelude.{ℕ, ◌≡◌, ◌<◌, List, ◌++◌, length, Option, None, Some, Result, Ok, Err, codes, string_bytes}
+use Rattle.std.specs.Prelude.{ℕ, ◌≡◌, List, ◌++◌, length, Option, None, Some, Result, Ok, Err, codes, string_bytes}
 use Rattle.std.specs.Io.KnownBytes.{Appends}
 use Rattle.std.specs.Str.{encode_utf8_all}
 use Rattle.brl_accept.specs.Files.{IsTableOf}
 use Rattle.brl_cert.specs.Lines.{BodyView}
-use Rattle.brl_cert.specs.Reading.{CertView, Windows, spelling}
+use Rattle.brl_cert.specs.Reading.{CertView, Owing, Windows, spelling}
 use Rattle.brl_cert.specs.Views.{cert_view}
 use Rattle.brl_cert.specs.declared.cert.Cert.{Cert}
+use Rattle.brl_dues.specs.Steps.{dues_machine}
+use Rattle.brl_dues.specs.declared.state.DuesState.{DuesState}
 use Rattle.brl_lines.specs.Spelling.{text_spelling}
 use Rattle.brl_report.specs.Report.{report_text}
 use Rattle.brl_search.specs.Answers.{HasTwoEndsReached, IsCertified, IsLimit}
@@ -16,13 +18,10 @@ use Rattle.brl_tool.specs.Counts.{counts_line}
 use Rattle.brl_tool.specs.Files.{AllStay, FilesAfter, Gives, OthersStay}
 use Rattle.brl_tool.specs.Work.{IsFaultAt}
 use Rattle.brl_tool.specs.declared.run_fault.RunFault.{RunFault}
-use Rattle.brl_tool.specs.declared.run_fault.RunFault.TheVariants.{Wide, CannotWrite, OutputFailed, Memory}
+use Rattle.brl_tool.specs.declared.run_fault.RunFault.TheVariants.{CannotWrite, OutputFailed, Memory}
 use Rattle.brl_tool.specs.declared.verdict.Told.{Told}
 use Rattle.brl_tool.specs.declared.verdict.Verdict.{Verdict}
 use Rattle.brl_tool.specs.declared.verdict.Verdict.TheVariants.{Certified, Clash, Limit, Unconfirmed}
-use Rattle.brl_window.specs.Width.{start_moves}
-use Rattle.brl_window.specs.Windows.{window_machine}
-use Rattle.brl_window.specs.declared.state.WindowState.{WindowState}
 
 -- ---- What is said of a table
 
@@ -43,6 +42,7 @@ unconfirmed_line left right =
 -- how many states and pairs a certificate has, behind the word
 abbrev pub certified_line : CertView → List ℕ
 certified_line (Windows body) = counts_line (codes "certified") (length body.states) (length body.pairs)
+certified_line (Owing body) = counts_line (codes "certified") (length body.states) (length body.pairs)
 
 -- the bytes of a certificate and its numbers are told
 abbrev pub TellsCertificate : Cert → Told → Type 0
@@ -51,16 +51,15 @@ TellsCertificate cert told = (cert_of told.verdict ≡ Some (spelling (cert_view
 -- what a search with this limit says of a table, and the text that tells it
 abbrev pub IsVerdict : TableView → ℕ → Verdict → List ℕ → Type 0
 IsVerdict t limit (Certified bytes) text =
-    HasNoClash t × ((body : BodyView WindowState) × IsCertified (window_machine t) limit body × (bytes.items ≡ spelling (Windows body)) × (text ≡ certified_line (Windows body)))
+    HasNoClash t × ((body : BodyView DuesState) × IsCertified (dues_machine t) limit body × (bytes.items ≡ spelling (Owing body)) × (text ≡ certified_line (Owing body)))
 IsVerdict t limit Clash text = (left right cells : List ℕ) × IsClash t left right cells × (text ≡ report_text t left right cells)
-IsVerdict t limit Limit text = (states pairs : ℕ) × IsLimit (window_machine t) limit states pairs × (text ≡ counts_line (codes "limit") states pairs)
+IsVerdict t limit Limit text = (states pairs : ℕ) × IsLimit (dues_machine t) limit states pairs × (text ≡ counts_line (codes "limit") states pairs)
 IsVerdict t limit Unconfirmed text =
-    (left right : List ℕ) × ((cells : List ℕ) → IsClash t left right cells → ⊥) × HasTwoEndsReached (window_machine t) × (text ≡ unconfirmed_line left right)
+    (left right : List ℕ) × ((cells : List ℕ) → IsClash t left right cells → ⊥) × HasTwoEndsReached (dues_machine t) × (text ≡ unconfirmed_line left right)
 
 -- what is told of a table
 abbrev pub Tells : TableView → ℕ → Result Told RunFault → Type 0
 Tells t limit (Ok told) = IsVerdict t limit told.verdict (string_bytes told.text)
-Tells t limit (Err (Wide fault)) = 10000 < start_moves t
 Tells t limit (Err Memory) = Unit {0}
 Tells t limit (Err fault) = ⊥
 
@@ -84,8 +83,6 @@ Searches before behind path out limit old new (Err OutputFailed) =
 Searches before behind path out limit old new (Err (CannotWrite named)) =
     (new ≡ old) × OthersStay before behind out × (string_bytes named ≡ out)
     × ((t : TableView) × IsTableOf before path t × HasNoClash t)
-Searches before behind path out limit old new (Err (Wide fault)) =
-    (new ≡ old) × AllStay before behind × ((t : TableView) × IsTableOf before path t × (10000 < start_moves t))
 Searches before behind path out limit old new (Err Memory) = (new ≡ old) × OthersStay before behind out
 Searches before behind path out limit old new (Err fault) = (new ≡ old) × AllStay before behind × IsFaultAt before path fault
 

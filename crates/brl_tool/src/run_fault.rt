@@ -13,7 +13,7 @@ pub const FAULT: u8 = 2;
 /// The status of want of memory.
 const WANT_OF_MEMORY: u8 = 3;
 
-/// The status of a table that is too wide for a certificate, or for a search.
+/// The status of a table that is too wide for a certificate of version 1.
 const TOO_WIDE: u8 = 3;
 
 /// The fault that ended the work. It is shown as the line that standard error gets.
@@ -31,7 +31,7 @@ pub enum RunFault {
     /// A text to be compared has a character that the table doesn't define.
     #[error("{0}")]
     Confirm(ConfirmFault),
-    /// The table has no machine of the kind that a certificate or a search asks for.
+    /// The certificate lists states of a window machine, and the table has none.
     #[error("{0}")]
     Wide(TooWide),
     /// The writer failed at what was found, or at help or the version; some first bytes of it may be written.

@@ -10,7 +10,6 @@ use brl_lines::spell_chars;
 use brl_report::report;
 use brl_search::{Found, SearchFault, search};
 use brl_table::Table;
-use brl_window::TooWide;
 use std::alloc::{AllocError, Global};
 
 /// What a search says of a table.
@@ -62,6 +61,7 @@ fn certified(alloc: Global, cert: &Cert) -> Result<Told, AllocError>
     let bytes = write_cert(alloc, cert)?;
     let (states, pairs) = match cert {
         Cert::Window(body) => (body.states.len(), body.pairs.len()),
+        Cert::Dues(body) => (body.states.len(), body.pairs.len()),
     };
     Ok(Told {
         verdict: Verdict::Certified(bytes),
@@ -96,7 +96,6 @@ pub fn decide(alloc: Global, table: &Table, limit: u32) -> Result<Told, RunFault
             verdict: Verdict::Unconfirmed,
             text: unconfirmed_text(alloc, left.as_slice(), right.as_slice())?,
         }),
-        Err(SearchFault::TooWide) => Err(RunFault::Wide(TooWide)),
         Err(SearchFault::Memory) => Err(RunFault::Memory),
     }
 }
