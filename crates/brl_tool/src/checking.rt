@@ -53,7 +53,8 @@ fn judge_files<S: Source>(
 }
 
 /// Judges the certificate in one file for the table of another, and writes the line that tells it. Nothing is written where
-/// the certificate's file can't be read, or the table has a fault or is too wide.
+/// the certificate's file can't be read, or the table has a fault or is too wide for a certificate of
+/// version 1.
 pub fn check_by_file<S: Source, W: Output>(
     alloc: Global,
     source: &mut S,

@@ -27,8 +27,8 @@ const CLASH: u8 = 1;
 
 /// Does what the words ask for, and answers the exit status: 0 where the work was done, 1 where two texts clash or a
 /// certificate is refused, 2 where the words, a file, the table, a text, the input or the output had a fault, and 3 for want
-/// of memory, for a table that is too wide and for a search that decided nothing. The first of the words is the program's
-/// name.
+/// of memory, for a search that decided nothing and for a table that is too wide for a certificate of version 1. The first
+/// of the words is the program's name.
 ///
 /// Standard output gets the translation, what was found of two texts, of a certificate or by a search, or help or the version
 /// where these are asked for. Standard error gets the notices of a table that is searched, one line for a fault, or the text

@@ -49,7 +49,8 @@ impl RunFault {
     ghost use Rattle.std.specs.Prelude.{◌≡◌};
     ghost use Rattle.brl_tool.specs.Status.{status_of};
 
-    /// The exit status: 3 for want of memory and for a table that is too wide, else 2.
+    /// The exit status: 3 for want of memory and for a table that is too wide for a certificate of
+    /// version 1, else 2.
     pub fn status(&self) -> u8
         ensures { result ≡ status_of self.now }
     {

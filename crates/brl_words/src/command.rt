@@ -71,7 +71,7 @@ const STATUSES: &str = "Exit status:
      of a search: it found a certificate
   1  two texts clash; a certificate is refused
   2  the words, a file, the table, a text, the input or the output had a fault, which standard error names in one line
-  3  there was not enough memory, a table is too wide, or a search decided nothing
+  3  there was not enough memory, a search decided nothing, or a table is too wide for a certificate of version 1
 
 'brl COMMAND --help' says more of a command, with an example.";
 
@@ -230,8 +230,8 @@ than N pairs are found, nothing is decided, and the status is 3.",
   brl check ab.ctb ab.cert
 
 It prints:
-  certified: 4 states, 12 pairs
-  accepted: 4 states, 12 pairs",
+  certified: 2 states, 0 pairs
+  accepted: 2 states, 0 pairs",
     choice: Some(Choice::Limit),
     operands: &[
         TABLE,
