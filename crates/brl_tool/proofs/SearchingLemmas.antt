@@ -1,5 +1,6 @@
 -- What a search of a table says, told.
-use Rattle.std.proofs.Common.{◌≡◌, ◌∙◌, ℕ, List, ◌++◌, Option, Some, None, Result, Ok, Err, IsErrAnd, subst, sym}
+use Rattle.std.proofs.Common.{◌≡◌, ◌∙◌, ℕ, List, ◌++◌, Option, Some, None, Result, Ok, Err, IsErrAnd, IfErr, IfOk, String, subst, sym}
+use Rattle.std.specs.Global.{Global}
 use Rattle.std.specs.Io.KnownBytes.{Appends}
 use Rattle.std.specs.Prelude.{string_bytes}
 use Rattle.brl_accept.specs.Files.{IsTableOf}
@@ -9,6 +10,8 @@ use Rattle.brl_cert.specs.Sets.{sets_of}
 use Rattle.brl_cert.specs.Views.{listed}
 use Rattle.brl_cert.specs.declared.cert.Cert.{Cert}
 use Rattle.brl_cert.specs.declared.cert.Cert.TheVariants.{Dues, Window}
+use Rattle.brl_dues.specs.Steps.{dues_machine}
+use Rattle.brl_dues.specs.declared.state.DuesState.{DuesState}
 use Rattle.brl_pairs.specs.Pairs.{IsClosed}
 use Rattle.brl_search.specs.Answers.{HasReachedPairs, HasReachedStates, HasTwoEndsReached, IsCertified, IsWithin}
 use Rattle.brl_search.specs.Found.{IfCertified, IfUnconfirmed}
@@ -19,16 +22,14 @@ use Rattle.brl_search.specs.declared.found.Found.TheVariants as found
 use Rattle.brl_table.specs.TableView.{TableView}
 use Rattle.brl_table.specs.Translation.{IsClash}
 use Rattle.brl_tool.proofs.StatusLemmas.{none_is_one, none_is_three}
-use Rattle.brl_tool.specs.Files.{AllStay, FilesAfter, Gives}
+use Rattle.brl_tool.specs.Files.{AllStay, FilesAfter, Gives, OthersStay}
 use Rattle.brl_tool.specs.Running.{verdict_status}
-use Rattle.brl_tool.specs.Searching.{HasNoClash, IsVerdict, ReportsCertificate, Searches, TellsCertificate, cert_of, certified_line, unconfirmed_line}
+use Rattle.brl_tool.specs.Searching.{HasNoClash, IsVerdict, ReportsCertificate, Searches, SearchesTable, Tells, TellsCertificate, cert_of, certified_line, unconfirmed_line}
 use Rattle.brl_tool.specs.declared.run_fault.RunFault.{RunFault}
-use Rattle.brl_tool.specs.declared.run_fault.RunFault.TheVariants.{OutputFailed}
+use Rattle.brl_tool.specs.declared.run_fault.RunFault.TheVariants.{Load, Table, Stream, Confirm, Wide, OutputFailed, CannotWrite, Memory}
 use Rattle.brl_tool.specs.declared.verdict.Told.{Told}
 use Rattle.brl_tool.specs.declared.verdict.Verdict.{Verdict}
 use Rattle.brl_tool.specs.declared.verdict.Verdict.TheVariants.{Certified, Clash, Limit, Unconfirmed}
-use Rattle.brl_dues.specs.Steps.{dues_machine}
-use Rattle.brl_dues.specs.declared.state.DuesState.{DuesState}
 
 -- the verdict that has a certificate says that the table has no clash
 verdict_of_cert : (t : TableView) (limit : ℕ) (body : BodyView DuesState) (verdict : Verdict) (text : List ℕ) → HasNoClash t → IsCertified (dues_machine t) limit body
@@ -55,6 +56,29 @@ told_cert t limit (found.Certified (Window body)) cert told same none closed sta
 told_cert t limit (found.Clashing clash) cert told same none closed states pairs within tells = cc
 told_cert t limit (found.Limit s p) cert told same none closed states pairs within tells = cc
 
+-- a verdict with its text is what is told of the table, or memory is wanting
+pub told_with : {E : Type 0} (t : TableView) (limit : ℕ) (verdict : Verdict) (text : Result (String Global) E) (result : Result Told RunFault)
+    → IfOk text (λ s. IsVerdict t limit verdict (string_bytes s))
+    → IfOk result (λ told. (told.verdict ≡ verdict) × (text ≡ Ok told.text)) → IfErr result (λ fault. fault ≡ Memory) → Tells t limit result
+told_with {E} t limit verdict text (Ok told) made (is, text_is) none =
+    subst (λ (v : Verdict). IsVerdict t limit v (string_bytes told.text)) (sym is)
+    (subst (λ (x : Result (String Global) E). IfOk x (λ s. IsVerdict t limit verdict (string_bytes s))) text_is made)
+told_with {E} t limit verdict text (Err fault) made none is =
+    subst (λ (f : RunFault). Tells t limit (Err f)) (sym is) tt
+
+-- the certificate of an answer is told, or memory is wanting
+pub told_certificate : (t : TableView) (limit : ℕ) (answer : Found) (cert : Cert) (result : Result Told RunFault) → answer ≡ found.Certified cert
+    → IfCertified (λ body. HasNoClash t) answer
+    → IfCertified (λ body. IsClosed (dues_machine t) (sets_of body)) answer
+    → IfCertified (HasReachedStates (dues_machine t)) answer
+    → IfCertified (HasReachedPairs (dues_machine t)) answer
+    → IfCertified (IsWithin limit) answer
+    → IfOk result (TellsCertificate cert) → IfErr result (λ fault. fault ≡ Memory) → Tells t limit result
+told_certificate t limit answer cert (Ok told) same none closed states pairs within tells fault =
+    told_cert t limit answer cert told same none closed states pairs within tells
+told_certificate t limit answer cert (Err fault) same none closed states pairs within tells is =
+    subst (λ (f : RunFault). Tells t limit (Err f)) (sym is) tt
+
 -- two texts that aren't a clash, told
 pub told_texts : (t : TableView) (limit : ℕ) (answer : SearchFault) (left right text : List ℕ) → answer ≡ fault.Unconfirmed left right
     → IfUnconfirmed (λ left right. (cells : List ℕ) → IsClash t left right cells → ⊥) answer
@@ -68,29 +92,59 @@ told_texts t limit answer left right text same none ends text_is = (
   text_is,
 )
 
+-- the same of the line that is made of them, if it is
+pub told_unconfirmed : {E : Type 0} (t : TableView) (limit : ℕ) (answer : SearchFault) (left right : List ℕ) (text : Result (String Global) E) → answer ≡ fault.Unconfirmed left right
+    → IfUnconfirmed (λ left right. (cells : List ℕ) → IsClash t left right cells → ⊥) answer
+    → IfUnconfirmed (λ left right. HasTwoEndsReached (dues_machine t)) answer
+    → IfOk text (λ s. string_bytes s ≡ unconfirmed_line left right) → IfOk text (λ s. IsVerdict t limit Unconfirmed (string_bytes s))
+told_unconfirmed {E} t limit answer left right (Ok s) same none ends text_is = told_texts t limit answer left right (string_bytes s) same none ends text_is
+told_unconfirmed {E} t limit answer left right (Err e) same none ends text_is = tt
+
 -- ---- The files
+
+-- the same of all paths but one
+others_after : (before between behind : Gives) (out : List ℕ) → AllStay before between → OthersStay between behind out → OthersStay before behind out
+others_after before between behind out same others =
+    λ p a other. ((λ h. (same p a).0 ((others p a other).0 h)), (λ h. (others p a other).1 ((same p a).1 h)))
 
 -- what a source may give behind a read, and then behind a write, if any
 pub files_after : (before between behind : Gives) (out : List ℕ) (cert : Option (List ℕ)) → AllStay before between → FilesAfter between behind out cert → FilesAfter before behind out cert
 files_after before between behind out None same after =
     λ p a. ((λ h. (same p a).0 ((after p a).0 h)), (λ h. (after p a).1 ((same p a).1 h)))
 files_after before between behind out (Some bytes) same after =
-    (after.0, λ p a other. ((λ h. (same p a).0 ((after.1 p a other).0 h)), (λ h. (after.1 p a other).1 ((same p a).1 h))))
+    (after.0, others_after before between behind out same after.1)
+
+-- what becomes of a table's search behind a read is what becomes of it before
+pub searched : (before between behind : Gives) (path out : List ℕ) (limit : ℕ) (old new : Option (List ℕ)) (t : TableView) (result : Result Verdict RunFault)
+    → IsTableOf before path t → AllStay before between → SearchesTable t between behind out limit old new result → Searches before behind path out limit old new result
+searched before between behind path out limit old new t (Ok verdict) table same (files, told) =
+    (t, table, (files_after before between behind out (cert_of verdict) same files, told))
+searched before between behind path out limit old new t (Err (Load fault)) table same none = absurd none
+searched before between behind path out limit old new t (Err (Table fault)) table same none = absurd none
+searched before between behind path out limit old new t (Err (Stream fault)) table same none = absurd none
+searched before between behind path out limit old new t (Err (Confirm fault)) table same none = absurd none
+searched before between behind path out limit old new t (Err (Wide fault)) table same none = absurd none
+searched before between behind path out limit old new t (Err OutputFailed) table same (verdict, files, cut) =
+    (t, table, (verdict, files_after before between behind out (cert_of verdict) same files, cut))
+searched before between behind path out limit old new t (Err (CannotWrite named)) table same (still, files, named_is, none) =
+    (t, table, (still, others_after before between behind out same files, named_is, none))
+searched before between behind path out limit old new t (Err Memory) table same (still, files) =
+    (still, others_after before between behind out same files)
 
 -- the writer failed at the verdict
-pub searched_cut : (before behind : Gives) (path out : List ℕ) (limit : ℕ) (old new : Option (List ℕ)) (t : TableView) (verdict : Verdict) (bytes : List ℕ) (result : Result Verdict RunFault)
-    → IsErrAnd result (λ e. e ≡ OutputFailed) → IsTableOf before path t → FilesAfter before behind out (cert_of verdict) → IsVerdict t limit verdict bytes
-    → ((front rest : List ℕ) × (bytes ≡ front ++ rest) × Appends old new front) → Searches before behind path out limit old new result
-searched_cut before behind path out limit old new t verdict bytes (Ok x) bad table files is cut = absurd bad
-searched_cut before behind path out limit old new t verdict bytes (Err e) same table files is (front, rest, whole, appends) =
-    subst (λ (f : RunFault). Searches before behind path out limit old new (Err f)) (sym same)
-    (t, table, (verdict, files, (front, rest, subst (IsVerdict t limit verdict) whole is, appends)))
+pub searched_cut : (before behind : Gives) (out : List ℕ) (limit : ℕ) (old new : Option (List ℕ)) (t : TableView) (verdict : Verdict) (bytes : List ℕ) (result : Result Verdict RunFault)
+    → IsErrAnd result (λ e. e ≡ OutputFailed) → FilesAfter before behind out (cert_of verdict) → IsVerdict t limit verdict bytes
+    → ((front rest : List ℕ) × (bytes ≡ front ++ rest) × Appends old new front) → SearchesTable t before behind out limit old new result
+searched_cut before behind out limit old new t verdict bytes (Ok x) bad files is cut = absurd bad
+searched_cut before behind out limit old new t verdict bytes (Err e) same files is (front, rest, whole, appends) =
+    subst (λ (f : RunFault). SearchesTable t before behind out limit old new (Err f)) (sym same)
+    (verdict, files, (front, rest, subst (IsVerdict t limit verdict) whole is, appends))
 
 -- ---- What the status says
 
 pub certified_at_none : (before behind : Gives) (path out : List ℕ) (limit : ℕ) (old new : Option (List ℕ)) (verdict : Verdict) → Searches before behind path out limit old new (Ok verdict)
     → (status : ℕ) → status ≡ verdict_status verdict → status ≡ 0 → ReportsCertificate before behind path out old new
-certified_at_none before behind path out limit old new (Certified bytes) (t, table, files, (text, (none, (body, certified, bytes_are, text_is)), appends)) status is e =
+certified_at_none before behind path out limit old new (Certified bytes) (t, table, (files, (text, (none, (body, certified, bytes_are, text_is)), appends))) status is e =
     ((t, table, none), (Owing body, subst (λ (b : List ℕ). FilesAfter before behind out (Some b)) bytes_are files, subst (Appends old new) text_is appends))
 certified_at_none before behind path out limit old new Clash h status is e = absurd (none_is_one (sym e ∙ is))
 certified_at_none before behind path out limit old new Limit h status is e = absurd (none_is_three (sym e ∙ is))

@@ -1,5 +1,5 @@
 -- How the work ends where the stream ends by a fault.
-use Rattle.std.proofs.Common.{◌≡◌, ℕ, List, Option, Some, Result, Ok, Err, IsErrAnd, inr, subst, sym}
+use Rattle.std.proofs.Common.{◌≡◌, ℕ, List, Option, Some, Err, inr, subst, sym}
 use Rattle.brl_accept.specs.Files.{IsTableOf}
 use Rattle.brl_lines.specs.Answer.{Answer}
 use Rattle.brl_table.specs.TableView.{TableView}
@@ -17,7 +17,6 @@ works_by_stream gives path form input old new t stream.Memory table written = in
 works_by_stream gives path form input old new t (stream.AtLine n fault) table written = (t, table, written)
 
 -- the work that answers that fault
-pub works_at_error : (gives : List ℕ → Answer → Type 0) (path : List ℕ) (form : Form) (input : Option (List ℕ)) (old : Option (List ℕ)) (new : Option (List ℕ)) (t : TableView) (fault : StreamFault) (result : Result (Unit {0}) RunFault) → IsErrAnd result (λ e. e ≡ of_stream fault) → IsTableOf gives path t → ((bytes : List ℕ) → input ≡ Some bytes → HasWritten (verdict t form bytes) old new (Err fault)) → Works gives path form input old new result
-works_at_error gives path form input old new t fault (Ok done) bad table written = absurd bad
-works_at_error gives path form input old new t fault (Err e) same table written =
+pub works_at_error : (gives : List ℕ → Answer → Type 0) (path : List ℕ) (form : Form) (input : Option (List ℕ)) (old : Option (List ℕ)) (new : Option (List ℕ)) (t : TableView) (fault : StreamFault) (error : RunFault) → error ≡ of_stream fault → IsTableOf gives path t → ((bytes : List ℕ) → input ≡ Some bytes → HasWritten (verdict t form bytes) old new (Err fault)) → Works gives path form input old new (Err error)
+works_at_error gives path form input old new t fault error same table written =
     subst (λ (f : RunFault). Works gives path form input old new (Err f)) (sym same) (works_by_stream gives path form input old new t fault table written)

@@ -18,7 +18,7 @@ use Rattle.brl_tool.specs.Counts.{counts_line}
 use Rattle.brl_tool.specs.Files.{AllStay, FilesAfter, Gives, OthersStay}
 use Rattle.brl_tool.specs.Work.{IsFaultAt}
 use Rattle.brl_tool.specs.declared.run_fault.RunFault.{RunFault}
-use Rattle.brl_tool.specs.declared.run_fault.RunFault.TheVariants.{CannotWrite, OutputFailed, Memory}
+use Rattle.brl_tool.specs.declared.run_fault.RunFault.TheVariants.{Load, Table, CannotWrite, OutputFailed, Memory}
 use Rattle.brl_tool.specs.declared.verdict.Told.{Told}
 use Rattle.brl_tool.specs.declared.verdict.Verdict.{Verdict}
 use Rattle.brl_tool.specs.declared.verdict.Verdict.TheVariants.{Certified, Clash, Limit, Unconfirmed}
@@ -71,20 +71,26 @@ IsFaultOfOut out (CannotWrite named) = string_bytes named ≡ out
 IsFaultOfOut out Memory = Unit {0}
 IsFaultOfOut out fault = ⊥
 
--- What a search of the table of the file at a path comes to: a certificate is written to the file OUT, and no other file changes;
--- where there is none, no file changes.
+-- What a search of a table comes to: a certificate is written to the file OUT, and no other file changes; where there is none, no file
+-- changes.
+abbrev pub SearchesTable : TableView → Gives → Gives → List ℕ → ℕ → Option (List ℕ) → Option (List ℕ) → Result Verdict RunFault → Type 0
+SearchesTable t before behind out limit old new (Ok verdict) =
+    FilesAfter before behind out (cert_of verdict) × ((text : List ℕ) × IsVerdict t limit verdict text × Appends old new text)
+SearchesTable t before behind out limit old new (Err OutputFailed) =
+    (verdict : Verdict) × FilesAfter before behind out (cert_of verdict)
+    × ((front rest : List ℕ) × IsVerdict t limit verdict (front ++ rest) × Appends old new front)
+SearchesTable t before behind out limit old new (Err (CannotWrite named)) =
+    (new ≡ old) × OthersStay before behind out × (string_bytes named ≡ out) × HasNoClash t
+SearchesTable t before behind out limit old new (Err Memory) = (new ≡ old) × OthersStay before behind out
+SearchesTable t before behind out limit old new (Err fault) = ⊥
+
+-- the same of the table of the file at a path
 abbrev pub Searches : Gives → Gives → List ℕ → List ℕ → ℕ → Option (List ℕ) → Option (List ℕ) → Result Verdict RunFault → Type 0
-Searches before behind path out limit old new (Ok verdict) =
-    (t : TableView) × IsTableOf before path t × FilesAfter before behind out (cert_of verdict)
-    × ((text : List ℕ) × IsVerdict t limit verdict text × Appends old new text)
-Searches before behind path out limit old new (Err OutputFailed) =
-    (t : TableView) × IsTableOf before path t × ((verdict : Verdict) × FilesAfter before behind out (cert_of verdict)
-    × ((front rest : List ℕ) × IsVerdict t limit verdict (front ++ rest) × Appends old new front))
-Searches before behind path out limit old new (Err (CannotWrite named)) =
-    (new ≡ old) × OthersStay before behind out × (string_bytes named ≡ out)
-    × ((t : TableView) × IsTableOf before path t × HasNoClash t)
+Searches before behind path out limit old new (Err (Load fault)) = (new ≡ old) × AllStay before behind × IsFaultAt before path (Load fault)
+Searches before behind path out limit old new (Err (Table fault)) = (new ≡ old) × AllStay before behind × IsFaultAt before path (Table fault)
 Searches before behind path out limit old new (Err Memory) = (new ≡ old) × OthersStay before behind out
-Searches before behind path out limit old new (Err fault) = (new ≡ old) × AllStay before behind × IsFaultAt before path fault
+Searches before behind path out limit old new outcome =
+    (t : TableView) × IsTableOf before path t × SearchesTable t before behind out limit old new outcome
 
 -- a certificate was written, and no two texts of the table of the file at the path clash
 abbrev pub ReportsCertificate : Gives → Gives → List ℕ → List ℕ → Option (List ℕ) → Option (List ℕ) → Type 0

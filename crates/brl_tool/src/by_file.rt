@@ -38,8 +38,10 @@ pub fn translate_by_file<S: Source, R: Input, W: Output>(
     ensures same { AllStay (S.gives source.old) (S.gives source.new) }
 {
     let table = table_at(alloc, source, path)?;
-    translate_lines(alloc, &table, form, reader, writer)?;
-    Ok(())
+    match translate_lines(alloc, &table, form, reader, writer) {
+        Ok(()) => Ok(()),
+        Err(fault) => Err(fault.into()),
+    }
 }
 
 /// Compares two texts by the table whose file stands at a path, and writes what it finds: the report of a clash, or `no

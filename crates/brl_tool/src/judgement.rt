@@ -10,7 +10,7 @@ use brl_cert::CertFault;
 use std::alloc::{AllocError, Global};
 
 /// What a certificate is found to be for a table.
-#[derive(PartialEq, Eq, Debug, Drop)]
+#[derive(Drop)]
 pub enum Judgement {
     /// It is accepted.
     Accepting(Accepted),

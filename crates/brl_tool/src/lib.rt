@@ -11,11 +11,7 @@ mod judgement;
 mod notices;
 mod program;
 mod run_fault;
-#[cfg(test)]
-mod run_tests;
 mod searching;
-#[cfg(test)]
-mod tests;
 mod verdict;
 
 pub use brl_stream::{

@@ -1,13 +1,14 @@
 //! Searching the table at one path for a certificate that is written to another.
 ghost use Rattle.std.specs.Prelude.{IfErr, IsSome, OnErr, OnOk};
 ghost use Rattle.brl_tool.specs.Files.{FilesAfter, GivesAlso, OthersStay};
-ghost use Rattle.brl_tool.specs.Searching.{IsFaultOfOut, Searches, cert_of};
+ghost use Rattle.brl_tool.specs.Searching.{IsFaultOfOut, Searches, SearchesTable, cert_of};
 
 use crate::by_file::table_at;
 use crate::notices::tell_notices;
 use crate::run_fault::RunFault;
 use crate::verdict::{Verdict, decide};
 use crate::{Files, Output, SinkFault};
+use brl_table::Table;
 use std::alloc::Global;
 use std::io::Write;
 
@@ -67,8 +68,24 @@ pub fn search_by_file<F: Files, W: Output, E: Write>(
         (W.contents writer.new) result }
 {
     let table = table_at(alloc, files, path)?;
-    tell_notices(alloc, &table, err)?;
-    let told = decide(alloc, &table, limit)?;
+    search_table(alloc, files, &table, out, limit, writer, err)
+}
+
+/// The same of a table.
+fn search_table<F: Files, W: Output, E: Write>(
+    alloc: Global,
+    files: &mut F,
+    table: &Table,
+    out: &str,
+    limit: u32,
+    writer: &mut W,
+    err: &mut E,
+) -> Result<Verdict, RunFault>
+    ensures { SearchesTable table.now (F.gives files.old) (F.gives files.new) out.now limit (W.contents writer.old)
+        (W.contents writer.new) result }
+{
+    tell_notices(alloc, table, err)?;
+    let told = decide(alloc, table, limit)?;
     keep(alloc, files, out, &told.verdict)?;
     writer.put(told.text.as_bytes())?;
     Ok(told.verdict)

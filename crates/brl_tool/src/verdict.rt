@@ -1,5 +1,5 @@
 //! What a search says of a table, and how it is told.
-ghost use Rattle.std.specs.Prelude.{◌≡◌, IfOk, string_bytes};
+ghost use Rattle.std.specs.Prelude.{◌≡◌, IfErr, IfOk, Ok, string_bytes};
 ghost use Rattle.brl_tool.specs.Running.{verdict_status};
 ghost use Rattle.brl_tool.specs.Searching.{Tells, TellsCertificate, unconfirmed_line};
 
@@ -13,7 +13,7 @@ use brl_table::Table;
 use std::alloc::{AllocError, Global};
 
 /// What a search says of a table.
-#[derive(PartialEq, Eq, Debug, Drop)]
+#[derive(Drop)]
 pub enum Verdict {
     /// No two texts clash. These are the bytes of a certificate.
     Certified(Vec<u8>),
@@ -48,25 +48,35 @@ impl Verdict {
 }
 
 /// A verdict, and the text that tells it.
-#[derive(PartialEq, Eq, Debug, Drop)]
+#[derive(Drop)]
 pub struct Told {
     pub verdict: Verdict,
     pub text: String,
 }
 
+/// A verdict with its text, once that is made.
+fn with_text(verdict: Verdict, text: Result<String, AllocError>) -> Result<Told, RunFault>
+    ensures told { IfOk result (λ told. (told.verdict ≡ verdict) × (text ≡ Ok told.text)) }
+    ensures fault { IfErr result (λ fault. fault ≡ RunFault.Memory) }
+{
+    match text {
+        Ok(text) => Ok(Told { verdict, text }),
+        Err(_) => Err(RunFault::Memory),
+    }
+}
+
 /// A certificate, told.
-fn certified(alloc: Global, cert: &Cert) -> Result<Told, AllocError>
-    ensures { IfOk result (TellsCertificate cert.now) }
+fn certified(alloc: Global, cert: &Cert) -> Result<Told, RunFault>
+    ensures told { IfOk result (TellsCertificate cert.now) }
+    ensures fault { IfErr result (λ fault. fault ≡ RunFault.Memory) }
 {
     let bytes = write_cert(alloc, cert)?;
     let (states, pairs) = match cert {
         Cert::Window(body) => (body.states.len(), body.pairs.len()),
         Cert::Dues(body) => (body.states.len(), body.pairs.len()),
     };
-    Ok(Told {
-        verdict: Verdict::Certified(bytes),
-        text: counts_text(alloc, "certified", states as u64, pairs as u64)?,
-    })
+    let text = counts_text(alloc, "certified", states as u64, pairs as u64);
+    with_text(Verdict::Certified(bytes), text)
 }
 
 /// The line of two texts that aren't a clash.
@@ -83,19 +93,15 @@ pub fn decide(alloc: Global, table: &Table, limit: u32) -> Result<Told, RunFault
     ensures { Tells table.now limit result }
 {
     match search(alloc, table, u64::from(limit)) {
-        Ok(Found::Certified(cert)) => Ok(certified(alloc, &cert)?),
-        Ok(Found::Clashing(clash)) => Ok(Told {
-            verdict: Verdict::Clash,
-            text: report(alloc, table, &clash)?,
-        }),
-        Ok(Found::Limit { states, pairs }) => Ok(Told {
-            verdict: Verdict::Limit,
-            text: counts_text(alloc, "limit", states, pairs)?,
-        }),
-        Err(SearchFault::Unconfirmed(left, right)) => Ok(Told {
-            verdict: Verdict::Unconfirmed,
-            text: unconfirmed_text(alloc, left.as_slice(), right.as_slice())?,
-        }),
+        Ok(Found::Certified(cert)) => certified(alloc, &cert),
+        Ok(Found::Clashing(clash)) => with_text(Verdict::Clash, report(alloc, table, &clash)),
+        Ok(Found::Limit { states, pairs }) => {
+            with_text(Verdict::Limit, counts_text(alloc, "limit", states, pairs))
+        }
+        Err(SearchFault::Unconfirmed(left, right)) => {
+            let text = unconfirmed_text(alloc, left.as_slice(), right.as_slice());
+            with_text(Verdict::Unconfirmed, text)
+        }
         Err(SearchFault::Memory) => Err(RunFault::Memory),
     }
 }

@@ -1,8 +1,10 @@
 //! Worked runs of `brl search`: what it writes is checked, and what it reports is compared.
-use super::devices::Sealed;
-use super::{Outcome, cases, cut, files_of, lines_of, outcome_of};
-use crate::SinkFault;
+use crate::cases;
+use crate::files::Sealed;
+use crate::runs::{Outcome, files_of, is_answered, outcome_of};
 use brl_lines::MapSource;
+use brl_testing::{cut, lines_of};
+use brl_tool::SinkFault;
 use std::alloc::Global;
 use std::test::Fail;
 
@@ -38,24 +40,31 @@ fn labelled<'a>(report: &'a str, label: &str) -> Result<&'a str, Fail> {
     Err(Fail::from("no such line"))
 }
 
-/// Whether the two texts of a report clash, with that same report, and no certificate was written.
-fn is_reported(alloc: Global, files: &mut MapSource, told: &[u8]) -> Result<bool, Fail> {
-    let report = std::str::from_utf8(told)?;
+/// The words that compare the two texts of a report.
+fn comparison(alloc: Global, report: &str) -> Result<String, Fail> {
     let left = labelled(report, "left: ")?;
     let right = labelled(report, "right: ")?;
-    let words = format!(in alloc; "brl,clash,t.ctb,{left},{right}")?;
+    Ok(format!(in alloc; "brl,clash,t.ctb,{left},{right}")?)
+}
+
+/// Whether the two texts of a report clash, with that same report, and no certificate was written.
+fn is_reported(alloc: Global, files: &mut MapSource, told: &[u8]) -> Result<bool, Fail> {
+    let words = comparison(alloc, std::str::from_utf8(told)?)?;
     let compared = outcome_of(alloc, words.as_str(), files, b"")?;
     Ok(compared.is(told, b"", 1) && files.files.get("o").is_none())
 }
 
 /// Whether a table is certified, with these notices, and its certificate is accepted.
-fn is_certified(alloc: Global, row: &str) -> Result<bool, Fail> {
-    let (lines, notices) = cut(row)?;
-    let mut files = table_of(alloc, lines)?;
-    let found = outcome_of(alloc, SEARCH, &mut files, b"")?;
+fn is_certified_so(alloc: Global, files: &mut MapSource, notices: &str) -> Result<bool, Fail> {
+    let found = outcome_of(alloc, SEARCH, files, b"")?;
     let notices = lines_of(alloc, notices)?;
     let told = found.out.as_slice();
-    Ok(found.is(told, notices.as_slice(), 0) && is_accepted(alloc, &mut files, told)?)
+    Ok(found.is(told, notices.as_bytes(), 0) && is_accepted(alloc, files, told)?)
+}
+
+fn is_certified(alloc: Global, row: &str) -> Result<bool, Fail> {
+    let (lines, notices) = cut(row)?;
+    is_certified_so(alloc, &mut table_of(alloc, lines)?, notices)
 }
 
 #[test]
@@ -66,12 +75,16 @@ fn certificates_are_accepted(rt: HostRuntime) -> Result<(), Fail> {
     Ok(())
 }
 
+/// Whether an outcome is a clash, which is found.
+fn is_clash(alloc: Global, files: &mut MapSource) -> Result<bool, Fail> {
+    let found = outcome_of(alloc, SEARCH, files, b"")?;
+    let told = found.out.as_slice();
+    Ok(found.is(told, b"", 1) && is_reported(alloc, files, told)?)
+}
+
 /// Whether a clash of a table is found.
 fn is_clashing(alloc: Global, lines: &str) -> Result<bool, Fail> {
-    let mut files = table_of(alloc, lines)?;
-    let found = outcome_of(alloc, SEARCH, &mut files, b"")?;
-    let told = found.out.as_slice();
-    Ok(found.is(told, b"", 1) && is_reported(alloc, &mut files, told)?)
+    is_clash(alloc, &mut table_of(alloc, lines)?)
 }
 
 #[test]
@@ -93,17 +106,21 @@ fn dots(number: u32) -> &'static str {
     }
 }
 
-/// Whether a table is certified and its certificate is accepted, or a clash is found.
-fn is_decided(alloc: Global, lines: &str) -> Result<bool, Fail> {
-    let mut files = table_of(alloc, lines)?;
-    let found = outcome_of(alloc, SEARCH, &mut files, b"")?;
+/// Whether the certificate that a search found is accepted, or the clash is one.
+fn is_right(alloc: Global, files: &mut MapSource) -> Result<bool, Fail> {
+    let found = outcome_of(alloc, SEARCH, files, b"")?;
     let told = found.out.as_slice();
     let status = found.status;
     match status {
-        0 => is_accepted(alloc, &mut files, told),
-        1 => is_reported(alloc, &mut files, told),
+        0 => is_accepted(alloc, files, told),
+        1 => is_reported(alloc, files, told),
         _ => Ok(false),
     }
+}
+
+/// Whether a table is certified and its certificate is accepted, or a clash is found.
+fn is_decided(alloc: Global, lines: &str) -> Result<bool, Fail> {
+    is_right(alloc, &mut table_of(alloc, lines)?)
 }
 
 #[test]
@@ -117,29 +134,29 @@ fn tables_of_three_letters_are_decided(rt: HostRuntime) -> Result<(), Fail> {
     Ok(())
 }
 
+/// Whether a search is answered so, and writes this certificate.
+fn is_written(alloc: Global, lines: &str, fields: &str, cert: &[u8]) -> Result<bool, Fail> {
+    let mut files = table_of(alloc, lines)?;
+    let answered = is_answered(alloc, SEARCH, &mut files, b"", fields)?;
+    Ok(answered && files.files.get("o").map(|bytes| bytes.as_slice()) == Some(cert))
+}
+
 #[test]
 fn the_certificate_of_the_empty_table(rt: HostRuntime) -> Result<(), Fail> {
-    let alloc = rt.alloc();
-    let mut files = table_of(alloc, "#")?;
-    let found = outcome_of(alloc, SEARCH, &mut files, b"")?;
-    assert!(rt; found.is(b"certified: 1 states, 0 pairs\n", b"", 0));
-    let cert = files.files.get("o").ok_or("no certificate")?;
-    assert!(rt; cert.as_slice() == b"BRLCERT 1\nstate 1 0 0 -\nend 1 0\n".as_slice());
+    let cert = b"BRLCERT 1\nstate 1 0 0 -\nend 1 0\n";
+    assert!(rt; is_written(rt.alloc(), "#", "certified: 1 states, 0 pairs||0", cert)?);
     Ok(())
 }
 
-/// A search of a table of two letters whose certificate is refused.
-fn sealed_outcome(alloc: Global, refusal: SinkFault) -> Result<Outcome, Fail> {
+/// Whether a search of a table of two letters whose certificate is refused is answered so.
+fn is_sealed(alloc: Global, refusal: SinkFault, fields: &str) -> Result<bool, Fail> {
     let files = table_of(alloc, "letter a 1; letter b 12")?;
-    outcome_of(alloc, SEARCH, &mut Sealed { files, refusal }, b"")
+    is_answered(alloc, SEARCH, &mut Sealed { files, refusal }, b"", fields)
 }
 
 #[test]
 fn a_certificate_cannot_be_written(rt: HostRuntime) -> Result<(), Fail> {
-    let alloc = rt.alloc();
-    let outcome = sealed_outcome(alloc, SinkFault::Failed)?;
-    assert!(rt; outcome.is(b"", b"U7 CannotWrite o\n", 2));
-    let outcome = sealed_outcome(alloc, SinkFault::Memory)?;
-    assert!(rt; outcome.is(b"", b"Memory\n", 3));
+    assert!(rt; is_sealed(rt.alloc(), SinkFault::Failed, "|U7 CannotWrite o|2")?);
+    assert!(rt; is_sealed(rt.alloc(), SinkFault::Memory, "|Memory|3")?);
     Ok(())
 }

@@ -1,0 +1,31 @@
+//! Files that can't be written.
+use brl_lines::{Source, SourceFault};
+use brl_tool::{Files, SinkFault};
+use std::alloc::Global;
+
+/// Files of which none can be written.
+#[derive(Drop)]
+pub struct Sealed<S> {
+    pub files: S,
+    pub refusal: SinkFault,
+}
+
+impl<S: Source> Source for Sealed<S> {
+    ghost gives = { λ s. S.gives s.files };
+
+    ghost faults = { λ s. S.faults s.files };
+
+    fn read(&mut self, alloc: Global, path: &str) -> Result<Vec<u8>, SourceFault> {
+        self.files.read(alloc, path)
+    }
+
+    fn failures(&self) -> u64 {
+        self.files.failures()
+    }
+}
+
+impl<S: Source> Files for Sealed<S> {
+    fn write(&mut self, _alloc: Global, _path: &str, _bytes: &[u8]) -> Result<(), SinkFault> {
+        Err(self.refusal)
+    }
+}
