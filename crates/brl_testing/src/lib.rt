@@ -2,14 +2,16 @@
 //! writers that fail. No crate of the program uses it.
 #![tactic(auto)]
 
+mod lending;
 mod readers;
 mod refusing;
 mod rows;
 mod tables;
 mod writers;
 
+pub use lending::{lend, lend_mut};
 pub use readers::{Broken, Slow};
 pub use refusing::Refusing;
-pub use rows::{chars, cut, lines_of};
-pub use tables::{loaded_of, one_file, table_of};
+pub use rows::{agree, chars, cut, lines_of};
+pub use tables::{loaded_of, one_file, table_of, with_table};
 pub use writers::{Closed, Full};

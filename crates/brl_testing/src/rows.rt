@@ -24,3 +24,11 @@ pub fn lines_of(alloc: Global, field: &str) -> Result<String, Fail> {
 pub fn chars(alloc: Global, text: &str) -> Result<Vec<char>, Fail> {
     Ok(text.chars().collect(alloc)?)
 }
+
+/// Fails a test at a row where another text is given than is wanted.
+pub fn agree(row: &str, given: &str, want: &str) -> Result<(), Fail> {
+    if given == want {
+        return Ok(());
+    }
+    Err(Fail::new(format_args!("at {row}: {given}")))
+}

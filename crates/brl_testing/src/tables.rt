@@ -1,5 +1,5 @@
 //! Tables whose lines are the field of a row.
-use crate::lines_of;
+use crate::{lend, lines_of};
 use brl_lines::{Loaded, MapSource, load};
 use brl_table::{Table, read_table};
 use std::alloc::Global;
@@ -32,4 +32,15 @@ pub fn table_of(alloc: Global, lines: &str) -> Result<Table, Fail> {
 fn table_of_loaded(alloc: Global, loaded: &Loaded) -> Result<Table, Fail> {
     let lines = loaded.lines(alloc)?;
     Ok(read_table(alloc, lines.as_slice())?)
+}
+
+/// What a function answers for the table of these lines.
+pub fn with_table<T, F: FnOnce(&Table) -> Result<T, Fail>>(
+    alloc: Global,
+    lines: &str,
+    answer: F,
+) -> Result<T, Fail>
+    requires { F.IsAlwaysCallable answer }
+{
+    lend(table_of(alloc, lines)?, answer)
 }

@@ -1,6 +1,6 @@
 //! Worked cells, their spellings and their marks. Fields of rows are cut at `|`, and a cell is its number.
 use brl_cells::{Cell, Cells, DotsFault, read_dots, to_ascii, to_unicode, write_dots};
-use brl_testing::cut;
+use brl_testing::{agree, cut, lend};
 use std::alloc::Global;
 use std::fmt::Write;
 use std::test::Fail;
@@ -29,13 +29,17 @@ const WRITTEN: &str = "\
 /// The cells of a field.
 fn cells_of(alloc: Global, field: &str) -> Result<Vec<Cell>, Fail> {
     let mut cells = Vec::new(alloc);
-    if field.is_empty() {
-        return Ok(cells);
+    if !field.is_empty() {
+        push_cells(&mut cells, field)?;
     }
+    Ok(cells)
+}
+
+fn push_cells(cells: &mut Vec<Cell>, field: &str) -> Result<(), Fail> {
     for number in field.split(',') {
         cells.push(Cell(number.parse()?))?;
     }
-    Ok(cells)
+    Ok(())
 }
 
 /// Whether a dots operand is read as these cells.
@@ -100,13 +104,13 @@ fn the_first_fault_decides(rt: HostRuntime) -> Result<(), Fail> {
         let (text, rest) = cut(row)?;
         let (most, fault) = cut(rest)?;
         let given = fault_of(rt.alloc(), text, most)?;
-        assert!(rt; given.as_str() == fault, "at {row}: {given}");
+        agree(row, given.as_str(), fault)?;
     }
     Ok(())
 }
 
-/// The faults as they are printed, each with a comma.
-fn printed_faults(alloc: Global) -> Result<String, Fail> {
+/// Writes the faults as they are printed, each with a comma.
+fn write_faults(text: &mut String) -> Result<(), Fail> {
     let faults = [
         DotsFault::EmptyCell,
         DotsFault::BadDot,
@@ -114,19 +118,18 @@ fn printed_faults(alloc: Global) -> Result<String, Fail> {
         DotsFault::TooManyCells,
         DotsFault::Memory,
     ];
-    let mut text = String::new(alloc);
     for fault in faults {
         write!(text, "{fault},")?;
     }
-    Ok(text)
+    Ok(())
 }
 
 #[test]
 fn faults_are_printed_by_code_and_name(rt: HostRuntime) -> Result<(), Fail> {
-    let printed = printed_faults(rt.alloc())?;
+    let mut text = String::new(rt.alloc());
+    write_faults(&mut text)?;
     let want = "C1 EmptyCell,C2 BadDot,C3 RepeatedDot,C4 TooManyCells,Memory,";
-    assert!(rt; printed.as_str() == want, "{printed}");
-    Ok(())
+    agree("faults", text.as_str(), want)
 }
 
 #[test]
@@ -163,31 +166,33 @@ fn cells_are_unicode_braille(rt: HostRuntime) {
     }
 }
 
-/// The cells from 0 to 9.
-fn ten_cells(alloc: Global) -> Result<Cells, Fail> {
-    let mut cells = Cells::new(alloc);
+/// Adds the cells from 0 to 9.
+fn push_ten(cells: &mut Cells) -> Result<(), Fail> {
     for number in 0..10u8 {
         cells.push(Cell(number))?;
     }
-    Ok(cells)
+    Ok(())
 }
 
-/// Whether there are ten cells, and a copy is equal to them.
-fn are_ten(cells: &Cells) -> Result<bool, Fail> {
-    Ok(cells.len() == 10 && !cells.is_empty() && cells.copy()? == *cells)
+/// Whether a copy is equal to its list of ten cells, and a list of the first two is another.
+fn are_lists(ten: &Cells, copy: &Cells, two: &Cells) -> bool {
+    ten.len() == 10
+        && !ten.is_empty()
+        && copy == ten
+        && two != ten
+        && two.as_slice() == [Cell(0), Cell(1)].as_slice()
 }
 
-/// Whether the cells 0 and 1 are a list of their own, which isn't this one.
-fn are_not_first_two(alloc: Global, cells: &Cells) -> Result<bool, Fail> {
-    let first = Cells::from_slice(alloc, &[Cell(0), Cell(1)])?;
-    Ok(first != *cells && first.as_slice() == [Cell(0), Cell(1)].as_slice())
+fn compare_lists(alloc: Global, ten: &Cells) -> Result<bool, Fail> {
+    let two = Cells::from_slice(alloc, &[Cell(0), Cell(1)])?;
+    Ok(lend(ten.copy()?, |copy| are_lists(ten, copy, &two)))
 }
 
 #[test]
 fn cells_are_a_list(rt: HostRuntime) -> Result<(), Fail> {
-    assert!(rt; Cells::new(rt.alloc()).is_empty());
-    let cells = ten_cells(rt.alloc())?;
-    assert!(rt; are_ten(&cells)?);
-    assert!(rt; are_not_first_two(rt.alloc(), &cells)?);
+    let mut cells = Cells::new(rt.alloc());
+    assert!(rt; cells.is_empty());
+    push_ten(&mut cells)?;
+    assert!(rt; compare_lists(rt.alloc(), &cells)?);
     Ok(())
 }

@@ -3,7 +3,7 @@
 use brl_cells::write_dots;
 use brl_forward::{Clash, ConfirmFault, ForwardFault, Side, Traced, confirm, trace, translate};
 use brl_table::Table;
-use brl_testing::{chars, cut, table_of};
+use brl_testing::{agree, chars, cut, with_table};
 use std::alloc::Global;
 use std::test::Fail;
 
@@ -39,7 +39,7 @@ fn translated(alloc: Global, table: &Table, text: &str) -> Result<String, Fail> 
 }
 
 fn translation_of(alloc: Global, lines: &str, text: &str) -> Result<String, Fail> {
-    translated(alloc, &table_of(alloc, lines)?, text)
+    with_table(alloc, lines, |table| translated(alloc, table, text))
 }
 
 #[test]
@@ -48,7 +48,7 @@ fn worked_translations(rt: HostRuntime) -> Result<(), Fail> {
         let (lines, rest) = cut(row)?;
         let (text, dots) = cut(rest)?;
         let given = translation_of(rt.alloc(), lines, text)?;
-        assert!(rt; given.as_str() == dots, "at {row}: {given}");
+        agree(row, given.as_str(), dots)?;
     }
     Ok(())
 }
@@ -72,7 +72,7 @@ fn clash_text(alloc: Global, clash: &Clash, left: &[char], right: &[char]) -> Re
 }
 
 fn clash_of(alloc: Global, lines: &str, left: &str, right: &str) -> Result<String, Fail> {
-    clashing(alloc, &table_of(alloc, lines)?, left, right)
+    with_table(alloc, lines, |table| clashing(alloc, table, left, right))
 }
 
 #[test]
@@ -82,7 +82,7 @@ fn worked_clashes(rt: HostRuntime) -> Result<(), Fail> {
         let (left, rest) = cut(rest)?;
         let (right, dots) = cut(rest)?;
         let given = clash_of(rt.alloc(), lines, left, right)?;
-        assert!(rt; given.as_str() == dots, "at {row}: {given}");
+        agree(row, given.as_str(), dots)?;
     }
     Ok(())
 }
@@ -111,7 +111,7 @@ fn traced(alloc: Global, table: &Table, text: &str) -> Result<String, Fail> {
 }
 
 fn trace_of(alloc: Global, lines: &str, text: &str) -> Result<String, Fail> {
-    traced(alloc, &table_of(alloc, lines)?, text)
+    with_table(alloc, lines, |table| traced(alloc, table, text))
 }
 
 #[test]
@@ -120,7 +120,7 @@ fn worked_traces(rt: HostRuntime) -> Result<(), Fail> {
         let (lines, rest) = cut(row)?;
         let (text, want) = cut(rest)?;
         let given = trace_of(rt.alloc(), lines, text)?;
-        assert!(rt; given.as_str() == want, "at {row}: {given}");
+        agree(row, given.as_str(), want)?;
     }
     Ok(())
 }
@@ -138,8 +138,8 @@ fn are_unknown(alloc: Global, table: &Table) -> bool {
 
 #[test]
 fn unknown_characters(rt: HostRuntime) -> Result<(), Fail> {
-    let table = table_of(rt.alloc(), "letter a 1")?;
-    assert!(rt; are_unknown(rt.alloc(), &table));
+    let alloc = rt.alloc();
+    assert!(rt; with_table(alloc, "letter a 1", |table| Ok(are_unknown(alloc, table)))?);
     Ok(())
 }
 
@@ -147,6 +147,9 @@ fn unknown_characters(rt: HostRuntime) -> Result<(), Fail> {
 fn faults_are_printed(rt: HostRuntime) -> Result<(), Fail> {
     let unknown = ConfirmFault::UnknownChar(Side::Right, 7);
     let text = format!(in rt.alloc(); "{}, {unknown}", ForwardFault::UnknownChar(1))?;
-    assert!(rt; text.as_str() == "F1 UnknownChar 1, F1 UnknownChar 7 at right");
-    Ok(())
+    agree(
+        "faults",
+        text.as_str(),
+        "F1 UnknownChar 1, F1 UnknownChar 7 at right",
+    )
 }

@@ -10,7 +10,7 @@ ghost use Rattle.brl_lines.specs.Lines.{lines_over};
 ghost use Rattle.brl_lines.specs.Outcome.{Tells};
 
 use brl_lines::{Line, LoadFault, Loaded, MapSource, Source, load};
-use brl_testing::{cut, one_file};
+use brl_testing::{agree, cut, lend, lend_mut, one_file};
 use std::alloc::Global;
 use std::fmt::Write;
 use std::test::Fail;
@@ -85,7 +85,7 @@ fn loaded_text(alloc: Global, loaded: &Loaded) -> Result<String, Fail> {
 /// The lines of a load as text, or why it has none.
 fn outcome_text(alloc: Global, outcome: Result<Loaded, LoadFault>) -> Result<String, Fail> {
     match outcome {
-        Ok(loaded) => loaded_text(alloc, &loaded),
+        Ok(loaded) => lend(loaded, |loaded| loaded_text(alloc, loaded)),
         Err(fault) => Ok(format!(in alloc; "{fault}")?),
     }
 }
@@ -105,7 +105,7 @@ fn lines_of_texts(rt: HostRuntime) -> Result<(), Fail> {
     for row in TEXTS.lines() {
         let (text, want) = cut(row)?;
         let given = lines_of_text(rt.alloc(), text)?;
-        assert!(rt; given.as_str() == want, "at {row}: {given}");
+        agree(row, given.as_str(), want)?;
     }
     Ok(())
 }
@@ -131,8 +131,8 @@ fn refused<S: Source>(alloc: Global, source: &mut S) -> Result<String, Fail> {
 
 fn long_line(alloc: Global, before: &str, letters: usize, after: &str) -> Result<String, Fail> {
     let text = format!(in alloc; "{before}{:a>letters$}{after}", "")?;
-    let mut source = file_of(alloc, text.as_str())?;
-    refused(alloc, &mut source)
+    let source = file_of(alloc, text.as_str())?;
+    lend_mut(source, |source| refused(alloc, source))
 }
 
 #[test]
@@ -142,7 +142,7 @@ fn long_lines(rt: HostRuntime) -> Result<(), Fail> {
         let (letters, rest) = cut(rest)?;
         let (after, want) = cut(rest)?;
         let given = long_line(rt.alloc(), before, letters.parse()?, after)?;
-        assert!(rt; given.as_str() == want, "at {row}: {given}");
+        agree(row, given.as_str(), want)?;
     }
     Ok(())
 }

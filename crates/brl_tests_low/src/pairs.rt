@@ -8,7 +8,7 @@ use brl_pairs::{
     Advanced, Machine, Pair, Sets, Step, advance, advance_law, closed_sets_law, numbered_sets_law,
 };
 use brl_table::Chars;
-use brl_testing::cut;
+use brl_testing::{agree, cut};
 use std::alloc::{AllocError, Global};
 use std::test::Fail;
 
@@ -179,7 +179,7 @@ fn worked_leads(rt: HostRuntime) -> Result<(), Fail> {
         let (lead, rest) = cut(row)?;
         let (cells, want) = cut(rest)?;
         let given = advanced(rt.alloc(), lead, cells)?;
-        assert!(rt; given.as_str() == want, "at {row}: {given}");
+        agree(row, given.as_str(), want)?;
     }
     Ok(())
 }

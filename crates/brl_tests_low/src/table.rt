@@ -8,7 +8,7 @@ ghost use Rattle.brl_table.specs.Translation.{translation, IsClash};
 use brl_cells::{Cell, write_dots};
 use brl_lines::{Line, Loaded, Token};
 use brl_table::{Info, Notice, Rule, Sign, Table, read_table};
-use brl_testing::{cut, loaded_of};
+use brl_testing::{agree, cut, lend, loaded_of};
 use std::alloc::Global;
 use std::fmt::Write;
 use std::test::Fail;
@@ -80,7 +80,10 @@ capsletter 9|B4 BadDots 9 at t.ctb:1
 
 /// What the lines of a field define, or their fault.
 fn shown(alloc: Global, lines: &str) -> Result<String, Fail> {
-    shown_loaded(alloc, &loaded_of(alloc, lines)?)
+    lend(
+        loaded_of(alloc, lines)?,
+        |loaded| shown_loaded(alloc, loaded),
+    )
 }
 
 fn shown_loaded(alloc: Global, loaded: &Loaded) -> Result<String, Fail> {
@@ -90,18 +93,22 @@ fn shown_loaded(alloc: Global, loaded: &Loaded) -> Result<String, Fail> {
 
 fn shown_lines(alloc: Global, lines: &[Line<'_>]) -> Result<String, Fail> {
     match read_table(alloc, lines) {
-        Ok(table) => table_text(alloc, &table),
-        Err(fault) => Ok(format!(in alloc; "{fault}")?),
+        Ok(table) => lend(table, |table| table_text(alloc, table)),
+        Err(fault) => lend(fault, |fault| Ok(format!(in alloc; "{fault}")?)),
     }
 }
 
 fn table_text(alloc: Global, table: &Table) -> Result<String, Fail> {
     let mut text = String::new(alloc);
-    push_characters(alloc, &mut text, table)?;
-    push_rules(alloc, &mut text, table)?;
-    push_signs(alloc, &mut text, table)?;
-    push_notices(&mut text, table.notices())?;
+    push_table(alloc, &mut text, table)?;
     Ok(text)
+}
+
+fn push_table(alloc: Global, text: &mut String, table: &Table) -> Result<(), Fail> {
+    push_characters(alloc, text, table)?;
+    push_rules(alloc, text, table)?;
+    push_signs(alloc, text, table)?;
+    push_notices(text, table.notices())
 }
 
 fn push_characters(alloc: Global, text: &mut String, table: &Table) -> Result<(), Fail> {
@@ -183,7 +190,7 @@ fn tables_and_faults_of_lines(rt: HostRuntime) -> Result<(), Fail> {
     for row in TABLES.lines().chain(FAULTS.lines()) {
         let (lines, want) = cut(row)?;
         let given = shown(rt.alloc(), lines)?;
-        assert!(rt; given.as_str() == want, "at {row}: {given}");
+        agree(row, given.as_str(), want)?;
     }
     Ok(())
 }
@@ -207,11 +214,11 @@ fn an_include_line_that_is_left(rt: HostRuntime) -> Result<(), Fail> {
         operands: vec![in rt.alloc(); token("u")]?,
     };
     let given = shown_lines(rt.alloc(), &[line])?;
-    assert!(rt;
-        given.as_str() == "B1 OutsideProfile include at t.ctb:1",
-        "{given}"
-    );
-    Ok(())
+    agree(
+        "include u",
+        given.as_str(),
+        "B1 OutsideProfile include at t.ctb:1",
+    )
 }
 
 /// What so many lines that define a letter each come to.
@@ -229,9 +236,5 @@ fn as_many_characters_as_a_table_may_have(rt: HostRuntime) -> Result<(), Fail> {
     let most = shown_letters(rt.alloc(), 1024)?;
     assert!(rt; !most.as_str().contains("TooMany"));
     let fault = shown_letters(rt.alloc(), 1025)?;
-    assert!(rt;
-        fault.as_str() == "B8 TooMany letter at t.ctb:1025",
-        "{fault}"
-    );
-    Ok(())
+    agree("1025", fault.as_str(), "B8 TooMany letter at t.ctb:1025")
 }

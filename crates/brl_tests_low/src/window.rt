@@ -2,7 +2,7 @@
 use brl_cells::Cell;
 use brl_pairs::{Machine, Step};
 use brl_table::{Chars, Class, Table};
-use brl_testing::{cut, table_of};
+use brl_testing::{agree, cut, with_table};
 use brl_window::{Window, WindowState};
 use std::alloc::Global;
 use std::fmt::Write;
@@ -71,8 +71,14 @@ fn is_window_of_one_letter(alloc: Global, table: &Table) -> Result<bool, Fail> {
 
 #[test]
 fn steps_of_one_letter(rt: HostRuntime) -> Result<(), Fail> {
-    let table = table_of(rt.alloc(), ONE_LETTER)?;
-    assert!(rt; is_window_of_one_letter(rt.alloc(), &table)?);
+    let alloc = rt.alloc();
+    assert!(rt;
+        with_table(
+            alloc,
+            ONE_LETTER,
+            |table| is_window_of_one_letter(alloc, table)
+        )?
+    );
     Ok(())
 }
 
@@ -113,7 +119,7 @@ fn count_moves(alloc: Global, table: &Table) -> Result<String, Fail> {
 /// How many moves the start of the window machine of a table has, and whether there is one.
 fn moves_of(alloc: Global, characters: &str, rule: &str) -> Result<String, Fail> {
     let lines = lines_of_table(alloc, characters.parse()?, rule.parse()?)?;
-    count_moves(alloc, &table_of(alloc, lines.as_str())?)
+    with_table(alloc, lines.as_str(), |table| count_moves(alloc, table))
 }
 
 #[test]
@@ -122,7 +128,7 @@ fn moves_of_the_start(rt: HostRuntime) -> Result<(), Fail> {
         let (characters, rest) = cut(row)?;
         let (rule, want) = cut(rest)?;
         let given = moves_of(rt.alloc(), characters, rule)?;
-        assert!(rt; given.as_str() == want, "at {row}: {given}");
+        agree(row, given.as_str(), want)?;
     }
     Ok(())
 }
@@ -155,7 +161,7 @@ fn count_steps(alloc: Global, table: &Table, state: &WindowState) -> Result<Stri
 }
 
 fn steps_of(alloc: Global, state: &WindowState) -> Result<String, Fail> {
-    count_steps(alloc, &table_of(alloc, ONE_LETTER)?, state)
+    with_table(alloc, ONE_LETTER, |table| count_steps(alloc, table, state))
 }
 
 #[test]
@@ -165,7 +171,7 @@ fn steps_of_any_state(rt: HostRuntime) -> Result<(), Fail> {
         let (end, want) = cut(rest)?;
         let state = state_of(rt.alloc(), coming, end == "ends")?;
         let given = steps_of(rt.alloc(), &state)?;
-        assert!(rt; given.as_str() == want, "at {row}: {given}");
+        agree(row, given.as_str(), want)?;
     }
     Ok(())
 }

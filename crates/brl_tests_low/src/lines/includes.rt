@@ -5,7 +5,7 @@ ghost use Rattle.brl_lines.specs.Lines.{lines_of};
 
 use super::{bytes_of, outcome};
 use brl_lines::{MapSource, Source, SourceFault};
-use brl_testing::cut;
+use brl_testing::{agree, cut};
 use std::alloc::Global;
 use std::collections::BTreeMap;
 use std::fmt::Write;
@@ -77,7 +77,7 @@ fn includes(rt: HostRuntime) -> Result<(), Fail> {
         let (files, rest) = cut(row)?;
         let (root, want) = cut(rest)?;
         let given = included(rt.alloc(), files, root)?;
-        assert!(rt; given.as_str() == want, "at {row}: {given}");
+        agree(row, given.as_str(), want)?;
     }
     Ok(())
 }
@@ -168,7 +168,7 @@ fn many_include_lines(rt: HostRuntime) -> Result<(), Fail> {
         let (count, rest) = cut(row)?;
         let (after, want) = cut(rest)?;
         let given = many_included(rt.alloc(), count.parse()?, after)?;
-        assert!(rt; given.as_str() == want, "at {row}: {given}");
+        agree(row, given.as_str(), want)?;
     }
     Ok(())
 }
@@ -205,7 +205,7 @@ fn deep_files(rt: HostRuntime) -> Result<(), Fail> {
         let (last, rest) = cut(row)?;
         let (line, want) = cut(rest)?;
         let given = deep_included(rt.alloc(), last.parse()?, line)?;
-        assert!(rt; given.as_str() == want, "at {row}: {given}");
+        agree(row, given.as_str(), want)?;
     }
     Ok(())
 }
@@ -263,15 +263,13 @@ fn long_files(rt: HostRuntime) -> Result<(), Fail> {
     let given = included_bytes(rt.alloc(), b'a', 2048)?;
     assert!(rt; given.as_str().starts_with("u:1 aaaa"));
     let given = included_bytes(rt.alloc(), b'a', 2049)?;
-    assert!(rt; given.as_str() == "L6 LineTooLong u at u:1", "{given}");
-    Ok(())
+    agree("2049", given.as_str(), "L6 LineTooLong u at u:1")
 }
 
 #[test]
 fn large_files(rt: HostRuntime) -> Result<(), Fail> {
     let given = included_bytes(rt.alloc(), b'\n', 16_777_216)?;
-    assert!(rt; given.is_empty(), "{given}");
+    agree("16777216", given.as_str(), "")?;
     let given = included_bytes(rt.alloc(), b'\n', 16_777_217)?;
-    assert!(rt; given.as_str() == "L9 TooLarge u at t:1", "{given}");
-    Ok(())
+    agree("16777217", given.as_str(), "L9 TooLarge u at t:1")
 }

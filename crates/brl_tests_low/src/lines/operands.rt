@@ -1,6 +1,6 @@
 //! What operands spell, and how characters are spelled.
 use brl_lines::{chars_of, spell_chars};
-use brl_testing::cut;
+use brl_testing::{agree, cut};
 use std::alloc::Global;
 use std::fmt::Write;
 use std::test::Fail;
@@ -58,7 +58,7 @@ fn operands(rt: HostRuntime) -> Result<(), Fail> {
     for row in OPERANDS.lines() {
         let (operand, want) = cut(row)?;
         let given = spelled(rt.alloc(), operand)?;
-        assert!(rt; given.as_str() == want, "at {row}: {given}");
+        agree(row, given.as_str(), want)?;
     }
     Ok(())
 }
@@ -75,14 +75,18 @@ const SPELLINGS: &str = "\
 
 fn characters_of(alloc: Global, numbers: &str) -> Result<Vec<char>, Fail> {
     let mut characters = Vec::new(alloc);
-    if numbers.is_empty() {
-        return Ok(characters);
+    if !numbers.is_empty() {
+        push_characters(&mut characters, numbers)?;
     }
+    Ok(characters)
+}
+
+fn push_characters(characters: &mut Vec<char>, numbers: &str) -> Result<(), Fail> {
     for number in numbers.split(' ') {
         let number = u32::from_str_radix(number, 16)?;
         characters.push(char::from_u32(number).ok_or("no character")?)?;
     }
-    Ok(characters)
+    Ok(())
 }
 
 fn spelling_of(alloc: Global, numbers: &str) -> Result<String, Fail> {
@@ -95,7 +99,7 @@ fn spellings(rt: HostRuntime) -> Result<(), Fail> {
     for row in SPELLINGS.lines() {
         let (numbers, want) = cut(row)?;
         let given = spelling_of(rt.alloc(), numbers)?;
-        assert!(rt; given.as_str() == want, "at {row}: {given}");
+        agree(row, given.as_str(), want)?;
     }
     Ok(())
 }

@@ -1,7 +1,7 @@
 //! Sources: files that are refused, readers, and the files of a system.
 use super::{file_of, refused};
 use brl_lines::{FileSource, Source, SourceFault, read_whole};
-use brl_testing::{Broken, Refusing, one_file};
+use brl_testing::{Broken, Refusing, agree, cut, lend_mut, one_file};
 use std::alloc::Global;
 use std::io::{ErrorKind, Read};
 use std::test::Fail;
@@ -56,32 +56,40 @@ fn refusals(rt: HostRuntime) -> Result<(), Fail> {
     let given = refusals_of(rt.alloc())?;
     let want = "L1 NotFound t.ctb, 0 failed;L2 ReadFailed t.ctb, 1 failed;\
         L9 TooLarge t.ctb, 0 failed;out of memory, 0 failed;";
-    assert!(rt; given.as_str() == want, "{given}");
-    Ok(())
+    agree("refusals", given.as_str(), want)
 }
 
 #[test]
 fn files_that_are_refused(rt: HostRuntime) -> Result<(), Fail> {
-    let mut source = file_of(rt.alloc(), "letter a 1;letter ! 1;")?;
-    let given = refused(rt.alloc(), &mut source)?;
-    assert!(rt; given.as_str() == "L3 NotUtf8 t.ctb", "{given}");
-    Ok(())
+    let alloc = rt.alloc();
+    let source = file_of(alloc, "letter a 1;letter ! 1;")?;
+    let given = lend_mut(source, |source| refused(alloc, source))?;
+    agree("letter !", given.as_str(), "L3 NotUtf8 t.ctb")
 }
 
 #[test]
 fn files_that_are_not_there(rt: HostRuntime) -> Result<(), Fail> {
-    let mut source = one_file(rt.alloc(), "u.ctb", b"")?;
-    let given = refused_and_failures(rt.alloc(), &mut source)?;
-    assert!(rt; given.as_str() == "L1 NotFound t.ctb, 0 failed;", "{given}");
-    Ok(())
+    let alloc = rt.alloc();
+    let source = one_file(alloc, "u.ctb", b"")?;
+    let given = lend_mut(source, |source| refused_and_failures(alloc, source))?;
+    agree("u.ctb", given.as_str(), "L1 NotFound t.ctb, 0 failed;")
 }
+
+/// How many line feeds a file has, and what comes of the table.
+const LARGE: &str = "\
+16777217|L9 TooLarge t.ctb
+16777216|loaded
+";
 
 #[test]
 fn files_that_are_too_large(rt: HostRuntime) -> Result<(), Fail> {
-    let given = refused(rt.alloc(), &mut LineFeeds { count: 16_777_217 })?;
-    assert!(rt; given.as_str() == "L9 TooLarge t.ctb", "{given}");
-    let given = refused(rt.alloc(), &mut LineFeeds { count: 16_777_216 })?;
-    assert!(rt; given.as_str() == "loaded", "{given}");
+    for row in LARGE.lines() {
+        let (count, want) = cut(row)?;
+        let mut source = LineFeeds {
+            count: count.parse()?,
+        };
+        agree(row, refused(rt.alloc(), &mut source)?.as_str(), want)?;
+    }
     Ok(())
 }
 
@@ -89,8 +97,7 @@ fn files_that_are_too_large(rt: HostRuntime) -> Result<(), Fail> {
 fn a_failure_counts_to_the_greatest_number(rt: HostRuntime) -> Result<(), Fail> {
     let given = refusal_of(rt.alloc(), SourceFault::Failed, u64::MAX)?;
     let want = "L2 ReadFailed t.ctb, 18446744073709551615 failed;";
-    assert!(rt; given.as_str() == want, "{given}");
-    Ok(())
+    agree("the greatest number", given.as_str(), want)
 }
 
 /// Whether a reader has these bytes.

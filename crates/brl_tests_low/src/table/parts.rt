@@ -4,6 +4,7 @@ use brl_cells::{Cell, Cells};
 use brl_table::{
     Chars, Class, Cond, Context, Info, Notice, Place, Rule, Sign, Table, TableParts, holds,
 };
+use brl_testing::lend;
 use indexmap::IndexMap;
 use std::alloc::Global;
 use std::test::Fail;
@@ -96,32 +97,45 @@ fn names_its_file(table: &Table) -> bool {
     }
 }
 
+fn has_names_and_indicators(table: &Table) -> bool {
+    names_its_file(table)
+        && table.indicator(Sign::NumSign) == [Cell(60)].as_slice()
+        && table.indicator(Sign::CapsLetter).is_empty()
+}
+
 #[test]
 fn names_and_indicators_of_a_table(rt: HostRuntime) -> Result<(), Fail> {
     let table = table_of_parts(rt.alloc())?;
-    assert!(rt; names_its_file(&table));
-    assert!(rt; table.indicator(Sign::NumSign) == [Cell(60)].as_slice());
-    assert!(rt; table.indicator(Sign::CapsLetter).is_empty());
+    assert!(rt; lend(table, |table| has_names_and_indicators(table)));
     Ok(())
+}
+
+/// Whether the rule is chosen at `a`.
+fn chooses_the_rule(table: &Table) -> bool {
+    let choice = table.choice(Class::SPACE, &['a']);
+    choice.number == 0 && choice.taken == 1 && choice.cells == [Cell(9)].as_slice()
 }
 
 #[test]
 fn choices_of_a_table(rt: HostRuntime) -> Result<(), Fail> {
     let table = table_of_parts(rt.alloc())?;
-    let choice = table.choice(Class::SPACE, &['a']);
-    assert!(rt; choice.number == 0 && choice.taken == 1);
-    assert!(rt; choice.cells == [Cell(9)].as_slice());
+    assert!(rt; lend(table, |table| chooses_the_rule(table)));
     Ok(())
+}
+
+/// Whether `a` is a letter after the start, and no indicator comes before the next one.
+fn needs_no_indicator(alloc: Global, table: &Table) -> Result<bool, Fail> {
+    let here = table.context_behind(Context::START, &['a']);
+    let mut cells = Vec::new(alloc);
+    table.push_indicators(here, &['a'], &mut cells)?;
+    Ok(here.classes == Class::LETTER && cells.is_empty())
 }
 
 #[test]
 fn contexts_and_indicators(rt: HostRuntime) -> Result<(), Fail> {
-    let table = table_of_parts(rt.alloc())?;
-    let here = table.context_behind(Context::START, &['a']);
-    assert!(rt; here.classes == Class::LETTER);
-    let mut cells = Vec::new(rt.alloc());
-    table.push_indicators(here, &['a'], &mut cells)?;
-    assert!(rt; cells.is_empty());
+    let alloc = rt.alloc();
+    let table = table_of_parts(alloc)?;
+    assert!(rt; lend(table, |table| needs_no_indicator(alloc, table))?);
     Ok(())
 }
 
