@@ -26,7 +26,7 @@ K5 DuplicatePair line 6|BRLCERT 1;state 1 0 0 -;state 8 0 0 61;state 8 0 1 -;pai
 K6 NoSuchState line 5|BRLCERT 1;state 1 0 0 -;state 8 0 0 61;state 8 0 1 -;pair 1 3 -;end 3 1;
 K7 WrongCount line 6|BRLCERT 1;state 1 0 0 -;state 8 0 0 61;state 8 0 1 -;pair 1 2 -;end 3 2;
 K1 Version line 1|BRLCERT 9;state 1 0 0 -;state 8 0 0 61;state 8 0 1 -;pair 1 2 -;end 3 1;
-K1 Version line 1|BRLCERT 2;state 1 0 0 -;state 8 0 0 61;state 8 0 1 -;pair 1 2 -;end 3 1;
+K2 Syntax line 2|BRLCERT 2;state 1 0 0 -;state 8 0 0 61;state 8 0 1 -;pair 1 2 -;end 3 1;
 ";
 
 /// What is answered for the start alone and a table, the table's file, and the file that it may
@@ -35,6 +35,20 @@ const TABLES: &str = "\
 1 states, 0 pairs||
 A2 StateMissing state 0 rule 0|include u.ctb|letter a 1;letter b 1
 L4 Cycle t.ctb at t.ctb:1|include t.ctb|
+";
+
+/// What is answered for a table's lines and a certificate of version 2.
+const CERTIFICATES_OF_DUES: &str = "\
+1 states, 0 pairs||BRLCERT 2;state 1 0;end 1 0;
+3 states, 1 pairs|letter a 1;letter b 12;letter x 1-12;always ab 14|BRLCERT 2;state 1 0;state 8 0;state 8 0 b62*;pair 1 2 12;end 3 1;
+A3 SplitMissing state 0 rules 0 2|letter a 1;letter b 12;letter x 1-12|BRLCERT 2;state 1 0;state 8 0;state 8 0 b62*;pair 1 2 12;end 3 1;
+A1 NoStart||BRLCERT 2;end 0 0;
+A2 StateMissing state 0 rule 0|letter a 1|BRLCERT 2;state 1 0;end 1 0;
+2 states, 0 pairs|letter a 1;letter b 12|BRLCERT 2;state 1 0;state 8 0;end 2 0;
+A4 PairMissing pair 0 rule 0|uplow Aa 1|BRLCERT 2;state 1 0;state 24 0;state 40 0;pair 1 2 -;end 3 1;
+A5 BothEnd pair 0|uplow Aa 1|BRLCERT 2;state 1 0;state 24 0;state 40 0;pair 1 2 -;pair 1 1 -;pair 2 2 -;pair 2 1 1;pair 1 1 1;pair 2 2 1;pair 1 2 1;end 3 7;
+K8 Truncated line 6|letter a 1|BRLCERT 2;state 1 0;state 8 0;state 8 0 b62*;pair 1 2 12;
+B1 OutsideProfile pass2 at t.ctb:1|pass2 @1 @2|BRLCERT 2;end 0 0;
 ";
 
 /// The start alone.
@@ -120,6 +134,21 @@ fn worked_tables(rt: HostRuntime) -> Result<(), Fail> {
     Ok(())
 }
 
+/// Whether a row's first field is answered for the row's table and certificate.
+fn is_dues_judged(alloc: Global, row: &str) -> Result<bool, Fail> {
+    let (want, rest) = cut(row)?;
+    let (root, text) = cut(rest)?;
+    is_judged(alloc, root, "", text, want)
+}
+
+#[test]
+fn worked_certificates_of_dues(rt: HostRuntime) -> Result<(), Fail> {
+    for row in CERTIFICATES_OF_DUES.lines() {
+        assert!(rt; is_dues_judged(rt.alloc(), row)?, "at {row}");
+    }
+    Ok(())
+}
+
 /// The lines of 100 letters.
 fn letters(alloc: Global) -> Result<String, Fail> {
     let mut lines = String::new(alloc);
@@ -129,13 +158,19 @@ fn letters(alloc: Global) -> Result<String, Fail> {
     Ok(lines)
 }
 
-fn are_100_letters_too_wide(alloc: Global) -> Result<bool, Fail> {
+/// Whether this is answered for a certificate and the table of 100 letters.
+fn is_judged_for_100_letters(alloc: Global, text: &str, want: &str) -> Result<bool, Fail> {
     let lines = letters(alloc)?;
-    is_judged(alloc, lines.as_str(), "", START, "W1 TooWide")
+    is_judged(alloc, lines.as_str(), "", text, want)
 }
 
 #[test]
 fn a_table_of_100_letters_is_too_wide(rt: HostRuntime) -> Result<(), Fail> {
-    assert!(rt; are_100_letters_too_wide(rt.alloc())?);
+    let alloc = rt.alloc();
+    assert!(rt; is_judged_for_100_letters(alloc, START, "W1 TooWide")?);
+    // no table is too wide for version 2
+    let start = "BRLCERT 2;state 1 0;end 1 0;";
+    let missing = "A2 StateMissing state 0 rule 0";
+    assert!(rt; is_judged_for_100_letters(alloc, start, missing)?);
     Ok(())
 }

@@ -57,10 +57,65 @@ K7 WrongCount line 6|BRLCERT 1;state 1 0 0 -;state 8 0 0 61;state 8 0 1 -;pair 1
 K2 Syntax line 6|BRLCERT 1;state 1 0 0 -;state 8 0 0 61;state 8 0 1 -;pair 1 2 -;end 3 1 ;
 K2 Syntax line 6|BRLCERT 1;state 1 0 0 -;state 8 0 0 61;state 8 0 1 -;pair 1 2 -;state 9 0 0 -;end 3 1;
 K2 Syntax line 7|BRLCERT 1;state 1 0 0 -;state 8 0 0 61;state 8 0 1 -;pair 1 2 -;end 3 1;;
-K1 Version line 1|BRLCERT 2;state 1 0 0 -;state 8 0 0 61;state 8 0 1 -;pair 1 2 -;end 3 1;
 K1 Version line 1|BRLCERT 9;state 1 0 0 -;state 8 0 0 61;state 8 0 1 -;pair 1 2 -;end 3 1;
 K3 NotCanonical line 1|BRLCERT 09;state 1 0 0 -;state 8 0 0 61;state 8 0 1 -;pair 1 2 -;end 3 1;
 K2 Syntax line 1|BRLCERT 4294967296;state 1 0 0 -;state 8 0 0 61;state 8 0 1 -;pair 1 2 -;end 3 1;
+K2 Syntax line 2|BRLCERT 1;state 1 0;end 1 0;
+";
+
+/// The same of version 2.
+const READINGS_OF_DUES: &str = "\
+certificate|BRLCERT 2;state 1 0;state 8 0;state 8 0 b62*;pair 1 2 12;end 3 1;
+certificate|BRLCERT 2;state 1 0;end 1 0;
+certificate|BRLCERT 2;end 0 0;
+certificate|BRLCERT 2;state 8 0 n+3;state 8 0 n+3 b75.74+3;state 8 0 n-3 b75.74+3;end 3 0;
+certificate|BRLCERT 2;state 255 1 n+0 n+255 n-0 b9* b9+3 b9-3 b9.a* b9.a.b+255 b1f600* b10ffff*;end 1 0;
+K8 Truncated line 6|BRLCERT 2;state 1 0;state 8 0;state 8 0 b62*;pair 1 2 12;
+K2 Syntax line 6|BRLCERT 2;state 1 0;state 8 0;state 8 0 b62*;pair 1 2 12;end 3 1 ;
+K3 NotCanonical line 2|BRLCERT 2;state 01 0;state 8 0;state 8 0 b62*;pair 1 2 12;end 3 1;
+K3 NotCanonical line 5|BRLCERT 2;state 1 0;state 8 0;state 8 0 b62*;pair 1 2 21;end 3 1;
+K7 WrongCount line 6|BRLCERT 2;state 1 0;state 8 0;state 8 0 b62*;pair 1 2 12;end 3 2;
+K1 Version line 1|BRLCERT 9;state 1 0;state 8 0;state 8 0 b62*;pair 1 2 12;end 3 1;
+K6 NoSuchState line 5|BRLCERT 2;state 1 0;state 8 0;state 8 0 b62*;pair 1 3 12;end 3 1;
+K4 DuplicateState line 4|BRLCERT 2;state 1 0;state 8 0;state 8 0;state 8 0 b62*;pair 1 2 12;end 3 1;
+K5 DuplicatePair line 6|BRLCERT 2;state 1 0;state 8 0;state 8 0 b62*;pair 1 2 12;pair 1 2 12;end 3 1;
+K3 NotCanonical line 1|BRLCERT 02;state 1 0;end 1 0;
+K1 Version line 1|BRLCERT 3;state 1 0;end 1 0;
+K2 Syntax line 2|BRLCERT 2;state 1 0 0 -;end 1 0;
+K2 Syntax line 2|BRLCERT 2;state 256 0;end 1 0;
+K2 Syntax line 2|BRLCERT 2;state 1 00;end 1 0;
+K2 Syntax line 2|BRLCERT 2;state 1;end 1 0;
+K2 Syntax line 2|BRLCERT 2;state 1 0 ;end 1 0;
+K2 Syntax line 2|BRLCERT 2;state 1 0 n*;end 1 0;
+K2 Syntax line 2|BRLCERT 2;state 1 0 n;end 1 0;
+K2 Syntax line 2|BRLCERT 2;state 1 0 n3;end 1 0;
+K2 Syntax line 2|BRLCERT 2;state 1 0 n+;end 1 0;
+K2 Syntax line 2|BRLCERT 2;state 1 0 n+256;end 1 0;
+K2 Syntax line 2|BRLCERT 2;state 1 0 n-0256;end 1 0;
+K2 Syntax line 2|BRLCERT 2;state 1 0 n+3*;end 1 0;
+K2 Syntax line 2|BRLCERT 2;state 1 0 n61+3;end 1 0;
+K2 Syntax line 2|BRLCERT 2;state 1 0 +3;end 1 0;
+K2 Syntax line 2|BRLCERT 2;state 1 0 c61+3;end 1 0;
+K2 Syntax line 2|BRLCERT 2;state 1 0 b61;end 1 0;
+K2 Syntax line 2|BRLCERT 2;state 1 0 b*;end 1 0;
+K2 Syntax line 2|BRLCERT 2;state 1 0 b+3;end 1 0;
+K2 Syntax line 2|BRLCERT 2;state 1 0 b61.*;end 1 0;
+K2 Syntax line 2|BRLCERT 2;state 1 0 b61*3;end 1 0;
+K2 Syntax line 2|BRLCERT 2;state 1 0 b61-256;end 1 0;
+K2 Syntax line 2|BRLCERT 2;state 1 0 bd800*;end 1 0;
+K2 Syntax line 2|BRLCERT 2;state 1 0 b110000*;end 1 0;
+K3 NotCanonical line 2|BRLCERT 2;state 1 0 n+03;end 1 0;
+K3 NotCanonical line 2|BRLCERT 2;state 1 0 b061*;end 1 0;
+K3 NotCanonical line 2|BRLCERT 2;state 1 0 b6A*;end 1 0;
+K3 NotCanonical line 2|BRLCERT 2;state 1 0 n+3 n+3;end 1 0;
+K3 NotCanonical line 2|BRLCERT 2;state 1 0 b61* b62* b61*;end 1 0;
+K3 NotCanonical line 2|BRLCERT 2;state 1 0 b61* n+3;end 1 0;
+K3 NotCanonical line 2|BRLCERT 2;state 1 0 n-3 n+4;end 1 0;
+K3 NotCanonical line 2|BRLCERT 2;state 1 0 n+4 n+3;end 1 0;
+K3 NotCanonical line 2|BRLCERT 2;state 1 0 b62* b61.63*;end 1 0;
+K3 NotCanonical line 2|BRLCERT 2;state 1 0 b61.62* b61*;end 1 0;
+K3 NotCanonical line 2|BRLCERT 2;state 1 0 b61+3 b61*;end 1 0;
+K3 NotCanonical line 2|BRLCERT 2;state 1 0 b61-3 b61+4;end 1 0;
 ";
 
 /// What reading these bytes gives. A certificate counts where it is written as the same bytes.
@@ -91,7 +146,7 @@ fn is_read(alloc: Global, row: &str) -> Result<bool, Fail> {
 
 #[test]
 fn reads_and_writes_the_worked_certificates(rt: HostRuntime) -> Result<(), Fail> {
-    for row in READINGS.lines() {
+    for row in READINGS.lines().chain(READINGS_OF_DUES.lines()) {
         assert!(rt; is_read(rt.alloc(), row)?, "at {row}");
     }
     Ok(())

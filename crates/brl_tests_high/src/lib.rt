@@ -6,6 +6,8 @@ mod accept;
 #[cfg(test)]
 mod cert;
 #[cfg(test)]
+mod dues;
+#[cfg(test)]
 mod lines;
 #[cfg(test)]
 mod report;

@@ -1,5 +1,8 @@
 //! Searches of worked tables.
-use brl_cert::{Cert, write_cert};
+use crate::lines::bytes_of;
+use brl_accept::accept;
+use brl_cert::{Body, Cert, write_cert};
+use brl_dues::{Dues, DuesState};
 use brl_forward::{Clash, confirm};
 use brl_search::{Found, search};
 use brl_table::Table;
@@ -7,14 +10,19 @@ use brl_testing::{cut, table_of};
 use std::alloc::Global;
 use std::test::Fail;
 
-/// What is found with the program's limit, and the table's lines.
+/// What is found with the program's limit, or what that begins with, and the table's lines.
 const SEARCHES: &str = "\
-certified|letter a 1; letter b 12; letter x 1-12; always ab 14
-certified|letter a 1; letter b 12
+certified: 1 pairs, 3 states|letter a 1; letter b 12; letter x 1-12; always ab 14
+certified: 0 pairs, 2 states|letter a 1; letter b 12
 certified|letter a 1; letter a 12
+certified|space \\s 0; letter b 12; letter u 136; letter t 2345; word but 12; word b 56-12
+certified|letter a 1; litdigit 1 1; numsign 3456; nocontractsign 56; numericnocontchars a
+certified: 0 pairs|space \\s 0; letter a 1; letter b 12; letter c 14; always abcabc 25
 clashing|letter a 1; letter b 12; letter x 1-12
 clashing|letter a 1; letter b 12; letter c 14; always ab 14
 clashing|space \\s 0; letter b 12; letter u 136; letter t 2345; word but 12
+clashing|letter a 1; litdigit 1 1; numsign 3456
+clashing|uplow Aa 1
 ";
 
 /// What `confirm` says of a clash's texts, in a word.
@@ -37,43 +45,57 @@ fn word_of_same(same: &Clash, clash: &Clash) -> &'static str {
     }
 }
 
-/// The bytes of the certificate that lists the start alone.
-const START: &str = "BRLCERT 1\nstate 1 0 0 -\nend 1 0\n";
+/// The certificate that is found, and the table's lines.
+const CERTIFICATES: &str = "\
+BRLCERT 2;state 1 0;end 1 0;|
+BRLCERT 2;state 1 0;state 8 0;end 2 0;|letter a 1; letter b 12
+";
 
-/// What this certificate is, in a word.
-fn word_of_cert(alloc: Global, cert: &Cert) -> Result<&'static str, Fail> {
-    Ok(if write_cert(alloc, cert)?.as_slice() == START.as_bytes() {
-        "the start alone"
-    } else {
-        "certified"
-    })
-}
-
-fn word_of_found(alloc: Global, table: &Table, found: &Found) -> Result<&'static str, Fail> {
-    match found {
-        Found::Certified(cert) => word_of_cert(alloc, cert),
-        Found::Clashing(clash) => word_of_clash(alloc, table, clash),
-        Found::Limit {
-            states: 1,
-            pairs: 0,
-        } => Ok("limit at the start"),
-        Found::Limit { .. } => Ok("limit"),
+/// What the checker answers for these states and pairs.
+fn told_of_body(alloc: Global, table: &Table, body: &Body<DuesState>) -> Result<String, Fail> {
+    match accept(alloc, &Dues::new(alloc, table), body) {
+        Ok(accepted) => Ok(format!(in alloc;
+            "certified: {} pairs, {} states",
+            accepted.pairs, accepted.states
+        )?),
+        Err(fault) => Ok(fault.to_string(alloc)?),
     }
 }
 
-fn word_of_table(alloc: Global, table: &Table, limit: u32) -> Result<&'static str, Fail> {
+fn told_of_cert(alloc: Global, table: &Table, cert: &Cert) -> Result<String, Fail> {
+    match cert {
+        Cert::Dues(body) => told_of_body(alloc, table, body),
+        Cert::Window(_) => Ok(String::from_str(alloc, "version 1")?),
+    }
+}
+
+/// What is found, in words.
+fn told_of_found(alloc: Global, table: &Table, found: &Found) -> Result<String, Fail> {
+    match found {
+        Found::Certified(cert) => told_of_cert(alloc, table, cert),
+        Found::Clashing(clash) => {
+            let word = word_of_clash(alloc, table, clash)?;
+            Ok(String::from_str(alloc, word)?)
+        }
+        Found::Limit { states, pairs } => {
+            Ok(format!(in alloc; "limit: {states} states, {pairs} pairs")?)
+        }
+    }
+}
+
+fn told_of_table(alloc: Global, table: &Table, limit: u32) -> Result<String, Fail> {
     let found = search(alloc, table, limit as u64)?;
-    word_of_found(alloc, table, &found)
+    told_of_found(alloc, table, &found)
 }
 
-fn word_of(alloc: Global, lines: &str, limit: u32) -> Result<&'static str, Fail> {
+fn told_of(alloc: Global, lines: &str, limit: u32) -> Result<String, Fail> {
     let table = table_of(alloc, lines)?;
-    word_of_table(alloc, &table, limit)
+    told_of_table(alloc, &table, limit)
 }
 
-/// Whether a search of the table of these lines with this limit finds what the word says.
+/// Whether what a search of the table of these lines with this limit finds begins with these words.
 fn finds(alloc: Global, lines: &str, limit: u32, want: &str) -> Result<bool, Fail> {
-    Ok(word_of(alloc, lines, limit)? == want)
+    Ok(told_of(alloc, lines, limit)?.as_str().starts_with(want))
 }
 
 /// Whether a row's first field is found.
@@ -90,15 +112,37 @@ fn worked_tables(rt: HostRuntime) -> Result<(), Fail> {
     Ok(())
 }
 
+/// The bytes of the certificate of a table.
+fn certificate(alloc: Global, table: &Table) -> Result<Vec<u8>, Fail> {
+    match search(alloc, table, 1_000_000)? {
+        Found::Certified(cert) => Ok(write_cert(alloc, &cert)?),
+        _ => Err(Fail::from("no certificate")),
+    }
+}
+
+fn certificate_of(alloc: Global, lines: &str) -> Result<Vec<u8>, Fail> {
+    let table = table_of(alloc, lines)?;
+    certificate(alloc, &table)
+}
+
+/// Whether a row's first field is the certificate that is found.
+fn is_certificate(alloc: Global, row: &str) -> Result<bool, Fail> {
+    let (want, lines) = cut(row)?;
+    let bytes = certificate_of(alloc, lines)?;
+    Ok(bytes.as_slice() == bytes_of(alloc, want)?.as_slice())
+}
+
 #[test]
-fn the_empty_table(rt: HostRuntime) -> Result<(), Fail> {
-    assert!(rt; finds(rt.alloc(), "", 1, "the start alone")?);
+fn worked_certificates(rt: HostRuntime) -> Result<(), Fail> {
+    for row in CERTIFICATES.lines() {
+        assert!(rt; is_certificate(rt.alloc(), row)?, "at {row}");
+    }
     Ok(())
 }
 
 #[test]
 fn the_start_is_more_than_none(rt: HostRuntime) -> Result<(), Fail> {
     let lines = "letter a 1; letter b 12; letter x 1-12";
-    assert!(rt; finds(rt.alloc(), lines, 0, "limit at the start")?);
+    assert!(rt; finds(rt.alloc(), lines, 0, "limit: 1 states, 0 pairs")?);
     Ok(())
 }

@@ -124,7 +124,15 @@ t.ctb: letter a 1 & c: BRLCERT 1; state 1 0 0 -; state 8 0 0 61; state 8 0 1 -; 
 t.ctb: letter a 1 & c: BRLCERT 1; state 1 0 0 -; state 8 0 0 61; state 8 0 1 -; pair 1 3 -; end 3 1|brl,check,t.ctb,c||refused: K6 NoSuchState line 5||1
 t.ctb: letter a 1 & c: BRLCERT 1; state 1 0 0 -; state 8 0 0 61; state 8 0 1 -; pair 1 2 -; end 3 2|brl,check,t.ctb,c||refused: K7 WrongCount line 6||1
 t.ctb: letter a 1 & c: BRLCERT 9; state 1 0 0 -; state 8 0 0 61; state 8 0 1 -; pair 1 2 -; end 3 1|brl,check,t.ctb,c||refused: K1 Version line 1||1
-t.ctb: letter a 1 & c: BRLCERT 2; state 1 0 0 -; state 8 0 0 61; state 8 0 1 -; pair 1 2 -; end 3 1|brl,check,t.ctb,c||refused: K1 Version line 1||1
+t.ctb: letter a 1 & c: BRLCERT 2; state 1 0 0 -; state 8 0 0 61; state 8 0 1 -; pair 1 2 -; end 3 1|brl,check,t.ctb,c||refused: K2 Syntax line 2||1
+t.ctb: # & c: BRLCERT 2; state 1 0; end 1 0|brl,check,t.ctb,c||accepted: 1 states, 0 pairs||0
+t.ctb: letter a 1; letter b 12; letter x 1-12; always ab 14 & c: BRLCERT 2; state 1 0; state 8 0; state 8 0 b62*; pair 1 2 12; end 3 1|brl,check,t.ctb,c||accepted: 3 states, 1 pairs||0
+t.ctb: letter a 1; letter b 12; letter x 1-12 & c: BRLCERT 2; state 1 0; state 8 0; state 8 0 b62*; pair 1 2 12; end 3 1|brl,check,t.ctb,c||refused: A3 SplitMissing state 0 rules 0 2||1
+t.ctb: # & c: BRLCERT 2; end 0 0|brl,check,t.ctb,c||refused: A1 NoStart||1
+t.ctb: letter a 1 & c: BRLCERT 2; state 1 0; end 1 0|brl,check,t.ctb,c||refused: A2 StateMissing state 0 rule 0||1
+t.ctb: uplow Aa 1 & c: BRLCERT 2; state 1 0; state 24 0; state 40 0; pair 1 2 -; end 3 1|brl,check,t.ctb,c||refused: A4 PairMissing pair 0 rule 0||1
+t.ctb: uplow Aa 1 & c: BRLCERT 2; state 1 0; state 24 0; state 40 0; pair 1 2 -; pair 1 1 -; pair 2 2 -; pair 2 1 1; pair 1 1 1; pair 2 2 1; pair 1 2 1; end 3 7|brl,check,t.ctb,c||refused: A5 BothEnd pair 0||1
+t.ctb: letter a 1 & c: BRLCERT 2; state 1 0 n*; end 1 0|brl,check,t.ctb,c||refused: K2 Syntax line 2||1
 t.ctb: pass2 @1 @2 & c: BRLCERT 1; end 0 0|brl,check,t.ctb,c|||B1 OutsideProfile pass2 at t.ctb:1|2
 t.ctb: include t.ctb & c: BRLCERT 1; end 0 0|brl,check,t.ctb,c|||L4 Cycle t.ctb at t.ctb:1|2
 |brl,check,t.ctb,c|||L1 NotFound c|2
@@ -147,6 +155,7 @@ letter a 1; letter b 12|
 letter a 1; letter a 12|notice DefinedAgain a at t.ctb:2
 space \\s 0; letter a 1; space \\s 1; punctuation \\\\ 2; letter \\\\ 3|notice DefinedAgain \\s at t.ctb:3; notice DefinedAgain \\\\ at t.ctb:5
 space \\s 0; letter b 12; letter u 136; letter t 2345; word but 12; word b 56-12|
+space \\s 0; letter a 1; letter b 12; letter c 14; always abcabc 25|
 ";
 
 /// Tables of which a search finds two texts that clash.

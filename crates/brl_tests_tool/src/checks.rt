@@ -36,12 +36,12 @@ fn letters(alloc: Global, count: u32) -> Result<String, Fail> {
     Ok(files)
 }
 
-/// Whether these words over that table are answered so.
-fn is_wide(alloc: Global, words: &str, fields: &str) -> Result<bool, Fail> {
+/// Whether the check of that certificate for 100 letters is answered so.
+fn is_wide(alloc: Global, fields: &str) -> Result<bool, Fail> {
     let files = letters(alloc, 100)?;
     is_answered(
         alloc,
-        words,
+        CHECK,
         &mut files_of(alloc, files.as_str())?,
         b"",
         fields,
@@ -50,7 +50,6 @@ fn is_wide(alloc: Global, words: &str, fields: &str) -> Result<bool, Fail> {
 
 #[test]
 fn a_table_of_100_letters_is_too_wide(rt: HostRuntime) -> Result<(), Fail> {
-    assert!(rt; is_wide(rt.alloc(), CHECK, "|W1 TooWide|3")?);
-    assert!(rt; is_wide(rt.alloc(), "brl,search,t.ctb,o", "|W1 TooWide|3")?);
+    assert!(rt; is_wide(rt.alloc(), "|W1 TooWide|3")?);
     Ok(())
 }
