@@ -1,0 +1,62 @@
+"""What bench/search and bench/check share: the tables, and the processor seconds of a command."""
+
+import os
+import subprocess
+import tempfile
+import threading
+from pathlib import Path
+
+TOP = Path(__file__).resolve().parent.parent
+
+# The tables of a bench that is given none: a name, and what bench/make-table is asked for.
+MADE = [
+    ("100 rules", ["words", "100"]),
+    ("900 rules", ["words", "900"]),
+    ("900 rules, two with the same cells", ["clash", "900"]),
+    ("4,096 rules of three letters", ["flat"]),
+]
+
+# A run that takes longer is ended, and no verdict is told.
+MOST_SECONDS = 300
+
+
+def program() -> Path:
+    """The built program; it is built first where a source has changed."""
+    subprocess.run([TOP / "brl", "--version"], stdout=subprocess.DEVNULL, check=True)
+    return TOP / "out" / "brl"
+
+
+def tables(given: list[str], folder: str) -> list[tuple[str, str]]:
+    """The tables that were given, or those that are made for the bench, each with its name."""
+    if given:
+        return [(it, os.path.abspath(it)) for it in given]
+    found = []
+    for at, (name, words) in enumerate(MADE):
+        path = f"{folder}/{at}.ctb"
+        with open(path, "w") as out:
+            subprocess.run([TOP / "bench" / "make-table", *words], stdout=out, check=True)
+        found.append((name, path))
+    return [*found, ("examples/mended.ctb", str(TOP / "examples" / "mended.ctb"))]
+
+
+def run(words: list[object]) -> tuple[float, str]:
+    """The processor seconds of a run, and the first line that it prints."""
+    with tempfile.TemporaryFile("w+") as out:
+        started = subprocess.Popen([str(it) for it in words], stdout=out, stderr=subprocess.DEVNULL)
+        watch = threading.Timer(MOST_SECONDS, started.kill)
+        watch.start()
+        _, status, used = os.wait4(started.pid, 0)
+        started.returncode = os.waitstatus_to_exitcode(status)
+        watch.cancel()
+        out.seek(0)
+        line = out.readline().rstrip("\n")
+    return used.ru_utime + used.ru_stime, line or f"no verdict, status {started.returncode}"
+
+
+def best(words: list[object]) -> str:
+    """The least processor seconds of three runs, with the first line of that run; a long run is not repeated."""
+    runs = [run(words)]
+    while len(runs) < 3 and runs[0][0] < 60:
+        runs.append(run(words))
+    seconds, line = min(runs)
+    return f"{seconds:.3f} s: {line}"
