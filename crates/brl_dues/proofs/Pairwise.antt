@@ -1,4 +1,4 @@
--- What holds of each two members of a list, the first of which comes before the second.
+-- A relation that holds of any two members of a list, the earlier one first.
 use Rattle.std.proofs.Common.{◌≡◌, ℕ, zero, suc, ◌<◌, List, [], ◌∷◌, ◌++◌, Some, arith, subst, inl, inr, refl}
 use Rattle.std.specs.Prelude.{slice_get, map}
 use Rattle.std.specs.Bool.{⊤}

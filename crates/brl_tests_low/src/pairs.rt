@@ -104,7 +104,7 @@ fn level<M: Machine>(alloc: Global, machine: &M) -> (Pair<M::State>, bool) {
     (pair, both)
 }
 
-/// Whether there are two steps, of which the second reads `b`.
+/// Whether there are two steps and the second reads `b`.
 fn are_steps_of_letters(listed: &[Step<bool>]) -> bool {
     match listed {
         [_, second] => {

@@ -221,7 +221,7 @@ fn an_include_line_that_is_left(rt: HostRuntime) -> Result<(), Fail> {
     )
 }
 
-/// What so many lines that define a letter each come to.
+/// What this many lines, each of which defines a letter, define.
 fn shown_letters(alloc: Global, count: u32) -> Result<String, Fail> {
     let mut lines = String::new(alloc);
     for number in 0..count {

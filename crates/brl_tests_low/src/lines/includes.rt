@@ -114,7 +114,7 @@ impl Source for Watched {
 }
 
 impl Watched {
-    /// No files, of which that read fails.
+    /// No files; the read of this number fails.
     fn new(alloc: Global, failing: usize) -> Watched {
         Watched {
             files: no_files(alloc),
@@ -182,7 +182,7 @@ const DEEP_FILES: &str = "\
 15|include c17|L1 NotFound c17 at c15:1 after 16 reads, 0 failed
 ";
 
-/// Adds the files `c1`, `c2` and on, each of which includes the next, and a last one with a line of its own.
+/// Adds the files `c1`, `c2` and on. Each includes the next; the last has a line of its own.
 fn add_chain(alloc: Global, files: &mut MapSource, last: usize, line: &str) -> Result<(), Fail> {
     for number in 1..last {
         let path = format!(in alloc; "c{number}")?;
@@ -217,7 +217,7 @@ const FAILING: &str = "\
 3|L2 ReadFailed v.ctb at u.ctb:1 after 3 reads, 1 failed
 ";
 
-/// Three files, of which each includes the next.
+/// Three files; the first includes the second, and that one the third.
 const THREE_FILES: &str = "t.ctb: include u.ctb & u.ctb: include v.ctb & v.ctb: letter a 1";
 
 /// Whether a read that fails gives this outcome, and the table is loaded when it is asked for again.

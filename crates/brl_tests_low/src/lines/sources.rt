@@ -7,7 +7,7 @@ use std::io::{ErrorKind, Read};
 use std::test::Fail;
 use std::{env, fs, process};
 
-/// A source that gives so many line feeds for each path.
+/// A source that gives this many line feeds for each path.
 #[derive(Drop)]
 struct LineFeeds {
     count: usize,
@@ -113,7 +113,7 @@ fn readers(rt: HostRuntime) -> Result<(), Fail> {
     Ok(())
 }
 
-/// The fault of a reader that gives so many bytes and then fails.
+/// The fault of a reader that gives this many bytes and then fails.
 fn fault_of(alloc: Global, bytes: usize, kind: ErrorKind) -> Option<SourceFault> {
     let mut reader = Broken { bytes, kind };
     read_whole(alloc, &mut reader, &mut [0u8; 4]).err()
