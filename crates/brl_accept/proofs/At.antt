@@ -1,198 +1,265 @@
--- What is lost by the state or the pair with a number, and what by its steps alone.
+-- What is lost by the state or the pair with a number, and what by its edges alone.
 use Rattle.std.proofs.Common.{◌≡◌, ◌≢◌, ℕ, ◌<◌, ◌≤◌, min, max, Bool, List, [], ◌∷◌, ◌++◌, ◌⊎◌, inl, inr, length, get_or, Option, Some, IsTrue, ◌↔◌, slice_get, refl, sym, ◌∙◌, ap, subst, arith}
+use Rattle.std.specs.Global.{Vec}
 use Rattle.std.proofs.lemmas.List.{append-nil}
-use Rattle.std.proofs.lemmas.Option.{slice_get_read}
-use Rattle.brl_accept.specs.Least.{IsLeastFound, IsLeastPairFound}
+use Rattle.brl_accept.specs.Least.{IsLeast, IsLeastFound, IsLeastPairFound}
 use Rattle.brl_accept.specs.Refusals.{HasTwoEnds, LosesMove, LosesSplit, LosesStep}
-use Rattle.brl_cert.specs.Sets.{pair_at, sets_of}
-use Rattle.brl_accept.specs.Steps.{HasOfRule, HasOfRules, LosesPair, runs}
+use Rattle.brl_accept.specs.Steps.{HasOfRule, HasOfRules, HaveOneNumber}
 use Rattle.brl_accept.proofs.LeastLaws.{same_least, same_least_pair}
+use Rattle.brl_accept.proofs.Lists.{inside, read_at, same_place, three_ways}
+use Rattle.brl_accept.proofs.Numbers.{at_named, edge_of, has_pair, is_there, names_at, runs, step_of}
 use Rattle.brl_cert.specs.Lines.{BodyView}
+use Rattle.brl_cert.specs.Range.{IsPairOf}
+use Rattle.brl_cert.specs.Sets.{pair_at, sets_of}
 use Rattle.brl_cert.specs.declared.pair.CertPair.{CertPair}
-use Rattle.brl_pairs.specs.Pairs.{GetsAhead, HasPair, Moves, Splits, StaysBehind, turned}
-use Rattle.brl_pairs.specs.Runs.{Behaviour, IsInOrder, IsListed, IsListedAt}
+use Rattle.brl_edges.specs.Edges.{AreEdges, AreFirstEdges, AreInOrder, AreKeptEdges}
+use Rattle.brl_edges.specs.Pairs.{IsLost, IsThere}
+use Rattle.brl_edges.specs.declared.edge.Edge.{Edge}
+use Rattle.brl_pairs.specs.Pairs.{HasPair}
+use Rattle.brl_pairs.specs.Runs.{Behaviour, IsInOrder, IsListedAt}
 use Rattle.brl_pairs.specs.declared.step.Pair.{Pair}
 use Rattle.brl_pairs.specs.declared.step.Step.{Step}
-
--- what a look by number reads
-pub read_at : {X : Type 0} (xs ys : List X) (k : ℕ) (x : X) → xs ≡ ys → k < length xs → x ≡ get_or xs k x → slice_get ys k ≡ Some x
-read_at xs ys k x same lt is = subst (λ (zs : List _). slice_get zs k ≡ Some x) same (slice_get_read xs (length xs) k x refl lt is)
 
 one_value : {X : Type 0} (o : Option X) (x y : X) → o ≡ Some x → o ≡ Some y → x ≡ y
 one_value o x y a b = cc
 
+either_way : (i j : ℕ) → i ≢ j → (i < j) ⊎ (j < i)
+either_way i j apart = grind arith
+
+in_turn : (a b : ℕ) → a ≤ b → (min a b ≡ a) × (max a b ≡ b)
+in_turn a b le = (grind arith, grind arith)
+
+out_of_turn : (a b : ℕ) → b ≤ a → (min a b ≡ b) × (max a b ≡ a)
+out_of_turn a b le = (grind arith, grind arith)
+
 module _ {S : Type 0} where
-  -- the state that the run behind comes from makes no difference
-  pub from_any : (p : Pair S) (x : Step S) (q : Pair S) → (StaysBehind (runs p.ahead p.ahead p.lead) x q ⊎ GetsAhead (runs p.ahead p.ahead p.lead) x q) ↔ (StaysBehind p x q ⊎ GetsAhead p x q)
-  from_any p x q = (
-    (λ h. elim h [ inl s ↦ inl (record { ahead = s.ahead; behind = s.behind; lead = s.lead }) | inr s ↦ inr (record { ahead = s.ahead; behind = s.behind; some = s.some; lead = s.lead }) ]),
-    λ h. elim h [ inl s ↦ inl (record { ahead = s.ahead; behind = s.behind; lead = s.lead }) | inr s ↦ inr (record { ahead = s.ahead; behind = s.behind; some = s.some; lead = s.lead }) ],
-  )
-
   module _ (m : Behaviour S) (body : BodyView S) where
-    pub step_at : (k : ℕ) (s : S) → slice_get body.states k ≡ Some s → (listed : List (Step S)) → listed ≡ m.steps s
-        → (found : Option ℕ) → IsLeastFound (HasOfRule (λ step. (sets_of body).has_state step.next → ⊥) listed) found → IsLeastFound (LosesStep m body k) found
-    step_at k s at listed is found least =
-        same_least (HasOfRule (λ step. (sets_of body).has_state step.next → ⊥) listed) (LosesStep m body k) (λ rule. (
-          (λ h. record { state = s; is_state = at; step = h.step; listed = subst (λ (l : List (Step S)). IsListed l h.step) is h.is_listed; has_rule = h.has_rule; missing = h.has }),
-          λ l. record {
-            step = l.step;
-            is_listed = subst (λ (z : List (Step S)). IsListed z l.step) (ap m.steps (one_value (slice_get body.states k) l.state s l.is_state at) ∙ sym is) l.listed;
-            has_rule = l.has_rule;
-            has = l.missing;
-          },
-        )) found least
+    -- ---- Steps
 
-    pub move_at : (k : ℕ) (p : Pair S) → pair_at body k ≡ Some p → (listed : List (Step S)) → listed ≡ m.steps p.behind
-        → (found : Option ℕ) → IsLeastFound (HasOfRule (LosesPair (sets_of body) p.ahead p.lead) listed) found → IsLeastFound (LosesMove m body k) found
-    move_at k p at listed is found least =
-        same_least (HasOfRule (LosesPair (sets_of body) p.ahead p.lead) listed) (LosesMove m body k) (λ rule. (
-          (λ h. record {
-            pair = p;
-            is_pair = at;
-            next = h.has.next;
-            moves = record { step = h.step; listed = subst (λ (l : List (Step S)). IsListed l h.step) is h.is_listed; moved = (from_any p h.step h.has.next).0 h.has.moved };
-            has_rule = h.has_rule;
-            missing = h.has.missing;
-          }),
-          λ l. (
-              let same : l.pair ≡ p = one_value (pair_at body k) l.pair p l.is_pair at in
-              let moves : Moves m p l.next = subst (λ (z : Pair S). Moves m z l.next) same l.moves in
-              back rule p l.next listed is l.missing moves (by_rule l.pair p l.next same l.moves ∙ l.has_rule)
-              ),
-        )) found least
-      where
-        by_rule : (p q next : Pair S) (e : p ≡ q) (moves : Moves m p next) → (subst (λ (z : Pair S). Moves m z next) e moves).step.rule ≡ moves.step.rule
-        by_rule p q next e moves = refl
-
-        back : (rule : ℕ) (p next : Pair S) (listed : List (Step S)) → listed ≡ m.steps p.behind → (HasPair (sets_of body) next → ⊥) → (moves : Moves m p next) → moves.step.rule ≡ rule → HasOfRule (LosesPair (sets_of body) p.ahead p.lead) listed rule
-        back rule p next listed is missing moves has_rule = record {
-          step = moves.step;
-          is_listed = subst (λ (z : List (Step S)). IsListed z moves.step) (sym is) moves.listed;
-          has_rule = has_rule;
-          has = record { next = next; moved = (from_any p moves.step next).1 moves.moved; missing = missing };
-        }
-
-    -- a split is a move of the pair whose run ahead took the earlier step
-    pub split_at : (k : ℕ) (s : S) → slice_get body.states k ≡ Some s → (listed : List (Step S)) → listed ≡ m.steps s → IsInOrder (m.steps s)
-        → (found : Option (ℕ × ℕ)) → IsLeastPairFound (HasOfRules (λ x. LosesPair (sets_of body) x.next x.cells) listed) found → IsLeastPairFound (LosesSplit m body k) found
-    split_at k s at listed is in_order found least =
-        same_least_pair (HasOfRules (λ x. LosesPair (sets_of body) x.next x.cells) listed) (LosesSplit m body k) (λ l g. (
-          (λ h. to l g (subst (λ (z : List (Step S)). HasOfRules (λ x. LosesPair (sets_of body) x.next x.cells) z l g) is h)),
-          λ h. subst (λ (z : List (Step S)). HasOfRules (λ x. LosesPair (sets_of body) x.next x.cells) z l g) (sym is) (from l g h),
-        )) found least
-      where
-        ascend : (i j : ℕ) (x y : Step S) → i < j → IsListedAt (m.steps s) i x → IsListedAt (m.steps s) j y → x.rule ≤ y.rule
-        ascend i j x y lt x_at y_at = (in_order i j x y lt x_at y_at).ascend
-
-        lesser : (a b : ℕ) → a ≤ b → (min a b ≡ a) × (max a b ≡ b)
-        lesser a b le = (grind arith, grind arith)
-
-        greater : (a b : ℕ) → b ≤ a → (min a b ≡ b) × (max a b ≡ a)
-        greater a b le = (grind arith, grind arith)
-
-        to : (l g : ℕ) → HasOfRules (λ x. LosesPair (sets_of body) x.next x.cells) (m.steps s) l g → LosesSplit m body k l g
-        to l g h =
-            let le = ascend h.i h.j h.earlier h.later h.in_order h.earlier_listed h.later_listed in
-            elim h.has.moved [
-              | inl stays ↦ record {
-                state = s;
-                is_state = at;
-                pair = h.has.next;
-                split = record {
-                  i = h.i;
-                  j = h.j;
-                  longer = h.earlier;
-                  shorter = h.later;
-                  differ = (λ e. (let lt : h.i < h.j = h.in_order in absurd (omega arith)));
-                  longer_listed = h.earlier_listed;
-                  shorter_listed = h.later_listed;
-                  ahead = stays.ahead;
-                  behind = stays.behind;
-                  lead = stays.lead;
-                };
-                has_lesser = (lesser h.earlier.rule h.later.rule le).0 ∙ h.has_first;
-                has_greater = (lesser h.earlier.rule h.later.rule le).1 ∙ h.has_second;
-                missing = h.has.missing;
-              }
-              | inr gets ↦ record {
-                state = s;
-                is_state = at;
-                pair = h.has.next;
-                split = record {
-                  i = h.j;
-                  j = h.i;
-                  longer = h.later;
-                  shorter = h.earlier;
-                  differ = (λ e. (let lt : h.i < h.j = h.in_order in absurd (omega arith)));
-                  longer_listed = h.later_listed;
-                  shorter_listed = h.earlier_listed;
-                  ahead = gets.ahead;
-                  behind = gets.behind;
-                  lead = gets.lead;
-                };
-                has_lesser = (greater h.later.rule h.earlier.rule le).0 ∙ h.has_first;
-                has_greater = (greater h.later.rule h.earlier.rule le).1 ∙ h.has_second;
-                missing = h.has.missing;
-              }
+    -- the steps before this one have edges, and its next state isn't there: its rule is the least
+    pub step_least : (k n : ℕ) (s : S) → slice_get body.states k ≡ Some s → IsInOrder (m.steps s) → (edges : List Edge) → AreFirstEdges body.states (m.steps s) n edges
+        → (x : Step S) → IsListedAt (m.steps s) n x → ((sets_of body).has_state x.next → ⊥) → IsLeast (LosesStep m body k) x.rule
+    step_least k n s at in_order edges h x x_at missing = record {
+      has = record { state = s; is_state = at; step = x; listed = (n, x_at); has_rule = refl; missing = missing };
+      below_all = λ rule lost.
+          let same : lost.state ≡ s = same_place body.states k lost.state s lost.is_state at in
+          let y_at : IsListedAt (m.steps s) lost.listed.0 lost.step = subst (λ (z : S). IsListedAt (m.steps z) lost.listed.0 lost.step) same lost.listed.1 in
+          subst (λ (r : ℕ). x.rule ≤ r) lost.has_rule (elim (three_ways lost.listed.0 n) [
+            | inl lt ↦ absurd (lost.missing (next_there lost.listed.0 lost.step lt y_at))
+            | inr more ↦ elim more [
+              | inl is ↦ (
+                  let one : lost.step ≡ x = same_place (m.steps s) n lost.step x (ap (slice_get (m.steps s)) (sym is) ∙ y_at) x_at in
+                  let rules : lost.step.rule ≡ x.rule = ap (λ (z : Step S). z.rule) one in
+                  omega arith)
+              | inr gt ↦ (in_order n lost.listed.0 x lost.step gt x_at y_at).ascend
             ]
+          ]);
+    }
+      where
+        next_there : (j : ℕ) (y : Step S) → j < n → IsListedAt (m.steps s) j y → (sets_of body).has_state y.next
+        next_there j y lt y_at =
+            let e = inside edges j (omega (arith, lt, h.count)) in
+            (e.0.next, (h.each j y e.0 y_at e.1).next)
 
-        either_way : (i j : ℕ) → i ≢ j → (i < j) ⊎ (j < i)
-        either_way i j ne = grind arith
+    -- a state with edges loses no step
+    pub steps_kept : (kept : List (Vec Edge)) → AreKeptEdges m body.states kept → (k : ℕ) → k < length kept → (rule : ℕ) → LosesStep m body k rule → ⊥
+    steps_kept kept h k lt rule lost =
+        let e = inside kept k lt in
+        let x = edge_of m body.states k e.0.items (h k e.0 e.1) lost.state lost.is_state lost.listed.0 lost.step lost.listed.1 in
+        lost.missing (x.edge.next, x.is_edge.next)
 
-        -- the longer step gets ahead, or where both have the same cells it stays level, in the other order
-        gets : (longer shorter : Step S) (p : Pair S) (lead : List ℕ) → p.lead ≡ lead → p.ahead ≡ longer.next → p.behind ≡ shorter.next → longer.cells ≡ shorter.cells ++ p.lead → (HasPair (sets_of body) p → ⊥) → LosesPair (sets_of body) shorter.next shorter.cells longer
-        gets longer shorter p [] level ahead behind cells missing = record {
-          next = turned p;
-          moved = inl (record { ahead = behind; behind = ahead; lead = sym (append-nil shorter.cells) ∙ ap (λ (z : List ℕ). shorter.cells ++ z) (sym level) ∙ sym cells ∙ sym (append-nil longer.cells) ∙ ap (λ (z : List ℕ). longer.cells ++ z) (sym level) });
-          missing = λ h. missing (elim h [ inl there ↦ inr (level, there) | inr there ↦ inl there.1 ]);
-        }
-        gets longer shorter p (c ∷ cs) some ahead behind cells missing = record {
-          next = p;
-          moved = inr (record { ahead = ahead; behind = behind; some = (λ none. (let e : c ∷ cs ≡ [] = sym some ∙ none in cc)); lead = cells });
-          missing = missing;
-        }
+    -- ---- Moves
 
-        from : (l g : ℕ) → LosesSplit m body k l g → HasOfRules (λ x. LosesPair (sets_of body) x.next x.cells) (m.steps s) l g
-        from l g h =
-            let same : h.state ≡ s = one_value (slice_get body.states k) h.state s h.is_state at in
-            by_split l g h.pair (ap m.steps same) h.split h.has_lesser h.has_greater h.missing
-          where
-            by_split : (l g : ℕ) (p : Pair S) {listed : List (Step S)} → listed ≡ m.steps s → (split : Splits listed p) → min split.longer.rule split.shorter.rule ≡ l → max split.longer.rule split.shorter.rule ≡ g → (HasPair (sets_of body) p → ⊥)
-                → HasOfRules (λ x. LosesPair (sets_of body) x.next x.cells) (m.steps s) l g
-            by_split l g p e split has_lesser has_greater missing =
-                let longer_at : IsListedAt (m.steps s) split.i split.longer = subst (λ (z : List (Step S)). IsListedAt z split.i split.longer) e split.longer_listed in
-                let shorter_at : IsListedAt (m.steps s) split.j split.shorter = subst (λ (z : List (Step S)). IsListedAt z split.j split.shorter) e split.shorter_listed in
-                elim (either_way split.i split.j split.differ) [
-                  | inl lt ↦
-                      let le = ascend split.i split.j split.longer split.shorter lt longer_at shorter_at in
-                      record {
-                        i = split.i;
-                        j = split.j;
-                        earlier = split.longer;
-                        later = split.shorter;
-                        in_order = lt;
-                        earlier_listed = longer_at;
-                        later_listed = shorter_at;
-                        has_first = sym (lesser split.longer.rule split.shorter.rule le).0 ∙ has_lesser;
-                        has_second = sym (lesser split.longer.rule split.shorter.rule le).1 ∙ has_greater;
-                        has = record { next = p; moved = inl (record { ahead = split.ahead; behind = split.behind; lead = split.lead }); missing = missing };
-                      }
-                  | inr gt ↦
-                      let le = ascend split.j split.i split.shorter split.longer gt shorter_at longer_at in
-                      record {
-                        i = split.j;
-                        j = split.i;
-                        earlier = split.shorter;
-                        later = split.longer;
-                        in_order = gt;
-                        earlier_listed = shorter_at;
-                        later_listed = longer_at;
-                        has_first = sym (greater split.longer.rule split.shorter.rule le).0 ∙ has_lesser;
-                        has_second = sym (greater split.longer.rule split.shorter.rule le).1 ∙ has_greater;
-                        has = gets split.longer split.shorter p p.lead refl split.ahead split.behind split.lead missing;
-                      }
-                ]
+    module _ (one : HaveOneNumber body.states) (k : ℕ) (q : CertPair) (q_at : slice_get body.pairs k ≡ Some q) (edges : List Edge) (h : AreEdges m body.states q.behind edges) where
+      -- an edge that loses a pair is a step that loses a move
+      to_move : (a : S) → slice_get body.states q.ahead ≡ Some a → (rule : ℕ) → HasOfRule (IsLost body.pairs q.ahead q.lead) edges rule → LosesMove m body k rule
+      to_move a a_at rule f =
+          let x = step_of m body.states q.behind edges h f.place f.edge f.at in
+          let at : pair_at body k ≡ Some (runs a h.state q.lead) = at_named body k q (runs a h.state q.lead) q_at (record { ahead = a_at; behind = h.at; lead = refl }) in
+          elim f.has [
+            | inl lost ↦ record {
+              pair = runs a h.state q.lead;
+              is_pair = at;
+              next = runs a x.step.next lost.rest;
+              moves = record {
+                step = x.step;
+                listed = (f.place, x.at);
+                moved = inl (record { ahead = refl; behind = refl; lead = lost.longer ∙ ap (λ (z : List ℕ). z ++ lost.rest) x.is_edge.cells });
+              };
+              has_rule = sym x.is_edge.rule ∙ f.has_rule;
+              missing = λ there. lost.missing (is_there body one q.ahead f.edge.next lost.rest (runs a x.step.next lost.rest) a_at x.is_edge.next refl there);
+            }
+            | inr lost ↦ record {
+              pair = runs a h.state q.lead;
+              is_pair = at;
+              next = runs x.step.next a lost.rest;
+              moves = record {
+                step = x.step;
+                listed = (f.place, x.at);
+                moved = inr (record { ahead = refl; behind = refl; some = lost.some; lead = sym x.is_edge.cells ∙ lost.shorter });
+              };
+              has_rule = sym x.is_edge.rule ∙ f.has_rule;
+              missing = λ there. lost.missing (is_there body one f.edge.next q.ahead lost.rest (runs x.step.next a lost.rest) x.is_edge.next a_at refl there);
+            }
+          ]
+
+      -- and the other way round
+      from_move : (rule : ℕ) → LosesMove m body k rule → HasOfRule (IsLost body.pairs q.ahead q.lead) edges rule
+      from_move rule l =
+          let names = names_at body k q l.pair q_at l.is_pair in
+          let x = edge_of m body.states q.behind edges h l.pair.behind names.behind l.moves.listed.0 l.moves.step l.moves.listed.1 in
+          record {
+            place = l.moves.listed.0;
+            edge = x.edge;
+            at = x.at;
+            has_rule = x.is_edge.rule ∙ l.has_rule;
+            has = elim l.moves.moved [
+              | inl stays ↦ inl (record {
+                rest = l.next.lead;
+                longer = names.lead ∙ stays.lead ∙ ap (λ (z : List ℕ). z ++ l.next.lead) (sym x.is_edge.cells);
+                missing = λ there. l.missing (has_pair body q.ahead x.edge.next l.next.lead l.next (names.ahead ∙ ap (λ (z : S). Some z) (sym stays.ahead)) (x.is_edge.next ∙ ap (λ (z : S). Some z) (sym stays.behind)) refl there);
+              })
+              | inr gets ↦ inr (record {
+                rest = l.next.lead;
+                some = gets.some;
+                shorter = x.is_edge.cells ∙ gets.lead ∙ ap (λ (z : List ℕ). z ++ l.next.lead) (sym names.lead);
+                missing = λ there. l.missing (has_pair body x.edge.next q.ahead l.next.lead l.next (x.is_edge.next ∙ ap (λ (z : S). Some z) (sym gets.ahead)) (names.ahead ∙ ap (λ (z : S). Some z) (sym gets.behind)) refl there);
+              })
+            ];
+          }
+
+      pub move_at : IsPairOf (length body.states) q → (found : Option ℕ) → IsLeastFound (HasOfRule (IsLost body.pairs q.ahead q.lead) edges) found → IsLeastFound (LosesMove m body k) found
+      move_at range found least =
+          let a = inside body.states q.ahead range.ahead in
+          same_least (HasOfRule (IsLost body.pairs q.ahead q.lead) edges) (LosesMove m body k) (λ rule. (to_move a.0 a.1 rule, from_move rule)) found least
+
+    -- ---- Splits
+
+    module _ (one : HaveOneNumber body.states) (k : ℕ) (edges : List Edge) (h : AreEdges m body.states k edges) (in_order : AreInOrder edges) where
+      abbrev Lost : Edge → Edge → Type 0
+      Lost x y = IsLost body.pairs x.next x.cells y
+
+      -- two edges that lose a pair are two steps that lose a split
+      to_split : (l g : ℕ) → HasOfRules Lost edges l g → LosesSplit m body k l g
+      to_split l g f =
+          let x = step_of m body.states k edges h f.i f.earlier f.earlier_at in
+          let y = step_of m body.states k edges h f.j f.later f.later_at in
+          let less : f.i < f.j = f.in_order in
+          let le : x.step.rule ≤ y.step.rule = (let ascend : f.earlier.rule ≤ f.later.rule = in_order f.i f.j f.earlier f.later less f.earlier_at f.later_at in omega (arith, ascend, x.is_edge.rule, y.is_edge.rule)) in
+          let first : x.step.rule ≡ l = sym x.is_edge.rule ∙ f.has_first in
+          let second : y.step.rule ≡ g = sym y.is_edge.rule ∙ f.has_second in
+          elim f.has [
+            | inl lost ↦ record {
+              state = h.state;
+              is_state = h.at;
+              pair = runs x.step.next y.step.next lost.rest;
+              split = record {
+                i = f.i;
+                j = f.j;
+                longer = x.step;
+                shorter = y.step;
+                differ = (λ e. absurd (omega (arith, less, e)));
+                longer_listed = x.at;
+                shorter_listed = y.at;
+                ahead = refl;
+                behind = refl;
+                lead = sym x.is_edge.cells ∙ lost.longer ∙ ap (λ (z : List ℕ). z ++ lost.rest) y.is_edge.cells;
+              };
+              has_lesser = (in_turn x.step.rule y.step.rule le).0 ∙ first;
+              has_greater = (in_turn x.step.rule y.step.rule le).1 ∙ second;
+              missing = λ there. lost.missing (is_there body one f.earlier.next f.later.next lost.rest (runs x.step.next y.step.next lost.rest) x.is_edge.next y.is_edge.next refl there);
+            }
+            | inr lost ↦ record {
+              state = h.state;
+              is_state = h.at;
+              pair = runs y.step.next x.step.next lost.rest;
+              split = record {
+                i = f.j;
+                j = f.i;
+                longer = y.step;
+                shorter = x.step;
+                differ = (λ e. absurd (omega (arith, less, e)));
+                longer_listed = y.at;
+                shorter_listed = x.at;
+                ahead = refl;
+                behind = refl;
+                lead = sym y.is_edge.cells ∙ lost.shorter ∙ ap (λ (z : List ℕ). z ++ lost.rest) x.is_edge.cells;
+              };
+              has_lesser = (out_of_turn y.step.rule x.step.rule le).0 ∙ first;
+              has_greater = (out_of_turn y.step.rule x.step.rule le).1 ∙ second;
+              missing = λ there. lost.missing (is_there body one f.later.next f.earlier.next lost.rest (runs y.step.next x.step.next lost.rest) y.is_edge.next x.is_edge.next refl there);
+            }
+          ]
+
+      -- the longer edge is the later one: it gets ahead, or where both have the same cells it stays level, in the other order
+      later_longer : (longer shorter : Edge) (p : Pair S) (lead : List ℕ) → p.lead ≡ lead → slice_get body.states longer.next ≡ Some p.ahead → slice_get body.states shorter.next ≡ Some p.behind
+          → longer.cells ≡ shorter.cells ++ lead → (HasPair (sets_of body) p → ⊥) → Lost shorter longer
+      later_longer longer shorter p [] level ahead behind cells missing = inl (record {
+        rest = [];
+        longer = sym (append-nil shorter.cells) ∙ sym cells ∙ sym (append-nil longer.cells);
+        missing = λ there. missing (has_pair body longer.next shorter.next [] p ahead behind (sym level) (other_order there));
+      })
+        where
+          other_order : IsThere body.pairs shorter.next longer.next [] → IsThere body.pairs longer.next shorter.next []
+          other_order (inl there) = inr (refl, there)
+          other_order (inr there) = inl there.1
+      later_longer longer shorter p (c ∷ cs) some ahead behind cells missing = inr (record {
+        rest = c ∷ cs;
+        some = (λ none. cc);
+        shorter = cells;
+        missing = λ there. missing (has_pair body longer.next shorter.next (c ∷ cs) p ahead behind (sym some) there);
+      })
+
+      -- and the other way round
+      from_split : (l g : ℕ) → LosesSplit m body k l g → HasOfRules Lost edges l g
+      from_split l g f =
+          let split = f.split in
+          let x = edge_of m body.states k edges h f.state f.is_state split.i split.longer split.longer_listed in
+          let y = edge_of m body.states k edges h f.state f.is_state split.j split.shorter split.shorter_listed in
+          let ahead : slice_get body.states x.edge.next ≡ Some f.pair.ahead = x.is_edge.next ∙ ap (λ (z : S). Some z) (sym split.ahead) in
+          let behind : slice_get body.states y.edge.next ≡ Some f.pair.behind = y.is_edge.next ∙ ap (λ (z : S). Some z) (sym split.behind) in
+          let cells : x.edge.cells ≡ y.edge.cells ++ f.pair.lead = x.is_edge.cells ∙ split.lead ∙ ap (λ (z : List ℕ). z ++ f.pair.lead) (sym y.is_edge.cells) in
+          elim (either_way split.i split.j split.differ) [
+            | inl less ↦
+                let ascend : x.edge.rule ≤ y.edge.rule = in_order split.i split.j x.edge y.edge less x.at y.at in
+                let le : split.longer.rule ≤ split.shorter.rule = omega (arith, ascend, x.is_edge.rule, y.is_edge.rule) in
+                record {
+                  i = split.i;
+                  j = split.j;
+                  earlier = x.edge;
+                  later = y.edge;
+                  in_order = less;
+                  earlier_at = x.at;
+                  later_at = y.at;
+                  has_first = x.is_edge.rule ∙ sym (in_turn split.longer.rule split.shorter.rule le).0 ∙ f.has_lesser;
+                  has_second = y.is_edge.rule ∙ sym (in_turn split.longer.rule split.shorter.rule le).1 ∙ f.has_greater;
+                  has = inl (record {
+                    rest = f.pair.lead;
+                    longer = cells;
+                    missing = λ there. f.missing (has_pair body x.edge.next y.edge.next f.pair.lead f.pair ahead behind refl there);
+                  });
+                }
+            | inr more ↦
+                let ascend : y.edge.rule ≤ x.edge.rule = in_order split.j split.i y.edge x.edge more y.at x.at in
+                let le : split.shorter.rule ≤ split.longer.rule = omega (arith, ascend, x.is_edge.rule, y.is_edge.rule) in
+                record {
+                  i = split.j;
+                  j = split.i;
+                  earlier = y.edge;
+                  later = x.edge;
+                  in_order = more;
+                  earlier_at = y.at;
+                  later_at = x.at;
+                  has_first = y.is_edge.rule ∙ sym (out_of_turn split.longer.rule split.shorter.rule le).0 ∙ f.has_lesser;
+                  has_second = x.is_edge.rule ∙ sym (out_of_turn split.longer.rule split.shorter.rule le).1 ∙ f.has_greater;
+                  has = later_longer x.edge y.edge f.pair f.pair.lead refl ahead behind cells f.missing;
+                }
+          ]
+
+      pub split_at : (found : Option (ℕ × ℕ)) → IsLeastPairFound (HasOfRules Lost edges) found → IsLeastPairFound (LosesSplit m body k) found
+      split_at found least = same_least_pair (HasOfRules Lost edges) (LosesSplit m body k) (λ l g. (to_split l g, from_split l g)) found least
+
+    -- ---- Ends
 
     pub ends_at : (k : ℕ) (p : Pair S) → pair_at body k ≡ Some p → (both : Bool) → IsTrue both ↔ ((p.lead ≡ []) × IsTrue (m.ends p.ahead) × IsTrue (m.ends p.behind)) → IsTrue both ↔ HasTwoEnds m body k
     ends_at k p at both tells = (

@@ -18,11 +18,11 @@ use Rattle.brl_lines.specs.Lines.{Answers, Refusal, lines_of}
 use Rattle.brl_lines.specs.Tokens.{LineView}
 use Rattle.brl_lines.specs.declared.fault.LoadFault.{LoadFault}
 use Rattle.brl_lines.specs.declared.fault.LoadFault.TheVariants as load
-use Rattle.brl_table.specs.Items.{Fault}
-use Rattle.brl_table.specs.Reading.{IsFaultOf as IsFaultOfLines, IsFirstFound, PassesAll, PassesBefore, table_of}
+use Rattle.brl_reading.specs.Items.{Fault}
+use Rattle.brl_reading.specs.Reading.{IsFaultOf as IsFaultOfLines, IsFirstFound, PassesAll, PassesBefore, table_of}
 use Rattle.brl_table.specs.TableView.{TableView}
-use Rattle.brl_table.specs.declared.table_fault.TableFault.{TableFault}
-use Rattle.brl_table.specs.declared.table_fault.TableFault.TheVariants as table
+use Rattle.brl_reading.specs.declared.table_fault.TableFault.{TableFault}
+use Rattle.brl_reading.specs.declared.table_fault.TableFault.TheVariants as table
 use Rattle.brl_window.specs.Width.{start_moves}
 use Rattle.brl_window.specs.Windows.{window_machine}
 use Rattle.brl_dues.specs.Steps.{dues_machine}

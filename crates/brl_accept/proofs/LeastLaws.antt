@@ -29,10 +29,13 @@ pub same_least_pair : (A B : ℕ → ℕ → Type 0) → ((f s : ℕ) → A f s 
 same_least_pair A B same None none = λ f s h. none f s ((same f s).1 h)
 same_least_pair A B same (Some p) least = record { has = (same p.0 p.1).0 least.has; before_all = λ f s h. least.before_all f s ((same f s).1 h) }
 
--- with this first number
-pub with_first : (A : ℕ → Type 0) (first : ℕ) (found : Option ℕ) → IsLeastFound A found → IsLeastPairFound (λ f s. (f ≡ first) × A s) (option_map (λ second. (first, second)) found)
-with_first A first None none = λ f s h. none s h.1
-with_first A first (Some second) least = record { has = (refl, least.has); before_all = λ f s h. inr (sym h.0, least.below_all s h.1) }
+-- with this second number
+pub with_second : (A : ℕ → Type 0) (second : ℕ) (found : Option ℕ) → IsLeastFound A found → IsLeastPairFound (λ f s. A f × (s ≡ second)) (option_map (λ first. (first, second)) found)
+with_second A second None none = λ f s h. none f h.0
+with_second A second (Some first) least = record { has = (least.has, refl); before_all = λ f s h. at_or_behind f s (least.below_all f h.0) h.1 }
+  where
+    at_or_behind : (f s : ℕ) → first ≤ f → s ≡ second → (first < f) ⊎ ((first ≡ f) × (second ≤ s))
+    at_or_behind f s le is = elim (cases_eq first f) [ inl e ↦ inr (e, omega (arith, is)) | inr apart ↦ inl (omega arith) ]
 
 -- which of two pairs comes first
 before_or : (p q : ℕ × ℕ) → ((comes_before q p ≡ true) × ((q.0 < p.0) ⊎ ((q.0 ≡ p.0) × (q.1 ≤ p.1)))) ⊎ ((comes_before q p ≡ false) × ((p.0 < q.0) ⊎ ((p.0 ≡ q.0) × (p.1 ≤ q.1))))

@@ -1,8 +1,11 @@
+pub mod Lists
 pub mod Listed
 pub mod Losing
 pub mod LeastLaws
 pub mod OfRule
 pub mod Splitting
+pub mod Numbers
+pub mod Kept
 pub mod At
 pub mod Deciding
 pub mod Closing

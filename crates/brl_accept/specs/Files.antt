@@ -4,7 +4,7 @@ use Rattle.brl_lines.specs.Answer.{Answer}
 use Rattle.brl_lines.specs.Lines.{Answers, lines_of}
 use Rattle.brl_lines.specs.Outcome.{AreGiven}
 use Rattle.brl_lines.specs.Tokens.{LineView}
-use Rattle.brl_table.specs.Reading.{table_of, PassesAll}
+use Rattle.brl_reading.specs.Reading.{table_of, PassesAll}
 use Rattle.brl_table.specs.TableView.{TableView}
 
 -- the lines of the file at a path, for answers that a source of files may give

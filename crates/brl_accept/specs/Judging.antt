@@ -20,10 +20,10 @@ use Rattle.brl_lines.specs.declared.fault.LoadFault.{LoadFault}
 use Rattle.brl_lines.specs.declared.fault.LoadFault.TheVariants as load
 use Rattle.brl_pairs.specs.Pairs.{IsClosed}
 use Rattle.brl_pairs.specs.Runs.{Behaviour}
-use Rattle.brl_table.specs.Reading.{IsFaultOf as IsFaultOfLines}
+use Rattle.brl_reading.specs.Reading.{IsFaultOf as IsFaultOfLines}
 use Rattle.brl_table.specs.TableView.{TableView}
-use Rattle.brl_table.specs.declared.table_fault.TableFault.{TableFault}
-use Rattle.brl_table.specs.declared.table_fault.TableFault.TheVariants as table
+use Rattle.brl_reading.specs.declared.table_fault.TableFault.{TableFault}
+use Rattle.brl_reading.specs.declared.table_fault.TableFault.TheVariants as table
 use Rattle.brl_window.specs.Width.{start_moves}
 use Rattle.brl_window.specs.Windows.{window_machine}
 

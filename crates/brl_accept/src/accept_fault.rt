@@ -1,5 +1,5 @@
 //! Why a certificate that was read is not accepted.
-use std::alloc::AllocError;
+use std::alloc::{AllocError, AllocFailed};
 use thiserror::Error;
 
 /// What is missing for the states and pairs to be closed. States and pairs have their numbers in the certificate, from 0;
@@ -45,6 +45,17 @@ impl From<AllocError> for AcceptFault {
     ghost from_gives = { λ _ fault. fault ≡ Memory };
 
     fn from(_error: AllocError) -> AcceptFault {
+        AcceptFault::Memory
+    }
+}
+
+impl<T: Drop> From<AllocFailed<T>> for AcceptFault {
+    ghost use Rattle.std.specs.Prelude.{◌≡◌};
+    ghost use Rattle.brl_accept.specs.declared.accept_fault.AcceptFault.TheVariants.{Memory};
+
+    ghost from_gives = { λ _ fault. fault ≡ Memory };
+
+    fn from(_error: AllocFailed<T>) -> AcceptFault {
         AcceptFault::Memory
     }
 }

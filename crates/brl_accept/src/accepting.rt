@@ -1,37 +1,39 @@
 //! Accepting a certificate.
 ghost use Rattle.std.specs.Prelude.{◌≡◌, ◌≢◌, ℕ, IfErr, IfOk, OnOk, length};
 ghost use Rattle.brl_accept.specs.Refusals.{HasStart, HasTwoEnds, IsRefused, KeepsMoves, KeepsSplits, KeepsSteps};
+ghost use Rattle.brl_accept.specs.Steps.{HasAllEdges};
 ghost use Rattle.brl_cert.specs.Sets.{sets_of};
 ghost use Rattle.brl_cert.specs.Views.{listed};
 ghost use Rattle.brl_pairs.specs.Pairs.{IsClosed};
 ghost use Rattle.brl_pairs.specs.Runs.{IsUnambiguous, KeepsLaws};
 
+use crate::listing::edges_of;
 use crate::lookup::has_state;
-use crate::losses::{has_two_ends_at, lost_move_at, lost_split_at, lost_step_at};
+use crate::losses::{has_two_ends_at, lost_move_at, lost_split_at};
 use crate::{AcceptFault, Accepted};
 use brl_cert::Body;
+use brl_edges::Edge;
 use brl_pairs::{Machine, numbered_sets_law};
 use std::alloc::Global;
 
-/// Each step from one of the states leads to one of them.
+/// The edges of all states. Each step from one of the states leads to one of them.
 fn check_steps<M: Machine>(
     alloc: Global,
     machine: &M,
     body: &Body<M::State>,
-) -> Result<(), AcceptFault>
+) -> Result<Vec<Vec<Edge>>, AcceptFault>
     requires laws { KeepsLaws (M.behaviour machine.now) }
     requires start { HasStart (M.behaviour machine.now) (listed body.now.states body.now.pairs) }
+    ensures kept { IfOk result (λ kept. HasAllEdges (M.behaviour machine.now) body.now.states kept.items) }
     ensures keeps { OnOk result (KeepsSteps (M.behaviour machine.now) (listed body.now.states body.now.pairs)) }
     ensures refused { IfErr result (IsRefused (M.behaviour machine.now) (listed body.now.states body.now.pairs)) }
 {
+    let mut kept = Vec::new(alloc);
     for number in 0..body.states.len() {
-        let lost = lost_step_at(alloc, machine, body, number)?;
-        if let Some(rule) = lost {
-            let state = number as u32;
-            return Err(AcceptFault::StateMissing { state, rule });
-        }
+        let edges = edges_of(alloc, machine, body, number)?;
+        kept.push(edges)?;
     }
-    Ok(())
+    Ok(kept)
 }
 
 /// Each split of one of the states is there.
@@ -39,15 +41,16 @@ fn check_splits<M: Machine>(
     alloc: Global,
     machine: &M,
     body: &Body<M::State>,
+    kept: &[Vec<Edge>],
 ) -> Result<(), AcceptFault>
-    requires laws { KeepsLaws (M.behaviour machine.now) }
     requires start { HasStart (M.behaviour machine.now) (listed body.now.states body.now.pairs) }
     requires steps { KeepsSteps (M.behaviour machine.now) (listed body.now.states body.now.pairs) }
+    requires kept { HasAllEdges (M.behaviour machine.now) body.now.states kept.now }
     ensures keeps { OnOk result (KeepsSplits (M.behaviour machine.now) (listed body.now.states body.now.pairs)) }
     ensures refused { IfErr result (IsRefused (M.behaviour machine.now) (listed body.now.states body.now.pairs)) }
 {
     for number in 0..body.states.len() {
-        let lost = lost_split_at(alloc, machine, body, number)?;
+        let lost = lost_split_at(alloc, machine, body, kept, number)?;
         if let Some((lesser, greater)) = lost {
             let state = number as u32;
             return Err(AcceptFault::SplitMissing {
@@ -65,16 +68,17 @@ fn check_moves<M: Machine>(
     alloc: Global,
     machine: &M,
     body: &Body<M::State>,
+    kept: &[Vec<Edge>],
 ) -> Result<(), AcceptFault>
-    requires laws { KeepsLaws (M.behaviour machine.now) }
     requires start { HasStart (M.behaviour machine.now) (listed body.now.states body.now.pairs) }
     requires steps { KeepsSteps (M.behaviour machine.now) (listed body.now.states body.now.pairs) }
     requires splits { KeepsSplits (M.behaviour machine.now) (listed body.now.states body.now.pairs) }
+    requires kept { HasAllEdges (M.behaviour machine.now) body.now.states kept.now }
     ensures keeps { OnOk result (KeepsMoves (M.behaviour machine.now) (listed body.now.states body.now.pairs)) }
     ensures refused { IfErr result (IsRefused (M.behaviour machine.now) (listed body.now.states body.now.pairs)) }
 {
     for number in 0..body.pairs.len() {
-        let lost = lost_move_at(alloc, machine, body, number)?;
+        let lost = lost_move_at(alloc, machine, body, kept, number)?;
         if let Some(rule) = lost {
             let pair = number as u32;
             return Err(AcceptFault::PairMissing { pair, rule });
@@ -109,9 +113,9 @@ fn check<M: Machine>(alloc: Global, machine: &M, body: &Body<M::State>) -> Resul
     if !has_state::<M>(body, &machine.start()) {
         return Err(AcceptFault::NoStart);
     }
-    check_steps(alloc, machine, body)?;
-    check_splits(alloc, machine, body)?;
-    check_moves(alloc, machine, body)?;
+    let kept = check_steps(alloc, machine, body)?;
+    check_splits(alloc, machine, body, kept.as_slice())?;
+    check_moves(alloc, machine, body, kept.as_slice())?;
     check_ends(machine, body)
 }
 

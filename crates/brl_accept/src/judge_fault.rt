@@ -2,7 +2,7 @@
 use crate::AcceptFault;
 use brl_cert::CertFault;
 use brl_lines::LoadFault;
-use brl_table::TableFault;
+use brl_reading::TableFault;
 use brl_window::TooWide;
 use std::alloc::AllocError;
 use thiserror::Error;

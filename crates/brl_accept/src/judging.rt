@@ -19,7 +19,8 @@ use crate::{Accepted, JudgeFault, accept};
 use brl_cert::{Body, Cert, read_cert};
 use brl_dues::{Dues, DuesState};
 use brl_lines::{Source, load};
-use brl_table::{Table, read_table};
+use brl_reading::read_table;
+use brl_table::Table;
 use brl_window::{Window, WindowState};
 use std::alloc::Global;
 
@@ -109,5 +110,7 @@ pub fn judge<S: Source>(
     ensures same { (p : List ℕ) (a : Answer) → S.gives source.new p a ↔ S.gives source.old p a }
 {
     let table = table_at(alloc, source, root)?;
-    judge_table(alloc, &table, cert)
+    let judged = judge_table(alloc, &table, cert);
+    drop(table);
+    judged
 }

@@ -7,6 +7,7 @@ mod accepted;
 mod accepting;
 mod judge_fault;
 mod judging;
+mod listing;
 mod lookup;
 mod losses;
 

@@ -1,49 +1,73 @@
-//! What is missing behind the steps of one state.
-ghost use Rattle.std.specs.Prelude.{◌≡◌, ◌<◌, ◌↔◌, [], IfOk, IsTrue, length};
+//! What is missing after the steps of one state, by their edges.
+ghost use Rattle.std.specs.Prelude.{◌≡◌, ◌<◌, ◌↔◌, [], IfOk, IsTrue, Some, length, slice_get};
 ghost use Rattle.brl_accept.specs.Least.{IsLeastFound, IsLeastPairFound, lesser_of};
-ghost use Rattle.brl_accept.specs.Refusals.{HasTwoEnds, LosesMove, LosesSplit, LosesStep};
-ghost use Rattle.brl_cert.specs.Sets.{sets_of};
-ghost use Rattle.brl_accept.specs.Steps.{HasOfRule, HasOfRules, LosesPair};
+ghost use Rattle.brl_accept.specs.Refusals.{HasTwoEnds, LosesMove, LosesSplit};
+ghost use Rattle.brl_accept.specs.Steps.{HasAllEdges, HasBefore, HasOfRule, HasOfRules};
 ghost use Rattle.brl_cert.specs.Views.{listed as body_of};
-ghost use Rattle.brl_pairs.specs.Runs.{IsInOrder, KeepsLaws};
+ghost use Rattle.brl_edges.specs.Edges.{AreInOrder, HaveCells};
+ghost use Rattle.brl_edges.specs.Pairs.{IsLost};
+ghost use Rattle.brl_edges.specs.Places.{ArePlacesBefore};
+ghost use Rattle.brl_edges.specs.declared.edge.Edge.{Edge as EdgeValue};
 
-use crate::lookup::{has_state, loses_pair, states_of};
+use crate::lookup::{one_number_law, states_of};
 use brl_cells::Cell;
-use brl_cert::Body;
-use brl_pairs::{Machine, Step};
+use brl_cert::{Body, CertPair, Members};
+use brl_edges::{Edge, different_cells_law, edges_law, loses, places_before};
+use brl_pairs::Machine;
 use std::alloc::{AllocError, Global};
 
-/// The least rule of the steps that lead to a state that isn't there.
-pub fn lost_step<M: Machine>(body: &Body<M::State>, listed: &[Step<M::State>]) -> Option<u32>
-    requires { IsInOrder listed.now }
-    ensures { IsLeastFound (HasOfRule (λ step. (sets_of (body_of body.now.states body.now.pairs)).has_state step.next → ⊥) listed.now) result }
-{
-    for step in listed {
-        if !has_state::<M>(body, &step.next) {
-            return Some(step.rule);
-        }
-    }
-    None
-}
-
-/// The least rule of the steps by which a pair moves to one that isn't there.
-pub fn lost_move<M: Machine>(
+/// The least rule of the edges by which a run behind makes a pair that isn't there. The other run
+/// is ahead of it by this lead, and has come to the state with the number `ahead`.
+fn lost_move(
     alloc: Global,
-    machine: &M,
-    body: &Body<M::State>,
-    ahead: &M::State,
+    pairs: &Members<CertPair>,
+    ahead: u32,
     lead: &[Cell],
-    listed: &[Step<M::State>],
+    edges: &[Edge],
 ) -> Result<Option<u32>, AllocError>
-    requires { IsInOrder listed.now }
-    ensures { IfOk result (IsLeastFound (HasOfRule (LosesPair (sets_of (body_of body.now.states body.now.pairs)) ahead.now lead.now) listed.now)) }
+    requires { AreInOrder edges.now }
+    ensures { IfOk result (IsLeastFound (HasOfRule (IsLost pairs.now ahead lead.now) edges.now)) }
 {
-    for step in listed {
-        if loses_pair(alloc, machine, body, ahead, lead, step)? {
-            return Ok(Some(step.rule));
+    for edge in edges {
+        if loses(alloc, pairs, ahead, lead, edge)? {
+            return Ok(Some(edge.rule));
         }
     }
     Ok(None)
+}
+
+/// The least rule of the edges before the second one that split with it into a pair that isn't
+/// there. Only those whose cells begin with the same cell can: they are tried from the last to the
+/// first, so the one found last has the least rule.
+fn lost_split_with(
+    alloc: Global,
+    pairs: &Members<CertPair>,
+    edges: &[Edge],
+    before: &[usize],
+    second: usize,
+) -> Result<Option<u32>, AllocError>
+    requires in_order { AreInOrder edges.now }
+    requires cells { HaveCells edges.now }
+    requires before { ArePlacesBefore edges.now before.now }
+    requires within { second < length edges.now }
+    ensures { IfOk result (λ found. (later : EdgeValue) → slice_get edges.now second ≡ Some later
+        → IsLeastFound (HasBefore (λ earlier. IsLost pairs.now earlier.next earlier.cells later) edges.now second) found) }
+{
+    different_cells_law();
+    let later = &edges[second];
+    let mut least = None;
+    let mut place = before[second];
+    while place > 0 {
+        let first = place - 1;
+        let earlier = &edges[first];
+        let lead = earlier.cells.as_slice();
+        let lost = loses(alloc, pairs, earlier.next, lead, later)?;
+        if lost {
+            least = Some(earlier.rule);
+        }
+        place = before[first];
+    }
+    Ok(least)
 }
 
 /// The one that comes first in the order of a dictionary, where there is one.
@@ -63,40 +87,23 @@ fn lesser(one: Option<(u32, u32)>, other: Option<(u32, u32)>) -> Option<(u32, u3
     }
 }
 
-/// The least rules of two steps that split into a pair that isn't there.
-pub fn lost_split<M: Machine>(
+/// The least rules of two edges that split into a pair that isn't there.
+fn lost_split(
     alloc: Global,
-    machine: &M,
-    body: &Body<M::State>,
-    listed: &[Step<M::State>],
+    pairs: &Members<CertPair>,
+    edges: &[Edge],
 ) -> Result<Option<(u32, u32)>, AllocError>
-    requires { IsInOrder listed.now }
-    ensures { IfOk result (IsLeastPairFound (HasOfRules (λ first. LosesPair (sets_of (body_of body.now.states body.now.pairs)) first.next first.cells) listed.now)) }
+    requires in_order { AreInOrder edges.now }
+    requires cells { HaveCells edges.now }
+    ensures { IfOk result (IsLeastPairFound (HasOfRules (λ earlier. IsLost pairs.now earlier.next earlier.cells) edges.now)) }
 {
+    let before = places_before(alloc, edges)?;
     let mut best = None;
-    for (i, first) in listed.iter().enumerate() {
-        let rest = &listed[i + 1..];
-        let cells = first.cells.as_slice();
-        let found = lost_move(alloc, machine, body, &first.next, cells, rest)?;
-        best = lesser(best, found.map(|second| (first.rule, second)));
+    for (second, later) in edges.iter().enumerate() {
+        let found = lost_split_with(alloc, pairs, edges, before.as_slice(), second)?;
+        best = lesser(best, found.map(|first| (first, later.rule)));
     }
     Ok(best)
-}
-
-/// The least rule by which the state with this number loses a step.
-pub fn lost_step_at<M: Machine>(
-    alloc: Global,
-    machine: &M,
-    body: &Body<M::State>,
-    number: usize,
-) -> Result<Option<u32>, AllocError>
-    requires laws { KeepsLaws (M.behaviour machine.now) }
-    requires number { number < length body.now.states }
-    ensures { IfOk result (IsLeastFound (LosesStep (M.behaviour machine.now) (body_of body.now.states body.now.pairs) number)) }
-{
-    let state = &body.states.as_slice()[number];
-    let listed = machine.moves(alloc, state)?;
-    Ok(lost_step::<M>(body, listed.as_slice()))
 }
 
 /// The least rules by which the state with this number loses a split.
@@ -104,15 +111,16 @@ pub fn lost_split_at<M: Machine>(
     alloc: Global,
     machine: &M,
     body: &Body<M::State>,
+    kept: &[Vec<Edge>],
     number: usize,
 ) -> Result<Option<(u32, u32)>, AllocError>
-    requires laws { KeepsLaws (M.behaviour machine.now) }
+    requires kept { HasAllEdges (M.behaviour machine.now) body.now.states kept.now }
     requires number { number < length body.now.states }
     ensures { IfOk result (IsLeastPairFound (LosesSplit (M.behaviour machine.now) (body_of body.now.states body.now.pairs) number)) }
 {
-    let state = &body.states.as_slice()[number];
-    let listed = machine.moves(alloc, state)?;
-    lost_split(alloc, machine, body, listed.as_slice())
+    edges_law(machine);
+    one_number_law::<M>(&body.states);
+    lost_split(alloc, &body.pairs, kept[number].as_slice())
 }
 
 /// The least rule by which the pair with this number loses a move.
@@ -120,23 +128,18 @@ pub fn lost_move_at<M: Machine>(
     alloc: Global,
     machine: &M,
     body: &Body<M::State>,
+    kept: &[Vec<Edge>],
     number: usize,
 ) -> Result<Option<u32>, AllocError>
-    requires laws { KeepsLaws (M.behaviour machine.now) }
+    requires kept { HasAllEdges (M.behaviour machine.now) body.now.states kept.now }
     requires number { number < length body.now.pairs }
     ensures { IfOk result (IsLeastFound (LosesMove (M.behaviour machine.now) (body_of body.now.states body.now.pairs) number)) }
 {
+    edges_law(machine);
+    one_number_law::<M>(&body.states);
     let pair = &body.pairs.as_slice()[number];
-    let (ahead, behind) = states_of(body.states.as_slice(), pair);
-    let listed = machine.moves(alloc, behind)?;
-    lost_move(
-        alloc,
-        machine,
-        body,
-        ahead,
-        pair.lead.as_slice(),
-        listed.as_slice(),
-    )
+    let edges = kept[pair.behind as usize].as_slice();
+    lost_move(alloc, &body.pairs, pair.ahead, pair.lead.as_slice(), edges)
 }
 
 /// Whether a lead is empty and both states end.

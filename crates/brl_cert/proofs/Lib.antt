@@ -1,4 +1,3 @@
-pub mod Positions
 pub mod FieldLaws
 pub mod Again
 pub mod Found

@@ -1,20 +1,11 @@
 -- One turn of the loops, over plain lists.
-use Rattle.std.proofs.Common.{ℕ, ◌<◌, ◌≡◌, Bool, true, false, List, [], ◌∷◌, ◌++◌, length, take, drop, refl, arith, nat_eq, append_assoc, append-nil}
-use Rattle.std.proofs.lemmas.Bool.Decides.{nat_tests}
+use Rattle.std.proofs.Common.{ℕ, ◌≡◌, List, [], ◌++◌, take, drop, append_assoc, append-nil}
 use Rattle.brl_table.specs.declared.context.Context.{Context}
 use Rattle.brl_table.specs.TableView.{TableView}
 use Rattle.brl_table.specs.Text.{context_behind_all}
 use Rattle.brl_table.specs.Choice.{chosen}
 use Rattle.brl_table.specs.Indicators.{indicators}
 use Rattle.brl_table.specs.Rest.{translation_of_rest, TakesOneRule}
-
--- a test for emptiness that answers no
-pub not_empty : (n : ℕ) (b : Bool) → b ≡ nat_eq n 0 → b ≡ false → 0 < n
-not_empty n b e h = grind (arith, nat_tests)
-
-pub is_empty : (xs : List ℕ) (b : Bool) → b ≡ nat_eq (length xs) 0 → b ≡ true → xs ≡ []
-is_empty [] b e h = refl
-is_empty (x ∷ xs) b e h = absurd (grind (arith, nat_tests))
 
 module _ (t : TableView) (here behind : Context) (rest left taken out out1 out2 cells total : List ℕ) (n : ℕ) where
   pub rule_more : TakesOneRule t here rest → out1 ≡ out ++ indicators t here rest → cells ≡ (chosen t here.classes rest).cells → n ≡ (chosen t here.classes rest).taken

@@ -6,6 +6,7 @@ use Rattle.brl_forward.specs.declared.fault.ConfirmFault.{ConfirmFault}
 use Rattle.brl_forward.specs.declared.fault.ConfirmFault.TheVariants as confirm
 use Rattle.brl_forward.specs.declared.fault.ForwardFault.{ForwardFault}
 use Rattle.brl_forward.specs.declared.fault.ForwardFault.TheVariants as forward
+use Rattle.brl_forward.specs.declared.fault.Side.{Side}
 use Rattle.brl_forward.specs.declared.fault.Side.TheVariants.{Left, Right}
 
 -- the first position, from 0, whose character the table doesn't define
@@ -16,6 +17,16 @@ first_unknown t text = position (λ c. not (is_defined t c)) text
 abbrev pub IsFaultOf : TableView → List ℕ → ForwardFault → Type 0
 IsFaultOf t text (forward.UnknownChar place) = first_unknown t text ≡ Some place
 IsFaultOf t text forward.Memory = Unit {0}
+
+-- the same fault, of one of two texts
+abbrev pub fault_of_side : Side → ForwardFault → ConfirmFault
+fault_of_side side (forward.UnknownChar place) = confirm.UnknownChar side place
+fault_of_side side forward.Memory = confirm.Memory
+
+-- a fault of one of two texts names that one
+abbrev pub IsFaultOfSide : Side → TableView → List ℕ → ConfirmFault → Type 0
+IsFaultOfSide side t text (confirm.UnknownChar named place) = (named ≡ side) × (first_unknown t text ≡ Some place)
+IsFaultOfSide side t text confirm.Memory = Unit {0}
 
 -- a fault of two texts names the side too, left before right
 abbrev pub IsFaultOfTwo : TableView → List ℕ → List ℕ → ConfirmFault → Type 0

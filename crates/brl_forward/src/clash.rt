@@ -1,11 +1,10 @@
 //! Clashes: two different texts that are translated alike.
 ghost use Rattle.std.specs.Prelude.{◌≡◌, ◌↔◌, IsTrue, ℕ, List, IfOk, IfErr, IfSome, IfNone};
 ghost use Rattle.brl_table.specs.Text.{is_text};
-ghost use Rattle.brl_table.specs.Translation.{IsClash};
-ghost use Rattle.brl_forward.specs.Faults.{IsFaultOfTwo};
+ghost use Rattle.brl_table.specs.Translation.{IsClash, translation};
+ghost use Rattle.brl_forward.specs.Faults.{IsFaultOfSide, IsFaultOfTwo};
 
-use crate::translation::{cells_of, find_unknown};
-use crate::{ConfirmFault, Side};
+use crate::{ConfirmFault, Side, translate};
 use brl_cells::Cell;
 use brl_table::Table;
 use std::alloc::Global;
@@ -67,14 +66,8 @@ pub fn confirm(
         ((cells : List ℕ) → IsClash table.now left.now right.now cells → ⊥)) }
     ensures fault { IfErr result (IsFaultOfTwo table.now left.now right.now) }
 {
-    if let Some(place) = find_unknown(table, left) {
-        return Err(ConfirmFault::UnknownChar(Side::Left, place));
-    }
-    if let Some(place) = find_unknown(table, right) {
-        return Err(ConfirmFault::UnknownChar(Side::Right, place));
-    }
-    let cells = cells_of(alloc, table, left)?;
-    let others = cells_of(alloc, table, right)?;
+    let cells = cells_of_side(alloc, table, left, Side::Left)?;
+    let others = cells_of_side(alloc, table, right, Side::Right)?;
     if are_same_text(left, right) || !are_same_cells(cells.as_slice(), others.as_slice()) {
         return Ok(None);
     }
@@ -83,6 +76,20 @@ pub fn confirm(
         right: right.to_vec(alloc)?,
         cells,
     }))
+}
+
+/// The cells of one of two texts.
+fn cells_of_side(
+    alloc: Global,
+    table: &Table,
+    text: &[char],
+    side: Side,
+) -> Result<Vec<Cell>, ConfirmFault>
+    ensures text { IfOk result (λ _. IsTrue (is_text table.now text.now)) }
+    ensures cells { IfOk result (λ cells. cells.items ≡ translation table.now text.now) }
+    ensures fault { IfErr result (IsFaultOfSide side table.now text.now) }
+{
+    translate(alloc, table, text).map_err(|fault| fault.of_side(side))
 }
 
 fn are_same_text(left: &[char], right: &[char]) -> bool

@@ -1,5 +1,5 @@
 //! The faults of translation.
-use std::alloc::AllocError;
+use std::alloc::{AllocError, AllocFailed};
 use std::fmt;
 use thiserror::Error;
 
@@ -14,6 +14,21 @@ pub enum ForwardFault {
     Memory,
 }
 
+impl ForwardFault {
+    ghost use Rattle.std.specs.Prelude.{◌≡◌};
+    ghost use Rattle.brl_forward.specs.Faults.{fault_of_side};
+
+    /// The same fault, of one of two texts.
+    pub(crate) fn of_side(self, side: Side) -> ConfirmFault
+        ensures { result ≡ fault_of_side side self }
+    {
+        match self {
+            ForwardFault::UnknownChar(place) => ConfirmFault::UnknownChar(side, place),
+            ForwardFault::Memory => ConfirmFault::Memory,
+        }
+    }
+}
+
 impl From<AllocError> for ForwardFault {
     ghost use Rattle.std.specs.Prelude.{◌≡◌};
     ghost use Rattle.brl_forward.specs.declared.fault.ForwardFault.TheVariants.{Memory};
@@ -21,6 +36,17 @@ impl From<AllocError> for ForwardFault {
     ghost from_gives = { λ _ fault. fault ≡ Memory };
 
     fn from(_error: AllocError) -> ForwardFault {
+        ForwardFault::Memory
+    }
+}
+
+impl<T: Drop> From<AllocFailed<T>> for ForwardFault {
+    ghost use Rattle.std.specs.Prelude.{◌≡◌};
+    ghost use Rattle.brl_forward.specs.declared.fault.ForwardFault.TheVariants.{Memory};
+
+    ghost from_gives = { λ _ fault. fault ≡ Memory };
+
+    fn from(_error: AllocFailed<T>) -> ForwardFault {
         ForwardFault::Memory
     }
 }

@@ -3,6 +3,7 @@
 
 mod clash;
 mod fault;
+mod infos;
 mod laws;
 mod steps;
 mod translation;

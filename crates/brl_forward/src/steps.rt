@@ -1,13 +1,14 @@
 //! The steps of a text's translation.
-ghost use Rattle.std.specs.Prelude.{◌≡◌, ◌<◌, ◌≤◌, length, IsTrue, IfOk, IfErr};
+ghost use Rattle.std.specs.Prelude.{◌≡◌, ◌<◌, ◌≤◌, length, IsTrue, IfOk, IfErr, Some};
+ghost use Rattle.brl_table.specs.Infos.{AreInfosOf, first_info};
 ghost use Rattle.brl_table.specs.Text.{is_text};
 ghost use Rattle.brl_forward.specs.Faults.{IsFaultOf};
 ghost use Rattle.brl_forward.specs.Trace.{step_before, trace_of};
 
 use crate::ForwardFault;
-use crate::translation::find_unknown;
+use crate::infos::infos_of;
 use brl_cells::Cells;
-use brl_table::{Context, Table, choice_laws, translation_laws};
+use brl_table::{Context, Info, Table, choice_laws, translation_laws};
 use std::alloc::{AllocError, Global};
 
 /// A step of a translation.
@@ -31,14 +32,18 @@ pub fn trace(alloc: Global, table: &Table, text: &[char]) -> Result<Vec<Traced>,
     ensures steps { IfOk result (λ steps. steps.items ≡ trace_of table.now text.now) }
     ensures fault { IfErr result (IsFaultOf table.now text.now) }
 {
-    match find_unknown(table, text) {
-        Some(place) => Err(ForwardFault::UnknownChar(place)),
-        None => Ok(steps_of(alloc, table, text)?),
-    }
+    let infos = infos_of(alloc, table, text)?;
+    Ok(steps_of(alloc, table, text, infos.as_slice())?)
 }
 
-/// The steps of a text.
-fn steps_of(alloc: Global, table: &Table, text: &[char]) -> Result<Vec<Traced>, AllocError>
+/// The steps of a text whose characters have these infos.
+fn steps_of(
+    alloc: Global,
+    table: &Table,
+    text: &[char],
+    infos: &[&Info],
+) -> Result<Vec<Traced>, AllocError>
+    requires { AreInfosOf table.now text.now infos.now }
     ensures { IfOk result (λ steps. steps.items ≡ trace_of table.now text.now) }
 {
     choice_laws();
@@ -46,35 +51,34 @@ fn steps_of(alloc: Global, table: &Table, text: &[char]) -> Result<Vec<Traced>, 
     let mut steps = Vec::new(alloc);
     let mut here = Context::START;
     let mut start = 0;
-    let mut rest = text;
-    while !rest.is_empty() {
-        let step = step(alloc, table, here, start, rest)?;
-        let (taken, left) = rest.split_at(step.length);
-        here = table.context_behind(here, taken);
-        start += step.length;
-        rest = left;
+    while let Some(info) = infos.get(start) {
+        let step = step(alloc, table, here, start, info, &text[start..])?;
+        let end = start + step.length;
+        here = here.behind_all(&infos[start..end]);
+        start = end;
         steps.push(step)?;
     }
     Ok(steps)
 }
 
-/// The step in front of `rest`, which begins at `start`.
+/// The step at the start of `rest`, whose first character is at position `start` and has this info.
 fn step(
     alloc: Global,
     table: &Table,
     here: Context,
     start: usize,
+    info: &Info,
     rest: &[char],
 ) -> Result<Traced, AllocError>
-    requires { 0 < length rest.now }
+    requires { first_info table.now rest.now ≡ Some info.now }
     ensures step { IfOk result (λ step. step ≡ step_before table.now here start rest.now) }
     ensures some { IfOk result (λ step. 0 < step.length) }
     ensures room { IfOk result (λ step. step.length ≤ length rest.now) }
 {
     let mut cells = Vec::new(alloc);
-    table.push_indicators(here, rest, &mut cells)?;
+    table.push_signs(here, info, &mut cells)?;
     let indicators = cells.len();
-    let choice = table.choice(here.classes, rest);
+    let choice = table.choice_of(info, here.classes, rest);
     cells.extend_from_slice(choice.cells)?;
     Ok(Traced {
         start,

@@ -8,9 +8,10 @@ use Rattle.brl_pairs.specs.Pairs.{Splits, Moves, HasPair, IsClosed, turned}
 use Rattle.brl_pairs.specs.Runs.{Behaviour, IsListed, IsListedAt}
 use Rattle.brl_pairs.specs.declared.step.Pair.{Pair}
 use Rattle.brl_pairs.specs.declared.step.Step.{Step}
-use Rattle.brl_search.specs.Edges.{AreEdges, IsEdge, IsFollowed, IsThere}
+use Rattle.brl_edges.specs.Edges.{AreEdges, IsEdge}
+use Rattle.brl_edges.specs.Pairs.{IsFollowed, IsThere}
 use Rattle.brl_search.specs.Work.{IsFinished}
-use Rattle.brl_search.specs.declared.edge.Edge.{Edge}
+use Rattle.brl_edges.specs.declared.edge.Edge.{Edge}
 use Rattle.brl_search.specs.declared.trail.Trail.{Trail}
 use Rattle.brl_search.proofs.Naming.{Names, named_at, at_named}
 use Rattle.brl_search.proofs.Pushing.{inside, same_place}

@@ -4,9 +4,10 @@ use Rattle.std.proofs.lemmas.Option.{slice_get_within}
 use Rattle.brl_cert.specs.declared.pair.CertPair.{CertPair}
 use Rattle.brl_pairs.specs.declared.step.Step.{Step}
 use Rattle.brl_pairs.specs.Runs.{Behaviour, IsListedAt, KeepsLaws}
-use Rattle.brl_search.specs.declared.edge.Edge.{Edge}
+use Rattle.brl_edges.specs.declared.edge.Edge.{Edge}
 use Rattle.brl_search.specs.declared.trail.PairOrigin.TheVariants.{Split, Still, Swapped}
-use Rattle.brl_search.specs.Edges.{IsEdge, AreFirstEdges, AreEdges, FitsFollowing, Explains, IsExpanded, IsWalked}
+use Rattle.brl_edges.specs.Edges.{IsEdge, AreFirstEdges, AreEdges}
+use Rattle.brl_search.specs.Edges.{FitsFollowing, Explains, IsExpanded, IsWalked}
 use Rattle.brl_search.specs.Trail.{IsSplitOf, TakesStep, Stays}
 use Rattle.brl_search.proofs.Pushing.{push_cases, length_push, same_place, inside}
 use Rattle.brl_search.proofs.There.{followed_more}
@@ -15,7 +16,7 @@ module _ {S : Type 0} where
   pub first_edges_more : (xs ys : List S) → Stays xs ys → (listed : List (Step S)) (n : ℕ) (edges : List Edge) → AreFirstEdges xs listed n edges → AreFirstEdges ys listed n edges
   first_edges_more xs ys stays listed n edges h = record {
     count = h.count;
-    each = λ place x e x_at e_at. (let before = h.each place x e x_at e_at in record { cells = before.cells; next = stays e.next x.next before.next });
+    each = λ place x e x_at e_at. (let before = h.each place x e x_at e_at in record { rule = before.rule; cells = before.cells; next = stays e.next x.next before.next });
   }
 
   pub first_edges_push : (xs : List S) (listed : List (Step S)) (n : ℕ) (edges : List Edge) (x : Step S) (e : Edge) → AreFirstEdges xs listed n edges → IsListedAt listed n x → IsEdge xs x e → AreFirstEdges xs listed (n + 1) (edges ++ e ∷ [])

@@ -2,7 +2,6 @@ pub mod Pushing
 pub mod Tracing
 pub mod Edges
 pub mod There
-pub mod AlikeLaws
 pub mod Waiting
 pub mod Working
 pub mod Ways

@@ -1,15 +1,17 @@
 -- Pairs that are looked up, and what their absence says.
-use Rattle.std.proofs.Common.{◌≡◌, ◌≢◌, ℕ, Bool, true, false, not, List, [], ◌∷◌, ◌++◌, inl, inr, length, Option, Some, None, is_some, IfSome, IsTrue, ◌↔◌, slice_get, refl, sym, ◌∙◌, ap, subst, arith, if◌then◌else◌, length-append}
+use Rattle.std.proofs.Common.{◌≡◌, ◌≢◌, ℕ, Bool, true, false, not, List, [], ◌∷◌, ◌++◌, ◌<◌, inl, inr, length, get_or, true≢false, Option, Some, None, is_some, IfSome, IsTrue, ◌↔◌, slice_get, refl, sym, ◌∙◌, ap, subst, arith, if◌then◌else◌, length-append}
 use Rattle.std.specs.Cmp.{first_so, second_so}
 use Rattle.std.specs.Cmp.Lexicographic.{same_text, nat_list_eq_equiv}
 use Rattle.std.specs.List.{list_any}
 use Rattle.std.proofs.lemmas.List.{append_cancel_left}
+use Rattle.std.proofs.lemmas.List.Folds.{Any-from_list_any, list_any_at}
+use Rattle.std.proofs.lemmas.Option.{slice_get-get_or, slice_get_read, slice_get_within}
 use Rattle.std.proofs.Math.Dec.{eqb}
 use Rattle.std.proofs.lemmas.Bool.Decides.{Decides-eqb}
 use Rattle.brl_cert.specs.declared.pair.CertPair.{CertPair}
 use Rattle.brl_cert.specs.contracts.pair.CertPairPartialEq.TheImpl.{eq-value}
-use Rattle.brl_search.specs.declared.edge.Edge.{Edge}
-use Rattle.brl_search.specs.Edges.{IsThere, IsFollowed}
+use Rattle.brl_edges.specs.declared.edge.Edge.{Edge}
+use Rattle.brl_edges.specs.Pairs.{HasNumbers, IsThere, IsFollowed}
 use Rattle.brl_search.specs.Trail.{DifferAsPairs, Stays}
 use Rattle.brl_search.proofs.Pushing.{none_found}
 
@@ -57,6 +59,34 @@ pair_inserted pairs new p added absent is members =
     let missing : list_any (eq-value.it p) pairs ≡ false = none_found eq-value.it p pairs (λ k q at equal. absent (inl (k, at ∙ ap (λ (z : CertPair). Some z) (sym (same_pairs p q equal))))) in
     let yes : added ≡ true = is ∙ ap not missing in
     members ∙ ap (λ (b : Bool). if b then pairs ++ p ∷ [] else pairs) yes
+
+-- where nothing is added the list stays
+pub nothing_inserted : (pairs new : List CertPair) (p : CertPair) (added : Bool) → added ≡ false → new ≡ (if added then pairs ++ p ∷ [] else pairs) → new ≡ pairs
+nothing_inserted pairs new p added wasnt members = members ∙ ap (λ (b : Bool). if b then pairs ++ p ∷ [] else pairs) wasnt
+
+-- a pair that is added, and whose other order isn't there, was not there
+pub added_absent : (pairs : List CertPair) (p : CertPair) (added : Bool) → added ≡ not (list_any (eq-value.it p) pairs) → added ≡ true → ((p.lead ≡ []) × HasNumbers pairs p.behind p.ahead p.lead → ⊥) → IsThere pairs p.ahead p.behind p.lead → ⊥
+added_absent pairs p added is was turned (inr h) = turned h
+added_absent pairs p added is was turned (inl h) =
+    let at : slice_get pairs h.0 ≡ Some p = h.1 in
+    let within : h.0 < length pairs = slice_get_within pairs h.0 p at in
+    let read : get_or pairs h.0 p ≡ p = some_is (sym (slice_get-get_or pairs h.0 p within) ∙ at) in
+    let equal : eq-value.it p (get_or pairs h.0 p) ≡ true = rw read (same_itself p) in
+    absurd (true≢false (sym was ∙ is ∙ ap not (list_any_at (eq-value.it p) pairs h.0 p within equal)))
+  where
+    some_is : {X : Type 0} {x y : X} → Some x ≡ Some y → x ≡ y
+    some_is e = cc
+
+-- a pair that isn't added is there
+pub not_added : (pairs : List CertPair) (p : CertPair) (added : Bool) → added ≡ not (list_any (eq-value.it p) pairs) → added ≡ false → IsThere pairs p.ahead p.behind p.lead
+not_added pairs p added is wasnt =
+    let member = Any-from_list_any (eq-value.it p) pairs (not_false (list_any (eq-value.it p) pairs) (sym is ∙ wasnt)) in
+    let at : slice_get pairs member.0 ≡ Some member.1 = slice_get_read pairs (length pairs) member.0 member.1 refl member.2 (sym member.3) in
+    inl (member.0, at ∙ ap (λ (z : CertPair). Some z) (sym (same_pairs p member.1 member.4)))
+  where
+    not_false : (b : Bool) → not b ≡ false → b ≡ true
+    not_false true e = refl
+    not_false false e = cc
 
 -- ---- What becomes of a lead
 

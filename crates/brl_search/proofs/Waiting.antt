@@ -1,9 +1,11 @@
 -- Pairs that wait, where one is put in and where the first is taken out.
-use Rattle.std.proofs.Common.{◌≡◌, ◌≢◌, ℕ, zero, suc, ◌+◌, ◌<◌, All, Contains, List, ◌∷◌, ◌⊎◌, inl, inr, length, get_or, refl, sym, ap, arith}
+use Rattle.std.proofs.Common.{◌≡◌, ◌≢◌, ℕ, zero, suc, ◌+◌, ◌<◌, All, Contains, List, ◌∷◌, ◌⊎◌, inl, inr, length, get_or, Some, slice_get, refl, sym, ap, arith}
 use Rattle.std.specs.List.Sorted.{IsPermutation}
 use Rattle.std.specs.declared.cmp.Reverse.{Reverse}
 use Rattle.std.proofs.lemmas.List.Sorted.{Contains-permutation, All-permutation}
-use Rattle.brl_search.specs.Work.{Waits, is_below}
+use Rattle.brl_cert.specs.declared.pair.CertPair.{CertPair}
+use Rattle.brl_search.specs.Trail.{Stays}
+use Rattle.brl_search.specs.Work.{IsItemOf, Waits}
 
 module _ {X : Type 0} where
   in_tail : (x : X) (xs : List X) (y : X) → Contains xs y → Contains (x ∷ xs) y
@@ -23,7 +25,7 @@ module _ {X : Type 0} where
   all_cons P x xs here rest zero d lt = here
   all_cons P x xs here rest (suc k) d lt = rest k d (omega (arith, lt))
 
-  all_head : (P : X → Type 0) (x : X) (xs : List X) → All P (x ∷ xs) → P x
+  pub all_head : (P : X → Type 0) (x : X) (xs : List X) → All P (x ∷ xs) → P x
   all_head P x xs h = h 0 x (omega arith)
 
   all_tail : (P : X → Type 0) (x : X) (xs : List X) → All P (x ∷ xs) → All P xs
@@ -40,10 +42,14 @@ waits_more x xs ys same n h = (h.0, Contains-permutation (x ∷ xs) ys _ same (i
 pub waits_new : (behind n : ℕ) (xs ys : List (Reverse (ℕ × ℕ))) → IsPermutation (record { 0 = (behind, n) } ∷ xs) ys → Waits n ys
 waits_new behind n xs ys same = (behind, Contains-permutation (record { 0 = (behind, n) } ∷ xs) ys _ same (at_head _ xs))
 
-pub below_pushed : (behind n : ℕ) (xs ys : List (Reverse (ℕ × ℕ))) → IsPermutation (record { 0 = (behind, n) } ∷ xs) ys → All (is_below n) xs → All (is_below (n + 1)) ys
-below_pushed behind n xs ys same h =
-    All-permutation (is_below (n + 1)) (record { 0 = (behind, n) } ∷ xs) ys same
-    (all_cons (is_below (n + 1)) (record { 0 = (behind, n) }) xs (omega arith) (all_weaker (is_below n) (is_below (n + 1)) xs (λ x lt. (let less : x.0.1 < n = lt in omega arith)) h))
+pub item_pushed : (pairs : List CertPair) (behind n : ℕ) (xs ys : List (Reverse (ℕ × ℕ))) → IsPermutation (record { 0 = (behind, n) } ∷ xs) ys → (p : CertPair) → slice_get pairs n ≡ Some p → p.behind ≡ behind
+    → All (IsItemOf pairs) xs → All (IsItemOf pairs) ys
+item_pushed pairs behind n xs ys same p at is h =
+    All-permutation (IsItemOf pairs) (record { 0 = (behind, n) } ∷ xs) ys same (all_cons (IsItemOf pairs) (record { 0 = (behind, n) }) xs (p, at, is) h)
+
+-- where pairs are added
+pub items_more : (ps qs : List CertPair) → Stays ps qs → (xs : List (Reverse (ℕ × ℕ))) → All (IsItemOf ps) xs → All (IsItemOf qs) xs
+items_more ps qs stays xs = all_weaker (IsItemOf ps) (IsItemOf qs) xs (λ x item. (item.0, stays x.0.1 item.0 item.1, item.2))
 
 -- ---- The first is taken out
 
@@ -54,10 +60,10 @@ waits_popped x xs ys same n other h =
       | inr rest ↦ (h.0, rest)
     ]
 
-pub below_popped : (n : ℕ) (x : Reverse (ℕ × ℕ)) (xs ys : List (Reverse (ℕ × ℕ))) → IsPermutation xs (x ∷ ys) → All (is_below n) xs → (x.0.1 < n) × All (is_below n) ys
-below_popped n x xs ys same h =
-    let all = All-permutation (is_below n) xs (x ∷ ys) same h in
-    (all_head (is_below n) x ys all, all_tail (is_below n) x ys all)
+pub item_popped : (pairs : List CertPair) (x : Reverse (ℕ × ℕ)) (xs ys : List (Reverse (ℕ × ℕ))) → IsPermutation xs (x ∷ ys) → All (IsItemOf pairs) xs → IsItemOf pairs x × All (IsItemOf pairs) ys
+item_popped pairs x xs ys same h =
+    let all = All-permutation (IsItemOf pairs) xs (x ∷ ys) same h in
+    (all_head (IsItemOf pairs) x ys all, all_tail (IsItemOf pairs) x ys all)
 
 -- nothing waits among none
 pub none_waits : (n : ℕ) (xs : List (Reverse (ℕ × ℕ))) → length xs ≡ 0 → Waits n xs → ⊥

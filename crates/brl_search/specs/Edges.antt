@@ -1,39 +1,13 @@
--- Steps told by numbers: their cells and the number of the state behind (this project's own choice).
-use Rattle.std.specs.Prelude.{◌≡◌, ◌≢◌, ℕ, ◌<◌, ◌≤◌, List, [], ◌++◌, ◌⊎◌, length, Some, slice_get}
+-- What a search finds by edges: the splits of a state, and what a pair moves to (this project's own choice).
+use Rattle.std.specs.Prelude.{◌≡◌, ◌≢◌, ℕ, ◌<◌, ◌≤◌, List, [], ◌++◌, length, Some, slice_get}
 use Rattle.brl_cert.specs.declared.pair.CertPair.{CertPair}
 use Rattle.brl_pairs.specs.declared.step.Step.{Step}
 use Rattle.brl_pairs.specs.Runs.{Behaviour, IsListedAt}
-use Rattle.brl_search.specs.declared.edge.Edge.{Edge}
+use Rattle.brl_edges.specs.Edges.{AreEdges}
+use Rattle.brl_edges.specs.Pairs.{IsFollowed}
+use Rattle.brl_edges.specs.declared.edge.Edge.{Edge}
 use Rattle.brl_search.specs.declared.trail.Origins.{Origins}
 use Rattle.brl_search.specs.Trail.{IsPairOrigin}
-
--- the edge has the step's cells and the number of the state behind it
-pub record IsEdge {S : Type 0} (states : List S) (x : Step S) (e : Edge) : Type 0 where
-  pub cells : e.cells ≡ x.cells
-  pub next : slice_get states e.next ≡ Some x.next
-
--- the first n steps of this list have these edges, in its order
-pub record AreFirstEdges {S : Type 0} (states : List S) (listed : List (Step S)) (n : ℕ) (edges : List Edge) : Type 0 where
-  pub count : length edges ≡ n
-  pub each : (place : ℕ) (x : Step S) (e : Edge) → IsListedAt listed place x → slice_get edges place ≡ Some e → IsEdge states x e
-
--- the steps of the state with this number have these edges, in listed order
-pub record AreEdges {S : Type 0} (m : Behaviour S) (states : List S) (number : ℕ) (edges : List Edge) : Type 0 where
-  pub state : S
-  pub at : slice_get states number ≡ Some state
-  pub listed : AreFirstEdges states (m.steps state) (length (m.steps state)) edges
-
--- the pair is listed as it stands, or in its other order where its lead is empty
-abbrev pub HasNumbers : List CertPair → ℕ → ℕ → List ℕ → Type 0
-HasNumbers pairs ahead behind lead = (n : ℕ) × (slice_get pairs n ≡ Some (record { ahead = ahead; behind = behind; lead = lead }))
-
-abbrev pub IsThere : List CertPair → ℕ → ℕ → List ℕ → Type 0
-IsThere pairs ahead behind lead = HasNumbers pairs ahead behind lead ⊎ ((lead ≡ []) × HasNumbers pairs behind ahead lead)
-
--- what a run behind makes of its lead by this edge is among the pairs
-pub record IsFollowed (pairs : List CertPair) (ahead : ℕ) (lead : List ℕ) (e : Edge) : Type 0 where
-  pub still : (rest : List ℕ) → lead ≡ e.cells ++ rest → IsThere pairs ahead e.next rest
-  pub swapped : (rest : List ℕ) → rest ≢ [] → e.cells ≡ lead ++ rest → IsThere pairs e.next ahead rest
 
 -- what becomes of a run ahead of so many states and the edge that the run behind takes is in range
 pub record FitsFollowing (states ahead : ℕ) (lead : List ℕ) (e : Edge) : Type 0 where

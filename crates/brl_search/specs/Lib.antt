@@ -3,6 +3,5 @@ pub mod Answers
 pub mod Found
 pub mod Trail
 pub mod Edges
-pub mod Alike
 pub mod Work
 pub mod Ways

@@ -1,17 +1,20 @@
 //! Expanding states, and walking pairs.
 ghost use Rattle.std.specs.Prelude.{◌≡◌, ◌<◌, ℕ, length, IfErr, IfOk, OnOk, Some, slice_get};
-ghost use Rattle.brl_search.specs.Alike.{ArePlacesBefore};
-ghost use Rattle.brl_search.specs.Edges.{AreEdges, IsExpanded, IsFollowed, IsWalked};
+ghost use Rattle.brl_edges.specs.Places.{ArePlacesBefore};
+ghost use Rattle.brl_edges.specs.Edges.{AreEdges};
+ghost use Rattle.brl_edges.specs.Pairs.{IsFollowed};
+ghost use Rattle.brl_search.specs.Edges.{IsExpanded, IsWalked};
 ghost use Rattle.brl_search.specs.Trail.{Grows, IsKept, IsStopped};
-ghost use Rattle.brl_search.specs.declared.edge.Edge.{Edge as EdgeValue};
+ghost use Rattle.brl_edges.specs.Edges.{AreKeptEdges};
+ghost use Rattle.brl_edges.specs.declared.edge.Edge.{Edge as EdgeValue};
+ghost use Rattle.brl_cert.specs.declared.pair.CertPair.{CertPair as CertPairValue};
 
-use crate::alike::places_before;
-use crate::edge::Edge;
 use crate::pairs::follow;
 use crate::states::find_edges;
 use crate::stop::Stop;
 use crate::trail::{Origins, PairOrigin, Trail};
 use brl_cert::CertPair;
+use brl_edges::{Edge, different_cells_law, places_before};
 use brl_pairs::Machine;
 use std::alloc::{AllocError, Global};
 
@@ -37,6 +40,7 @@ fn find_splits_of<M: Machine>(
     ensures stopped { IfErr result (IsStopped (M.behaviour machine.now) trail.new) }
     ensures limit { trail.new.limit ≡ trail.old.limit }
 {
+    different_cells_law();
     let later = &edges[second];
     let mut place = before[second];
     while place > 0 {
@@ -93,15 +97,16 @@ fn find_splits<M: Machine>(
     Ok(())
 }
 
-/// Adds the states behind the steps of a state, and its splits.
+/// Adds the states behind the steps of a state, and its splits. It answers the edges of these steps.
 pub fn expand<M: Machine>(
     alloc: Global,
     machine: &M,
     trail: &mut Trail<M::State>,
     number: usize,
-) -> Result<(), Stop>
+) -> Result<Vec<Edge>, Stop>
     requires kept { IsKept (M.behaviour machine.now) trail.old }
     requires within { number < length trail.old.states }
+    ensures edges { IfOk result (λ edges. AreEdges (M.behaviour machine.now) trail.new.states number edges.items) }
     ensures expanded { OnOk result (IsExpanded (M.behaviour machine.now) trail.new.states trail.new.pairs number) }
     ensures kept { OnOk result (IsKept (M.behaviour machine.now) trail.new) }
     ensures grows { OnOk result (Grows trail.old trail.new) }
@@ -109,7 +114,8 @@ pub fn expand<M: Machine>(
     ensures limit { trail.new.limit ≡ trail.old.limit }
 {
     let edges = find_edges(alloc, machine, trail, number)?;
-    find_splits(alloc, machine, trail, number, edges.as_slice())
+    find_splits(alloc, machine, trail, number, edges.as_slice())?;
+    Ok(edges)
 }
 
 /// Adds what a pair moves to by the edges of its state behind.
@@ -167,22 +173,25 @@ fn copy_of(pair: &CertPair) -> Result<CertPair, AllocError>
     })
 }
 
-/// Adds what a pair moves to.
+/// Adds what the pair with this number moves to, by the edges of the states that have been expanded.
 pub fn walk<M: Machine>(
     alloc: Global,
     machine: &M,
     trail: &mut Trail<M::State>,
+    expanded: &[Vec<Edge>],
     number: usize,
 ) -> Result<(), Stop>
     requires kept { IsKept (M.behaviour machine.now) trail.old }
-    requires within { number < length trail.old.pairs }
+    requires edges { AreKeptEdges (M.behaviour machine.now) trail.old.states expanded.now }
+    requires pair { (p : CertPairValue) × (slice_get trail.old.pairs number ≡ Some p) × (p.behind < length expanded.now) }
     ensures walked { OnOk result (IsWalked (M.behaviour machine.now) trail.new.states trail.new.pairs number) }
     ensures kept { OnOk result (IsKept (M.behaviour machine.now) trail.new) }
     ensures grows { OnOk result (Grows trail.old trail.new) }
+    ensures states { trail.new.states ≡ trail.old.states }
     ensures stopped { IfErr result (IsStopped (M.behaviour machine.now) trail.new) }
     ensures limit { trail.new.limit ≡ trail.old.limit }
 {
     let pair = copy_of(&trail.pairs.as_slice()[number])?;
-    let edges = find_edges(alloc, machine, trail, pair.behind as usize)?;
-    find_moves(alloc, machine, trail, number, &pair, edges.as_slice())
+    let edges = expanded[pair.behind as usize].as_slice();
+    find_moves(alloc, machine, trail, number, &pair, edges)
 }

@@ -2,8 +2,6 @@
 //! two texts with the same cells are met, or there are more than a limit allows.
 #![tactic(auto)]
 
-mod alike;
-mod edge;
 mod expanding;
 mod fault;
 mod found;

@@ -1,42 +1,18 @@
 //! Finding pairs.
-ghost use Rattle.std.specs.Prelude.{◌≡◌, ◌↔◌, length, IsTrue, IfErr, OnOk};
+ghost use Rattle.std.specs.Prelude.{◌≡◌, length, IfErr, OnOk};
 ghost use Rattle.std.specs.Bool.{OnTrue, OnFalse};
 ghost use Rattle.brl_cert.specs.Range.{IsPairOf};
-ghost use Rattle.brl_search.specs.Edges.{Explains, FitsFollowing, HasNumbers, IsFollowed, IsThere};
+ghost use Rattle.brl_edges.specs.Pairs.{IsFollowed, IsThere};
+ghost use Rattle.brl_search.specs.Edges.{Explains, FitsFollowing};
 ghost use Rattle.brl_search.specs.Trail.{Grows, HasTwoEnds, IsKept, IsPairOrigin, IsStopped};
 
-use crate::edge::Edge;
 use crate::stop::Stop;
 use crate::trail::{Origins, PairOrigin, Trail};
 use brl_cells::{Cell, Cells};
-use brl_cert::{CertPair, Members};
+use brl_cert::CertPair;
+use brl_edges::{Edge, is_there_turned};
 use brl_pairs::{Advanced, Machine, advance};
 use std::alloc::Global;
-
-/// Whether the pair is listed as it stands.
-fn is_listed(pairs: &Members<CertPair>, pair: &CertPair) -> bool
-    ensures { IsTrue result ↔ HasNumbers pairs.now pair.now.ahead pair.now.behind pair.now.lead }
-{
-    pairs.index_of(pair).is_some()
-}
-
-/// Whether the pair is listed, in either order where its lead is empty.
-fn is_there(alloc: Global, pairs: &Members<CertPair>, pair: &CertPair) -> bool
-    ensures { IsTrue result ↔ IsThere pairs.now pair.now.ahead pair.now.behind pair.now.lead }
-{
-    if is_listed(pairs, pair) {
-        return true;
-    }
-    if !pair.lead.is_empty() {
-        return false;
-    }
-    let turned = CertPair {
-        ahead: pair.behind,
-        behind: pair.ahead,
-        lead: Cells::new(alloc),
-    };
-    is_listed(pairs, &turned)
-}
 
 /// Whether the pair has an empty lead and two states that end.
 fn has_two_ends<M: Machine>(machine: &M, states: &[M::State], pair: &CertPair) -> bool
@@ -67,13 +43,15 @@ fn find_pair<M: Machine>(
     ensures stopped { IfErr result (IsStopped (M.behaviour machine.now) trail.new) }
     ensures limit { trail.new.limit ≡ trail.old.limit }
 {
-    if is_there(alloc, &trail.pairs, &pair) {
+    if is_there_turned(alloc, &trail.pairs, &pair) {
         return Ok(());
     }
     let two_ends = has_two_ends(machine, trail.states.as_slice(), &pair);
     let number = trail.pairs.len();
+    if !trail.pairs.insert(pair)? {
+        return Ok(());
+    }
     trail.pair_origins.push(origin)?;
-    trail.pairs.insert(pair)?;
     if trail.pairs.len() as u64 > trail.limit {
         return Err(Stop::Limit);
     }

@@ -1,11 +1,11 @@
 //! Finding states.
 ghost use Rattle.std.specs.Prelude.{◌≡◌, ◌<◌, length, IfOk, IfErr, OnOk, Some, slice_get};
-ghost use Rattle.brl_search.specs.Edges.{AreEdges};
+ghost use Rattle.brl_edges.specs.Edges.{AreEdges};
 ghost use Rattle.brl_search.specs.Trail.{Grows, IsKept, IsStateOrigin, IsStopped};
 
-use crate::edge::Edge;
 use crate::stop::Stop;
 use crate::trail::{StateOrigin, Trail};
+use brl_edges::Edge;
 use brl_pairs::Machine;
 use std::alloc::Global;
 
@@ -63,6 +63,7 @@ pub fn find_edges<M: Machine>(
         };
         let next = find_state(machine, trail, step.next, origin)?;
         edges.push(Edge {
+            rule: step.rule,
             cells: step.cells,
             next,
         })?;

@@ -1,17 +1,15 @@
 //! The turns of a search.
 ghost use Rattle.std.specs.Prelude.{◌≡◌, ◌<◌, [], length, IfErr, IfOk, OnOk};
 ghost use Rattle.std.specs.Bool.{OnFalse, OnTrue};
-ghost use Rattle.std.specs.BinaryHeap.{heap_items, heap_len};
 ghost use Rattle.brl_search.specs.Trail.{IsKept, IsStopped};
-ghost use Rattle.brl_search.specs.Work.{IsFinished, IsWorking, turns_left};
+ghost use Rattle.brl_search.specs.Work.{IsFinished, IsWorking, NoneIsReady, turns_left};
 
 use crate::expanding::{expand, walk};
 use crate::stop::Stop;
 use crate::trail::Trail;
-use crate::work::{Work, is_ready, no_work, wait_from};
+use crate::work::{Work, no_work, pop_ready, wait_from};
 use brl_pairs::Machine;
 use std::alloc::Global;
-use std::cmp::Reverse;
 
 /// Expands the state that comes next.
 fn expand_next<M: Machine>(
@@ -21,20 +19,20 @@ fn expand_next<M: Machine>(
     work: &mut Work,
 ) -> Result<(), Stop>
     requires working { IsWorking (M.behaviour machine.now) trail.old work.old }
-    requires some { work.old.expanded < length trail.old.states }
+    requires some { length work.old.edges.items < length trail.old.states }
     ensures working { OnOk result (IsWorking (M.behaviour machine.now) trail.new work.new) }
     ensures less { OnOk result (turns_left trail.new work.new < turns_left trail.old work.old) }
     ensures stopped { IfErr result (IsStopped (M.behaviour machine.now) trail.new) }
     ensures limit { trail.new.limit ≡ trail.old.limit }
 {
     let known = trail.pairs.len();
-    expand(alloc, machine, trail, work.expanded)?;
-    work.expanded += 1;
+    let edges = expand(alloc, machine, trail, work.edges.len())?;
+    work.edges.push(edges)?;
     wait_from(work, &trail.pairs, known)?;
     Ok(())
 }
 
-/// Walks the waiting pair that comes first. False where none waits.
+/// Walks the waiting pair that comes first, where its state behind has been expanded; false where it hasn't, or none waits.
 fn walk_next<M: Machine>(
     alloc: Global,
     machine: &M,
@@ -44,18 +42,17 @@ fn walk_next<M: Machine>(
     requires working { IsWorking (M.behaviour machine.now) trail.old work.old }
     ensures working { OnOk result (IsWorking (M.behaviour machine.now) trail.new work.new) }
     ensures less { IfOk result (λ more. OnTrue more (turns_left trail.new work.new < turns_left trail.old work.old)) }
-    ensures none { IfOk result (λ more. OnFalse more (heap_len work.old.waiting ≡ 0)) }
-    ensures expanded { IfOk result (λ more. OnFalse more (work.new.expanded ≡ work.old.expanded)) }
+    ensures none { IfOk result (λ more. OnFalse more (NoneIsReady work.old)) }
+    ensures same_work { IfOk result (λ more. OnFalse more (work.new ≡ work.old)) }
     ensures same { IfOk result (λ more. OnFalse more (trail.new ≡ trail.old)) }
-    ensures empty { IfOk result (λ more. OnFalse more (heap_items work.new.waiting ≡ [])) }
     ensures stopped { IfErr result (IsStopped (M.behaviour machine.now) trail.new) }
     ensures limit { trail.new.limit ≡ trail.old.limit }
 {
     let known = trail.pairs.len();
-    let Some(Reverse((_, number))) = work.waiting.pop() else {
+    let Some(number) = pop_ready(work) else {
         return Ok(false);
     };
-    walk(alloc, machine, trail, number)?;
+    walk(alloc, machine, trail, work.edges.as_slice(), number)?;
     wait_from(work, &trail.pairs, known)?;
     Ok(true)
 }
@@ -75,11 +72,14 @@ fn take_turn<M: Machine>(
     ensures stopped { IfErr result (IsStopped (M.behaviour machine.now) trail.new) }
     ensures limit { trail.new.limit ≡ trail.old.limit }
 {
-    if work.expanded < trail.states.len() && !is_ready(work) {
+    if walk_next(alloc, machine, trail, work)? {
+        return Ok(true);
+    }
+    if work.edges.len() < trail.states.len() {
         expand_next(alloc, machine, trail, work)?;
         return Ok(true);
     }
-    walk_next(alloc, machine, trail, work)
+    Ok(false)
 }
 
 /// Finds states and pairs until all that their steps lead to are found.

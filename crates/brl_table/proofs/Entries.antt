@@ -8,7 +8,7 @@ use Rattle.std.proofs.lemmas.Option.{slice_get_within}
 use Rattle.brl_table.specs.declared.rule.Info.{Info}
 
 -- an entry's number is its place, and so below the number of entries
-number_small : (entries : List (ℕ × Info)) → ((place : ℕ) (entry : ℕ × Info) → slice_get entries place ≡ Some entry → entry.1.number ≡ place) → length entries ≤ 1024
+pub number_small : (entries : List (ℕ × Info)) → ((place : ℕ) (entry : ℕ × Info) → slice_get entries place ≡ Some entry → entry.1.number ≡ place) → length entries ≤ 1024
     → (c : ℕ) (found : Option Info) → lookup (nat_eq c) entries ≡ found → IfSome found (λ info. info.number < 1024)
 number_small entries numbered few c None e = tt
 number_small entries numbered few c (Some info) e =

@@ -1,4 +1,3 @@
-pub mod Commas
 pub mod Ranking
 pub mod Entries
 pub mod Taken
@@ -7,13 +6,9 @@ pub mod Positions
 pub mod Chosen
 pub mod Ranked
 pub mod InRank
-pub mod Numbered
-pub mod SaidSteps
-pub mod Marked
-pub mod ItemSteps
-pub mod LookSteps
-pub mod GoodItems
-pub mod SaidParts
-pub mod FileNames
-pub mod ReadSteps
-pub mod AllLooked
+pub mod TreeSteps
+pub mod TreeRules
+pub mod TreeWalk
+pub mod TreeFrom
+pub mod FirstInfo
+pub mod InfoLists

@@ -1,5 +1,6 @@
 pub mod Places
 pub mod TableView
+pub mod Infos
 pub mod Rank
 pub mod Limits
 pub mod Text
@@ -11,8 +12,4 @@ pub mod Views
 pub mod Choices
 pub mod Position
 pub mod Examples
-pub mod Opcodes
-pub mod Items
-pub mod Reading
-pub mod Good
-pub mod Said
+pub mod Tree

@@ -1,10 +1,14 @@
-//! Which rule a table takes in front of a text's rest, by looking through its rules in rank.
-ghost use Rattle.std.specs.Prelude.{◌≡◌, ◌∷◌, [], ◌<◌, ◌≤◌, length, slice_get, IfSome};
-ghost use Rattle.brl_table.specs.Choice.{matches, fits, own, chosen};
+//! Which rule a table takes in front of a text's rest, by the tree of its rules.
+ghost use Rattle.std.specs.Prelude.{◌≡◌, [], ◌<◌, ◌≤◌, length, slice_get, IfSome, Some};
+ghost use Rattle.std.specs.List.{find, position_from};
+ghost use Rattle.brl_table.specs.Choice.{fits, may_stand, may_stand_by_number, chosen, chosen_number};
 ghost use Rattle.brl_table.specs.Choices.{IsChoice};
+ghost use Rattle.brl_table.specs.Infos.{first_info};
 ghost use Rattle.brl_table.specs.Text.{fold_of};
+ghost use Rattle.brl_table.specs.Tree.{ends_at};
 
-use crate::{Class, Rule, Table, holds};
+use crate::tree::Node;
+use crate::{Class, Cond, Info, Rule, Table, holds};
 use brl_cells::Cell;
 
 /// A rule that is taken in front of a text's rest.
@@ -28,63 +32,99 @@ impl Table {
         ensures some { 0 < result.taken }
         ensures room { result.taken ≤ length rest.now }
     {
-        let first = rest[0];
-        let fold = self.fold(first);
-        for (number, rule) in self.rules_in_rank().iter().enumerate() {
-            if self.does_fit(fold, before, rest, rule) {
-                return Choice {
-                    number: number as u32,
-                    taken: rule.chars.len(),
-                    cells: rule.cells.as_slice(),
-                };
-            }
-        }
-        self.own_choice(first)
-    }
-
-    /// The own definition of a character.
-    fn own_choice(&self, first: char) -> Choice<'_>
-        ensures { IsChoice result (own self.now (first ∷ [])) }
-    {
-        let rules = self.rules_in_rank().len() as u32;
-        match self.info(first) {
-            Some(info) => Choice {
-                number: rules + info.number,
-                taken: 1,
-                cells: info.cells.as_slice(),
-            },
+        self.law();
+        match self.info(rest[0]) {
+            Some(info) => self.choice_of(info, before, rest),
             None => Choice {
-                number: rules,
+                number: self.rules_in_rank().len() as u32,
                 taken: 1,
                 cells: &[],
             },
         }
     }
 
-    /// Whether a rule fits in front of `rest`, whose first character has this fold.
-    fn does_fit(&self, fold: char, before: Class, rest: &[char], rule: &Rule) -> bool
-        requires { IfSome (slice_get rest.now 0) (λ first. fold ≡ fold_of self.now first) }
-        ensures { result ≡ fits self.now before rest.now rule.now }
+    /// The same, where the first character has this info.
+    pub fn choice_of<'a>(&'a self, info: &'a Info, before: Class, rest: &[char]) -> Choice<'a>
+        requires { first_info self.now rest.now ≡ Some info.now }
+        ensures choice { IsChoice result (chosen self.now before rest.now) }
+        ensures some { 0 < result.taken }
+        ensures room { result.taken ≤ length rest.now }
     {
-        self.does_match(fold, rest, rule.chars.as_slice())
-            && holds(rule.place.before(), before)
-            && holds(
-                rule.place.after(before),
-                self.classes_at(rest, rule.chars.len()),
-            )
+        self.law();
+        match self.rule_in_front(info.fold, before, rest) {
+            Some(number) => {
+                let rule = &self.rules_in_rank()[number as usize];
+                Choice {
+                    number,
+                    taken: rule.chars.len(),
+                    cells: rule.cells.as_slice(),
+                }
+            }
+            None => Choice {
+                number: self.rules_in_rank().len() as u32 + info.number,
+                taken: 1,
+                cells: info.cells.as_slice(),
+            },
+        }
     }
 
-    /// Whether these characters of a rule stand in front of `rest`, whose first character has this fold.
-    fn does_match(&self, fold: char, rest: &[char], chars: &[char]) -> bool
-        requires { IfSome (slice_get rest.now 0) (λ first. fold ≡ fold_of self.now first) }
-        ensures { result ≡ matches self.now rest.now chars.now }
+    /// The number of the rule that the table takes in front of `rest`, where these classes stand before: a rule's place in
+    /// rank, from 0, and behind the rules the own definitions by the numbers of their characters. None where `rest` is
+    /// empty or the table doesn't define its first character.
+    pub fn choose(&self, before: Class, rest: &[char]) -> Option<u32>
+        ensures { result ≡ chosen_number self.now before rest.now }
     {
-        let Some((_, behind)) = rest.split_first() else {
-            return false;
-        };
-        let Some((first, others)) = chars.split_first() else {
-            return false;
-        };
-        fold == *first && behind.starts_with(others)
+        let info = self.info(*rest.first()?)?;
+        Some(self.choice_of(info, before, rest).number)
+    }
+
+    /// The number of the first rule in rank that fits in front of `rest`, whose first character has this fold: None where
+    /// no rule does.
+    fn rule_in_front(&self, fold: char, before: Class, rest: &[char]) -> Option<u32>
+        requires { IfSome (slice_get rest.now 0) (λ first. fold ≡ fold_of self.now first) }
+        ensures { result ≡ position_from (fits self.now before rest.now) 0 self.now.rules }
+    {
+        let (_, behind) = rest.split_first()?;
+        let mut node = self.root(fold)?;
+        let mut best = self.rule_at(node, before, rest);
+        for character in behind {
+            let Some(branch) = node.branch(*character) else {
+                return best;
+            };
+            node = branch;
+            best = self.rule_at(node, before, rest).or(best);
+        }
+        best
+    }
+
+    /// The first of the rules that end at a node whose place allows it in front of `rest`.
+    fn rule_at(&self, node: &Node, before: Class, rest: &[char]) -> Option<u32>
+        ensures { result ≡ find (may_stand_by_number self.now before rest.now) (ends_at node.now []).rules }
+    {
+        node.rules()
+            .iter()
+            .copied()
+            .find(|number| self.may_stand_by_number(before, rest, *number))
+    }
+
+    /// Whether there is a rule with this number, and its place allows it in front of `rest`.
+    fn may_stand_by_number(&self, before: Class, rest: &[char], number: u32) -> bool
+        ensures { result ≡ may_stand_by_number self.now before rest.now number }
+    {
+        match self.rules_in_rank().get(number as usize) {
+            Some(rule) => self.may_stand(before, rest, rule),
+            None => false,
+        }
+    }
+
+    /// Whether what a rule's place asks of its neighbours holds in front of `rest`.
+    fn may_stand(&self, before: Class, rest: &[char], rule: &Rule) -> bool
+        ensures { result ≡ may_stand self.now before rest.now rule.now }
+    {
+        holds(rule.place.before(), before)
+            && match rule.place.after(before) {
+                Cond::Any => true,
+                after => holds(after, self.classes_at(rest, rule.chars.len())),
+            }
     }
 }

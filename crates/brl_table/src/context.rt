@@ -1,5 +1,5 @@
 //! What stands before a position of a text.
-use crate::Class;
+use crate::{Class, Info};
 
 /// What a position of a text knows of the characters before it: the classes of the last one (class space at the
 /// text's start), and whether numeric mode holds.
@@ -10,9 +10,36 @@ pub struct Context {
 }
 
 impl Context {
+    ghost use Rattle.std.specs.Prelude.{◌≡◌, ℕ, List, Some};
+    ghost use Rattle.brl_table.specs.Infos.{AreInfosOf};
+    ghost use Rattle.brl_table.specs.TableView.{TableView, info_of};
+    ghost use Rattle.brl_table.specs.Text.{context_behind, context_behind_all};
+
     /// The start of a text.
     pub const START: Context = Context {
         classes: Class::SPACE,
         numeric: false,
     };
+
+    /// The context after one more character, which has this info.
+    pub fn behind(self, info: &Info) -> Context
+        ensures { (t : TableView) (c : ℕ) → info_of t c ≡ Some info.now → result ≡ context_behind t self c }
+    {
+        Context {
+            classes: info.classes,
+            numeric: info.literary || info.mode && self.numeric,
+        }
+    }
+
+    /// The context after some more characters, which have these infos.
+    pub fn behind_all(self, infos: &[&Info]) -> Context
+        ensures { (t : TableView) (chars : List ℕ) → AreInfosOf t chars infos.now →
+            result ≡ context_behind_all t self chars }
+    {
+        let mut context = self;
+        for info in infos {
+            context = context.behind(info);
+        }
+        context
+    }
 }

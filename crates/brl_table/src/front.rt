@@ -1,9 +1,10 @@
-//! What a table says in front of a text's rest: the classes and folds of its characters, numeric mode and indicators.
-ghost use Rattle.std.specs.Prelude.{◌≡◌, ◌++◌, OnOk};
+//! What a table says in front of a text's rest: the classes of its characters, numeric mode and indicators.
+ghost use Rattle.std.specs.Prelude.{◌≡◌, ◌++◌, ℕ, List, OnOk, Some};
 ghost use Rattle.brl_table.specs.Indicators.{indicators};
-ghost use Rattle.brl_table.specs.Text.{classes_of, classes_at as classes_there, fold_of, context_behind, context_behind_all};
+ghost use Rattle.brl_table.specs.Infos.{first_info};
+ghost use Rattle.brl_table.specs.Text.{classes_of, classes_at as classes_there, context_behind, context_behind_all};
 
-use crate::{Class, Context, Sign, Table};
+use crate::{Class, Context, Info, Sign, Table};
 use bitflags::Flags;
 use brl_cells::Cell;
 use std::alloc::AllocError;
@@ -36,6 +37,20 @@ impl Table {
         let Some(info) = self.info(*first) else {
             return Ok(());
         };
+        self.push_signs(here, info, cells)
+    }
+
+    /// Appends the cells of the indicators before a character that has this info to `cells`. After `AllocError` some of them
+    /// may be there.
+    pub fn push_signs(
+        &self,
+        here: Context,
+        info: &Info,
+        cells: &mut Vec<Cell>,
+    ) -> Result<(), AllocError>
+        ensures { OnOk result ((rest : List ℕ) → first_info self.now rest ≡ Some info.now →
+            cells.new.items ≡ cells.old.items ++ indicators self.now here rest) }
+    {
         if here.numeric && info.nocont {
             cells.extend_from_slice(self.indicator(Sign::NoContractSign))?;
         }
@@ -53,10 +68,7 @@ impl Table {
         ensures { result ≡ context_behind self.now here character }
     {
         match self.info(character) {
-            Some(info) => Context {
-                classes: info.classes,
-                numeric: info.literary || info.mode && here.numeric,
-            },
+            Some(info) => here.behind(info),
             None => Context {
                 classes: Class::NONE,
                 numeric: false,
@@ -81,16 +93,6 @@ impl Table {
         match self.info(character) {
             Some(info) => info.classes,
             None => Class::NONE,
-        }
-    }
-
-    /// The fold of a character: itself where the table doesn't define it.
-    pub(crate) fn fold(&self, character: char) -> char
-        ensures { result ≡ fold_of self.now character }
-    {
-        match self.info(character) {
-            Some(info) => info.fold,
-            None => character,
         }
     }
 }

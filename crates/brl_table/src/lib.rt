@@ -2,33 +2,26 @@
 //! forward translation, which every crate above reads.
 #![tactic(auto)]
 
-mod characters;
 mod chars;
 mod choice;
 mod class;
 mod context;
+mod from;
 mod front;
-mod item;
 mod laws;
-mod line;
-mod opcode;
-mod operand;
 mod parts;
 mod place;
-mod reading;
 mod rule;
-mod signs;
 mod table;
-mod table_fault;
+mod tree;
 
 pub use chars::Chars;
 pub use choice::Choice;
 pub use class::Class;
 pub use context::Context;
+pub use from::RulesFrom;
 pub use laws::{choice_laws, rank_law, translation_laws};
 pub use parts::TableParts;
 pub use place::{Cond, Place, holds};
-pub use reading::read_table;
 pub use rule::{Info, Notice, Rule};
 pub use table::{Sign, Table};
-pub use table_fault::{TableFault, Wrong};

@@ -1,11 +1,14 @@
 //! A table and its readers.
-ghost use Rattle.std.specs.Prelude.{◌≡◌, ◌<◌, ◌≤◌, length, map, slice_get, Some, IfOk, OnOk, IfSome, option_copied};
+ghost use Rattle.std.specs.Prelude.{◌≡◌, ◌<◌, ◌≤◌, ◌∷◌, ℕ, List, length, map, slice_get, Some, IfOk, OnOk, IfSome, option_copied};
 ghost use Rattle.std.specs.List.Sorted.{IsPermutation};
+ghost use Rattle.std.specs.Option.{option_map_or};
 ghost use Rattle.brl_table.specs.Limits.{AreParts, IsTable};
-ghost use Rattle.brl_table.specs.Rank.{IsRanking};
+ghost use Rattle.brl_table.specs.Rank.{IsInRank, IsRanking};
 ghost use Rattle.brl_table.specs.TableView.{info_of, sign_cells};
+ghost use Rattle.brl_table.specs.Tree.{ends_at, ends_of, nothing};
 ghost use Rattle.brl_table.specs.Views.{parts_view};
 
+use crate::tree::{Node, RuleTree};
 use crate::{Info, Notice, Rule, TableParts};
 use brl_cells::Cell;
 use std::alloc::AllocError;
@@ -27,18 +30,20 @@ pub enum Sign {
 pub struct Table {
     /// The parts, the rules in rank.
     parts: TableParts,
+    /// The tree of the rules.
+    tree: RuleTree,
 }
 
 impl Model for Table {
-    ghost use Rattle.brl_table.specs.Limits.{IsTable};
     ghost use Rattle.brl_table.specs.TableView.{TableView};
+    ghost use Rattle.brl_table.specs.Tree.{IsTableWithTree};
     ghost use Rattle.brl_table.specs.Views.{parts_view};
 
     ghost Value = { TableView };
 
     ghost view = { λ t. parts_view t.parts };
 
-    ghost invariant = { λ t. IsTable (parts_view t.parts) };
+    ghost invariant = { λ t. IsTableWithTree (parts_view t.parts) t.tree };
 }
 
 impl Table {
@@ -55,7 +60,9 @@ impl Table {
     {
         let mut parts = parts;
         rank(&mut parts.rules)?;
-        Ok(Table { parts })
+        let alloc = *parts.rules.allocator();
+        let tree = RuleTree::of_rules(alloc, parts.rules.as_slice())?;
+        Ok(Table { parts, tree })
     }
 
     /// What every table keeps, for proofs in the crates above: the contract is the law.
@@ -96,6 +103,15 @@ impl Table {
         ensures few { length result.now ≤ 4096 }
     {
         self.parts.rules.as_slice()
+    }
+
+    /// The node of the rules that begin with this character. At it stand the numbers of the rules that have just some
+    /// characters, and of those that go on from them.
+    pub(crate) fn root(&self, first: char) -> Option<&Node>
+        ensures node { (at : List ℕ) → option_map_or (λ root. ends_at root at) (option_copied result) nothing ≡ ends_of self.now.rules (first ∷ at) }
+        ensures rank { IsInRank self.now.rules }
+    {
+        self.tree.root(first)
     }
 
     /// The cells of an indicator: none where it isn't defined.

@@ -1,7 +1,8 @@
 //! Tables whose lines are the field of a row.
 use crate::{lend, lines_of};
 use brl_lines::{Loaded, MapSource, load};
-use brl_table::{Table, read_table};
+use brl_reading::read_table;
+use brl_table::Table;
 use std::alloc::Global;
 use std::collections::BTreeMap;
 use std::test::Fail;

@@ -8,6 +8,8 @@ mod cert;
 #[cfg(test)]
 mod dues;
 #[cfg(test)]
+mod edges;
+#[cfg(test)]
 mod lines;
 #[cfg(test)]
 mod report;

@@ -1,4 +1,5 @@
 //! Worked translations as theorems, the tables and faults of lines in rows whose fields are cut at `|`, and the readers.
+mod choices;
 mod parts;
 
 ghost use Rattle.std.specs.Prelude.{◌≡◌, ◌∷◌, [], codes};
@@ -7,7 +8,8 @@ ghost use Rattle.brl_table.specs.Translation.{translation, IsClash};
 
 use brl_cells::{Cell, write_dots};
 use brl_lines::{Line, Loaded, Token};
-use brl_table::{Info, Notice, Rule, Sign, Table, read_table};
+use brl_reading::read_table;
+use brl_table::{Info, Notice, Rule, Sign, Table};
 use brl_testing::{agree, cut, lend, loaded_of};
 use std::alloc::Global;
 use std::fmt::Write;

@@ -11,7 +11,7 @@ use Rattle.brl_lines.specs.Lines.{Answers}
 use Rattle.brl_lines.specs.Outcome.{AreGiven}
 use Rattle.brl_lines.specs.declared.fault.LoadFault.TheVariants as load
 use Rattle.brl_table.specs.TableView.{TableView}
-use Rattle.brl_table.specs.declared.table_fault.TableFault.TheVariants as table
+use Rattle.brl_reading.specs.declared.table_fault.TableFault.TheVariants as table
 use Rattle.brl_tool.specs.Checking.{Checks, Judges, NoneAlike, ReportsAcceptance, ReportsRefusal, judgement_of}
 use Rattle.brl_tool.proofs.StatusLemmas.{none_is_one}
 use Rattle.brl_tool.specs.Running.{judgement_status}

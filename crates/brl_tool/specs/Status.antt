@@ -4,8 +4,8 @@ use Rattle.brl_forward.specs.declared.fault.ConfirmFault.{ConfirmFault}
 use Rattle.brl_forward.specs.declared.fault.ConfirmFault.TheVariants as confirm
 use Rattle.brl_lines.specs.declared.fault.LoadFault.{LoadFault}
 use Rattle.brl_lines.specs.declared.fault.LoadFault.TheVariants as load
-use Rattle.brl_table.specs.declared.table_fault.TableFault.{TableFault}
-use Rattle.brl_table.specs.declared.table_fault.TableFault.TheVariants as table
+use Rattle.brl_reading.specs.declared.table_fault.TableFault.{TableFault}
+use Rattle.brl_reading.specs.declared.table_fault.TableFault.TheVariants as table
 use Rattle.brl_stream.specs.declared.fault.StreamFault.{StreamFault}
 use Rattle.brl_stream.specs.declared.fault.StreamFault.TheVariants as stream
 use Rattle.brl_tool.specs.declared.run_fault.RunFault.{RunFault}

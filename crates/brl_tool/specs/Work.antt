@@ -5,7 +5,7 @@ use Rattle.brl_lines.specs.Answer.{Answer}
 use Rattle.brl_lines.specs.Lines.{Answers, lines_of}
 use Rattle.brl_lines.specs.Outcome.{AreGiven, RefusesAs}
 use Rattle.brl_lines.specs.Tokens.{LineView}
-use Rattle.brl_table.specs.Reading.{IsFaultOf}
+use Rattle.brl_reading.specs.Reading.{IsFaultOf}
 use Rattle.brl_table.specs.TableView.{TableView}
 use Rattle.brl_stream.specs.Output.{HasWritten, verdict}
 use Rattle.brl_stream.specs.declared.fault.StreamFault.{StreamFault}

@@ -10,7 +10,8 @@ use crate::finding::{Finding, compare};
 use crate::run_fault::RunFault;
 use crate::{Form, Input, Output, translate_lines};
 use brl_lines::{Source, load};
-use brl_table::{Table, read_table};
+use brl_reading::read_table;
+use brl_table::Table;
 use std::alloc::Global;
 
 /// The table whose file stands at a path, or what is wrong with the file or with a line of it.
@@ -59,5 +60,7 @@ pub fn compare_by_file<S: Source, W: Output>(
     ensures same { AllStay (S.gives source.old) (S.gives source.new) }
 {
     let table = table_at(alloc, source, path)?;
-    compare(alloc, &table, left, right, writer)
+    let found = compare(alloc, &table, left, right, writer);
+    drop(table);
+    found
 }

@@ -2,7 +2,7 @@
 use crate::{Failed, StreamFault};
 use brl_forward::ConfirmFault;
 use brl_lines::LoadFault;
-use brl_table::TableFault;
+use brl_reading::TableFault;
 use brl_window::TooWide;
 use std::alloc::AllocError;
 use thiserror::Error;

@@ -11,5 +11,5 @@ returns-clause-closed g c =
     on_ok_weaker c.check_ends.result
     (closed_where_kept (g.M.Machine.behaviour c.args.machine.now) body g.met.M.Machine.same_state g.met.M.State.Eq.laws.refl
     (subst ((sets_of body).has_state) c.start.ensures.start (c.has_state.ensures.0 c.if-not-has_state.false))
-    c.in_ok-check_steps.ensures.keeps c.in_ok-check_splits.ensures.keeps c.in_ok-check_moves.ensures.keeps)
+    c.in_ok-kept.ensures.keeps c.in_ok-check_splits.ensures.keeps c.in_ok-check_moves.ensures.keeps)
     c.check_ends.ensures.keeps

@@ -1,23 +1,26 @@
-use Rattle.std.proofs.Common.{ℕ, arith}
-use Rattle.brl_accept.specs.Refusals.{LosesStep}
+use Rattle.std.proofs.Common.{◌+◌, ℕ, length, ◌∙◌, ap, arith}
+use Rattle.brl_accept.proofs.At.{steps_kept}
 use Rattle.brl_accept.proofs.Closing.{step_within}
-use Rattle.brl_accept.proofs.LeastLaws.{least_here, none_found, one_more, this_found}
+use Rattle.brl_accept.proofs.Kept.{kept_push}
+use Rattle.brl_accept.proofs.Lists.{length_push}
 use Rattle.brl_cert.specs.Views.{listed}
 use Rattle.brl_accept.proofs.accepting.check_steps.Goals as goal
 
-pub returns-in-Some-clause-refused : goal.returns-in-Some-clause-refused
-returns-in-Some-clause-refused g c =
-    let loses = LosesStep (g.M.Machine.behaviour c.args.machine.now) (listed c.args.body.now.states c.args.body.now.pairs) in
-    let n = c.loop-number.number in
-    let least = this_found (loses n) c.in_ok-lost.lost c.in-Some.rule c.in-Some.is c.in_ok-lost.ensures in
-    (c.requires.start, least_here (λ k. (r : ℕ) × loses k r) n (c.in-Some.rule, least.has) c.loop-number.invariant, least)
+pub edges_of-requires-clause-earlier : goal.edges_of-requires-clause-earlier
+edges_of-requires-clause-earlier g c = λ k rule lt lost.
+    steps_kept (g.M.Machine.behaviour c.args.machine.now) (listed c.args.body.now.states c.args.body.now.pairs) c.loop-number.kept.items c.loop-number.invariant.each k (omega (arith, lt, c.loop-number.invariant.count)) rule lost
 
 pub loop-number-preserved : goal.loop-number-preserved
-loop-number-preserved g c =
-    let loses = LosesStep (g.M.Machine.behaviour c.args.machine.now) (listed c.args.body.now.states c.args.body.now.pairs) in
-    let n = c.loop-number.number in
-    one_more (λ k. (r : ℕ) × loses k r) n c.loop-number.invariant (λ h. none_found (loses n) c.in_ok-lost.lost c.in_default.not-Some c.in_ok-lost.ensures h.0 h.1)
+loop-number-preserved g c = record {
+  count = ap length c.in_ok-push.ensures.items ∙ length_push c.loop-number.kept.items c.in_ok-edges.edges ∙ ap (λ (n : ℕ). n + 1) c.loop-number.invariant.count;
+  each = kept_push (g.M.Machine.behaviour c.args.machine.now) c.args.body.now.states c.loop-number.kept.items c.push.new.self.items c.in_ok-edges.edges c.in_ok-push.ensures.items c.loop-number.number c.loop-number.invariant.count c.loop-number.invariant.each c.in_ok-edges.ensures.edges;
+}
+
+pub returns-clause-kept : goal.returns-clause-kept
+returns-clause-kept g c = record { count = omega arith; each = c.loop-number.invariant.each }
 
 pub returns-clause-keeps : goal.returns-clause-keeps
 returns-clause-keeps g c = λ number rule lost.
-    c.loop-number.invariant number (omega (arith, step_within (g.M.Machine.behaviour c.args.machine.now) (listed c.args.body.now.states c.args.body.now.pairs) number (rule, lost), c.len-number-end.ensures)) (rule, lost)
+    let body = listed c.args.body.now.states c.args.body.now.pairs in
+    steps_kept (g.M.Machine.behaviour c.args.machine.now) body c.loop-number.kept.items c.loop-number.invariant.each number
+    (omega (arith, step_within (g.M.Machine.behaviour c.args.machine.now) body number (rule, lost), c.len-number-end.ensures, c.loop-number.invariant.count)) rule lost

@@ -1,7 +1,9 @@
-use Rattle.std.proofs.Common.{ℕ, ◌<◌}
-use Rattle.brl_accept.specs.Refusals.{LosesStep}
-use Rattle.brl_cert.specs.Views.{listed}
+use Rattle.std.proofs.Common.{◌≡◌, length}
+use Rattle.brl_edges.specs.Edges.{AreKeptEdges}
 use Rattle.brl_accept.proofs.accepting.check_steps.Given as goal
 
 abbrev pub invariant-loop-number : goal.invariant-loop-number
-invariant-loop-number g l = (k : ℕ) → k < l.number → ((r : ℕ) × LosesStep (g.M.Machine.behaviour l.machine) (listed l.body.states l.body.pairs) k r) → ⊥
+invariant-loop-number g l = record {
+  count : length l.kept.items ≡ l.number;
+  each : AreKeptEdges (g.M.Machine.behaviour l.machine) l.body.states l.kept.items;
+}

@@ -17,4 +17,4 @@ returns-in_err-table-clause-not_certified g c =
 pub returns-clause-not_certified : goal.returns-clause-not_certified
 returns-clause-not_certified g c =
     let h = c.in_ok-table.ensures.table in
-    IfErr-weaker c.judge_table.result _ _ (λ fault refused apart. (h.0, h.1, not_accepted_by h.0 c.args.root.now c.args.cert.now fault (refused_behind h.0 c.args.root.now c.args.cert.now c.in_ok-table.table fault h.2 refused) apart)) c.judge_table.ensures.refused
+    IfErr-weaker c.judge_table-judged.result _ _ (λ fault refused apart. (h.0, h.1, not_accepted_by h.0 c.args.root.now c.args.cert.now fault (refused_behind h.0 c.args.root.now c.args.cert.now c.in_ok-table.table fault h.2 refused) apart)) c.judge_table-judged.ensures.refused

@@ -1,4 +1,4 @@
-use Rattle.brl_accept.specs.Steps.{runs}
+use Rattle.brl_accept.proofs.Numbers.{runs}
 use Rattle.brl_accept.proofs.At.{ends_at, pair_read}
 use Rattle.brl_cert.specs.Views.{listed as body_of}
 use Rattle.brl_accept.proofs.losses.has_two_ends_at.Goals as goal

@@ -1,8 +1,6 @@
-use Rattle.brl_cert.specs.Sets.{sets_of}
-use Rattle.brl_accept.specs.Steps.{LosesPair}
 use Rattle.brl_accept.proofs.OfRule.{NoneBelow}
-use Rattle.brl_cert.specs.Views.{listed as body_of}
+use Rattle.brl_edges.specs.Pairs.{IsLost}
 use Rattle.brl_accept.proofs.losses.lost_move.Given as goal
 
-abbrev pub invariant-loop-step : goal.invariant-loop-step
-invariant-loop-step g l = NoneBelow (LosesPair (sets_of (body_of l.body.states l.body.pairs)) l.ahead l.lead) l.listed l.step-index
+abbrev pub invariant-loop-edge : goal.invariant-loop-edge
+invariant-loop-edge l = NoneBelow (IsLost l.pairs l.ahead l.lead) l.edges l.edge-index

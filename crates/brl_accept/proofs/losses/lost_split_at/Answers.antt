@@ -1,15 +1,26 @@
-use Rattle.std.proofs.Common.{◌∙◌, length, ap, arith}
 use Rattle.std.proofs.lemmas.Result.{IfOk-weaker}
-use Rattle.brl_accept.proofs.At.{read_at, split_at}
+use Rattle.brl_accept.proofs.At.{split_at}
+use Rattle.brl_accept.proofs.Kept.{edges_read}
 use Rattle.brl_cert.specs.Views.{listed as body_of}
 use Rattle.brl_accept.proofs.losses.lost_split_at.Goals as goal
 
+pub lost_split-requires-clause-in_order : goal.lost_split-requires-clause-in_order
+lost_split-requires-clause-in_order g c =
+    let a = c.args in
+    c.edges_law.ensures.in_order a.body.now.states a.number c.as_slice.result.now
+    (edges_read (g.M.Machine.behaviour a.machine.now) a.body.now.states a.kept.now c.requires.kept a.number c.requires.number c.index-kept-number.result c.index-kept-number.is c.as_slice.result.now c.as_slice.ensures.value)
+
+pub lost_split-requires-clause-cells : goal.lost_split-requires-clause-cells
+lost_split-requires-clause-cells g c =
+    let a = c.args in
+    c.edges_law.ensures.cells a.body.now.states a.number c.as_slice.result.now
+    (edges_read (g.M.Machine.behaviour a.machine.now) a.body.now.states a.kept.now c.requires.kept a.number c.requires.number c.index-kept-number.result c.index-kept-number.is c.as_slice.result.now c.as_slice.ensures.value)
+
 pub returns : goal.returns
 returns g c =
-    let body = c.args.body.now in
-    let state = c.index-as_slice-number.result in
+    let a = c.args in
+    let m = g.M.Machine.behaviour a.machine.now in
+    let edges = edges_read m a.body.now.states a.kept.now c.requires.kept a.number c.requires.number c.index-kept-number.result c.index-kept-number.is c.as_slice.result.now c.as_slice.ensures.value in
     IfOk-weaker c.lost_split.result _ _
-    (λ found least. split_at (g.M.Machine.behaviour c.args.machine.now) (body_of body.states body.pairs) c.args.number state
-    (read_at c.as_slice.result.now body.states c.args.number state c.as_slice.ensures.members (omega (arith, c.requires.number, ap length c.as_slice.ensures.members)) c.index-as_slice-number.is)
-    c.as_slice-2.result.now (c.as_slice-2.ensures.value ∙ c.in_ok-listed.ensures) (c.requires.laws.in_order state) found least)
+    (split_at m (body_of a.body.now.states a.body.now.pairs) c.one_number_law.ensures a.number c.as_slice.result.now edges (c.edges_law.ensures.in_order a.body.now.states a.number c.as_slice.result.now edges))
     c.lost_split.ensures

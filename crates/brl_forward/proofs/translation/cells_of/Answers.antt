@@ -1,16 +1,49 @@
-use Rattle.std.proofs.Common.{sym}
-use Rattle.brl_forward.proofs.Turns.{not_empty, is_empty, rule_more, no_more}
+use Rattle.std.proofs.Common.{◌≡◌, ◌+◌, ◌-◌, ◌<◌, ◌≤◌, ◌∙◌, List, ℕ, ap, arith, drop, length, length-drop, refl, rules, subst, sym, take}
+use Rattle.std.proofs.lemmas.List.{drop-drop, drop_all, take_rest}
+use Rattle.brl_table.specs.Choice.{chosen}
+use Rattle.brl_table.specs.Choices.{IsChoice}
+use Rattle.brl_table.specs.Infos.{first_info}
+use Rattle.brl_forward.proofs.InfoRest.{first_info-at, infos-taken, length-infos}
+use Rattle.brl_forward.proofs.Turns.{rule_more, no_more}
 use Rattle.brl_forward.proofs.translation.cells_of.Goals as goal
 
-pub loop-rest-init : goal.loop-rest-init
-loop-rest-init c = rw c.new-cells.ensures.items (sym (c.translation_laws.ensures.rest c.args.table.now c.args.text.now))
+pub choice_of-choice-requires : goal.choice_of-choice-requires
+choice_of-choice-requires c =
+    ap (first_info c.args.table.now) (take_rest c.args.text.now c.loop-info.start)
+    ∙ first_info-at c.args.table.now c.args.text.now c.args.infos.now c.loop-info.start c.in-Some.info.now c.requires c.in-Some.ensures.lookup.3.0 c.in-Some.ensures.lookup.1
 
-pub loop-rest-preserved : goal.loop-rest-preserved
-loop-rest-preserved c =
-    rule_more c.args.table.now c.loop-rest.here c.context_behind-here.result c.loop-rest.rest.now c.split_at.result.1.now c.split_at.result.0.now
-    c.loop-rest.cells.items c.push_indicators.new.cells.items c.extend_from_slice.new.self.items c.choice-choice.result.cells.now _ c.choice-choice.result.taken
-    (c.translation_laws.ensures.rule c.args.table.now c.loop-rest.here c.loop-rest.rest.now (not_empty _ _ c.is_empty.ensures c.loop-rest-test.true)) c.in_ok-push_indicators.ensures c.choice-choice.ensures.choice.cells c.choice-choice.ensures.choice.taken
-    c.in_ok-extend_from_slice.ensures.items c.split_at.ensures.front c.split_at.ensures.back c.context_behind-here.ensures c.loop-rest.invariant
+pub slice_bounds-behind_all-end : goal.slice_bounds-behind_all-end
+slice_bounds-behind_all-end c =
+    let room : c.choice_of-choice.result.taken ≤ length (drop c.loop-info.start c.args.text.now) =
+    omega (arith, c.choice_of-choice.ensures.room, ap length (take_rest c.args.text.now c.loop-info.start)) in
+    let within : c.loop-info.start + c.choice_of-choice.result.taken ≤ length c.args.infos.now =
+    omega (arith, room, length-drop c.loop-info.start c.args.text.now, c.loop-info.invariant.within, length-infos c.args.table.now c.args.text.now c.args.infos.now c.requires) in
+    within
+
+pub loop-info-preserved : goal.loop-info-preserved
+loop-info-preserved c =
+    let t = c.args.table.now in
+    let text = c.args.text.now in
+    let start = c.loop-info.start in
+    let n = c.choice_of-choice.result.taken in
+    let rest = drop start text in
+    let known = first_info-at t text c.args.infos.now start c.in-Some.info.now c.requires c.in-Some.ensures.lookup.3.0 c.in-Some.ensures.lookup.1 in
+    let choice = subst (λ (rest : List ℕ). IsChoice c.choice_of-choice.result (chosen t c.loop-info.here.classes rest)) (take_rest text start) c.choice_of-choice.ensures.choice in
+    let room : n ≤ length rest = omega (arith, c.choice_of-choice.ensures.room, ap length (take_rest text start)) in
+    let some : 0 < length rest = omega (arith, room, c.choice_of-choice.ensures.some) in
+    let taken : start + n - start ≡ n = omega arith in
+    record {
+      so_far = rule_more t c.loop-info.here c.behind_all-here.result rest (drop (start + n) text) (take n rest)
+          c.loop-info.cells.items c.push_signs.new.cells.items c.extend_from_slice.new.self.items c.choice_of-choice.result.cells.now _ n
+          (c.translation_laws.ensures.rule t c.loop-info.here rest some) (c.in_ok-push_signs.ensures rest known) choice.cells choice.taken
+          c.in_ok-extend_from_slice.ensures.items refl (sym (drop-drop n start text))
+          (c.behind_all-here.ensures t (take n rest) (infos-taken t text c.args.infos.now start n (start + n - start) c.requires taken)) c.loop-info.invariant.so_far;
+      within = omega (arith, room, length-drop start text, c.loop-info.invariant.within);
+    }
 
 pub returns : goal.returns
-returns c = no_more c.args.table.now c.loop-rest.here c.loop-rest.rest.now _ _ (c.translation_laws.ensures.end c.args.table.now c.loop-rest.here) (is_empty _ _ c.is_empty.ensures c.loop-rest-test.false) c.loop-rest.invariant
+returns c =
+    let t = c.args.table.now in
+    let ended : length c.args.infos.now ≤ c.loop-info.start = search rules in
+    let past : length c.args.text.now ≤ c.loop-info.start = omega (arith, ended, length-infos t c.args.text.now c.args.infos.now c.requires) in
+    no_more t c.loop-info.here (drop c.loop-info.start c.args.text.now) _ _ (c.translation_laws.ensures.end t c.loop-info.here) (drop_all c.loop-info.start c.args.text.now past) c.loop-info.invariant.so_far

@@ -1,10 +1,13 @@
-use Rattle.std.proofs.Common.{◌≡◌, ◌++◌, length}
+use Rattle.std.proofs.Common.{◌≡◌, ◌≤◌, ◌-◌, ◌++◌, length, drop}
 use Rattle.brl_table.specs.Translation.{translation}
 use Rattle.brl_table.specs.Rest.{translation_of_rest}
 use Rattle.brl_forward.proofs.translation.cells_of.Given as goal
 
-abbrev pub invariant-loop-rest : goal.invariant-loop-rest
-invariant-loop-rest l = l.cells.items ++ translation_of_rest l.table l.here l.rest ≡ translation l.table l.text
+abbrev pub invariant-loop-info : goal.invariant-loop-info
+invariant-loop-info l = record {
+  so_far : l.cells.items ++ translation_of_rest l.table l.here (drop l.start l.text) ≡ translation l.table l.text;
+  within : l.start ≤ length l.text;
+}
 
-abbrev pub decreases-loop-rest : goal.decreases-loop-rest
-decreases-loop-rest l = length l.rest
+abbrev pub decreases-loop-info : goal.decreases-loop-info
+decreases-loop-info l = length l.infos - l.start

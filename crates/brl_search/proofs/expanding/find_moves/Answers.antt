@@ -2,7 +2,9 @@ use Rattle.std.proofs.Common.{◌≡◌, ◌<◌, ℕ, List, length, slice_get, 
 use Rattle.std.proofs.lemmas.Bool.{cases_eq}
 use Rattle.std.proofs.lemmas.Option.{slice_get_within}
 use Rattle.brl_search.specs.declared.trail.PairOrigin.TheVariants.{Still, Swapped}
-use Rattle.brl_search.specs.Edges.{AreEdges, Explains, FitsFollowing, IsFollowed}
+use Rattle.brl_edges.specs.Edges.{AreEdges}
+use Rattle.brl_edges.specs.Pairs.{IsFollowed}
+use Rattle.brl_search.specs.Edges.{Explains, FitsFollowing}
 use Rattle.brl_search.proofs.Edges.{fits_following, explains_move}
 use Rattle.brl_search.proofs.Pushing.{read_at, same_place}
 use Rattle.brl_search.proofs.There.{followed_more}

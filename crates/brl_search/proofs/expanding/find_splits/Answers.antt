@@ -1,7 +1,7 @@
 use Rattle.std.proofs.Common.{◌<◌, List, length, slice_get, inl, inr, sym, ap, ◌∙◌, subst, arith}
 use Rattle.std.proofs.lemmas.Bool.{cases_eq}
 use Rattle.std.proofs.lemmas.Option.{slice_get_within}
-use Rattle.brl_search.specs.Edges.{AreEdges}
+use Rattle.brl_edges.specs.Edges.{AreEdges}
 use Rattle.brl_search.proofs.There.{followed_more}
 use Rattle.brl_search.proofs.Tracing.{grows_trans}
 use Rattle.brl_search.proofs.expanding.find_splits.Goals as goal

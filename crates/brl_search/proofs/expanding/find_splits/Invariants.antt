@@ -1,6 +1,6 @@
 use Rattle.std.proofs.Common.{◌≡◌, ◌<◌, ℕ, Some, slice_get}
-use Rattle.brl_search.specs.declared.edge.Edge.{Edge}
-use Rattle.brl_search.specs.Edges.{IsFollowed}
+use Rattle.brl_edges.specs.declared.edge.Edge.{Edge}
+use Rattle.brl_edges.specs.Pairs.{IsFollowed}
 use Rattle.brl_search.specs.Trail.{Grows, IsKept}
 use Rattle.brl_search.proofs.expanding.find_splits.Given as goal
 

@@ -1,11 +1,12 @@
 use Rattle.std.proofs.Common.{◌≡◌, ◌≢◌, ◌-◌, ◌<◌, ◌⊎◌, ℕ, List, length, get_or, slice_get, inl, inr, refl, sym, ap, ◌∙◌, subst, arith}
 use Rattle.std.proofs.lemmas.Bool.{cases_eq}
 use Rattle.std.proofs.lemmas.Option.{slice_get-get_or}
-use Rattle.brl_search.specs.Alike.{first_of}
-use Rattle.brl_search.specs.declared.edge.Edge.{Edge}
+use Rattle.brl_edges.specs.Places.{first_of}
+use Rattle.brl_edges.specs.declared.edge.Edge.{Edge}
 use Rattle.brl_search.specs.declared.trail.PairOrigin.TheVariants.{Split}
-use Rattle.brl_search.specs.Edges.{AreEdges, Explains, FitsFollowing, IsFollowed}
-use Rattle.brl_search.proofs.AlikeLaws.{apart_followed}
+use Rattle.brl_edges.specs.Edges.{AreEdges}
+use Rattle.brl_edges.specs.Pairs.{IsFollowed}
+use Rattle.brl_search.specs.Edges.{Explains, FitsFollowing}
 use Rattle.brl_search.proofs.Edges.{fits_splitting, explains_split, some_cells_of}
 use Rattle.brl_search.proofs.Pushing.{read_at, same_place}
 use Rattle.brl_search.proofs.There.{followed_more}
@@ -25,7 +26,7 @@ loop-place-init g c =
       states = refl;
       low = last.before;
       alike = last.alike;
-      followed = λ i x low high x_at. apart_followed c.args.trail.now.pairs x y
+      followed = λ i x low high x_at. c.different_cells_law.ensures c.args.trail.now.pairs x y
           (some_cells_of m c.requires.kept.laws c.args.trail.now.states c.args.number c.args.edges.now c.requires.edges i x x_at)
           (some_cells_of m c.requires.kept.laws c.args.trail.now.states c.args.number c.args.edges.now c.requires.edges c.args.second y y_at)
           (last.others i x low high x_at);
@@ -77,7 +78,7 @@ loop-place-preserved g c =
             subst (λ (z : Edge). IsFollowed c.follow.new.trail.pairs z.next z.cells y) same
             (subst (λ (cells : List ℕ). IsFollowed c.follow.new.trail.pairs e.next cells y) c.as_slice-lead.ensures c.in_ok-follow.ensures.followed))
         | inr other ↦ elim (below_or_above i first other) [
-          | inl before ↦ apart_followed c.follow.new.trail.pairs x y
+          | inl before ↦ c.different_cells_law.ensures c.follow.new.trail.pairs x y
               (some_cells_of m c.requires.kept.laws c.args.trail.now.states c.args.number c.args.edges.now c.requires.edges i x x_at)
               (some_cells_of m c.requires.kept.laws c.args.trail.now.states c.args.number c.args.edges.now c.requires.edges c.args.second y y_at)
               (λ same. last.others i x low before x_at (same ∙ sym alike))

@@ -1,7 +1,7 @@
 use Rattle.std.proofs.Common.{◌≡◌, ◌+◌, ◌<◌, ◌≤◌, ℕ, Some, slice_get}
-use Rattle.brl_search.specs.Alike.{first_of}
-use Rattle.brl_search.specs.declared.edge.Edge.{Edge}
-use Rattle.brl_search.specs.Edges.{IsFollowed}
+use Rattle.brl_edges.specs.Places.{first_of}
+use Rattle.brl_edges.specs.declared.edge.Edge.{Edge}
+use Rattle.brl_edges.specs.Pairs.{IsFollowed}
 use Rattle.brl_search.specs.Trail.{Grows, IsKept}
 use Rattle.brl_search.proofs.expanding.find_splits_of.Given as goal
 

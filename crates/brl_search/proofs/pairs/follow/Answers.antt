@@ -1,6 +1,6 @@
 use Rattle.std.proofs.Common.{◌≡◌, ◌++◌, List, ℕ, sym, ◌∙◌, subst}
 use Rattle.std.proofs.lemmas.Result.{on_ok_weaker}
-use Rattle.brl_search.specs.Edges.{IsThere}
+use Rattle.brl_edges.specs.Pairs.{IsThere}
 use Rattle.brl_search.proofs.There.{followed_still, followed_swapped}
 use Rattle.brl_search.proofs.pairs.follow.Goals as goal
 

@@ -5,7 +5,7 @@ use Rattle.brl_pairs.specs.Runs.{IsListedAt}
 use Rattle.brl_search.proofs.Edges.{edge_turn}
 use Rattle.brl_search.proofs.Pushing.{read_at, length_push, same_place}
 use Rattle.brl_search.proofs.Tracing.{grows_trans}
-use Rattle.brl_search.specs.Edges.{AreFirstEdges}
+use Rattle.brl_edges.specs.Edges.{AreFirstEdges}
 use Rattle.brl_search.proofs.states.find_edges.Goals as goal
 
 pub find_state-requires-clause-origin : goal.find_state-requires-clause-origin
@@ -40,7 +40,7 @@ loop-step-preserved g c =
           subst (λ (z : g.row.M-State.Denot). AreFirstEdges c.find_state.new.trail.states ((g.M.Machine.behaviour c.args.machine.now).steps z) (length (c.loop-step.yielded ++ c.in-Some.step ∷ [])) c.push.new.self.items) same
           (subst (AreFirstEdges c.find_state.new.trail.states ((g.M.Machine.behaviour c.args.machine.now).steps s) (length (c.loop-step.yielded ++ c.in-Some.step ∷ []))) (sym c.in_ok-push.ensures.items)
           (edge_turn c.loop-step.trail.states c.find_state.new.trail.states c.in_ok-next.ensures.grows.states ((g.M.Machine.behaviour c.args.machine.now).steps s) (length c.loop-step.yielded) (length (c.loop-step.yielded ++ c.in-Some.step ∷ [])) c.loop-step.edges.items c.in-Some.step _
-          (c.loop-step.invariant.edges s at) listed (length_push c.loop-step.yielded c.in-Some.step) (record { cells = refl; next = c.in_ok-next.ensures.number }))));
+          (c.loop-step.invariant.edges s at) listed (length_push c.loop-step.yielded c.in-Some.step) (record { rule = refl; cells = refl; next = c.in_ok-next.ensures.number }))));
     }
 
 pub returns-clause-edges : goal.returns-clause-edges

@@ -1,5 +1,5 @@
 use Rattle.std.proofs.Common.{◌≡◌, length, Some, slice_get}
-use Rattle.brl_search.specs.Edges.{AreFirstEdges}
+use Rattle.brl_edges.specs.Edges.{AreFirstEdges}
 use Rattle.brl_search.specs.Trail.{Grows, IsKept}
 use Rattle.brl_search.proofs.states.find_edges.Given as goal
 

@@ -1,25 +1,29 @@
-use Rattle.std.proofs.Common.{ℕ, ◌∷◌, get_or, inl, inr, sym, subst, arith}
+use Rattle.std.proofs.Common.{ℕ, ◌∷◌, ◌≡◌, ◌∙◌, get_or, length, Some, slice_get, inl, inr, refl, sym, ap, subst, arith}
 use Rattle.std.specs.BinaryHeap.{heap_items}
 use Rattle.std.proofs.lemmas.Bool.{cases_eq}
 use Rattle.std.specs.List.Sorted.{IsPermutation}
+use Rattle.brl_cert.specs.declared.pair.CertPair.{CertPair}
 use Rattle.brl_search.specs.Work.{Waits}
-use Rattle.brl_search.proofs.Waiting.{waits_more, waits_new, below_pushed}
+use Rattle.brl_search.proofs.Pushing.{read_at}
+use Rattle.brl_search.proofs.Waiting.{waits_more, waits_new, item_pushed}
 use Rattle.brl_search.proofs.work.wait_from.Goals as goal
 
 pub loop-number-preserved : goal.loop-number-preserved
 loop-number-preserved c =
-    let behind = (get_or c.as_slice.result.now c.loop-number.number c.index-as_slice-number.result).behind in
+    let read = c.index-as_slice-number.result in
+    let pair = get_or c.as_slice.result.now c.loop-number.number read in
+    let at = read_at c.as_slice.result.now c.args.pairs.now c.loop-number.number read c.as_slice.ensures.members (omega (arith, ap length c.as_slice.ensures.members)) c.index-as_slice-number.is ∙ ap (λ (p : CertPair). Some p) c.index-as_slice-number.is in
     let before = heap_items c.loop-number.work.waiting in
     let after = heap_items c.push.new.self in
-    let same : IsPermutation (record { 0 = (behind, c.loop-number.number) } ∷ before) after = c.in_ok-push.ensures.permutation in
+    let same : IsPermutation (record { 0 = (pair.behind, c.loop-number.number) } ∷ before) after = c.in_ok-push.ensures.permutation in
     let now = c.loop-number.invariant in
     record {
-      expanded = now.expanded;
+      edges = now.edges;
       new = λ n low high. elim (cases_eq n c.loop-number.number) [
-        | inl here ↦ subst (λ (k : ℕ). Waits k after) (sym here) (waits_new behind c.loop-number.number before after same)
+        | inl here ↦ subst (λ (k : ℕ). Waits k after) (sym here) (waits_new pair.behind c.loop-number.number before after same)
         | inr other ↦ waits_more _ before after same n (now.new n low (omega arith))
       ];
       old = λ n h. waits_more _ before after same n (now.old n h);
-      range = λ h. below_pushed behind c.loop-number.number before after same (now.range h);
+      items = λ h. item_pushed c.args.pairs.now pair.behind c.loop-number.number before after same pair at refl (now.items h);
       count = omega (arith, now.count, c.in_ok-push.ensures.len);
     }

@@ -1,8 +1,20 @@
-use Rattle.std.proofs.Common.{arith, sym}
-use Rattle.brl_table.proofs.Taken.{fits-Takes}
+use Rattle.std.proofs.Common.{ap, sym, length, ◌∙◌}
+use Rattle.brl_table.specs.Choice.{Choice}
+use Rattle.brl_table.specs.TableView.{info_of}
+use Rattle.brl_table.proofs.FirstInfo.{first_info-got, chosen-undefined}
 use Rattle.brl_table.proofs.table.Table.choice.Goals as goal
 
-pub returns-then-does_fit-clause-room : goal.returns-then-does_fit-clause-room
-returns-then-does_fit-clause-room c =
-    let takes = fits-Takes c.args.self.now c.args.before c.args.rest.now c.rule-item.result (sym c.if-does_fit.ensures) in
-    omega (arith, takes.room, c.len.ensures)
+pub choice_of-requires : goal.choice_of-requires
+choice_of-requires c =
+    first_info-got c.args.self.now c.args.rest.now c.index-rest-0.result c.requires
+    ∙ ap (info_of c.args.self.now) (sym c.index-rest-0.is) ∙ sym c.in-Some.ensures.value
+
+pub returns-in-None-clause-choice : goal.returns-in-None-clause-choice
+returns-in-None-clause-choice c =
+    let is = chosen-undefined c.args.self.now c.law.ensures c.args.before c.args.rest.now c.index-rest-0.result c.requires
+    (ap (info_of c.args.self.now) (sym c.index-rest-0.is) ∙ sym c.in-None.ensures.value) in
+    record {
+      number = ap length c.rules_in_rank.ensures.rules ∙ sym (ap (λ (choice : Choice). choice.number) is);
+      taken = sym (ap (λ (choice : Choice). choice.taken) is);
+      cells = sym (ap (λ (choice : Choice). choice.cells) is);
+    }

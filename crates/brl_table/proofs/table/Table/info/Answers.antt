@@ -2,4 +2,4 @@ use Rattle.brl_table.proofs.Entries.{found_number-small}
 use Rattle.brl_table.proofs.table.Table.info.Goals as goal
 
 pub returns-clause-number : goal.returns-clause-number
-returns-clause-number c = found_number-small _ c.self.invariant.parts.numbered c.self.invariant.parts.few.characters c.args.character _ c.get.ensures.value
+returns-clause-number c = found_number-small _ c.self.invariant.table.parts.numbered c.self.invariant.table.parts.few.characters c.args.character _ c.get.ensures.value

@@ -1,0 +1,32 @@
+-- Elements of a list by their places.
+use Rattle.std.proofs.Common.{◌≡◌, ℕ, zero, suc, ◌+◌, ◌<◌, List, [], ◌∷◌, ◌++◌, ◌⊎◌, inl, inr, length, Some, slice_get, refl, ap, subst, arith, length-append, get_or}
+use Rattle.std.proofs.lemmas.Option.{slice_get_read}
+
+-- a place is before another, or it is the same, or it is after it
+pub three_ways : (k l : ℕ) → (k < l) ⊎ ((k ≡ l) ⊎ (l < k))
+three_ways k l = grind arith
+
+module _ {X : Type 0} where
+  -- an element of the longer list is one of the list, or the last
+  pub push_cases : (xs : List X) (x : X) (k : ℕ) (y : X) → slice_get (xs ++ x ∷ []) k ≡ Some y → (slice_get xs k ≡ Some y) ⊎ ((k ≡ length xs) × (x ≡ y))
+  push_cases [] x zero y at = inr (refl, cc)
+  push_cases [] x (suc k) y at = cc
+  push_cases (z ∷ xs) x zero y at = inl at
+  push_cases (z ∷ xs) x (suc k) y at = elim (push_cases xs x k y at) [ inl h ↦ inl h | inr h ↦ inr (ap suc h.0, h.1) ]
+
+  pub length_push : (xs : List X) (x : X) → length (xs ++ x ∷ []) ≡ length xs + 1
+  length_push xs x = length-append xs (x ∷ [])
+
+  -- a place within the list has an element
+  pub inside : (xs : List X) (k : ℕ) → k < length xs → (x : X) × (slice_get xs k ≡ Some x)
+  inside [] k lt = absurd (omega arith)
+  inside (x ∷ xs) zero lt = (x, refl)
+  inside (x ∷ xs) (suc k) lt = inside xs k (omega arith)
+
+  -- a place has one element
+  pub same_place : (xs : List X) (k : ℕ) (x y : X) → slice_get xs k ≡ Some x → slice_get xs k ≡ Some y → x ≡ y
+  same_place xs k x y a b = cc
+
+  -- what an index reads
+  pub read_at : (xs ys : List X) (k : ℕ) (x : X) → xs ≡ ys → k < length xs → x ≡ get_or xs k x → slice_get ys k ≡ Some x
+  read_at xs ys k x same lt is = subst (λ (zs : List X). slice_get zs k ≡ Some x) same (slice_get_read xs (length xs) k x refl lt is)

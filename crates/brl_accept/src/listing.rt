@@ -1,0 +1,45 @@
+//! The steps of a state, listed once and kept as edges.
+ghost use Rattle.std.specs.Prelude.{ℕ, ◌<◌, IfErr, IfOk, length};
+ghost use Rattle.brl_accept.specs.Refusals.{HasStart, IsRefused, LosesStep};
+ghost use Rattle.brl_cert.specs.Views.{listed as body_of};
+ghost use Rattle.brl_edges.specs.Edges.{AreEdges};
+ghost use Rattle.brl_pairs.specs.Runs.{KeepsLaws};
+
+use crate::AcceptFault;
+use crate::lookup::number_of;
+use brl_cert::Body;
+use brl_edges::Edge;
+use brl_pairs::Machine;
+use std::alloc::Global;
+
+/// The edges of the state with this number, where the states before it lose no step. The first step
+/// to a state that isn't there is refused: steps ascend by rule, so it has the least one.
+pub fn edges_of<M: Machine>(
+    alloc: Global,
+    machine: &M,
+    body: &Body<M::State>,
+    number: usize,
+) -> Result<Vec<Edge>, AcceptFault>
+    requires laws { KeepsLaws (M.behaviour machine.now) }
+    requires start { HasStart (M.behaviour machine.now) (body_of body.now.states body.now.pairs) }
+    requires within { number < length body.now.states }
+    requires earlier { (k rule : ℕ) → k < number → LosesStep (M.behaviour machine.now) (body_of body.now.states body.now.pairs) k rule → ⊥ }
+    ensures edges { IfOk result (λ edges. AreEdges (M.behaviour machine.now) body.now.states number edges.items) }
+    ensures refused { IfErr result (IsRefused (M.behaviour machine.now) (body_of body.now.states body.now.pairs)) }
+{
+    let listed = machine.moves(alloc, &body.states.as_slice()[number])?;
+    let mut edges = Vec::new(alloc);
+    for step in listed {
+        let Some(next) = number_of::<M>(&body.states, &step.next) else {
+            let state = number as u32;
+            let rule = step.rule;
+            return Err(AcceptFault::StateMissing { state, rule });
+        };
+        edges.push(Edge {
+            rule: step.rule,
+            cells: step.cells,
+            next: next as u32,
+        })?;
+    }
+    Ok(edges)
+}

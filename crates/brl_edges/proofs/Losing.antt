@@ -1,0 +1,59 @@
+-- What a run behind makes of its lead by an edge, and whether it is there.
+use Rattle.std.proofs.Common.{◌≡◌, ◌≢◌, ℕ, ◌≤◌, Bool, true, false, not, List, [], ◌∷◌, ◌++◌, inl, inr, length, IsTrue, ◌↔◌, refl, sym, ◌∙◌, ap, subst, arith, length-append, true≢false}
+use Rattle.std.proofs.lemmas.List.{append_cancel_left}
+use Rattle.brl_cert.specs.declared.pair.CertPair.{CertPair}
+use Rattle.brl_edges.specs.Pairs.{IsFollowed, IsLost, IsThere}
+use Rattle.brl_edges.specs.Places.{first_of}
+use Rattle.brl_edges.specs.declared.edge.Edge.{Edge}
+
+none_left : (lead rest after : List ℕ) → lead ≡ (lead ++ after) ++ rest → after ≡ []
+none_left lead rest [] e = refl
+none_left lead rest (c ∷ after) e = absurd (omega (arith, ap length e, length-append (lead ++ c ∷ after) rest, length-append lead (c ∷ after)))
+
+refuted : (t : Bool) → IsTrue (not t) → IsTrue t → ⊥
+refuted true h k = true≢false (sym h)
+refuted false h k = true≢false (sym k)
+
+missed : (t : Bool) → (IsTrue t → ⊥) → IsTrue (not t)
+missed true h = absurd (h refl)
+missed false h = refl
+
+module _ (pairs : List CertPair) (ahead : ℕ) (lead : List ℕ) (e : Edge) where
+  -- the run behind stays behind by this rest
+  pub lost_still : (rest : List ℕ) → lead ≡ e.cells ++ rest → (there : Bool) → IsTrue there ↔ IsThere pairs ahead e.next rest → IsTrue (not there) ↔ IsLost pairs ahead lead e
+  lost_still rest longer there tells = (
+    (λ no. inl (record { rest = rest; longer = longer; missing = λ h. refuted there no (tells.1 h) })),
+    λ lost. elim lost [
+      | inl still ↦ missed there (λ yes. still.missing (subst (IsThere pairs ahead e.next) (append_cancel_left e.cells rest still.rest (sym longer ∙ still.longer)) (tells.0 yes)))
+      | inr swapped ↦ absurd (swapped.some (none_left lead rest swapped.rest (longer ∙ ap (λ (z : List ℕ). z ++ rest) swapped.shorter)))
+    ],
+  )
+
+  -- the run behind gets ahead by this rest
+  pub lost_swapped : (rest : List ℕ) → rest ≢ [] → e.cells ≡ lead ++ rest → (there : Bool) → IsTrue there ↔ IsThere pairs e.next ahead rest → IsTrue (not there) ↔ IsLost pairs ahead lead e
+  lost_swapped rest some shorter there tells = (
+    (λ no. inr (record { rest = rest; some = some; shorter = shorter; missing = λ h. refuted there no (tells.1 h) })),
+    λ lost. elim lost [
+      | inl still ↦ absurd (some (none_left lead still.rest rest (still.longer ∙ ap (λ (z : List ℕ). z ++ still.rest) shorter)))
+      | inr swapped ↦ missed there (λ yes. swapped.missing (subst (IsThere pairs e.next ahead) (append_cancel_left lead rest swapped.rest (sym shorter ∙ swapped.shorter)) (tells.0 yes)))
+    ],
+  )
+
+  -- the two runs give different cells
+  pub lost_apart : ((rest : List ℕ) → lead ≢ e.cells ++ rest) → ((rest : List ℕ) → e.cells ≢ lead ++ rest) → IsTrue false ↔ IsLost pairs ahead lead e
+  lost_apart longer shorter = (
+    (λ yes. absurd (true≢false (sym yes))),
+    λ lost. elim lost [ inl still ↦ absurd (longer still.rest still.longer) | inr swapped ↦ absurd (shorter swapped.rest swapped.shorter) ],
+  )
+
+-- what goes on from some cells begins as they do
+begins_alike : (xs ys rest : List ℕ) → 1 ≤ length ys → xs ≡ ys ++ rest → first_of xs ≡ first_of ys
+begins_alike xs [] rest some e = absurd (omega (arith, some))
+begins_alike xs (y ∷ ys) rest some e = ap first_of e
+
+-- cells that begin with different cells make no pair
+pub apart_followed : (pairs : List CertPair) (x y : Edge) → 1 ≤ length x.cells → 1 ≤ length y.cells → first_of x.cells ≢ first_of y.cells → IsFollowed pairs x.next x.cells y
+apart_followed pairs x y x_some y_some other = record {
+  still = λ rest longer. absurd (other (begins_alike x.cells y.cells rest y_some longer));
+  swapped = λ rest some shorter. absurd (other (sym (begins_alike y.cells x.cells rest x_some shorter)));
+}

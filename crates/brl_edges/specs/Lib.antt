@@ -1,0 +1,3 @@
+pub mod Edges
+pub mod Pairs
+pub mod Places

@@ -1,0 +1,13 @@
+//! Steps by the numbers of states.
+use brl_cells::Cells;
+
+/// A step by numbers.
+#[derive(Drop)]
+pub struct Edge {
+    /// The number of the rule that the step takes.
+    pub rule: u32,
+    /// The cells that it gives.
+    pub cells: Cells,
+    /// The number of its next state, from 0.
+    pub next: u32,
+}

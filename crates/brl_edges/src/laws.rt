@@ -1,0 +1,25 @@
+//! Laws of edges, for the crates above. Each is the contract of a function that does nothing.
+ghost use Rattle.std.specs.Prelude.{◌≢◌, ℕ, ◌≤◌, List, length};
+ghost use Rattle.brl_cert.specs.declared.pair.CertPair.{CertPair as CertPairValue};
+ghost use Rattle.brl_edges.specs.Edges.{AreEdges, AreInOrder, HaveCells};
+ghost use Rattle.brl_edges.specs.Pairs.{IsFollowed};
+ghost use Rattle.brl_edges.specs.Places.{first_of};
+ghost use Rattle.brl_edges.specs.declared.edge.Edge.{Edge as EdgeValue};
+
+use brl_pairs::Machine;
+
+/// The edges of a state ascend by rule, and each has a cell, as its steps do.
+pub fn edges_law<M: Machine>(machine: &M)
+    ensures in_order { (states : List M.State) (number : ℕ) (edges : List EdgeValue) →
+        AreEdges (M.behaviour machine.now) states number edges → AreInOrder edges }
+    ensures cells { (states : List M.State) (number : ℕ) (edges : List EdgeValue) →
+        AreEdges (M.behaviour machine.now) states number edges → HaveCells edges }
+{
+    let _ = machine.start();
+}
+
+/// Two edges whose cells begin with different cells make no pair, so none of theirs is missing.
+pub fn different_cells_law()
+    ensures { (pairs : List CertPairValue) (x y : EdgeValue) → 1 ≤ length x.cells → 1 ≤ length y.cells →
+        first_of x.cells ≢ first_of y.cells → IsFollowed pairs x.next x.cells y }
+{}

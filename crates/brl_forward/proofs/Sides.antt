@@ -1,0 +1,19 @@
+-- The fault of one of two texts.
+use Rattle.std.proofs.Common.{ℕ, ◌≡◌, List, Err, IfErr, None, Ok, Result, subst, sym}
+use Rattle.std.specs.Prelude.{IsErrAnd}
+use Rattle.brl_table.specs.TableView.{TableView}
+use Rattle.brl_forward.specs.declared.fault.ConfirmFault.{ConfirmFault}
+use Rattle.brl_forward.specs.declared.fault.ConfirmFault.TheVariants.{UnknownChar, Memory}
+use Rattle.brl_forward.specs.declared.fault.Side.TheVariants.{Left, Right}
+use Rattle.brl_forward.specs.Faults.{first_unknown, IsFaultOfSide, IsFaultOfTwo}
+
+-- that of the right one, where the left one has none
+fault-of_right : (t : TableView) (left right : List ℕ) (fault : ConfirmFault) → first_unknown t left ≡ None → IsFaultOfSide Right t right fault → IsFaultOfTwo t left right fault
+fault-of_right t left right (UnknownChar Left place) none is = let other = is.0 in cc
+fault-of_right t left right (UnknownChar Right place) none is = (none, is.1)
+fault-of_right t left right Memory none is = tt
+
+pub err-of_right : {T : Type 0} (t : TableView) (left right : List ℕ) (result : Result T ConfirmFault) (fault : ConfirmFault) → first_unknown t left ≡ None
+    → IsFaultOfSide Right t right fault → IsErrAnd result (λ given. given ≡ fault) → IfErr result (IsFaultOfTwo t left right)
+err-of_right t left right (Ok value) fault none is given = tt
+err-of_right t left right (Err e) fault none is given = subst (IsFaultOfTwo t left right) (sym given) (fault-of_right t left right fault none is)

@@ -1,0 +1,181 @@
+-- One more item: the characters, the indicators and the used rules that stand for the items, and whether these are too many.
+use Rattle.std.proofs.Common.{ℕ, ◌+◌, ◌<◌, ◌≤◌, ◌≡◌, Bool, true, false, ◌||◌, ◌==◌, not, cond, ◌⊎◌, inl, inr, List, [], ◌∷◌, ◌++◌, length, nat_lt, refl, arith, sym, ◌∙◌, ap, subst, Some, None, Ok, append-nil, append_assoc, length-append}
+use Rattle.std.proofs.lemmas.Bool.Decides.{nat_tests}
+use Rattle.std.proofs.lemmas.Grind.{flat_map-append}
+use Rattle.brl_lines.specs.Tokens.{LineView}
+use Rattle.brl_reading.specs.declared.characters.Characters.{Characters}
+use Rattle.brl_reading.specs.declared.item.Definition.{Definition}
+use Rattle.brl_reading.specs.declared.item.Item.{Item}
+use Rattle.brl_reading.specs.declared.item.Item.TheVariants.{Defines, DefinesBoth, Rules, Indicates, Lists, Nothing}
+use Rattle.brl_reading.specs.declared.item.ListLine.{ListLine}
+use Rattle.brl_reading.specs.declared.item.RuleLine.{RuleLine}
+use Rattle.brl_reading.specs.declared.signs.Signs.{Signs}
+use Rattle.brl_table.specs.declared.table.Sign.{Sign}
+use Rattle.brl_table.specs.declared.table.Sign.TheVariants.{CapsLetter, NumSign, NoContractSign}
+use Rattle.brl_reading.specs.declared.table_fault.Wrong.TheVariants.{IndicatorTwice, TooMany}
+use Rattle.brl_reading.specs.Good.{IsGoodItem}
+use Rattle.brl_reading.specs.Items.{fault}
+use Rattle.brl_reading.specs.Reading.{characters_said, definition_in, definitions, fault_behind, indicated_in, is_twice, opcode_in, sign_said, used_in, used_rules}
+use Rattle.brl_reading.specs.Said.{cells_of_sign, nowhere, with_cells, SignsStand, StandFor, Stands}
+use Rattle.brl_reading.proofs.SaidSteps.{above, count-said, not_above}
+
+module _ (said : List Item) where
+  definitions-more : (item : Item) → definitions (said ++ item ∷ []) ≡ definitions said ++ definition_in item
+  definitions-more item = flat_map-append definition_in said (item ∷ []) ∙ ap (λ ds. definitions said ++ ds) (append-nil (definition_in item))
+
+  sign-more : (item : Item) (sign : Sign) → sign_said (said ++ item ∷ []) sign ≡ sign_said said sign ++ indicated_in sign item
+  sign-more item sign = flat_map-append (indicated_in sign) said (item ∷ []) ∙ ap (λ cells. sign_said said sign ++ cells) (append-nil (indicated_in sign item))
+
+  pub used-more : (item : Item) → used_rules (said ++ item ∷ []) ≡ used_rules said ++ used_in item
+  used-more item = flat_map-append used_in said (item ∷ []) ∙ ap (λ rs. used_rules said ++ rs) (append-nil (used_in item))
+
+  module _ (characters after : Characters) (signs later : Signs) (used : ℕ) (stands : StandFor said characters signs used) where
+    -- an item that gives these definitions, no indicator, and so many used rules
+    stands-item : (item : Item) (more : ℕ) → Stands (definitions said ++ definition_in item) after → ((sign : Sign) → indicated_in sign item ≡ [])
+        → more ≡ used + length (used_in item) → StandFor (said ++ item ∷ []) after signs more
+    stands-item item more defined none count = record {
+      defined = subst (λ ds. Stands ds after) (sym (definitions-more item)) defined;
+      indicated = λ sign. stands.indicated sign ∙ sym (append-nil (sign_said said sign)) ∙ ap (λ cells. sign_said said sign ++ cells) (sym (none sign)) ∙ sym (sign-more item sign);
+      counted = count ∙ ap (λ n. n + length (used_in item)) stands.counted ∙ sym (length-append (used_rules said) (used_in item)) ∙ ap length (sym (used-more item));
+    }
+
+    pub stands-defines : (d : Definition) → Stands (definitions said ++ d ∷ []) after → StandFor (said ++ Defines d ∷ []) after signs used
+    stands-defines d more = stands-item (Defines d) used more (λ sign. refl) (omega arith)
+
+    pub stands-defines-both : (upper lower : Definition) → Stands ((definitions said ++ upper ∷ []) ++ lower ∷ []) after → StandFor (said ++ DefinesBoth upper lower ∷ []) after signs used
+    stands-defines-both upper lower more =
+        stands-item (DefinesBoth upper lower) used (subst (λ ds. Stands ds after) (append_assoc (definitions said) (upper ∷ []) (lower ∷ [])) more) (λ sign. refl) (omega arith)
+
+  module _ (characters : Characters) (signs : Signs) (used : ℕ) (stands : StandFor said characters signs used) where
+    -- and one without definitions
+    stands-other : (item : Item) (more : ℕ) → definition_in item ≡ [] → ((sign : Sign) → indicated_in sign item ≡ []) → more ≡ used + length (used_in item)
+        → StandFor (said ++ item ∷ []) characters signs more
+    stands-other item more none unsigned count =
+        let same : definitions said ≡ definitions said ++ definition_in item = sym (ap (λ ds. definitions said ++ ds) none ∙ append-nil (definitions said)) in
+        stands-item characters characters signs signs used stands item more (subst (λ ds. Stands ds characters) same stands.defined) unsigned count
+
+    pub stands-used : (r : RuleLine) → r.head.used ≡ true → (more : ℕ) → more ≡ used + 1 → StandFor (said ++ Rules r ∷ []) characters signs more
+    stands-used r h more e =
+        let one : 1 ≡ length (used_in (Rules r)) = rw h refl in
+        stands-other (Rules r) more refl (λ sign. refl) (e ∙ ap (λ n. used + n) one)
+
+    pub stands-unused : (r : RuleLine) → r.head.used ≡ false → StandFor (said ++ Rules r ∷ []) characters signs used
+    stands-unused r h =
+        let none : 0 ≡ length (used_in (Rules r)) = rw h refl in
+        let same : used ≡ used + 0 = omega arith in
+        stands-other (Rules r) used refl (λ sign. refl) (same ∙ ap (λ n. used + n) none)
+
+    pub stands-lists : (l : ListLine) → StandFor (said ++ Lists l ∷ []) characters signs used
+    stands-lists l = stands-other (Lists l) used refl (λ sign. refl) (omega arith)
+
+    pub stands-nothing : StandFor (said ++ Nothing ∷ []) characters signs used
+    stands-nothing = stands-other Nothing used refl (λ sign. refl) (omega arith)
+
+    -- an indicator that has no cells yet
+    pub stands-indicates : (sign : Sign) (cells : List ℕ) (later : Signs) → sign_said said sign ≡ [] → later ≡ with_cells signs sign cells
+        → StandFor (said ++ Indicates sign cells ∷ []) characters later used
+    stands-indicates sign cells later none set = record {
+      defined = subst (λ ds. Stands ds characters) (sym (definitions-more (Indicates sign cells) ∙ append-nil (definitions said))) stands.defined;
+      indicated = λ other. ap (λ s. cells_of_sign s other) set ∙ each sign other none ∙ sym (sign-more (Indicates sign cells) other);
+      counted = stands.counted ∙ ap length (sym (used-more (Indicates sign cells) ∙ append-nil (used_rules said)));
+    }
+      where
+        kept : (other : Sign) → cells_of_sign signs other ≡ sign_said said other ++ []
+        kept other = stands.indicated other ∙ sym (append-nil (sign_said said other))
+
+        each : (sign other : Sign) → sign_said said sign ≡ [] → cells_of_sign (with_cells signs sign cells) other ≡ sign_said said other ++ indicated_in other (Indicates sign cells)
+        each CapsLetter CapsLetter none = ap (λ front. front ++ cells) (sym none)
+        each CapsLetter NumSign none = kept NumSign
+        each CapsLetter NoContractSign none = kept NoContractSign
+        each NumSign CapsLetter none = kept CapsLetter
+        each NumSign NumSign none = ap (λ front. front ++ cells) (sym none)
+        each NumSign NoContractSign none = kept NoContractSign
+        each NoContractSign CapsLetter none = kept CapsLetter
+        each NoContractSign NumSign none = kept NumSign
+        each NoContractSign NoContractSign none = ap (λ front. front ++ cells) (sym none)
+
+-- ---- indicators
+
+empty_of : (cells : List ℕ) → nat_lt 0 (length cells) ≡ false → cells ≡ []
+empty_of [] h = refl
+empty_of (x ∷ cells) h = let more : nat_lt 0 (length (x ∷ cells)) ≡ true = above 0 (length (x ∷ cells)) (omega arith) in cc (more, h)
+
+some_cells : (n : ℕ) → not (n == 0) ≡ nat_lt 0 n
+some_cells n = grind (arith, nat_tests)
+
+-- whether an indicator has cells
+pub twice-is : (said : List Item) (signs : Signs) (sign : Sign) (own cells : List ℕ) (item : Item) (b : Bool) → SignsStand said signs → cells ≡ cells_of_sign signs sign
+    → b ≡ (length cells == 0) → item ≡ Indicates sign own → not b ≡ is_twice said item
+twice-is said signs sign own cells item b stands lent empty is =
+    ap not empty ∙ some_cells (length cells) ∙ ap (λ xs. nat_lt 0 (length xs)) (lent ∙ stands sign) ∙ ap (is_twice said) (sym is)
+
+module _ (said : List Item) where
+  pub unsaid : (sign : Sign) (cells : List ℕ) → is_twice said (Indicates sign cells) ≡ false → sign_said said sign ≡ []
+  unsaid sign cells h = empty_of (sign_said said sign) h
+
+  -- no indicator gets too many cells
+  few-signs : (files : ℕ) (item : Item) → is_twice said item ≡ false → IsGoodItem files item → ((sign : Sign) → length (sign_said said sign) ≤ 16)
+      → (sign : Sign) → length (sign_said said sign ++ indicated_in sign item) ≤ 16
+  few-signs files (Defines d) once good few sign = rw (append-nil (sign_said said sign)) (few sign)
+  few-signs files (DefinesBoth upper lower) once good few sign = rw (append-nil (sign_said said sign)) (few sign)
+  few-signs files (Rules r) once good few sign = rw (append-nil (sign_said said sign)) (few sign)
+  few-signs files (Lists l) once good few sign = rw (append-nil (sign_said said sign)) (few sign)
+  few-signs files Nothing once good few sign = rw (append-nil (sign_said said sign)) (few sign)
+  few-signs files (Indicates sign cells) once good few other = each sign other (unsaid sign cells once)
+    where
+      kept : (other : Sign) → length (sign_said said other ++ []) ≤ 16
+      kept other = rw (append-nil (sign_said said other)) (few other)
+
+      each : (sign other : Sign) → sign_said said sign ≡ [] → length (sign_said said other ++ indicated_in other (Indicates sign cells)) ≤ 16
+      each CapsLetter CapsLetter none = rw none good.few_cells
+      each CapsLetter NumSign none = kept NumSign
+      each CapsLetter NoContractSign none = kept NoContractSign
+      each NumSign CapsLetter none = kept CapsLetter
+      each NumSign NumSign none = rw none good.few_cells
+      each NumSign NoContractSign none = kept NoContractSign
+      each NoContractSign CapsLetter none = kept CapsLetter
+      each NoContractSign NumSign none = kept NumSign
+      each NoContractSign NoContractSign none = rw none good.few_cells
+
+-- the next items' indicators have not too many cells
+pub signs-within : (said : List Item) (files : ℕ) (item : Item) (old new : Signs) → is_twice said item ≡ false → IsGoodItem files item → SignsStand said old → SignsStand (said ++ item ∷ []) new
+    → ((sign : Sign) → length (cells_of_sign old sign) ≤ 16) → (sign : Sign) → length (cells_of_sign new sign) ≤ 16
+signs-within said files item old new once good before after few sign =
+    let P : List ℕ → Type 0 = λ cells. length cells ≤ 16 in
+    subst P (sym (after sign ∙ sign-more said item sign))
+    (few-signs said files item once good (λ other. subst P (before other) (few other)) sign)
+
+or-first : (a b : Bool) → a ≡ true → a || b ≡ true
+or-first a b h = rw h refl
+
+or-second : (a b : Bool) → b ≡ true → a || b ≡ true
+or-second true b h = refl
+or-second false b h = h
+
+module _ (said : List Item) (line : LineView) (item : Item) where
+  pub fault-twice : is_twice said item ≡ true → fault_behind said line (Ok item) ≡ Some (fault IndicatorTwice (opcode_in line item))
+  fault-twice h = rw h refl
+
+  module _ (once : is_twice said item ≡ false) (characters : Characters) (signs : Signs) (used : ℕ) (stands : StandFor (said ++ item ∷ []) characters signs used) where
+    count : length characters.infos.entries ≡ length (characters_said (definitions (said ++ item ∷ [])))
+    count = ap length stands.defined.characters_stand ∙ count-said (definitions (said ++ item ∷ [])) nowhere
+
+    pub fault-too_many : (1024 < length characters.infos.entries) ⊎ (4096 < used) → fault_behind said line (Ok item) ≡ Some (fault TooMany (opcode_in line item))
+    fault-too_many (inl more) =
+        let n = count in
+        let many : 1024 < length (characters_said (definitions (said ++ item ∷ []))) = omega arith in
+        rw (once, above 1024 (length (characters_said (definitions (said ++ item ∷ [])))) many) refl
+    fault-too_many (inr more) =
+        let e = stands.counted in
+        let many : 4096 < length (used_rules (said ++ item ∷ [])) = omega arith in
+        let yes = or-second (nat_lt 1024 (length (characters_said (definitions (said ++ item ∷ []))))) (nat_lt 4096 (length (used_rules (said ++ item ∷ []))))
+        (above 4096 (length (used_rules (said ++ item ∷ []))) many) in
+        rw once (ap (λ b. cond b (Some (fault TooMany (opcode_in line item))) None) yes)
+
+    pub fault-none : length characters.infos.entries ≤ 1024 → used ≤ 4096 → fault_behind said line (Ok item) ≡ None
+    fault-none few_characters few_rules =
+        let n = count in
+        let e = stands.counted in
+        let few : length (characters_said (definitions (said ++ item ∷ []))) ≤ 1024 = omega arith in
+        let rules : length (used_rules (said ++ item ∷ [])) ≤ 4096 = omega arith in
+        rw (once, not_above 1024 (length (characters_said (definitions (said ++ item ∷ [])))) few, not_above 4096 (length (used_rules (said ++ item ∷ []))) rules) refl

@@ -1,0 +1,11 @@
+pub mod Commas
+pub mod Numbered
+pub mod SaidSteps
+pub mod Marked
+pub mod ItemSteps
+pub mod LookSteps
+pub mod GoodItems
+pub mod SaidParts
+pub mod FileNames
+pub mod ReadSteps
+pub mod AllLooked

@@ -1,0 +1,46 @@
+use Rattle.std.proofs.Common.{◌+◌, ◌<◌, ◌++◌, ◌∷◌, [], ◌⊎◌, inl, inr, ◌∙◌, ap, sym, Some, arith, length}
+use Rattle.brl_lines.specs.Views.{line_view}
+use Rattle.brl_reading.specs.declared.table_fault.Wrong.TheVariants.{TooMany}
+use Rattle.brl_reading.specs.Items.{fault}
+use Rattle.brl_reading.specs.Reading.{fault_behind}
+use Rattle.brl_reading.proofs.ItemSteps.{fault-too_many, signs-within}
+use Rattle.brl_reading.proofs.reading.Said.add.Goals as goal
+use Rattle.brl_reading.proofs.reading.Said.add.Goals.{then-len-gt-MOST_CHARACTERS-via-then-len-gt-MOST_CHARACTERS, then-len-gt-MOST_CHARACTERS-via-else-len-gt-MOST_CHARACTERS+then-self-gt-MOST_RULES}
+
+pub returns-then-len-gt-MOST_CHARACTERS : goal.returns-then-len-gt-MOST_CHARACTERS
+returns-then-len-gt-MOST_CHARACTERS c =
+    let said = c.args.self.now.items.items in
+    let line = line_view c.args.line.now in
+    let characters = c.count.new.self.characters in
+    let used = c.count.new.self.used in
+    let once = sym (c.is_twice.ensures said c.requires.stands.indicated) ∙ c.if-is_twice.false in
+    let many : (1024 < length characters.infos.entries) ⊎ (4096 < used) =
+    elim c.then-len-gt-MOST_CHARACTERS.branch [
+      | then-len-gt-MOST_CHARACTERS-via-then-len-gt-MOST_CHARACTERS w ↦ inl (omega (arith, c.len.ensures.len))
+      | then-len-gt-MOST_CHARACTERS-via-else-len-gt-MOST_CHARACTERS+then-self-gt-MOST_RULES w ↦ inr (omega arith)
+    ] in
+    ap (fault_behind said line) c.in-Ok.ensures.item
+    ∙ fault-too_many said line c.in-Ok.item once characters c.count.new.self.signs used c.in_ok-count.ensures.stands many
+    ∙ ap (λ opcode. Some (fault TooMany opcode)) (sym c.opcode_in-opcode.ensures)
+
+pub returns : goal.returns
+returns c =
+    let said = c.args.self.now.items.items in
+    let item = c.in-Ok.item in
+    let signs = c.count.new.self.signs in
+    let once = sym (c.is_twice.ensures said c.requires.stands.indicated) ∙ c.if-is_twice.false in (
+      item,
+      c.in-Ok.ensures.item,
+      record {
+        added = c.in_ok-push.ensures.items ∙ ap (λ xs. xs ++ item ∷ []) c.in_ok-count.ensures.items;
+        once = once;
+        good = c.in-Ok.ensures.good;
+        stands = c.in_ok-count.ensures.stands;
+        within = record {
+          few_characters = omega (arith, c.len.ensures.len);
+          few_cells = signs-within said (c.args.file + 1) item c.args.self.now.signs signs once c.in-Ok.ensures.good c.requires.stands.indicated c.in_ok-count.ensures.stands.indicated
+              c.requires.within.few_cells;
+          few_rules = omega arith;
+        };
+      },
+    )

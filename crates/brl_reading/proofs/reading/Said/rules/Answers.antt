@@ -1,0 +1,31 @@
+use Rattle.std.proofs.Common.{map}
+use Rattle.brl_lines.specs.Views.{line_view}
+use Rattle.brl_reading.specs.Items.{fault}
+use Rattle.brl_reading.proofs.LookSteps.{found-again, passes-again, refusal-again, rules-again}
+use Rattle.brl_reading.proofs.reading.Said.rules.Goals as goal
+
+pub returns-in-Err-clause-fault : goal.returns-in-Err-clause-fault
+returns-in-Err-clause-fault c =
+    let characters = c.args.self.now.characters.infos.entries in
+    let lines = c.args.lines.now in
+    let said = c.args.self.now.items.items in
+    let line = c.index-lines-place.result in
+    refusal-again characters (map line_view lines) said c.loop-place.place (line_view line) c.index.result.now c.in-Err.fault c.fault_at.result
+    (λ kind about e.
+    found-again characters lines said c.requires c.loop-place.place line c.loop-place-test.true c.index-lines-place.is c.index.result.now c.index.ensures
+    (fault kind about.now) (rw e at c.in-Err.ensures) c.loop-place.invariant.passed)
+    c.fault_at.ensures
+
+pub loop-place-preserved : goal.loop-place-preserved
+loop-place-preserved c =
+    let characters = c.args.self.now.characters.infos.entries in
+    let lines = c.args.lines.now in
+    let said = c.args.self.now.items.items in
+    let i = c.loop-place.place in
+    let line = c.index-lines-place.result in
+    record {
+      rules = rules-again characters lines said c.requires i line c.loop-place-test.true c.index-lines-place.is c.index.result.now c.index.ensures
+          _ _ c.in-Ok.ensures.1 c.loop-place.invariant.rules;
+      passed = passes-again characters lines said c.requires i line c.loop-place-test.true c.index-lines-place.is c.index.result.now c.index.ensures
+          c.in-Ok.ensures.0 c.loop-place.invariant.passed;
+    }

@@ -1,0 +1,42 @@
+use Rattle.std.proofs.Common.{◌≡◌, length, map, string_bytes, vec_len, arith, subst}
+use Rattle.std.specs.Prelude.{All}
+use Rattle.std.proofs.lemmas.List.{length-map}
+use Rattle.std.proofs.lemmas.Result.{IfOk-weaker}
+use Rattle.brl_table.specs.declared.table.Sign.TheVariants.{CapsLetter, NumSign, NoContractSign}
+use Rattle.brl_table.specs.Limits.{IsRule}
+use Rattle.brl_table.specs.Rank.{in_rank, IsRanking}
+use Rattle.brl_reading.specs.Good.{IsGoodItem}
+use Rattle.brl_reading.specs.Reading.{definitions, listed_said}
+use Rattle.brl_reading.proofs.GoodItems.{good-definitions, good-folds}
+use Rattle.brl_reading.proofs.SaidParts.{entries-good, notices-good, numbered-said}
+use Rattle.brl_reading.proofs.reading.Said.table.Goals as goal
+
+pub from_parts-requires : goal.from_parts-requires
+from_parts-requires c =
+    let items = c.args.self.items.items in
+    let characters = c.args.self.characters in
+    let files = length (map string_bytes c.args.files.items) in
+    let named : vec_len c.args.files ≡ files = omega (arith, length-map c.args.files.items string_bytes) in
+    let good = subst (λ n. All (IsGoodItem n) items) named c.requires.good in
+    let defined = good-definitions files items good in
+    let few = c.requires.within.few_cells in
+    record {
+      few = record {
+        characters = c.requires.within.few_characters;
+        rules = c.requires.few_rules;
+        caps_letter = few CapsLetter;
+        num_sign = few NumSign;
+        no_contract_sign = few NoContractSign;
+      };
+      distinct = c.len-count.ensures.unique;
+      numbered = numbered-said (definitions items) (listed_said items) characters.infos.entries c.requires.marked.characters_stand;
+      entries = entries-good files (definitions items) (listed_said items) defined (good-folds files items good) characters.infos.entries c.requires.marked.characters_stand;
+      rules = subst (λ n. All (IsRule characters.infos.entries n) c.args.rules.items) named c.requires.rules;
+      notices = notices-good files (definitions items) characters.notices.items c.requires.marked.notices_stand defined;
+    }
+
+pub returns-clause-rules : goal.returns-clause-rules
+returns-clause-rules c =
+    IfOk-weaker c.from_parts.result (λ t. IsRanking c.args.rules.items t.rules) (λ t. t.rules ≡ in_rank c.args.rules.items)
+    (λ t ranked. c.rank_law.ensures.one c.args.rules.items t.rules (in_rank c.args.rules.items) ranked (c.rank_law.ensures.computed c.args.rules.items))
+    c.from_parts.ensures.rules

@@ -1,0 +1,5 @@
+pub mod Opcodes
+pub mod Items
+pub mod Reading
+pub mod Good
+pub mod Said

@@ -1,0 +1,71 @@
+//! Steps and pairs by numbers.
+use brl_cells::{Cell, Cells};
+use brl_cert::{CertPair, Members};
+use brl_edges::{Edge, is_there, is_there_turned, loses, places_before};
+use brl_testing::lend;
+use std::alloc::Global;
+use std::test::Fail;
+
+/// A step to a state, with two cells.
+fn edge(alloc: Global, next: u32, cells: &[Cell; 2]) -> Result<Edge, Fail> {
+    Ok(Edge {
+        rule: 0,
+        cells: Cells::from_slice(alloc, cells)?,
+        next,
+    })
+}
+
+fn push_edges(alloc: Global, edges: &mut Vec<Edge>) -> Result<(), Fail> {
+    edges.push(edge(alloc, 0, &[Cell(1), Cell(2)])?)?;
+    edges.push(edge(alloc, 1, &[Cell(2), Cell(2)])?)?;
+    edges.push(edge(alloc, 2, &[Cell(1), Cell(1)])?)?;
+    Ok(())
+}
+
+/// Whether the first and the last edge, which begin with the same cell, form a chain.
+fn are_chained(alloc: Global, edges: &[Edge]) -> Result<bool, Fail> {
+    let before = places_before(alloc, edges)?;
+    Ok(before.as_slice() == [0, 0, 1].as_slice())
+}
+
+#[test]
+fn edges_that_begin_alike(rt: HostRuntime) -> Result<(), Fail> {
+    let mut edges = Vec::new(rt.alloc());
+    push_edges(rt.alloc(), &mut edges)?;
+    assert!(rt; are_chained(rt.alloc(), edges.as_slice())?);
+    Ok(())
+}
+
+fn pair(alloc: Global, ahead: u32, behind: u32) -> CertPair {
+    CertPair {
+        ahead,
+        behind,
+        lead: Cells::new(alloc),
+    }
+}
+
+/// The pair of the states 0 and 1.
+fn one_pair(alloc: Global) -> Result<Members<CertPair>, Fail> {
+    let mut pairs = Members::new(alloc);
+    pairs.insert(pair(alloc, 0, 1))?;
+    Ok(pairs)
+}
+
+/// Whether the pair is found in both orders, and by the step to state 1 alone where state 0 is ahead by its cells.
+fn is_found(alloc: Global, pairs: &Members<CertPair>) -> Result<bool, Fail> {
+    let lead = [Cell(1), Cell(2)];
+    let there = lend(edge(alloc, 1, &lead)?, |edge| loses(alloc, pairs, 0, &lead, edge))?;
+    let missing = lend(edge(alloc, 2, &lead)?, |edge| loses(alloc, pairs, 0, &lead, edge))?;
+    Ok(!there
+        && missing
+        && is_there(alloc, pairs, &pair(alloc, 1, 0))
+        && is_there_turned(alloc, pairs, &pair(alloc, 1, 0))
+        && !is_there_turned(alloc, pairs, &pair(alloc, 0, 1)))
+}
+
+#[test]
+fn pairs_in_either_order(rt: HostRuntime) -> Result<(), Fail> {
+    let alloc = rt.alloc();
+    assert!(rt; lend(one_pair(alloc)?, |pairs| is_found(alloc, pairs))?);
+    Ok(())
+}

@@ -1,0 +1,227 @@
+//! Which rule a table takes in front of a text's rest, by number; the rules that begin with some characters; and as many rules
+//! as a table may have.
+use super::shown;
+use brl_table::{Class, Context, Rule, RulesFrom, Table, holds};
+use brl_testing::{agree, chars, cut, with_table};
+use std::alloc::Global;
+use std::test::Fail;
+
+/// Four rules of the same characters.
+const ONE_STRING: &str = "\
+space \\s 0; letter a 1; letter b 12; punctuation . 256; begword ab 14; endword ab 15; word ab 16; midword ab 24";
+
+/// The text before, the rest, and the number of the rule that is taken, or nothing.
+const CHOICES: &str = "\
+|ab|2
+|aba|0
+a|ab.|1
+a|aba|3
+|b|6
+||
+|z|
+";
+
+/// The number of the rule that a table takes between two texts, or nothing.
+fn chosen(alloc: Global, table: &Table, before: &str, rest: &str) -> Result<String, Fail> {
+    let before = chars(alloc, before)?;
+    let here = table.context_behind(Context::START, before.as_slice());
+    let rest = chars(alloc, rest)?;
+    match table.choose(here.classes, rest.as_slice()) {
+        Some(number) => Ok(format!(in alloc; "{number}")?),
+        None => Ok(String::new(alloc)),
+    }
+}
+
+fn chosen_of(alloc: Global, lines: &str, before: &str, rest: &str) -> Result<String, Fail> {
+    with_table(alloc, lines, |table| chosen(alloc, table, before, rest))
+}
+
+#[test]
+fn choices_by_number(rt: HostRuntime) -> Result<(), Fail> {
+    for row in CHOICES.lines() {
+        let (before, rest) = cut(row)?;
+        let (rest, want) = cut(rest)?;
+        let given = chosen_of(rt.alloc(), ONE_STRING, before, rest)?;
+        agree(row, given.as_str(), want)?;
+    }
+    Ok(())
+}
+
+/// Rules that begin with the same characters.
+const ONE_BEGINNING: &str =
+    "letter a 1; letter b 12; always a 14; always ab 15; word ab 16; always aba 24; always b 25";
+
+/// Characters, and the numbers of the rules that go on from them and of those that have just these.
+const BEGINNINGS: &str = "\
+a|[0, 1, 2] [3]
+ab|[0] [1, 2]
+aba|[] [0]
+abab|[] []
+bb|[] []
+c|[] []
+";
+
+/// The number of a rule, and the numbers of those above it that begin with its characters, in the same order.
+const ABOVE: &str = "\
+0|[] []
+1|[0] []
+2|[0] [1]
+3|[0, 1, 2] []
+4|[] []
+";
+
+fn numbers_text(alloc: Global, from: RulesFrom<'_>) -> Result<String, Fail> {
+    Ok(format!(in alloc; "{:?} {:?}", from.longer, from.same)?)
+}
+
+fn beginning(alloc: Global, table: &Table, text: &str) -> Result<String, Fail> {
+    let text = chars(alloc, text)?;
+    if text.is_empty() {
+        return Err(Fail::from("there are no characters"));
+    }
+    numbers_text(alloc, table.rules_from(text.as_slice()))
+}
+
+fn beginning_of(alloc: Global, text: &str) -> Result<String, Fail> {
+    with_table(alloc, ONE_BEGINNING, |table| beginning(alloc, table, text))
+}
+
+#[test]
+fn rules_that_begin_with_characters(rt: HostRuntime) -> Result<(), Fail> {
+    for row in BEGINNINGS.lines() {
+        let (text, want) = cut(row)?;
+        let given = beginning_of(rt.alloc(), text)?;
+        agree(row, given.as_str(), want)?;
+    }
+    Ok(())
+}
+
+fn above(alloc: Global, table: &Table, number: u32) -> Result<String, Fail> {
+    if number as usize >= table.rules_in_rank().len() {
+        return Err(Fail::from("there is no such rule"));
+    }
+    numbers_text(alloc, table.above(number))
+}
+
+fn above_of(alloc: Global, number: &str) -> Result<String, Fail> {
+    let number = number.parse()?;
+    with_table(alloc, ONE_BEGINNING, |table| above(alloc, table, number))
+}
+
+#[test]
+fn rules_above_one_that_begin_with_its_characters(rt: HostRuntime) -> Result<(), Fail> {
+    for row in ABOVE.lines() {
+        let (number, want) = cut(row)?;
+        let given = above_of(rt.alloc(), number)?;
+        agree(row, given.as_str(), want)?;
+    }
+    Ok(())
+}
+
+/// The lines of a table with this many rules of the same characters.
+fn lines_of_rules(alloc: Global, count: u32) -> Result<String, Fail> {
+    let mut lines = String::from_str(alloc, "letter a 1; letter b 12")?;
+    for _ in 0..count {
+        lines.push_str("; always ab 25")?;
+    }
+    Ok(lines)
+}
+
+#[test]
+fn as_many_rules_as_a_table_may_have(rt: HostRuntime) -> Result<(), Fail> {
+    let most = lines_of_rules(rt.alloc(), 4096)?;
+    let given = chosen_of(rt.alloc(), most.as_str(), "", "ab")?;
+    agree("4096", given.as_str(), "0")?;
+    let more = lines_of_rules(rt.alloc(), 4097)?;
+    let fault = shown(rt.alloc(), more.as_str())?;
+    agree("4097", fault.as_str(), "B8 TooMany always at t.ctb:4099")
+}
+
+/// Rules of several places and lengths.
+const SEVERAL_PLACES: &str = "\
+uplow Aa 1; letter b 12; punctuation . 256; always ab 14; word ab 15; begword a 16; midword ba 24; endword bb 25; \
+always aab 26; partword ba 34; midendword b 35; sufword abb 36; prfword a 45; begmidword bab 46; word a. 56; always .. 2";
+
+/// The characters of the texts that are compared.
+const LETTERS: [char; 4] = ['a', 'A', 'b', '.'];
+
+/// How many texts of up to four of them there are.
+const TEXTS: u32 = 1 + 4 + 16 + 64 + 256;
+
+/// The text with this number.
+fn text_of(alloc: Global, number: u32) -> Result<Vec<char>, Fail> {
+    let mut text = Vec::new(alloc);
+    let mut left = number;
+    for _ in 0..4 {
+        if left > 0 {
+            left -= 1;
+            text.push(LETTERS[left as usize % 4])?;
+            left /= 4;
+        }
+    }
+    Ok(text)
+}
+
+/// The classes of a character, and class space at a text's end.
+fn classes_of(table: &Table, character: Option<&char>) -> Class {
+    let Some(character) = character else {
+        return Class::SPACE;
+    };
+    match table.info(*character) {
+        Some(info) => info.classes,
+        None => Class::NONE,
+    }
+}
+
+/// Whether the characters of a rule are in front of a rest whose first character has this fold.
+fn begins_with(rest: &[char], fold: char, rule: &Rule) -> bool {
+    let Some((first, others)) = rule.chars.as_slice().split_first() else {
+        return false;
+    };
+    *first == fold
+        && rest
+            .get(1..)
+            .is_some_and(|behind| behind.starts_with(others))
+}
+
+/// Whether what the place of a rule asks of its neighbours holds.
+fn may_stand(table: &Table, before: Class, rest: &[char], rule: &Rule) -> bool {
+    let after = classes_of(table, rest.get(rule.chars.len()));
+    holds(rule.place.before(), before) && holds(rule.place.after(before), after)
+}
+
+/// The number of the rule that is taken, found by a look at each rule in rank.
+fn plainly_chosen(table: &Table, before: Class, rest: &[char]) -> Option<u32> {
+    let info = table.info(*rest.first()?)?;
+    for (place, rule) in table.rules_in_rank().iter().enumerate() {
+        if begins_with(rest, info.fold, rule) && may_stand(table, before, rest, rule) {
+            return Some(place as u32);
+        }
+    }
+    Some(table.rules_in_rank().len() as u32 + info.number)
+}
+
+/// Whether the same rule is found at the start of a text and after a letter.
+fn has_plain_choices(table: &Table, rest: &[char]) -> bool {
+    table.choose(Class::SPACE, rest) == plainly_chosen(table, Class::SPACE, rest)
+        && table.choose(Class::LETTER, rest) == plainly_chosen(table, Class::LETTER, rest)
+}
+
+/// The numbers of the texts in front of which another rule is found.
+fn differences(alloc: Global, table: &Table) -> Result<String, Fail> {
+    let mut differences = Vec::new(alloc);
+    for number in 0..TEXTS {
+        let rest = text_of(alloc, number)?;
+        if !has_plain_choices(table, rest.as_slice()) {
+            differences.push(number)?;
+        }
+    }
+    Ok(format!(in alloc; "{:?}", differences.as_slice())?)
+}
+
+#[test]
+fn choices_are_the_first_rules_in_rank_that_fit(rt: HostRuntime) -> Result<(), Fail> {
+    let alloc = rt.alloc();
+    let given = with_table(alloc, SEVERAL_PLACES, |table| differences(alloc, table))?;
+    agree("all texts", given.as_str(), "[]")
+}
