@@ -54,13 +54,21 @@ fn one_pair(alloc: Global) -> Result<Members<CertPair>, Fail> {
 /// Whether the pair is found in both orders, and by the step to state 1 alone where state 0 is ahead by its cells.
 fn is_found(alloc: Global, pairs: &Members<CertPair>) -> Result<bool, Fail> {
     let lead = [Cell(1), Cell(2)];
-    let there = lend(edge(alloc, 1, &lead)?, |edge| loses(alloc, pairs, 0, &lead, edge))?;
-    let missing = lend(edge(alloc, 2, &lead)?, |edge| loses(alloc, pairs, 0, &lead, edge))?;
-    Ok(!there
-        && missing
-        && is_there(alloc, pairs, &pair(alloc, 1, 0))
-        && is_there_turned(alloc, pairs, &pair(alloc, 1, 0))
-        && !is_there_turned(alloc, pairs, &pair(alloc, 0, 1)))
+    let there = lend(
+        edge(alloc, 1, &lead)?,
+        |edge| loses(alloc, pairs, 0, &lead, edge),
+    )?;
+    let missing = lend(
+        edge(alloc, 2, &lead)?,
+        |edge| loses(alloc, pairs, 0, &lead, edge),
+    )?;
+    Ok(
+        !there
+            && missing
+            && is_there(alloc, pairs, &pair(alloc, 1, 0))
+            && is_there_turned(alloc, pairs, &pair(alloc, 1, 0))
+            && !is_there_turned(alloc, pairs, &pair(alloc, 0, 1)),
+    )
 }
 
 #[test]
