@@ -15,7 +15,7 @@ use Rattle.brl_pairs.specs.declared.step.Pair.{Pair}
 use Rattle.brl_pairs.specs.declared.step.Step.{Step}
 
 module _ {S : Type 0} where
-  -- two runs, of which the first is ahead by a lead
+  -- a pair of runs: the first one is ahead of the second by the lead
   abbrev pub runs : S → S → List ℕ → Pair S
   runs ahead behind lead = record { ahead = ahead; behind = behind; lead = lead }
 

@@ -101,7 +101,7 @@ below m n h = grind (arith, nat_tests)
 not_itself : (n : ℕ) → nat_lt n n ≡ false
 not_itself n = grind (arith, nat_tests)
 
--- of the numbers of these rules and what stands behind them, those of these rules are below the next
+-- in a list of rule numbers, followed by the number m, all numbers before m are less than m
 pub numbers-below : (test : Rule → Bool) (n : ℕ) (xs : List Rule) (m : ℕ) (rest : List ℕ) → m ≡ n + length xs
     → prefix_len (λ k. nat_lt k m) (numbers test n xs ++ m ∷ rest) ≡ length (numbers test n xs)
 numbers-below test n [] m rest is = rw (not_itself m) refl

@@ -4,7 +4,7 @@ use Rattle.brl_table.specs.declared.rule.Rule.{Rule}
 use Rattle.brl_table.specs.Tree.{Ends, nothing, with_rule, is_just, goes_on_from, numbers, ends_of}
 use Rattle.brl_table.proofs.TreeSteps.{ends-are}
 
--- what is said of `at` once these rules have come, the first with this number
+-- what the tree says of `at` after these rules are inserted; the first of them has this number
 abbrev pub told : List ℕ → ℕ → List Rule → Ends → Ends
 told at number [] ends = ends
 told at number (r ∷ rules) ends = told at (number + 1) rules (with_rule r.chars number at ends)

@@ -256,7 +256,7 @@ module _ (t : TableView) (before : Class) (c first : ℕ) (behind : List ℕ) (f
       ∙ four (matches t (c ∷ behind) r.chars) (nat_eq (weight r) (k + 1)) (holds (before_of r.place) before)
       (holds (after_of r.place before) (classes_at t (c ∷ behind) (length r.chars)))
 
-  -- what a node of these characters gives: the first rule that fits and has just so many characters
+  -- the first rule at a node that may stand is the first rule in rank that fits and has this number of characters
   pub at_node : (k : ℕ) → k ≤ length behind
       → find (may_stand_by_number t before (c ∷ behind)) (numbers (λ r. is_just r.chars (first ∷ take k behind)) 0 t.rules)
       ≡ position_from (λ r. fits t before (c ∷ behind) r && nat_eq (weight r) (k + 1)) 0 t.rules

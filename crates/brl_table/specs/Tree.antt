@@ -26,7 +26,7 @@ abbrev pub ends_at : Node → List ℕ → Ends
 ends_at node [] = record { rules = (out-Node node).rules.items; longer = (out-Node node).longer.items }
 ends_at node (c ∷ at) = branch_of c (out-Node node).branches.items (λ branch. ends_at branch at)
 
--- what is said of `at`, once the rule with this number and these characters has come behind all others
+-- what the tree says of `at` after a rule with these characters and this number is inserted as the last one
 abbrev pub with_rule : List ℕ → ℕ → List ℕ → Ends → Ends
 with_rule [] number [] ends = record { rules = ends.rules ++ number ∷ []; longer = ends.longer }
 with_rule [] number (c ∷ at) ends = ends

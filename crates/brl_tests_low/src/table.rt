@@ -223,7 +223,7 @@ fn an_include_line_that_is_left(rt: HostRuntime) -> Result<(), Fail> {
     )
 }
 
-/// What this many lines, each of which defines a letter, define.
+/// The table of this many lines, each of which defines one letter, or its fault.
 fn shown_letters(alloc: Global, count: u32) -> Result<String, Fail> {
     let mut lines = String::new(alloc);
     for number in 0..count {

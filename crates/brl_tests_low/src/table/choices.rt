@@ -207,7 +207,7 @@ fn has_plain_choices(table: &Table, rest: &[char]) -> bool {
         && table.choose(Class::LETTER, rest) == plainly_chosen(table, Class::LETTER, rest)
 }
 
-/// The numbers of the texts in front of which another rule is found.
+/// The numbers of the texts for which `choose` and the plain search disagree.
 fn differences(alloc: Global, table: &Table) -> Result<String, Fail> {
     let mut differences = Vec::new(alloc);
     for number in 0..TEXTS {
