@@ -49,10 +49,3 @@ module _ {X : Type 0} (g : X → Carried) (xs : List X) (i : ℕ) where
   adds-all old new h had =
       let e : map g (take i xs) ≡ map g xs = ap (map g) (take_all i xs h) in
       record { whole_is = sym had.whole ∙ ap (list_all is_whole) e; found = λ _. had.found ∙ ap (λ l. old ++ lefts l) e }
-
-pub map-twice : {X Y Z : Type 0} (g : Y → Z) (f : X → Y) (xs : List X) → map g (map f xs) ≡ map (λ x. g (f x)) xs
-map-twice g f [] = refl
-map-twice g f (x ∷ xs) = ap (λ l. g (f x) ∷ l) (map-twice g f xs)
-
-pub adds-same : (carried also : List Carried) (old new : List Due) (w : Bool) → carried ≡ also → Adds carried old new w → Adds also old new w
-adds-same carried also old new w e h = subst (λ l. Adds l old new w) e h

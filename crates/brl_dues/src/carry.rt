@@ -6,7 +6,7 @@ ghost use Rattle.brl_dues.specs.Carry.{carry as carried_past, carry_bar as bar_c
 ghost use Rattle.brl_dues.specs.Letters.{bars_of};
 
 use crate::Due;
-use crate::letter::Above;
+use crate::above::Above;
 use brl_table::{Chars, Class, Cond, Table, holds};
 use std::alloc::{AllocError, Global};
 
@@ -63,7 +63,7 @@ fn settled(holds: bool) -> Carried
 }
 
 /// What is left, after the characters `past`, of a bar of these characters.
-fn carry_bar(
+pub fn carry_bar(
     alloc: Global,
     table: &Table,
     past: &[char],
@@ -155,13 +155,10 @@ pub fn add_bars(
     above: &[Above<'_>],
     found: &mut Vec<Due>,
 ) -> Result<bool, AllocError>
-    ensures { IfOk result (λ whole. Adds (bars_of table.now others.now (map (λ a. (a.others.now, a.after)) above.now)) found.old.items found.new.items whole) }
+    ensures { IfOk result (λ whole. Adds (bars_of table.now others.now above.now) found.old.items found.new.items whole) }
 {
     for rule in above {
-        if !add(
-            carry_bar(alloc, table, others, rule.others, rule.after)?,
-            found,
-        )? {
+        if !add(rule.carry(alloc, table, others)?, found)? {
             return Ok(false);
         }
     }

@@ -4,19 +4,11 @@ ghost use Rattle.brl_table.specs.Text.{fold_of as fold};
 ghost use Rattle.brl_dues.specs.Letters.{lets_in as does_let_in, may_come as does_come, new_letter, new_letters};
 
 use crate::Due;
+use crate::above::Above;
 use crate::carry::class_of;
 use brl_table::{Cond, Table, holds};
 use std::alloc::{AllocError, Global};
 use std::marker::Model;
-
-/// A rule that is ranked above, without its first character.
-#[derive(Clone, Copy)]
-pub struct Above<'a> {
-    /// Its other characters.
-    pub others: &'a [char],
-    /// Its after-condition.
-    pub after: Cond,
-}
 
 /// A character that may come next, and the rules that begin with it and are ranked above those that
 /// are left.
@@ -28,12 +20,11 @@ pub struct Letter<'a> {
 }
 
 impl<'a> Model for Letter<'a> {
-    ghost use Rattle.std.specs.Prelude.{map};
     ghost use Rattle.brl_dues.specs.LetterView.{LetterView};
 
     ghost Value = { LetterView };
 
-    ghost view = { λ l. record { character = l.character; fold = l.fold; above = map (λ a. (a.others.now, a.after)) l.above.items } };
+    ghost view = { λ l. record { character = l.character; fold = l.fold; above = l.above.items } };
 }
 
 impl<'a> Letter<'a> {
@@ -62,7 +53,7 @@ impl<'a> Letter<'a> {
 
     /// The rules above.
     pub fn above(&self) -> &[Above<'a>]
-        ensures { map (λ a. (a.others.now, a.after)) result.now ≡ self.now.above }
+        ensures { result.now ≡ self.now.above }
     {
         self.above.as_slice()
     }
@@ -71,7 +62,7 @@ impl<'a> Letter<'a> {
     pub fn push(&mut self, others: &'a [char], after: Cond) -> Result<(), AllocError>
         ensures { OnOk result (self.new ≡ record self.old { above = self.old.above ++ (others.now, after) ∷ [] }) }
     {
-        self.above.push(Above { others, after })?;
+        self.above.push(Above::new(others, after))?;
         Ok(())
     }
 }

@@ -6,6 +6,7 @@
 //! the text must go on with or must not go on with is so decided one step at a time.
 #![tactic(auto)]
 
+mod above;
 mod carry;
 mod due;
 mod laws;

@@ -1,0 +1,54 @@
+//! Rules that are ranked above the one that a step takes.
+ghost use Rattle.std.specs.Prelude.{◌≡◌, IfOk};
+ghost use Rattle.brl_dues.specs.Carry.{carry_bar as bar_carried};
+
+use crate::carry::{Carried, carry_bar};
+use brl_table::{Cond, Table};
+use std::alloc::{AllocError, Global};
+use std::marker::Model;
+
+/// A rule that is ranked above, without its first character: a contract sees its other characters and its
+/// after-condition.
+#[derive(Drop)]
+pub struct Above<'a> {
+    /// The first of its other characters, which tells most rules apart.
+    second: Option<char>,
+    others: &'a [char],
+    after: Cond,
+}
+
+impl<'a> Model for Above<'a> {
+    ghost use Rattle.std.specs.Prelude.{◌≡◌, ℕ, List, slice_get};
+    ghost use Rattle.brl_table.specs.declared.place.Cond.{Cond as CondValue};
+
+    ghost Value = { List ℕ × CondValue };
+
+    ghost view = { λ a. (a.others.now, a.after) };
+
+    ghost invariant = { λ a. a.second ≡ slice_get a.others.now 0 };
+}
+
+impl<'a> Above<'a> {
+    /// A rule with these characters behind its first one, and this after-condition.
+    pub fn new(others: &'a [char], after: Cond) -> Above<'a>
+        ensures { result ≡ (others.now, after) }
+    {
+        Above {
+            second: others.first().copied(),
+            others,
+            after,
+        }
+    }
+
+    /// What is left of its bar after these characters.
+    pub fn carry(&self, alloc: Global, table: &Table, past: &[char]) -> Result<Carried, AllocError>
+        ensures { IfOk result (λ carried. carried ≡ bar_carried table.now past.now self.now.0 self.now.1) }
+    {
+        if let (Some(here), Some(there)) = (past.first(), self.second) {
+            if *here != there {
+                return Ok(Carried::Settled);
+            }
+        }
+        carry_bar(alloc, table, past, self.others, self.after)
+    }
+}
