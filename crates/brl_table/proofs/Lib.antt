@@ -9,6 +9,5 @@ pub mod InRank
 pub mod TreeSteps
 pub mod TreeRules
 pub mod TreeWalk
-pub mod TreeFrom
 pub mod FirstInfo
 pub mod InfoLists

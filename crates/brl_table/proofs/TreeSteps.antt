@@ -9,7 +9,7 @@ use Rattle.std.proofs.lemmas.Bool.Decides.{nat_tests}
 use Rattle.brl_table.specs.declared.tree.Node.{Node}
 use Rattle.brl_table.specs.declared.tree.Node.TheOpen.{Node-F}
 use Rattle.brl_table.specs.declared.tree.Node.TheViews.{roll-Node, out-roll-Node}
-use Rattle.brl_table.specs.Tree.{Ends, nothing, branch_of, ends_at}
+use Rattle.brl_table.specs.Tree.{branch_of, ends_at}
 
 other : (m x c : ℕ) → nat_eq m c ≡ true → nat_eq m x ≡ false → nat_eq x c ≡ false
 other m x c h k = grind (arith, nat_tests)
@@ -21,21 +21,21 @@ pub same_number : (m n : ℕ) → nat_eq m n ≡ true → m ≡ n
 same_number m n h = grind (arith, nat_tests)
 
 -- a list of things that characters lead to
-module _ {X : Type 0} (mark : X → ℕ) (f : X → Ends) (h : Ends → Ends) (x c : ℕ) where
-  abbrev found : List X → Ends
-  found xs = option_map_or f (find (λ y. nat_eq (mark y) c) xs) nothing
+module _ {X : Type 0} (mark : X → ℕ) (f : X → List ℕ) (h : List ℕ → List ℕ) (x c : ℕ) where
+  abbrev found : List X → List ℕ
+  found xs = option_map_or f (find (λ y. nat_eq (mark y) c) xs) []
 
   -- what is found where x has changed
-  abbrev changed : Ends → Ends
+  abbrev changed : List ℕ → List ℕ
   changed ends = cond (nat_eq x c) (h ends) ends
 
   at_first : (b : Bool) (y z : X) (o : Option X) → f y ≡ h (f z)
-      → option_map_or f (cond b (Some y) o) nothing ≡ cond b (h (option_map_or f (cond b (Some z) o) nothing)) (option_map_or f (cond b (Some z) o) nothing)
+      → option_map_or f (cond b (Some y) o) [] ≡ cond b (h (option_map_or f (cond b (Some z) o) [])) (option_map_or f (cond b (Some z) o) [])
   at_first true y z o e = e
   at_first false y z o e = refl
 
-  passed : (b : Bool) (z : X) (o p : Option X) → (b ≡ true → nat_eq x c ≡ false) → option_map_or f p nothing ≡ changed (option_map_or f o nothing)
-      → option_map_or f (cond b (Some z) p) nothing ≡ changed (option_map_or f (cond b (Some z) o) nothing)
+  passed : (b : Bool) (z : X) (o p : Option X) → (b ≡ true → nat_eq x c ≡ false) → option_map_or f p [] ≡ changed (option_map_or f o [])
+      → option_map_or f (cond b (Some z) p) [] ≡ changed (option_map_or f (cond b (Some z) o) [])
   passed true z o p differ e = rw (differ refl) refl
   passed false z o p differ e = e
 
@@ -57,11 +57,11 @@ module _ {X : Type 0} (mark : X → ℕ) (f : X → Ends) (h : Ends → Ends) (x
   nor_behind true z o e = cc
   nor_behind false z o e = e
 
-  new_one : (b : Bool) (y : X) → f y ≡ h nothing → option_map_or f (cond b (Some y) None) nothing ≡ cond b (h nothing) nothing
+  new_one : (b : Bool) (y : X) → f y ≡ h [] → option_map_or f (cond b (Some y) None) [] ≡ cond b (h []) []
   new_one true y e = e
   new_one false y e = refl
 
-  pub found-push : (xs : List X) (y : X) → mark y ≡ x → find (λ y. nat_eq (mark y) x) xs ≡ None → f y ≡ h nothing
+  pub found-push : (xs : List X) (y : X) → mark y ≡ x → find (λ y. nat_eq (mark y) x) xs ≡ None → f y ≡ h []
       → found (xs ++ y ∷ []) ≡ changed (found xs)
   found-push [] y my none e = rw my (new_one (nat_eq x c) y e)
   found-push (z ∷ zs) y my none e =
@@ -69,16 +69,11 @@ module _ {X : Type 0} (mark : X → ℕ) (f : X → Ends) (h : Ends → Ends) (x
       (λ same. other (mark z) x c same (not_first (nat_eq (mark z) x) z (find (λ y. nat_eq (mark y) x) zs) none))
       (found-push zs y my (nor_behind (nat_eq (mark z) x) z (find (λ y. nat_eq (mark y) x) zs) none) e)
 
-pub ends-are : (rules longer rules' longer' : List ℕ) → rules ≡ rules' → longer ≡ longer'
-    → (let ends : Ends = record { rules = rules; longer = longer } in ends) ≡ record { rules = rules'; longer = longer' }
-ends-are rules longer rules' longer' same more = cc
-
 -- what a node says that was made of these fields
-pub by_layer : (fields : Node-F Node) (said : List ℕ → Ends)
-    → (let here : Ends = record { rules = fields.rules.items; longer = fields.longer.items } in here) ≡ said []
+pub by_layer : (fields : Node-F Node) (said : List ℕ → List ℕ) → fields.rules.items ≡ said []
     → ((c : ℕ) (at : List ℕ) → branch_of c fields.branches.items (λ branch. ends_at branch at) ≡ said (c ∷ at))
     → (at : List ℕ) → ends_at (roll-Node fields) at ≡ said at
-by_layer fields said none some [] = ap (λ (n : Node-F Node). let here : Ends = record { rules = n.rules.items; longer = n.longer.items } in here) (out-roll-Node fields) ∙ none
+by_layer fields said none some [] = ap (λ (n : Node-F Node). n.rules.items) (out-roll-Node fields) ∙ none
 by_layer fields said none some (c ∷ at) =
     ap (λ (n : Node-F Node). branch_of c n.branches.items (λ branch. ends_at branch at)) (out-roll-Node fields) ∙ some c at
 

@@ -16,7 +16,7 @@ use Rattle.brl_table.specs.Places.{holds, before_of, after_of}
 use Rattle.brl_table.specs.Text.{fold_of, classes_at}
 use Rattle.brl_table.specs.Choice.{matches, fits, may_stand, may_stand_by_number, by_rule, own, first_fitting, chosen, chosen_number}
 use Rattle.brl_table.specs.Rank.{weight, IsInRank}
-use Rattle.brl_table.specs.Tree.{is_just, numbers, nothing, ends_of}
+use Rattle.brl_table.specs.Tree.{is_just, numbers, ends_of}
 use Rattle.brl_table.proofs.Taken.{fits-Takes}
 
 -- ---- the first place at which a test holds
@@ -101,7 +101,7 @@ and-false : (b c : Bool) → c ≡ false → b && c ≡ false
 and-false true c h = h
 and-false false c h = refl
 
-pub tail : (r : Rule) (rules : List Rule) → IsInRank (r ∷ rules) → IsInRank rules
+tail : (r : Rule) (rules : List Rule) → IsInRank (r ∷ rules) → IsInRank rules
 tail r rules h i j d before within = h (suc i) (suc j) d (omega (arith, before)) (omega (arith, within))
 
 got_within : (rules : List Rule) (k : ℕ) (s : Rule) → slice_get rules k ≡ Some s → k < length rules
@@ -110,7 +110,7 @@ got_within (r ∷ rules) zero s is = omega arith
 got_within (r ∷ rules) (suc k) s is = omega (arith, got_within rules k s is)
 
 -- behind the first of a rank no rule is heavier
-pub lighter : (r : Rule) (rules : List Rule) → IsInRank (r ∷ rules) → (k : ℕ) (s : Rule) → slice_get rules k ≡ Some s → weight s ≤ weight r
+lighter : (r : Rule) (rules : List Rule) → IsInRank (r ∷ rules) → (k : ℕ) (s : Rule) → slice_get rules k ≡ Some s → weight s ≤ weight r
 lighter r rules h k s is =
     let within : k < length rules = got_within rules k s is in
     let e : get_or rules k s ≡ s = get_or_from_slice_get rules k s s is in
@@ -223,7 +223,7 @@ one-le w h = grind (arith, nat_tests)
 some_number : (m n : ℕ) → Some m ≡ Some n → m ≡ n
 some_number m n h = cc
 
-pub just-itself : (chars : List ℕ) → is_just chars chars ≡ true
+just-itself : (chars : List ℕ) → is_just chars chars ≡ true
 just-itself [] = refl
 just-itself (x ∷ chars) = ap (λ b. b && is_just chars chars) (same-itself x) ∙ just-itself chars
 
@@ -296,17 +296,17 @@ module _ (t : TableView) (before : Class) (c first : ℕ) (behind : List ℕ) (f
   at_end k h = no_more (k + 1) (λ j r is does. omega (arith, h, (fits-Takes t before (c ∷ behind) r does).room))
 
   -- where the tree says nothing of a character, no rule that fits has it
-  pub no_root : ((at : List ℕ) → nothing ≡ ends_of t.rules (first ∷ at)) → position_from (fits t before (c ∷ behind)) 0 t.rules ≡ None
+  pub no_root : ((at : List ℕ) → [] ≡ ends_of t.rules (first ∷ at)) → position_from (fits t before (c ∷ behind)) 0 t.rules ≡ None
   no_root none =
       position-none (fits t before (c ∷ behind)) 0 t.rules
       (λ j r is. not_true (fits t before (c ∷ behind) r)
       (λ does.
       let f = front r.chars (fits-matches r does) in
       let just : is_just r.chars (first ∷ f.0) ≡ true = ap (λ chars. is_just chars (first ∷ f.0)) f.1 ∙ just-itself (first ∷ f.0) in
-      let not : is_just r.chars (first ∷ f.0) ≡ false = numbers-none (λ r. is_just r.chars (first ∷ f.0)) 0 t.rules (sym (ap (λ ends. ends.rules) (none f.0))) j r is in
+      let not : is_just r.chars (first ∷ f.0) ≡ false = numbers-none (λ r. is_just r.chars (first ∷ f.0)) 0 t.rules (sym (none f.0)) j r is in
       not_both (is_just r.chars (first ∷ f.0)) just not))
 
-  pub no_branch : (k d : ℕ) → k < length behind → ((at : List ℕ) → nothing ≡ ends_of t.rules (first ∷ (take k behind ++ get_or behind k d ∷ at)))
+  pub no_branch : (k d : ℕ) → k < length behind → ((at : List ℕ) → [] ≡ ends_of t.rules (first ∷ (take k behind ++ get_or behind k d ∷ at)))
       → position_from (λ r. fits t before (c ∷ behind) r && nat_le (weight r) (k + 1)) 0 t.rules ≡ position_from (fits t before (c ∷ behind)) 0 t.rules
   no_branch k d within none = no_more (k + 1) (λ j r is does. short j r is (front r.chars (fits-matches r does)))
     where
@@ -324,34 +324,34 @@ module _ (t : TableView) (before : Class) (c first : ℕ) (behind : List ℕ) (f
               let just : is_just r.chars (first ∷ at) ≡ true =
               ap (λ chars. is_just chars (first ∷ at)) f.1 ∙ ap (λ b. b && is_just f.0 at) (same-itself first) ∙ longer-front k behind f.0 d f.2 more in
               let not : is_just r.chars (first ∷ at) ≡ false =
-              numbers-none (λ r. is_just r.chars (first ∷ at)) 0 t.rules (sym (ap (λ ends. ends.rules) (none (drop (suc k) f.0)))) j r is in
+              numbers-none (λ r. is_just r.chars (first ∷ at)) 0 t.rules (sym (none (drop (suc k) f.0))) j r is in
               absurd (not_both (is_just r.chars (first ∷ at)) just not)
 
 -- ---- the same at a rest that begins with c
 
 module _ (t : TableView) (before : Class) (rest : List ℕ) (c first : ℕ) (behind : List ℕ) (rest-is : rest ≡ c ∷ behind) (fold : fold_of t c ≡ first) where
-  pub rest-no_root : ((at : List ℕ) → nothing ≡ ends_of t.rules (first ∷ at)) → position_from (fits t before rest) 0 t.rules ≡ None
+  pub rest-no_root : ((at : List ℕ) → [] ≡ ends_of t.rules (first ∷ at)) → position_from (fits t before rest) 0 t.rules ≡ None
   rest-no_root none = rw rest-is (no_root t before c first behind fold none)
 
-  pub rest-first : find (may_stand_by_number t before rest) (ends_of t.rules (first ∷ [])).rules
+  pub rest-first : find (may_stand_by_number t before rest) (ends_of t.rules (first ∷ []))
       ≡ position_from (λ r. fits t before rest r && nat_le (weight r) (0 + 1)) 0 t.rules
   rest-first = rw rest-is (at_node t before c first behind fold 0 (omega arith) ∙ at_first t before c first behind fold)
 
   pub rest-next : (k : ℕ) (best : Option ℕ) → k < length behind → IsInRank t.rules
       → best ≡ position_from (λ r. fits t before rest r && nat_le (weight r) (k + 1)) 0 t.rules
-      → option_or (find (may_stand_by_number t before rest) (ends_of t.rules (first ∷ take (k + 1) behind)).rules) best
+      → option_or (find (may_stand_by_number t before rest) (ends_of t.rules (first ∷ take (k + 1) behind))) best
       ≡ position_from (λ r. fits t before rest r && nat_le (weight r) (k + 1 + 1)) 0 t.rules
   rest-next k best within rank e =
       let here = at_node t before c first behind fold (k + 1) (omega (arith, within)) in
       let back = ap (λ (rest : List ℕ). position_from (λ r. fits t before rest r && nat_le (weight r) (k + 1 + 1)) 0 t.rules) (sym rest-is) in
-      ap (option_or (find (may_stand_by_number t before rest) (ends_of t.rules (first ∷ take (k + 1) behind)).rules))
+      ap (option_or (find (may_stand_by_number t before rest) (ends_of t.rules (first ∷ take (k + 1) behind))))
       (e ∙ ap (λ (rest : List ℕ). position_from (λ r. fits t before rest r && nat_le (weight r) (k + 1)) 0 t.rules) rest-is)
-      ∙ ap (λ (rest : List ℕ). option_or (find (may_stand_by_number t before rest) (ends_of t.rules (first ∷ take (k + 1) behind)).rules)
+      ∙ ap (λ (rest : List ℕ). option_or (find (may_stand_by_number t before rest) (ends_of t.rules (first ∷ take (k + 1) behind)))
       (position_from (λ r. fits t before (c ∷ behind) r && nat_le (weight r) (k + 1)) 0 t.rules)) rest-is
       ∙ ap (λ found. option_or found (position_from (λ r. fits t before (c ∷ behind) r && nat_le (weight r) (k + 1)) 0 t.rules)) here
       ∙ sym (rank-step (fits t before (c ∷ behind)) (k + 1) 0 t.rules rank) ∙ back
 
-  pub rest-no_branch : (k d : ℕ) → k < length behind → ((at : List ℕ) → nothing ≡ ends_of t.rules (first ∷ (take k behind ++ get_or behind k d ∷ at)))
+  pub rest-no_branch : (k d : ℕ) → k < length behind → ((at : List ℕ) → [] ≡ ends_of t.rules (first ∷ (take k behind ++ get_or behind k d ∷ at)))
       → position_from (λ r. fits t before rest r && nat_le (weight r) (k + 1)) 0 t.rules ≡ position_from (fits t before rest) 0 t.rules
   rest-no_branch k d within none = rw rest-is (no_branch t before c first behind fold k d within none)
 

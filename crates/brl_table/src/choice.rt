@@ -99,7 +99,7 @@ impl Table {
 
     /// The first of the rules that end at a node whose place allows it in front of `rest`.
     fn rule_at(&self, node: &Node, before: Class, rest: &[char]) -> Option<u32>
-        ensures { result ≡ find (may_stand_by_number self.now before rest.now) (ends_at node.now []).rules }
+        ensures { result ≡ find (may_stand_by_number self.now before rest.now) (ends_at node.now []) }
     {
         node.rules()
             .iter()

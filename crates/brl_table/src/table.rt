@@ -1,11 +1,11 @@
 //! A table and its readers.
-ghost use Rattle.std.specs.Prelude.{◌≡◌, ◌<◌, ◌≤◌, ◌∷◌, ℕ, List, length, map, slice_get, Some, IfOk, OnOk, IfSome, option_copied};
+ghost use Rattle.std.specs.Prelude.{◌≡◌, ◌<◌, ◌≤◌, ◌∷◌, [], ℕ, List, length, map, slice_get, Some, IfOk, OnOk, IfSome, option_copied};
 ghost use Rattle.std.specs.List.Sorted.{IsPermutation};
 ghost use Rattle.std.specs.Option.{option_map_or};
 ghost use Rattle.brl_table.specs.Limits.{AreParts, IsTable};
 ghost use Rattle.brl_table.specs.Rank.{IsInRank, IsRanking};
 ghost use Rattle.brl_table.specs.TableView.{info_of, sign_cells};
-ghost use Rattle.brl_table.specs.Tree.{ends_at, ends_of, nothing};
+ghost use Rattle.brl_table.specs.Tree.{ends_at, ends_of};
 ghost use Rattle.brl_table.specs.Views.{parts_view};
 
 use crate::tree::{Node, RuleTree};
@@ -105,10 +105,10 @@ impl Table {
         self.parts.rules.as_slice()
     }
 
-    /// The node of the rules that begin with this character. At it stand the numbers of the rules that have just some
-    /// characters, and of those that go on from them.
+    /// The node of the rules that begin with this character. From it the characters behind lead to the numbers of the rules
+    /// that have just these, in rank.
     pub(crate) fn root(&self, first: char) -> Option<&Node>
-        ensures node { (at : List ℕ) → option_map_or (λ root. ends_at root at) (option_copied result) nothing ≡ ends_of self.now.rules (first ∷ at) }
+        ensures node { (at : List ℕ) → option_map_or (λ root. ends_at root at) (option_copied result) [] ≡ ends_of self.now.rules (first ∷ at) }
         ensures rank { IsInRank self.now.rules }
     {
         self.tree.root(first)

@@ -3,21 +3,19 @@ ghost use Rattle.std.specs.Prelude.{◌≡◌, ◌==◌, ◌≤◌, ◌∷◌, [
 ghost use Rattle.std.specs.List.{position};
 ghost use Rattle.std.specs.Option.{option_map_or};
 ghost use Rattle.brl_table.specs.declared.tree.Node.{out-Node};
-ghost use Rattle.brl_table.specs.Tree.{ends_at, ends_in, IsTreeOf, nothing, with_rule};
+ghost use Rattle.brl_table.specs.Tree.{ends_at, ends_in, IsTreeOf, with_rule};
 
 use crate::Rule;
 use indexmap::IndexMap;
 use std::alloc::{AllocError, Global};
 
-/// A node: where some characters lead. A contract reads it by what it says of the characters that lead on from it.
+/// A node: where some characters lead. A contract reads it by the numbers of the rules that end at the characters behind it.
 #[derive(Drop)]
 pub struct Node {
     /// The character that leads here.
     mark: char,
     /// The numbers of the rules that end here, in rank.
     rules: Vec<u32>,
-    /// The numbers of those that go on from here, in rank.
-    longer: Vec<u32>,
     branches: Vec<Node>,
 }
 
@@ -25,12 +23,11 @@ impl Node {
     /// A node without rules.
     pub fn new(alloc: Global, mark: char) -> Node
         ensures mark { (out-Node result).mark ≡ mark }
-        ensures empty { (at : List ℕ) → ends_at result at ≡ nothing }
+        ensures empty { (at : List ℕ) → ends_at result at ≡ [] }
     {
         Node {
             mark,
             rules: Vec::new(alloc),
-            longer: Vec::new(alloc),
             branches: Vec::new(alloc),
         }
     }
@@ -44,7 +41,6 @@ impl Node {
             self.rules.push(number)?;
             return Ok(());
         };
-        self.longer.push(number)?;
         match self.place_of(*first) {
             Some(place) => {
                 self.branches[place].insert(alloc, rest, number)?;
@@ -67,28 +63,21 @@ impl Node {
 
     /// The numbers of the rules that end here.
     pub fn rules(&self) -> &[u32]
-        ensures { result.now ≡ (ends_at self.now []).rules }
+        ensures { result.now ≡ ends_at self.now [] }
     {
         self.rules.as_slice()
     }
 
-    /// The numbers of those that go on from here.
-    pub fn longer(&self) -> &[u32]
-        ensures { result.now ≡ (ends_at self.now []).longer }
-    {
-        self.longer.as_slice()
-    }
-
     /// The branch that a character leads to.
     pub fn branch(&self, mark: char) -> Option<&Node>
-        ensures { (at : List ℕ) → option_map_or (λ branch. ends_at branch at) (option_copied result) nothing ≡ ends_at self.now (mark ∷ at) }
+        ensures { (at : List ℕ) → option_map_or (λ branch. ends_at branch at) (option_copied result) [] ≡ ends_at self.now (mark ∷ at) }
     {
         let place = self.place_of(mark)?;
         Some(&self.branches[place])
     }
 }
 
-/// The tree of some rules: a contract reads it by what it says of characters.
+/// The tree of some rules. A contract reads it by the numbers of the rules that have just some characters.
 #[derive(Drop)]
 pub struct RuleTree {
     /// By the first character of a rule.
@@ -110,7 +99,7 @@ impl RuleTree {
 
     /// A tree without rules.
     fn new(alloc: Global) -> RuleTree
-        ensures { (c : ℕ) (at : List ℕ) → ends_in result c at ≡ nothing }
+        ensures { (c : ℕ) (at : List ℕ) → ends_in result c at ≡ [] }
     {
         RuleTree {
             roots: IndexMap::new(alloc),
@@ -138,7 +127,7 @@ impl RuleTree {
 
     /// The node of rules that begin with this character.
     pub fn root(&self, first: char) -> Option<&Node>
-        ensures { (at : List ℕ) → option_map_or (λ root. ends_at root at) (option_copied result) nothing ≡ ends_in self.now first at }
+        ensures { (at : List ℕ) → option_map_or (λ root. ends_at root at) (option_copied result) [] ≡ ends_in self.now first at }
     {
         self.roots.get(&first)
     }

@@ -1,7 +1,6 @@
-//! Which rule a table takes in front of a text's rest, by number; the rules that begin with some characters; and as many rules
-//! as a table may have.
+//! Which rule a table takes in front of a text's rest, by number; and as many rules as a table may have.
 use super::shown;
-use brl_table::{Class, Context, Rule, RulesFrom, Table, holds};
+use brl_table::{Class, Context, Rule, Table, holds};
 use brl_testing::{agree, chars, cut, with_table};
 use std::alloc::Global;
 use std::test::Fail;
@@ -42,77 +41,6 @@ fn choices_by_number(rt: HostRuntime) -> Result<(), Fail> {
         let (before, rest) = cut(row)?;
         let (rest, want) = cut(rest)?;
         let given = chosen_of(rt.alloc(), ONE_STRING, before, rest)?;
-        agree(row, given.as_str(), want)?;
-    }
-    Ok(())
-}
-
-/// Rules that begin with the same characters.
-const ONE_BEGINNING: &str =
-    "letter a 1; letter b 12; always a 14; always ab 15; word ab 16; always aba 24; always b 25";
-
-/// Characters, and the numbers of the rules that go on from them and of those that have just these.
-const BEGINNINGS: &str = "\
-a|[0, 1, 2] [3]
-ab|[0] [1, 2]
-aba|[] [0]
-abab|[] []
-bb|[] []
-c|[] []
-";
-
-/// The number of a rule, and the numbers of those above it that begin with its characters, in the same order.
-const ABOVE: &str = "\
-0|[] []
-1|[0] []
-2|[0] [1]
-3|[0, 1, 2] []
-4|[] []
-";
-
-fn numbers_text(alloc: Global, from: RulesFrom<'_>) -> Result<String, Fail> {
-    Ok(format!(in alloc; "{:?} {:?}", from.longer, from.same)?)
-}
-
-fn beginning(alloc: Global, table: &Table, text: &str) -> Result<String, Fail> {
-    let text = chars(alloc, text)?;
-    if text.is_empty() {
-        return Err(Fail::from("there are no characters"));
-    }
-    numbers_text(alloc, table.rules_from(text.as_slice()))
-}
-
-fn beginning_of(alloc: Global, text: &str) -> Result<String, Fail> {
-    with_table(alloc, ONE_BEGINNING, |table| beginning(alloc, table, text))
-}
-
-#[test]
-fn rules_that_begin_with_characters(rt: HostRuntime) -> Result<(), Fail> {
-    for row in BEGINNINGS.lines() {
-        let (text, want) = cut(row)?;
-        let given = beginning_of(rt.alloc(), text)?;
-        agree(row, given.as_str(), want)?;
-    }
-    Ok(())
-}
-
-fn above(alloc: Global, table: &Table, number: u32) -> Result<String, Fail> {
-    if number as usize >= table.rules_in_rank().len() {
-        return Err(Fail::from("there is no such rule"));
-    }
-    numbers_text(alloc, table.above(number))
-}
-
-fn above_of(alloc: Global, number: &str) -> Result<String, Fail> {
-    let number = number.parse()?;
-    with_table(alloc, ONE_BEGINNING, |table| above(alloc, table, number))
-}
-
-#[test]
-fn rules_above_one_that_begin_with_its_characters(rt: HostRuntime) -> Result<(), Fail> {
-    for row in ABOVE.lines() {
-        let (number, want) = cut(row)?;
-        let given = above_of(rt.alloc(), number)?;
         agree(row, given.as_str(), want)?;
     }
     Ok(())

@@ -3,7 +3,7 @@ use Rattle.std.specs.List.{find}
 use Rattle.std.specs.Option.{option_or}
 use Rattle.brl_table.specs.Choice.{may_stand_by_number}
 use Rattle.brl_table.specs.Text.{fold_of}
-use Rattle.brl_table.specs.Tree.{Ends, ends_at, ends_of}
+use Rattle.brl_table.specs.Tree.{ends_at, ends_of}
 use Rattle.brl_table.proofs.TreeWalk.{rest-none, rest-no_root, rest-first, rest-next, rest-no_branch, rest-end, one_more}
 use Rattle.brl_table.proofs.table.Table.rule_in_front.Goals as goal
 
@@ -30,7 +30,7 @@ loop-character-init c =
     let fold-is : fold_of t x ≡ c.args.fold = sym (subst asked rest-is c.requires) in
     record {
       node = c.in_ok-node.ensures.node;
-      best = c.rule_at-best.ensures ∙ ap (λ (ends : Ends). find (may_stand_by_number t c.args.before rest) ends.rules) (c.in_ok-node.ensures.node [])
+      best = c.rule_at-best.ensures ∙ ap (find (may_stand_by_number t c.args.before rest)) (c.in_ok-node.ensures.node [])
           ∙ rest-first t c.args.before rest x c.args.fold c.in_ok-behind.behind.now rest-is fold-is;
     }
 
@@ -69,7 +69,7 @@ loop-character-preserved c =
       best =
           c.or-best.ensures
           ∙ ap (λ found. option_or found c.loop-character.best) (c.rule_at.ensures
-          ∙ ap (λ (ends : Ends). find (may_stand_by_number t c.args.before rest) ends.rules) (node-is [] ∙ ap (λ cs. ends_of t.rules (c.args.fold ∷ cs)) (append-nil (take (k + 1) behind))))
+          ∙ ap (find (may_stand_by_number t c.args.before rest)) (node-is [] ∙ ap (λ cs. ends_of t.rules (c.args.fold ∷ cs)) (append-nil (take (k + 1) behind))))
           ∙ rest-next t c.args.before rest x c.args.fold behind rest-is fold-is k c.loop-character.best c.loop-character-test.true c.in_ok-node.ensures.rank c.loop-character.invariant.best;
     }
 
