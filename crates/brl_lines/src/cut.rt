@@ -6,6 +6,7 @@ ghost use Rattle.brl_lines.specs.Tokens.{is_gap as is_gap_byte, line_of, tokens 
 ghost use Rattle.brl_lines.specs.Views.{line_view, token_view};
 
 use crate::line::{Line, Token};
+use memchr::memchr;
 use std::alloc::{AllocError, Global};
 
 /// Where a row ends, which begins where it was asked for, and where the next row begins.
@@ -30,12 +31,10 @@ fn feed_from(bytes: &[u8], at: usize) -> usize
     ensures feed { result < length bytes.now → slice_index bytes.now result ≡ 10 }
     ensures before { (k : ℕ) → at ≤ k → k < result → slice_index bytes.now k ≢ 10 }
 {
-    for i in at..bytes.len() {
-        if bytes[i] == b'\n' {
-            return i;
-        }
+    match memchr(b'\n', &bytes[at..]) {
+        Some(ahead) => at + ahead,
+        None => bytes.len(),
     }
-    bytes.len()
 }
 
 /// The row that begins at `at`.
