@@ -128,7 +128,7 @@ def refusals(said: str, folder: str) -> dict[str, list[str]]:
         names = [name for name in found if name.endswith(f"::{own}")]
         if len(names) == 1:
             found[names[0]].append(it["goal"])
-    return {name: goals for name, goals in found.items() if goals}
+    return {name: list(dict.fromkeys(goals)) for name, goals in found.items() if goals}
 
 
 class Trial:
