@@ -9,3 +9,7 @@ pub mod Naming
 pub mod Closing
 pub mod Reaching
 pub mod Unknown
+pub mod Twins
+pub mod Members
+pub mod Listed
+pub mod OfDues

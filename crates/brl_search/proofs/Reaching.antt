@@ -8,7 +8,7 @@ use Rattle.brl_cert.specs.declared.pair.CertPair.{CertPair}
 use Rattle.brl_pairs.specs.Pairs.{turned}
 use Rattle.brl_pairs.specs.Runs.{Behaviour}
 use Rattle.brl_pairs.specs.declared.step.Pair.{Pair}
-use Rattle.brl_search.specs.Answers.{HasReachedPairs, HasReachedStates, HasTwoEndsReached}
+use Rattle.brl_search.specs.Answers.{AreInOrder, HasReachedPairs, HasReachedStates, HasTwoEndsReached}
 use Rattle.brl_search.specs.Reached.{AtLeast, Reached, ReachedPair, SamePair, SameState, start, step, split, move}
 use Rattle.brl_search.specs.Trail.{IsSplitOf, StaysBehindOf, GetsAheadOf, IsPairOrigin, IsEarlier, HasTwoEnds, IsTraced, turned_pair}
 use Rattle.brl_search.specs.declared.trail.PairOrigin.{PairOrigin}
@@ -119,6 +119,21 @@ module _ {S : Type 0} (m : Behaviour S) (t : Trail S) (traced : IsTraced m t) wh
 
   pub body_pairs : HasReachedPairs m (listed t.states t.pairs)
   body_pairs n p at = (let h = named_at t.states t.pairs n p at in pair_reached n h.numbers p h.at h.names)
+
+  pub in_order : AreInOrder m t.states
+  in_order = record {
+    first = traced.start;
+    each = λ number s some at.
+        (let f = traced.each_state number s some at in record {
+          lesser = f.origin.parent;
+          is_lesser = f.earlier;
+          state = f.found.taken.state;
+          at = f.found.taken.at;
+          step = f.found.step;
+          listed = (f.origin.place, f.found.taken.listed);
+          next = f.found.next;
+        });
+  }
 
   pub two_ends_reached : (n : ℕ) (q : CertPair) → slice_get t.pairs n ≡ Some q → HasTwoEnds m t.states q → HasTwoEndsReached m
   two_ends_reached n q at h = record {

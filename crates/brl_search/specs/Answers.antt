@@ -1,5 +1,5 @@
 -- What a search of a machine may answer. These are this project's own choice.
-use Rattle.std.specs.Prelude.{◌≡◌, ◌≢◌, ℕ, ◌<◌, ◌≤◌, IsTrue, List, [], ◌⊎◌, length, Some, slice_get}
+use Rattle.std.specs.Prelude.{◌≡◌, ◌≢◌, ℕ, ◌+◌, ◌<◌, ◌≤◌, IsTrue, List, [], ◌⊎◌, length, Some, slice_get}
 use Rattle.std.specs.declared.cmp.PartialEq.{Ghosts as EqMembers}
 use Rattle.std.specs.declared.hash.Hash.{Ghosts as HashMembers}
 use Rattle.brl_cert.specs.Lines.{BodyView}
@@ -8,7 +8,7 @@ use Rattle.brl_cert.specs.Views.{listed}
 use Rattle.brl_pairs.specs.declared.step.Pair.{Pair}
 use Rattle.brl_pairs.specs.declared.step.Step.{Step}
 use Rattle.brl_pairs.specs.Pairs.{IsClosed}
-use Rattle.brl_pairs.specs.Runs.{Behaviour, IsPath, cells_of, reads_of}
+use Rattle.brl_pairs.specs.Runs.{Behaviour, IsListed, IsPath, cells_of, reads_of}
 use Rattle.brl_search.specs.declared.outcome.Outcome.{Outcome}
 use Rattle.brl_search.specs.declared.outcome.Outcome.TheVariants.{Closed, BothEnd, Limit}
 use Rattle.brl_search.specs.Reached.{AtLeast, Reached, ReachedPair, SamePair, SameState}
@@ -27,18 +27,36 @@ HasReachedPairs {S} m body = (number : ℕ) (p : Pair S) → pair_at body number
 abbrev pub IsWithin : {S : Type 0} → ℕ → BodyView S → Type 0
 IsWithin limit body = (length body.states ≤ limit) × (length body.pairs ≤ limit)
 
--- closed sets of reached states and pairs, within the limit
+-- a listed step of the state with a lesser number leads to the state with this number
+pub record IsLedTo {S : Type 0} (m : Behaviour S) (states : List S) (number : ℕ) (s : S) : Type 0 where
+  pub lesser : ℕ
+  pub is_lesser : lesser < number
+  pub state : S
+  pub at : slice_get states lesser ≡ Some state
+  pub step : Step S
+  pub listed : IsListed (m.steps state) step
+  pub next : step.next ≡ s
+
+-- the start is the first of these states, and steps of earlier ones lead to each other
+pub record AreInOrder {S : Type 0} (m : Behaviour S) (states : List S) : Type 0 where
+  pub first : slice_get states 0 ≡ Some m.start
+  pub each : (number : ℕ) (s : S) → 0 < number → slice_get states number ≡ Some s → IsLedTo m states number s
+
+-- closed sets of reached states and pairs, within the limit, the states in the order in which they are found
 pub record IsCertified {S : Type 0} (m : Behaviour S) (limit : ℕ) (body : BodyView S) : Type 0 where
   pub closed : IsClosed m (sets_of body)
   pub states : HasReachedStates m body
   pub pairs : HasReachedPairs m body
   pub within : IsWithin limit body
+  pub order : AreInOrder m body.states
 
 -- ---- Limit
 
--- one of the two numbers is more than the limit, and no more states or pairs are named than are reached
+-- one of the two numbers is more than the limit, neither by more than one, and no more states or pairs are named than are reached
 pub record IsLimit {S : Type 0} (m : Behaviour S) (limit states pairs : ℕ) : Type 0 where
   pub passed : (limit < states) ⊎ (limit < pairs)
+  pub few_states : states ≤ limit + 1
+  pub few_pairs : pairs ≤ limit + 1
   pub states_reached : AtLeast states SameState (Reached m)
   pub pairs_reached : AtLeast pairs SamePair (ReachedPair m)
 

@@ -1,12 +1,10 @@
 -- What a search of a table may answer. These are this project's own choice.
-use Rattle.std.specs.Prelude.{ℕ, List}
+use Rattle.std.specs.Prelude.{ℕ}
 use Rattle.brl_cert.specs.Lines.{BodyView}
 use Rattle.brl_cert.specs.Views.{listed}
 use Rattle.brl_cert.specs.declared.cert.Cert.TheVariants.{Dues, Window}
 use Rattle.brl_dues.specs.declared.state.DuesState.{DuesState}
 use Rattle.brl_forward.specs.ClashView.{ClashView}
-use Rattle.brl_search.specs.declared.fault.SearchFault.{SearchFault}
-use Rattle.brl_search.specs.declared.fault.SearchFault.TheVariants as fault
 use Rattle.brl_search.specs.declared.found.Found.{Found}
 use Rattle.brl_search.specs.declared.found.Found.TheVariants.{Certified, Clashing, Limit}
 
@@ -26,7 +24,7 @@ abbrev pub IfLimit : (ℕ → ℕ → Type 0) → Found → Type 0
 IfLimit P (Limit states pairs) = P states pairs
 IfLimit P found = Unit {0}
 
--- a fact of the two texts, if these aren't confirmed
-abbrev pub IfUnconfirmed : (List ℕ → List ℕ → Type 0) → SearchFault → Type 0
-IfUnconfirmed P (fault.Unconfirmed left right) = P left right
-IfUnconfirmed P other = Unit {0}
+-- a certificate, and nothing else
+abbrev pub IsCertificate : Found → Type 0
+IsCertificate (Certified cert) = Unit {0}
+IsCertificate found = ⊥

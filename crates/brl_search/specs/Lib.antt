@@ -5,3 +5,4 @@ pub mod Trail
 pub mod Edges
 pub mod Work
 pub mod Ways
+pub mod Deciding

@@ -1,6 +1,6 @@
 -- What a search may find of a machine: the states and pairs that are reached from its start. Pairs of runs are those of Sardinas
 -- and Patterson; that they are asked of a machine is this project's own choice.
-use Rattle.std.specs.Prelude.{◌≡◌, ℕ, ◌<◌, List, [], ◌⊎◌, length, Some, slice_get}
+use Rattle.std.specs.Prelude.{◌≡◌, ℕ, ◌<◌, ◌≤◌, List, [], ◌⊎◌, length, Some, slice_get}
 use Rattle.brl_pairs.specs.declared.step.Pair.{Pair}
 use Rattle.brl_pairs.specs.declared.step.Step.{Step}
 use Rattle.brl_pairs.specs.Runs.{Behaviour, IsListed}
@@ -32,3 +32,7 @@ pub record AtLeast {A : Type 0} (n : ℕ) (Same : A → A → Type 0) (Kind : A 
   pub count : length list ≡ n
   pub each : (i : ℕ) (x : A) → slice_get list i ≡ Some x → Kind x
   pub differ : (i j : ℕ) (x y : A) → i < j → slice_get list i ≡ Some x → slice_get list j ≡ Some y → Same x y → ⊥
+
+-- there are n things of this kind at most: wherever there are so many at least, these are no more than n
+abbrev pub AtMost : {A : Type 0} → ℕ → (A → A → Type 0) → (A → Type 0) → Type 0
+AtMost n Same Kind = (k : ℕ) → AtLeast k Same Kind → k ≤ n

@@ -1,5 +1,5 @@
 -- What a search keeps of the states and pairs that it has found (this project's own choice): how each was found, and nothing twice.
-use Rattle.std.specs.Prelude.{◌≡◌, ◌≢◌, ℕ, ◌<◌, ◌≤◌, IsTrue, List, [], ◌++◌, ◌⊎◌, length, Some, slice_get}
+use Rattle.std.specs.Prelude.{◌≡◌, ◌≢◌, ℕ, ◌+◌, ◌<◌, ◌≤◌, IsTrue, List, [], ◌++◌, ◌⊎◌, length, Some, slice_get}
 use Rattle.brl_cert.specs.Range.{IsPairOf}
 use Rattle.brl_cert.specs.declared.pair.CertPair.{CertPair}
 use Rattle.brl_pairs.specs.declared.step.Step.{Step}
@@ -121,9 +121,15 @@ pub record IsKept {S : Type 0} (m : Behaviour S) (t : Trail S) : Type 0 where
   pub small : t.limit ≤ 4294967295
   pub no_two_ends : (n : ℕ) (p : CertPair) → slice_get t.pairs n ≡ Some p → HasTwoEnds m t.states p → ⊥
 
+-- one of the two numbers is more than the limit, and neither is by more than one
+pub record HasPassed {S : Type 0} (t : Trail S) : Type 0 where
+  pub more : (t.limit < length t.states) ⊎ (t.limit < length t.pairs)
+  pub states : length t.states ≤ t.limit + 1
+  pub pairs : length t.pairs ≤ t.limit + 1
+
 -- why a search stops
 abbrev pub IsStopped : {S : Type 0} → Behaviour S → Trail S → Stop → Type 0
-IsStopped m t stop.Limit = IsTraced m t × ((t.limit < length t.states) ⊎ (t.limit < length t.pairs))
+IsStopped m t stop.Limit = IsTraced m t × HasPassed t
 IsStopped m t (stop.BothEnd n) = IsTraced m t × (p : CertPair) × (slice_get t.pairs n ≡ Some p) × HasTwoEnds m t.states p
 IsStopped m t stop.Memory = Unit {0}
 

@@ -1,9 +1,9 @@
 //! The search of a machine.
-ghost use Rattle.std.specs.Prelude.{◌≡◌, ◌<◌, ◌≤◌, ◌⊎◌, [], ◌∷◌, length, IfErr, IfOk, OnOk};
+ghost use Rattle.std.specs.Prelude.{◌≡◌, ◌≤◌, [], ◌∷◌, length, IfErr, IfOk, OnOk};
 ghost use Rattle.brl_cert.specs.Views.{listed};
 ghost use Rattle.brl_pairs.specs.Runs.{KeepsLaws};
 ghost use Rattle.brl_search.specs.Answers.{IsCertified, IsOutcome};
-ghost use Rattle.brl_search.specs.Trail.{IsStopped, IsTraced};
+ghost use Rattle.brl_search.specs.Trail.{HasPassed, IsStopped, IsTraced};
 ghost use Rattle.brl_search.specs.Work.{IsFinished};
 
 use crate::outcome::Outcome;
@@ -63,7 +63,7 @@ fn find_from_start<M: Machine>(
 /// What was found, as it stands.
 fn counts<M: Machine>(machine: &M, trail: &Trail<M::State>) -> Outcome<M::State>
     requires traced { IsTraced (M.behaviour machine.now) trail.now }
-    requires passed { (trail.now.limit < length trail.now.states) ⊎ (trail.now.limit < length trail.now.pairs) }
+    requires passed { HasPassed trail.now }
     ensures { IsOutcome (M.behaviour machine.now) trail.now.limit result }
 {
     Outcome::Limit {

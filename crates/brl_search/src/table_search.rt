@@ -1,58 +1,48 @@
 //! The search of a table.
-ghost use Rattle.std.specs.Prelude.{◌≡◌, ◌<◌, ◌≤◌, ◌⊎◌, ℕ, List, IfErr, IfOk};
+ghost use Rattle.std.specs.Prelude.{◌+◌, ◌<◌, ◌≤◌, ◌⊎◌, ℕ, List, IfOk};
 ghost use Rattle.brl_cert.specs.Sets.{sets_of};
 ghost use Rattle.brl_dues.specs.Steps.{dues_machine};
 ghost use Rattle.brl_pairs.specs.Pairs.{IsClosed};
-ghost use Rattle.brl_search.specs.Answers.{HasReachedPairs, HasReachedStates, HasTwoEndsReached, IsWithin};
-ghost use Rattle.brl_search.specs.Found.{IfCertified, IfClashing, IfLimit, IfUnconfirmed};
-ghost use Rattle.brl_search.specs.Reached.{AtLeast, Reached, ReachedPair, SamePair, SameState};
-ghost use Rattle.brl_search.specs.declared.fault.SearchFault.TheVariants as fault;
-ghost use Rattle.brl_table.specs.Translation.{IsClash};
+ghost use Rattle.brl_search.specs.Answers.{AreInOrder, HasReachedPairs, HasReachedStates, IsWithin};
+ghost use Rattle.brl_search.specs.Found.{IfCertified, IfClashing, IfLimit, IsCertificate};
+ghost use Rattle.brl_search.specs.Reached.{AtLeast, AtMost, Reached, ReachedPair, SamePair, SameState};
+ghost use Rattle.brl_table.specs.Translation.{IsClash, translation};
 
 use crate::fault::SearchFault;
 use crate::found::Found;
+use crate::laws::clash_law;
 use crate::machine_search::search_machine;
 use crate::outcome::Outcome;
 use brl_cert::Cert;
-use brl_dues::Dues;
-use brl_forward::{ConfirmFault, confirm};
+use brl_dues::{Dues, exact_law};
+use brl_forward::{Clash, ConfirmFault, confirm};
 use brl_pairs::numbered_sets_law;
-use brl_table::{Chars, Table};
-use std::alloc::Global;
+use brl_table::Table;
+use std::alloc::{AllocError, Global};
 
-/// The fault of two texts that aren't a clash.
-fn unconfirmed(left: Vec<char>, right: Vec<char>) -> SearchFault
-    ensures { result ≡ fault.Unconfirmed left.items right.items }
-{
-    SearchFault::Unconfirmed(Chars::from_vec(left), Chars::from_vec(right))
-}
-
-/// The clash of two texts that a search met, or `Unconfirmed` with them where they are none.
-fn confirmed(
+/// The clash of two texts that clash.
+fn clash_of(
     alloc: Global,
     table: &Table,
-    left: Vec<char>,
-    right: Vec<char>,
-) -> Result<Found, SearchFault>
-    ensures clash { IfOk result (IfClashing (λ clash. IsClash table.now clash.left clash.right clash.cells)) }
-    ensures no_cert { IfOk result (IfCertified (λ _. ⊥)) }
-    ensures no_limit { IfOk result (IfLimit (λ _ _. ⊥)) }
-    ensures none { IfErr result (IfUnconfirmed (λ left right. (cells : List ℕ) → IsClash table.now left right cells → ⊥)) }
+    left: &[char],
+    right: &[char],
+) -> Result<Clash, AllocError>
+    requires { IsClash table.now left.now right.now (translation table.now left.now) }
+    ensures { IfOk result (λ clash. IsClash table.now clash.left clash.right clash.cells) }
 {
-    match confirm(alloc, table, left.as_slice(), right.as_slice()) {
-        Ok(Some(clash)) => Ok(Found::Clashing(clash)),
-        Err(ConfirmFault::Memory) => Err(SearchFault::Memory),
-        Ok(None) => Err(unconfirmed(left, right)),
-        Err(ConfirmFault::UnknownChar(_, _)) => Err(unconfirmed(left, right)),
+    match confirm(alloc, table, left, right) {
+        Ok(Some(clash)) => Ok(clash),
+        Err(ConfirmFault::Memory) => Err(AllocError),
+        Ok(None) => unreachable!(),
+        Err(ConfirmFault::UnknownChar(_, _)) => unreachable!(),
     }
 }
 
 /// Searches a table for a certificate or a clash, over its dues machine. The certificate is of
 /// version 2. Its states are in the order in which they are found, breadth first, the start first.
 ///
-/// `Limit` as soon as the states found, or the pairs found, are more than `limit`. `Unconfirmed`
-/// with two texts where the search met a reached pair with an empty lead and two ends, but its
-/// texts aren't a clash. `Memory` where an allocation fails.
+/// `Limit` as soon as the states found, or the pairs found, are more than `limit`. `Memory` where an
+/// allocation fails.
 pub fn search(alloc: Global, table: &Table, limit: u64) -> Result<Found, SearchFault>
     requires { limit ≤ 4294967295 }
 
@@ -62,26 +52,36 @@ pub fn search(alloc: Global, table: &Table, limit: u64) -> Result<Found, SearchF
     ensures states { IfOk result (IfCertified (HasReachedStates (dues_machine table.now))) }
     ensures pairs { IfOk result (IfCertified (HasReachedPairs (dues_machine table.now))) }
     ensures within { IfOk result (IfCertified (IsWithin limit)) }
+    ensures order { IfOk result (IfCertified (λ body. AreInOrder (dues_machine table.now) body.states)) }
 
     // A clash of the table, with its cells.
     ensures clash { IfOk result (IfClashing (λ clash. IsClash table.now clash.left clash.right clash.cells)) }
 
-    // The limit was passed, and no more states or pairs are named than are reached.
+    // The limit was passed, by no more than one, and no more states or pairs are named than are reached.
     ensures passed { IfOk result (IfLimit (λ states pairs. (limit < states) ⊎ (limit < pairs))) }
+    ensures by_one { IfOk result (IfLimit (λ states pairs. (states ≤ limit + 1) × (pairs ≤ limit + 1))) }
     ensures states_reached { IfOk result (IfLimit (λ states _. AtLeast states SameState (Reached (dues_machine table.now)))) }
     ensures pairs_reached { IfOk result (IfLimit (λ _ pairs. AtLeast pairs SamePair (ReachedPair (dues_machine table.now)))) }
 
-    // Two texts that aren't a clash, at a reached pair with an empty lead and two ends.
-    ensures no_clash { IfErr result (IfUnconfirmed (λ left right. (cells : List ℕ) → IsClash table.now left right cells → ⊥)) }
-    ensures two_ends { IfErr result (IfUnconfirmed (λ _ _. HasTwoEndsReached (dues_machine table.now))) }
+    // Where no more than `limit` states and pairs are reached, it decides: the limit isn't passed, and if no two texts clash there
+    // is a certificate.
+    ensures decides { AtMost limit SameState (Reached (dues_machine table.now)) → AtMost limit SamePair (ReachedPair (dues_machine table.now))
+        → IfOk result (IfLimit (λ _ _. ⊥)) }
+    ensures certifies { AtMost limit SameState (Reached (dues_machine table.now)) → AtMost limit SamePair (ReachedPair (dues_machine table.now))
+        → ((left right cells : List ℕ) → IsClash table.now left right cells → ⊥) → IfOk result IsCertificate }
 {
     let dues = Dues::new(alloc, table);
+    exact_law(table);
     match search_machine(alloc, &dues, limit)? {
         Outcome::Closed(body) => {
             numbered_sets_law(&dues);
             Ok(Found::Certified(Cert::Dues(body)))
         }
-        Outcome::BothEnd { left, right } => confirmed(alloc, table, left, right),
+        Outcome::BothEnd { left, right } => {
+            clash_law(&dues, table);
+            let clash = clash_of(alloc, table, left.as_slice(), right.as_slice())?;
+            Ok(Found::Clashing(clash))
+        }
         Outcome::Limit { states, pairs } => Ok(Found::Limit { states, pairs }),
     }
 }

@@ -1,22 +1,22 @@
 -- What a search of a table says, told.
-use Rattle.std.proofs.Common.{◌≡◌, ◌∙◌, ℕ, List, ◌++◌, Option, Some, None, Result, Ok, Err, IsErrAnd, IfErr, IfOk, String, subst, sym}
+use Rattle.std.proofs.Common.{◌≡◌, ◌∙◌, refl, ℕ, List, ◌++◌, Option, Some, None, Result, Ok, Err, IsErrAnd, IfErr, IfOk, String, subst, sym}
 use Rattle.std.specs.Global.{Global}
 use Rattle.std.specs.Io.KnownBytes.{Appends}
 use Rattle.std.specs.Prelude.{string_bytes}
 use Rattle.brl_accept.specs.Files.{IsTableOf}
 use Rattle.brl_cert.specs.Lines.{BodyView}
-use Rattle.brl_cert.specs.Reading.{Owing, spelling}
+use Rattle.brl_cert.specs.Reading.{Owing, reading, spelling}
 use Rattle.brl_cert.specs.Sets.{sets_of}
 use Rattle.brl_cert.specs.Views.{listed}
 use Rattle.brl_cert.specs.declared.cert.Cert.{Cert}
 use Rattle.brl_cert.specs.declared.cert.Cert.TheVariants.{Dues, Window}
 use Rattle.brl_dues.specs.Steps.{dues_machine}
 use Rattle.brl_dues.specs.declared.state.DuesState.{DuesState}
+use Rattle.brl_forward.specs.ClashView.{ClashView}
 use Rattle.brl_pairs.specs.Pairs.{IsClosed}
-use Rattle.brl_search.specs.Answers.{HasReachedPairs, HasReachedStates, HasTwoEndsReached, IsCertified, IsWithin}
-use Rattle.brl_search.specs.Found.{IfCertified, IfUnconfirmed}
-use Rattle.brl_search.specs.declared.fault.SearchFault.{SearchFault}
-use Rattle.brl_search.specs.declared.fault.SearchFault.TheVariants as fault
+use Rattle.brl_report.specs.Report.{report_text}
+use Rattle.brl_search.specs.Answers.{AreInOrder, HasReachedPairs, HasReachedStates, IsCertified, IsWithin}
+use Rattle.brl_search.specs.Found.{IfCertified}
 use Rattle.brl_search.specs.declared.found.Found.{Found}
 use Rattle.brl_search.specs.declared.found.Found.TheVariants as found
 use Rattle.brl_table.specs.TableView.{TableView}
@@ -24,20 +24,22 @@ use Rattle.brl_table.specs.Translation.{IsClash}
 use Rattle.brl_tool.proofs.StatusLemmas.{none_is_one, none_is_three}
 use Rattle.brl_tool.specs.Files.{AllStay, FilesAfter, Gives, OthersStay}
 use Rattle.brl_tool.specs.Running.{verdict_status}
-use Rattle.brl_tool.specs.Searching.{HasNoClash, IsVerdict, ReportsCertificate, Searches, SearchesTable, Tells, TellsCertificate, cert_of, certified_line, unconfirmed_line}
+use Rattle.brl_tool.specs.Searching.{HasNoClash, IsVerdict, ReportsCertificate, Searches, SearchesTable, Tells, TellsCertificate, cert_of, certified_line}
 use Rattle.brl_tool.specs.declared.run_fault.RunFault.{RunFault}
 use Rattle.brl_tool.specs.declared.run_fault.RunFault.TheVariants.{Load, Table, Stream, Confirm, Wide, OutputFailed, CannotWrite, Memory}
 use Rattle.brl_tool.specs.declared.verdict.Told.{Told}
 use Rattle.brl_tool.specs.declared.verdict.Verdict.{Verdict}
-use Rattle.brl_tool.specs.declared.verdict.Verdict.TheVariants.{Certified, Clash, Limit, Unconfirmed}
+use Rattle.brl_tool.specs.declared.verdict.Verdict.TheVariants.{Certified, Clash, Limit}
 
 -- the verdict that has a certificate says that the table has no clash
 verdict_of_cert : (t : TableView) (limit : ℕ) (body : BodyView DuesState) (verdict : Verdict) (text : List ℕ) → HasNoClash t → IsCertified (dues_machine t) limit body
-    → cert_of verdict ≡ Some (spelling (Owing body)) → text ≡ certified_line (Owing body) → IsVerdict t limit verdict text
-verdict_of_cert t limit body (Certified bytes) text none certified bytes_are text_is = (none, (body, certified, cc, text_is))
-verdict_of_cert t limit body Clash text none certified bytes_are text_is = cc
-verdict_of_cert t limit body Limit text none certified bytes_are text_is = cc
-verdict_of_cert t limit body Unconfirmed text none certified bytes_are text_is = cc
+    → cert_of verdict ≡ Some (spelling (Owing body)) → text ≡ certified_line (Owing body) → reading (spelling (Owing body)) ≡ Ok (Owing body) → IsVerdict t limit verdict text
+verdict_of_cert t limit body (Certified bytes) text none certified bytes_are text_is read = (
+  none,
+  (body, certified, cc, text_is, (Owing body, read, record { closed = certified.closed; states = refl; pairs = refl })),
+)
+verdict_of_cert t limit body Clash text none certified bytes_are text_is read = cc
+verdict_of_cert t limit body Limit text none certified bytes_are text_is read = cc
 
 -- a certificate, told
 pub told_cert : (t : TableView) (limit : ℕ) (answer : Found) (cert : Cert) (told : Told) → answer ≡ found.Certified cert
@@ -46,15 +48,16 @@ pub told_cert : (t : TableView) (limit : ℕ) (answer : Found) (cert : Cert) (to
     → IfCertified (HasReachedStates (dues_machine t)) answer
     → IfCertified (HasReachedPairs (dues_machine t)) answer
     → IfCertified (IsWithin limit) answer
+    → IfCertified (λ body. AreInOrder (dues_machine t) body.states) answer
     → TellsCertificate cert told → IsVerdict t limit told.verdict (string_bytes told.text)
-told_cert t limit (found.Certified (Dues body)) cert told same none closed states pairs within tells =
+told_cert t limit (found.Certified (Dues body)) cert told same none closed states pairs within order tells =
     let it : cert ≡ Dues body = cc in
     let tells_it : TellsCertificate (Dues body) told = subst (λ (c : Cert). TellsCertificate c told) it tells in
     verdict_of_cert t limit (listed body.states body.pairs) told.verdict (string_bytes told.text) none
-    (record { closed = closed; states = states; pairs = pairs; within = within }) tells_it.0 tells_it.1
-told_cert t limit (found.Certified (Window body)) cert told same none closed states pairs within tells = absurd none
-told_cert t limit (found.Clashing clash) cert told same none closed states pairs within tells = cc
-told_cert t limit (found.Limit s p) cert told same none closed states pairs within tells = cc
+    (record { closed = closed; states = states; pairs = pairs; within = within; order = order }) tells_it.0 tells_it.1 tells_it.2
+told_cert t limit (found.Certified (Window body)) cert told same none closed states pairs within order tells = absurd none
+told_cert t limit (found.Clashing clash) cert told same none closed states pairs within order tells = cc
+told_cert t limit (found.Limit s p) cert told same none closed states pairs within order tells = cc
 
 -- a verdict with its text is what is told of the table, or memory is wanting
 pub told_with : {E : Type 0} (t : TableView) (limit : ℕ) (verdict : Verdict) (text : Result (String Global) E) (result : Result Told RunFault)
@@ -73,32 +76,18 @@ pub told_certificate : (t : TableView) (limit : ℕ) (answer : Found) (cert : Ce
     → IfCertified (HasReachedStates (dues_machine t)) answer
     → IfCertified (HasReachedPairs (dues_machine t)) answer
     → IfCertified (IsWithin limit) answer
+    → IfCertified (λ body. AreInOrder (dues_machine t) body.states) answer
     → IfOk result (TellsCertificate cert) → IfErr result (λ fault. fault ≡ Memory) → Tells t limit result
-told_certificate t limit answer cert (Ok told) same none closed states pairs within tells fault =
-    told_cert t limit answer cert told same none closed states pairs within tells
-told_certificate t limit answer cert (Err fault) same none closed states pairs within tells is =
+told_certificate t limit answer cert (Ok told) same none closed states pairs within order tells fault =
+    told_cert t limit answer cert told same none closed states pairs within order tells
+told_certificate t limit answer cert (Err fault) same none closed states pairs within order tells is =
     subst (λ (f : RunFault). Tells t limit (Err f)) (sym is) tt
 
--- two texts that aren't a clash, told
-pub told_texts : (t : TableView) (limit : ℕ) (answer : SearchFault) (left right text : List ℕ) → answer ≡ fault.Unconfirmed left right
-    → IfUnconfirmed (λ left right. (cells : List ℕ) → IsClash t left right cells → ⊥) answer
-    → IfUnconfirmed (λ left right. HasTwoEndsReached (dues_machine t)) answer
-    → text ≡ unconfirmed_line left right → IsVerdict t limit Unconfirmed text
-told_texts t limit answer left right text same none ends text_is = (
-  left,
-  right,
-  subst (IfUnconfirmed (λ left right. (cells : List ℕ) → IsClash t left right cells → ⊥)) same none,
-  subst (IfUnconfirmed (λ left right. HasTwoEndsReached (dues_machine t))) same ends,
-  text_is,
-)
-
--- the same of the line that is made of them, if it is
-pub told_unconfirmed : {E : Type 0} (t : TableView) (limit : ℕ) (answer : SearchFault) (left right : List ℕ) (text : Result (String Global) E) → answer ≡ fault.Unconfirmed left right
-    → IfUnconfirmed (λ left right. (cells : List ℕ) → IsClash t left right cells → ⊥) answer
-    → IfUnconfirmed (λ left right. HasTwoEndsReached (dues_machine t)) answer
-    → IfOk text (λ s. string_bytes s ≡ unconfirmed_line left right) → IfOk text (λ s. IsVerdict t limit Unconfirmed (string_bytes s))
-told_unconfirmed {E} t limit answer left right (Ok s) same none ends text_is = told_texts t limit answer left right (string_bytes s) same none ends text_is
-told_unconfirmed {E} t limit answer left right (Err e) same none ends text_is = tt
+-- the report of a clash, if it is made
+pub told_clash : {E : Type 0} (t : TableView) (limit : ℕ) (clash : ClashView) (text : Result (String Global) E) → IsClash t clash.left clash.right clash.cells
+    → IfOk text (λ s. string_bytes s ≡ report_text t clash.left clash.right clash.cells) → IfOk text (λ s. IsVerdict t limit Clash (string_bytes s))
+told_clash {E} t limit clash (Ok s) is text_is = (clash.left, clash.right, clash.cells, is, text_is)
+told_clash {E} t limit clash (Err e) is text_is = tt
 
 -- ---- The files
 
@@ -144,8 +133,7 @@ searched_cut before behind out limit old new t verdict bytes (Err e) same files 
 
 pub certified_at_none : (before behind : Gives) (path out : List ℕ) (limit : ℕ) (old new : Option (List ℕ)) (verdict : Verdict) → Searches before behind path out limit old new (Ok verdict)
     → (status : ℕ) → status ≡ verdict_status verdict → status ≡ 0 → ReportsCertificate before behind path out old new
-certified_at_none before behind path out limit old new (Certified bytes) (t, table, (files, (text, (none, (body, certified, bytes_are, text_is)), appends))) status is e =
-    ((t, table, none), (Owing body, subst (λ (b : List ℕ). FilesAfter before behind out (Some b)) bytes_are files, subst (Appends old new) text_is appends))
+certified_at_none before behind path out limit old new (Certified bytes) (t, table, (files, (text, (none, (body, certified, bytes_are, text_is, accepted)), appends))) status is e =
+    (t, table, none, (body, accepted, subst (λ (b : List ℕ). FilesAfter before behind out (Some b)) bytes_are files, subst (Appends old new) text_is appends))
 certified_at_none before behind path out limit old new Clash h status is e = absurd (none_is_one (sym e ∙ is))
 certified_at_none before behind path out limit old new Limit h status is e = absurd (none_is_three (sym e ∙ is))
-certified_at_none before behind path out limit old new Unconfirmed h status is e = absurd (none_is_three (sym e ∙ is))

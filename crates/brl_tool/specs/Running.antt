@@ -14,7 +14,7 @@ use Rattle.brl_tool.specs.declared.judgement.Judgement.{Judgement}
 use Rattle.brl_tool.specs.declared.judgement.Judgement.TheVariants.{Accepting}
 use Rattle.brl_tool.specs.declared.run_fault.RunFault.{RunFault}
 use Rattle.brl_tool.specs.declared.verdict.Verdict.{Verdict}
-use Rattle.brl_tool.specs.declared.verdict.Verdict.TheVariants.{Certified, Clash as Clashing, Limit, Unconfirmed}
+use Rattle.brl_tool.specs.declared.verdict.Verdict.TheVariants.{Certified, Clash as Clashing, Limit}
 
 -- the status of what was found of two texts
 abbrev pub finding_status : Finding → ℕ
@@ -31,7 +31,6 @@ abbrev pub verdict_status : Verdict → ℕ
 verdict_status (Certified bytes) = 0
 verdict_status Clashing = 1
 verdict_status Limit = 3
-verdict_status Unconfirmed = 3
 
 -- the input was translated by the table of the file at a path, and the status is that of the outcome
 abbrev pub TranslatesBy : (List ℕ → Answer → Type 0) → List ℕ → Form → Option (List ℕ) → Option (List ℕ) → Option (List ℕ) → ℕ → Type 0

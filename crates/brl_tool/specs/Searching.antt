@@ -1,17 +1,17 @@
 -- What a search of a table comes to, and what is written of it. The project's own choice.
 use Rattle.std.specs.Prelude.{ℕ, ◌≡◌, List, ◌++◌, length, Option, None, Some, Result, Ok, Err, codes, string_bytes}
 use Rattle.std.specs.Io.KnownBytes.{Appends}
-use Rattle.std.specs.Str.{encode_utf8_all}
 use Rattle.brl_accept.specs.Files.{IsTableOf}
+use Rattle.brl_accept.specs.Judging.{IsAccepted}
+use Rattle.brl_accept.specs.declared.accepted.Accepted.{Accepted}
 use Rattle.brl_cert.specs.Lines.{BodyView}
-use Rattle.brl_cert.specs.Reading.{CertView, Owing, Windows, spelling}
+use Rattle.brl_cert.specs.Reading.{CertView, Owing, Windows, reading, spelling}
 use Rattle.brl_cert.specs.Views.{cert_view}
 use Rattle.brl_cert.specs.declared.cert.Cert.{Cert}
 use Rattle.brl_dues.specs.Steps.{dues_machine}
 use Rattle.brl_dues.specs.declared.state.DuesState.{DuesState}
-use Rattle.brl_lines.specs.Spelling.{text_spelling}
 use Rattle.brl_report.specs.Report.{report_text}
-use Rattle.brl_search.specs.Answers.{HasTwoEndsReached, IsCertified, IsLimit}
+use Rattle.brl_search.specs.Answers.{IsCertified, IsLimit}
 use Rattle.brl_table.specs.TableView.{TableView}
 use Rattle.brl_table.specs.Translation.{IsClash}
 use Rattle.brl_tool.specs.Counts.{counts_line}
@@ -21,7 +21,7 @@ use Rattle.brl_tool.specs.declared.run_fault.RunFault.{RunFault}
 use Rattle.brl_tool.specs.declared.run_fault.RunFault.TheVariants.{Load, Table, CannotWrite, OutputFailed, Memory}
 use Rattle.brl_tool.specs.declared.verdict.Told.{Told}
 use Rattle.brl_tool.specs.declared.verdict.Verdict.{Verdict}
-use Rattle.brl_tool.specs.declared.verdict.Verdict.TheVariants.{Certified, Clash, Limit, Unconfirmed}
+use Rattle.brl_tool.specs.declared.verdict.Verdict.TheVariants.{Certified, Clash, Limit}
 
 -- ---- What is said of a table
 
@@ -34,28 +34,28 @@ abbrev pub cert_of : Verdict → Option (List ℕ)
 cert_of (Certified bytes) = Some bytes.items
 cert_of verdict = None
 
--- the line of two texts, spelled, that aren't a clash
-abbrev pub unconfirmed_line : List ℕ → List ℕ → List ℕ
-unconfirmed_line left right =
-    codes "unconfirmed: " ++ (encode_utf8_all (text_spelling left) ++ (codes " / " ++ (encode_utf8_all (text_spelling right) ++ codes "\n")))
-
 -- how many states and pairs a certificate has, behind the word
 abbrev pub certified_line : CertView → List ℕ
 certified_line (Windows body) = counts_line (codes "certified") (length body.states) (length body.pairs)
 certified_line (Owing body) = counts_line (codes "certified") (length body.states) (length body.pairs)
 
--- the bytes of a certificate and its numbers are told
+-- the bytes of a certificate, from which it is read back, and its numbers are told
 abbrev pub TellsCertificate : Cert → Told → Type 0
-TellsCertificate cert told = (cert_of told.verdict ≡ Some (spelling (cert_view cert))) × (string_bytes told.text ≡ certified_line (cert_view cert))
+TellsCertificate cert told =
+    (cert_of told.verdict ≡ Some (spelling (cert_view cert))) × (string_bytes told.text ≡ certified_line (cert_view cert))
+    × (reading (spelling (cert_view cert)) ≡ Ok (cert_view cert))
+
+-- how many states and pairs a body has
+abbrev pub counted : BodyView DuesState → Accepted
+counted body = record { states = length body.states; pairs = length body.pairs }
 
 -- what a search with this limit says of a table, and the text that tells it
 abbrev pub IsVerdict : TableView → ℕ → Verdict → List ℕ → Type 0
 IsVerdict t limit (Certified bytes) text =
-    HasNoClash t × ((body : BodyView DuesState) × IsCertified (dues_machine t) limit body × (bytes.items ≡ spelling (Owing body)) × (text ≡ certified_line (Owing body)))
+    HasNoClash t × ((body : BodyView DuesState) × IsCertified (dues_machine t) limit body × (bytes.items ≡ spelling (Owing body)) × (text ≡ certified_line (Owing body))
+    × IsAccepted t (spelling (Owing body)) (counted body))
 IsVerdict t limit Clash text = (left right cells : List ℕ) × IsClash t left right cells × (text ≡ report_text t left right cells)
 IsVerdict t limit Limit text = (states pairs : ℕ) × IsLimit (dues_machine t) limit states pairs × (text ≡ counts_line (codes "limit") states pairs)
-IsVerdict t limit Unconfirmed text =
-    (left right : List ℕ) × ((cells : List ℕ) → IsClash t left right cells → ⊥) × HasTwoEndsReached (dues_machine t) × (text ≡ unconfirmed_line left right)
 
 -- what is told of a table
 abbrev pub Tells : TableView → ℕ → Result Told RunFault → Type 0
@@ -92,8 +92,9 @@ Searches before behind path out limit old new (Err Memory) = (new ≡ old) × Ot
 Searches before behind path out limit old new outcome =
     (t : TableView) × IsTableOf before path t × SearchesTable t before behind out limit old new outcome
 
--- a certificate was written, and no two texts of the table of the file at the path clash
+-- a certificate was written which a judge accepts for the table of the file at the path, and no two texts of that table clash
 abbrev pub ReportsCertificate : Gives → Gives → List ℕ → List ℕ → Option (List ℕ) → Option (List ℕ) → Type 0
 ReportsCertificate before behind path out old new =
-    ((t : TableView) × IsTableOf before path t × HasNoClash t)
-    × ((cert : CertView) × FilesAfter before behind out (Some (spelling cert)) × Appends old new (certified_line cert))
+    (t : TableView) × IsTableOf before path t × HasNoClash t
+    × ((body : BodyView DuesState) × IsAccepted t (spelling (Owing body)) (counted body)
+    × FilesAfter before behind out (Some (spelling (Owing body))) × Appends old new (certified_line (Owing body)))

@@ -53,8 +53,7 @@ fn keep<F: Files>(
 
 /// Searches the table whose file stands at a path, until more than `limit` states or pairs are found, and writes what is found:
 /// the numbers of a certificate, which is written to the file at `out` before, or the report of a clash, or the numbers at which the
-/// limit was passed, or two texts that aren't a clash. Before the search standard error gets the table's notices. Nothing is
-/// written where the table has a fault.
+/// limit was passed. Before the search standard error gets the table's notices. Nothing is written where the table has a fault.
 pub fn search_by_file<F: Files, W: Output, E: Write>(
     alloc: Global,
     files: &mut F,

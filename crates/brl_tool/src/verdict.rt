@@ -1,12 +1,11 @@
 //! What a search says of a table, and how it is told.
-ghost use Rattle.std.specs.Prelude.{◌≡◌, IfErr, IfOk, Ok, string_bytes};
+ghost use Rattle.std.specs.Prelude.{◌≡◌, IfErr, IfOk, Ok};
 ghost use Rattle.brl_tool.specs.Running.{verdict_status};
-ghost use Rattle.brl_tool.specs.Searching.{Tells, TellsCertificate, unconfirmed_line};
+ghost use Rattle.brl_tool.specs.Searching.{Tells, TellsCertificate};
 
 use crate::counts::counts_text;
 use crate::run_fault::RunFault;
 use brl_cert::{Cert, write_cert};
-use brl_lines::spell_chars;
 use brl_report::report;
 use brl_search::{Found, SearchFault, search};
 use brl_table::Table;
@@ -21,8 +20,6 @@ pub enum Verdict {
     Clash,
     /// More states or pairs were found than the limit allows.
     Limit,
-    /// Two texts were met that aren't a clash.
-    Unconfirmed,
 }
 
 /// The status of a table for which there is a certificate.
@@ -42,7 +39,7 @@ impl Verdict {
         match self {
             Verdict::Certified(_) => CERTIFIED,
             Verdict::Clash => CLASH,
-            Verdict::Limit | Verdict::Unconfirmed => UNDECIDED,
+            Verdict::Limit => UNDECIDED,
         }
     }
 }
@@ -79,15 +76,6 @@ fn certified(alloc: Global, cert: &Cert) -> Result<Told, RunFault>
     with_text(Verdict::Certified(bytes), text)
 }
 
-/// The line of two texts that aren't a clash.
-fn unconfirmed_text(alloc: Global, left: &[char], right: &[char]) -> Result<String, AllocError>
-    ensures { IfOk result (λ text. string_bytes text ≡ unconfirmed_line left.now right.now) }
-{
-    let left = spell_chars(alloc, left)?;
-    let right = spell_chars(alloc, right)?;
-    format!(in alloc; "unconfirmed: {left} / {right}\n")
-}
-
 /// What a search with this limit says of a table, and the text that tells it.
 pub fn decide(alloc: Global, table: &Table, limit: u32) -> Result<Told, RunFault>
     ensures { Tells table.now limit result }
@@ -97,10 +85,6 @@ pub fn decide(alloc: Global, table: &Table, limit: u32) -> Result<Told, RunFault
         Ok(Found::Clashing(clash)) => with_text(Verdict::Clash, report(alloc, table, &clash)),
         Ok(Found::Limit { states, pairs }) => {
             with_text(Verdict::Limit, counts_text(alloc, "limit", states, pairs))
-        }
-        Err(SearchFault::Unconfirmed(left, right)) => {
-            let text = unconfirmed_text(alloc, left.as_slice(), right.as_slice());
-            with_text(Verdict::Unconfirmed, text)
         }
         Err(SearchFault::Memory) => Err(RunFault::Memory),
     }

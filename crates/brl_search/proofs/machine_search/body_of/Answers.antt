@@ -1,7 +1,7 @@
 use Rattle.std.proofs.Common.{get_or, arith}
 use Rattle.std.proofs.lemmas.Option.{slice_get-get_or}
 use Rattle.brl_search.proofs.Closing.{finished_closed}
-use Rattle.brl_search.proofs.Reaching.{body_pairs, body_states}
+use Rattle.brl_search.proofs.Reaching.{body_pairs, body_states, in_order}
 use Rattle.brl_search.proofs.machine_search.body_of.Goals as goal
 
 pub invariant_of-result : goal.invariant_of-result
@@ -19,4 +19,5 @@ returns g c =
       states = body_states m c.args.trail c.requires.kept.traced;
       pairs = body_pairs m c.args.trail c.requires.kept.traced;
       within = (c.requires.kept.few_states, c.requires.kept.few_pairs);
+      order = in_order m c.args.trail c.requires.kept.traced;
     }

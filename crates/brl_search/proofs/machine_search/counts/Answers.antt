@@ -6,7 +6,9 @@ returns g c =
     let m = g.M.Machine.behaviour c.args.machine.now in
     rw (c.as_slice.ensures.members, c.len.ensures)
     (record {
-      passed = c.requires.passed;
+      passed = c.requires.passed.more;
+      few_states = c.requires.passed.states;
+      few_pairs = c.requires.passed.pairs;
       states_reached = states_counted m c.args.trail.now c.requires.traced (g.M.State.PartialEq.eq) g.met.M.State.Eq.laws.refl c.as_slice.ensures.distinct;
       pairs_reached = pairs_counted m c.args.trail.now c.requires.traced (g.M.State.PartialEq.eq) g.met.M.State.Eq.laws.refl c.as_slice.ensures.distinct;
     })

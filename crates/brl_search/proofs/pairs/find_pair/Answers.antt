@@ -22,8 +22,14 @@ pub returns-then-len-trail-clause-stopped : goal.returns-then-len-trail-clause-s
 returns-then-len-trail-clause-stopped g c =
     let absent : IsThere c.args.trail.now.pairs c.args.pair.ahead c.args.pair.behind c.args.pair.lead → ⊥ = added_absent c.args.trail.now.pairs c.args.pair c.in_ok-insert.field-0 c.in_ok-insert.ensures.added c.if-not-branch.false
     (λ turned. true≢false (sym (c.is_there_turned.ensures.1 turned) ∙ c.if-is_there_turned.false)) in
-    let pairs : c.insert.new.self ≡ c.args.trail.now.pairs ++ c.args.pair ∷ [] = pair_inserted c.args.trail.now.pairs c.insert.new.self c.args.pair c.in_ok-insert.field-0 absent c.in_ok-insert.ensures.added c.in_ok-insert.ensures.members in
-    (pair_pushed (g.M.Machine.behaviour c.args.machine.now) c.args.trail.now _ c.args.pair c.args.origin c.requires.kept.traced c.requires.origin c.requires.range (absent_differ c.args.trail.now.pairs c.args.pair absent) refl refl pairs c.in_ok-push.ensures.items, inr (omega arith))
+    let pairs : c.insert.new.self ≡ c.args.trail.now.pairs ++ c.args.pair ∷ [] = pair_inserted c.args.trail.now.pairs c.insert.new.self c.args.pair c.in_ok-insert.field-0 absent c.in_ok-insert.ensures.added c.in_ok-insert.ensures.members in (
+      pair_pushed (g.M.Machine.behaviour c.args.machine.now) c.args.trail.now _ c.args.pair c.args.origin c.requires.kept.traced c.requires.origin c.requires.range (absent_differ c.args.trail.now.pairs c.args.pair absent) refl refl pairs c.in_ok-push.ensures.items,
+      record {
+        more = inr (omega arith);
+        states = omega (arith, c.requires.kept.few_states);
+        pairs = rw pairs (omega (arith, length_push c.args.trail.now.pairs c.args.pair, c.requires.kept.few_pairs));
+      },
+    )
 
 pub returns-then-two_ends-clause-stopped : goal.returns-then-two_ends-clause-stopped
 returns-then-two_ends-clause-stopped g c =

@@ -7,8 +7,14 @@ use Rattle.brl_search.proofs.states.find_state.Goals as goal
 pub returns-then-len-trail-clause-stopped : goal.returns-then-len-trail-clause-stopped
 returns-then-len-trail-clause-stopped g c =
     let states : c.insert.new.self ≡ c.args.trail.now.states ++ c.args.state ∷ [] =
-    inserted (g.M.State.PartialEq.eq) c.args.state c.args.trail.now.states c.insert.new.self c.index_of.result c.in_ok-insert.field-0 c.index_of.ensures.at c.in_default.not-Some c.in_ok-insert.ensures.added c.in_ok-insert.ensures.members in
-    (state_pushed (g.M.Machine.behaviour c.args.machine.now) c.args.trail.now _ c.args.state c.args.origin c.requires.kept.traced c.requires.origin states c.in_ok-push.ensures.items refl refl, inl (omega arith))
+    inserted (g.M.State.PartialEq.eq) c.args.state c.args.trail.now.states c.insert.new.self c.index_of.result c.in_ok-insert.field-0 c.index_of.ensures.at c.in_default.not-Some c.in_ok-insert.ensures.added c.in_ok-insert.ensures.members in (
+      state_pushed (g.M.Machine.behaviour c.args.machine.now) c.args.trail.now _ c.args.state c.args.origin c.requires.kept.traced c.requires.origin states c.in_ok-push.ensures.items refl refl,
+      record {
+        more = inl (omega arith);
+        states = rw states (omega (arith, length_push c.args.trail.now.states c.args.state, c.requires.kept.few_states));
+        pairs = omega (arith, c.requires.kept.few_pairs);
+      },
+    )
 
 pub returns-clause-number : goal.returns-clause-number
 returns-clause-number g c =

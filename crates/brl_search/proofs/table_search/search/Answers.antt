@@ -4,8 +4,9 @@ use Rattle.brl_cert.specs.Views.{listed}
 use Rattle.brl_dues.specs.Steps.{dues_machine}
 use Rattle.brl_pairs.specs.Pairs.{IsClosed}
 use Rattle.brl_pairs.specs.Runs.{IsUnambiguous}
-use Rattle.brl_search.specs.Answers.{IsCertified, IsOutcome}
+use Rattle.brl_search.specs.Answers.{IsCertified, IsLimit, IsOutcome}
 use Rattle.brl_table.specs.TableView.{TableView}
+use Rattle.brl_search.proofs.Twins.{no_limit}
 use Rattle.brl_search.proofs.table_search.search.Goals as goal
 
 pub returns-in-Closed-clause-closed : goal.returns-in-Closed-clause-closed
@@ -20,3 +21,19 @@ returns-in-Closed-clause-unambiguous c left right cells clash =
     let machine : IsUnambiguous (dues_machine c.new-dues.result) = c.numbered_sets_law.ensures (slice_get body.states) (pair_at body) certified.closed in
     let table : IsUnambiguous (dues_machine c.args.table.now) = subst (λ (t : TableView). IsUnambiguous (dues_machine t)) c.new-dues.ensures.table machine in
     clash.differ (table left right clash.left_text clash.right_text (clash.left_cells ∙ sym clash.right_cells))
+
+pub returns-in-Limit-clause-decides : goal.returns-in-Limit-clause-decides
+returns-in-Limit-clause-decides c few_states few_pairs =
+    let limit : IsLimit (dues_machine c.new-dues.result) c.args.limit c.in-Limit.states c.in-Limit.pairs =
+    subst (IsOutcome (dues_machine c.new-dues.result) c.args.limit) c.in-Limit.is c.in_ok-body.ensures in
+    let here : IsLimit (dues_machine c.args.table.now) c.args.limit c.in-Limit.states c.in-Limit.pairs =
+    subst (λ (t : TableView). IsLimit (dues_machine t) c.args.limit c.in-Limit.states c.in-Limit.pairs) c.new-dues.ensures.table limit in
+    no_limit (dues_machine c.args.table.now) c.args.limit c.in-Limit.states c.in-Limit.pairs few_states few_pairs here
+
+pub returns-in-Limit-clause-certifies : goal.returns-in-Limit-clause-certifies
+returns-in-Limit-clause-certifies c few_states few_pairs single =
+    let limit : IsLimit (dues_machine c.new-dues.result) c.args.limit c.in-Limit.states c.in-Limit.pairs =
+    subst (IsOutcome (dues_machine c.new-dues.result) c.args.limit) c.in-Limit.is c.in_ok-body.ensures in
+    let here : IsLimit (dues_machine c.args.table.now) c.args.limit c.in-Limit.states c.in-Limit.pairs =
+    subst (λ (t : TableView). IsLimit (dues_machine t) c.args.limit c.in-Limit.states c.in-Limit.pairs) c.new-dues.ensures.table limit in
+    no_limit (dues_machine c.args.table.now) c.args.limit c.in-Limit.states c.in-Limit.pairs few_states few_pairs here

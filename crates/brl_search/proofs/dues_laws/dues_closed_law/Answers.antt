@@ -1,0 +1,11 @@
+use Rattle.std.proofs.Common.{subst}
+use Rattle.brl_dues.specs.Steps.{dues_machine}
+use Rattle.brl_pairs.specs.Pairs.{IsClosed}
+use Rattle.brl_pairs.specs.Runs.{IsExact, IsUnambiguous}
+use Rattle.brl_search.specs.Deciding.{reached_sets}
+use Rattle.brl_table.specs.TableView.{TableView}
+use Rattle.brl_search.proofs.dues_laws.dues_closed_law.Goals as goal
+
+pub returns : goal.returns
+returns c =
+    subst (λ (t : TableView). IsExact (dues_machine t) → IsUnambiguous (dues_machine t) → IsClosed (dues_machine t) (reached_sets (dues_machine t))) c.new-dues.ensures.table c.reached_closed_law.ensures c.exact_law.ensures
