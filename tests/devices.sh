@@ -345,6 +345,22 @@ fi
 printf 'kept\n' >kept.cert
 search word.ctb kept.cert --limit 0
 expect 'a search that passes its limit' 3 'limit: 1 states, 0 pairs\n' ''
+
+search ab.ctb two.cert --limit 2
+expect 'as many states as the limit' 0 'certified: 2 states, 0 pairs\n' ''
+search ab.ctb one.cert --limit 1
+expect 'one state more than the limit' 3 'limit: 2 states, 0 pairs\n' ''
+[ ! -e one.cert ] || fail 'a search that passes its limit' 'it wrote a file'
+echo 'ok: a search that passes its limit writes no file'
+
+printf 'letter a 1\nletter b 12\nletter x 1-12\nalways ab 14\n' >rule.ctb
+search rule.ctb rule.cert --limit 3
+expect 'as many states and pairs as the limit' 0 'certified: 3 states, 1 pairs\n' ''
+search rule.ctb rule.cert --limit 2
+case $status:$(cat out) in
+    '3:limit: 3 states, '*) echo 'ok: one state more than the limit, beside pairs' ;;
+    *) fail 'one state more than the limit, beside pairs' "status $status: $(head -c 300 out)" ;;
+esac
 search alike.ctb kept.cert
 [ "$status" = 1 ] && [ ! -s err ] || fail 'a search that finds a clash' "status $status"
 echo 'ok: a search that finds a clash'

@@ -1,0 +1,75 @@
+#!/usr/bin/env python3
+"""Decides small tables. Usage: tests/decided.py PROGRAM
+
+Four hundred tables are made, the same on each run: two to four letters, with and without a blank, and some rules in several
+places. Each must be certified, and its certificate accepted; or shown to clash, by two texts that `brl clash` finds alike.
+"""
+
+import random
+import subprocess
+import sys
+import tempfile
+from pathlib import Path
+
+TABLES = 400
+CELLS = ["1", "2", "12", "3", "13", "1-1", "1-2", "2-1", "12-1", "1-12", "1-1-2"]
+PLACES = ["always", "always", "word", "begword", "endword", "midword", "midendword", "partword", "begmidword"]
+
+
+def table(chance: random.Random) -> str:
+    letters = "abcd"[: chance.randint(2, 4)]
+    lines = ["space \\s 0"] * chance.randint(0, 1)
+    lines += [f"letter {it} {chance.choice(CELLS)}" for it in letters]
+    for _ in range(chance.randint(0, 4)):
+        chars = "".join(chance.choices(letters, k=chance.randint(1, 3)))
+        lines.append(f"{chance.choice(PLACES)} {chars} {chance.choice(CELLS)}")
+    return "\n".join(lines) + "\n"
+
+
+def run(*words: str | Path) -> tuple[int, str]:
+    ran = subprocess.run([str(it) for it in words], capture_output=True, text=True, timeout=60)
+    return ran.returncode, ran.stdout
+
+
+def text(line: str) -> str:
+    return line.partition(": ")[2].replace("\\s", " ")
+
+
+def fault(program: str, path: Path, cert: Path) -> tuple[str, str]:
+    """What the search says of a table, and what is wrong with it, if anything."""
+    status, told = run(program, "search", path, cert)
+    first, *others = told.splitlines() or [""]
+    if status == 0 and first.startswith("certified: "):
+        accepted = run(program, "check", path, cert)
+        wanted = (0, first.replace("certified", "accepted") + "\n")
+        return "certified", "" if accepted == wanted else f"the certificate isn't accepted: {accepted}"
+    if status == 1 and first.startswith("left: "):
+        left, right = text(first), text(others[0])
+        again = run(program, "clash", path, left, right)
+        return "clashing", "" if left != right and again == (1, told) else f"the texts don't clash: {again}"
+    return "undecided", f"status {status}: {told}"
+
+
+def main(words: list[str]) -> int:
+    if len(words) != 1:
+        print(__doc__, file=sys.stderr)
+        return 2
+    chance, counts = random.Random(1), {"certified": 0, "clashing": 0}
+    with tempfile.TemporaryDirectory() as folder:
+        path, cert = Path(folder, "t.ctb"), Path(folder, "t.cert")
+        for _ in range(TABLES):
+            path.write_text(table(chance))
+            kind, wrong = fault(words[0], path, cert)
+            if wrong:
+                print(f"FAILED: {wrong}\n{path.read_text()}")
+                return 1
+            counts[kind] += 1
+    if min(counts.values()) < 50:
+        print(f"FAILED: {counts}: too few tables of one kind")
+        return 1
+    print(f"decided: {counts['certified']} tables certified and accepted, {counts['clashing']} shown to clash")
+    return 0
+
+
+if __name__ == "__main__":
+    sys.exit(main(sys.argv[1:]))
