@@ -34,6 +34,9 @@ TOLD = re.compile(r"fn (?P<name>\S+): (?:not proved|no proof)(?P<why>.*)")
 REFUSED = re.compile(r"(?:\./)?proofs/(?P<path>\S+)/\w+\.antt:\d+:\d+: error: `(?P<goal>\S+)`: (?P<why>.*)")
 OPEN = re.compile(r"note: (?P<path>src/\S+):(?P<line>\d+):\d+: it is not proved .*\(`(?P<goal>\S+)`\)")
 
+# A lemma that doesn't hold, such as one that is computed over a table of the code. It tells of no function by itself.
+LEMMA = re.compile(r"(?:\./)?proofs/\w+\.antt:\d+:\d+: error: `(?P<goal>\S+)`: (?P<why>.*)")
+
 # Why a proof file fails that names what an edit took away: that says nothing of a contract.
 NAMES = re.compile(r"has no field|is not in scope|has no `|was not admitted")
 
@@ -114,8 +117,9 @@ def function_of_line(text: str, line: int) -> str:
     return "" if place is None else re.search(r"fn (\w+)", text[place:])[1]
 
 
-def refusals(said: str, folder: str) -> dict[str, list[str]]:
-    """The functions of the crate in this folder with goals of their own that aren't proved, and these goals."""
+def refusals(said: str, folder: str, is_alone: bool) -> dict[str, list[str]]:
+    """The functions of the crate in this folder with goals of their own that aren't proved, and these goals. Where one wrong body is
+    planted alone, a function that isn't proved since a lemma doesn't hold is among them."""
     told = [it for it in map(TOLD.match, said.splitlines()) if it and "it calls" not in it["why"]]
     found = {it["name"]: re.findall(r"`([^`]*)`", it["why"].partition("did not prove ")[2]) for it in told}
     for line in said.splitlines():
@@ -128,6 +132,9 @@ def refusals(said: str, folder: str) -> dict[str, list[str]]:
         names = [name for name in found if name.endswith(f"::{own}")]
         if len(names) == 1:
             found[names[0]].append(it["goal"])
+    if is_alone:
+        lemmas = [it["goal"] for it in map(LEMMA.match, said.splitlines()) if it and not NAMES.search(it["why"])]
+        found = {name: goals or lemmas for name, goals in found.items()}
     return {name: list(dict.fromkeys(goals)) for name, goals in found.items() if goals}
 
 
@@ -161,7 +168,7 @@ class Trial:
         unread = next((it for it in lines if self.rt.unread(it, texts)), "")
         if unread or ran.returncode != 1 or not lines[-1].startswith("logic=not-proved"):
             return {}, unread or lines[-1]
-        return refusals(ran.stdout, self.crate.folder), "none has a goal that isn't proved"
+        return refusals(ran.stdout, self.crate.folder, len(bodies) == 1), "none has a goal that isn't proved"
 
     def run(self) -> "Trial":
         left, is_shared = list(self.bodies), True
