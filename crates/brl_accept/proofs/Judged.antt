@@ -1,8 +1,6 @@
 -- What a judge's outcome says of the table and the certificate.
-use Rattle.std.proofs.Common.{◌≡◌, ◌≢◌, ℕ, ◌≤◌, inl, inr, List, Option, Result, Ok, Err, length, refl, sym, ◌∙◌, ap, subst, arith}
-use Rattle.std.proofs.lemmas.Option.{slice_get_within}
-use Rattle.brl_accept.specs.Files.{IsTableBy}
-use Rattle.brl_accept.specs.Judging.{IsAccepted, IsAcceptedBy, IsAcceptedWith, IsNotClosed, IsRefusedBy, IsRefusedFor, IsRefusedWith, of_accept}
+use Rattle.std.proofs.Common.{◌≡◌, ◌≢◌, ℕ, ◌≤◌, ◌⊎◌, inl, inr, List, Result, Ok, Err, IfErr, IfOk, OnOk, refl, sym, ◌∙◌, ap, subst, arith}
+use Rattle.brl_accept.specs.Judging.{IsAccepted, IsAcceptedWith, IsNotAccepted, IsNotClosed, IsRefusedBy, IsRefusedFor, IsRefusedWith, of_accept, of_no_table}
 use Rattle.brl_accept.specs.Refusals.{IsRefused}
 use Rattle.brl_accept.specs.declared.accept_fault.AcceptFault.{AcceptFault}
 use Rattle.brl_accept.specs.declared.accept_fault.AcceptFault.TheVariants as accept
@@ -14,15 +12,14 @@ use Rattle.brl_cert.specs.Lines.{BodyView}
 use Rattle.brl_cert.specs.Reading.{CertView, Owing, Windows, reading}
 use Rattle.brl_cert.specs.declared.fault.Wrong.{Wrong}
 use Rattle.brl_cert.specs.declared.fault.CertFault.TheVariants as cert
-use Rattle.brl_lines.specs.Lines.{Answers, Refusal, lines_of}
-use Rattle.brl_lines.specs.Tokens.{LineView}
+use Rattle.brl_lines.specs.Answer.{Gives}
 use Rattle.brl_lines.specs.declared.fault.LoadFault.{LoadFault}
-use Rattle.brl_lines.specs.declared.fault.LoadFault.TheVariants as load
-use Rattle.brl_reading.specs.Items.{Fault}
-use Rattle.brl_reading.specs.Reading.{IsFaultOf as IsFaultOfLines, IsFirstFound, PassesAll, PassesBefore, table_of}
+use Rattle.brl_reading.specs.Files.{IsFaultAt, IsTableOf}
+use Rattle.brl_reading.specs.declared.no_table.NoTable.{NoTable}
+use Rattle.brl_reading.specs.declared.no_table.NoTable.TheVariants as no_table
 use Rattle.brl_table.specs.TableView.{TableView}
+use Rattle.brl_table.specs.Translation.{IsUnambiguous}
 use Rattle.brl_reading.specs.declared.table_fault.TableFault.{TableFault}
-use Rattle.brl_reading.specs.declared.table_fault.TableFault.TheVariants as table
 use Rattle.brl_window.specs.Width.{start_moves}
 use Rattle.brl_window.specs.Windows.{window_machine}
 use Rattle.brl_dues.specs.Steps.{dues_machine}
@@ -44,6 +41,12 @@ refused_windows t body narrow = refused_as (window_machine t) body (IsRefusedWit
 
 pub refused_dues : (t : TableView) (body : BodyView DuesState) (fault : AcceptFault) → IsRefused (dues_machine t) body fault → IsRefusedWith t (Owing body) (of_accept fault)
 refused_dues t body = refused_as (dues_machine t) body (IsRefusedWith t (Owing body)) (λ fault h. h) tt
+
+-- the same numbers
+same_counts : (one other : Accepted) → one.states ≡ other.states → one.pairs ≡ other.pairs → one ≡ other
+same_counts one other states pairs =
+    subst (λ (n : ℕ). ◌≡◌ {A = Accepted} one (record { states = n; pairs = other.pairs })) states
+    (subst (λ (n : ℕ). ◌≡◌ {A = Accepted} one (record { states = one.states; pairs = n })) pairs refl)
 
 -- what is refused is nowhere accepted
 one_cert : (bytes : List ℕ) (a b : CertView) → reading bytes ≡ Ok a → reading bytes ≡ Ok b → a ≡ b
@@ -89,51 +92,56 @@ by_table : (t : TableView) (cert : CertView) (fault : TableFault) → IsRefusedW
 by_table t (Windows body) fault h = h
 by_table t (Owing body) fault h = h
 
--- ---- Over what the source answered
+-- ---- Over what the source gives
 
-some_lines : (r : Result (List LineView) Refusal) (lines : List LineView) (refusal : Refusal) → r ≡ Ok lines → r ≡ Err refusal → ⊥
-some_lines r lines refusal e f = cc
+two_counts : (t : TableView) (cert : CertView) (one other : Accepted) → IsAcceptedWith t cert one → IsAcceptedWith t cert other → one ≡ other
+two_counts t (Windows body) one other h k = same_counts one other (h.1.states ∙ sym k.1.states) (h.1.pairs ∙ sym k.1.pairs)
+two_counts t (Owing body) one other h k = same_counts one other (h.states ∙ sym k.states) (h.pairs ∙ sym k.pairs)
 
-one_list : (r : Result (List LineView) Refusal) (a b : List LineView) → r ≡ Ok a → r ≡ Ok b → a ≡ b
-one_list r a b e f = cc
-
--- a look that passes all lines finds no fault
-none_found : (look : ℕ → LineView → Option Fault) (lines : List LineView) (place : ℕ) (line : LineView) (wrong : Fault) → PassesBefore look lines (length lines) → IsFirstFound look lines place line wrong → ⊥
-none_found look lines place line wrong passes found =
-    let none = passes place line (slice_get_within lines place line found.there) found.there in
-    (let e = sym none ∙ found.faulty in cc)
-
-passes_or_faulty : (lines : List LineView) (fault : TableFault) → fault ≢ table.Memory → IsFaultOfLines lines fault → PassesAll lines → ⊥
-passes_or_faulty lines table.Memory apart h passes = apart refl
-passes_or_faulty lines (table.Refused wrong subject file number) apart h passes =
-    elim h.2 [
-      | inl first ↦ none_found _ lines h.0 h.1 _ passes.first first
-      | inr second ↦ none_found _ lines h.0 h.1 _ passes.second second.1
-    ]
-
-module _ (answers : Answers) (root bytes : List ℕ) where
-  one_table : (t u : TableView) → IsTableBy answers root t → IsTableBy answers root u → t ≡ u
-  one_table t u h k = h.3 ∙ ap table_of (one_list (lines_of answers root) h.0 k.0 h.1 k.1) ∙ sym k.3
-
-  later_stage : (t : TableView) (fault : JudgeFault) → IsTableBy answers root t → IsRefusedFor t bytes fault → fault ≢ Memory → (accepted : Accepted) → IsAcceptedBy answers root bytes accepted → ⊥
-  later_stage t fault is h apart accepted certified =
-      not_accepted_for t bytes fault h apart accepted (subst (λ (v : TableView). IsAccepted v bytes accepted) (one_table certified.0 t certified.1 is) certified.2)
-
-  pub not_accepted_by : (fault : JudgeFault) → IsRefusedBy answers root bytes fault → fault ≢ Memory → (accepted : Accepted) → IsAcceptedBy answers root bytes accepted → ⊥
-  not_accepted_by (Load load.Memory) h apart accepted is = h.0 refl
-  not_accepted_by (Load (load.Refused kind path place)) h apart accepted is = some_lines (lines_of answers root) is.1.0 _ is.1.1 h.1
-  not_accepted_by (Table fault) h apart accepted is =
-      passes_or_faulty is.1.0 fault h.2 (subst (λ (lines : List LineView). IsFaultOfLines lines fault) (one_list (lines_of answers root) h.0 is.1.0 h.1 is.1.1) h.3) is.1.2
-  not_accepted_by (Cert fault) h apart accepted is = later_stage h.0 (Cert fault) h.1 h.2 apart accepted is
-  not_accepted_by (Wide fault) h apart accepted is = later_stage h.0 (Wide fault) h.1 h.2 apart accepted is
-  not_accepted_by (Refused fault) h apart accepted is = later_stage h.0 (Refused fault) h.1 h.2 apart accepted is
-  not_accepted_by Memory h apart accepted is = apart refl
-
+module _ (gives : Gives) (root bytes : List ℕ) where
   -- a refusal of the table is one of the last stages
-  pub refused_behind : (t : TableView) (fault : JudgeFault) → IsTableBy answers root t → IsRefusedFor t bytes fault → IsRefusedBy answers root bytes fault
+  pub refused_behind : (t : TableView) (fault : JudgeFault) → IsTableOf gives root t → IsRefusedFor t bytes fault → IsRefusedBy gives root bytes fault
   refused_behind t (Load fault) is h = absurd (by_load t h.0 fault h.2)
   refused_behind t (Table fault) is h = absurd (by_table t h.0 fault h.2)
-  refused_behind t (Cert fault) is h = (t, is, h)
-  refused_behind t (Wide fault) is h = (t, is, h)
-  refused_behind t (Refused fault) is h = (t, is, h)
+  refused_behind t (Cert fault) is h = (t, is, h, not_accepted_for t bytes (Cert fault) h (λ e. cc))
+  refused_behind t (Wide fault) is h = (t, is, h, not_accepted_for t bytes (Wide fault) h (λ e. cc))
+  refused_behind t (Refused fault) is h = (t, is, h, not_accepted_for t bytes (Refused fault) h (λ e. cc))
   refused_behind t Memory is h = tt
+
+  -- an acceptance for the table at the path
+  pub accepted_for : (t : TableView) → IsTableOf gives root t → (result : Result Accepted JudgeFault) → OnOk result (IsUnambiguous t) → IfOk result (IsAccepted t bytes)
+      → IfOk result (λ accepted. (u : TableView) × IsTableOf gives root u × IsUnambiguous u × IsAccepted u bytes accepted)
+  accepted_for t is (Ok accepted) unambiguous h = (t, is, unambiguous, h)
+  accepted_for t is (Err fault) unambiguous h = tt
+
+  -- a fault at the path is one of the first
+  pub refused_before : (fault : NoTable) → IsFaultAt gives root fault → IsRefusedBy gives root bytes (of_no_table fault)
+  refused_before (no_table.Load fault) h = h
+  refused_before (no_table.Table fault) h = h
+  refused_before no_table.Memory h = tt
+
+  module _ (t : TableView) (is : IsTableOf gives root t) (accepted : Accepted) (deserved : IsAccepted t bytes accepted)
+      (one_table : (u : TableView) → IsTableOf gives root u → t ≡ u) (only_memory : (fault : NoTable) → IsFaultAt gives root fault → fault ≡ no_table.Memory) where
+    -- a refusal of what deserves acceptance
+    later_stage : (fault : JudgeFault) → (u : TableView) × IsTableOf gives root u × IsRefusedFor u bytes fault × IsNotAccepted u bytes → ⊥
+    later_stage fault h = h.3 accepted (subst (λ (u : TableView). IsAccepted u bytes accepted) (one_table h.0 h.1) deserved)
+
+    refused_for_memory : (fault : JudgeFault) → IsRefusedBy gives root bytes fault → fault ≡ Memory
+    refused_for_memory (Load fault) h = let no = only_memory (no_table.Load fault) h in absurd cc
+    refused_for_memory (Table fault) h = let no = only_memory (no_table.Table fault) h in absurd cc
+    refused_for_memory (Cert fault) h = absurd (later_stage (Cert fault) h)
+    refused_for_memory (Wide fault) h = absurd (later_stage (Wide fault) h)
+    refused_for_memory (Refused fault) h = absurd (later_stage (Refused fault) h)
+    refused_for_memory Memory h = refl
+
+    accepted_alike : (other : Accepted) → (u : TableView) × IsTableOf gives root u × IsUnambiguous u × IsAccepted u bytes other → other ≡ accepted
+    accepted_alike other h =
+        let here = subst (λ (u : TableView). IsAccepted u bytes other) (sym (one_table h.0 h.1)) h.3 in
+        let cert : here.0 ≡ deserved.0 = one_cert bytes here.0 deserved.0 here.1 deserved.1 in
+        two_counts t deserved.0 other accepted (subst (λ (c : CertView). IsAcceptedWith t c other) cert here.2) deserved.2
+
+    -- what the judge answers: acceptance, unless memory ran out
+    pub decided : (result : Result Accepted JudgeFault) → IfOk result (λ other. (u : TableView) × IsTableOf gives root u × IsUnambiguous u × IsAccepted u bytes other)
+        → IfErr result (IsRefusedBy gives root bytes) → (result ≡ Ok accepted) ⊎ (result ≡ Err Memory)
+    decided (Ok other) h k = inl (ap Ok (accepted_alike other h))
+    decided (Err fault) h k = inr (ap Err (refused_for_memory fault k))

@@ -1,6 +1,5 @@
 -- What makes a judge accept a certificate for the table of some files, and why it refuses. The project's own choice.
 use Rattle.std.specs.Prelude.{ℕ, ◌≡◌, ◌≢◌, ◌<◌, ◌≤◌, List, length, Result, Ok, Err}
-use Rattle.brl_accept.specs.Files.{IsTableBy}
 use Rattle.brl_accept.specs.Refusals.{IsRefused}
 use Rattle.brl_cert.specs.Sets.{sets_of}
 use Rattle.brl_accept.specs.declared.accept_fault.AcceptFault.{AcceptFault}
@@ -13,17 +12,15 @@ use Rattle.brl_cert.specs.Reading.{CertView, Owing, Windows, reading, IsFaultOf}
 use Rattle.brl_cert.specs.declared.fault.CertFault.{CertFault}
 use Rattle.brl_cert.specs.declared.fault.CertFault.TheVariants as cert
 use Rattle.brl_dues.specs.Steps.{dues_machine}
-use Rattle.brl_lines.specs.Lines.{Answers, lines_of}
-use Rattle.brl_lines.specs.Outcome.{RefusesAs}
-use Rattle.brl_lines.specs.Tokens.{LineView}
+use Rattle.brl_lines.specs.Answer.{Gives}
 use Rattle.brl_lines.specs.declared.fault.LoadFault.{LoadFault}
 use Rattle.brl_lines.specs.declared.fault.LoadFault.TheVariants as load
 use Rattle.brl_pairs.specs.Pairs.{IsClosed}
 use Rattle.brl_pairs.specs.Runs.{Behaviour}
-use Rattle.brl_reading.specs.Reading.{IsFaultOf as IsFaultOfLines}
+use Rattle.brl_reading.specs.Files.{IsFaultAt, IsTableOf}
+use Rattle.brl_reading.specs.declared.no_table.NoTable.{NoTable}
+use Rattle.brl_reading.specs.declared.no_table.NoTable.TheVariants as no_table
 use Rattle.brl_table.specs.TableView.{TableView}
-use Rattle.brl_reading.specs.declared.table_fault.TableFault.{TableFault}
-use Rattle.brl_reading.specs.declared.table_fault.TableFault.TheVariants as table
 use Rattle.brl_window.specs.Width.{start_moves}
 use Rattle.brl_window.specs.Windows.{window_machine}
 
@@ -67,19 +64,19 @@ IsRefusedFor t bytes (Cert fault) = (fault ≢ cert.Memory) × IsFaultOf (readin
 IsRefusedFor t bytes Memory = Unit {0}
 IsRefusedFor t bytes fault = (cert : CertView) × (reading bytes ≡ Ok cert) × IsRefusedWith t cert fault
 
--- ---- Of the answers of a source, a path and bytes
+-- ---- Of the files of a source, a path and bytes
 
--- the files define a table, for which the bytes spell a certificate that is accepted
-abbrev pub IsAcceptedBy : Answers → List ℕ → List ℕ → Accepted → Type 0
-IsAcceptedBy answers root bytes accepted = (t : TableView) × IsTableBy answers root t × IsAccepted t bytes accepted
+-- the bytes are of no certificate that is accepted for the table
+abbrev pub IsNotAccepted : TableView → List ℕ → Type 0
+IsNotAccepted t bytes = (accepted : Accepted) → IsAccepted t bytes accepted → ⊥
 
--- The first stage that refuses: the files have no lines; or a line has a fault; or else the table that they define is refused.
-abbrev pub IsRefusedBy : Answers → List ℕ → List ℕ → JudgeFault → Type 0
-IsRefusedBy answers root bytes (Load fault) = (fault ≢ load.Memory) × RefusesAs (lines_of answers root) fault
-IsRefusedBy answers root bytes (Table fault) =
-    (lines : List LineView) × (lines_of answers root ≡ Ok lines) × (fault ≢ table.Memory) × IsFaultOfLines lines fault
-IsRefusedBy answers root bytes Memory = Unit {0}
-IsRefusedBy answers root bytes fault = (t : TableView) × IsTableBy answers root t × IsRefusedFor t bytes fault
+-- The first stage that refuses: there is no table at the path, since its files are refused or else one of their lines; or the table
+-- that they define is one for which the bytes are refused.
+abbrev pub IsRefusedBy : Gives → List ℕ → List ℕ → JudgeFault → Type 0
+IsRefusedBy gives root bytes (Load fault) = IsFaultAt gives root (no_table.Load fault)
+IsRefusedBy gives root bytes (Table fault) = IsFaultAt gives root (no_table.Table fault)
+IsRefusedBy gives root bytes Memory = Unit {0}
+IsRefusedBy gives root bytes fault = (t : TableView) × IsTableOf gives root t × IsRefusedFor t bytes fault × IsNotAccepted t bytes
 
 -- how the loading of the files ended
 abbrev pub load_outcome : {T : Type 0} → Result T JudgeFault → Result (Unit {0}) LoadFault
@@ -87,15 +84,12 @@ load_outcome (Err (Load fault)) = Err fault
 load_outcome (Err Memory) = Err load.Memory
 load_outcome outcome = Ok tt
 
--- ---- Conversions: want of memory is the same fault wherever it came
+-- ---- Conversions: out of memory is the same fault wherever it came
 
-abbrev pub of_load : LoadFault → JudgeFault
-of_load load.Memory = Memory
-of_load fault = Load fault
-
-abbrev pub of_table : TableFault → JudgeFault
-of_table table.Memory = Memory
-of_table fault = Table fault
+abbrev pub of_no_table : NoTable → JudgeFault
+of_no_table (no_table.Load fault) = Load fault
+of_no_table (no_table.Table fault) = Table fault
+of_no_table no_table.Memory = Memory
 
 abbrev pub of_cert : CertFault → JudgeFault
 of_cert cert.Memory = Memory

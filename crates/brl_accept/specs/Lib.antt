@@ -1,5 +1,4 @@
 pub mod Least
 pub mod Refusals
 pub mod Steps
-pub mod Files
 pub mod Judging

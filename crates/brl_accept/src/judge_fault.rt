@@ -2,9 +2,8 @@
 use crate::AcceptFault;
 use brl_cert::CertFault;
 use brl_lines::LoadFault;
-use brl_reading::TableFault;
+use brl_reading::{NoTable, TableFault};
 use brl_window::TooWide;
-use std::alloc::AllocError;
 use thiserror::Error;
 
 /// The first stage that refused, and its fault.
@@ -30,41 +29,17 @@ pub enum JudgeFault {
     Memory,
 }
 
-impl From<AllocError> for JudgeFault {
+impl From<NoTable> for JudgeFault {
     ghost use Rattle.std.specs.Prelude.{◌≡◌};
-    ghost use Rattle.brl_accept.specs.declared.judge_fault.JudgeFault.TheVariants.{Memory};
+    ghost use Rattle.brl_accept.specs.Judging.{of_no_table};
 
-    ghost from_gives = { λ _ fault. fault ≡ Memory };
+    ghost from_gives = { λ none fault. fault ≡ of_no_table none };
 
-    fn from(_error: AllocError) -> JudgeFault {
-        JudgeFault::Memory
-    }
-}
-
-impl From<LoadFault> for JudgeFault {
-    ghost use Rattle.std.specs.Prelude.{◌≡◌};
-    ghost use Rattle.brl_accept.specs.Judging.{of_load};
-
-    ghost from_gives = { λ load fault. fault ≡ of_load load };
-
-    fn from(fault: LoadFault) -> JudgeFault {
+    fn from(fault: NoTable) -> JudgeFault {
         match fault {
-            LoadFault::Memory => JudgeFault::Memory,
-            refused => JudgeFault::Load(refused),
-        }
-    }
-}
-
-impl From<TableFault> for JudgeFault {
-    ghost use Rattle.std.specs.Prelude.{◌≡◌};
-    ghost use Rattle.brl_accept.specs.Judging.{of_table};
-
-    ghost from_gives = { λ table fault. fault ≡ of_table table };
-
-    fn from(fault: TableFault) -> JudgeFault {
-        match fault {
-            TableFault::Memory => JudgeFault::Memory,
-            refused => JudgeFault::Table(refused),
+            NoTable::Load(refused) => JudgeFault::Load(refused),
+            NoTable::Table(refused) => JudgeFault::Table(refused),
+            NoTable::Memory => JudgeFault::Memory,
         }
     }
 }

@@ -1,41 +1,23 @@
 //! Judging a certificate for the table of some files.
-ghost use Rattle.std.specs.Prelude.{◌≡◌, ◌≢◌, ℕ, ◌↔◌, List, IfErr, IfOk, IsTrue, OnOk};
-ghost use Rattle.brl_accept.specs.Files.{IsTableBy, IsTableOf};
-ghost use Rattle.brl_accept.specs.Judging.{IsAccepted, IsAcceptedBy, IsAcceptedWith, IsRefusedBy, IsRefusedFor, IsRefusedWith, load_outcome};
+ghost use Rattle.std.specs.Prelude.{◌≡◌, ◌⊎◌, Err, IfErr, IfOk, Ok, OnOk};
+ghost use Rattle.brl_accept.specs.Judging.{IsAccepted, IsAcceptedWith, IsRefusedBy, IsRefusedFor, IsRefusedWith, load_outcome};
 ghost use Rattle.brl_accept.specs.declared.accepted.Accepted.{Accepted as AcceptedValue};
 ghost use Rattle.brl_cert.specs.Reading.{Owing, Windows};
 ghost use Rattle.brl_cert.specs.Views.{listed};
-ghost use Rattle.brl_dues.specs.Steps.{dues_machine};
-ghost use Rattle.brl_lines.specs.Answer.{Answer};
-ghost use Rattle.brl_lines.specs.Lines.{Answers};
-ghost use Rattle.brl_lines.specs.Outcome.{AreGiven, CountsFailure, FailedWhereUnreadable};
-ghost use Rattle.brl_pairs.specs.Runs.{IsUnambiguous};
+ghost use Rattle.brl_lines.specs.Answer.{AllStay, GivesOneAnswer};
+ghost use Rattle.brl_lines.specs.Outcome.{CountsFailure};
+ghost use Rattle.brl_reading.specs.Files.{IsTableOf};
 ghost use Rattle.brl_table.specs.TableView.{TableView};
-ghost use Rattle.brl_table.specs.Text.{is_text};
-ghost use Rattle.brl_table.specs.Translation.{translation};
-ghost use Rattle.brl_window.specs.Windows.{window_machine};
+ghost use Rattle.brl_table.specs.Translation.{IsUnambiguous};
 
 use crate::{Accepted, JudgeFault, accept};
 use brl_cert::{Body, Cert, read_cert};
 use brl_dues::{Dues, DuesState};
-use brl_lines::{Source, load};
-use brl_reading::read_table;
+use brl_lines::Source;
+use brl_reading::{load_table, one_table_law};
 use brl_table::Table;
 use brl_window::{Window, WindowState};
 use std::alloc::Global;
-
-/// The table of the file at a path.
-fn table_at<S: Source>(alloc: Global, source: &mut S, root: &str) -> Result<Table, JudgeFault>
-    ensures table { IfOk result (λ table. (answers : Answers) × AreGiven (S.gives source.old) answers × IsTableBy answers root.now table) }
-    ensures refused { IfErr result (λ fault. (answers : Answers) × AreGiven (S.gives source.old) answers × ((bytes : List ℕ) → IsRefusedBy answers root.now bytes fault)) }
-    ensures failed { FailedWhereUnreadable (S.gives source.old) (load_outcome result) }
-    ensures count { CountsFailure (S.faults source.old) (S.faults source.new) (load_outcome result) }
-    ensures same { (p : List ℕ) (a : Answer) → S.gives source.new p a ↔ S.gives source.old p a }
-{
-    let loaded = load(alloc, source, root)?;
-    let lines = loaded.lines(alloc)?;
-    Ok(read_table(alloc, lines.as_slice())?)
-}
 
 /// Judges the states and pairs of a certificate of version 1 for a table.
 fn judge_windows(
@@ -43,7 +25,7 @@ fn judge_windows(
     table: &Table,
     body: &Body<WindowState>,
 ) -> Result<Accepted, JudgeFault>
-    ensures unambiguous { OnOk result (IsUnambiguous (window_machine table.now)) }
+    ensures unambiguous { OnOk result (IsUnambiguous table.now) }
     ensures accepted { IfOk result (IsAcceptedWith table.now (Windows (listed body.now.states body.now.pairs))) }
     ensures refused { IfErr result (IsRefusedWith table.now (Windows (listed body.now.states body.now.pairs))) }
 {
@@ -53,7 +35,7 @@ fn judge_windows(
 
 /// Judges the states and pairs of a certificate of version 2 for a table.
 fn judge_dues(alloc: Global, table: &Table, body: &Body<DuesState>) -> Result<Accepted, JudgeFault>
-    ensures unambiguous { OnOk result (IsUnambiguous (dues_machine table.now)) }
+    ensures unambiguous { OnOk result (IsUnambiguous table.now) }
     ensures accepted { IfOk result (IsAcceptedWith table.now (Owing (listed body.now.states body.now.pairs))) }
     ensures refused { IfErr result (IsRefusedWith table.now (Owing (listed body.now.states body.now.pairs))) }
 {
@@ -63,8 +45,7 @@ fn judge_dues(alloc: Global, table: &Table, body: &Body<DuesState>) -> Result<Ac
 
 /// Judges a certificate for a table.
 fn judge_table(alloc: Global, table: &Table, cert: &[u8]) -> Result<Accepted, JudgeFault>
-    ensures unambiguous { OnOk result ((left right : List ℕ) → IsTrue (is_text table.now left) → IsTrue (is_text table.now right)
-        → translation table.now left ≡ translation table.now right → left ≡ right) }
+    ensures unambiguous { OnOk result (IsUnambiguous table.now) }
     ensures accepted { IfOk result (IsAccepted table.now cert.now) }
     ensures refused { IfErr result (IsRefusedFor table.now cert.now) }
 {
@@ -89,27 +70,20 @@ pub fn judge<S: Source>(
     root: &str,
     cert: &[u8],
 ) -> Result<Accepted, JudgeFault>
-    // There is a table that the lines define of files as the source gave them, and any two texts over its characters that it
-    // translates to the same cells are equal, of whatever length.
-    ensures unambiguous { OnOk result ((t : TableView) × IsTableOf (S.gives source.old) root.now t
-        × ((left right : List ℕ) → IsTrue (is_text t left) → IsTrue (is_text t right)
-        → translation t left ≡ translation t right → left ≡ right)) }
-    // The bytes spell a certificate, this many of whose states and pairs are closed for the machine
-    // of its version; the table isn't too wide for version 1.
-    ensures accepted { IfOk result (λ accepted. (answers : Answers) × AreGiven (S.gives source.old) answers
-        × IsAcceptedBy answers root.now cert.now accepted) }
-    // The first stage that refuses is named, by its own fault.
-    ensures refused { IfErr result (λ fault. (answers : Answers) × AreGiven (S.gives source.old) answers
-        × IsRefusedBy answers root.now cert.now fault) }
-    // What deserves acceptance is refused for want of memory alone.
-    ensures not_certified { IfErr result (λ fault. fault ≢ JudgeFault.Memory → (answers : Answers)
-        × AreGiven (S.gives source.old) answers
-        × ((accepted : AcceptedValue) → IsAcceptedBy answers root.now cert.now accepted → ⊥)) }
-    ensures failed { FailedWhereUnreadable (S.gives source.old) (load_outcome result) }
+    // The files define a table, as the source gave them. Any two texts over its characters that it translates to the same cells
+    // are equal, of whatever length; and the bytes spell a certificate that shows it, with this many states and pairs.
+    ensures accepted { IfOk result (λ accepted. (t : TableView) × IsTableOf (S.gives source.old) root.now t × IsUnambiguous t
+        × IsAccepted t cert.now accepted) }
+    // The first stage that refuses is named, by its own fault; and where that is of the certificate, nothing deserves acceptance.
+    ensures refused { IfErr result (IsRefusedBy (S.gives source.old) root.now cert.now) }
+    // Over files that each have one answer, what deserves acceptance is accepted, unless memory runs out.
+    ensures decides { GivesOneAnswer (S.gives source.old) → (t : TableView) → IsTableOf (S.gives source.old) root.now t
+        → (accepted : AcceptedValue) → IsAccepted t cert.now accepted → (result ≡ Ok accepted) ⊎ (result ≡ Err JudgeFault.Memory) }
     ensures count { CountsFailure (S.faults source.old) (S.faults source.new) (load_outcome result) }
-    ensures same { (p : List ℕ) (a : Answer) → S.gives source.new p a ↔ S.gives source.old p a }
+    ensures same { AllStay (S.gives source.old) (S.gives source.new) }
 {
-    let table = table_at(alloc, source, root)?;
+    one_table_law(&*source);
+    let table = load_table(alloc, source, root)?;
     let judged = judge_table(alloc, &table, cert);
     drop(table);
     judged

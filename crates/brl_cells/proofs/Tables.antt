@@ -8,8 +8,7 @@ use Rattle.std.specs.Prelude.{IsNone, ◌↔◌}
 use Rattle.std.proofs.lemmas.Bool.{cases_lt}
 use Rattle.std.proofs.lemmas.Bool.Decides.{Decides-eqb, nat_tests}
 use Rattle.std.proofs.lemmas.Option.{slice_get-get_or, slice_get_past}
-use Rattle.brl_cells.specs.declared.marks.TheConstants.{ASCII_MARKS}
-use Rattle.brl_cells.specs.Marks.{ascii_mark}
+use Rattle.brl_cells.specs.Marks.{ascii_mark, braille_ascii}
 
 -- what `get` lends is the item at the place
 pub looked_up : (items : List ℕ) (place : ℕ) (found : Option (Bor ℕ)) → IsItemAt items place found → option_copied found ≡ slice_get items place
@@ -29,9 +28,9 @@ at_place test first (x ∷ items) (suc place) item all is =
     ap (λ (n : ℕ). test n item) (sym k) ∙ at_place test (suc first) items place item (second_so (test first x) (all_at test (suc first) items) all) is
 
 -- each mark stands first where it stands
-stands_first : (cell mark : ℕ) → ascii_mark cell ≡ Some mark → position_or_len (λ m. eqb m mark) ASCII_MARKS ≡ cell
+stands_first : (cell mark : ℕ) → ascii_mark cell ≡ Some mark → position_or_len (λ m. eqb m mark) braille_ascii ≡ cell
 unfolding ascii_mark
-stands_first cell mark is = (Decides-eqb (position_or_len (λ m. eqb m mark) ASCII_MARKS) (0 + cell)).0 (at_place (λ place item. eqb (position_or_len (λ m. eqb m item) ASCII_MARKS) place) 0 ASCII_MARKS cell mark refl is) ∙ zero-add cell
+stands_first cell mark is = (Decides-eqb (position_or_len (λ m. eqb m mark) braille_ascii) (0 + cell)).0 (at_place (λ place item. eqb (position_or_len (λ m. eqb m item) braille_ascii) place) 0 braille_ascii cell mark refl is) ∙ zero-add cell
 
 pub ascii_marks_differ : (left right mark : ℕ) → ascii_mark left ≡ Some mark → ascii_mark right ≡ Some mark → left ≡ right
 ascii_marks_differ left right mark is_left is_right = sym (stands_first left mark is_left) ∙ stands_first right mark is_right
@@ -39,7 +38,7 @@ ascii_marks_differ left right mark is_left is_right = sym (stands_first left mar
 pub ascii_marks_range : (cell mark : ℕ) → ascii_mark cell ≡ Some mark → (32 ≤ mark) × (mark < 96)
 unfolding ascii_mark
 ascii_marks_range cell mark is =
-    let within : leb 32 mark && ltb mark 96 ≡ true = at_place (λ place item. leb 32 item && ltb item 96) 0 ASCII_MARKS cell mark refl is in
+    let within : leb 32 mark && ltb mark 96 ≡ true = at_place (λ place item. leb 32 item && ltb item 96) 0 braille_ascii cell mark refl is in
     let low : leb 32 mark ≡ true = first_so (leb 32 mark) (ltb mark 96) within in
     let high : ltb mark 96 ≡ true = second_so (leb 32 mark) (ltb mark 96) within in
     (grind (arith, nat_tests), grind (arith, nat_tests))
@@ -49,9 +48,9 @@ pub unmarked : (cell : ℕ) (mark : Option ℕ) → mark ≡ ascii_mark cell →
 unfolding ascii_mark
 unmarked cell None is = (
   (λ _. elim (cases_lt cell 64) [
-    | inl lt ↦ absurd (let some : ascii_mark cell ≡ Some (get_or ASCII_MARKS cell 0) = slice_get-get_or ASCII_MARKS cell 0 lt in cc)
+    | inl lt ↦ absurd (let some : ascii_mark cell ≡ Some (get_or braille_ascii cell 0) = slice_get-get_or braille_ascii cell 0 lt in cc)
     | inr ge ↦ ge
   ]),
   (λ _. refl),
 )
-unmarked cell (Some m) is = ((λ (h : IsNone (Some m)). absurd cc), (λ le. absurd (let none : ascii_mark cell ≡ None = slice_get_past ASCII_MARKS cell le in cc)))
+unmarked cell (Some m) is = ((λ (h : IsNone (Some m)). absurd cc), (λ le. absurd (let none : ascii_mark cell ≡ None = slice_get_past braille_ascii cell le in cc)))

@@ -1,12 +1,19 @@
 -- The characters that are written for a cell: a mark of North American Braille ASCII, or a character of the Unicode block
 -- Braille Patterns. That these two are written is the project's own choice.
-use Rattle.std.specs.Prelude.{ℕ, ◌+◌, List, [], ◌∷◌, map, Option, Some}
+use Rattle.std.specs.Prelude.{ℕ, ◌+◌, List, [], ◌∷◌, ◌++◌, codes, map, Option, Some}
 use Rattle.std.specs.List.{slice_get}
-use Rattle.brl_cells.specs.declared.marks.TheConstants.{ASCII_MARKS}
 
--- the mark of a cell, of which the cells with dot 7 or 8 have none
+-- the marks of North American Braille ASCII, in the order of the numbers of their cells, 0 to 63
+abbrev pub braille_ascii : List ℕ
+braille_ascii =
+    codes " A1B'K2L@CIF/MSP"
+    ++ codes "\"E3H9O6R^DJG>NTQ"
+    ++ codes ",*5<-U8V.%[$+X!&"
+    ++ codes ";:4\\0Z7(_?W]#Y)="
+
+-- the mark of a cell; cells with dot 7 or 8 have none
 unfoldable pub ascii_mark : ℕ → Option ℕ
-ascii_mark cell = slice_get ASCII_MARKS cell
+ascii_mark cell = slice_get braille_ascii cell
 
 -- the cells of the first ten letters: dots 1, 12, 14, 145, 15, 124, 1245, 125, 24, 245
 abbrev pub first_decade : List ℕ

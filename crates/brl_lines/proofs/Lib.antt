@@ -1,3 +1,4 @@
+pub mod AnswerLemmas
 pub mod EachLineLemmas
 pub mod EscapeLemmas
 pub mod FileLemmas

@@ -11,9 +11,9 @@ use Rattle.brl_lines.proofs.MemoryLemmas.{given-at}
 use Rattle.brl_lines.proofs.SliceLemmas.{IsGood, all_more, lines_in-good}
 use Rattle.brl_lines.proofs.TextLemmas.{text_in-known}
 use Rattle.brl_lines.proofs.TurnLemmas.{Answered, lines_over-read, read_over, read_over-asks, read_over-most}
-use Rattle.brl_lines.specs.Answer.{Answer, Holds, Unreadable}
+use Rattle.brl_lines.specs.Answer.{Answer, Gives, Holds, Unreadable}
 use Rattle.brl_lines.specs.Lines.{Answers, PlaceView, Refusal, answer_at, lines_of, refusal, text_in, text_of}
-use Rattle.brl_lines.specs.Outcome.{AreGiven, IsLineOfFile, RefusesAs}
+use Rattle.brl_lines.specs.Outcome.{AreGiven, FailedWhereUnreadable, IsLineOfFile, IsLoadFault, RefusesAs, load_failed}
 use Rattle.brl_lines.specs.Steps.{Reads}
 use Rattle.brl_lines.specs.Rows.{without_mark}
 use Rattle.brl_lines.specs.Slices.{IsInOrder}
@@ -26,7 +26,7 @@ use Rattle.brl_lines.specs.declared.known.Known.{Known}
 
 -- ---- one answer more
 
-kept : (answers others : Answers) (path : List ℕ) (a : Answer) → answer_at answers path ≡ Some a → answer_at (answers ++ others) path ≡ Some a
+pub kept : (answers others : Answers) (path : List ℕ) (a : Answer) → answer_at answers path ≡ Some a → answer_at (answers ++ others) path ≡ Some a
 kept [] others path a h = absurd cc
 kept (entry ∷ answers) others path a h = by_test (bytes_eq entry.0 path) h (kept answers others path a)
   where
@@ -129,3 +129,34 @@ lines_of-in_order answers root =
     each_line (answer_at answers) IsInOrder
     (λ path bytes known. all_more (IsGood (without_mark bytes) path) IsInOrder (λ line good. good.in_order) (lines_in path (without_mark bytes)) (lines_in-good path (without_mark bytes)))
     root
+
+-- ---- why nothing is loaded
+
+-- a refusal over given answers, where a failed read is one that the source may fail
+pub load-fault : (gives now : Gives) → ((path : List ℕ) (a : Answer) → now path a → gives path a) → (root : List ℕ) (fault : LoadFault)
+    → (answers : Answers) × AreGiven gives answers × RefusesAs (lines_of answers root) fault → FailedWhereUnreadable {T = Unit {0}} now (Err fault) → IsLoadFault gives root fault
+load-fault gives now stays root faults.Memory h k = tt
+load-fault gives now stays root (faults.Refused refused.ReadFailed path place) h k = (h, λ e. stays _ _ k)
+load-fault gives now stays root (faults.Refused refused.NotFound path place) h k = (h, λ e. absurd cc)
+load-fault gives now stays root (faults.Refused refused.NotUtf8 path place) h k = (h, λ e. absurd cc)
+load-fault gives now stays root (faults.Refused refused.Cycle path place) h k = (h, λ e. absurd cc)
+load-fault gives now stays root (faults.Refused refused.TooDeep path place) h k = (h, λ e. absurd cc)
+load-fault gives now stays root (faults.Refused refused.LineTooLong path place) h k = (h, λ e. absurd cc)
+load-fault gives now stays root (faults.Refused refused.TooManyIncludes path place) h k = (h, λ e. absurd cc)
+load-fault gives now stays root (faults.Refused refused.TooLarge path place) h k = (h, λ e. absurd cc)
+
+-- a walk that is refused, but not for a file that wasn't read
+pub walk-fault : (gives : Gives) (root : List ℕ) (answers : Answers) (fault : LoadFault) → AreGiven gives answers → RefusesAs (lines_of answers root) fault
+    → load_failed {T = Unit {0}} (Err fault) ≡ false → IsLoadFault gives root fault
+walk-fault gives root answers fault given h calm = load-fault gives gives (λ path a k. k) root fault (answers, given, h) (by_fault fault calm)
+  where
+    by_fault : (fault : LoadFault) → load_failed {T = Unit {0}} (Err fault) ≡ false → FailedWhereUnreadable {T = Unit {0}} gives (Err fault)
+    by_fault faults.Memory e = tt
+    by_fault (faults.Refused refused.ReadFailed path place) e = absurd cc
+    by_fault (faults.Refused refused.NotFound path place) e = tt
+    by_fault (faults.Refused refused.NotUtf8 path place) e = tt
+    by_fault (faults.Refused refused.Cycle path place) e = tt
+    by_fault (faults.Refused refused.TooDeep path place) e = tt
+    by_fault (faults.Refused refused.LineTooLong path place) e = tt
+    by_fault (faults.Refused refused.TooManyIncludes path place) e = tt
+    by_fault (faults.Refused refused.TooLarge path place) e = tt

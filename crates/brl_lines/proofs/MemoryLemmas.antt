@@ -1,15 +1,13 @@
 -- Lines over what a source was asked for, and over all its files, where it never fails.
-use Rattle.std.proofs.Common.{◌≡◌, ℕ, Bool, true, false, cond, nat_le, List, [], ◌∷◌, length, refl, ap, sym, ◌∙◌, subst, String, Option, Some, None, Result, Ok, Err}
+use Rattle.std.proofs.Common.{◌≡◌, ℕ, Bool, true, false, cond, nat_le, List, [], ◌∷◌, length, refl, ap, sym, ◌∙◌, subst, Option, Some, None, Result, Ok, Err, IfErr, IfOk}
 use Rattle.std.proofs.lemmas.Slice.Eq.{bytes_eq-Decides}
-use Rattle.std.specs.Global.{Global}
 use Rattle.std.specs.Str.{bytes_eq}
-use Rattle.brl_lines.specs.Answer.{Answer, Holds, Large, Unreadable, answer_of, most_file_bytes}
+use Rattle.brl_lines.specs.Answer.{Answer, Gives, Holds, Large, Unreadable, answer_of, most_file_bytes}
 use Rattle.brl_lines.specs.Lines.{Answers, PlaceView, Refusal, answer_at, lines_of, lines_over, refusal}
-use Rattle.brl_lines.specs.Outcome.{AreGiven, FailedWhereUnreadable, Tells, load_failed}
+use Rattle.brl_lines.specs.Outcome.{AreGiven, AreLinesOf, IsLoadFault, IsRefusedAs, Tells}
 use Rattle.brl_lines.specs.Tokens.{LineView}
 use Rattle.brl_lines.proofs.TurnLemmas.{lines_over-more}
 use Rattle.brl_lines.specs.declared.fault.LoadFault.{LoadFault}
-use Rattle.brl_lines.specs.declared.fault.Place.{Place}
 use Rattle.brl_lines.specs.declared.fault.LoadFault.TheVariants as faults
 use Rattle.brl_lines.specs.declared.fault.Refused.{Refused}
 use Rattle.brl_lines.specs.declared.fault.Refused.TheVariants as refused
@@ -36,42 +34,37 @@ module _ (gives : List ℕ → Answer → Type 0) where
           subst (λ p. gives p answer) path_is (subst (λ a. gives entry.0 a) answer_is h.0)
       by_test false same later f = later f
 
-  -- where every file can be read, no read failed
-  pub never_failed : (outcome : Result (List LineView) LoadFault) → ((path : List ℕ) → gives path Unreadable → ⊥) → FailedWhereUnreadable gives outcome → load_failed outcome ≡ false
-  never_failed (Ok lines) readable h = refl
-  never_failed (Err faults.Memory) readable h = refl
-  never_failed (Err (faults.Refused refused.NotFound p q)) readable h = refl
-  never_failed (Err (faults.Refused refused.ReadFailed p q)) readable h = absurd (readable _ h)
-  never_failed (Err (faults.Refused refused.NotUtf8 p q)) readable h = refl
-  never_failed (Err (faults.Refused refused.Cycle p q)) readable h = refl
-  never_failed (Err (faults.Refused refused.TooDeep p q)) readable h = refl
-  never_failed (Err (faults.Refused refused.LineTooLong p q)) readable h = refl
-  never_failed (Err (faults.Refused refused.TooManyIncludes p q)) readable h = refl
-  never_failed (Err (faults.Refused refused.TooLarge p q)) readable h = refl
-
 -- where no read failed, the lines aren't refused as a read that failed
-never_unread : (lines : Result (List LineView) Refusal) (kind : Refused) (p : List ℕ) (q : Option PlaceView) → lines ≡ Err (refusal kind p q) → (kind ≡ refused.ReadFailed → ⊥)
+pub never_unread : (lines : Result (List LineView) Refusal) (kind : Refused) (p : List ℕ) (q : Option PlaceView) → lines ≡ Err (refusal kind p q) → (kind ≡ refused.ReadFailed → ⊥)
     → (path : List ℕ) (place : Option PlaceView) → lines ≡ Err (refusal refused.ReadFailed path place) → ⊥
 never_unread lines kind p q h other path place e = other (ap (λ r. r.kind) (same (sym h ∙ e)))
   where
     same : {r s : Refusal} → ◌≡◌ {A = Result (List LineView) Refusal} (Err r) (Err s) → r ≡ s
     same e = cc
 
-calm_kind : (kind : Refused) (path : String Global) (place : Option Place) → load_failed {T = List LineView} (Err (faults.Refused kind path place)) ≡ false → kind ≡ refused.ReadFailed → ⊥
-calm_kind refused.NotFound path place e k = cc
-calm_kind refused.ReadFailed path place e k = cc
-calm_kind refused.NotUtf8 path place e k = cc
-calm_kind refused.Cycle path place e k = cc
-calm_kind refused.TooDeep path place e k = cc
-calm_kind refused.LineTooLong path place e k = cc
-calm_kind refused.TooManyIncludes path place e k = cc
-calm_kind refused.TooLarge path place e k = cc
+-- Over files that each have an answer, none of which is that it can't be read, a load comes to what the definition gives for all files.
+module _ (all : List ℕ → Answer) (readable : (path : List ℕ) → Unreadable ≡ all path → ⊥) (root : List ℕ) where
+  abbrev gives : Gives
+  gives path answer = answer ≡ all path
 
--- what some answers tell of a table is what all files tell
-module _ (all : List ℕ → Option Answer) (answers : Answers) (root : List ℕ) (known : (path : List ℕ) (answer : Answer) → answer_at answers path ≡ Some answer → all path ≡ Some answer) where
-  -- where no read failed, the lines over the answers are the lines over all files
-  pub lines_over-all : (outcome : Result (List LineView) LoadFault) → load_failed outcome ≡ false → Tells (λ l. l) (lines_of answers root) outcome → Tells (λ l. l) (lines_over all root) outcome
-  lines_over-all (Ok lines) calm h = lines_over-more (answer_at answers) all known root (λ path place e. let no = sym h ∙ e in cc) ∙ h
-  lines_over-all (Err faults.Memory) calm h = tt
-  lines_over-all (Err (faults.Refused kind p q)) calm h =
-      lines_over-more (answer_at answers) all known root (never_unread (lines_of answers root) kind _ _ h (calm_kind kind p q calm)) ∙ h
+  abbrev full : List ℕ → Option Answer
+  full path = Some (all path)
+
+  known : (answers : Answers) → AreGiven gives answers → (path : List ℕ) (answer : Answer) → answer_at answers path ≡ Some answer → full path ≡ Some answer
+  known answers given path answer e = ap Some (sym (given-at gives answers path answer given e))
+
+  other_kind : (kind : Refused) (path : List ℕ) (place : Option PlaceView) → (kind ≡ refused.ReadFailed → ⊥) → IsRefusedAs gives root (refusal kind path place) → lines_over full root ≡ Err (refusal kind path place)
+  other_kind kind path place other h =
+      lines_over-more (answer_at h.0) full (known h.0 h.1) root (never_unread (lines_of h.0 root) kind path place h.2 other) ∙ h.2
+
+  pub told_of_all : (outcome : Result (List LineView) LoadFault) → IfOk outcome (AreLinesOf gives root) → IfErr outcome (IsLoadFault gives root) → Tells (λ lines. lines) (lines_over full root) outcome
+  told_of_all (Ok lines) h k = lines_over-more (answer_at h.0) full (known h.0 h.1) root (λ path place e. let no = sym h.2 ∙ e in cc) ∙ h.2
+  told_of_all (Err faults.Memory) h k = tt
+  told_of_all (Err (faults.Refused refused.ReadFailed path place)) h k = absurd (readable _ (k.1 refl))
+  told_of_all (Err (faults.Refused refused.NotFound path place)) h k = other_kind refused.NotFound _ _ (λ e. cc) k.0
+  told_of_all (Err (faults.Refused refused.NotUtf8 path place)) h k = other_kind refused.NotUtf8 _ _ (λ e. cc) k.0
+  told_of_all (Err (faults.Refused refused.Cycle path place)) h k = other_kind refused.Cycle _ _ (λ e. cc) k.0
+  told_of_all (Err (faults.Refused refused.TooDeep path place)) h k = other_kind refused.TooDeep _ _ (λ e. cc) k.0
+  told_of_all (Err (faults.Refused refused.LineTooLong path place)) h k = other_kind refused.LineTooLong _ _ (λ e. cc) k.0
+  told_of_all (Err (faults.Refused refused.TooManyIncludes path place)) h k = other_kind refused.TooManyIncludes _ _ (λ e. cc) k.0
+  told_of_all (Err (faults.Refused refused.TooLarge path place)) h k = other_kind refused.TooLarge _ _ (λ e. cc) k.0

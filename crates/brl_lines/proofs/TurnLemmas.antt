@@ -300,3 +300,23 @@ module _ (f g : List ℕ → Option Answer) (extends : (path : List ℕ) (answer
         | inl k ↦ lines_over-read g root ∙ ap (λ p. p.lines) k.same ∙ sym (lines_over-read f root)
         | inr k ↦ absurd (calm k.path k.place (lines_over-read f root ∙ k.asked))
       ]
+
+  -- where more answers give lines, fewer give them too, or ask for a file that the others have
+  pub lines_over-fewer : (lines : List LineView) → lines_over g root ≡ Ok lines → (path : List ℕ) (place : Option PlaceView) → lines_over f root ≡ Err (refusal refused.ReadFailed path place)
+      → (text : List ℕ) × (text_of path place (g path) ≡ Ok text)
+  lines_over-fewer lines found path place e =
+      let asked = sym (lines_over-read f root) ∙ e in
+      let whole = sym (lines_over-read g root) ∙ found in
+      elim read_over-goes [
+        | inl k ↦ let no = sym whole ∙ ap (λ p. p.lines) k.same ∙ asked in absurd cc
+        | inr k ↦
+            (let same = same_refusal (sym k.asked ∙ asked) in
+            let path_is : k.path ≡ path = ap (λ r. r.path) same in
+            let place_is : k.place ≡ place = ap (λ r. r.place) same in
+            subst (λ p. (text : List ℕ) × (text_of p place (g p) ≡ Ok text)) path_is
+            (subst (λ q. (text : List ℕ) × (text_of k.path q (g k.path) ≡ Ok text)) place_is (has_text (text_of k.path k.place (g k.path)) k.answered whole)))
+      ]
+    where
+      has_text : (text : Result (List ℕ) Refusal) → Answered f g extends text (read_over f root) (read_over g root) → (read_over g root).lines ≡ Ok lines → (x : List ℕ) × (text ≡ Ok x)
+      has_text (Ok text) less whole = (text, refl)
+      has_text (Err d) refused whole = let no = sym refused ∙ whole in absurd cc

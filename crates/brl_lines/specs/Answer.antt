@@ -1,6 +1,6 @@
 -- What a source of files answers for a path, and how it counts its failures.
 -- The manual leaves open where files come from: this is the project's own choice.
-use Rattle.std.specs.Prelude.{ℕ, ◌+◌, ◌^◌, ◌-◌, min, Bool, true, false, List, length, nat_le, if◌then◌else◌, None, Some, Ok, Err, Result, Option}
+use Rattle.std.specs.Prelude.{ℕ, ◌≡◌, ◌+◌, ◌^◌, ◌-◌, ◌↔◌, min, Bool, true, false, List, length, nat_le, if◌then◌else◌, None, Some, Ok, Err, Result, Option}
 use Rattle.std.specs.Global.{Vec}
 use Rattle.brl_lines.specs.declared.source.SourceFault.{SourceFault}
 use Rattle.brl_lines.specs.declared.source.SourceFault.TheVariants as faults
@@ -11,6 +11,18 @@ pub data Answer : Type 0 where
   Missing : Answer
   Large : Answer
   Unreadable : Answer
+
+-- what a source may answer for each path
+abbrev pub Gives : Type 1
+Gives = List ℕ → Answer → Type 0
+
+-- it may answer the same as before
+abbrev pub AllStay : Gives → Gives → Type 0
+AllStay old new = (path : List ℕ) (answer : Answer) → new path answer ↔ old path answer
+
+-- it has one answer at most for each path
+abbrev pub GivesOneAnswer : Gives → Type 0
+GivesOneAnswer gives = (path : List ℕ) (one other : Answer) → gives path one → gives path other → one ≡ other
 
 -- the most bytes that a file may have
 abbrev pub most_file_bytes : ℕ

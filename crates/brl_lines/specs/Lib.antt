@@ -1,6 +1,7 @@
 pub mod Answer
 pub mod Escapes
 pub mod Examples
+pub mod InMemory
 pub mod IncludeLines
 pub mod Includes
 pub mod Lines

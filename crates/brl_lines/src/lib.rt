@@ -11,6 +11,7 @@ mod file_source;
 mod files;
 mod include;
 mod known;
+mod laws;
 mod line;
 mod loaded;
 mod map_source;
@@ -22,6 +23,7 @@ mod walking;
 
 pub use fault::{LoadFault, Place, Refused};
 pub use file_source::{FileSource, read_whole};
+pub use laws::{files_in_memory_law, one_answer_law};
 pub use line::{Line, Token};
 pub use loaded::{Loaded, load};
 pub use map_source::MapSource;

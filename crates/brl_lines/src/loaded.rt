@@ -1,9 +1,9 @@
 //! Loading a table: its files are read and checked whole as they are met.
-ghost use Rattle.std.specs.Prelude.{◌≡◌, ℕ, ◌↔◌, List, All, IfOk, map, option_map, string_bytes};
-ghost use Rattle.brl_lines.specs.Answer.{Answer};
+ghost use Rattle.std.specs.Prelude.{◌≡◌, All, IfErr, IfOk, map, option_map, string_bytes};
+ghost use Rattle.brl_lines.specs.Answer.{AllStay};
 ghost use Rattle.brl_lines.specs.Slices.{IsInOrder};
-ghost use Rattle.brl_lines.specs.Lines.{Answers, lines_of};
-ghost use Rattle.brl_lines.specs.Outcome.{AreGiven, CountsFailure, FailedWhereUnreadable, IsLineOfFile, Tells};
+ghost use Rattle.brl_lines.specs.Lines.{lines_of};
+ghost use Rattle.brl_lines.specs.Outcome.{AreLinesOf, CountsFailure, FailedWhereUnreadable, IsLineOfFile, IsLoadFault};
 ghost use Rattle.brl_lines.specs.Steps.{Reads, Wants};
 ghost use Rattle.brl_lines.specs.Views.{files_view, line_view, place_view};
 
@@ -88,7 +88,7 @@ fn read_file<S: Source>(
     ensures read { Reads (S.gives source.old) (string_bytes path) (option_map place_view place) result }
     ensures failed { FailedWhereUnreadable (S.gives source.old) result }
     ensures count { CountsFailure (S.faults source.old) (S.faults source.new) result }
-    ensures same { (p : List ℕ) (a : Answer) → S.gives source.new p a ↔ S.gives source.old p a }
+    ensures same { AllStay (S.gives source.old) (S.gives source.new) }
 {
     let kind = match source.read(alloc, path.as_str()) {
         Ok(bytes) => return checked(alloc, path, place, bytes),
@@ -109,11 +109,11 @@ fn read_file<S: Source>(
 /// source says so, as `TooLarge` where it gave more than `MOST_FILE_BYTES` all the same, as `NotUtf8`, and as
 /// `LineTooLong` at its first line of more than 2,048 bytes. An include line with no name stays among the lines.
 pub fn load<S: Source>(alloc: Global, source: &mut S, root: &str) -> Result<Loaded, LoadFault>
-    ensures lines { (answers : Answers) × AreGiven (S.gives source.old) answers × Tells (λ l. l) (lines_of answers root.now) result }
+    ensures lines { IfOk result (AreLinesOf (S.gives source.old) root.now) }
     ensures slices { IfOk result (All (IsLineOfFile (S.gives source.old))) }
-    ensures failed { FailedWhereUnreadable (S.gives source.old) result }
+    ensures fault { IfErr result (IsLoadFault (S.gives source.old) root.now) }
     ensures count { CountsFailure (S.faults source.old) (S.faults source.new) result }
-    ensures same { (p : List ℕ) (a : Answer) → S.gives source.new p a ↔ S.gives source.old p a }
+    ensures same { AllStay (S.gives source.old) (S.gives source.new) }
 {
     let mut files = Vec::new(alloc);
     while let Some(wanted) = next_wanted(alloc, files.as_slice(), root)? {

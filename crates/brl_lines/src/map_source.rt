@@ -22,11 +22,9 @@ impl MapSource {
 
 impl Source for MapSource {
     ghost use Rattle.std.specs.Prelude.{◌≡◌};
-    ghost use Rattle.std.specs.Option.{option_map};
-    ghost use Rattle.std.specs.BTreeMap.{get_by_text};
-    ghost use Rattle.brl_lines.specs.Answer.{answer_of};
+    ghost use Rattle.brl_lines.specs.InMemory.{answer_in};
 
-    ghost gives = { λ s p a. a ≡ answer_of (option_map (λ v. v.items) (get_by_text s.files p)) };
+    ghost gives = { λ source path answer. answer ≡ answer_in source path };
 
     ghost faults = { λ _. 0 };
 

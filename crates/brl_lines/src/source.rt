@@ -25,11 +25,11 @@ pub enum SourceFault {
 
 /// Gives the bytes of files by their paths.
 pub trait Source {
-    ghost use Rattle.std.specs.Prelude.{◌≡◌, ℕ, ◌↔◌, List};
-    ghost use Rattle.brl_lines.specs.Answer.{Answer, IsAnswer, failures_after, read_failed};
+    ghost use Rattle.std.specs.Prelude.{◌≡◌, ℕ};
+    ghost use Rattle.brl_lines.specs.Answer.{AllStay, Gives, IsAnswer, failures_after, read_failed};
 
     // what it may answer for a path, which reading doesn't change
-    ghost gives: { Self → List ℕ → Answer → Type 0 };
+    ghost gives: { Self → Gives };
 
     // how often it has failed
     ghost faults: { Self → ℕ };
@@ -38,7 +38,7 @@ pub trait Source {
     /// `MOST_FILE_BYTES`, `Failed` where it could not be read, and `Memory`.
     fn read(&mut self, alloc: Global, path: &str) -> Result<Vec<u8>, SourceFault>
         ensures answer { IsAnswer (gives self.old path.now) result }
-        ensures same { (p : List ℕ) (a : Answer) → gives self.new p a ↔ gives self.old p a }
+        ensures same { AllStay (gives self.old) (gives self.new) }
         ensures count { faults self.new ≡ failures_after (faults self.old) (read_failed result) };
 
     /// How often `read` answered `Failed`. At `u64::MAX` it stays.

@@ -9,3 +9,4 @@ pub mod SaidParts
 pub mod FileNames
 pub mod ReadSteps
 pub mod AllLooked
+pub mod OneTable

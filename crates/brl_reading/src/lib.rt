@@ -2,13 +2,17 @@
 #![tactic(auto)]
 
 mod characters;
+mod files;
 mod item;
 mod line;
+mod no_table;
 mod opcode;
 mod operand;
 mod reading;
 mod signs;
 mod table_fault;
 
+pub use files::{load_table, one_table_law};
+pub use no_table::NoTable;
 pub use reading::read_table;
 pub use table_fault::{TableFault, Wrong};

@@ -1,4 +1,4 @@
--- Members of lists; and things no two of which are the same are no more than a list has that holds them.
+-- Members of lists. Where a list holds some things, no two of them the same, it is at least as long as there are things.
 use Rattle.std.proofs.Common.{◌≡◌, ◌≢◌, ℕ, zero, suc, ◌<◌, ◌≤◌, List, [], ◌∷◌, ◌++◌, ◌⊎◌, inl, inr, Some, length, map, refl, sym, ◌∙◌, ap, subst, arith}
 use Rattle.std.specs.Prelude.{slice_get, slice_index_or}
 use Rattle.std.specs.List.{Contains, flat_map}

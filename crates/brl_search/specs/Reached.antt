@@ -26,13 +26,13 @@ SamePair p q = (p ≡ q) ⊎ ((p.lead ≡ []) × (turned p ≡ q))
 abbrev pub SameState : {S : Type 0} → S → S → Type 0
 SameState a b = a ≡ b
 
--- there are n things of this kind at least: a list of n of them, no two of which are counted as one
+-- there are at least n things of this kind: a list of n of them, no two of which count as one
 pub record AtLeast {A : Type 0} (n : ℕ) (Same : A → A → Type 0) (Kind : A → Type 0) : Type 0 where
   pub list : List A
   pub count : length list ≡ n
   pub each : (i : ℕ) (x : A) → slice_get list i ≡ Some x → Kind x
   pub differ : (i j : ℕ) (x y : A) → i < j → slice_get list i ≡ Some x → slice_get list j ≡ Some y → Same x y → ⊥
 
--- there are n things of this kind at most: wherever there are so many at least, these are no more than n
+-- there are at most n things of this kind: whenever there are at least k of them, k is at most n
 abbrev pub AtMost : {A : Type 0} → ℕ → (A → A → Type 0) → (A → Type 0) → Type 0
 AtMost n Same Kind = (k : ℕ) → AtLeast k Same Kind → k ≤ n

@@ -8,11 +8,11 @@ ghost use Rattle.brl_dues.specs.Steps.{dues_machine};
 ghost use Rattle.brl_dues.specs.declared.due.Due.{Due as DueValue};
 ghost use Rattle.brl_dues.specs.declared.state.DuesState.{DuesState as StateValue};
 ghost use Rattle.brl_pairs.specs.Pairs.{IsClosed};
-ghost use Rattle.brl_pairs.specs.Runs.{IsUnambiguous};
 ghost use Rattle.brl_pairs.specs.declared.step.Pair.{Pair as PairValue};
 ghost use Rattle.brl_search.specs.Deciding.{ListsJustReached, all_pairs, reached_sets};
 ghost use Rattle.brl_search.specs.Reached.{AtMost, Reached, ReachedPair, SamePair, SameState};
 ghost use Rattle.brl_table.specs.TableView.{TableView};
+ghost use Rattle.brl_table.specs.Translation.{IsUnambiguous};
 
 use crate::laws::{just_reached_law, reached_closed_law};
 use brl_dues::{Dues, exact_law, finite_law};
@@ -37,7 +37,7 @@ pub fn dues_reached_law()
 
 /// For every unambiguous table, what its dues machine reaches is closed.
 pub fn dues_closed_law(alloc: Global, table: &Table)
-    ensures { IsUnambiguous (dues_machine table.now) → IsClosed (dues_machine table.now) (reached_sets (dues_machine table.now)) }
+    ensures { IsUnambiguous table.now → IsClosed (dues_machine table.now) (reached_sets (dues_machine table.now)) }
 {
     exact_law(table);
     let dues = Dues::new(alloc, table);
@@ -47,7 +47,7 @@ pub fn dues_closed_law(alloc: Global, table: &Table)
 /// For every unambiguous table, any lists of just the states that its dues machine reaches and, in one order at least, just the
 /// pairs are closed: they are a certificate.
 pub fn dues_certificate_law(alloc: Global, table: &Table)
-    ensures { IsUnambiguous (dues_machine table.now) → (body : BodyView StateValue) → ListsJustReached (dues_machine table.now) body →
+    ensures { IsUnambiguous table.now → (body : BodyView StateValue) → ListsJustReached (dues_machine table.now) body →
         IsClosed (dues_machine table.now) (sets_of body) }
 {
     exact_law(table);

@@ -1,12 +1,12 @@
 //! The search of a table.
-ghost use Rattle.std.specs.Prelude.{◌+◌, ◌<◌, ◌≤◌, ◌⊎◌, ℕ, List, IfOk};
+ghost use Rattle.std.specs.Prelude.{◌+◌, ◌<◌, ◌≤◌, ◌⊎◌, IfOk};
 ghost use Rattle.brl_cert.specs.Sets.{sets_of};
 ghost use Rattle.brl_dues.specs.Steps.{dues_machine};
 ghost use Rattle.brl_pairs.specs.Pairs.{IsClosed};
 ghost use Rattle.brl_search.specs.Answers.{AreInOrder, HasReachedPairs, HasReachedStates, IsWithin};
 ghost use Rattle.brl_search.specs.Found.{IfCertified, IfClashing, IfLimit, IsCertificate};
 ghost use Rattle.brl_search.specs.Reached.{AtLeast, AtMost, Reached, ReachedPair, SamePair, SameState};
-ghost use Rattle.brl_table.specs.Translation.{IsClash, translation};
+ghost use Rattle.brl_table.specs.Translation.{IsClash, IsUnambiguous, translation};
 
 use crate::fault::SearchFault;
 use crate::found::Found;
@@ -46,9 +46,9 @@ fn clash_of(
 pub fn search(alloc: Global, table: &Table, limit: u64) -> Result<Found, SearchFault>
     requires { limit ≤ 4294967295 }
 
-    // A certificate: its states and pairs are reached, no more than `limit` of each, and closed; so no two texts clash.
+    // A certificate: its states and pairs are reached, no more than `limit` of each, and closed; so the table is unambiguous.
     ensures closed { IfOk result (IfCertified (λ body. IsClosed (dues_machine table.now) (sets_of body))) }
-    ensures unambiguous { IfOk result (IfCertified (λ _. (left right cells : List ℕ) → IsClash table.now left right cells → ⊥)) }
+    ensures unambiguous { IfOk result (IfCertified (λ _. IsUnambiguous table.now)) }
     ensures states { IfOk result (IfCertified (HasReachedStates (dues_machine table.now))) }
     ensures pairs { IfOk result (IfCertified (HasReachedPairs (dues_machine table.now))) }
     ensures within { IfOk result (IfCertified (IsWithin limit)) }
@@ -63,12 +63,12 @@ pub fn search(alloc: Global, table: &Table, limit: u64) -> Result<Found, SearchF
     ensures states_reached { IfOk result (IfLimit (λ states _. AtLeast states SameState (Reached (dues_machine table.now)))) }
     ensures pairs_reached { IfOk result (IfLimit (λ _ pairs. AtLeast pairs SamePair (ReachedPair (dues_machine table.now)))) }
 
-    // Where no more than `limit` states and pairs are reached, it decides: the limit isn't passed, and if no two texts clash there
+    // Where no more than `limit` states and pairs are reached, it decides: the limit isn't passed, and for an unambiguous table there
     // is a certificate.
     ensures decides { AtMost limit SameState (Reached (dues_machine table.now)) → AtMost limit SamePair (ReachedPair (dues_machine table.now))
         → IfOk result (IfLimit (λ _ _. ⊥)) }
     ensures certifies { AtMost limit SameState (Reached (dues_machine table.now)) → AtMost limit SamePair (ReachedPair (dues_machine table.now))
-        → ((left right cells : List ℕ) → IsClash table.now left right cells → ⊥) → IfOk result IsCertificate }
+        → IsUnambiguous table.now → IfOk result IsCertificate }
 {
     let dues = Dues::new(alloc, table);
     exact_law(table);

@@ -34,3 +34,8 @@ pub record IsClash (t : TableView) (left right cells : List ℕ) : Type 0 where
   pub differ : left ≢ right
   pub left_cells : translation t left ≡ cells
   pub right_cells : translation t right ≡ cells
+
+-- any two texts over the table's characters that it translates to the same cells are equal, of whatever length
+abbrev pub IsUnambiguous : TableView → Type 0
+IsUnambiguous t =
+    (left right : List ℕ) → IsTrue (is_text t left) → IsTrue (is_text t right) → translation t left ≡ translation t right → left ≡ right

@@ -9,7 +9,7 @@ ghost use Rattle.brl_table.specs.Rank.{in_rank, IsRanking};
 ghost use Rattle.brl_table.specs.Rest.{translation_of_rest, TakesOneRule};
 ghost use Rattle.brl_table.specs.TableView.{TableView};
 ghost use Rattle.brl_table.specs.Text.{at_start, classes_before, context_at, context_behind_all};
-ghost use Rattle.brl_table.specs.Translation.{indicators_at, chosen_at, translation_from, translation};
+ghost use Rattle.brl_table.specs.Translation.{IsClash, IsUnambiguous, indicators_at, chosen_at, translation_from, translation};
 
 /// The same rules are put in rank in one way only, which `in_rank` computes.
 pub fn rank_law()
@@ -46,4 +46,9 @@ pub fn translation_laws()
     ensures rule { (t : TableView) (here : Context) (rest : List ℕ) → 0 < length rest → TakesOneRule t here rest }
     ensures context { (t : TableView) (text : List ℕ) (i count : ℕ) → count ≤ length (drop i text) →
         context_behind_all t (context_at t text i) (take count (drop i text)) ≡ context_at t text (i + count) }
+{}
+
+/// A table is unambiguous exactly where no two of its texts clash.
+pub fn unambiguous_law()
+    ensures { (t : TableView) → IsUnambiguous t ↔ ((left right cells : List ℕ) → IsClash t left right cells → ⊥) }
 {}

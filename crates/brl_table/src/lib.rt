@@ -18,7 +18,7 @@ pub use chars::Chars;
 pub use choice::Choice;
 pub use class::Class;
 pub use context::Context;
-pub use laws::{choice_laws, rank_law, translation_laws};
+pub use laws::{choice_laws, rank_law, translation_laws, unambiguous_law};
 pub use parts::TableParts;
 pub use place::{Cond, Place, holds};
 pub use rule::{Info, Notice, Rule};

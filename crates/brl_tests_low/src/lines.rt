@@ -3,13 +3,12 @@ mod includes;
 mod operands;
 mod sources;
 
-ghost use Rattle.std.specs.Prelude.{Some, option_map};
-ghost use Rattle.std.specs.BTreeMap.{get_by_text};
-ghost use Rattle.brl_lines.specs.Answer.{answer_of};
+ghost use Rattle.std.specs.Prelude.{Some};
+ghost use Rattle.brl_lines.specs.InMemory.{answer_in};
 ghost use Rattle.brl_lines.specs.Lines.{lines_over};
 ghost use Rattle.brl_lines.specs.Outcome.{Tells};
 
-use brl_lines::{Line, LoadFault, Loaded, MapSource, Source, load};
+use brl_lines::{Line, LoadFault, Loaded, MapSource, Source, files_in_memory_law, load};
 use brl_testing::{agree, cut, lend, lend_mut, one_file};
 use std::alloc::Global;
 use std::fmt::Write;
@@ -53,8 +52,9 @@ fn file_of(alloc: Global, text: &str) -> Result<MapSource, Fail> {
 
 /// Loads over files in memory. The outcome is the one that all files of the map give.
 fn load_in_memory(alloc: Global, source: &mut MapSource, root: &str) -> Result<Loaded, LoadFault>
-    ensures { Tells (λ lines. lines) (lines_over (λ path. Some (answer_of (option_map (λ v. v.items) (get_by_text source.old.files path)))) root.now) result }
+    ensures { Tells (λ lines. lines) (lines_over (λ path. Some (answer_in source.old path)) root.now) result }
 {
+    files_in_memory_law(source);
     load(alloc, source, root)
 }
 

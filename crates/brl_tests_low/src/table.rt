@@ -223,7 +223,7 @@ fn an_include_line_that_is_left(rt: HostRuntime) -> Result<(), Fail> {
     )
 }
 
-/// The table of this many lines, each of which defines one letter, or its fault.
+/// The table of `count` lines, where each line defines one letter; or its fault.
 fn shown_letters(alloc: Global, count: u32) -> Result<String, Fail> {
     let mut lines = String::new(alloc);
     for number in 0..count {

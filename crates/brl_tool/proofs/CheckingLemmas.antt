@@ -1,67 +1,140 @@
--- What a source may give is the same behind a read, and what is judged of a certificate.
-use Rattle.std.proofs.Common.{◌≡◌, ◌∙◌, ℕ, List, [], ◌∷◌, inr, ◌↔◌, Option, Result, Ok, Err, IfOk, IfErr, OnOk, subst, sym}
+-- What a source may give is the same after a read, and what is judged of a certificate.
+use Rattle.std.proofs.Common.{◌≡◌, ◌∙◌, ℕ, ◌<◌, ◌≤◌, List, [], ◌∷◌, length, ◌⊎◌, inl, inr, ◌↔◌, Option, Result, Ok, Err, IfOk, IfErr, ap, arith, refl, subst, sym}
 use Rattle.std.specs.Io.KnownBytes.{Appends}
-use Rattle.brl_accept.specs.Files.{IsTableOf}
-use Rattle.brl_accept.specs.Judging.{IsAcceptedBy, IsRefusedBy}
+use Rattle.brl_accept.specs.Judging.{IsAccepted, IsRefusedBy}
 use Rattle.brl_accept.specs.declared.accepted.Accepted.{Accepted}
 use Rattle.brl_accept.specs.declared.judge_fault.JudgeFault.{JudgeFault}
 use Rattle.brl_accept.specs.declared.judge_fault.JudgeFault.TheVariants as judge
-use Rattle.brl_lines.specs.Answer.{Answer, Holds}
+use Rattle.brl_lines.specs.Answer.{AllStay, Answer, Gives, GivesOneAnswer, Holds, Large, Missing, Unreadable, most_file_bytes}
 use Rattle.brl_lines.specs.Lines.{Answers}
-use Rattle.brl_lines.specs.Outcome.{AreGiven}
+use Rattle.brl_lines.specs.Outcome.{AreGiven, AreLinesOf, IsLoadFault}
+use Rattle.brl_lines.specs.Tokens.{LineView}
+use Rattle.brl_lines.specs.declared.fault.LoadFault.{LoadFault}
 use Rattle.brl_lines.specs.declared.fault.LoadFault.TheVariants as load
+use Rattle.brl_lines.specs.declared.fault.Refused.{Refused}
+use Rattle.brl_lines.specs.declared.fault.Refused.TheVariants as refused
+use Rattle.brl_reading.specs.Files.{IsFaultAt, IsTableOf}
+use Rattle.brl_reading.specs.declared.no_table.NoTable.{NoTable}
+use Rattle.brl_reading.specs.declared.no_table.NoTable.TheVariants as no_table
 use Rattle.brl_table.specs.TableView.{TableView}
-use Rattle.brl_reading.specs.declared.table_fault.TableFault.TheVariants as table
-use Rattle.brl_tool.specs.Checking.{Checks, Judges, NoneAlike, ReportsAcceptance, ReportsRefusal, judgement_of}
+use Rattle.brl_table.specs.Translation.{IsUnambiguous}
+use Rattle.brl_tool.specs.Checking.{AcceptsGood, Checks, IsFaultOfFile, Judges, LacksBytes, ReportsAcceptance, ReportsRefusal, judgement_of}
 use Rattle.brl_tool.proofs.StatusLemmas.{none_is_one}
 use Rattle.brl_tool.specs.Running.{judgement_status}
 use Rattle.brl_tool.specs.declared.judgement.Judgement.{Judgement}
-use Rattle.brl_tool.specs.declared.judgement.Judgement.TheVariants.{Accepting, Unreadable, Refusing}
+use Rattle.brl_tool.specs.declared.judgement.Judgement.TheVariants.{Accepting, Unreadable as NoCertificate, Refusing}
 use Rattle.brl_tool.specs.declared.run_fault.RunFault.{RunFault}
+use Rattle.brl_tool.specs.declared.run_fault.RunFault.TheVariants.{Load, Table, Stream, Confirm, Wide, OutputFailed, CannotWrite, Memory}
 
-module _ (gives behind : List ℕ → Answer → Type 0) (same : (p : List ℕ) (a : Answer) → behind p a ↔ gives p a) where
-  given : (answers : Answers) → AreGiven behind answers → AreGiven gives answers
+module _ (from to : Gives) (moves : (p : List ℕ) (a : Answer) → from p a → to p a) where
+  given : (answers : Answers) → AreGiven from answers → AreGiven to answers
   given [] h = tt
-  given (entry ∷ others) h = ((same entry.0 entry.1).0 h.0, given others h.1)
+  given (entry ∷ others) h = (moves entry.0 entry.1 h.0, given others h.1)
 
-  table_before : (path : List ℕ) (t : TableView) → IsTableOf behind path t → IsTableOf gives path t
-  table_before path t h = (h.0, (h.1.0, given h.1.0 h.1.1, h.1.2), h.2, h.3)
+  lines_moved : (path : List ℕ) (lines : List LineView) → AreLinesOf from path lines → AreLinesOf to path lines
+  lines_moved path lines h = (h.0, given h.0 h.1, h.2)
 
-  module _ (path cert bytes : List ℕ) (holds : gives cert (Holds bytes)) where
-    accepted_before : (accepted : Accepted)
-        → ((t : TableView) × IsTableOf behind path t × NoneAlike t)
-        → ((answers : Answers) × AreGiven behind answers × IsAcceptedBy answers path bytes accepted)
-        → Judges gives path cert (judgement_of (Ok accepted))
-    accepted_before accepted h k = (bytes, holds, ((h.0, table_before path h.0 h.1, h.2), (k.0, given k.0 k.1, k.2)))
+  pub table_moved : (path : List ℕ) (t : TableView) → IsTableOf from path t → IsTableOf to path t
+  table_moved path t h = (h.0, lines_moved path h.0 h.1, h.2, h.3)
 
-    refused_before : (fault : JudgeFault) → ((answers : Answers) × AreGiven behind answers × IsRefusedBy answers path bytes fault) → Judges gives path cert (judgement_of (Err fault))
-    refused_before (judge.Load load.Memory) h = inr (bytes, holds, tt)
-    refused_before (judge.Load (load.Refused kind named place)) h = inr (bytes, holds, (h.0, given h.0 h.1, h.2))
-    refused_before (judge.Table table.Memory) h = inr (bytes, holds, tt)
-    refused_before (judge.Table (table.Refused wrong subject file line)) h = inr (bytes, holds, (h.0, given h.0 h.1, h.2))
-    refused_before (judge.Cert fault) h = (bytes, holds, (h.0, given h.0 h.1, h.2))
-    refused_before (judge.Wide fault) h = inr (bytes, holds, (h.0, given h.0 h.1, h.2))
-    refused_before (judge.Refused fault) h = (bytes, holds, (h.0, given h.0 h.1, h.2))
-    refused_before judge.Memory h = inr (bytes, holds, tt)
+  load_fault_moved : (path : List ℕ) (fault : LoadFault) → IsLoadFault from path fault → IsLoadFault to path fault
+  load_fault_moved path load.Memory h = tt
+  load_fault_moved path (load.Refused kind named place) h = ((h.0.0, given h.0.0 h.0.1, h.0.2), λ e. moves _ _ (h.1 e))
 
-    -- what the judge answered, as it is told
-    pub judged : (outcome : Result Accepted JudgeFault)
-        → OnOk outcome ((t : TableView) × IsTableOf behind path t × NoneAlike t)
-        → IfOk outcome (λ accepted. (answers : Answers) × AreGiven behind answers × IsAcceptedBy answers path bytes accepted)
-        → IfErr outcome (λ fault. (answers : Answers) × AreGiven behind answers × IsRefusedBy answers path bytes fault)
-        → (result : Result Judgement RunFault) → result ≡ judgement_of outcome → Judges gives path cert result
-    judged (Ok accepted) alike is refused result same = subst (Judges gives path cert) (sym same) (accepted_before accepted alike is)
-    judged (Err fault) alike is refused result same = subst (Judges gives path cert) (sym same) (refused_before fault refused)
+  fault_moved : (path : List ℕ) (fault : NoTable) → IsFaultAt from path fault → IsFaultAt to path fault
+  fault_moved path (no_table.Load fault) h = (h.0, load_fault_moved path fault h.1)
+  fault_moved path (no_table.Table fault) h = (h.0, (h.1.0, lines_moved path h.1.0 h.1.1, h.1.2))
+  fault_moved path no_table.Memory h = tt
+
+  pub refused_moved : (path bytes : List ℕ) (fault : JudgeFault) → IsRefusedBy from path bytes fault → IsRefusedBy to path bytes fault
+  refused_moved path bytes (judge.Load fault) h = fault_moved path (no_table.Load fault) h
+  refused_moved path bytes (judge.Table fault) h = fault_moved path (no_table.Table fault) h
+  refused_moved path bytes (judge.Cert fault) h = (h.0, table_moved path h.0 h.1, h.2, h.3)
+  refused_moved path bytes (judge.Wide fault) h = (h.0, table_moved path h.0 h.1, h.2, h.3)
+  refused_moved path bytes (judge.Refused fault) h = (h.0, table_moved path h.0 h.1, h.2, h.3)
+  refused_moved path bytes judge.Memory h = tt
+
+module _ (gives behind : Gives) (same : AllStay gives behind) (path cert bytes : List ℕ) (holds : gives cert (Holds bytes)) where
+  back : (p : List ℕ) (a : Answer) → behind p a → gives p a
+  back p a = (same p a).0
+
+  forth : (p : List ℕ) (a : Answer) → gives p a → behind p a
+  forth p a = (same p a).1
+
+  refused_as : (fault : JudgeFault) → IsRefusedBy gives path bytes fault → Judges gives path cert (judgement_of (Err fault))
+  refused_as (judge.Load fault) h = inr (bytes, holds, h)
+  refused_as (judge.Table fault) h = inr (bytes, holds, h)
+  refused_as (judge.Cert fault) h = (bytes, holds, h)
+  refused_as (judge.Wide fault) h = inr (bytes, holds, h)
+  refused_as (judge.Refused fault) h = (bytes, holds, h)
+  refused_as judge.Memory h = inr (bytes, holds, tt)
+
+  -- what the judge answered, as it is told
+  pub judged : (outcome : Result Accepted JudgeFault)
+      → IfOk outcome (λ accepted. (t : TableView) × IsTableOf behind path t × IsUnambiguous t × IsAccepted t bytes accepted)
+      → IfErr outcome (IsRefusedBy behind path bytes)
+      → (result : Result Judgement RunFault) → result ≡ judgement_of outcome → Judges gives path cert result
+  judged (Ok accepted) is refused result e = subst (Judges gives path cert) (sym e) (bytes, holds, (is.0, table_moved behind gives back path is.0 is.1, is.2, is.3))
+  judged (Err fault) is refused result e = subst (Judges gives path cert) (sym e) (refused_as fault (refused_moved behind gives back path bytes fault refused))
+
+  -- what deserves acceptance is told so, unless memory ran out
+  pub accepted_good : (outcome : Result Accepted JudgeFault)
+      → (GivesOneAnswer behind → (t : TableView) → IsTableOf behind path t → (accepted : Accepted) → IsAccepted t bytes accepted → (outcome ≡ Ok accepted) ⊎ (outcome ≡ Err judge.Memory))
+      → (result : Result Judgement RunFault) → result ≡ judgement_of outcome → AcceptsGood gives path cert result
+  accepted_good outcome decides result e one certificate there short t table accepted deserved =
+      let are : certificate ≡ bytes = same_bytes (one cert (Holds certificate) (Holds bytes) there holds) in
+      let told = decides (λ p a b h k. one p a b (back p a h) (back p b k)) t (table_moved gives behind forth path t table) accepted (subst (λ (b : List ℕ). IsAccepted t b accepted) are deserved) in
+      elim told [
+        | inl ok ↦ inl (e ∙ ap judgement_of ok)
+        | inr err ↦ inr (inl (e ∙ ap judgement_of err))
+      ]
+    where
+      same_bytes : {x y : List ℕ} → Holds x ≡ Holds y → x ≡ y
+      same_bytes e = cc
+
+-- a file with few enough bytes is read, unless memory runs out
+pub has_bytes : (gives : Gives) (path cert : List ℕ) (fault : RunFault) → IsFaultOfFile gives cert fault → AcceptsGood gives path cert (Err fault)
+has_bytes gives path cert fault h one bytes there short t table accepted deserved = inr (inl (ap Err (by_fault fault h)))
+  where
+    other : (a : Answer) → gives cert a → Holds bytes ≡ a
+    other a given = one cert (Holds bytes) a there given
+
+    too_long : {x : List ℕ} → Holds bytes ≡ Holds x → most_file_bytes < length x → ⊥
+    too_long {x} e long = let are : bytes ≡ x = cc in let here = subst (λ (b : List ℕ). most_file_bytes < length b) (sym are) long in absurd (omega (arith, here, short))
+
+    lacks : (kind : Refused) → LacksBytes (gives cert) kind → ⊥
+    lacks refused.NotFound k = let e = other Missing k in cc
+    lacks refused.ReadFailed k = let e = other Unreadable k in cc
+    lacks refused.TooLarge k = elim k [
+      | inl large ↦ let e = other Large large in cc
+      | inr (x, given, long) ↦ too_long (other (Holds x) given) long
+    ]
+    lacks refused.NotUtf8 k = k
+    lacks refused.Cycle k = k
+    lacks refused.TooDeep k = k
+    lacks refused.LineTooLong k = k
+    lacks refused.TooManyIncludes k = k
+
+    by_fault : (fault : RunFault) → IsFaultOfFile gives cert fault → fault ≡ Memory
+    by_fault (Load load.Memory) k = absurd k
+    by_fault (Load (load.Refused kind named place)) k = absurd (lacks kind k.2)
+    by_fault (Table fault) k = absurd k
+    by_fault (Stream fault) k = absurd k
+    by_fault (Confirm fault) k = absurd k
+    by_fault (Wide fault) k = absurd k
+    by_fault OutputFailed k = absurd k
+    by_fault (CannotWrite named) k = absurd k
+    by_fault Memory k = refl
 
 -- ---- What the status says
 
-pub accepted_at_none : (gives : List ℕ → Answer → Type 0) (path cert : List ℕ) (old new : Option (List ℕ)) (judgement : Judgement) → Checks gives path cert old new (Ok judgement) → (status : ℕ) → status ≡ judgement_status judgement → status ≡ 0 → ReportsAcceptance gives path old new
+pub accepted_at_none : (gives : Gives) (path cert : List ℕ) (old new : Option (List ℕ)) (judgement : Judgement) → Checks gives path cert old new (Ok judgement) → (status : ℕ) → status ≡ judgement_status judgement → status ≡ 0 → ReportsAcceptance gives path old new
 accepted_at_none gives path cert old new (Accepting accepted) h status is e =
-    (h.0.2.0, (accepted.states, accepted.pairs, subst (Appends old new) h.1.1 h.1.2))
-accepted_at_none gives path cert old new (Unreadable fault) h status is e = absurd (none_is_one (sym e ∙ is))
+    ((h.0.2.0, h.0.2.1, h.0.2.2), (accepted.states, accepted.pairs, subst (Appends old new) h.1.1 h.1.2))
+accepted_at_none gives path cert old new (NoCertificate fault) h status is e = absurd (none_is_one (sym e ∙ is))
 accepted_at_none gives path cert old new (Refusing fault) h status is e = absurd (none_is_one (sym e ∙ is))
 
-pub refused_at_one : (gives : List ℕ → Answer → Type 0) (path cert : List ℕ) (old new : Option (List ℕ)) (judgement : Judgement) → Checks gives path cert old new (Ok judgement) → (status : ℕ) → status ≡ judgement_status judgement → status ≡ 1 → ReportsRefusal old new
+pub refused_at_one : (gives : Gives) (path cert : List ℕ) (old new : Option (List ℕ)) (judgement : Judgement) → Checks gives path cert old new (Ok judgement) → (status : ℕ) → status ≡ judgement_status judgement → status ≡ 1 → ReportsRefusal old new
 refused_at_one gives path cert old new (Accepting accepted) h status is e = absurd (none_is_one (sym is ∙ e))
-refused_at_one gives path cert old new (Unreadable fault) h status is e = (h.1.1.0, subst (Appends old new) h.1.1.1 h.1.2)
+refused_at_one gives path cert old new (NoCertificate fault) h status is e = (h.1.1.0, subst (Appends old new) h.1.1.1 h.1.2)
 refused_at_one gives path cert old new (Refusing fault) h status is e = (h.1.1.0, subst (Appends old new) h.1.1.1 h.1.2)

@@ -1,9 +1,8 @@
 -- What a search of a table says, told.
-use Rattle.std.proofs.Common.{◌≡◌, ◌∙◌, refl, ℕ, List, ◌++◌, Option, Some, None, Result, Ok, Err, IsErrAnd, IfErr, IfOk, String, subst, sym}
+use Rattle.std.proofs.Common.{◌≡◌, ◌∙◌, refl, ℕ, List, ◌++◌, Option, Some, None, Result, Ok, Err, inl, IsErrAnd, IfErr, IfOk, String, subst, sym}
 use Rattle.std.specs.Global.{Global}
 use Rattle.std.specs.Io.KnownBytes.{Appends}
 use Rattle.std.specs.Prelude.{string_bytes}
-use Rattle.brl_accept.specs.Files.{IsTableOf}
 use Rattle.brl_cert.specs.Lines.{BodyView}
 use Rattle.brl_cert.specs.Reading.{Owing, reading, spelling}
 use Rattle.brl_cert.specs.Sets.{sets_of}
@@ -14,17 +13,21 @@ use Rattle.brl_dues.specs.Steps.{dues_machine}
 use Rattle.brl_dues.specs.declared.state.DuesState.{DuesState}
 use Rattle.brl_forward.specs.ClashView.{ClashView}
 use Rattle.brl_pairs.specs.Pairs.{IsClosed}
+use Rattle.brl_lines.specs.Answer.{AllStay, Gives}
+use Rattle.brl_lines.specs.Outcome.{CountsFailure}
+use Rattle.brl_reading.specs.Files.{IsTableOf}
 use Rattle.brl_report.specs.Report.{report_text}
 use Rattle.brl_search.specs.Answers.{AreInOrder, HasReachedPairs, HasReachedStates, IsCertified, IsWithin}
 use Rattle.brl_search.specs.Found.{IfCertified}
 use Rattle.brl_search.specs.declared.found.Found.{Found}
 use Rattle.brl_search.specs.declared.found.Found.TheVariants as found
 use Rattle.brl_table.specs.TableView.{TableView}
-use Rattle.brl_table.specs.Translation.{IsClash}
+use Rattle.brl_table.specs.Translation.{IsClash, IsUnambiguous}
 use Rattle.brl_tool.proofs.StatusLemmas.{none_is_one, none_is_three}
-use Rattle.brl_tool.specs.Files.{AllStay, FilesAfter, Gives, OthersStay}
+use Rattle.brl_tool.specs.Files.{FilesAfter, OthersStay}
 use Rattle.brl_tool.specs.Running.{verdict_status}
-use Rattle.brl_tool.specs.Searching.{HasNoClash, IsVerdict, ReportsCertificate, Searches, SearchesTable, Tells, TellsCertificate, cert_of, certified_line}
+use Rattle.brl_tool.specs.Searching.{IsVerdict, ReportsCertificate, Searches, SearchesTable, Tells, TellsCertificate, cert_of, certified_line}
+use Rattle.brl_tool.specs.Work.{load_outcome}
 use Rattle.brl_tool.specs.declared.run_fault.RunFault.{RunFault}
 use Rattle.brl_tool.specs.declared.run_fault.RunFault.TheVariants.{Load, Table, Stream, Confirm, Wide, OutputFailed, CannotWrite, Memory}
 use Rattle.brl_tool.specs.declared.verdict.Told.{Told}
@@ -32,7 +35,7 @@ use Rattle.brl_tool.specs.declared.verdict.Verdict.{Verdict}
 use Rattle.brl_tool.specs.declared.verdict.Verdict.TheVariants.{Certified, Clash, Limit}
 
 -- the verdict that has a certificate says that the table has no clash
-verdict_of_cert : (t : TableView) (limit : ℕ) (body : BodyView DuesState) (verdict : Verdict) (text : List ℕ) → HasNoClash t → IsCertified (dues_machine t) limit body
+verdict_of_cert : (t : TableView) (limit : ℕ) (body : BodyView DuesState) (verdict : Verdict) (text : List ℕ) → IsUnambiguous t → IsCertified (dues_machine t) limit body
     → cert_of verdict ≡ Some (spelling (Owing body)) → text ≡ certified_line (Owing body) → reading (spelling (Owing body)) ≡ Ok (Owing body) → IsVerdict t limit verdict text
 verdict_of_cert t limit body (Certified bytes) text none certified bytes_are text_is read = (
   none,
@@ -43,7 +46,7 @@ verdict_of_cert t limit body Limit text none certified bytes_are text_is read = 
 
 -- a certificate, told
 pub told_cert : (t : TableView) (limit : ℕ) (answer : Found) (cert : Cert) (told : Told) → answer ≡ found.Certified cert
-    → IfCertified (λ body. HasNoClash t) answer
+    → IfCertified (λ body. IsUnambiguous t) answer
     → IfCertified (λ body. IsClosed (dues_machine t) (sets_of body)) answer
     → IfCertified (HasReachedStates (dues_machine t)) answer
     → IfCertified (HasReachedPairs (dues_machine t)) answer
@@ -71,7 +74,7 @@ told_with {E} t limit verdict text (Err fault) made none is =
 
 -- the certificate of an answer is told, or memory is wanting
 pub told_certificate : (t : TableView) (limit : ℕ) (answer : Found) (cert : Cert) (result : Result Told RunFault) → answer ≡ found.Certified cert
-    → IfCertified (λ body. HasNoClash t) answer
+    → IfCertified (λ body. IsUnambiguous t) answer
     → IfCertified (λ body. IsClosed (dues_machine t) (sets_of body)) answer
     → IfCertified (HasReachedStates (dues_machine t)) answer
     → IfCertified (HasReachedPairs (dues_machine t)) answer
@@ -128,6 +131,19 @@ searched_cut before behind out limit old new t verdict bytes (Ok x) bad files is
 searched_cut before behind out limit old new t verdict bytes (Err e) same files is (front, rest, whole, appends) =
     subst (λ (f : RunFault). SearchesTable t before behind out limit old new (Err f)) (sym same)
     (verdict, files, (front, rest, subst (IsVerdict t limit verdict) whole is, appends))
+
+-- no file fails to be read once the table is there
+pub count_at_search : (t : TableView) (before behind : Gives) (out : List ℕ) (limit : ℕ) (old new : Option (List ℕ)) (result : Result Verdict RunFault) → SearchesTable t before behind out limit old new result
+    → (earlier now : ℕ) → now ≡ earlier → CountsFailure earlier now (load_outcome result)
+count_at_search t before behind out limit old new (Ok verdict) h earlier now stays = stays
+count_at_search t before behind out limit old new (Err (Load fault)) h earlier now stays = absurd h
+count_at_search t before behind out limit old new (Err (Table fault)) h earlier now stays = stays
+count_at_search t before behind out limit old new (Err (Stream fault)) h earlier now stays = stays
+count_at_search t before behind out limit old new (Err (Confirm fault)) h earlier now stays = stays
+count_at_search t before behind out limit old new (Err (Wide fault)) h earlier now stays = stays
+count_at_search t before behind out limit old new (Err OutputFailed) h earlier now stays = stays
+count_at_search t before behind out limit old new (Err (CannotWrite named)) h earlier now stays = stays
+count_at_search t before behind out limit old new (Err Memory) h earlier now stays = inl stays
 
 -- ---- What the status says
 

@@ -1,19 +1,10 @@
 -- What becomes of files that are written. The manual leaves open where files come from: this is the project's own choice.
 use Rattle.std.specs.Prelude.{ℕ, ◌≡◌, ◌≢◌, ◌↔◌, List, Option, Some, None}
-use Rattle.std.specs.BTreeMap.{get_by_text}
-use Rattle.std.specs.Option.{option_map}
-use Rattle.brl_lines.specs.Answer.{Answer, answer_of}
+use Rattle.brl_lines.specs.Answer.{AllStay, Answer, Gives, answer_of}
+use Rattle.brl_lines.specs.InMemory.{bytes_in}
 use Rattle.brl_lines.specs.declared.map_source.MapSource.{MapSource}
 
--- what a source may answer
-abbrev pub Gives : Type 1
-Gives = List ℕ → Answer → Type 0
-
--- it may answer the same as before
-abbrev pub AllStay : Gives → Gives → Type 0
-AllStay old new = (p : List ℕ) (a : Answer) → new p a ↔ old p a
-
--- it may answer the same as before for each path but this one
+-- a source may answer the same as before for each path but this one
 abbrev pub OthersStay : Gives → Gives → List ℕ → Type 0
 OthersStay old new path = (p : List ℕ) (a : Answer) → p ≢ path → new p a ↔ old p a
 
@@ -28,14 +19,10 @@ FilesAfter old new path (Some bytes) = GivesAlso new path bytes × OthersStay ol
 
 -- ---- Files in memory
 
--- the bytes at a path
-abbrev pub bytes_at : MapSource → List ℕ → Option (List ℕ)
-bytes_at source path = option_map (λ bytes. bytes.items) (get_by_text source.files path)
-
 -- all paths have the bytes that they had
 abbrev pub AllAre : MapSource → MapSource → Type 0
-AllAre old new = (p : List ℕ) → bytes_at new p ≡ bytes_at old p
+AllAre old new = (p : List ℕ) → bytes_in new p ≡ bytes_in old p
 
 -- all paths but this one have the bytes that they had
 abbrev pub OthersAre : MapSource → MapSource → List ℕ → Type 0
-OthersAre old new path = (p : List ℕ) → p ≢ path → bytes_at new p ≡ bytes_at old p
+OthersAre old new path = (p : List ℕ) → p ≢ path → bytes_in new p ≡ bytes_in old p

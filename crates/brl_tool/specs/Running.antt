@@ -1,9 +1,9 @@
 -- What a run of the program comes to. The project's own choice.
-use Rattle.std.specs.Prelude.{ℕ, ◌≡◌, ◌⊎◌, List, Option, Result}
-use Rattle.brl_lines.specs.Answer.{Answer}
+use Rattle.std.specs.Prelude.{ℕ, ◌≡◌, ◌⊎◌, Bool, true, List, Option, Result, Err}
+use Rattle.std.specs.Str.{chars}
+use Rattle.brl_lines.specs.Answer.{AllStay, Gives}
 use Rattle.brl_tool.specs.Checking.{Checks}
 use Rattle.brl_tool.specs.Comparing.{Compares}
-use Rattle.brl_tool.specs.Files.{AllStay, Gives}
 use Rattle.brl_tool.specs.Searching.{Searches}
 use Rattle.brl_tool.specs.Status.{IsAnswered, status_after}
 use Rattle.brl_tool.specs.Work.{Works}
@@ -13,8 +13,11 @@ use Rattle.brl_stream.specs.declared.form.Form.{Form}
 use Rattle.brl_tool.specs.declared.judgement.Judgement.{Judgement}
 use Rattle.brl_tool.specs.declared.judgement.Judgement.TheVariants.{Accepting}
 use Rattle.brl_tool.specs.declared.run_fault.RunFault.{RunFault}
+use Rattle.brl_tool.specs.declared.run_fault.RunFault.TheVariants.{OutputFailed}
 use Rattle.brl_tool.specs.declared.verdict.Verdict.{Verdict}
 use Rattle.brl_tool.specs.declared.verdict.Verdict.TheVariants.{Certified, Clash as Clashing, Limit}
+use Rattle.brl_words.specs.declared.command.Task.{Task}
+use Rattle.brl_words.specs.declared.command.Task.TheVariants as task
 
 -- the status of what was found of two texts
 abbrev pub finding_status : Finding → ℕ
@@ -32,37 +35,48 @@ verdict_status (Certified bytes) = 0
 verdict_status Clashing = 1
 verdict_status Limit = 3
 
--- the input was translated by the table of the file at a path, and the status is that of the outcome
-abbrev pub TranslatesBy : (List ℕ → Answer → Type 0) → List ℕ → Form → Option (List ℕ) → Option (List ℕ) → Option (List ℕ) → ℕ → Type 0
+-- ---- What each task comes to, and its status; `failed` says whether the writer has failed
+
+-- what was found or decided can't be told only where the writer failed
+abbrev pub FailsByWriter : {T : Type 0} → Bool → Result T RunFault → Type 0
+FailsByWriter failed outcome = outcome ≡ Err OutputFailed → failed ≡ true
+
+-- the input was translated by the table of the file at a path
+abbrev pub TranslatesBy : Gives → List ℕ → Form → Option (List ℕ) → Option (List ℕ) → Option (List ℕ) → ℕ → Type 0
 TranslatesBy gives path form input old new status =
     (outcome : Result (Unit {0}) RunFault) × Works gives path form input old new outcome × (status ≡ status_after (λ done. 0) outcome)
 
--- two texts were compared by the table of the file at a path, and the status is that of the outcome
-abbrev pub ComparesBy : (List ℕ → Answer → Type 0) → List ℕ → List ℕ → List ℕ → Option (List ℕ) → Option (List ℕ) → ℕ → Type 0
-ComparesBy gives path left right old new status =
-    (outcome : Result Finding RunFault) × Compares gives path left right old new outcome × (status ≡ status_after finding_status outcome)
+-- two texts were compared by the table of the file at a path
+abbrev pub ComparesBy : Gives → List ℕ → List ℕ → List ℕ → Bool → Option (List ℕ) → Option (List ℕ) → ℕ → Type 0
+ComparesBy gives path left right failed old new status =
+    (outcome : Result Finding RunFault) × Compares gives path left right old new outcome × FailsByWriter failed outcome
+    × (status ≡ status_after finding_status outcome)
 
--- the certificate in the file at one path was judged for the table of the file at another, and the status is that of the outcome
-abbrev pub ChecksBy : (List ℕ → Answer → Type 0) → List ℕ → List ℕ → Option (List ℕ) → Option (List ℕ) → ℕ → Type 0
-ChecksBy gives path cert old new status =
-    (outcome : Result Judgement RunFault) × Checks gives path cert old new outcome × (status ≡ status_after judgement_status outcome)
+-- the certificate in the file at one path was judged for the table of the file at another
+abbrev pub ChecksBy : Gives → List ℕ → List ℕ → Bool → Option (List ℕ) → Option (List ℕ) → ℕ → Type 0
+ChecksBy gives path cert failed old new status =
+    (outcome : Result Judgement RunFault) × Checks gives path cert old new outcome × FailsByWriter failed outcome
+    × (status ≡ status_after judgement_status outcome)
 
--- the table of the file at one path was searched for a certificate to be written to another, and the status is that of the outcome
-abbrev pub SearchesBy : Gives → Gives → List ℕ → List ℕ → Option (List ℕ) → Option (List ℕ) → ℕ → Type 0
-SearchesBy before behind path out old new status =
-    (limit : ℕ) × (outcome : Result Verdict RunFault) × Searches before behind path out limit old new outcome × (status ≡ status_after verdict_status outcome)
+-- the table of the file at one path was searched, up to a limit, for a certificate to be written to another
+abbrev pub SearchesBy : Gives → Gives → List ℕ → List ℕ → ℕ → Bool → Option (List ℕ) → Option (List ℕ) → ℕ → Type 0
+SearchesBy before behind path out limit failed old new status =
+    (outcome : Result Verdict RunFault) × Searches before behind path out limit old new outcome × FailsByWriter failed outcome
+    × (status ≡ status_after verdict_status outcome)
 
--- what a run did that only reads files: it answered words that ask for no work, or translated, or compared two texts, or checked a
--- certificate
-abbrev pub OnlyReads : Gives → Option (List ℕ) → Option (List ℕ) → Option (List ℕ) → ℕ → Type 0
-OnlyReads gives input old new status =
-    IsAnswered status
-    ⊎ ((path : List ℕ) × (form : Form) × TranslatesBy gives path form input old new status)
-    ⊎ ((path left right : List ℕ) × ComparesBy gives path left right old new status)
-    ⊎ ((path cert : List ℕ) × ChecksBy gives path cert old new status)
+-- A task was done, with the paths, texts, form and limit that it has. Only a search changes a file.
+abbrev pub Performs : Task → Gives → Gives → Option (List ℕ) → Bool → Option (List ℕ) → Option (List ℕ) → ℕ → Type 0
+Performs (task.Translate path form) before behind input failed old new status =
+    AllStay before behind × TranslatesBy before path.now form input old new status
+Performs (task.Clash path left right) before behind input failed old new status =
+    AllStay before behind × ComparesBy before path.now (chars left.now) (chars right.now) failed old new status
+Performs (task.Check path cert) before behind input failed old new status =
+    AllStay before behind × ChecksBy before path.now cert.now failed old new status
+Performs (task.Search path out limit) before behind input failed old new status =
+    SearchesBy before behind path.now out.now limit failed old new status
 
--- what a run did, whatever its words were: it only read files, and all stay; or it searched a table
-abbrev pub Runs : Gives → Gives → Option (List ℕ) → Option (List ℕ) → Option (List ℕ) → ℕ → Type 0
-Runs before behind input old new status =
-    (AllStay before behind × OnlyReads before input old new status)
-    ⊎ ((path out : List ℕ) × SearchesBy before behind path out old new status)
+-- what a run did: the task that its words ask for; or it answered words that ask for none
+abbrev pub Runs : Gives → Gives → Option (List ℕ) → Bool → Option (List ℕ) → Option (List ℕ) → ℕ → Type 0
+Runs before behind input failed old new status =
+    ((asked : Task) × Performs asked before behind input failed old new status)
+    ⊎ (AllStay before behind × IsAnswered failed old new status)

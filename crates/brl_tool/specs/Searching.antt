@@ -1,7 +1,6 @@
 -- What a search of a table comes to, and what is written of it. The project's own choice.
 use Rattle.std.specs.Prelude.{ℕ, ◌≡◌, List, ◌++◌, length, Option, None, Some, Result, Ok, Err, codes, string_bytes}
 use Rattle.std.specs.Io.KnownBytes.{Appends}
-use Rattle.brl_accept.specs.Files.{IsTableOf}
 use Rattle.brl_accept.specs.Judging.{IsAccepted}
 use Rattle.brl_accept.specs.declared.accepted.Accepted.{Accepted}
 use Rattle.brl_cert.specs.Lines.{BodyView}
@@ -10,13 +9,15 @@ use Rattle.brl_cert.specs.Views.{cert_view}
 use Rattle.brl_cert.specs.declared.cert.Cert.{Cert}
 use Rattle.brl_dues.specs.Steps.{dues_machine}
 use Rattle.brl_dues.specs.declared.state.DuesState.{DuesState}
+use Rattle.brl_lines.specs.Answer.{AllStay, Gives}
+use Rattle.brl_reading.specs.Files.{IsTableOf}
 use Rattle.brl_report.specs.Report.{report_text}
 use Rattle.brl_search.specs.Answers.{IsCertified, IsLimit}
 use Rattle.brl_table.specs.TableView.{TableView}
-use Rattle.brl_table.specs.Translation.{IsClash}
+use Rattle.brl_table.specs.Translation.{IsClash, IsUnambiguous}
 use Rattle.brl_tool.specs.Counts.{counts_line}
-use Rattle.brl_tool.specs.Files.{AllStay, FilesAfter, Gives, OthersStay}
-use Rattle.brl_tool.specs.Work.{IsFaultAt}
+use Rattle.brl_tool.specs.Files.{FilesAfter, OthersStay}
+use Rattle.brl_tool.specs.Work.{HasNoTable}
 use Rattle.brl_tool.specs.declared.run_fault.RunFault.{RunFault}
 use Rattle.brl_tool.specs.declared.run_fault.RunFault.TheVariants.{Load, Table, CannotWrite, OutputFailed, Memory}
 use Rattle.brl_tool.specs.declared.verdict.Told.{Told}
@@ -24,10 +25,6 @@ use Rattle.brl_tool.specs.declared.verdict.Verdict.{Verdict}
 use Rattle.brl_tool.specs.declared.verdict.Verdict.TheVariants.{Certified, Clash, Limit}
 
 -- ---- What is said of a table
-
--- no two texts of the table clash
-abbrev pub HasNoClash : TableView → Type 0
-HasNoClash t = (left right cells : List ℕ) → IsClash t left right cells → ⊥
 
 -- the bytes of a certificate, where there is one
 abbrev pub cert_of : Verdict → Option (List ℕ)
@@ -52,7 +49,7 @@ counted body = record { states = length body.states; pairs = length body.pairs }
 -- what a search with this limit says of a table, and the text that tells it
 abbrev pub IsVerdict : TableView → ℕ → Verdict → List ℕ → Type 0
 IsVerdict t limit (Certified bytes) text =
-    HasNoClash t × ((body : BodyView DuesState) × IsCertified (dues_machine t) limit body × (bytes.items ≡ spelling (Owing body)) × (text ≡ certified_line (Owing body))
+    IsUnambiguous t × ((body : BodyView DuesState) × IsCertified (dues_machine t) limit body × (bytes.items ≡ spelling (Owing body)) × (text ≡ certified_line (Owing body))
     × IsAccepted t (spelling (Owing body)) (counted body))
 IsVerdict t limit Clash text = (left right cells : List ℕ) × IsClash t left right cells × (text ≡ report_text t left right cells)
 IsVerdict t limit Limit text = (states pairs : ℕ) × IsLimit (dues_machine t) limit states pairs × (text ≡ counts_line (codes "limit") states pairs)
@@ -80,21 +77,21 @@ SearchesTable t before behind out limit old new (Err OutputFailed) =
     (verdict : Verdict) × FilesAfter before behind out (cert_of verdict)
     × ((front rest : List ℕ) × IsVerdict t limit verdict (front ++ rest) × Appends old new front)
 SearchesTable t before behind out limit old new (Err (CannotWrite named)) =
-    (new ≡ old) × OthersStay before behind out × (string_bytes named ≡ out) × HasNoClash t
+    (new ≡ old) × OthersStay before behind out × (string_bytes named ≡ out) × IsUnambiguous t
 SearchesTable t before behind out limit old new (Err Memory) = (new ≡ old) × OthersStay before behind out
 SearchesTable t before behind out limit old new (Err fault) = ⊥
 
 -- the same of the table of the file at a path
 abbrev pub Searches : Gives → Gives → List ℕ → List ℕ → ℕ → Option (List ℕ) → Option (List ℕ) → Result Verdict RunFault → Type 0
-Searches before behind path out limit old new (Err (Load fault)) = (new ≡ old) × AllStay before behind × IsFaultAt before path (Load fault)
-Searches before behind path out limit old new (Err (Table fault)) = (new ≡ old) × AllStay before behind × IsFaultAt before path (Table fault)
+Searches before behind path out limit old new (Err (Load fault)) = (new ≡ old) × AllStay before behind × HasNoTable before path (Load fault)
+Searches before behind path out limit old new (Err (Table fault)) = (new ≡ old) × AllStay before behind × HasNoTable before path (Table fault)
 Searches before behind path out limit old new (Err Memory) = (new ≡ old) × OthersStay before behind out
 Searches before behind path out limit old new outcome =
     (t : TableView) × IsTableOf before path t × SearchesTable t before behind out limit old new outcome
 
--- a certificate was written which a judge accepts for the table of the file at the path, and no two texts of that table clash
+-- a certificate was written which a judge accepts for the table of the file at the path, and that table is unambiguous
 abbrev pub ReportsCertificate : Gives → Gives → List ℕ → List ℕ → Option (List ℕ) → Option (List ℕ) → Type 0
 ReportsCertificate before behind path out old new =
-    (t : TableView) × IsTableOf before path t × HasNoClash t
+    (t : TableView) × IsTableOf before path t × IsUnambiguous t
     × ((body : BodyView DuesState) × IsAccepted t (spelling (Owing body)) (counted body)
     × FilesAfter before behind out (Some (spelling (Owing body))) × Appends old new (certified_line (Owing body)))

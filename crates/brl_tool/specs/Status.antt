@@ -1,24 +1,20 @@
 -- The fault that ends the program, and its exit status. This is the project's own choice.
-use Rattle.std.specs.Prelude.{ℕ, ◌≡◌, ◌<◌, ◌⊎◌, Result, Ok, Err}
+use Rattle.std.specs.Prelude.{ℕ, ◌≡◌, ◌<◌, ◌⊎◌, Bool, true, List, Option, Result, Ok, Err}
+use Rattle.std.specs.Io.KnownBytes.{Appends}
 use Rattle.brl_forward.specs.declared.fault.ConfirmFault.{ConfirmFault}
 use Rattle.brl_forward.specs.declared.fault.ConfirmFault.TheVariants as confirm
-use Rattle.brl_lines.specs.declared.fault.LoadFault.{LoadFault}
-use Rattle.brl_lines.specs.declared.fault.LoadFault.TheVariants as load
-use Rattle.brl_reading.specs.declared.table_fault.TableFault.{TableFault}
-use Rattle.brl_reading.specs.declared.table_fault.TableFault.TheVariants as table
+use Rattle.brl_reading.specs.declared.no_table.NoTable.{NoTable}
+use Rattle.brl_reading.specs.declared.no_table.NoTable.TheVariants as no_table
 use Rattle.brl_stream.specs.declared.fault.StreamFault.{StreamFault}
 use Rattle.brl_stream.specs.declared.fault.StreamFault.TheVariants as stream
 use Rattle.brl_tool.specs.declared.run_fault.RunFault.{RunFault}
-use Rattle.brl_tool.specs.declared.run_fault.RunFault.TheVariants.{Load, Table, Stream, Confirm, Wide, Memory}
+use Rattle.brl_tool.specs.declared.run_fault.RunFault.TheVariants.{Load, Table, Stream, Confirm, Wide, OutputFailed, Memory}
 
--- want of memory is the same fault wherever it came
-abbrev pub of_load : LoadFault → RunFault
-of_load load.Memory = Memory
-of_load fault = Load fault
-
-abbrev pub of_table : TableFault → RunFault
-of_table table.Memory = Memory
-of_table fault = Table fault
+-- out of memory is the same fault wherever it came
+abbrev pub of_no_table : NoTable → RunFault
+of_no_table (no_table.Load fault) = Load fault
+of_no_table (no_table.Table fault) = Table fault
+of_no_table no_table.Memory = Memory
 
 abbrev pub of_stream : StreamFault → RunFault
 of_stream stream.Memory = Memory
@@ -44,6 +40,17 @@ status_after finished (Err fault) = status_of fault
 abbrev pub IsStatus : ℕ → Type 0
 IsStatus status = status < 4
 
--- words that ask for no work end with any of these but 1
-abbrev pub IsAnswered : ℕ → Type 0
-IsAnswered status = (status ≡ 0) ⊎ (status ≡ 2) ⊎ (status ≡ 3)
+-- Words that ask for no work: help or the version is written, or nothing where the words have a fault or memory runs out; where the
+-- writer fails, some first bytes may be.
+abbrev pub IsAnswered : Bool → Option (List ℕ) → Option (List ℕ) → ℕ → Type 0
+IsAnswered failed old new status =
+    ((status ≡ 0) × ((text : List ℕ) × Appends old new text))
+    ⊎ (((status ≡ 2) ⊎ (status ≡ 3)) × (new ≡ old))
+    ⊎ ((status ≡ 2) × (failed ≡ true) × ((front : List ℕ) × Appends old new front))
+
+-- a text was printed, or some first bytes of it where the writer failed, or nothing where memory ran out
+abbrev pub Prints : Bool → Option (List ℕ) → Option (List ℕ) → Result (Unit {0}) RunFault → Type 0
+Prints failed old new (Ok done) = (text : List ℕ) × Appends old new text
+Prints failed old new (Err OutputFailed) = (failed ≡ true) × ((front : List ℕ) × Appends old new front)
+Prints failed old new (Err Memory) = new ≡ old
+Prints failed old new (Err fault) = ⊥

@@ -1,8 +1,9 @@
 //! Checking the certificate at one path for the table at another.
-ghost use Rattle.std.specs.Prelude.{◌≤◌, IfErr, IfOk, length};
-ghost use Rattle.brl_lines.specs.Answer.{Holds};
-ghost use Rattle.brl_tool.specs.Checking.{Checks, IsFaultOfFile, Judges};
-ghost use Rattle.brl_tool.specs.Files.{AllStay};
+ghost use Rattle.std.specs.Prelude.{◌≡◌, ◌≤◌, IfErr, IfOk, IsErrOf, length, true};
+ghost use Rattle.brl_lines.specs.Answer.{AllStay, Holds};
+ghost use Rattle.brl_lines.specs.Outcome.{CountsFailure};
+ghost use Rattle.brl_tool.specs.Checking.{AcceptsGood, Checks, IsFaultOfFile, Judges};
+ghost use Rattle.brl_tool.specs.Work.{load_outcome};
 
 use crate::Output;
 use crate::judgement::Judgement;
@@ -16,6 +17,7 @@ fn bytes_at<S: Source>(alloc: Global, source: &mut S, path: &str) -> Result<Vec<
     ensures bytes { IfOk result (λ bytes. S.gives source.old path.now (Holds bytes.items)) }
     ensures short { IfOk result (λ bytes. length bytes.items ≤ 16777216) }
     ensures fault { IfErr result (IsFaultOfFile (S.gives source.old) path.now) }
+    ensures count { CountsFailure (S.faults source.old) (S.faults source.new) (load_outcome result) }
     ensures same { AllStay (S.gives source.old) (S.gives source.new) }
 {
     let kind = match source.read(alloc, path) {
@@ -46,6 +48,8 @@ fn judge_files<S: Source>(
     cert: &str,
 ) -> Result<Judgement, RunFault>
     ensures judges { Judges (S.gives source.old) table.now cert.now result }
+    ensures accepts { AcceptsGood (S.gives source.old) table.now cert.now result }
+    ensures count { CountsFailure (S.faults source.old) (S.faults source.new) (load_outcome result) }
     ensures same { AllStay (S.gives source.old) (S.gives source.new) }
 {
     let bytes = bytes_at(alloc, source, cert)?;
@@ -63,6 +67,9 @@ pub fn check_by_file<S: Source, W: Output>(
     writer: &mut W,
 ) -> Result<Judgement, RunFault>
     ensures checks { Checks (S.gives source.old) table.now cert.now (W.contents writer.old) (W.contents writer.new) result }
+    ensures accepts { AcceptsGood (S.gives source.old) table.now cert.now result }
+    ensures failed { IsErrOf result RunFault.OutputFailed → W.has_failed writer.new ≡ true }
+    ensures count { CountsFailure (S.faults source.old) (S.faults source.new) (load_outcome result) }
     ensures same { AllStay (S.gives source.old) (S.gives source.new) }
 {
     let judgement = judge_files(alloc, source, table, cert)?;

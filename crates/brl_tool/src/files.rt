@@ -42,14 +42,16 @@ pub trait Files: Source {
 }
 
 impl Files for MapSource {
-    ghost use Rattle.std.specs.Prelude.{◌≡◌, Some, OnErr, OnOk};
-    ghost use Rattle.brl_tool.specs.Files.{AllAre, OthersAre, bytes_at};
+    ghost use Rattle.std.specs.Prelude.{◌≡◌, Some, IfErr, OnErr, OnOk};
+    ghost use Rattle.brl_lines.specs.InMemory.{bytes_in};
+    ghost use Rattle.brl_tool.specs.Files.{AllAre, OthersAre};
 
     /// On an error all files stay as they were.
     fn write(&mut self, alloc: Global, path: &str, bytes: &[u8]) -> Result<(), SinkFault>
-        ensures written { OnOk result (bytes_at self.new path.now ≡ Some bytes.now) }
+        ensures written { OnOk result (bytes_in self.new path.now ≡ Some bytes.now) }
         ensures others { OthersAre self.old self.new path.now }
         ensures unchanged { OnErr result (AllAre self.old self.new) }
+        ensures memory { IfErr result (λ fault. fault ≡ SinkFault.Memory) }
     {
         let path = String::from_str(alloc, path)?;
         let bytes = Vec::from_slice(alloc, bytes)?;

@@ -1,5 +1,5 @@
 //! What is found of two texts, and how it is told.
-ghost use Rattle.std.specs.Prelude.{◌≡◌, IfOk};
+ghost use Rattle.std.specs.Prelude.{◌≡◌, IfOk, IsErrOf, true};
 ghost use Rattle.std.specs.Str.{chars};
 ghost use Rattle.brl_tool.specs.Comparing.{Finds};
 
@@ -28,7 +28,8 @@ pub fn compare<W: Output>(
     right: &str,
     writer: &mut W,
 ) -> Result<Finding, RunFault>
-    ensures { Finds table.now (chars left.now) (chars right.now) (W.contents writer.old) (W.contents writer.new) result }
+    ensures finds { Finds table.now (chars left.now) (chars right.now) (W.contents writer.old) (W.contents writer.new) result }
+    ensures failed { IsErrOf result RunFault.OutputFailed → W.has_failed writer.new ≡ true }
 {
     let left = characters(alloc, left)?;
     let right = characters(alloc, right)?;

@@ -33,8 +33,8 @@ impl Judgement {
     {
         match outcome {
             Ok(accepted) => Ok(Judgement::Accepting(accepted)),
-            Err(JudgeFault::Load(fault)) => Err(fault.into()),
-            Err(JudgeFault::Table(fault)) => Err(fault.into()),
+            Err(JudgeFault::Load(fault)) => Err(RunFault::Load(fault)),
+            Err(JudgeFault::Table(fault)) => Err(RunFault::Table(fault)),
             Err(JudgeFault::Cert(fault)) => Ok(Judgement::Unreadable(fault)),
             Err(JudgeFault::Wide(fault)) => Err(RunFault::Wide(fault)),
             Err(JudgeFault::Refused(fault)) => Ok(Judgement::Refusing(fault)),

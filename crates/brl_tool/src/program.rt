@@ -3,10 +3,10 @@ ghost use Rattle.std.specs.Prelude.{◌≡◌, ◌⊎◌};
 ghost use Rattle.std.specs.Str.{chars};
 ghost use Rattle.brl_tool.specs.Checking.{ReportsAcceptance, ReportsRefusal};
 ghost use Rattle.brl_tool.specs.Comparing.{ReportsClash};
-ghost use Rattle.brl_tool.specs.Files.{AllStay};
-ghost use Rattle.brl_tool.specs.Running.{ChecksBy, ComparesBy, Runs, SearchesBy, TranslatesBy};
+ghost use Rattle.brl_lines.specs.Answer.{AllStay};
+ghost use Rattle.brl_tool.specs.Running.{ChecksBy, ComparesBy, Performs, Runs, SearchesBy, TranslatesBy};
 ghost use Rattle.brl_tool.specs.Searching.{ReportsCertificate};
-ghost use Rattle.brl_tool.specs.Status.{IsAnswered, IsStatus, status_of};
+ghost use Rattle.brl_tool.specs.Status.{IsAnswered, IsStatus, Prints, status_of};
 
 use crate::by_file::{compare_by_file, translate_by_file};
 use crate::checking::check_by_file;
@@ -46,24 +46,39 @@ pub fn run<F: Files, I: Input, O: Output, E: Write>(
     err: &mut E,
 ) -> u8
     ensures status { IsStatus result }
-    ensures runs { Runs (F.gives files.old) (F.gives files.new) (I.remaining input.old) (O.contents out.old)
-        (O.contents out.new) result }
+    ensures runs { Runs (F.gives files.old) (F.gives files.new) (I.remaining input.old) (O.has_failed out.new)
+        (O.contents out.old) (O.contents out.new) result }
     ensures clash { result ≡ 1 → ReportsClash (F.gives files.old) (O.contents out.old) (O.contents out.new)
         ⊎ ReportsRefusal (O.contents out.old) (O.contents out.new) }
     ensures same { result ≡ 1 → AllStay (F.gives files.old) (F.gives files.new) }
 {
     match task_of(alloc, words) {
-        Ok(Task::Translate { table, form }) => {
-            translate(alloc, files, table, form, input, out, err)
-        }
-        Ok(Task::Clash { table, left, right }) => {
-            compare(alloc, files, table, left, right, out, err)
-        }
-        Ok(Task::Check { table, cert }) => check(alloc, files, table, cert, out, err),
-        Ok(Task::Search { table, cert, limit }) => {
-            search(alloc, files, table, cert, limit, out, err)
-        }
+        Ok(task) => perform(alloc, task, files, input, out, err),
         Err(reply) => answer(alloc, &reply, out, err),
+    }
+}
+
+/// Does a task, and answers its exit status.
+fn perform<F: Files, I: Input, O: Output, E: Write>(
+    alloc: Global,
+    task: Task<'_>,
+    files: &mut F,
+    input: &mut I,
+    out: &mut O,
+    err: &mut E,
+) -> u8
+    ensures status { IsStatus result }
+    ensures performs { Performs task.entry (F.gives files.old) (F.gives files.new) (I.remaining input.old) (O.has_failed out.new)
+        (O.contents out.old) (O.contents out.new) result }
+    ensures clash { result ≡ 1 → ReportsClash (F.gives files.old) (O.contents out.old) (O.contents out.new)
+        ⊎ ReportsRefusal (O.contents out.old) (O.contents out.new) }
+    ensures same { result ≡ 1 → AllStay (F.gives files.old) (F.gives files.new) }
+{
+    match task {
+        Task::Translate { table, form } => translate(alloc, files, table, form, input, out, err),
+        Task::Clash { table, left, right } => compare(alloc, files, table, left, right, out, err),
+        Task::Check { table, cert } => check(alloc, files, table, cert, out, err),
+        Task::Search { table, cert, limit } => search(alloc, files, table, cert, limit, out, err),
     }
 }
 
@@ -97,8 +112,8 @@ fn compare<S: Source, O: Output, E: Write>(
     out: &mut O,
     err: &mut E,
 ) -> u8
-    ensures compares { ComparesBy (S.gives source.old) table.now (chars left.now) (chars right.now) (O.contents out.old)
-        (O.contents out.new) result }
+    ensures compares { ComparesBy (S.gives source.old) table.now (chars left.now) (chars right.now) (O.has_failed out.new)
+        (O.contents out.old) (O.contents out.new) result }
     ensures same { AllStay (S.gives source.old) (S.gives source.new) }
 {
     match compare_by_file(alloc, source, table, left, right, out) {
@@ -117,7 +132,8 @@ fn check<S: Source, O: Output, E: Write>(
     out: &mut O,
     err: &mut E,
 ) -> u8
-    ensures checks { ChecksBy (S.gives source.old) table.now cert.now (O.contents out.old) (O.contents out.new) result }
+    ensures checks { ChecksBy (S.gives source.old) table.now cert.now (O.has_failed out.new) (O.contents out.old)
+        (O.contents out.new) result }
     // Where it accepts, no two different texts of the table are translated alike.
     ensures accepted { result ≡ 0 → ReportsAcceptance (S.gives source.old) table.now (O.contents out.old) (O.contents out.new) }
     ensures refused { result ≡ 1 → ReportsRefusal (O.contents out.old) (O.contents out.new) }
@@ -139,8 +155,8 @@ fn search<F: Files, O: Output, E: Write>(
     out: &mut O,
     err: &mut E,
 ) -> u8
-    ensures searches { SearchesBy (F.gives files.old) (F.gives files.new) table.now cert.now (O.contents out.old)
-        (O.contents out.new) result }
+    ensures searches { SearchesBy (F.gives files.old) (F.gives files.new) table.now cert.now limit (O.has_failed out.new)
+        (O.contents out.old) (O.contents out.new) result }
     // Where it finds a certificate, no two texts of the table clash, and the certificate is written.
     ensures certified { result ≡ 0 → ReportsCertificate (F.gives files.old) (F.gives files.new) table.now cert.now
         (O.contents out.old) (O.contents out.new) }
@@ -164,7 +180,7 @@ fn tell<E: Write>(fault: &RunFault, err: &mut E) -> u8
 
 /// Answers words that ask for no work: help and the version go to standard output, a use fault to standard error.
 fn answer<O: Output, E: Write>(alloc: Global, reply: &NoTask, out: &mut O, err: &mut E) -> u8
-    ensures { IsAnswered result }
+    ensures { IsAnswered (O.has_failed out.new) (O.contents out.old) (O.contents out.new) result }
 {
     if reply.is_fault() {
         let _ = write!(err, "{reply}");
@@ -177,7 +193,9 @@ fn answer<O: Output, E: Write>(alloc: Global, reply: &NoTask, out: &mut O, err: 
 }
 
 /// Prints help or the version.
-fn print<O: Output>(alloc: Global, reply: &NoTask, out: &mut O) -> Result<(), RunFault> {
+fn print<O: Output>(alloc: Global, reply: &NoTask, out: &mut O) -> Result<(), RunFault>
+    ensures { Prints (O.has_failed out.new) (O.contents out.old) (O.contents out.new) result }
+{
     let text = format!(in alloc; "{reply}")?;
     out.put(text.as_bytes())?;
     Ok(())

@@ -2,7 +2,7 @@
 use crate::{Failed, StreamFault};
 use brl_forward::ConfirmFault;
 use brl_lines::LoadFault;
-use brl_reading::TableFault;
+use brl_reading::{NoTable, TableFault};
 use brl_window::TooWide;
 use std::alloc::AllocError;
 use thiserror::Error;
@@ -73,30 +73,17 @@ impl From<AllocError> for RunFault {
     }
 }
 
-impl From<LoadFault> for RunFault {
+impl From<NoTable> for RunFault {
     ghost use Rattle.std.specs.Prelude.{◌≡◌};
-    ghost use Rattle.brl_tool.specs.Status.{of_load};
+    ghost use Rattle.brl_tool.specs.Status.{of_no_table};
 
-    ghost from_gives = { λ load fault. fault ≡ of_load load };
+    ghost from_gives = { λ none fault. fault ≡ of_no_table none };
 
-    fn from(fault: LoadFault) -> RunFault {
+    fn from(fault: NoTable) -> RunFault {
         match fault {
-            LoadFault::Memory => RunFault::Memory,
-            refused => RunFault::Load(refused),
-        }
-    }
-}
-
-impl From<TableFault> for RunFault {
-    ghost use Rattle.std.specs.Prelude.{◌≡◌};
-    ghost use Rattle.brl_tool.specs.Status.{of_table};
-
-    ghost from_gives = { λ table fault. fault ≡ of_table table };
-
-    fn from(fault: TableFault) -> RunFault {
-        match fault {
-            TableFault::Memory => RunFault::Memory,
-            refused => RunFault::Table(refused),
+            NoTable::Load(refused) => RunFault::Load(refused),
+            NoTable::Table(refused) => RunFault::Table(refused),
+            NoTable::Memory => RunFault::Memory,
         }
     }
 }

@@ -1,13 +1,15 @@
 //! Searching the table at one path for a certificate that is written to another.
-ghost use Rattle.std.specs.Prelude.{IfErr, IsSome, OnErr, OnOk};
+ghost use Rattle.std.specs.Prelude.{◌≡◌, IfErr, IsErrOf, IsSome, OnErr, OnOk, true};
+ghost use Rattle.brl_lines.specs.Outcome.{CountsFailure};
 ghost use Rattle.brl_tool.specs.Files.{FilesAfter, GivesAlso, OthersStay};
 ghost use Rattle.brl_tool.specs.Searching.{IsFaultOfOut, Searches, SearchesTable, cert_of};
+ghost use Rattle.brl_tool.specs.Work.{load_outcome};
 
-use crate::by_file::table_at;
 use crate::notices::tell_notices;
 use crate::run_fault::RunFault;
 use crate::verdict::{Verdict, decide};
 use crate::{Files, Output, SinkFault};
+use brl_reading::load_table;
 use brl_table::Table;
 use std::alloc::Global;
 use std::io::Write;
@@ -22,6 +24,7 @@ fn write_at<F: Files>(
     ensures written { OnOk result (GivesAlso (F.gives files.new) path.now bytes.now) }
     ensures others { OthersStay (F.gives files.old) (F.gives files.new) path.now }
     ensures fault { IfErr result (IsFaultOfOut path.now) }
+    ensures count { F.faults files.new ≡ F.faults files.old }
 {
     match files.write(alloc, path, bytes) {
         Ok(()) => Ok(()),
@@ -44,6 +47,7 @@ fn keep<F: Files>(
     ensures others { OthersStay (F.gives files.old) (F.gives files.new) path.now }
     ensures fault { IfErr result (IsFaultOfOut path.now) }
     ensures certified { OnErr result (IsSome (cert_of verdict.now)) }
+    ensures count { F.faults files.new ≡ F.faults files.old }
 {
     match verdict {
         Verdict::Certified(bytes) => write_at(alloc, files, path, bytes.as_slice()),
@@ -63,10 +67,12 @@ pub fn search_by_file<F: Files, W: Output, E: Write>(
     writer: &mut W,
     err: &mut E,
 ) -> Result<Verdict, RunFault>
-    ensures { Searches (F.gives files.old) (F.gives files.new) path.now out.now limit (W.contents writer.old)
+    ensures searches { Searches (F.gives files.old) (F.gives files.new) path.now out.now limit (W.contents writer.old)
         (W.contents writer.new) result }
+    ensures failed { IsErrOf result RunFault.OutputFailed → W.has_failed writer.new ≡ true }
+    ensures count { CountsFailure (F.faults files.old) (F.faults files.new) (load_outcome result) }
 {
-    let table = table_at(alloc, files, path)?;
+    let table = load_table(alloc, files, path)?;
     search_table(alloc, files, &table, out, limit, writer, err)
 }
 
@@ -80,8 +86,10 @@ fn search_table<F: Files, W: Output, E: Write>(
     writer: &mut W,
     err: &mut E,
 ) -> Result<Verdict, RunFault>
-    ensures { SearchesTable table.now (F.gives files.old) (F.gives files.new) out.now limit (W.contents writer.old)
+    ensures searches { SearchesTable table.now (F.gives files.old) (F.gives files.new) out.now limit (W.contents writer.old)
         (W.contents writer.new) result }
+    ensures failed { IsErrOf result RunFault.OutputFailed → W.has_failed writer.new ≡ true }
+    ensures count { F.faults files.new ≡ F.faults files.old }
 {
     tell_notices(alloc, table, err)?;
     let told = decide(alloc, table, limit)?;

@@ -2,16 +2,18 @@ use Rattle.std.proofs.Common.{◌∙◌}
 use Rattle.std.proofs.lemmas.Result.{err_from_is_err_and}
 use Rattle.std.specs.Prelude.{option_map, string_bytes}
 use Rattle.brl_lines.specs.Views.{files_view, place_view}
-use Rattle.brl_lines.proofs.LoadLemmas.{file-given, refusal-given, slices-given, turn-smaller}
+use Rattle.brl_lines.proofs.LoadLemmas.{file-given, load-fault, refusal-given, slices-given, turn-smaller}
 use Rattle.brl_lines.proofs.loaded.load.Goals as goal
 
-pub returns-in_err-file-clause-lines : goal.returns-in_err-file-clause-lines
-returns-in_err-file-clause-lines g c =
+pub returns-in_err-file-clause-fault : goal.returns-in_err-file-clause-fault
+returns-in_err-file-clause-fault g c =
     let asks = rw c.as_slice.ensures.value at (rw c.in-Some.is at c.in_ok-wanted.ensures) in
     let p = err_from_is_err_and c.from_residual-in_err-file.result c.from_residual-in_err-file.ensures.1 in
     let told = refusal-given (g.S.Source.gives c.args.source.now) (g.S.Source.gives c.loop-files.source) (λ path a. (c.loop-files.invariant.same path a).0) c.loop-files.files.items c.loop-files.invariant.given
     (string_bytes c.in-Some.wanted.path) (option_map place_view c.in-Some.wanted.place) c.args.root.now c.in_err-file.field-0.0 asks c.in_err-file.ensures.read in
-    (told.0, told.1, rw (p.1, p.2) told.2)
+    rw (p.1, p.2)
+    (load-fault (g.S.Source.gives c.args.source.now) (g.S.Source.gives c.loop-files.source) (λ path a. (c.loop-files.invariant.same path a).0) c.args.root.now c.in_err-file.field-0.0 told
+    c.in_err-file.ensures.failed)
 
 pub loop-files-smaller : goal.loop-files-smaller
 loop-files-smaller g c =

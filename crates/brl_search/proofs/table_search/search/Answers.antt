@@ -1,4 +1,4 @@
-use Rattle.std.proofs.Common.{slice_get, sym, ◌∙◌, subst}
+use Rattle.std.proofs.Common.{slice_get, subst}
 use Rattle.brl_cert.specs.Sets.{pair_at, sets_of}
 use Rattle.brl_cert.specs.Views.{listed}
 use Rattle.brl_dues.specs.Steps.{dues_machine}
@@ -15,12 +15,11 @@ returns-in-Closed-clause-closed c =
     subst (λ (t : TableView). IsClosed (dues_machine t) (sets_of (listed c.in-Closed.body.states c.in-Closed.body.pairs))) c.new-dues.ensures.table certified.closed
 
 pub returns-in-Closed-clause-unambiguous : goal.returns-in-Closed-clause-unambiguous
-returns-in-Closed-clause-unambiguous c left right cells clash =
+returns-in-Closed-clause-unambiguous c =
     let certified : IsCertified (dues_machine c.new-dues.result) c.args.limit (listed c.in-Closed.body.states c.in-Closed.body.pairs) = subst (IsOutcome (dues_machine c.new-dues.result) c.args.limit) c.in-Closed.is c.in_ok-body.ensures in
     let body = listed c.in-Closed.body.states c.in-Closed.body.pairs in
     let machine : IsUnambiguous (dues_machine c.new-dues.result) = c.numbered_sets_law.ensures (slice_get body.states) (pair_at body) certified.closed in
-    let table : IsUnambiguous (dues_machine c.args.table.now) = subst (λ (t : TableView). IsUnambiguous (dues_machine t)) c.new-dues.ensures.table machine in
-    clash.differ (table left right clash.left_text clash.right_text (clash.left_cells ∙ sym clash.right_cells))
+    subst (λ (t : TableView). IsUnambiguous (dues_machine t)) c.new-dues.ensures.table machine
 
 pub returns-in-Limit-clause-decides : goal.returns-in-Limit-clause-decides
 returns-in-Limit-clause-decides c few_states few_pairs =

@@ -1,7 +1,7 @@
 use Rattle.std.proofs.Common.{rules, ◌≡◌, subst, map}
 use Rattle.brl_lines.specs.Views.{line_view}
 use Rattle.brl_reading.specs.Reading.{table_of, PassesAll}
-use Rattle.brl_tool.proofs.by_file.table_at.Goals as goal
+use Rattle.brl_reading.proofs.files.load_table.Goals as goal
 
 pub returns-clause-table : goal.returns-clause-table
 returns-clause-table g c =
