@@ -1,6 +1,6 @@
 -- What a judge's outcome says of the table and the certificate.
-use Rattle.std.proofs.Common.{◌≡◌, ◌≢◌, ℕ, ◌≤◌, ◌⊎◌, inl, inr, List, Result, Ok, Err, IfErr, IfOk, OnOk, refl, sym, ◌∙◌, ap, subst, arith}
-use Rattle.brl_accept.specs.Judging.{IsAccepted, IsAcceptedWith, IsNotAccepted, IsNotClosed, IsRefusedBy, IsRefusedFor, IsRefusedWith, of_accept, of_no_table}
+use Rattle.std.proofs.Common.{◌≡◌, ◌≢◌, ℕ, ◌⊎◌, inl, inr, List, Result, Ok, Err, IfErr, IfOk, OnOk, refl, sym, ◌∙◌, ap, subst}
+use Rattle.brl_accept.specs.Judging.{IsAccepted, IsAcceptedWith, IsNotAccepted, IsNotClosed, IsRefusedBy, IsRefusedFor, IsRefusedWith, counted, of_accept, of_no_table}
 use Rattle.brl_accept.specs.Refusals.{IsRefused}
 use Rattle.brl_accept.specs.declared.accept_fault.AcceptFault.{AcceptFault}
 use Rattle.brl_accept.specs.declared.accept_fault.AcceptFault.TheVariants as accept
@@ -8,45 +8,38 @@ use Rattle.brl_accept.specs.declared.accepted.Accepted.{Accepted}
 use Rattle.brl_accept.specs.declared.judge_fault.JudgeFault.{JudgeFault}
 use Rattle.brl_accept.specs.declared.judge_fault.JudgeFault.TheVariants.{Load, Table, Cert, Wide, Refused, Memory}
 use Rattle.brl_accept.proofs.Closing.{open_where_refused}
-use Rattle.brl_cert.specs.Lines.{BodyView}
+use Rattle.brl_cert.specs.Kinds.{HasMachine, IsClosedFor, OfMachine}
 use Rattle.brl_cert.specs.Reading.{CertView, Owing, Windows, reading}
 use Rattle.brl_cert.specs.declared.fault.Wrong.{Wrong}
 use Rattle.brl_cert.specs.declared.fault.CertFault.TheVariants as cert
 use Rattle.brl_lines.specs.Answer.{Gives}
-use Rattle.brl_lines.specs.declared.fault.LoadFault.{LoadFault}
 use Rattle.brl_reading.specs.Files.{IsFaultAt, IsTableOf}
 use Rattle.brl_reading.specs.declared.no_table.NoTable.{NoTable}
 use Rattle.brl_reading.specs.declared.no_table.NoTable.TheVariants as no_table
 use Rattle.brl_table.specs.TableView.{TableView}
 use Rattle.brl_table.specs.Translation.{IsUnambiguous}
-use Rattle.brl_reading.specs.declared.table_fault.TableFault.{TableFault}
-use Rattle.brl_window.specs.Width.{start_moves}
 use Rattle.brl_window.specs.Windows.{window_machine}
 use Rattle.brl_dues.specs.Steps.{dues_machine}
-use Rattle.brl_dues.specs.declared.state.DuesState.{DuesState}
-use Rattle.brl_pairs.specs.Runs.{Behaviour}
-use Rattle.brl_window.specs.declared.state.WindowState.{WindowState}
-
--- the refusal of the checker
-refused_as : {S : Type 0} (m : Behaviour S) (body : BodyView S) (Refuses : JudgeFault → Type 0) → ((fault : AcceptFault) → IsNotClosed m body fault → Refuses (Refused fault)) → Refuses Memory → (fault : AcceptFault) → IsRefused m body fault → Refuses (of_accept fault)
-refused_as m body Refuses is memory accept.NoStart h = is accept.NoStart ((λ e. cc), h)
-refused_as m body Refuses is memory (accept.StateMissing state rule) h = is (accept.StateMissing state rule) ((λ e. cc), h)
-refused_as m body Refuses is memory (accept.SplitMissing state lesser greater) h = is (accept.SplitMissing state lesser greater) ((λ e. cc), h)
-refused_as m body Refuses is memory (accept.PairMissing pair rule) h = is (accept.PairMissing pair rule) ((λ e. cc), h)
-refused_as m body Refuses is memory (accept.BothEnd pair) h = is (accept.BothEnd pair) ((λ e. cc), h)
-refused_as m body Refuses is memory accept.Memory h = memory
-
-pub refused_windows : (t : TableView) (body : BodyView WindowState) → start_moves t ≤ 10000 → (fault : AcceptFault) → IsRefused (window_machine t) body fault → IsRefusedWith t (Windows body) (of_accept fault)
-refused_windows t body narrow = refused_as (window_machine t) body (IsRefusedWith t (Windows body)) (λ fault h. (narrow, h)) tt
-
-pub refused_dues : (t : TableView) (body : BodyView DuesState) (fault : AcceptFault) → IsRefused (dues_machine t) body fault → IsRefusedWith t (Owing body) (of_accept fault)
-refused_dues t body = refused_as (dues_machine t) body (IsRefusedWith t (Owing body)) (λ fault h. h) tt
 
 -- the same numbers
-same_counts : (one other : Accepted) → one.states ≡ other.states → one.pairs ≡ other.pairs → one ≡ other
+pub same_counts : (one other : Accepted) → one.states ≡ other.states → one.pairs ≡ other.pairs → one ≡ other
 same_counts one other states pairs =
     subst (λ (n : ℕ). ◌≡◌ {A = Accepted} one (record { states = n; pairs = other.pairs })) states
     (subst (λ (n : ℕ). ◌≡◌ {A = Accepted} one (record { states = one.states; pairs = n })) pairs refl)
+
+-- the refusal of the checker
+refused_as : (t : TableView) (cert : CertView) → HasMachine t cert → ((fault : AcceptFault) → OfMachine (λ S m body. IsRefused m body fault) t cert → fault ≢ accept.Memory → OfMachine (IsNotClosed fault) t cert)
+    → (fault : AcceptFault) → OfMachine (λ S m body. IsRefused m body fault) t cert → IsRefusedWith t cert (of_accept fault)
+refused_as t cert has is accept.NoStart h = (has, is accept.NoStart h (λ e. cc))
+refused_as t cert has is (accept.StateMissing state rule) h = (has, is (accept.StateMissing state rule) h (λ e. cc))
+refused_as t cert has is (accept.SplitMissing state lesser greater) h = (has, is (accept.SplitMissing state lesser greater) h (λ e. cc))
+refused_as t cert has is (accept.PairMissing pair rule) h = (has, is (accept.PairMissing pair rule) h (λ e. cc))
+refused_as t cert has is (accept.BothEnd pair) h = (has, is (accept.BothEnd pair) h (λ e. cc))
+refused_as t cert has is accept.Memory h = tt
+
+pub refused_with : (t : TableView) (cert : CertView) → HasMachine t cert → (fault : AcceptFault) → OfMachine (λ S m body. IsRefused m body fault) t cert → IsRefusedWith t cert (of_accept fault)
+refused_with t (Windows body) has fault h = refused_as t (Windows body) has (λ fault h apart. (apart, h)) fault h
+refused_with t (Owing body) has fault h = refused_as t (Owing body) has (λ fault h apart. (apart, h)) fault h
 
 -- what is refused is nowhere accepted
 one_cert : (bytes : List ℕ) (a b : CertView) → reading bytes ≡ Ok a → reading bytes ≡ Ok b → a ≡ b
@@ -55,19 +48,17 @@ one_cert bytes a b e f = cc
 no_cert : (bytes : List ℕ) (wrong : Wrong × ℕ) (cert : CertView) → reading bytes ≡ Err wrong → reading bytes ≡ Ok cert → ⊥
 no_cert bytes wrong cert e f = cc
 
+not_closed : (t : TableView) (cert : CertView) (fault : AcceptFault) → OfMachine (IsNotClosed fault) t cert → IsClosedFor t cert → ⊥
+not_closed t (Windows body) fault h closed = open_where_refused (window_machine t) body fault h.1 h.0 closed
+not_closed t (Owing body) fault h closed = open_where_refused (dues_machine t) body fault h.1 h.0 closed
+
 pub not_accepted_with : (t : TableView) (cert : CertView) (fault : JudgeFault) → IsRefusedWith t cert fault → fault ≢ Memory → (accepted : Accepted) → IsAcceptedWith t cert accepted → ⊥
-not_accepted_with t (Windows body) (Load fault) h apart accepted is = h
-not_accepted_with t (Windows body) (Table fault) h apart accepted is = h
-not_accepted_with t (Windows body) (Cert fault) h apart accepted is = h
-not_accepted_with t (Windows body) (Wide fault) h apart accepted is = (let narrow : start_moves t ≤ 10000 = is.0 in absurd (omega (arith, h)))
-not_accepted_with t (Windows body) (Refused fault) h apart accepted is = open_where_refused (window_machine t) body fault h.1.1 h.1.0 is.1.closed
-not_accepted_with t (Windows body) Memory h apart accepted is = apart refl
-not_accepted_with t (Owing body) (Load fault) h apart accepted is = h
-not_accepted_with t (Owing body) (Table fault) h apart accepted is = h
-not_accepted_with t (Owing body) (Cert fault) h apart accepted is = h
-not_accepted_with t (Owing body) (Wide fault) h apart accepted is = h
-not_accepted_with t (Owing body) (Refused fault) h apart accepted is = open_where_refused (dues_machine t) body fault h.1 h.0 is.closed
-not_accepted_with t (Owing body) Memory h apart accepted is = apart refl
+not_accepted_with t cert (Load fault) h apart accepted is = h
+not_accepted_with t cert (Table fault) h apart accepted is = h
+not_accepted_with t cert (Cert fault) h apart accepted is = h
+not_accepted_with t cert (Wide fault) h apart accepted is = h is.0
+not_accepted_with t cert (Refused fault) h apart accepted is = not_closed t cert fault h.1 is.1
+not_accepted_with t cert Memory h apart accepted is = apart refl
 
 module _ (t : TableView) (bytes : List ℕ) where
   by_cert : (fault : JudgeFault) → (cert : CertView) × (reading bytes ≡ Ok cert) × IsRefusedWith t cert fault → fault ≢ Memory → (accepted : Accepted) → IsAccepted t bytes accepted → ⊥
@@ -83,26 +74,13 @@ module _ (t : TableView) (bytes : List ℕ) where
   not_accepted_for (Refused fault) h apart accepted is = by_cert (Refused fault) h apart accepted is
   not_accepted_for Memory h apart accepted is = apart refl
 
--- no certificate is refused by an earlier stage
-by_load : (t : TableView) (cert : CertView) (fault : LoadFault) → IsRefusedWith t cert (Load fault) → ⊥
-by_load t (Windows body) fault h = h
-by_load t (Owing body) fault h = h
-
-by_table : (t : TableView) (cert : CertView) (fault : TableFault) → IsRefusedWith t cert (Table fault) → ⊥
-by_table t (Windows body) fault h = h
-by_table t (Owing body) fault h = h
-
 -- ---- Over what the source gives
-
-two_counts : (t : TableView) (cert : CertView) (one other : Accepted) → IsAcceptedWith t cert one → IsAcceptedWith t cert other → one ≡ other
-two_counts t (Windows body) one other h k = same_counts one other (h.1.states ∙ sym k.1.states) (h.1.pairs ∙ sym k.1.pairs)
-two_counts t (Owing body) one other h k = same_counts one other (h.states ∙ sym k.states) (h.pairs ∙ sym k.pairs)
 
 module _ (gives : Gives) (root bytes : List ℕ) where
   -- a refusal of the table is one of the last stages
   pub refused_behind : (t : TableView) (fault : JudgeFault) → IsTableOf gives root t → IsRefusedFor t bytes fault → IsRefusedBy gives root bytes fault
-  refused_behind t (Load fault) is h = absurd (by_load t h.0 fault h.2)
-  refused_behind t (Table fault) is h = absurd (by_table t h.0 fault h.2)
+  refused_behind t (Load fault) is h = absurd h.2
+  refused_behind t (Table fault) is h = absurd h.2
   refused_behind t (Cert fault) is h = (t, is, h, not_accepted_for t bytes (Cert fault) h (λ e. cc))
   refused_behind t (Wide fault) is h = (t, is, h, not_accepted_for t bytes (Wide fault) h (λ e. cc))
   refused_behind t (Refused fault) is h = (t, is, h, not_accepted_for t bytes (Refused fault) h (λ e. cc))
@@ -138,7 +116,7 @@ module _ (gives : Gives) (root bytes : List ℕ) where
     accepted_alike other h =
         let here = subst (λ (u : TableView). IsAccepted u bytes other) (sym (one_table h.0 h.1)) h.3 in
         let cert : here.0 ≡ deserved.0 = one_cert bytes here.0 deserved.0 here.1 deserved.1 in
-        two_counts t deserved.0 other accepted (subst (λ (c : CertView). IsAcceptedWith t c other) cert here.2) deserved.2
+        here.2.2 ∙ ap counted cert ∙ sym deserved.2.2
 
     -- what the judge answers: acceptance, unless memory ran out
     pub decided : (result : Result Accepted JudgeFault) → IfOk result (λ other. (u : TableView) × IsTableOf gives root u × IsUnambiguous u × IsAccepted u bytes other)

@@ -1,53 +1,44 @@
 -- What makes a judge accept a certificate for the table of some files, and why it refuses. The project's own choice.
-use Rattle.std.specs.Prelude.{ℕ, ◌≡◌, ◌≢◌, ◌<◌, ◌≤◌, List, length, Result, Ok, Err}
+use Rattle.std.specs.Prelude.{ℕ, ◌≡◌, ◌≢◌, List, Result, Ok, Err}
 use Rattle.brl_accept.specs.Refusals.{IsRefused}
-use Rattle.brl_cert.specs.Sets.{sets_of}
+use Rattle.brl_cert.specs.Kinds.{HasMachine, IsClosedFor, OfMachine, pair_count, state_count}
 use Rattle.brl_accept.specs.declared.accept_fault.AcceptFault.{AcceptFault}
 use Rattle.brl_accept.specs.declared.accept_fault.AcceptFault.TheVariants as accept
 use Rattle.brl_accept.specs.declared.accepted.Accepted.{Accepted}
 use Rattle.brl_accept.specs.declared.judge_fault.JudgeFault.{JudgeFault}
 use Rattle.brl_accept.specs.declared.judge_fault.JudgeFault.TheVariants.{Load, Table, Cert, Wide, Refused, Memory}
 use Rattle.brl_cert.specs.Lines.{BodyView}
-use Rattle.brl_cert.specs.Reading.{CertView, Owing, Windows, reading, IsFaultOf}
+use Rattle.brl_cert.specs.Reading.{CertView, reading, IsFaultOf}
 use Rattle.brl_cert.specs.declared.fault.CertFault.{CertFault}
 use Rattle.brl_cert.specs.declared.fault.CertFault.TheVariants as cert
-use Rattle.brl_dues.specs.Steps.{dues_machine}
 use Rattle.brl_lines.specs.Answer.{Gives}
 use Rattle.brl_lines.specs.declared.fault.LoadFault.{LoadFault}
 use Rattle.brl_lines.specs.declared.fault.LoadFault.TheVariants as load
-use Rattle.brl_pairs.specs.Pairs.{IsClosed}
 use Rattle.brl_pairs.specs.Runs.{Behaviour}
 use Rattle.brl_reading.specs.Files.{IsFaultAt, IsTableOf}
 use Rattle.brl_reading.specs.declared.no_table.NoTable.{NoTable}
 use Rattle.brl_reading.specs.declared.no_table.NoTable.TheVariants as no_table
 use Rattle.brl_table.specs.TableView.{TableView}
-use Rattle.brl_window.specs.Width.{start_moves}
-use Rattle.brl_window.specs.Windows.{window_machine}
 
 -- ---- Of a table and a certificate that was read
 
--- the states and pairs are closed for the machine, and this is how many there are
-pub record IsClosedAs {S : Type 0} (m : Behaviour S) (body : BodyView S) (accepted : Accepted) : Type 0 where
-  pub closed : IsClosed m (sets_of body)
-  pub states : accepted.states ≡ length body.states
-  pub pairs : accepted.pairs ≡ length body.pairs
+-- what the acceptance of a certificate says of it: how many states and pairs it lists
+abbrev pub counted : CertView → Accepted
+counted cert = record { states = state_count cert; pairs = pair_count cert }
 
--- the states and pairs are closed for the machine of the certificate's version; for a window
--- machine the table isn't too wide
+-- the table has the machine of the certificate's version, and the states and pairs are closed for it
 abbrev pub IsAcceptedWith : TableView → CertView → Accepted → Type 0
-IsAcceptedWith t (Windows body) accepted = (start_moves t ≤ 10000) × IsClosedAs (window_machine t) body accepted
-IsAcceptedWith t (Owing body) accepted = IsClosedAs (dues_machine t) body accepted
+IsAcceptedWith t cert accepted = HasMachine t cert × IsClosedFor t cert × (accepted ≡ counted cert)
 
 -- a refusal of the checker for a machine's states and pairs
-abbrev pub IsNotClosed : {S : Type 0} → Behaviour S → BodyView S → AcceptFault → Type 0
-IsNotClosed m body fault = (fault ≢ accept.Memory) × IsRefused m body fault
+abbrev pub IsNotClosed : AcceptFault → (S : Type 0) → Behaviour S → BodyView S → Type 0
+IsNotClosed fault S m body = (fault ≢ accept.Memory) × IsRefused m body fault
 
--- the table is too wide for a window machine, or else the states and pairs aren't closed; an
+-- the table is too wide for the machine of the certificate's version, or else the states and pairs aren't closed; an
 -- allocation may fail at any table
 abbrev pub IsRefusedWith : TableView → CertView → JudgeFault → Type 0
-IsRefusedWith t (Windows body) (Wide fault) = 10000 < start_moves t
-IsRefusedWith t (Windows body) (Refused fault) = (start_moves t ≤ 10000) × IsNotClosed (window_machine t) body fault
-IsRefusedWith t (Owing body) (Refused fault) = IsNotClosed (dues_machine t) body fault
+IsRefusedWith t cert (Wide fault) = HasMachine t cert → ⊥
+IsRefusedWith t cert (Refused fault) = HasMachine t cert × OfMachine (IsNotClosed fault) t cert
 IsRefusedWith t cert Memory = Unit {0}
 IsRefusedWith t cert fault = ⊥
 

@@ -7,3 +7,4 @@ pub mod Reading
 pub mod Valid
 pub mod Views
 pub mod Sets
+pub mod Kinds

@@ -1,4 +1,8 @@
 //! Certificates.
+ghost use Rattle.std.specs.Prelude.{◌≡◌};
+ghost use Rattle.brl_cert.specs.Kinds.{pair_count, state_count};
+ghost use Rattle.brl_cert.specs.Views.{cert_view};
+
 use crate::Body;
 use brl_dues::DuesState;
 use brl_window::WindowState;
@@ -10,4 +14,17 @@ pub enum Cert {
     Window(Body<WindowState>),
     /// Version 2: states of a dues machine.
     Dues(Body<DuesState>),
+}
+
+impl Cert {
+    /// How many states and how many pairs it lists.
+    pub fn counts(&self) -> (usize, usize)
+        ensures states { result.0 ≡ state_count (cert_view self.now) }
+        ensures pairs { result.1 ≡ pair_count (cert_view self.now) }
+    {
+        match self {
+            Cert::Window(body) => (body.states.len(), body.pairs.len()),
+            Cert::Dues(body) => (body.states.len(), body.pairs.len()),
+        }
+    }
 }

@@ -14,7 +14,7 @@ mod reader;
 mod reading;
 mod reading_fields;
 mod reading_lines;
-mod state_line;
+mod version;
 mod writing;
 
 pub use body::Body;
@@ -24,5 +24,5 @@ pub use fault::{CertFault, Wrong};
 pub use laws::certificate_laws;
 pub use pair::CertPair;
 pub use reading::read_cert;
-pub use state_line::StateLine;
+pub use version::{Version, Version1, Version2};
 pub use writing::write_cert;

@@ -9,19 +9,19 @@ ghost use Rattle.brl_cert.specs.declared.line.Line.TheVariants.{State, Pair, End
 use crate::line::Line;
 use crate::reading_lines::read_line;
 use crate::writing::push_line;
-use crate::{Body, CertFault, CertPair, Members, StateLine, Wrong};
+use crate::{Body, CertFault, CertPair, Members, Version, Wrong};
 use std::alloc::Global;
 
 /// What the lines so far gave.
 #[derive(Drop)]
-pub struct Reader<S: StateLine> {
-    pub states: Members<S>,
+pub struct Reader<V: Version> {
+    pub states: Members<V::State>,
     pub pairs: Members<CertPair>,
     pub ghost in_range: { All (IsPairOf (length states)) pairs },
 }
 
-impl<S: StateLine> Reader<S> {
-    pub fn new(alloc: Global) -> Reader<S>
+impl<V: Version> Reader<V> {
+    pub fn new(alloc: Global) -> Reader<V>
         ensures states { result.states ≡ [] }
         ensures pairs { result.pairs ≡ [] }
     {
@@ -32,7 +32,7 @@ impl<S: StateLine> Reader<S> {
     }
 
     /// What was read, as a body.
-    pub fn into_body(self) -> Body<S>
+    pub fn into_body(self) -> Body<V::State>
         requires few_states { length self.states ≤ 4294967295 }
         requires few_pairs { length self.pairs ≤ 4294967295 }
         ensures states { result.states ≡ self.states }
@@ -43,7 +43,7 @@ impl<S: StateLine> Reader<S> {
     }
 
     /// Whether a line may stand here.
-    fn may_stand(&self, line: &Line<S>) -> bool
+    fn may_stand(&self, line: &Line<V::State>) -> bool
         ensures { result ≡ may_stand (listed self.now.states self.now.pairs) line.now }
     {
         match line {
@@ -54,13 +54,13 @@ impl<S: StateLine> Reader<S> {
     }
 
     /// What a line of this number stands for by its form alone.
-    fn read(&self, alloc: Global, number: u64, bytes: &[u8]) -> Result<Line<S>, CertFault>
-        ensures line { IfOk result (λ line. placed number (line_of S.form (listed self.now.states self.now.pairs) bytes.now) ≡ Ok line) }
+    fn read(&self, alloc: Global, number: u64, bytes: &[u8]) -> Result<Line<V::State>, CertFault>
+        ensures line { IfOk result (λ line. placed number (line_of V.form (listed self.now.states self.now.pairs) bytes.now) ≡ Ok line) }
         ensures lead { IfOk result HasShortLead }
         ensures stands { IfOk result (λ line. may_stand (listed self.now.states self.now.pairs) line ≡ true) }
-        ensures fault { IfErr result (IsFaultOf (placed number (line_of S.form (listed self.now.states self.now.pairs) bytes.now))) }
+        ensures fault { IfErr result (IsFaultOf (placed number (line_of V.form (listed self.now.states self.now.pairs) bytes.now))) }
     {
-        let Some(line) = read_line::<S>(alloc, bytes)? else {
+        let Some(line) = read_line::<V>(alloc, bytes)? else {
             return Err(CertFault::Refused {
                 wrong: Wrong::Syntax,
                 line: number,
@@ -73,7 +73,7 @@ impl<S: StateLine> Reader<S> {
             });
         }
         let mut spelled = Vec::new(alloc);
-        push_line(alloc, &mut spelled, &line)?;
+        push_line::<V>(alloc, &mut spelled, &line)?;
         if spelled.as_slice() == bytes {
             Ok(line)
         } else {
@@ -85,10 +85,10 @@ impl<S: StateLine> Reader<S> {
     }
 
     /// Adds the state of the line of this number.
-    fn add_state(&mut self, number: u64, state: S) -> Result<(), CertFault>
+    fn add_state(&mut self, number: u64, state: V::State) -> Result<(), CertFault>
         requires { length self.old.pairs ≡ 0 }
-        ensures ok { OnOk result (placed number (add_line S.form (listed self.old.states self.old.pairs) (State state)) ≡ Ok (listed self.new.states self.new.pairs)) }
-        ensures fault { IfErr result (IsFaultOf (placed number (add_line S.form (listed self.old.states self.old.pairs) (State state)))) }
+        ensures ok { OnOk result (placed number (add_line V.form (listed self.old.states self.old.pairs) (State state)) ≡ Ok (listed self.new.states self.new.pairs)) }
+        ensures fault { IfErr result (IsFaultOf (placed number (add_line V.form (listed self.old.states self.old.pairs) (State state)))) }
     {
         if self.states.insert(state)? {
             Ok(())
@@ -103,8 +103,8 @@ impl<S: StateLine> Reader<S> {
     /// Adds the pair of the line of this number.
     fn add_pair(&mut self, number: u64, pair: CertPair) -> Result<(), CertFault>
         requires { length pair.lead ≤ 1024 }
-        ensures ok { OnOk result (placed number (add_line S.form (listed self.old.states self.old.pairs) (Pair pair)) ≡ Ok (listed self.new.states self.new.pairs)) }
-        ensures fault { IfErr result (IsFaultOf (placed number (add_line S.form (listed self.old.states self.old.pairs) (Pair pair)))) }
+        ensures ok { OnOk result (placed number (add_line V.form (listed self.old.states self.old.pairs) (Pair pair)) ≡ Ok (listed self.new.states self.new.pairs)) }
+        ensures fault { IfErr result (IsFaultOf (placed number (add_line V.form (listed self.old.states self.old.pairs) (Pair pair)))) }
     {
         let count = self.states.len();
         if pair.ahead as usize >= count || pair.behind as usize >= count {
@@ -125,10 +125,10 @@ impl<S: StateLine> Reader<S> {
 
     /// Compares the counts of the end line of this number.
     fn close(&self, number: u64, states: u32, pairs: u32) -> Result<(), CertFault>
-        ensures ok { OnOk result (placed number (add_line S.form (listed self.now.states self.now.pairs) (End states pairs)) ≡ Ok (listed self.now.states self.now.pairs)) }
+        ensures ok { OnOk result (placed number (add_line V.form (listed self.now.states self.now.pairs) (End states pairs)) ≡ Ok (listed self.now.states self.now.pairs)) }
         ensures few_states { OnOk result (length self.now.states ≤ 4294967295) }
         ensures few_pairs { OnOk result (length self.now.pairs ≤ 4294967295) }
-        ensures fault { IfErr result (IsFaultOf (placed number (add_line S.form (listed self.now.states self.now.pairs) (End states pairs)))) }
+        ensures fault { IfErr result (IsFaultOf (placed number (add_line V.form (listed self.now.states self.now.pairs) (End states pairs)))) }
     {
         if self.states.len() == states as usize && self.pairs.len() == pairs as usize {
             Ok(())
@@ -141,14 +141,14 @@ impl<S: StateLine> Reader<S> {
     }
 
     /// Adds what a line of this number says, and answers whether it is the end line.
-    fn add(&mut self, number: u64, line: Line<S>) -> Result<bool, CertFault>
+    fn add(&mut self, number: u64, line: Line<V::State>) -> Result<bool, CertFault>
         requires lead { HasShortLead line }
         requires stands { may_stand (listed self.old.states self.old.pairs) line ≡ true }
-        ensures ok { OnOk result (placed number (add_line S.form (listed self.old.states self.old.pairs) line) ≡ Ok (listed self.new.states self.new.pairs)) }
+        ensures ok { OnOk result (placed number (add_line V.form (listed self.old.states self.old.pairs) line) ≡ Ok (listed self.new.states self.new.pairs)) }
         ensures end { IfOk result (λ last. last ≡ is_end line) }
         ensures few_states { IfOk result (λ last. last ≡ true → length self.new.states ≤ 4294967295) }
         ensures few_pairs { IfOk result (λ last. last ≡ true → length self.new.pairs ≤ 4294967295) }
-        ensures fault { IfErr result (IsFaultOf (placed number (add_line S.form (listed self.old.states self.old.pairs) line))) }
+        ensures fault { IfErr result (IsFaultOf (placed number (add_line V.form (listed self.old.states self.old.pairs) line))) }
     {
         match line {
             Line::State(state) => {
@@ -168,10 +168,10 @@ impl<S: StateLine> Reader<S> {
 
     /// Reads the line of this number, and answers whether it is the end line.
     pub fn take_line(&mut self, alloc: Global, number: u64, bytes: &[u8]) -> Result<bool, CertFault>
-        ensures ok { IfOk result (λ last. placed number (one_line S.form (listed self.old.states self.old.pairs) bytes.now) ≡ Ok (last, listed self.new.states self.new.pairs)) }
+        ensures ok { IfOk result (λ last. placed number (one_line V.form (listed self.old.states self.old.pairs) bytes.now) ≡ Ok (last, listed self.new.states self.new.pairs)) }
         ensures few_states { IfOk result (λ last. last ≡ true → length self.new.states ≤ 4294967295) }
         ensures few_pairs { IfOk result (λ last. last ≡ true → length self.new.pairs ≤ 4294967295) }
-        ensures fault { IfErr result (IsFaultOf (placed number (one_line S.form (listed self.old.states self.old.pairs) bytes.now))) }
+        ensures fault { IfErr result (IsFaultOf (placed number (one_line V.form (listed self.old.states self.old.pairs) bytes.now))) }
     {
         let line = self.read(alloc, number, bytes)?;
         self.add(number, line)

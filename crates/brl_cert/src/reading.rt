@@ -6,7 +6,7 @@ ghost use Rattle.brl_cert.specs.Views.{cert_view, listed};
 
 use crate::field::{parts_of, push_number, read_number};
 use crate::reader::Reader;
-use crate::{Body, Cert, CertFault, StateLine, Wrong, certificate_laws};
+use crate::{Body, Cert, CertFault, Version, Version1, Version2, Wrong, certificate_laws};
 use std::alloc::Global;
 
 /// The version of the two fields of a header in their loose form.
@@ -57,12 +57,12 @@ fn read_header(alloc: Global, bytes: &[u8]) -> Result<u64, CertFault>
 }
 
 /// The body of the lines behind a header, which are the parts but for the last; this one has no line feed behind it.
-fn read_body<S: StateLine>(alloc: Global, parts: &[&[u8]]) -> Result<Body<S>, CertFault>
+fn read_body<V: Version>(alloc: Global, parts: &[&[u8]]) -> Result<Body<V::State>, CertFault>
     requires { 1 ≤ length parts.now }
-    ensures body { IfOk result (λ body. body_of S.form 2 nothing (map (λ part. part.now) parts.now) ≡ Ok (listed body.states body.pairs)) }
-    ensures fault { IfErr result (IsFaultOf (body_of S.form 2 nothing (map (λ part. part.now) parts.now))) }
+    ensures body { IfOk result (λ body. body_of V.form 2 nothing (map (λ part. part.now) parts.now) ≡ Ok (listed body.states body.pairs)) }
+    ensures fault { IfErr result (IsFaultOf (body_of V.form 2 nothing (map (λ part. part.now) parts.now))) }
 {
-    let mut reader = Reader::new(alloc);
+    let mut reader = Reader::<V>::new(alloc);
     let last = parts.len() - 1;
     for place in 0..last {
         let number = place as u64 + 2;
@@ -107,8 +107,8 @@ fn read_lines(alloc: Global, bytes: &[u8]) -> Result<Cert, CertFault>
         });
     }
     match read_header(alloc, header)? {
-        1 => Ok(Cert::Window(read_body(alloc, rest)?)),
-        2 => Ok(Cert::Dues(read_body(alloc, rest)?)),
+        1 => Ok(Cert::Window(read_body::<Version1>(alloc, rest)?)),
+        2 => Ok(Cert::Dues(read_body::<Version2>(alloc, rest)?)),
         _ => Err(CertFault::Refused {
             wrong: Wrong::Version,
             line: 1,

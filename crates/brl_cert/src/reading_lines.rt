@@ -7,20 +7,20 @@ ghost use Rattle.brl_cert.specs.Range.{HasShortLead};
 use crate::field::{parts_of, read_number};
 use crate::line::Line;
 use crate::reading_fields::read_lead;
-use crate::{CertPair, StateLine};
+use crate::{CertPair, Version};
 use std::alloc::{AllocError, Global};
 
 /// The greatest number of a state, and the greatest count.
 const GREATEST: u64 = 4_294_967_295;
 
 /// The pair of three fields in their loose form.
-fn read_pair<S: StateLine>(
+fn read_pair<V: Version>(
     alloc: Global,
     ahead: &[u8],
     behind: &[u8],
     lead: &[u8],
-) -> Result<Option<Line<S>>, AllocError>
-    ensures line { IfOk result (λ line. line ≡ loose_pair S.form (ahead.now ∷ behind.now ∷ lead.now ∷ [])) }
+) -> Result<Option<Line<V::State>>, AllocError>
+    ensures line { IfOk result (λ line. line ≡ loose_pair V.form (ahead.now ∷ behind.now ∷ lead.now ∷ [])) }
     ensures lead { IfOk result (λ line. IfSome line HasShortLead) }
 {
     let Some(ahead) = read_number(ahead, 10, GREATEST) else {
@@ -41,22 +41,22 @@ fn read_pair<S: StateLine>(
 }
 
 /// The pair of fields in their loose form.
-fn read_pair_fields<S: StateLine>(
+fn read_pair_fields<V: Version>(
     alloc: Global,
     fields: &[&[u8]],
-) -> Result<Option<Line<S>>, AllocError>
-    ensures line { IfOk result (λ line. line ≡ loose_pair S.form (map (λ field. field.now) fields.now)) }
+) -> Result<Option<Line<V::State>>, AllocError>
+    ensures line { IfOk result (λ line. line ≡ loose_pair V.form (map (λ field. field.now) fields.now)) }
     ensures lead { IfOk result (λ line. IfSome line HasShortLead) }
 {
     let [ahead, behind, lead] = fields else {
         return Ok(None);
     };
-    read_pair(alloc, ahead, behind, lead)
+    read_pair::<V>(alloc, ahead, behind, lead)
 }
 
 /// The counts of two fields in their loose form.
-fn read_end<S: StateLine>(states: &[u8], pairs: &[u8]) -> Option<Line<S>>
-    ensures line { result ≡ loose_end S.form (states.now ∷ pairs.now ∷ []) }
+fn read_end<V: Version>(states: &[u8], pairs: &[u8]) -> Option<Line<V::State>>
+    ensures line { result ≡ loose_end V.form (states.now ∷ pairs.now ∷ []) }
     ensures lead { IfSome result HasShortLead }
 {
     let states = read_number(states, 10, GREATEST)?;
@@ -65,48 +65,51 @@ fn read_end<S: StateLine>(states: &[u8], pairs: &[u8]) -> Option<Line<S>>
 }
 
 /// The counts of fields in their loose form.
-fn read_end_fields<S: StateLine>(fields: &[&[u8]]) -> Option<Line<S>>
-    ensures line { result ≡ loose_end S.form (map (λ field. field.now) fields.now) }
+fn read_end_fields<V: Version>(fields: &[&[u8]]) -> Option<Line<V::State>>
+    ensures line { result ≡ loose_end V.form (map (λ field. field.now) fields.now) }
     ensures lead { IfSome result HasShortLead }
 {
     let [states, pairs] = fields else {
         return None;
     };
-    read_end(states, pairs)
+    read_end::<V>(states, pairs)
 }
 
 /// What the fields of a line behind its word stand for.
-fn read_fields<S: StateLine>(
+fn read_fields<V: Version>(
     alloc: Global,
     word: &[u8],
     fields: &[&[u8]],
-) -> Result<Option<Line<S>>, AllocError>
-    ensures line { IfOk result (λ line. line ≡ loose_line S.form (word.now ∷ map (λ field. field.now) fields.now)) }
+) -> Result<Option<Line<V::State>>, AllocError>
+    ensures line { IfOk result (λ line. line ≡ loose_line V.form (word.now ∷ map (λ field. field.now) fields.now)) }
     ensures lead { IfOk result (λ line. IfSome line HasShortLead) }
 {
     if word == b"state".as_slice() {
-        return match S::read_fields(alloc, fields)? {
+        return match V::read_fields(alloc, fields)? {
             Some(state) => Ok(Some(Line::State(state))),
             None => Ok(None),
         };
     }
     if word == b"pair".as_slice() {
-        return read_pair_fields(alloc, fields);
+        return read_pair_fields::<V>(alloc, fields);
     }
     if word == b"end".as_slice() {
-        return Ok(read_end_fields(fields));
+        return Ok(read_end_fields::<V>(fields));
     }
     Ok(None)
 }
 
 /// What a line of the loose form stands for.
-pub fn read_line<S: StateLine>(alloc: Global, bytes: &[u8]) -> Result<Option<Line<S>>, AllocError>
-    ensures line { IfOk result (λ line. line ≡ loose_line S.form (slice_split (λ b. b == 32) bytes.now)) }
+pub fn read_line<V: Version>(
+    alloc: Global,
+    bytes: &[u8],
+) -> Result<Option<Line<V::State>>, AllocError>
+    ensures line { IfOk result (λ line. line ≡ loose_line V.form (slice_split (λ b. b == 32) bytes.now)) }
     ensures lead { IfOk result (λ line. IfSome line HasShortLead) }
 {
     let fields = parts_of(alloc, bytes, b' ')?;
     let [word, rest @ ..] = fields.as_slice() else {
         return Ok(None);
     };
-    read_fields(alloc, word, rest)
+    read_fields::<V>(alloc, word, rest)
 }

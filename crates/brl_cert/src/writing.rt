@@ -10,18 +10,22 @@ ghost use Rattle.brl_cert.specs.declared.line.Line.TheVariants.{State, Pair, End
 
 use crate::field::{push_lead, push_number};
 use crate::line::Line;
-use crate::{Body, Cert, CertPair, StateLine, certificate_laws};
+use crate::{Body, Cert, CertPair, Version, Version1, Version2, certificate_laws};
 use brl_dues::DuesState;
 use brl_window::WindowState;
 use std::alloc::{AllocError, Global};
 
 /// Writes a state line without its line feed.
-fn push_state<S: StateLine>(alloc: Global, out: &mut Vec<u8>, state: &S) -> Result<(), AllocError>
-    ensures written { OnOk result (out.new.items ≡ out.old.items ++ join_with_byte 32 (codes "state" ∷ S.form.fields state.now)) }
-    ensures in_range { OnOk result (S.is_state state.now) }
+fn push_state<V: Version>(
+    alloc: Global,
+    out: &mut Vec<u8>,
+    state: &V::State,
+) -> Result<(), AllocError>
+    ensures written { OnOk result (out.new.items ≡ out.old.items ++ join_with_byte 32 (codes "state" ∷ V.form.fields state.now)) }
+    ensures in_range { OnOk result (V.is_state state.now) }
 {
     out.extend_from_slice(b"state")?;
-    state.push_fields(alloc, out)
+    V::push_fields(alloc, out, state)
 }
 
 /// Writes a pair line without its line feed.
@@ -48,31 +52,31 @@ fn push_end(alloc: Global, out: &mut Vec<u8>, states: u32, pairs: u32) -> Result
 }
 
 /// Writes a line without its line feed.
-pub fn push_line<S: StateLine>(
+pub fn push_line<V: Version>(
     alloc: Global,
     out: &mut Vec<u8>,
-    line: &Line<S>,
+    line: &Line<V::State>,
 ) -> Result<(), AllocError>
-    ensures { OnOk result (out.new.items ≡ out.old.items ++ spelled_line S.form line.now) }
+    ensures { OnOk result (out.new.items ≡ out.old.items ++ spelled_line V.form line.now) }
 {
     match line {
-        Line::State(state) => push_state(alloc, out, state),
+        Line::State(state) => push_state::<V>(alloc, out, state),
         Line::Pair(pair) => push_pair(alloc, out, pair),
         Line::End(states, pairs) => push_end(alloc, out, *states, *pairs),
     }
 }
 
 /// Writes the state lines.
-fn push_states<S: StateLine>(
+fn push_states<V: Version>(
     alloc: Global,
     out: &mut Vec<u8>,
-    states: &[S],
+    states: &[V::State],
 ) -> Result<(), AllocError>
-    ensures written { OnOk result (out.new.items ≡ out.old.items ++ flat_map (λ s. whole_line S.form (State s)) states.now) }
-    ensures in_range { OnOk result (All S.is_state states.now) }
+    ensures written { OnOk result (out.new.items ≡ out.old.items ++ flat_map (λ s. whole_line V.form (State s)) states.now) }
+    ensures in_range { OnOk result (All V.is_state states.now) }
 {
     for state in states {
-        push_state(alloc, out, state)?;
+        push_state::<V>(alloc, out, state)?;
         out.push(b'\n')?;
     }
     Ok(())
@@ -91,17 +95,17 @@ fn push_pairs(alloc: Global, out: &mut Vec<u8>, pairs: &[CertPair]) -> Result<()
 }
 
 /// Writes the lines behind the header.
-fn push_body<S: StateLine>(
+fn push_body<V: Version>(
     alloc: Global,
     out: &mut Vec<u8>,
-    body: &Body<S>,
+    body: &Body<V::State>,
 ) -> Result<(), AllocError>
-    ensures written { OnOk result (out.new.items ≡ out.old.items ++ spelled_body S.form (listed body.now.states body.now.pairs)) }
-    ensures in_range { OnOk result (IsBody S.form S.is_state (listed body.now.states body.now.pairs)) }
+    ensures written { OnOk result (out.new.items ≡ out.old.items ++ spelled_body V.form (listed body.now.states body.now.pairs)) }
+    ensures in_range { OnOk result (IsBody V.form V.is_state (listed body.now.states body.now.pairs)) }
 {
     let states = body.states.as_slice();
     let pairs = body.pairs.as_slice();
-    push_states(alloc, out, states)?;
+    push_states::<V>(alloc, out, states)?;
     push_pairs(alloc, out, pairs)?;
     push_end(alloc, out, states.len() as u32, pairs.len() as u32)?;
     out.push(b'\n')?;
@@ -115,7 +119,7 @@ fn write_windows(alloc: Global, body: &Body<WindowState>) -> Result<Vec<u8>, All
 {
     certificate_laws();
     let mut out = Vec::from_slice(alloc, b"BRLCERT 1\n")?;
-    push_body(alloc, &mut out, body)?;
+    push_body::<Version1>(alloc, &mut out, body)?;
     Ok(out)
 }
 
@@ -126,7 +130,7 @@ fn write_dues(alloc: Global, body: &Body<DuesState>) -> Result<Vec<u8>, AllocErr
 {
     certificate_laws();
     let mut out = Vec::from_slice(alloc, b"BRLCERT 2\n")?;
-    push_body(alloc, &mut out, body)?;
+    push_body::<Version2>(alloc, &mut out, body)?;
     Ok(out)
 }
 

@@ -3,13 +3,13 @@ use Rattle.std.specs.Prelude.{ℕ}
 use Rattle.brl_cert.specs.Lines.{BodyView}
 use Rattle.brl_cert.specs.Views.{listed}
 use Rattle.brl_cert.specs.declared.cert.Cert.TheVariants.{Dues, Window}
-use Rattle.brl_dues.specs.declared.state.DuesState.{DuesState}
 use Rattle.brl_forward.specs.ClashView.{ClashView}
+use Rattle.brl_search.specs.Searched.{State}
 use Rattle.brl_search.specs.declared.found.Found.{Found}
 use Rattle.brl_search.specs.declared.found.Found.TheVariants.{Certified, Clashing, Limit}
 
 -- a fact of the body of the certificate, if there is one; it is of version 2
-abbrev pub IfCertified : (BodyView DuesState → Type 0) → Found → Type 0
+abbrev pub IfCertified : (BodyView State → Type 0) → Found → Type 0
 IfCertified P (Certified (Dues body)) = P (listed body.states body.pairs)
 IfCertified P (Certified (Window body)) = ⊥
 IfCertified P found = Unit {0}

@@ -1,5 +1,6 @@
 pub mod Reached
 pub mod Answers
+pub mod Searched
 pub mod Found
 pub mod Trail
 pub mod Edges

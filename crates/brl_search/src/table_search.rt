@@ -1,11 +1,11 @@
 //! The search of a table.
 ghost use Rattle.std.specs.Prelude.{◌+◌, ◌<◌, ◌≤◌, ◌⊎◌, IfOk};
 ghost use Rattle.brl_cert.specs.Sets.{sets_of};
-ghost use Rattle.brl_dues.specs.Steps.{dues_machine};
 ghost use Rattle.brl_pairs.specs.Pairs.{IsClosed};
 ghost use Rattle.brl_search.specs.Answers.{AreInOrder, HasReachedPairs, HasReachedStates, IsWithin};
 ghost use Rattle.brl_search.specs.Found.{IfCertified, IfClashing, IfLimit, IsCertificate};
 ghost use Rattle.brl_search.specs.Reached.{AtLeast, AtMost, Reached, ReachedPair, SamePair, SameState};
+ghost use Rattle.brl_search.specs.Searched.{machine_of};
 ghost use Rattle.brl_table.specs.Translation.{IsClash, IsUnambiguous, translation};
 
 use crate::fault::SearchFault;
@@ -47,12 +47,12 @@ pub fn search(alloc: Global, table: &Table, limit: u64) -> Result<Found, SearchF
     requires { limit ≤ 4294967295 }
 
     // A certificate: its states and pairs are reached, no more than `limit` of each, and closed; so the table is unambiguous.
-    ensures closed { IfOk result (IfCertified (λ body. IsClosed (dues_machine table.now) (sets_of body))) }
+    ensures closed { IfOk result (IfCertified (λ body. IsClosed (machine_of table.now) (sets_of body))) }
     ensures unambiguous { IfOk result (IfCertified (λ _. IsUnambiguous table.now)) }
-    ensures states { IfOk result (IfCertified (HasReachedStates (dues_machine table.now))) }
-    ensures pairs { IfOk result (IfCertified (HasReachedPairs (dues_machine table.now))) }
+    ensures states { IfOk result (IfCertified (HasReachedStates (machine_of table.now))) }
+    ensures pairs { IfOk result (IfCertified (HasReachedPairs (machine_of table.now))) }
     ensures within { IfOk result (IfCertified (IsWithin limit)) }
-    ensures order { IfOk result (IfCertified (λ body. AreInOrder (dues_machine table.now) body.states)) }
+    ensures order { IfOk result (IfCertified (λ body. AreInOrder (machine_of table.now) body.states)) }
 
     // A clash of the table, with its cells.
     ensures clash { IfOk result (IfClashing (λ clash. IsClash table.now clash.left clash.right clash.cells)) }
@@ -60,14 +60,14 @@ pub fn search(alloc: Global, table: &Table, limit: u64) -> Result<Found, SearchF
     // The limit was passed, by no more than one, and no more states or pairs are named than are reached.
     ensures passed { IfOk result (IfLimit (λ states pairs. (limit < states) ⊎ (limit < pairs))) }
     ensures by_one { IfOk result (IfLimit (λ states pairs. (states ≤ limit + 1) × (pairs ≤ limit + 1))) }
-    ensures states_reached { IfOk result (IfLimit (λ states _. AtLeast states SameState (Reached (dues_machine table.now)))) }
-    ensures pairs_reached { IfOk result (IfLimit (λ _ pairs. AtLeast pairs SamePair (ReachedPair (dues_machine table.now)))) }
+    ensures states_reached { IfOk result (IfLimit (λ states _. AtLeast states SameState (Reached (machine_of table.now)))) }
+    ensures pairs_reached { IfOk result (IfLimit (λ _ pairs. AtLeast pairs SamePair (ReachedPair (machine_of table.now)))) }
 
     // Where no more than `limit` states and pairs are reached, it decides: the limit isn't passed, and for an unambiguous table there
     // is a certificate.
-    ensures decides { AtMost limit SameState (Reached (dues_machine table.now)) → AtMost limit SamePair (ReachedPair (dues_machine table.now))
+    ensures decides { AtMost limit SameState (Reached (machine_of table.now)) → AtMost limit SamePair (ReachedPair (machine_of table.now))
         → IfOk result (IfLimit (λ _ _. ⊥)) }
-    ensures certifies { AtMost limit SameState (Reached (dues_machine table.now)) → AtMost limit SamePair (ReachedPair (dues_machine table.now))
+    ensures certifies { AtMost limit SameState (Reached (machine_of table.now)) → AtMost limit SamePair (ReachedPair (machine_of table.now))
         → IsUnambiguous table.now → IfOk result IsCertificate }
 {
     let dues = Dues::new(alloc, table);

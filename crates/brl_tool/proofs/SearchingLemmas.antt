@@ -39,7 +39,7 @@ verdict_of_cert : (t : TableView) (limit : ℕ) (body : BodyView DuesState) (ver
     → cert_of verdict ≡ Some (spelling (Owing body)) → text ≡ certified_line (Owing body) → reading (spelling (Owing body)) ≡ Ok (Owing body) → IsVerdict t limit verdict text
 verdict_of_cert t limit body (Certified bytes) text none certified bytes_are text_is read = (
   none,
-  (body, certified, cc, text_is, (Owing body, read, record { closed = certified.closed; states = refl; pairs = refl })),
+  (body, certified, (cc, text_is, (Owing body, read, (tt, certified.closed, refl)))),
 )
 verdict_of_cert t limit body Clash text none certified bytes_are text_is read = cc
 verdict_of_cert t limit body Limit text none certified bytes_are text_is read = cc
@@ -149,7 +149,7 @@ count_at_search t before behind out limit old new (Err Memory) h earlier now sta
 
 pub certified_at_none : (before behind : Gives) (path out : List ℕ) (limit : ℕ) (old new : Option (List ℕ)) (verdict : Verdict) → Searches before behind path out limit old new (Ok verdict)
     → (status : ℕ) → status ≡ verdict_status verdict → status ≡ 0 → ReportsCertificate before behind path out old new
-certified_at_none before behind path out limit old new (Certified bytes) (t, table, (files, (text, (none, (body, certified, bytes_are, text_is, accepted)), appends))) status is e =
+certified_at_none before behind path out limit old new (Certified bytes) (t, table, (files, (text, (none, (body, certified, (bytes_are, text_is, accepted))), appends))) status is e =
     (t, table, none, (body, accepted, subst (λ (b : List ℕ). FilesAfter before behind out (Some b)) bytes_are files, subst (Appends old new) text_is appends))
 certified_at_none before behind path out limit old new Clash h status is e = absurd (none_is_one (sym e ∙ is))
 certified_at_none before behind path out limit old new Limit h status is e = absurd (none_is_three (sym e ∙ is))

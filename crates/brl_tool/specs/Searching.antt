@@ -1,18 +1,17 @@
 -- What a search of a table comes to, and what is written of it. The project's own choice.
-use Rattle.std.specs.Prelude.{ℕ, ◌≡◌, List, ◌++◌, length, Option, None, Some, Result, Ok, Err, codes, string_bytes}
+use Rattle.std.specs.Prelude.{ℕ, ◌≡◌, List, ◌++◌, Option, None, Some, Result, Ok, Err, codes, string_bytes}
 use Rattle.std.specs.Io.KnownBytes.{Appends}
-use Rattle.brl_accept.specs.Judging.{IsAccepted}
-use Rattle.brl_accept.specs.declared.accepted.Accepted.{Accepted}
+use Rattle.brl_accept.specs.Judging.{IsAccepted, counted}
+use Rattle.brl_cert.specs.Kinds.{pair_count, state_count}
 use Rattle.brl_cert.specs.Lines.{BodyView}
-use Rattle.brl_cert.specs.Reading.{CertView, Owing, Windows, reading, spelling}
+use Rattle.brl_cert.specs.Reading.{CertView, reading, spelling}
 use Rattle.brl_cert.specs.Views.{cert_view}
 use Rattle.brl_cert.specs.declared.cert.Cert.{Cert}
-use Rattle.brl_dues.specs.Steps.{dues_machine}
-use Rattle.brl_dues.specs.declared.state.DuesState.{DuesState}
 use Rattle.brl_lines.specs.Answer.{AllStay, Gives}
 use Rattle.brl_reading.specs.Files.{IsTableOf}
 use Rattle.brl_report.specs.Report.{report_text}
 use Rattle.brl_search.specs.Answers.{IsCertified, IsLimit}
+use Rattle.brl_search.specs.Searched.{State, certificate_of, machine_of}
 use Rattle.brl_table.specs.TableView.{TableView}
 use Rattle.brl_table.specs.Translation.{IsClash, IsUnambiguous}
 use Rattle.brl_tool.specs.Counts.{counts_line}
@@ -31,10 +30,9 @@ abbrev pub cert_of : Verdict → Option (List ℕ)
 cert_of (Certified bytes) = Some bytes.items
 cert_of verdict = None
 
--- how many states and pairs a certificate has, behind the word
+-- how many states and pairs a certificate has, after the word
 abbrev pub certified_line : CertView → List ℕ
-certified_line (Windows body) = counts_line (codes "certified") (length body.states) (length body.pairs)
-certified_line (Owing body) = counts_line (codes "certified") (length body.states) (length body.pairs)
+certified_line cert = counts_line (codes "certified") (state_count cert) (pair_count cert)
 
 -- the bytes of a certificate, from which it is read back, and its numbers are told
 abbrev pub TellsCertificate : Cert → Told → Type 0
@@ -42,17 +40,16 @@ TellsCertificate cert told =
     (cert_of told.verdict ≡ Some (spelling (cert_view cert))) × (string_bytes told.text ≡ certified_line (cert_view cert))
     × (reading (spelling (cert_view cert)) ≡ Ok (cert_view cert))
 
--- how many states and pairs a body has
-abbrev pub counted : BodyView DuesState → Accepted
-counted body = record { states = length body.states; pairs = length body.pairs }
+-- these bytes are a certificate's, which deserve acceptance for the table, and this text tells its numbers
+abbrev pub IsTold : CertView → TableView → List ℕ → List ℕ → Type 0
+IsTold cert t bytes text = (bytes ≡ spelling cert) × (text ≡ certified_line cert) × IsAccepted t (spelling cert) (counted cert)
 
 -- what a search with this limit says of a table, and the text that tells it
 abbrev pub IsVerdict : TableView → ℕ → Verdict → List ℕ → Type 0
 IsVerdict t limit (Certified bytes) text =
-    IsUnambiguous t × ((body : BodyView DuesState) × IsCertified (dues_machine t) limit body × (bytes.items ≡ spelling (Owing body)) × (text ≡ certified_line (Owing body))
-    × IsAccepted t (spelling (Owing body)) (counted body))
+    IsUnambiguous t × ((body : BodyView State) × IsCertified (machine_of t) limit body × IsTold (certificate_of body) t bytes.items text)
 IsVerdict t limit Clash text = (left right cells : List ℕ) × IsClash t left right cells × (text ≡ report_text t left right cells)
-IsVerdict t limit Limit text = (states pairs : ℕ) × IsLimit (dues_machine t) limit states pairs × (text ≡ counts_line (codes "limit") states pairs)
+IsVerdict t limit Limit text = (states pairs : ℕ) × IsLimit (machine_of t) limit states pairs × (text ≡ counts_line (codes "limit") states pairs)
 
 -- what is told of a table
 abbrev pub Tells : TableView → ℕ → Result Told RunFault → Type 0
@@ -93,5 +90,5 @@ Searches before behind path out limit old new outcome =
 abbrev pub ReportsCertificate : Gives → Gives → List ℕ → List ℕ → Option (List ℕ) → Option (List ℕ) → Type 0
 ReportsCertificate before behind path out old new =
     (t : TableView) × IsTableOf before path t × IsUnambiguous t
-    × ((body : BodyView DuesState) × IsAccepted t (spelling (Owing body)) (counted body)
-    × FilesAfter before behind out (Some (spelling (Owing body))) × Appends old new (certified_line (Owing body)))
+    × ((body : BodyView State) × IsAccepted t (spelling (certificate_of body)) (counted (certificate_of body))
+    × FilesAfter before behind out (Some (spelling (certificate_of body))) × Appends old new (certified_line (certificate_of body)))

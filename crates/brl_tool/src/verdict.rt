@@ -68,10 +68,7 @@ fn certified(alloc: Global, cert: &Cert) -> Result<Told, RunFault>
     ensures fault { IfErr result (λ fault. fault ≡ RunFault.Memory) }
 {
     let bytes = write_cert(alloc, cert)?;
-    let (states, pairs) = match cert {
-        Cert::Window(body) => (body.states.len(), body.pairs.len()),
-        Cert::Dues(body) => (body.states.len(), body.pairs.len()),
-    };
+    let (states, pairs) = cert.counts();
     let text = counts_text(alloc, "certified", states as u64, pairs as u64);
     with_text(Verdict::Certified(bytes), text)
 }

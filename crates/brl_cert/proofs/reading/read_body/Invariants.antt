@@ -6,4 +6,4 @@ use Rattle.brl_cert.proofs.reading.read_body.Given as goal
 
 abbrev pub invariant-loop-place : goal.invariant-loop-place
 invariant-loop-place g l =
-    body_of g.S.StateLine.form (l.place + 2) (listed l.reader.states l.reader.pairs) (drop l.place (map (λ part. part.now) l.parts)) ≡ body_of g.S.StateLine.form 2 nothing (map (λ part. part.now) l.parts)
+    body_of g.V.Version.form (l.place + 2) (listed l.reader.states l.reader.pairs) (drop l.place (map (λ part. part.now) l.parts)) ≡ body_of g.V.Version.form 2 nothing (map (λ part. part.now) l.parts)

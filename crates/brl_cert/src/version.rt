@@ -1,4 +1,4 @@
-//! States as a version of certificates writes them.
+//! Versions of certificates: the states that each lists, as it writes them.
 ghost use Rattle.std.specs.Prelude.{◌≡◌, ◌++◌, ◌∷◌, [], ℕ, Bool, map, refl, IfOk, OnOk};
 ghost use Rattle.brl_cert.specs.Lines.{States, behind_blanks};
 ghost use Rattle.brl_cert.specs.Dues.{owing};
@@ -14,41 +14,56 @@ use brl_window::WindowState;
 use std::alloc::{AllocError, Global};
 use std::hash::Hash;
 
-/// A state of some version of certificates.
-pub trait StateLine: Eq + Hash + Drop {
+/// A version of certificates: which machine's states it lists, and how it writes them. Two versions may write the states of
+/// one machine in two ways.
+pub trait Version {
+    type State: Eq + Hash + Drop;
+
     // How states are written, and when two of them are the same.
-    ghost form: { States Self };
+    ghost form: { States Self.State };
 
     // What is in range.
-    ghost is_state: { Self → Type 0 };
+    ghost is_state: { Self.State → Type 0 };
 
-    /// Writes the fields of a state, each behind a blank.
-    fn push_fields(&self, alloc: Global, out: &mut Vec<u8>) -> Result<(), AllocError>
-        ensures written { OnOk result (out.new.items ≡ out.old.items ++ behind_blanks (form.fields self.now)) }
-        ensures in_range { OnOk result (is_state self.now) };
+    /// Writes the fields of a state, each after a blank.
+    fn push_fields(alloc: Global, out: &mut Vec<u8>, state: &Self::State) -> Result<(), AllocError>
+        ensures written { OnOk result (out.new.items ≡ out.old.items ++ behind_blanks (form.fields state.now)) }
+        ensures in_range { OnOk result (is_state state.now) };
 
     /// The state of fields in their loose form.
-    fn read_fields(alloc: Global, fields: &[&[u8]]) -> Result<Option<Self>, AllocError>
+    fn read_fields(alloc: Global, fields: &[&[u8]]) -> Result<Option<Self::State>, AllocError>
         ensures { IfOk result (λ state. state ≡ form.loose (map (λ field. field.now) fields.now)) };
 
     // Two states are the same exactly where they are equal.
-    ghost same: { form.same ≡ Self.PartialEq.eq };
+    ghost same: { form.same ≡ Self.State.eq };
 }
 
-impl StateLine for WindowState {
+/// Version 1 lists states of a window machine.
+pub struct Version1;
+
+/// Version 2 lists states of a machine with dues.
+pub struct Version2;
+
+impl Version for Version1 {
+    type State = WindowState;
+
     ghost form = { windows };
 
     ghost is_state = { IsWindow };
 
-    fn push_fields(&self, alloc: Global, out: &mut Vec<u8>) -> Result<(), AllocError> {
+    fn push_fields(
+        alloc: Global,
+        out: &mut Vec<u8>,
+        state: &WindowState,
+    ) -> Result<(), AllocError> {
         out.push(b' ')?;
-        push_number(alloc, out, u32::from(self.before.0))?;
+        push_number(alloc, out, u32::from(state.before.0))?;
         out.push(b' ')?;
-        push_flag(out, self.numeric)?;
+        push_flag(out, state.numeric)?;
         out.push(b' ')?;
-        push_flag(out, self.ended)?;
+        push_flag(out, state.ended)?;
         out.push(b' ')?;
-        push_chars(alloc, out, self.coming.as_slice())
+        push_chars(alloc, out, state.coming.as_slice())
     }
 
     fn read_fields(alloc: Global, fields: &[&[u8]]) -> Result<Option<WindowState>, AllocError> {
@@ -61,13 +76,15 @@ impl StateLine for WindowState {
     ghost same = { refl };
 }
 
-impl StateLine for DuesState {
+impl Version for Version2 {
+    type State = DuesState;
+
     ghost form = { owing };
 
     ghost is_state = { IsOwing };
 
-    fn push_fields(&self, alloc: Global, out: &mut Vec<u8>) -> Result<(), AllocError> {
-        push_dues(alloc, out, self)
+    fn push_fields(alloc: Global, out: &mut Vec<u8>, state: &DuesState) -> Result<(), AllocError> {
+        push_dues(alloc, out, state)
     }
 
     fn read_fields(alloc: Global, fields: &[&[u8]]) -> Result<Option<DuesState>, AllocError> {
