@@ -1,9 +1,10 @@
-//! Braille cells: one cell as a set of dots, lists of cells, and the texts that stand for them: dots
+//! Braille cells: one cell as a set of dots, lists of cells and of characters, and the texts that stand for cells: dots
 //! operands, braille ASCII and Unicode braille.
 #![tactic(auto)]
 
 mod cell;
 mod cells;
+mod chars;
 mod dots;
 mod fault;
 mod laws;
@@ -11,6 +12,7 @@ mod marks;
 
 pub use cell::Cell;
 pub use cells::Cells;
+pub use chars::Chars;
 pub use dots::{read_dots, write_dots};
 pub use fault::DotsFault;
 pub use laws::{

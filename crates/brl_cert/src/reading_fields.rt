@@ -3,8 +3,7 @@ ghost use Rattle.std.specs.Prelude.{◌≡◌, ◌≤◌, length, map, IfOk, IfS
 ghost use Rattle.brl_cert.specs.Fields.{each, loose_char, loose_chars, loose_lead};
 
 use crate::field::{parts_of, read_char};
-use brl_cells::{Cells, DotsFault, read_dots};
-use brl_table::Chars;
+use brl_cells::{Cells, Chars, DotsFault, read_dots};
 use std::alloc::{AllocError, Global};
 
 /// The characters of parts in their loose form, where each part has one.

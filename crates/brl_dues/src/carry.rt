@@ -7,7 +7,8 @@ ghost use Rattle.brl_dues.specs.Letters.{bars_of};
 
 use crate::Due;
 use crate::above::Above;
-use brl_table::{Chars, Class, Cond, Table, holds};
+use brl_cells::Chars;
+use brl_table::{Class, Cond, Table, holds};
 use std::alloc::{AllocError, Global};
 
 /// What is left of a due after the characters that a step reads.

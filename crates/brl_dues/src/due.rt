@@ -2,7 +2,8 @@
 ghost use Rattle.std.specs.Prelude.{◌≡◌, IfOk};
 ghost use Rattle.brl_dues.specs.Order.{cond_cmp, cond_kind, cond_set, due_cmp};
 
-use brl_table::{Chars, Cond};
+use brl_cells::Chars;
+use brl_table::Cond;
 use std::alloc::{AllocError, Global};
 use std::cmp::Ordering;
 

@@ -11,9 +11,9 @@ ghost use Rattle.brl_dues.specs.Steps.{dues_steps, step_of as step_with};
 use crate::carry::{add_bars, add_dues, add_need};
 use crate::letter::{Letter, new_letters_of};
 use crate::{DueList, DuesState};
-use brl_cells::{Cell, Cells};
+use brl_cells::{Cell, Cells, Chars};
 use brl_pairs::Step;
-use brl_table::{Chars, Cond, Context, Rule, Table, holds};
+use brl_table::{Cond, Context, Rule, Table, holds};
 use std::alloc::{AllocError, Global};
 
 /// What a step takes with a character: the number of its rule, the rule's other characters, what it

@@ -1,6 +1,5 @@
 //! Steps of a machine, and pairs of its runs.
-use brl_cells::Cells;
-use brl_table::Chars;
+use brl_cells::{Cells, Chars};
 
 /// A step of a machine.
 #[derive(Debug, Drop)]

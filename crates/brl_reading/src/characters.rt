@@ -9,8 +9,8 @@ ghost use Rattle.brl_table.specs.Text.{fold_of, is_literary, is_text};
 
 use crate::item::{Definition, ListLine, Role, RuleLine};
 use bitflags::Flags;
-use brl_cells::Cells;
-use brl_table::{Chars, Info, Notice, Rule};
+use brl_cells::{Cells, Chars};
+use brl_table::{Info, Notice, Rule};
 use indexmap::{IndexMap, IndexSet};
 use std::alloc::{AllocError, Global};
 

@@ -1,7 +1,7 @@
 //! What one line of a table says.
 use crate::Wrong;
-use brl_cells::Cells;
-use brl_table::{Chars, Class, Place, Sign};
+use brl_cells::{Cells, Chars};
+use brl_table::{Class, Place, Sign};
 use std::alloc::{AllocError, AllocFailed};
 
 /// What a line says.

@@ -15,9 +15,8 @@ ghost use Rattle.brl_reading.specs.Items.{
 
 use crate::Wrong;
 use crate::item::LineFault;
-use brl_cells::{Cells, DotsFault, read_dots};
+use brl_cells::{Cells, Chars, DotsFault, read_dots};
 use brl_lines::{CharsFault, chars_of};
-use brl_table::Chars;
 use std::alloc::Global;
 
 /// The one character that an operand spells.

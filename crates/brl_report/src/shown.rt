@@ -3,8 +3,9 @@ ghost use Rattle.std.specs.Prelude.{◌≡◌, IsTrue, IfOk, take, drop};
 ghost use Rattle.brl_report.specs.Shown.{are_same, common, shown_of, shown_steps};
 ghost use Rattle.brl_table.specs.Text.{is_text};
 
+use brl_cells::Chars;
 use brl_forward::{ForwardFault, Traced, trace};
-use brl_table::{Chars, Table};
+use brl_table::Table;
 use std::alloc::{AllocError, Global};
 
 /// A step of a translation, and the characters that it takes.

@@ -2,7 +2,6 @@
 //! forward translation, which every crate above reads.
 #![tactic(auto)]
 
-mod chars;
 mod choice;
 mod class;
 mod context;
@@ -14,7 +13,6 @@ mod rule;
 mod table;
 mod tree;
 
-pub use chars::Chars;
 pub use choice::Choice;
 pub use class::Class;
 pub use context::Context;

@@ -1,6 +1,6 @@
 //! Rules, and what a table says of a character.
-use crate::{Chars, Class, Place};
-use brl_cells::Cells;
+use crate::{Class, Place};
+use brl_cells::{Cells, Chars};
 
 /// A rule: its characters, folded; the cells that they give; and where it may be used. `file` is the number of
 /// its file among the table's, from 0, and `line` its line there, from 1.

@@ -3,11 +3,10 @@ ghost use Rattle.std.specs.Prelude.{◌≡◌, [], ◌∷◌, IfOk};
 ghost use Rattle.brl_pairs.specs.Examples.{letter_step, letters};
 ghost use Rattle.brl_pairs.specs.Runs.{IsUnambiguous};
 
-use brl_cells::{Cell, Cells, read_dots, write_dots};
+use brl_cells::{Cell, Cells, Chars, read_dots, write_dots};
 use brl_pairs::{
     Advanced, Machine, Pair, Sets, Step, advance, advance_law, closed_sets_law, numbered_sets_law,
 };
-use brl_table::Chars;
 use brl_testing::{agree, cut};
 use std::alloc::{AllocError, Global};
 use std::test::Fail;

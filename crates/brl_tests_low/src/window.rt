@@ -1,7 +1,7 @@
 //! Worked steps of window machines.
-use brl_cells::Cell;
+use brl_cells::{Cell, Chars};
 use brl_pairs::{Machine, Step};
-use brl_table::{Chars, Class, Table};
+use brl_table::{Class, Table};
 use brl_testing::{agree, cut, with_table};
 use brl_window::{Window, WindowState};
 use std::alloc::Global;

@@ -6,8 +6,9 @@ ghost use Rattle.brl_window.specs.Width.{start_moves};
 
 use crate::steps::{find_steps, longest_rule, sort_steps};
 use crate::{TooWide, WindowState};
+use brl_cells::Chars;
 use brl_pairs::{Machine, Step};
-use brl_table::{Chars, Class, Table, choice_laws, translation_laws};
+use brl_table::{Class, Table, choice_laws, translation_laws};
 use std::alloc::{AllocError, Global};
 use std::marker::Model;
 

@@ -1,7 +1,8 @@
 //! The states of a window machine.
 ghost use Rattle.std.specs.Prelude.{◌≡◌, IfOk};
 
-use brl_table::{Chars, Class};
+use brl_cells::Chars;
+use brl_table::Class;
 use std::alloc::{AllocError, Global};
 
 /// What a run of a window machine knows at a position of a text.

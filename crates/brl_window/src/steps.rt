@@ -5,9 +5,9 @@ ghost use Rattle.std.specs.Map.{keys_of};
 ghost use Rattle.brl_window.specs.Windows.{by_rule_number, longest, steps_at, steps_found, window_step, windows_on};
 
 use crate::WindowState;
-use brl_cells::Cells;
+use brl_cells::{Cells, Chars};
 use brl_pairs::Step;
-use brl_table::{Chars, Context, Table};
+use brl_table::{Context, Table};
 use std::alloc::{AllocError, Global};
 
 /// The length of the longest rule, which stands first in rank, and 1 where there is no rule.

@@ -1,9 +1,7 @@
 //! A table made from parts, places and lists of characters.
 use bitflags::Flags;
-use brl_cells::{Cell, Cells};
-use brl_table::{
-    Chars, Class, Cond, Context, Info, Notice, Place, Rule, Sign, Table, TableParts, holds,
-};
+use brl_cells::{Cell, Cells, Chars};
+use brl_table::{Class, Cond, Context, Info, Notice, Place, Rule, Sign, Table, TableParts, holds};
 use brl_testing::lend;
 use indexmap::IndexMap;
 use std::alloc::Global;
