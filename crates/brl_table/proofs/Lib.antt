@@ -1,3 +1,4 @@
+pub mod SignLists
 pub mod Ranking
 pub mod Entries
 pub mod Taken

@@ -4,6 +4,8 @@ use Rattle.brl_table.specs.declared.rule.Rule.{Rule}
 use Rattle.brl_table.specs.declared.rule.Info.{Info}
 use Rattle.brl_table.specs.declared.place.Place.{Place}
 use Rattle.brl_table.specs.declared.place.Place.TheVariants.{Always, Word}
+use Rattle.brl_table.specs.declared.signs.Sign.TheVariants.{NumSign}
+use Rattle.brl_table.specs.Signs.{no_cells, with_cells}
 use Rattle.brl_table.specs.TableView.{TableView}
 
 -- a character with its number, its classes and its cells
@@ -30,9 +32,7 @@ abbrev pub table : List (ℕ × Info) → List Rule → List ℕ → TableView
 table characters rules num_sign = record {
   characters = characters;
   rules = rules;
-  caps_letter = [];
-  num_sign = num_sign;
-  no_contract_sign = [];
+  signs = with_cells no_cells NumSign num_sign;
   files = codes "t.ctb" ∷ [];
   notices = [];
 }

@@ -2,7 +2,8 @@
 -- each is put, and in which order, is this project's own choice.
 use Rattle.std.specs.Prelude.{ℕ, Bool, ◌&&◌, not, List, [], ◌∷◌, ◌++◌, if◌then◌else◌}
 use Rattle.brl_table.specs.declared.context.Context.{Context}
-use Rattle.brl_table.specs.TableView.{TableView}
+use Rattle.brl_table.specs.declared.signs.Sign.TheVariants.{CapsLetter, NumSign, NoContractSign}
+use Rattle.brl_table.specs.TableView.{TableView, sign_cells}
 use Rattle.brl_table.specs.Places.{uppercase, share}
 use Rattle.brl_table.specs.Text.{classes_of, is_literary, is_nocont}
 
@@ -15,6 +16,6 @@ when condition cells = if condition then cells else []
 abbrev pub indicators : TableView → Context → List ℕ → List ℕ
 indicators t here [] = []
 indicators t here (c ∷ rest) =
-    when (here.numeric && is_nocont t c) t.no_contract_sign
-    ++ when (is_literary t c && not here.numeric) t.num_sign
-    ++ when (share (classes_of t c) uppercase) t.caps_letter
+    when (here.numeric && is_nocont t c) (sign_cells t NoContractSign)
+    ++ when (is_literary t c && not here.numeric) (sign_cells t NumSign)
+    ++ when (share (classes_of t c) uppercase) (sign_cells t CapsLetter)

@@ -1,4 +1,5 @@
 pub mod Places
+pub mod Signs
 pub mod TableView
 pub mod Infos
 pub mod Rank

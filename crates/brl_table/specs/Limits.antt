@@ -5,7 +5,8 @@ use Rattle.std.specs.List.{IsDistinct}
 use Rattle.std.specs.Map.{keys_of, lookup}
 use Rattle.brl_table.specs.declared.rule.Info.{Info}
 use Rattle.brl_table.specs.declared.rule.Rule.{Rule}
-use Rattle.brl_table.specs.TableView.{TableView}
+use Rattle.brl_table.specs.declared.signs.Sign.{Sign}
+use Rattle.brl_table.specs.TableView.{TableView, sign_cells}
 use Rattle.brl_table.specs.Rank.{IsInRank}
 
 -- these entries define the character
@@ -32,9 +33,7 @@ pub record IsRule (characters : List (ℕ × Info)) (files : ℕ) (rule : Rule) 
 pub record AreFew (t : TableView) : Type 0 where
   pub characters : length t.characters ≤ 1024
   pub rules : length t.rules ≤ 4096
-  pub caps_letter : length t.caps_letter ≤ 16
-  pub num_sign : length t.num_sign ≤ 16
-  pub no_contract_sign : length t.no_contract_sign ≤ 16
+  pub signs : (sign : Sign) → length (sign_cells t sign) ≤ 16
 
 -- the number of an entry is its place
 abbrev pub AreNumbered : List (ℕ × Info) → Type 0

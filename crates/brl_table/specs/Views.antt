@@ -8,9 +8,7 @@ abbrev pub parts_view : TableParts → TableView
 parts_view p = record {
   characters = p.characters.entries;
   rules = p.rules.items;
-  caps_letter = p.caps_letter;
-  num_sign = p.num_sign;
-  no_contract_sign = p.no_contract_sign;
+  signs = p.signs;
   files = map string_bytes p.files.items;
   notices = p.notices.items;
 }

@@ -7,9 +7,17 @@ ghost use Rattle.brl_table.specs.Choice.{fits, by_rule, own, chosen};
 ghost use Rattle.brl_table.specs.Position.{FitsAt, IsFirstThatFits};
 ghost use Rattle.brl_table.specs.Rank.{in_rank, IsRanking};
 ghost use Rattle.brl_table.specs.Rest.{translation_of_rest, TakesOneRule};
+ghost use Rattle.brl_table.specs.declared.signs.Sign.{Sign};
+ghost use Rattle.brl_table.specs.Signs.{by_sign, cells_at, is_same_sign};
 ghost use Rattle.brl_table.specs.TableView.{TableView};
 ghost use Rattle.brl_table.specs.Text.{at_start, classes_before, context_at, context_behind_all};
 ghost use Rattle.brl_table.specs.Translation.{IsClash, IsUnambiguous, indicators_at, chosen_at, translation_from, translation};
+
+/// A list of what each indicator has gives each its own, and indicators with the same number are the same.
+pub fn signs_law()
+    ensures own { (cells : Sign → List ℕ) (sign : Sign) → cells_at (by_sign cells) sign ≡ cells sign }
+    ensures same { (sign other : Sign) → IsTrue (is_same_sign sign other) → sign ≡ other }
+{}
 
 /// The same rules are put in rank in one way only, which `in_rank` computes.
 pub fn rank_law()

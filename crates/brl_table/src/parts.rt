@@ -5,8 +5,7 @@ ghost use Rattle.std.specs.Map.{keys_of};
 ghost use Rattle.brl_table.specs.Limits.{AreFew, AreNumbered, AreParts, IsAmong, IsEntry, IsRule};
 ghost use Rattle.brl_table.specs.Views.{parts_view};
 
-use crate::{Info, Notice, Rule};
-use brl_cells::Cells;
+use crate::{Info, Notice, Rule, Signs};
 use indexmap::IndexMap;
 
 /// The parts of a table, for `Table::from_parts`.
@@ -16,10 +15,8 @@ pub struct TableParts {
     pub characters: IndexMap<char, Info>,
     /// The used rules in the order of their lines.
     pub rules: Vec<Rule>,
-    /// The cells of the three indicators: none where one isn't defined.
-    pub caps_letter: Cells,
-    pub num_sign: Cells,
-    pub no_contract_sign: Cells,
+    /// The cells of the indicators.
+    pub signs: Signs,
     /// The names of the table's files, by their numbers.
     pub files: Vec<String>,
     /// The lines that define a character again, in their order.
@@ -44,11 +41,7 @@ impl TableParts {
         ensures few { IsTrue result ↔ AreFew (parts_view self.now) }
         ensures distinct { IsDistinct nat_eq (keys_of (parts_view self.now).characters) }
     {
-        self.characters.len() <= 1024
-            && self.rules.len() <= 4096
-            && self.caps_letter.len() <= 16
-            && self.num_sign.len() <= 16
-            && self.no_contract_sign.len() <= 16
+        self.characters.len() <= 1024 && self.rules.len() <= 4096 && self.signs.are_few(16)
     }
 
     fn are_numbered(&self) -> bool

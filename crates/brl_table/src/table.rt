@@ -9,21 +9,10 @@ ghost use Rattle.brl_table.specs.Tree.{ends_at, ends_of};
 ghost use Rattle.brl_table.specs.Views.{parts_view};
 
 use crate::tree::{Node, RuleTree};
-use crate::{Info, Notice, Rule, TableParts};
+use crate::{Info, Notice, Rule, Sign, TableParts};
 use brl_cells::Cell;
 use std::alloc::AllocError;
 use std::marker::Model;
-
-/// The indicators. The manual's section "Braille Indicator Opcodes" has them.
-#[derive(Clone, Copy, PartialEq, Eq, Debug)]
-pub enum Sign {
-    /// Before a capital.
-    CapsLetter,
-    /// Before the first digit of a number.
-    NumSign,
-    /// In a number before a character that could be read as a digit.
-    NoContractSign,
-}
 
 /// A braille table. A contract sees a `TableView`.
 #[derive(Drop)]
@@ -52,9 +41,7 @@ impl Table {
         requires { AreParts (parts_view parts) }
         ensures characters { IfOk result (λ t. t.characters ≡ (parts_view parts).characters) }
         ensures rules { IfOk result (λ t. IsRanking (parts_view parts).rules t.rules) }
-        ensures caps_letter { IfOk result (λ t. t.caps_letter ≡ (parts_view parts).caps_letter) }
-        ensures num_sign { IfOk result (λ t. t.num_sign ≡ (parts_view parts).num_sign) }
-        ensures no_contract_sign { IfOk result (λ t. t.no_contract_sign ≡ (parts_view parts).no_contract_sign) }
+        ensures signs { IfOk result (λ t. t.signs ≡ (parts_view parts).signs) }
         ensures files { IfOk result (λ t. t.files ≡ (parts_view parts).files) }
         ensures notices { IfOk result (λ t. t.notices ≡ (parts_view parts).notices) }
     {
@@ -119,11 +106,7 @@ impl Table {
         ensures cells { result.now ≡ sign_cells self.now sign }
         ensures few { length result.now ≤ 16 }
     {
-        match sign {
-            Sign::CapsLetter => self.parts.caps_letter.as_slice(),
-            Sign::NumSign => self.parts.num_sign.as_slice(),
-            Sign::NoContractSign => self.parts.no_contract_sign.as_slice(),
-        }
+        self.parts.signs.cells(sign)
     }
 
     /// The name of the file with this number, which a rule, an info or a notice of the table gives.

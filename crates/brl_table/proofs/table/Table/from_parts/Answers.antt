@@ -15,9 +15,7 @@ invariant_of-result c =
               few = record {
                 characters = c.requires.few.characters;
                 rules = omega (arith, length_permutation _ _ c.rank.ensures.permutation, c.requires.few.rules);
-                caps_letter = c.requires.few.caps_letter;
-                num_sign = c.requires.few.num_sign;
-                no_contract_sign = c.requires.few.no_contract_sign;
+                signs = c.requires.few.signs;
               };
               distinct = c.requires.distinct;
               numbered = c.requires.numbered;
