@@ -9,7 +9,6 @@ use Rattle.brl_reading.specs.declared.item.Item.{Item}
 use Rattle.brl_reading.specs.declared.item.Item.TheVariants.{Defines, DefinesBoth, Rules, Indicates, Lists, Nothing}
 use Rattle.brl_reading.specs.declared.item.Role.{Role}
 use Rattle.brl_reading.specs.declared.item.Role.TheVariants.{Mode, Nocont}
-use Rattle.brl_table.specs.declared.table.Sign.TheVariants.{CapsLetter, NumSign, NoContractSign}
 use Rattle.brl_table.specs.declared.rule.Info.{Info}
 use Rattle.brl_table.specs.declared.rule.Notice.{Notice}
 use Rattle.brl_table.specs.declared.rule.Rule.{Rule}
@@ -22,6 +21,7 @@ use Rattle.brl_table.specs.Limits.{IsEntry, IsRule}
 use Rattle.brl_table.specs.Rank.{in_rank}
 use Rattle.brl_reading.specs.Reading.{characters_alone, characters_in, characters_table, definitions, entries_said, listed_said, operand_of, has_two_roles, sign_said, fault_among, fault_among_all, fault_where_read, files_of, item_in, items, notices_behind, rule_of, table_of, used_in, used_rules, IsFaultOf, PassesBefore, PassesFirst}
 use Rattle.brl_reading.specs.Said.{over, IsFaultAgain, PassesAgain}
+use Rattle.brl_table.specs.Signs.{by_sign}
 use Rattle.brl_table.specs.TableView.{TableView}
 use Rattle.brl_table.specs.Text.{is_text}
 use Rattle.brl_reading.proofs.GoodItems.{rule-good}
@@ -55,26 +55,22 @@ same-look characters files notices line (Lists l) = by_role l.role
 same-look characters files notices line Nothing = refl
 
 -- two tables whose fields are the same are the same
-made : List (ℕ × Info) → List Rule → List ℕ → List ℕ → List ℕ → List (List ℕ) → List Notice → TableView
-made characters rules caps_letter num_sign no_contract_sign files notices = record {
+made : List (ℕ × Info) → List Rule → List (List ℕ) → List (List ℕ) → List Notice → TableView
+made characters rules signs files notices = record {
   characters = characters;
   rules = rules;
-  caps_letter = caps_letter;
-  num_sign = num_sign;
-  no_contract_sign = no_contract_sign;
+  signs = signs;
   files = files;
   notices = notices;
 }
 
-made-fields : (t : TableView) → t ≡ made t.characters t.rules t.caps_letter t.num_sign t.no_contract_sign t.files t.notices
+made-fields : (t : TableView) → t ≡ made t.characters t.rules t.signs t.files t.notices
 unfolding made
 made-fields t = refl
 
-fields_of : (t u : TableView) → t.characters ≡ u.characters → t.rules ≡ u.rules → t.caps_letter ≡ u.caps_letter → t.num_sign ≡ u.num_sign
-    → t.no_contract_sign ≡ u.no_contract_sign → t.files ≡ u.files → t.notices ≡ u.notices → t ≡ u
-fields_of t u a b c d e f g =
-    let same : made t.characters t.rules t.caps_letter t.num_sign t.no_contract_sign t.files t.notices
-    ≡ made u.characters u.rules u.caps_letter u.num_sign u.no_contract_sign u.files u.notices = cc in
+fields_of : (t u : TableView) → t.characters ≡ u.characters → t.rules ≡ u.rules → t.signs ≡ u.signs → t.files ≡ u.files → t.notices ≡ u.notices → t ≡ u
+fields_of t u a b c d e =
+    let same : made t.characters t.rules t.signs t.files t.notices ≡ made u.characters u.rules u.signs u.files u.notices = cc in
     made-fields t ∙ same ∙ sym (made-fields u)
 
 module _ (lines : List LineView) (said : List Item) (aligned : map Ok said ≡ map (item_in (files_of lines)) lines) (characters : List (ℕ × Info)) (entries : characters ≡ entries_said (definitions said) (listed_said said)) where
@@ -124,21 +120,18 @@ module _ (lines : List LineView) (said : List Item) (aligned : map Ok said ≡ m
   -- the table of these lines
   pub table-is : (notices : List Notice) → notices ≡ notices_behind [] (definitions said) → (rules : List Rule) → rules ≡ map (rule_of (over characters)) (used_rules said)
       → (t : TableView) → t.characters ≡ characters → t.rules ≡ in_rank rules
-      → t.caps_letter ≡ sign_said said CapsLetter → t.num_sign ≡ sign_said said NumSign → t.no_contract_sign ≡ sign_said said NoContractSign
-      → t.files ≡ files_of lines → t.notices ≡ notices → t ≡ table_of lines
-  table-is notices noticed rules ruled t its_characters its_rules its_caps_letter its_num_sign its_no_contract_sign its_files its_notices =
+      → t.signs ≡ by_sign (sign_said said) → t.files ≡ files_of lines → t.notices ≡ notices → t ≡ table_of lines
+  table-is notices noticed rules ruled t its_characters its_rules its_signs its_files its_notices =
       let F = files_of lines in
       let of_items : List Item → TableView = λ xs.
       record (characters_table F xs) {
         rules = in_rank (map (rule_of (characters_table F xs)) (used_rules xs));
-        caps_letter = sign_said xs CapsLetter;
-        num_sign = sign_said xs NumSign;
-        no_contract_sign = sign_said xs NoContractSign;
+        signs = by_sign (sign_said xs);
       } in
       let these : t.rules ≡ in_rank (map (rule_of (over (entries_said (definitions said) (listed_said said)))) (used_rules said)) =
       its_rules ∙ ap in_rank (ruled ∙ ap (λ es. map (rule_of (over es)) (used_rules said)) entries) in
       let same : t ≡ of_items said =
-      fields_of t (of_items said) (its_characters ∙ entries) these its_caps_letter its_num_sign its_no_contract_sign its_files (its_notices ∙ noticed) in
+      fields_of t (of_items said) (its_characters ∙ entries) these its_signs its_files (its_notices ∙ noticed) in
       same ∙ ap of_items (sym (aligned-items F lines said aligned))
 
 -- lines that were all gone over

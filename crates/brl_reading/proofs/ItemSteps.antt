@@ -9,15 +9,22 @@ use Rattle.brl_reading.specs.declared.item.Item.{Item}
 use Rattle.brl_reading.specs.declared.item.Item.TheVariants.{Defines, DefinesBoth, Rules, Indicates, Lists, Nothing}
 use Rattle.brl_reading.specs.declared.item.ListLine.{ListLine}
 use Rattle.brl_reading.specs.declared.item.RuleLine.{RuleLine}
-use Rattle.brl_reading.specs.declared.signs.Signs.{Signs}
-use Rattle.brl_table.specs.declared.table.Sign.{Sign}
-use Rattle.brl_table.specs.declared.table.Sign.TheVariants.{CapsLetter, NumSign, NoContractSign}
+use Rattle.brl_table.specs.declared.signs.Sign.{Sign}
+use Rattle.brl_table.specs.Signs.{by_sign, cells_at, is_same_sign, with_cells}
 use Rattle.brl_reading.specs.declared.table_fault.Wrong.TheVariants.{IndicatorTwice, TooMany}
 use Rattle.brl_reading.specs.Good.{IsGoodItem}
 use Rattle.brl_reading.specs.Items.{fault}
 use Rattle.brl_reading.specs.Reading.{characters_said, definition_in, definitions, fault_behind, indicated_in, is_twice, opcode_in, sign_said, used_in, used_rules}
-use Rattle.brl_reading.specs.Said.{cells_of_sign, nowhere, with_cells, SignsStand, StandFor, Stands}
+use Rattle.brl_reading.specs.Said.{nowhere, SignsStand, StandFor, Stands}
 use Rattle.brl_reading.proofs.SaidSteps.{above, count-said, not_above}
+
+-- a list of what each indicator has gives each its own
+abbrev pub GivesOwn : Type 0
+GivesOwn = (cells : Sign → List ℕ) (sign : Sign) → cells_at (by_sign cells) sign ≡ cells sign
+
+-- indicators with the same number are the same
+abbrev pub AreSame : Type 0
+AreSame = (sign other : Sign) → is_same_sign sign other ≡ true → sign ≡ other
 
 module _ (said : List Item) where
   definitions-more : (item : Item) → definitions (said ++ item ∷ []) ≡ definitions said ++ definition_in item
@@ -29,15 +36,18 @@ module _ (said : List Item) where
   pub used-more : (item : Item) → used_rules (said ++ item ∷ []) ≡ used_rules said ++ used_in item
   used-more item = flat_map-append used_in said (item ∷ []) ∙ ap (λ rs. used_rules said ++ rs) (append-nil (used_in item))
 
-  module _ (characters after : Characters) (signs later : Signs) (used : ℕ) (stands : StandFor said characters signs used) where
+  module _ (characters after : Characters) (signs later : List (List ℕ)) (used : ℕ) (stands : StandFor said characters signs used) where
     -- an item that gives these definitions, no indicator, and so many used rules
     stands-item : (item : Item) (more : ℕ) → Stands (definitions said ++ definition_in item) after → ((sign : Sign) → indicated_in sign item ≡ [])
         → more ≡ used + length (used_in item) → StandFor (said ++ item ∷ []) after signs more
     stands-item item more defined none count = record {
       defined = subst (λ ds. Stands ds after) (sym (definitions-more item)) defined;
-      indicated = λ sign. stands.indicated sign ∙ sym (append-nil (sign_said said sign)) ∙ ap (λ cells. sign_said said sign ++ cells) (sym (none sign)) ∙ sym (sign-more item sign);
+      indicated = stands.indicated ∙ (λ i. by_sign (λ sign. same sign i));
       counted = count ∙ ap (λ n. n + length (used_in item)) stands.counted ∙ sym (length-append (used_rules said) (used_in item)) ∙ ap length (sym (used-more item));
     }
+      where
+        same : (sign : Sign) → sign_said said sign ≡ sign_said (said ++ item ∷ []) sign
+        same sign = sym (append-nil (sign_said said sign)) ∙ ap (λ cells. sign_said said sign ++ cells) (sym (none sign)) ∙ sym (sign-more item sign)
 
     pub stands-defines : (d : Definition) → Stands (definitions said ++ d ∷ []) after → StandFor (said ++ Defines d ∷ []) after signs used
     stands-defines d more = stands-item (Defines d) used more (λ sign. refl) (omega arith)
@@ -46,7 +56,7 @@ module _ (said : List Item) where
     stands-defines-both upper lower more =
         stands-item (DefinesBoth upper lower) used (subst (λ ds. Stands ds after) (append_assoc (definitions said) (upper ∷ []) (lower ∷ [])) more) (λ sign. refl) (omega arith)
 
-  module _ (characters : Characters) (signs : Signs) (used : ℕ) (stands : StandFor said characters signs used) where
+  module _ (characters : Characters) (signs : List (List ℕ)) (used : ℕ) (stands : StandFor said characters signs used) where
     -- and one without definitions
     stands-other : (item : Item) (more : ℕ) → definition_in item ≡ [] → ((sign : Sign) → indicated_in sign item ≡ []) → more ≡ used + length (used_in item)
         → StandFor (said ++ item ∷ []) characters signs more
@@ -72,27 +82,23 @@ module _ (said : List Item) where
     stands-nothing = stands-other Nothing used refl (λ sign. refl) (omega arith)
 
     -- an indicator that has no cells yet
-    pub stands-indicates : (sign : Sign) (cells : List ℕ) (later : Signs) → sign_said said sign ≡ [] → later ≡ with_cells signs sign cells
+    pub stands-indicates : GivesOwn → AreSame → (sign : Sign) (cells : List ℕ) (later : List (List ℕ)) → sign_said said sign ≡ [] → later ≡ with_cells signs sign cells
         → StandFor (said ++ Indicates sign cells ∷ []) characters later used
-    stands-indicates sign cells later none set = record {
+    stands-indicates own same sign cells later none set = record {
       defined = subst (λ ds. Stands ds characters) (sym (definitions-more (Indicates sign cells) ∙ append-nil (definitions said))) stands.defined;
-      indicated = λ other. ap (λ s. cells_of_sign s other) set ∙ each sign other none ∙ sym (sign-more (Indicates sign cells) other);
+      indicated = set ∙ (λ i. by_sign (λ other. each other i));
       counted = stands.counted ∙ ap length (sym (used-more (Indicates sign cells) ∙ append-nil (used_rules said)));
     }
       where
-        kept : (other : Sign) → cells_of_sign signs other ≡ sign_said said other ++ []
-        kept other = stands.indicated other ∙ sym (append-nil (sign_said said other))
+        kept : (other : Sign) → cells_at signs other ≡ sign_said said other ++ []
+        kept other = ap (λ s. cells_at s other) stands.indicated ∙ own (sign_said said) other ∙ sym (append-nil (sign_said said other))
 
-        each : (sign other : Sign) → sign_said said sign ≡ [] → cells_of_sign (with_cells signs sign cells) other ≡ sign_said said other ++ indicated_in other (Indicates sign cells)
-        each CapsLetter CapsLetter none = ap (λ front. front ++ cells) (sym none)
-        each CapsLetter NumSign none = kept NumSign
-        each CapsLetter NoContractSign none = kept NoContractSign
-        each NumSign CapsLetter none = kept CapsLetter
-        each NumSign NumSign none = ap (λ front. front ++ cells) (sym none)
-        each NumSign NoContractSign none = kept NoContractSign
-        each NoContractSign CapsLetter none = kept CapsLetter
-        each NoContractSign NumSign none = kept NumSign
-        each NoContractSign NoContractSign none = ap (λ front. front ++ cells) (sym none)
+        by_test : (other : Sign) (b : Bool) → (b ≡ true → other ≡ sign) → cond b cells (cells_at signs other) ≡ sign_said said other ++ cond b cells []
+        by_test other true is = ap (λ front. front ++ cells) (sym (ap (sign_said said) (is refl) ∙ none))
+        by_test other false is = kept other
+
+        each : (other : Sign) → cond (is_same_sign other sign) cells (cells_at signs other) ≡ sign_said (said ++ Indicates sign cells ∷ []) other
+        each other = by_test other (is_same_sign other sign) (same other sign) ∙ sym (sign-more (Indicates sign cells) other)
 
 -- ---- indicators
 
@@ -104,46 +110,36 @@ some_cells : (n : ℕ) → not (n == 0) ≡ nat_lt 0 n
 some_cells n = grind (arith, nat_tests)
 
 -- whether an indicator has cells
-pub twice-is : (said : List Item) (signs : Signs) (sign : Sign) (own cells : List ℕ) (item : Item) (b : Bool) → SignsStand said signs → cells ≡ cells_of_sign signs sign
-    → b ≡ (length cells == 0) → item ≡ Indicates sign own → not b ≡ is_twice said item
-twice-is said signs sign own cells item b stands lent empty is =
-    ap not empty ∙ some_cells (length cells) ∙ ap (λ xs. nat_lt 0 (length xs)) (lent ∙ stands sign) ∙ ap (is_twice said) (sym is)
+pub twice-is : GivesOwn → (said : List Item) (signs : List (List ℕ)) (sign : Sign) (given cells : List ℕ) (item : Item) (b : Bool) → SignsStand said signs → cells ≡ cells_at signs sign
+    → b ≡ (length cells == 0) → item ≡ Indicates sign given → not b ≡ is_twice said item
+twice-is own said signs sign given cells item b stands lent empty is =
+    ap not empty ∙ some_cells (length cells) ∙ ap (λ xs. nat_lt 0 (length xs)) (lent ∙ ap (λ s. cells_at s sign) stands ∙ own (sign_said said) sign) ∙ ap (is_twice said) (sym is)
 
 module _ (said : List Item) where
   pub unsaid : (sign : Sign) (cells : List ℕ) → is_twice said (Indicates sign cells) ≡ false → sign_said said sign ≡ []
   unsaid sign cells h = empty_of (sign_said said sign) h
 
   -- no indicator gets too many cells
-  few-signs : (files : ℕ) (item : Item) → is_twice said item ≡ false → IsGoodItem files item → ((sign : Sign) → length (sign_said said sign) ≤ 16)
+  few-signs : AreSame → (files : ℕ) (item : Item) → is_twice said item ≡ false → IsGoodItem files item → ((sign : Sign) → length (sign_said said sign) ≤ 16)
       → (sign : Sign) → length (sign_said said sign ++ indicated_in sign item) ≤ 16
-  few-signs files (Defines d) once good few sign = rw (append-nil (sign_said said sign)) (few sign)
-  few-signs files (DefinesBoth upper lower) once good few sign = rw (append-nil (sign_said said sign)) (few sign)
-  few-signs files (Rules r) once good few sign = rw (append-nil (sign_said said sign)) (few sign)
-  few-signs files (Lists l) once good few sign = rw (append-nil (sign_said said sign)) (few sign)
-  few-signs files Nothing once good few sign = rw (append-nil (sign_said said sign)) (few sign)
-  few-signs files (Indicates sign cells) once good few other = each sign other (unsaid sign cells once)
+  few-signs same files (Defines d) once good few sign = rw (append-nil (sign_said said sign)) (few sign)
+  few-signs same files (DefinesBoth upper lower) once good few sign = rw (append-nil (sign_said said sign)) (few sign)
+  few-signs same files (Rules r) once good few sign = rw (append-nil (sign_said said sign)) (few sign)
+  few-signs same files (Lists l) once good few sign = rw (append-nil (sign_said said sign)) (few sign)
+  few-signs same files Nothing once good few sign = rw (append-nil (sign_said said sign)) (few sign)
+  few-signs same files (Indicates sign cells) once good few other = by_test (is_same_sign other sign) (same other sign)
     where
-      kept : (other : Sign) → length (sign_said said other ++ []) ≤ 16
-      kept other = rw (append-nil (sign_said said other)) (few other)
-
-      each : (sign other : Sign) → sign_said said sign ≡ [] → length (sign_said said other ++ indicated_in other (Indicates sign cells)) ≤ 16
-      each CapsLetter CapsLetter none = rw none good.few_cells
-      each CapsLetter NumSign none = kept NumSign
-      each CapsLetter NoContractSign none = kept NoContractSign
-      each NumSign CapsLetter none = kept CapsLetter
-      each NumSign NumSign none = rw none good.few_cells
-      each NumSign NoContractSign none = kept NoContractSign
-      each NoContractSign CapsLetter none = kept CapsLetter
-      each NoContractSign NumSign none = kept NumSign
-      each NoContractSign NoContractSign none = rw none good.few_cells
+      by_test : (b : Bool) → (b ≡ true → other ≡ sign) → length (sign_said said other ++ cond b cells []) ≤ 16
+      by_test true is = rw (ap (sign_said said) (is refl) ∙ unsaid sign cells once) good.few_cells
+      by_test false is = rw (append-nil (sign_said said other)) (few other)
 
 -- the next items' indicators have not too many cells
-pub signs-within : (said : List Item) (files : ℕ) (item : Item) (old new : Signs) → is_twice said item ≡ false → IsGoodItem files item → SignsStand said old → SignsStand (said ++ item ∷ []) new
-    → ((sign : Sign) → length (cells_of_sign old sign) ≤ 16) → (sign : Sign) → length (cells_of_sign new sign) ≤ 16
-signs-within said files item old new once good before after few sign =
+pub signs-within : GivesOwn → AreSame → (said : List Item) (files : ℕ) (item : Item) (old new : List (List ℕ)) → is_twice said item ≡ false → IsGoodItem files item → SignsStand said old → SignsStand (said ++ item ∷ []) new
+    → ((sign : Sign) → length (cells_at old sign) ≤ 16) → (sign : Sign) → length (cells_at new sign) ≤ 16
+signs-within own same said files item old new once good before after few sign =
     let P : List ℕ → Type 0 = λ cells. length cells ≤ 16 in
-    subst P (sym (after sign ∙ sign-more said item sign))
-    (few-signs said files item once good (λ other. subst P (before other) (few other)) sign)
+    subst P (sym (ap (λ s. cells_at s sign) after ∙ own (sign_said (said ++ item ∷ [])) sign ∙ sign-more said item sign))
+    (few-signs said same files item once good (λ other. subst P (ap (λ s. cells_at s other) before ∙ own (sign_said said) other) (few other)) sign)
 
 or-first : (a b : Bool) → a ≡ true → a || b ≡ true
 or-first a b h = rw h refl
@@ -156,7 +152,7 @@ module _ (said : List Item) (line : LineView) (item : Item) where
   pub fault-twice : is_twice said item ≡ true → fault_behind said line (Ok item) ≡ Some (fault IndicatorTwice (opcode_in line item))
   fault-twice h = rw h refl
 
-  module _ (once : is_twice said item ≡ false) (characters : Characters) (signs : Signs) (used : ℕ) (stands : StandFor (said ++ item ∷ []) characters signs used) where
+  module _ (once : is_twice said item ≡ false) (characters : Characters) (signs : List (List ℕ)) (used : ℕ) (stands : StandFor (said ++ item ∷ []) characters signs used) where
     count : length characters.infos.entries ≡ length (characters_said (definitions (said ++ item ∷ [])))
     count = ap length stands.defined.characters_stand ∙ count-said (definitions (said ++ item ∷ [])) nowhere
 

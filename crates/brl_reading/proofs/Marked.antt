@@ -14,7 +14,6 @@ use Rattle.brl_reading.specs.declared.item.ListLine.{ListLine}
 use Rattle.brl_reading.specs.declared.item.Role.{Role}
 use Rattle.brl_reading.specs.declared.item.Role.TheVariants.{Mode, Nocont}
 use Rattle.brl_table.specs.declared.rule.Info.{Info}
-use Rattle.brl_reading.specs.declared.signs.Signs.{Signs}
 use Rattle.brl_reading.specs.Reading.{Listed, chars_as, characters_said, definitions, entries_said, info_said, listed_in, listed_said}
 use Rattle.brl_reading.specs.Said.{flagged, listed_behind, listed_more, nowhere, AreMarked, AreWithin, Stands}
 use Rattle.brl_reading.proofs.Numbered.{absent, eq-flip, found-numbered, numbered-old, numbered-same, or-nothing, single-fold}
@@ -148,7 +147,7 @@ all-marked items shown old new stands same marks notices = record {
   notices_stand = ap (λ ns. ns.items) notices ∙ stands.notices_stand;
 }
 
-pub still-within : (items : List Item) (old new : Characters) (signs : Signs) (used : ℕ) → Stands (definitions items) old → AreMarked items new → AreWithin old signs used → AreWithin new signs used
+pub still-within : (items : List Item) (old new : Characters) (signs : List (List ℕ)) (used : ℕ) → Stands (definitions items) old → AreMarked items new → AreWithin old signs used → AreWithin new signs used
 still-within items old new signs used stands marked within =
     let before : length old.infos.entries ≡ length (characters_said (definitions items)) = ap length stands.characters_stand ∙ count-said (definitions items) nowhere in
     let after : length new.infos.entries ≡ length (characters_said (definitions items)) = ap length marked.characters_stand ∙ count-said (definitions items) (listed_said items) in

@@ -13,7 +13,6 @@ use Rattle.brl_lines.specs.Tokens.{LineView}
 use Rattle.brl_lines.specs.Views.{line_view}
 use Rattle.brl_lines.specs.declared.line.Line.{Line}
 use Rattle.brl_reading.specs.declared.characters.Characters.{Characters}
-use Rattle.brl_reading.specs.declared.signs.Signs.{Signs}
 use Rattle.brl_reading.specs.declared.item.Definition.{Definition}
 use Rattle.brl_reading.specs.declared.item.Item.{Item}
 use Rattle.brl_reading.specs.declared.item.Item.TheVariants.{Defines, DefinesBoth, Rules, Indicates, Lists, Nothing}
@@ -183,7 +182,7 @@ module _ (lines : List Line) (names : List (String Global)) (named : map string_
           ∙ sym (map-append (item_in F) (take i (map line_view lines)) (line_view line ∷ [])) ∙ ap (map (item_in F)) (sym taken)
 
       -- the next line passes
-      pub passes-more : (item : Item) (characters : Characters) (signs : Signs) (used : ℕ) → item_of file (line_view line) ≡ Ok item → is_twice said item ≡ false
+      pub passes-more : (item : Item) (characters : Characters) (signs : List (List ℕ)) (used : ℕ) → item_of file (line_view line) ≡ Ok item → is_twice said item ≡ false
           → StandFor (said ++ item ∷ []) characters signs used → AreWithin characters signs used
           → PassesBefore (fault_of (map line_view lines)) (map line_view lines) i → PassesBefore (fault_of (map line_view lines)) (map line_view lines) (i + 1)
       passes-more item characters signs used h once stands within before place other lower at = by_place (cases_order place i)

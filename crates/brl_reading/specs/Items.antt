@@ -19,7 +19,7 @@ use Rattle.brl_reading.specs.declared.item.LineFault.TheVariants as line_faults
 use Rattle.brl_reading.specs.declared.opcode.Opcode.{Opcode}
 use Rattle.brl_reading.specs.declared.opcode.Opcode.TheVariants.{Plain, Literary, Uplow, Placed, Noback, Nofor, Display, Indicator, Listing, Include}
 use Rattle.brl_table.specs.declared.place.Place.{Place}
-use Rattle.brl_table.specs.declared.table.Sign.{Sign}
+use Rattle.brl_table.specs.declared.signs.Sign.{Sign}
 use Rattle.brl_reading.specs.declared.table_fault.Wrong.{Wrong}
 use Rattle.brl_reading.specs.declared.table_fault.Wrong.TheVariants.{OutsideProfile, MissingOperand, BadCharacters, BadDots, TooMany}
 use Rattle.brl_reading.specs.Opcodes.{opcode_of}

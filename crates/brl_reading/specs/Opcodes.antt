@@ -8,7 +8,7 @@ use Rattle.brl_reading.specs.declared.opcode.Opcode.{Opcode}
 use Rattle.brl_reading.specs.declared.opcode.Opcode.TheVariants.{Plain, Literary, Uplow, Placed, Noback, Nofor, Display, Indicator, Listing, Include}
 use Rattle.brl_reading.specs.declared.item.Role.TheVariants.{Mode, Nocont}
 use Rattle.brl_table.specs.declared.place.Place.TheVariants.{Always, Word, Sufword, Prfword, Begword, Begmidword, Midword, Midendword, Endword, Partword, Begnum, Midnum, Endnum}
-use Rattle.brl_table.specs.declared.table.Sign.TheVariants.{CapsLetter, NumSign, NoContractSign}
+use Rattle.brl_table.specs.declared.signs.Sign.TheVariants.{CapsLetter, NumSign, NoContractSign}
 use Rattle.brl_table.specs.Places.{space, punctuation, digit, letter, lowercase_letter, uppercase_letter, sign, math}
 
 -- those that define characters

@@ -22,13 +22,13 @@ use Rattle.brl_reading.specs.declared.item.LineFault.TheVariants as line_faults
 use Rattle.brl_table.specs.declared.rule.Info.{Info}
 use Rattle.brl_table.specs.declared.rule.Notice.{Notice}
 use Rattle.brl_table.specs.declared.rule.Rule.{Rule}
-use Rattle.brl_table.specs.declared.table.Sign.{Sign}
-use Rattle.brl_table.specs.declared.table.Sign.TheVariants.{CapsLetter, NumSign, NoContractSign}
+use Rattle.brl_table.specs.declared.signs.Sign.{Sign}
 use Rattle.brl_reading.specs.declared.table_fault.TableFault.{TableFault}
 use Rattle.brl_reading.specs.declared.table_fault.TableFault.TheVariants as faults
 use Rattle.brl_reading.specs.declared.table_fault.Wrong.TheVariants.{IndicatorTwice, TooMany, TwoRoles, UndefinedInList, UndefinedInRule}
 use Rattle.brl_reading.specs.Items.{Fault, fault, item_of}
 use Rattle.brl_table.specs.Rank.{in_rank}
+use Rattle.brl_table.specs.Signs.{by_sign, is_same_sign, no_cells}
 use Rattle.brl_table.specs.TableView.{TableView, info_of}
 use Rattle.brl_table.specs.Text.{fold_of, is_literary, is_text}
 
@@ -164,9 +164,7 @@ abbrev pub characters_alone : List (ℕ × Info) → List (List ℕ) → List No
 characters_alone characters files notices = record {
   characters = characters;
   rules = [];
-  caps_letter = [];
-  num_sign = [];
-  no_contract_sign = [];
+  signs = no_cells;
   files = files;
   notices = notices;
 }
@@ -176,14 +174,9 @@ characters_table files said = characters_alone (entries_said (definitions said) 
 
 -- ---- Indicators
 
-abbrev pub cells_as : Sign → Sign → List ℕ → List ℕ
-cells_as CapsLetter CapsLetter cells = cells
-cells_as NumSign NumSign cells = cells
-cells_as NoContractSign NoContractSign cells = cells
-cells_as sign other cells = []
-
+-- the cells that a line gives an indicator: none where it gives another one cells, or none
 abbrev pub indicated_in : Sign → Item → List ℕ
-indicated_in sign (Indicates other cells) = cells_as sign other cells
+indicated_in sign (Indicates other cells) = if is_same_sign sign other then cells else []
 indicated_in sign other = []
 
 -- the cells of an indicator: those of the one line that gives it some, and none where no line does
@@ -226,9 +219,7 @@ table_of lines =
     let t = characters_table files said in
     record t {
       rules = in_rank (map (rule_of t) (used_rules said));
-      caps_letter = sign_said said CapsLetter;
-      num_sign = sign_said said NumSign;
-      no_contract_sign = sign_said said NoContractSign;
+      signs = by_sign (sign_said said);
     }
 
 -- ---- Faults

@@ -12,14 +12,13 @@ use Rattle.brl_reading.specs.declared.item.Role.{Role}
 use Rattle.brl_reading.specs.declared.item.Role.TheVariants.{Mode, Nocont}
 use Rattle.brl_table.specs.declared.rule.Info.{Info}
 use Rattle.brl_table.specs.declared.rule.Rule.{Rule}
-use Rattle.brl_reading.specs.declared.signs.Signs.{Signs}
-use Rattle.brl_table.specs.declared.table.Sign.{Sign}
-use Rattle.brl_table.specs.declared.table.Sign.TheVariants.{CapsLetter, NumSign, NoContractSign}
+use Rattle.brl_table.specs.declared.signs.Sign.{Sign}
 use Rattle.brl_reading.specs.declared.table_fault.TableFault.{TableFault}
 use Rattle.brl_reading.specs.declared.table_fault.TableFault.TheVariants as faults
 use Rattle.brl_reading.specs.Items.{Fault, fault}
 use Rattle.brl_reading.specs.Good.{IsGoodItem}
 use Rattle.brl_table.specs.Limits.{IsRule}
+use Rattle.brl_table.specs.Signs.{by_sign, cells_at}
 use Rattle.brl_reading.specs.Reading.{Listed, PassesAll, PassesFirst, characters_alone, definitions, entries_said, fault_among, fault_behind, files_of, first_plain, is_twice, item_in, listed_said, notices_behind, rule_of, sign_said, used_in, used_rules}
 use Rattle.brl_table.specs.TableView.{TableView}
 
@@ -74,23 +73,12 @@ pub record Stands (said : List Definition) (characters : Characters) : Type 0 wh
   pub plain_stand : (c : ℕ) → contains nat_eq characters.plain c ≡ is_some (first_plain said c)
   pub notices_stand : characters.notices.items ≡ notices_behind [] said
 
--- the cells of an indicator
-abbrev pub cells_of_sign : Signs → Sign → List ℕ
-cells_of_sign signs CapsLetter = signs.caps_letter
-cells_of_sign signs NumSign = signs.num_sign
-cells_of_sign signs NoContractSign = signs.no_contract_sign
-
-abbrev pub with_cells : Signs → Sign → List ℕ → Signs
-with_cells signs CapsLetter cells = record signs { caps_letter = cells }
-with_cells signs NumSign cells = record signs { num_sign = cells }
-with_cells signs NoContractSign cells = record signs { no_contract_sign = cells }
-
 -- these indicators are what the items say
-abbrev pub SignsStand : List Item → Signs → Type 0
-SignsStand said signs = (sign : Sign) → cells_of_sign signs sign ≡ sign_said said sign
+abbrev pub SignsStand : List Item → List (List ℕ) → Type 0
+SignsStand said signs = signs ≡ by_sign (sign_said said)
 
 -- these characters, these indicators and so many used rules are what the items say
-pub record StandFor (said : List Item) (characters : Characters) (signs : Signs) (used : ℕ) : Type 0 where
+pub record StandFor (said : List Item) (characters : Characters) (signs : List (List ℕ)) (used : ℕ) : Type 0 where
   pub defined : Stands (definitions said) characters
   pub indicated : SignsStand said signs
   pub counted : used ≡ length (used_rules said)
@@ -101,13 +89,13 @@ pub record AreMarked (said : List Item) (characters : Characters) : Type 0 where
   pub notices_stand : characters.notices.items ≡ notices_behind [] (definitions said)
 
 -- none of these are too many
-pub record AreWithin (characters : Characters) (signs : Signs) (used : ℕ) : Type 0 where
+pub record AreWithin (characters : Characters) (signs : List (List ℕ)) (used : ℕ) : Type 0 where
   pub few_characters : length characters.infos.entries ≤ 1024
-  pub few_cells : (sign : Sign) → length (cells_of_sign signs sign) ≤ 16
+  pub few_cells : (sign : Sign) → length (cells_at signs sign) ≤ 16
   pub few_rules : used ≤ 4096
 
 -- an item of the file with this number stands behind others, and none are too many
-pub record HasAdded (said : List Item) (file : ℕ) (item : Item) (items : List Item) (characters : Characters) (signs : Signs) (used : ℕ) : Type 0 where
+pub record HasAdded (said : List Item) (file : ℕ) (item : Item) (items : List Item) (characters : Characters) (signs : List (List ℕ)) (used : ℕ) : Type 0 where
   pub added : items ≡ said ++ item ∷ []
   pub once : is_twice said item ≡ false
   pub good : IsGoodItem (file + 1) item
@@ -115,7 +103,7 @@ pub record HasAdded (said : List Item) (file : ℕ) (item : Item) (items : List 
   pub within : AreWithin characters signs used
 
 -- one more line, of the file with this number, which says this: its item is added, or its fault is told
-abbrev pub Adds : List Item → LineView → ℕ → Result Item Fault → List Item → Characters → Signs → ℕ → Result (Unit {0}) LineFault → Type 0
+abbrev pub Adds : List Item → LineView → ℕ → Result Item Fault → List Item → Characters → List (List ℕ) → ℕ → Result (Unit {0}) LineFault → Type 0
 Adds said line file want items characters signs used (Ok done) =
     (item : Item) × (want ≡ Ok item) × HasAdded said file item items characters signs used
 Adds said line file want items characters signs used (Err line_faults.Memory) = Unit {0}
@@ -123,7 +111,7 @@ Adds said line file want items characters signs used (Err (line_faults.Wrong wro
     fault_behind said line want ≡ Some (fault wrong subject.now)
 
 -- these items are what all the lines say, which pass the first look
-pub record AreAdded (lines : List LineView) (said : List Item) (characters : Characters) (signs : Signs) (used : ℕ) : Type 0 where
+pub record AreAdded (lines : List LineView) (said : List Item) (characters : Characters) (signs : List (List ℕ)) (used : ℕ) : Type 0 where
   pub aligned : map Ok said ≡ map (item_in (files_of lines)) lines
   pub stands : StandFor said characters signs used
   pub good : All (IsGoodItem (length (files_of lines))) said
@@ -162,7 +150,7 @@ LooksAgain characters line item old new (Err (line_faults.Wrong wrong subject)) 
     fault_among (over characters) line item ≡ Some (fault wrong subject.now)
 
 -- the lines pass both looks: these items are what they say, and these rules are the used ones
-pub record AreRead (lines : List LineView) (said : List Item) (characters : Characters) (signs : Signs) (used : ℕ) (rules : List Rule) : Type 0 where
+pub record AreRead (lines : List LineView) (said : List Item) (characters : Characters) (signs : List (List ℕ)) (used : ℕ) (rules : List Rule) : Type 0 where
   pub aligned : map Ok said ≡ map (item_in (files_of lines)) lines
   pub marked : AreMarked said characters
   pub indicated : SignsStand said signs

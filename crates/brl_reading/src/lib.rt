@@ -9,7 +9,6 @@ mod no_table;
 mod opcode;
 mod operand;
 mod reading;
-mod signs;
 mod table_fault;
 
 pub use files::{load_table, one_table_law};

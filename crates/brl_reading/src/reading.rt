@@ -43,10 +43,9 @@ ghost use Rattle.brl_reading.specs.Reading.{
 use crate::characters::Characters;
 use crate::item::{Item, LineFault, ListLine, Role, RuleLine};
 use crate::line::item_of;
-use crate::signs::Signs;
 use crate::{TableFault, Wrong};
 use brl_lines::Line;
-use brl_table::{Rule, Table, TableParts, rank_law};
+use brl_table::{Rule, Signs, Table, TableParts, rank_law, signs_law};
 use std::alloc::{AllocError, Global};
 
 /// The most characters of a table.
@@ -151,6 +150,7 @@ impl Said {
             Adds self.old.items.items view file (item_said file view) self.new.items.items
             self.new.characters self.new.signs self.new.used result }
     {
+        signs_law();
         let item = match item_of(alloc, file, line) {
             Ok(item) => item,
             Err(fault) => return Err(fault),
@@ -171,6 +171,7 @@ impl Said {
     fn is_twice(&self, item: &Item) -> bool
         ensures { (said : List ItemView) → SignsStand said self.now.signs → result ≡ is_twice_by said item.now }
     {
+        signs_law();
         match item {
             Item::Indicates(sign, _) => !self.signs.cells(*sign).is_empty(),
             _ => false,
@@ -185,6 +186,7 @@ impl Said {
         ensures stands { OnOk result (StandFor (self.old.items.items ++ item.now ∷ []) self.new.characters self.new.signs self.new.used) }
         ensures items { self.new.items.items ≡ self.old.items.items }
     {
+        signs_law();
         match item {
             Item::Defines(definition) => self.characters.define(definition)?,
             Item::DefinesBoth(upper, lower) => {
@@ -267,9 +269,7 @@ impl Said {
         requires rules { All (IsRule self.characters.infos.entries (vec_len files)) rules.items }
         ensures characters { IfOk result (λ t. t.characters ≡ self.characters.infos.entries) }
         ensures rules { IfOk result (λ t. t.rules ≡ in_rank rules.items) }
-        ensures caps_letter { IfOk result (λ t. t.caps_letter ≡ self.signs.caps_letter) }
-        ensures num_sign { IfOk result (λ t. t.num_sign ≡ self.signs.num_sign) }
-        ensures no_contract_sign { IfOk result (λ t. t.no_contract_sign ≡ self.signs.no_contract_sign) }
+        ensures signs { IfOk result (λ t. t.signs ≡ self.signs) }
         ensures files { IfOk result (λ t. t.files ≡ map string_bytes files.items) }
         ensures notices { IfOk result (λ t. t.notices ≡ self.characters.notices.items) }
     {
@@ -284,9 +284,7 @@ impl Said {
         Table::from_parts(TableParts {
             characters: characters.infos,
             rules,
-            caps_letter: signs.caps_letter,
-            num_sign: signs.num_sign,
-            no_contract_sign: signs.no_contract_sign,
+            signs,
             files,
             notices: characters.notices,
         })

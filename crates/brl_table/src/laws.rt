@@ -13,7 +13,8 @@ ghost use Rattle.brl_table.specs.TableView.{TableView};
 ghost use Rattle.brl_table.specs.Text.{at_start, classes_before, context_at, context_behind_all};
 ghost use Rattle.brl_table.specs.Translation.{IsClash, IsUnambiguous, indicators_at, chosen_at, translation_from, translation};
 
-/// A list of what each indicator has gives each its own, and indicators with the same number are the same.
+/// A list of what each indicator has gives each its own, and indicators with the same number are
+/// the same.
 pub fn signs_law()
     ensures own { (cells : Sign → List ℕ) (sign : Sign) → cells_at (by_sign cells) sign ≡ cells sign }
     ensures same { (sign other : Sign) → IsTrue (is_same_sign sign other) → sign ≡ other }

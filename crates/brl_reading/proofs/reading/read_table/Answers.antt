@@ -1,9 +1,8 @@
-use Rattle.std.proofs.Common.{◌≡◌, ◌∙◌, ap, sym, subst, length, map, string_bytes, vec_len, arith}
+use Rattle.std.proofs.Common.{◌≡◌, ◌∙◌, ap, subst, length, map, string_bytes, vec_len, arith}
 use Rattle.std.specs.Prelude.{All}
 use Rattle.std.specs.Global.{Global}
 use Rattle.std.proofs.lemmas.List.{length-map}
 use Rattle.brl_lines.specs.Views.{line_view}
-use Rattle.brl_table.specs.declared.table.Sign.TheVariants.{CapsLetter, NumSign, NoContractSign}
 use Rattle.brl_reading.specs.Good.{IsGoodItem}
 use Rattle.brl_table.specs.Limits.{IsRule}
 use Rattle.brl_reading.specs.Reading.{files_of}
@@ -29,5 +28,4 @@ returns-clause-table c =
     let t = c.in_ok-table.ensures in
     table-is (map line_view c.args.lines.now) said.items.items read.aligned said.characters.infos.entries read.marked.characters_stand said.characters.notices.items read.marked.notices_stand
     c.in_ok-rules.rules.items read.rules_told c.in_ok-table.field-0 t.characters t.rules
-    (t.caps_letter ∙ read.indicated CapsLetter) (t.num_sign ∙ read.indicated NumSign) (t.no_contract_sign ∙ read.indicated NoContractSign)
-    (t.files ∙ c.in_ok-files.ensures) t.notices
+    (t.signs ∙ read.indicated) (t.files ∙ c.in_ok-files.ensures) t.notices

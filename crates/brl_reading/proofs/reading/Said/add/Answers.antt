@@ -38,7 +38,7 @@ returns c =
         stands = c.in_ok-count.ensures.stands;
         within = record {
           few_characters = omega (arith, c.len.ensures.len);
-          few_cells = signs-within said (c.args.file + 1) item c.args.self.now.signs signs once c.in-Ok.ensures.good c.requires.stands.indicated c.in_ok-count.ensures.stands.indicated
+          few_cells = signs-within c.signs_law.ensures.own c.signs_law.ensures.same said (c.args.file + 1) item c.args.self.now.signs signs once c.in-Ok.ensures.good c.requires.stands.indicated c.in_ok-count.ensures.stands.indicated
               c.requires.within.few_cells;
           few_rules = omega arith;
         };

@@ -2,7 +2,6 @@ use Rattle.std.proofs.Common.{◌≡◌, length, map, string_bytes, vec_len, ari
 use Rattle.std.specs.Prelude.{All}
 use Rattle.std.proofs.lemmas.List.{length-map}
 use Rattle.std.proofs.lemmas.Result.{IfOk-weaker}
-use Rattle.brl_table.specs.declared.table.Sign.TheVariants.{CapsLetter, NumSign, NoContractSign}
 use Rattle.brl_table.specs.Limits.{IsRule}
 use Rattle.brl_table.specs.Rank.{in_rank, IsRanking}
 use Rattle.brl_reading.specs.Good.{IsGoodItem}
@@ -19,14 +18,11 @@ from_parts-requires c =
     let named : vec_len c.args.files ≡ files = omega (arith, length-map c.args.files.items string_bytes) in
     let good = subst (λ n. All (IsGoodItem n) items) named c.requires.good in
     let defined = good-definitions files items good in
-    let few = c.requires.within.few_cells in
     record {
       few = record {
         characters = c.requires.within.few_characters;
         rules = c.requires.few_rules;
-        caps_letter = few CapsLetter;
-        num_sign = few NumSign;
-        no_contract_sign = few NoContractSign;
+        signs = c.requires.within.few_cells;
       };
       distinct = c.len-count.ensures.unique;
       numbered = numbered-said (definitions items) (listed_said items) characters.infos.entries c.requires.marked.characters_stand;
