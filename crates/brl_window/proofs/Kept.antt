@@ -9,11 +9,12 @@ use Rattle.brl_table.specs.declared.class.Class.{Class}
 use Rattle.brl_table.specs.declared.context.Context.{Context}
 use Rattle.brl_table.specs.declared.rule.Info.{Info}
 use Rattle.brl_table.specs.declared.rule.Rule.{Rule}
+use Rattle.brl_table.specs.declared.signs.Sign.{Sign}
 use Rattle.brl_table.specs.Choice.{chosen}
 use Rattle.brl_table.specs.Limits.{IsRule, IsTable}
 use Rattle.brl_table.specs.Rank.{IsInRank}
 use Rattle.brl_table.specs.Rest.{translation_of_rest, TakesOneRule}
-use Rattle.brl_table.specs.TableView.{TableView}
+use Rattle.brl_table.specs.TableView.{TableView, sign_cells}
 use Rattle.brl_table.specs.Text.{at_start}
 use Rattle.brl_table.specs.Translation.{translation}
 use Rattle.brl_window.specs.Windows.{longest}
@@ -32,9 +33,7 @@ pub record Keeps (t : TableView) : Type 0 where
   pub single : AreDistinct (keys_of t.characters)
   pub own_cells : AllByRecursion (λ e. Within (length e.1.cells) 16) t.characters
   pub rule_cells : AllByRecursion (λ r. Within (length r.cells) 512) t.rules
-  pub caps_cells : length t.caps_letter ≤ 16
-  pub num_cells : length t.num_sign ≤ 16
-  pub no_contract_cells : length t.no_contract_sign ≤ 16
+  pub signs_cells : (sign : Sign) → length (sign_cells t sign) ≤ 16
 
 each : {X : Type 0} (P : X → Type 0) (xs : List X) → ((k : ℕ) (d : X) → k < length xs → P (slice_index_or xs k d)) → AllByRecursion P xs
 each P [] h = tt
@@ -59,9 +58,7 @@ keeps_of t valid = record {
       (λ k d within. (let entry = valid.parts.entries k d within in record { some = entry.some_cells; room = entry.few_cells }));
   rule_cells = each (λ r. Within (length r.cells) 512) t.rules
       (λ k d within. (let rule = valid.parts.rules k d within in record { some = rule.some_cells; room = rule.few_cells }));
-  caps_cells = valid.parts.few.caps_letter;
-  num_cells = valid.parts.few.num_sign;
-  no_contract_cells = valid.parts.few.no_contract_sign;
+  signs_cells = valid.parts.few.signs;
 }
 
 -- ---- The longest rule

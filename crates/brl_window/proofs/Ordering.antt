@@ -10,10 +10,11 @@ use Rattle.brl_table.specs.declared.class.Class.{Class}
 use Rattle.brl_table.specs.declared.rule.Rule.{Rule}
 use Rattle.brl_table.specs.declared.rule.Info.{Info}
 use Rattle.brl_table.specs.declared.context.Context.{Context}
+use Rattle.brl_table.specs.declared.signs.Sign.TheVariants.{CapsLetter, NumSign, NoContractSign}
 use Rattle.brl_table.specs.Choice.{Choice, by_rule, chosen, own, first_fitting, fits}
 use Rattle.brl_table.specs.Indicators.{indicators, when}
 use Rattle.brl_table.specs.Places.{share, uppercase}
-use Rattle.brl_table.specs.TableView.{TableView}
+use Rattle.brl_table.specs.TableView.{TableView, sign_cells}
 use Rattle.brl_table.specs.Text.{is_defined, is_nocont, is_literary, classes_of}
 use Rattle.brl_pairs.specs.declared.step.Step.{Step}
 use Rattle.brl_pairs.specs.Runs.{IsListed, IsGoodStep, IsInOrder}
@@ -49,9 +50,11 @@ when-most false cells h = omega arith
 
 signs-most : (t : TableView) (here : Context) (c : ℕ) (rest : List ℕ) → Keeps t → length (indicators t here (c ∷ rest)) ≤ 48
 signs-most t here c rest valid = three
-    (when (here.numeric && is_nocont t c) t.no_contract_sign) (when (is_literary t c && not here.numeric) t.num_sign) (when (share (classes_of t c) uppercase) t.caps_letter)
-    (when-most (here.numeric && is_nocont t c) t.no_contract_sign valid.no_contract_cells)
-    (when-most (is_literary t c && not here.numeric) t.num_sign valid.num_cells) (when-most (share (classes_of t c) uppercase) t.caps_letter valid.caps_cells)
+    (when (here.numeric && is_nocont t c) (sign_cells t NoContractSign)) (when (is_literary t c && not here.numeric) (sign_cells t NumSign))
+    (when (share (classes_of t c) uppercase) (sign_cells t CapsLetter))
+    (when-most (here.numeric && is_nocont t c) (sign_cells t NoContractSign) (valid.signs_cells NoContractSign))
+    (when-most (is_literary t c && not here.numeric) (sign_cells t NumSign) (valid.signs_cells NumSign))
+    (when-most (share (classes_of t c) uppercase) (sign_cells t CapsLetter) (valid.signs_cells CapsLetter))
   where
     three : (xs ys zs : List ℕ) → length xs ≤ 16 → length ys ≤ 16 → length zs ≤ 16 → length (xs ++ ys ++ zs) ≤ 48
     three xs ys zs a b c = grind (arith, length-append)

@@ -8,9 +8,8 @@ use Rattle.brl_pairs.specs.Runs.{Behaviour}
 use Rattle.brl_pairs.specs.declared.step.Step.{Step}
 use Rattle.brl_table.specs.Choice.{chosen}
 use Rattle.brl_table.specs.Indicators.{indicators}
-use Rattle.brl_table.specs.Places.{space}
 use Rattle.brl_table.specs.TableView.{TableView}
-use Rattle.brl_table.specs.Text.{context_behind_all, is_defined, is_text}
+use Rattle.brl_table.specs.Text.{at_start, context_behind_all, is_defined, is_text}
 use Rattle.brl_table.specs.Translation.{translation}
 use Rattle.brl_table.specs.declared.context.Context.{Context}
 use Rattle.brl_table.specs.declared.rule.Rule.{Rule}
@@ -46,8 +45,13 @@ windows t s =
 
 -- ---- Steps
 
+-- what a state knows of the characters before
 abbrev pub context_of : WindowState → Context
 context_of s = record { classes = s.before; numeric = s.numeric }
+
+-- the state with this context that knows these next characters, and whether the text ends there
+abbrev pub state_in : Context → Bool → List ℕ → WindowState
+state_in here ended coming = record { before = here.classes; numeric = here.numeric; ended = ended; coming = coming }
 
 -- the step of a window: it takes the chosen rule, with the indicators in front of it
 abbrev pub window_step : TableView → Context → Window → Step WindowState
@@ -58,7 +62,7 @@ window_step t here w =
       rule = choice.number;
       reads = take choice.taken w.known;
       cells = indicators t here w.known ++ choice.cells;
-      next = record { before = behind.classes; numeric = behind.numeric; ended = w.ended; coming = drop choice.taken w.known };
+      next = state_in behind w.ended (drop choice.taken w.known);
     }
 
 -- whether the first of these is a character of the table
@@ -91,7 +95,7 @@ window_steps t s = by_rule_number (steps_found t s)
 
 -- before any character: class space stands before, no numeric mode, and nothing is known of the text
 abbrev pub first_state : WindowState
-first_state = record { before = space; numeric = false; ended = false; coming = [] }
+first_state = state_in at_start false []
 
 -- a state ends where it knows no character to come
 abbrev pub knows_none : WindowState → Bool

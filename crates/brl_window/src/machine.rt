@@ -8,7 +8,7 @@ use crate::steps::{find_steps, longest_rule, sort_steps};
 use crate::{TooWide, WindowState};
 use brl_cells::Chars;
 use brl_pairs::{Machine, Step};
-use brl_table::{Class, Table, choice_laws, translation_laws};
+use brl_table::{Context, Table, choice_laws, translation_laws};
 use std::alloc::{AllocError, Global};
 use std::marker::Model;
 
@@ -75,12 +75,8 @@ impl<'a> Machine for Window<'a> {
         choice_laws();
         translation_laws();
         self.table.law();
-        WindowState {
-            before: Class::SPACE,
-            numeric: false,
-            ended: false,
-            coming: Chars::from_vec(Vec::new(self.alloc)),
-        }
+        let coming = Chars::from_vec(Vec::new(self.alloc));
+        WindowState::from_context(Context::START, false, coming)
     }
 
     #[tactic(auto, unfolding(crate::specs::Windows::window_steps))]

@@ -1,8 +1,9 @@
 //! The states of a window machine.
 ghost use Rattle.std.specs.Prelude.{◌≡◌, IfOk};
+ghost use Rattle.brl_window.specs.Windows.{context_of, state_in};
 
 use brl_cells::Chars;
-use brl_table::Class;
+use brl_table::{Class, Context};
 use std::alloc::{AllocError, Global};
 
 /// What a run of a window machine knows at a position of a text.
@@ -19,15 +20,34 @@ pub struct WindowState {
 }
 
 impl WindowState {
+    /// The state with this context that knows these next characters, and whether the text ends
+    /// after them.
+    pub fn from_context(here: Context, ended: bool, coming: Chars) -> WindowState
+        ensures { result ≡ state_in here ended coming }
+    {
+        WindowState {
+            before: here.classes,
+            numeric: here.numeric,
+            ended,
+            coming,
+        }
+    }
+
+    /// What it knows of the characters before.
+    pub fn context(&self) -> Context
+        ensures { result ≡ context_of self.now }
+    {
+        Context {
+            classes: self.before,
+            numeric: self.numeric,
+        }
+    }
+
     /// An equal state. `AllocError` where its characters find no memory.
     pub fn copy(&self, alloc: Global) -> Result<WindowState, AllocError>
         ensures { IfOk result (λ state. state ≡ self.now) }
     {
-        Ok(WindowState {
-            before: self.before,
-            numeric: self.numeric,
-            ended: self.ended,
-            coming: self.coming.copy(alloc)?,
-        })
+        let coming = self.coming.copy(alloc)?;
+        Ok(WindowState::from_context(self.context(), self.ended, coming))
     }
 }

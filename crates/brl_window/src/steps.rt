@@ -30,10 +30,7 @@ pub fn find_steps(
 ) -> Result<Vec<Step<WindowState>>, AllocError>
     ensures { IfOk result (λ found. found.items ≡ steps_found table.now state.now) }
 {
-    let here = Context {
-        classes: state.before,
-        numeric: state.numeric,
-    };
+    let here = state.context();
     let mut found = Vec::new(alloc);
     let coming = state.coming.as_slice();
     if state.ended {
@@ -115,12 +112,7 @@ fn step_of(
         rule: choice.number,
         reads: chars(alloc, reads)?,
         cells: Cells::from_slice(alloc, cells.as_slice())?,
-        next: WindowState {
-            before: behind.classes,
-            numeric: behind.numeric,
-            ended,
-            coming: chars(alloc, coming)?,
-        },
+        next: WindowState::from_context(behind, ended, chars(alloc, coming)?),
     })
 }
 
