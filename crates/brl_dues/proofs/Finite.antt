@@ -29,10 +29,10 @@ use Rattle.brl_dues.specs.declared.due.Due.{Due}
 use Rattle.brl_dues.specs.declared.due.Due.TheVariants.{Need, Bar}
 use Rattle.brl_dues.specs.declared.state.DuesState.{DuesState}
 use Rattle.brl_dues.specs.Carry.{bar_after, bar_of, carry, carry_bar, is_whole, left_of, lefts, need, opposed, settled_if}
-use Rattle.brl_dues.specs.Finite.{after_conds, all_cells, all_classes, all_contexts, all_dues, all_leads, all_states, bars_from, both_modes, cells_in, endings, lists_up_to, needs_of, state_in}
+use Rattle.brl_dues.specs.Finite.{after_conds, all_cells, all_classes, all_contexts, all_dues, all_leads, all_states, bars_from, both_modes, cells_in, endings, lists_up_to, needs_of}
 use Rattle.brl_dues.specs.Form.{Form, IsForm, forms, letters}
 use Rattle.brl_dues.specs.Order.{due_cmp, in_order}
-use Rattle.brl_dues.specs.Steps.{IsStep, context_of, dues_steps, first_state, next_dues, owed}
+use Rattle.brl_dues.specs.Steps.{IsStep, context_of, dues_steps, first_state, next_dues, owed, state_in}
 use Rattle.brl_dues.proofs.DueOrder.{due_tied, due_total, from-in_order, in_order-sorted}
 use Rattle.brl_dues.proofs.Forms.{IsForm-forms, defined-in, listed-IsStep}
 use Rattle.brl_dues.proofs.Listing.{IsIn, from-flat_map, in-append, in-flat_map, in-left, in-right}

@@ -14,7 +14,8 @@ use Rattle.brl_table.specs.declared.rule.Rule.{Rule}
 use Rattle.brl_table.specs.Choice.{own}
 use Rattle.brl_table.specs.Indicators.{indicators, when}
 use Rattle.brl_table.specs.Places.{before_of, holds, share, uppercase}
-use Rattle.brl_table.specs.TableView.{TableView}
+use Rattle.brl_table.specs.declared.signs.Sign.TheVariants.{CapsLetter, NumSign, NoContractSign}
+use Rattle.brl_table.specs.TableView.{TableView, sign_cells}
 use Rattle.brl_table.specs.Text.{classes_of, is_literary, is_nocont}
 use Rattle.brl_dues.specs.declared.due.Due.{Due}
 use Rattle.brl_dues.specs.declared.state.DuesState.{DuesState}
@@ -187,9 +188,11 @@ when-most false cells h = omega arith
 
 signs-most : (t : TableView) (here : Context) (c : ℕ) (rest : List ℕ) → Keeps t → length (indicators t here (c ∷ rest)) ≤ 48
 signs-most t here c rest valid = three
-    (when (here.numeric && is_nocont t c) t.no_contract_sign) (when (is_literary t c && not here.numeric) t.num_sign) (when (share (classes_of t c) uppercase) t.caps_letter)
-    (when-most (here.numeric && is_nocont t c) t.no_contract_sign valid.no_contract_cells)
-    (when-most (is_literary t c && not here.numeric) t.num_sign valid.num_cells) (when-most (share (classes_of t c) uppercase) t.caps_letter valid.caps_cells)
+    (when (here.numeric && is_nocont t c) (sign_cells t NoContractSign)) (when (is_literary t c && not here.numeric) (sign_cells t NumSign))
+    (when (share (classes_of t c) uppercase) (sign_cells t CapsLetter))
+    (when-most (here.numeric && is_nocont t c) (sign_cells t NoContractSign) (valid.signs_cells NoContractSign))
+    (when-most (is_literary t c && not here.numeric) (sign_cells t NumSign) (valid.signs_cells NumSign))
+    (when-most (share (classes_of t c) uppercase) (sign_cells t CapsLetter) (valid.signs_cells CapsLetter))
   where
     three : (xs ys zs : List ℕ) → length xs ≤ 16 → length ys ≤ 16 → length zs ≤ 16 → length (xs ++ ys ++ zs) ≤ 48
     three xs ys zs a b c = grind (arith, length-append)

@@ -16,6 +16,7 @@ use Rattle.brl_dues.specs.declared.due.Due.TheVariants.{Bar}
 use Rattle.brl_dues.specs.declared.state.DuesState.{DuesState}
 use Rattle.brl_dues.specs.Carry.{left_of, need, opposed}
 use Rattle.brl_dues.specs.Form.{Form, forms, letters}
+use Rattle.brl_dues.specs.Steps.{state_in}
 
 -- ---- Lists
 
@@ -60,9 +61,6 @@ abbrev pub all_dues : TableView → List Due
 all_dues t = flat_map needs_of after_conds ++ flat_map bars_from t.rules
 
 -- ---- States and cells
-
-abbrev pub state_in : Context → List Due → DuesState
-state_in here dues = record { before = here.classes; numeric = here.numeric; dues = dues }
 
 -- the states with any of these contexts and no more dues than there are
 abbrev pub all_states : TableView → List DuesState

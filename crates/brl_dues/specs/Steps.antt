@@ -8,9 +8,8 @@ use Rattle.brl_pairs.specs.declared.step.Step.{Step}
 use Rattle.brl_table.specs.declared.class.Class.{Class}
 use Rattle.brl_table.specs.declared.context.Context.{Context}
 use Rattle.brl_table.specs.Indicators.{indicators}
-use Rattle.brl_table.specs.Places.{space}
 use Rattle.brl_table.specs.TableView.{TableView}
-use Rattle.brl_table.specs.Text.{context_behind_all, is_text}
+use Rattle.brl_table.specs.Text.{at_start, context_behind_all, is_text}
 use Rattle.brl_table.specs.Translation.{translation}
 use Rattle.brl_dues.specs.declared.carry.Carried.{Carried}
 use Rattle.brl_dues.specs.declared.due.Due.{Due}
@@ -19,8 +18,13 @@ use Rattle.brl_dues.specs.Carry.{bar_of, carry, gathered, need}
 use Rattle.brl_dues.specs.Due.{met_by_space}
 use Rattle.brl_dues.specs.Form.{Form, IsForm, forms}
 
+-- what a state knows of the characters before
 abbrev pub context_of : DuesState → Context
 context_of s = record { classes = s.before; numeric = s.numeric }
+
+-- the state with this context that owes these dues
+abbrev pub state_in : Context → List Due → DuesState
+state_in here dues = record { before = here.classes; numeric = here.numeric; dues = dues }
 
 -- what a step of the form owes: the need of its after-condition, and a bar for each rule that is
 -- ranked above it
@@ -40,7 +44,7 @@ step_of t s f dues =
       rule = f.number;
       reads = f.reads;
       cells = indicators t (context_of s) f.reads ++ f.cells;
-      next = record { before = behind.classes; numeric = behind.numeric; dues = dues };
+      next = state_in behind dues;
     }
 
 -- ---- Each by itself
@@ -71,7 +75,7 @@ dues_steps t s = flat_map (steps_of t s) (forms t s.before)
 
 -- before any character: class space before, no numeric mode, and nothing is due
 abbrev pub first_state : DuesState
-first_state = record { before = space; numeric = false; dues = [] }
+first_state = state_in at_start []
 
 -- a state ends where class space meets every need
 abbrev pub ends : DuesState → Bool

@@ -7,7 +7,7 @@ ghost use Rattle.brl_dues.specs.Due.{met_by_space};
 use crate::steps::find_steps;
 use crate::{Due, DueList, DuesState};
 use brl_pairs::{Machine, Step};
-use brl_table::{Class, Table, choice_laws, holds, translation_laws};
+use brl_table::{Class, Context, Table, choice_laws, holds, translation_laws};
 use std::alloc::{AllocError, Global};
 use std::marker::Model;
 
@@ -51,11 +51,7 @@ impl<'a> Machine for Dues<'a> {
         choice_laws();
         translation_laws();
         self.table.law();
-        DuesState {
-            before: Class::SPACE,
-            numeric: false,
-            dues: DueList::new(self.alloc),
-        }
+        DuesState::from_context(Context::START, DueList::new(self.alloc))
     }
 
     fn moves(&self, alloc: Global, state: &DuesState) -> Result<Vec<Step<DuesState>>, AllocError> {

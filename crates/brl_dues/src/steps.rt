@@ -13,7 +13,7 @@ use crate::letter::{Letter, new_letters_of};
 use crate::{DueList, DuesState};
 use brl_cells::{Cell, Cells, Chars};
 use brl_pairs::Step;
-use brl_table::{Cond, Context, Rule, Table, holds};
+use brl_table::{Cond, Rule, Table, holds};
 use std::alloc::{AllocError, Global};
 
 /// What a step takes with a character: the number of its rule, the rule's other characters, what it
@@ -187,10 +187,7 @@ fn step_of(
       above = [];
     }) dues) }
 {
-    let here = Context {
-        classes: state.before,
-        numeric: state.numeric,
-    };
+    let here = state.context();
     let behind = table.context_behind(here, reads.as_slice());
     let mut cells = Vec::new(alloc);
     table.push_indicators(here, reads.as_slice(), &mut cells)?;
@@ -199,11 +196,7 @@ fn step_of(
         rule: taken.number,
         reads: Chars::from_vec(reads),
         cells: Cells::from_slice(alloc, cells.as_slice())?,
-        next: DuesState {
-            before: behind.classes,
-            numeric: behind.numeric,
-            dues,
-        },
+        next: DuesState::from_context(behind, dues),
     })
 }
 
