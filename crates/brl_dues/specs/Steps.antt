@@ -1,7 +1,7 @@
 -- The dues machine of a table: its steps, each defined by itself and listed. The machine is this
 -- project's own choice; the rule that is chosen, the indicators and the context are those of the
 -- table (the manual's sections "Translation Opcodes" and "Braille Indicator Opcodes").
-use Rattle.std.specs.Prelude.{◌≡◌, Bool, false, List, [], ◌∷◌, ◌++◌, map, Option, Some, None}
+use Rattle.std.specs.Prelude.{◌≡◌, Bool, List, [], ◌∷◌, ◌++◌, map, Option, Some, None}
 use Rattle.std.specs.List.{flat_map, list_all}
 use Rattle.brl_pairs.specs.Runs.{Behaviour}
 use Rattle.brl_pairs.specs.declared.step.Step.{Step}
