@@ -1,7 +1,9 @@
 //! A table made from parts, places and lists of characters.
 use bitflags::Flags;
 use brl_cells::{Cell, Cells, Chars};
-use brl_table::{Class, Cond, Context, Info, Notice, Place, Rule, Sign, Table, TableParts, holds};
+use brl_table::{
+    Class, Cond, Context, Info, Notice, Place, Rule, Sign, Signs, Table, TableParts, holds,
+};
 use brl_testing::lend;
 use indexmap::IndexMap;
 use std::alloc::Global;
@@ -16,9 +18,7 @@ fn no_parts(alloc: Global) -> TableParts {
     TableParts {
         characters: IndexMap::new(alloc),
         rules: Vec::new(alloc),
-        caps_letter: Cells::new(alloc),
-        num_sign: Cells::new(alloc),
-        no_contract_sign: Cells::new(alloc),
+        signs: Signs::new(alloc),
         files: Vec::new(alloc),
         notices: Vec::new(alloc),
     }
@@ -54,7 +54,7 @@ fn always_a(alloc: Global) -> Result<Rule, Fail> {
 fn fill(alloc: Global, parts: &mut TableParts) -> Result<(), Fail> {
     parts.characters.insert('a', letter_a(alloc)?)?;
     parts.rules.push(always_a(alloc)?)?;
-    parts.num_sign = one_cell(alloc, Cell(60))?;
+    parts.signs.set(Sign::NumSign, one_cell(alloc, Cell(60))?);
     parts.notices.push(Notice {
         character: 'a',
         file: 0,
