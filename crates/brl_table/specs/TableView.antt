@@ -8,8 +8,8 @@ use Rattle.brl_table.specs.declared.signs.Sign.{Sign}
 use Rattle.brl_table.specs.Signs.{cells_at}
 
 -- The characters in the order of their first definitions, each with what the table says of it;
--- the used rules in rank; the cells of each indicator by their numbers, none where it isn't defined;
--- the names of the files, as bytes; and the notices.
+-- the used rules in rank; the cells of each indicator by their numbers, none where it isn't
+-- defined; the names of the files, as bytes; and the notices.
 pub record TableView : Type 0 where
   pub characters : List (ℕ × Info)
   pub rules : List Rule

@@ -32,8 +32,8 @@ impl Sign {
     }
 }
 
-/// The cells of each indicator: none where one isn't defined. A contract sees a list of them, by the
-/// indicators' numbers.
+/// The cells of each indicator: none where one isn't defined. A contract sees a list of them, by
+/// the indicators' numbers.
 #[derive(Drop)]
 pub struct Signs {
     cells: [Cells; Sign::COUNT],
