@@ -42,7 +42,7 @@ never_unread lines kind p q h other path place e = other (ap (λ r. r.kind) (sam
     same : {r s : Refusal} → ◌≡◌ {A = Result (List LineView) Refusal} (Err r) (Err s) → r ≡ s
     same e = cc
 
--- Over files that each have an answer, none of which is that it can't be read, a load comes to what the definition gives for all files.
+-- A load of files that can all be read comes to what the definition gives for all of them.
 module _ (all : List ℕ → Answer) (readable : (path : List ℕ) → Unreadable ≡ all path → ⊥) (root : List ℕ) where
   abbrev gives : Gives
   gives path answer = answer ≡ all path

@@ -69,7 +69,7 @@ module _ (gives behind : Gives) (same : AllStay gives behind) (path cert bytes :
   refused_as (judge.Refused fault) h = (bytes, holds, h)
   refused_as judge.Memory h = inr (bytes, holds, tt)
 
-  -- what the judge answered, as it is told
+  -- the judgement that a judge's outcome gives
   pub judged : (outcome : Result Accepted JudgeFault)
       → IfOk outcome (λ accepted. (t : TableView) × IsTableOf behind path t × IsUnambiguous t × IsAccepted t bytes accepted)
       → IfErr outcome (IsRefusedBy behind path bytes)
@@ -77,7 +77,7 @@ module _ (gives behind : Gives) (same : AllStay gives behind) (path cert bytes :
   judged (Ok accepted) is refused result e = subst (Judges gives path cert) (sym e) (bytes, holds, (is.0, table_moved behind gives back path is.0 is.1, is.2, is.3))
   judged (Err fault) is refused result e = subst (Judges gives path cert) (sym e) (refused_as fault (refused_moved behind gives back path bytes fault refused))
 
-  -- what deserves acceptance is told so, unless memory ran out
+  -- a good certificate is accepted, unless memory ran out
   pub accepted_good : (outcome : Result Accepted JudgeFault)
       → (GivesOneAnswer behind → (t : TableView) → IsTableOf behind path t → (accepted : Accepted) → IsAccepted t bytes accepted → (outcome ≡ Ok accepted) ⊎ (outcome ≡ Err judge.Memory))
       → (result : Result Judgement RunFault) → result ≡ judgement_of outcome → AcceptsGood gives path cert result
