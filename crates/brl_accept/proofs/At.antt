@@ -4,14 +4,13 @@ use Rattle.std.specs.Global.{Vec}
 use Rattle.std.proofs.lemmas.List.{append-nil}
 use Rattle.brl_accept.specs.Least.{IsLeast, IsLeastFound, IsLeastPairFound}
 use Rattle.brl_accept.specs.Refusals.{HasTwoEnds, LosesMove, LosesSplit, LosesStep}
-use Rattle.brl_accept.specs.Steps.{HasOfRule, HasOfRules, HaveOneNumber}
+use Rattle.brl_accept.specs.Steps.{HasOfRule, HasOfRules}
+use Rattle.brl_members.specs.Members.{HaveOneNumber}
 use Rattle.brl_accept.proofs.LeastLaws.{same_least, same_least_pair}
 use Rattle.brl_accept.proofs.Lists.{inside, read_at, same_place, three_ways}
 use Rattle.brl_accept.proofs.Numbers.{at_named, edge_of, has_pair, is_there, names_at, runs, step_of}
-use Rattle.brl_cert.specs.Lines.{BodyView}
-use Rattle.brl_cert.specs.Range.{IsPairOf}
-use Rattle.brl_cert.specs.Sets.{pair_at, sets_of}
-use Rattle.brl_cert.specs.declared.pair.CertPair.{CertPair}
+use Rattle.brl_edges.specs.Body.{BodyView, IsPairOf, NumberPair}
+use Rattle.brl_edges.specs.Sets.{pair_at, sets_of}
 use Rattle.brl_edges.specs.Edges.{AreEdges, AreFirstEdges, AreInOrder, AreKeptEdges}
 use Rattle.brl_edges.specs.Pairs.{IsLost, IsThere}
 use Rattle.brl_edges.specs.declared.edge.Edge.{Edge}
@@ -70,7 +69,7 @@ module _ {S : Type 0} where
 
     -- ---- Moves
 
-    module _ (one : HaveOneNumber body.states) (k : ℕ) (q : CertPair) (q_at : slice_get body.pairs k ≡ Some q) (edges : List Edge) (h : AreEdges m body.states q.behind edges) where
+    module _ (one : HaveOneNumber body.states) (k : ℕ) (q : NumberPair) (q_at : slice_get body.pairs k ≡ Some q) (edges : List Edge) (h : AreEdges m body.states q.behind edges) where
       -- an edge that loses a pair is a step that loses a move
       to_move : (a : S) → slice_get body.states q.ahead ≡ Some a → (rule : ℕ) → HasOfRule (IsLost body.pairs q.ahead q.lead) edges rule → LosesMove m body k rule
       to_move a a_at rule f =
@@ -271,7 +270,7 @@ module _ {S : Type 0} where
     )
 
   -- the pair of these states has this number
-  pub pair_read : (body : BodyView S) (k : ℕ) → k < length body.pairs → (pairs : List CertPair) → pairs ≡ body.pairs → (states : List S) → states ≡ body.states → (pair : CertPair) → pair ≡ get_or pairs k pair
+  pub pair_read : (body : BodyView S) (k : ℕ) → k < length body.pairs → (pairs : List NumberPair) → pairs ≡ body.pairs → (states : List S) → states ≡ body.states → (pair : NumberPair) → pair ≡ get_or pairs k pair
       → (a b : S) → slice_get states pair.ahead ≡ Some a → slice_get states pair.behind ≡ Some b → (lead : List ℕ) → lead ≡ pair.lead → pair_at body k ≡ Some (runs a b lead)
   pair_read body k lt pairs same states same' pair is a b at_a at_b lead lead_is =
       let at = read_at pairs body.pairs k pair same (omega (arith, lt, ap length same)) is in

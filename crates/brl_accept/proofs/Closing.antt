@@ -2,13 +2,12 @@
 use Rattle.std.proofs.Common.{◌≡◌, ◌≢◌, ℕ, ◌<◌, inl, inr, length, min, max, Bool, true, Option, Some, None, slice_get, refl}
 use Rattle.std.proofs.lemmas.Option.{slice_get_within}
 use Rattle.brl_accept.specs.Refusals.{HasStart, HasTwoEnds, IsRefused, KeepsMoves, KeepsSplits, KeepsSteps, LosesMove, LosesSplit, LosesStep}
-use Rattle.brl_cert.specs.Sets.{pair_at, pair_of, sets_of}
+use Rattle.brl_edges.specs.Sets.{pair_at, pair_of, sets_of}
 use Rattle.brl_accept.specs.declared.accept_fault.AcceptFault.{AcceptFault}
 use Rattle.brl_accept.specs.declared.accept_fault.AcceptFault.TheVariants.{NoStart, StateMissing, SplitMissing, PairMissing, BothEnd, Memory}
 use Rattle.brl_accept.proofs.Deciding.{has_state_or, has_pair_or}
-use Rattle.brl_cert.specs.Fields.{◌>>=◌}
-use Rattle.brl_cert.specs.Lines.{BodyView}
-use Rattle.brl_cert.specs.declared.pair.CertPair.{CertPair}
+use Rattle.std.specs.Option.{option_and_then}
+use Rattle.brl_edges.specs.Body.{BodyView, NumberPair}
 use Rattle.brl_pairs.specs.Pairs.{IsClosed}
 use Rattle.brl_pairs.specs.Runs.{Behaviour}
 use Rattle.brl_pairs.specs.declared.step.Pair.{Pair}
@@ -51,7 +50,7 @@ module _ {S : Type 0} (m : Behaviour S) (body : BodyView S) where
   pair_within : (k : ℕ) (p : Pair S) → pair_at body k ≡ Some p → k < length body.pairs
   pair_within k p e = by_look (slice_get body.pairs k) refl e
     where
-      by_look : (o : Option CertPair) → slice_get body.pairs k ≡ o → (o >>= λ pair. pair_of body.states pair) ≡ Some p → k < length body.pairs
+      by_look : (o : Option NumberPair) → slice_get body.pairs k ≡ o → option_and_then (pair_of body.states) o ≡ Some p → k < length body.pairs
       by_look None is e = absurd cc
       by_look (Some pair) is e = slice_get_within body.pairs k pair is
 

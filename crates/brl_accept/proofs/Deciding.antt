@@ -2,9 +2,9 @@
 use Rattle.std.proofs.Common.{◌≡◌, ℕ, zero, suc, Bool, true, false, List, [], ◌∷◌, ◌⊎◌, inl, inr, Option, Some, None, slice_get, refl, sym, ◌∙◌, ap, subst, true≢false}
 use Rattle.std.proofs.lemmas.Slice.Eq.{bytes_eq-Decides}
 use Rattle.std.specs.Str.{bytes_eq}
-use Rattle.brl_cert.specs.Sets.{pair_of, sets_of}
-use Rattle.brl_cert.specs.Fields.{◌>>=◌}
-use Rattle.brl_cert.specs.Lines.{BodyView}
+use Rattle.brl_edges.specs.Sets.{pair_of, sets_of}
+use Rattle.std.specs.Option.{option_and_then}
+use Rattle.brl_edges.specs.Body.{BodyView}
 use Rattle.brl_pairs.specs.Pairs.{HasPair, turned}
 use Rattle.brl_pairs.specs.declared.step.Pair.{Pair}
 
@@ -14,7 +14,7 @@ by_test true to from = inl (to refl)
 by_test false to from = inr (λ p. true≢false (sym (from p)))
 
 -- some member of the list gives this value, or none does
-one_gives_or : {A B : Type 0} (f : A → Option B) (y : B) → ((x : A) → (f x ≡ Some y) ⊎ (f x ≡ Some y → ⊥)) → (xs : List A) → ((k : ℕ) × ((slice_get xs k >>= f) ≡ Some y)) ⊎ (((k : ℕ) × ((slice_get xs k >>= f) ≡ Some y)) → ⊥)
+one_gives_or : {A B : Type 0} (f : A → Option B) (y : B) → ((x : A) → (f x ≡ Some y) ⊎ (f x ≡ Some y → ⊥)) → (xs : List A) → ((k : ℕ) × (option_and_then f (slice_get xs k) ≡ Some y)) ⊎ (((k : ℕ) × (option_and_then f (slice_get xs k) ≡ Some y)) → ⊥)
 one_gives_or f y decides [] = inr (λ h. cc)
 one_gives_or f y decides (x ∷ xs) =
     elim (decides x) [
@@ -25,11 +25,11 @@ one_gives_or f y decides (x ∷ xs) =
       ]
     ]
   where
-    by_place : (k : ℕ) → (f x ≡ Some y → ⊥) → (((k : ℕ) × ((slice_get xs k >>= f) ≡ Some y)) → ⊥) → (slice_get (x ∷ xs) k >>= f) ≡ Some y → ⊥
+    by_place : (k : ℕ) → (f x ≡ Some y → ⊥) → (((k : ℕ) × (option_and_then f (slice_get xs k) ≡ Some y)) → ⊥) → option_and_then f (slice_get (x ∷ xs) k) ≡ Some y → ⊥
     by_place zero not_here none e = not_here e
     by_place (suc k) not_here none e = none (k, e)
 
-itself_behind : {A : Type 0} (o : Option A) → (o >>= λ x. Some x) ≡ o
+itself_behind : {A : Type 0} (o : Option A) → option_and_then (λ x. Some x) o ≡ o
 itself_behind None = refl
 itself_behind (Some x) = refl
 

@@ -9,7 +9,9 @@ use Rattle.brl_accept.specs.declared.judge_fault.JudgeFault.{JudgeFault}
 use Rattle.brl_accept.specs.declared.judge_fault.JudgeFault.TheVariants.{Load, Table, Cert, Wide, Refused, Memory}
 use Rattle.brl_accept.proofs.Closing.{open_where_refused}
 use Rattle.brl_cert.specs.Kinds.{HasMachine, IsClosedFor, OfMachine}
-use Rattle.brl_cert.specs.Reading.{CertView, Owing, Windows, reading}
+use Rattle.brl_cert.specs.Reading.{reading}
+use Rattle.brl_cert.specs.declared.cert.Cert.TheVariants.{Dues, Window}
+use Rattle.brl_cert.specs.declared.cert.Cert.{Cert as Certificate}
 use Rattle.brl_cert.specs.declared.fault.Wrong.{Wrong}
 use Rattle.brl_cert.specs.declared.fault.CertFault.TheVariants as cert
 use Rattle.brl_lines.specs.Answer.{Gives}
@@ -28,7 +30,7 @@ same_counts one other states pairs =
     (subst (λ (n : ℕ). ◌≡◌ {A = Accepted} one (record { states = one.states; pairs = n })) pairs refl)
 
 -- the refusal of the checker
-refused_as : (t : TableView) (cert : CertView) → HasMachine t cert → ((fault : AcceptFault) → OfMachine (λ S m body. IsRefused m body fault) t cert → fault ≢ accept.Memory → OfMachine (IsNotClosed fault) t cert)
+refused_as : (t : TableView) (cert : Certificate) → HasMachine t cert → ((fault : AcceptFault) → OfMachine (λ S m body. IsRefused m body fault) t cert → fault ≢ accept.Memory → OfMachine (IsNotClosed fault) t cert)
     → (fault : AcceptFault) → OfMachine (λ S m body. IsRefused m body fault) t cert → IsRefusedWith t cert (of_accept fault)
 refused_as t cert has is accept.NoStart h = (has, is accept.NoStart h (λ e. cc))
 refused_as t cert has is (accept.StateMissing state rule) h = (has, is (accept.StateMissing state rule) h (λ e. cc))
@@ -37,22 +39,22 @@ refused_as t cert has is (accept.PairMissing pair rule) h = (has, is (accept.Pai
 refused_as t cert has is (accept.BothEnd pair) h = (has, is (accept.BothEnd pair) h (λ e. cc))
 refused_as t cert has is accept.Memory h = tt
 
-pub refused_with : (t : TableView) (cert : CertView) → HasMachine t cert → (fault : AcceptFault) → OfMachine (λ S m body. IsRefused m body fault) t cert → IsRefusedWith t cert (of_accept fault)
-refused_with t (Windows body) has fault h = refused_as t (Windows body) has (λ fault h apart. (apart, h)) fault h
-refused_with t (Owing body) has fault h = refused_as t (Owing body) has (λ fault h apart. (apart, h)) fault h
+pub refused_with : (t : TableView) (cert : Certificate) → HasMachine t cert → (fault : AcceptFault) → OfMachine (λ S m body. IsRefused m body fault) t cert → IsRefusedWith t cert (of_accept fault)
+refused_with t (Window body) has fault h = refused_as t (Window body) has (λ fault h apart. (apart, h)) fault h
+refused_with t (Dues body) has fault h = refused_as t (Dues body) has (λ fault h apart. (apart, h)) fault h
 
 -- what is refused is nowhere accepted
-one_cert : (bytes : List ℕ) (a b : CertView) → reading bytes ≡ Ok a → reading bytes ≡ Ok b → a ≡ b
+one_cert : (bytes : List ℕ) (a b : Certificate) → reading bytes ≡ Ok a → reading bytes ≡ Ok b → a ≡ b
 one_cert bytes a b e f = cc
 
-no_cert : (bytes : List ℕ) (wrong : Wrong × ℕ) (cert : CertView) → reading bytes ≡ Err wrong → reading bytes ≡ Ok cert → ⊥
+no_cert : (bytes : List ℕ) (wrong : Wrong × ℕ) (cert : Certificate) → reading bytes ≡ Err wrong → reading bytes ≡ Ok cert → ⊥
 no_cert bytes wrong cert e f = cc
 
-not_closed : (t : TableView) (cert : CertView) (fault : AcceptFault) → OfMachine (IsNotClosed fault) t cert → IsClosedFor t cert → ⊥
-not_closed t (Windows body) fault h closed = open_where_refused (window_machine t) body fault h.1 h.0 closed
-not_closed t (Owing body) fault h closed = open_where_refused (dues_machine t) body fault h.1 h.0 closed
+not_closed : (t : TableView) (cert : Certificate) (fault : AcceptFault) → OfMachine (IsNotClosed fault) t cert → IsClosedFor t cert → ⊥
+not_closed t (Window body) fault h closed = open_where_refused (window_machine t) body fault h.1 h.0 closed
+not_closed t (Dues body) fault h closed = open_where_refused (dues_machine t) body fault h.1 h.0 closed
 
-pub not_accepted_with : (t : TableView) (cert : CertView) (fault : JudgeFault) → IsRefusedWith t cert fault → fault ≢ Memory → (accepted : Accepted) → IsAcceptedWith t cert accepted → ⊥
+pub not_accepted_with : (t : TableView) (cert : Certificate) (fault : JudgeFault) → IsRefusedWith t cert fault → fault ≢ Memory → (accepted : Accepted) → IsAcceptedWith t cert accepted → ⊥
 not_accepted_with t cert (Load fault) h apart accepted is = h
 not_accepted_with t cert (Table fault) h apart accepted is = h
 not_accepted_with t cert (Cert fault) h apart accepted is = h
@@ -61,9 +63,9 @@ not_accepted_with t cert (Refused fault) h apart accepted is = not_closed t cert
 not_accepted_with t cert Memory h apart accepted is = apart refl
 
 module _ (t : TableView) (bytes : List ℕ) where
-  by_cert : (fault : JudgeFault) → (cert : CertView) × (reading bytes ≡ Ok cert) × IsRefusedWith t cert fault → fault ≢ Memory → (accepted : Accepted) → IsAccepted t bytes accepted → ⊥
+  by_cert : (fault : JudgeFault) → (cert : Certificate) × (reading bytes ≡ Ok cert) × IsRefusedWith t cert fault → fault ≢ Memory → (accepted : Accepted) → IsAccepted t bytes accepted → ⊥
   by_cert fault h apart accepted is =
-      not_accepted_with t h.0 fault h.2 apart accepted (subst (λ (cert : CertView). IsAcceptedWith t cert accepted) (one_cert bytes is.0 h.0 is.1 h.1) is.2)
+      not_accepted_with t h.0 fault h.2 apart accepted (subst (λ (cert : Certificate). IsAcceptedWith t cert accepted) (one_cert bytes is.0 h.0 is.1 h.1) is.2)
 
   pub not_accepted_for : (fault : JudgeFault) → IsRefusedFor t bytes fault → fault ≢ Memory → (accepted : Accepted) → IsAccepted t bytes accepted → ⊥
   not_accepted_for (Load fault) h apart accepted is = by_cert (Load fault) h apart accepted is

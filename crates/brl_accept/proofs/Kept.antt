@@ -3,16 +3,15 @@ use Rattle.std.proofs.Common.{◌≡◌, ℕ, ◌+◌, All, ◌<◌, List, [], �
 use Rattle.std.specs.Global.{Vec}
 use Rattle.brl_accept.proofs.Lists.{length_push, push_cases, read_at, same_place}
 use Rattle.brl_accept.specs.Steps.{HasAllEdges}
-use Rattle.brl_cert.specs.Range.{IsPairOf}
-use Rattle.brl_cert.specs.declared.pair.CertPair.{CertPair}
+use Rattle.brl_edges.specs.Body.{IsPairOf, NumberPair}
 use Rattle.brl_edges.specs.Edges.{AreEdges, AreFirstEdges, AreKeptEdges, IsEdge}
 use Rattle.brl_edges.specs.declared.edge.Edge.{Edge}
 use Rattle.brl_pairs.specs.Runs.{Behaviour, IsListedAt}
 use Rattle.brl_pairs.specs.declared.step.Step.{Step}
 
 -- a pair that is read is in range
-pub range_read : (states : ℕ) (pairs read : List CertPair) → read ≡ pairs → All (IsPairOf states) pairs → (k : ℕ) → k < length pairs → (q : CertPair) → q ≡ get_or read k q → IsPairOf states q
-range_read states pairs read same all k within q is = subst (IsPairOf states) (sym (is ∙ ap (λ (z : List CertPair). get_or z k q) same)) (all k q within)
+pub range_read : (states : ℕ) (pairs read : List NumberPair) → read ≡ pairs → All (IsPairOf states) pairs → (k : ℕ) → k < length pairs → (q : NumberPair) → q ≡ get_or read k q → IsPairOf states q
+range_read states pairs read same all k within q is = subst (IsPairOf states) (sym (is ∙ ap (λ (z : List NumberPair). get_or z k q) same)) (all k q within)
 
 module _ {S : Type 0} where
   first_edges_push : (states : List S) (listed : List (Step S)) (n : ℕ) (edges : List Edge) (x : Step S) (e : Edge) → AreFirstEdges states listed n edges → IsListedAt listed n x → IsEdge states x e → AreFirstEdges states listed (n + 1) (edges ++ e ∷ [])

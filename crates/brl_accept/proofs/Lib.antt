@@ -1,5 +1,4 @@
 pub mod Lists
-pub mod Listed
 pub mod Losing
 pub mod LeastLaws
 pub mod OfRule

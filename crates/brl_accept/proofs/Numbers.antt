@@ -1,11 +1,10 @@
 -- What the numbers of a certificate stand for: its pairs, and the steps of its states.
 use Rattle.std.proofs.Common.{◌≡◌, ℕ, ◌<◌, List, inl, inr, length, Option, Some, None, slice_get, refl, sym, ◌∙◌, ap, subst, arith}
 use Rattle.std.proofs.lemmas.Option.{slice_get_within}
-use Rattle.brl_accept.specs.Steps.{HaveOneNumber}
+use Rattle.brl_members.specs.Members.{HaveOneNumber}
 use Rattle.brl_accept.proofs.Lists.{inside, same_place}
-use Rattle.brl_cert.specs.Lines.{BodyView}
-use Rattle.brl_cert.specs.Sets.{pair_at, pair_of, sets_of}
-use Rattle.brl_cert.specs.declared.pair.CertPair.{CertPair}
+use Rattle.brl_edges.specs.Body.{BodyView, NumberPair}
+use Rattle.brl_edges.specs.Sets.{pair_at, pair_of, sets_of}
 use Rattle.brl_edges.specs.Edges.{AreEdges, IsEdge}
 use Rattle.brl_edges.specs.Pairs.{IsThere}
 use Rattle.brl_edges.specs.declared.edge.Edge.{Edge}
@@ -22,7 +21,7 @@ module _ {S : Type 0} where
   -- ---- Pairs
 
   -- the pair's states are those that the numbers name
-  pub record Names (states : List S) (q : CertPair) (p : Pair S) : Type 0 where
+  pub record Names (states : List S) (q : NumberPair) (p : Pair S) : Type 0 where
     pub ahead : slice_get states q.ahead ≡ Some p.ahead
     pub behind : slice_get states q.behind ≡ Some p.behind
     pub lead : q.lead ≡ p.lead
@@ -32,7 +31,7 @@ module _ {S : Type 0} where
   put (Some a) None lead = None
   put (Some a) (Some b) lead = Some (record { ahead = a; behind = b; lead = lead })
 
-  same_put : (states : List S) (q : CertPair) (a b : Option S) → slice_get states q.ahead ≡ a → slice_get states q.behind ≡ b → pair_of states q ≡ put a b q.lead
+  same_put : (states : List S) (q : NumberPair) (a b : Option S) → slice_get states q.ahead ≡ a → slice_get states q.behind ≡ b → pair_of states q ≡ put a b q.lead
   same_put states q None b a_is b_is = rw a_is
   same_put states q (Some a) None a_is b_is = rw (a_is, b_is)
   same_put states q (Some a) (Some b) a_is b_is = rw (a_is, b_is)
@@ -44,38 +43,38 @@ module _ {S : Type 0} where
       let same : record { ahead = a; behind = b; lead = lead } ≡ p = cc in
       (ap (λ (z : Pair S). Some z.ahead) same, ap (λ (z : Pair S). Some z.behind) same, ap (λ (z : Pair S). z.lead) same)
 
-  names_of : (states : List S) (q : CertPair) (p : Pair S) → pair_of states q ≡ Some p → Names states q p
+  names_of : (states : List S) (q : NumberPair) (p : Pair S) → pair_of states q ≡ Some p → Names states q p
   names_of states q p e =
       let h = taken_apart (slice_get states q.ahead) (slice_get states q.behind) q.lead p (sym (same_put states q (slice_get states q.ahead) (slice_get states q.behind) refl refl) ∙ e) in
       record { ahead = h.0; behind = h.1; lead = h.2 }
 
-  named : (states : List S) (q : CertPair) (p : Pair S) → Names states q p → pair_of states q ≡ Some p
+  named : (states : List S) (q : NumberPair) (p : Pair S) → Names states q p → pair_of states q ≡ Some p
   named states q p h = same_put states q (Some p.ahead) (Some p.behind) h.ahead h.behind ∙ (λ i. Some (record { ahead = p.ahead; behind = p.behind; lead = h.lead i }))
 
   module _ (body : BodyView S) where
     -- the pair with a number
     record NamedAt (n : ℕ) (p : Pair S) : Type 0 where
-      numbers : CertPair
+      numbers : NumberPair
       at : slice_get body.pairs n ≡ Some numbers
       names : Names body.states numbers p
 
-    by_numbers : (n : ℕ) (p : Pair S) (o : Option CertPair) → slice_get body.pairs n ≡ o → pair_at body n ≡ Some p → NamedAt n p
+    by_numbers : (n : ℕ) (p : Pair S) (o : Option NumberPair) → slice_get body.pairs n ≡ o → pair_at body n ≡ Some p → NamedAt n p
     by_numbers n p None is e = absurd (let none : None ≡ Some p = sym (rw is) ∙ e in cc)
     by_numbers n p (Some q) is e = record { numbers = q; at = is; names = names_of body.states q p (sym (rw is) ∙ e) }
 
     named_at : (n : ℕ) (p : Pair S) → pair_at body n ≡ Some p → NamedAt n p
     named_at n p e = by_numbers n p (slice_get body.pairs n) refl e
 
-    pub at_named : (n : ℕ) (q : CertPair) (p : Pair S) → slice_get body.pairs n ≡ Some q → Names body.states q p → pair_at body n ≡ Some p
+    pub at_named : (n : ℕ) (q : NumberPair) (p : Pair S) → slice_get body.pairs n ≡ Some q → Names body.states q p → pair_at body n ≡ Some p
     at_named n q p at h = rw at (named body.states q p h)
 
     -- these numbers name the pair with this number
-    pub names_at : (n : ℕ) (q : CertPair) (p : Pair S) → slice_get body.pairs n ≡ Some q → pair_at body n ≡ Some p → Names body.states q p
+    pub names_at : (n : ℕ) (q : NumberPair) (p : Pair S) → slice_get body.pairs n ≡ Some q → pair_at body n ≡ Some p → Names body.states q p
     names_at n q p at e =
         let h = named_at n p e in
-        subst (λ (z : CertPair). Names body.states z p) (same_place body.pairs n h.numbers q h.at at) h.names
+        subst (λ (z : NumberPair). Names body.states z p) (same_place body.pairs n h.numbers q h.at at) h.names
 
-    parts : (q : CertPair) (a b : ℕ) (lead : List ℕ) → q.ahead ≡ a → q.behind ≡ b → q.lead ≡ lead → q ≡ record { ahead = a; behind = b; lead = lead }
+    parts : (q : NumberPair) (a b : ℕ) (lead : List ℕ) → q.ahead ≡ a → q.behind ≡ b → q.lead ≡ lead → q ≡ record { ahead = a; behind = b; lead = lead }
     parts q a b lead ahead behind same = λ i. record { ahead = ahead i; behind = behind i; lead = same i }
 
     -- a pair of numbers that is there names a pair that is there
@@ -87,10 +86,10 @@ module _ {S : Type 0} where
     pub is_there : HaveOneNumber body.states → (a b : ℕ) (lead : List ℕ) (p : Pair S) → slice_get body.states a ≡ Some p.ahead → slice_get body.states b ≡ Some p.behind → lead ≡ p.lead → HasPair (sets_of body) p → IsThere body.pairs a b lead
     is_there one a b lead p a_at b_at same (inl h) =
         let n = named_at h.0 p h.1 in
-        inl (h.0, n.at ∙ ap (λ (z : CertPair). Some z) (parts n.numbers a b lead (one n.numbers.ahead a p.ahead n.names.ahead a_at) (one n.numbers.behind b p.behind n.names.behind b_at) (n.names.lead ∙ sym same)))
+        inl (h.0, n.at ∙ ap (λ (z : NumberPair). Some z) (parts n.numbers a b lead (one n.numbers.ahead a p.ahead n.names.ahead a_at) (one n.numbers.behind b p.behind n.names.behind b_at) (n.names.lead ∙ sym same)))
     is_there one a b lead p a_at b_at same (inr h) =
         let n = named_at h.1.0 (turned p) h.1.1 in
-        inr (same ∙ h.0, (h.1.0, n.at ∙ ap (λ (z : CertPair). Some z) (parts n.numbers b a lead (one n.numbers.ahead b p.behind n.names.ahead b_at) (one n.numbers.behind a p.ahead n.names.behind a_at) (n.names.lead ∙ sym same))))
+        inr (same ∙ h.0, (h.1.0, n.at ∙ ap (λ (z : NumberPair). Some z) (parts n.numbers b a lead (one n.numbers.ahead b p.behind n.names.ahead b_at) (one n.numbers.behind a p.ahead n.names.behind a_at) (n.names.lead ∙ sym same))))
 
   -- ---- Steps
 

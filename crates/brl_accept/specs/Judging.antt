@@ -7,8 +7,9 @@ use Rattle.brl_accept.specs.declared.accept_fault.AcceptFault.TheVariants as acc
 use Rattle.brl_accept.specs.declared.accepted.Accepted.{Accepted}
 use Rattle.brl_accept.specs.declared.judge_fault.JudgeFault.{JudgeFault}
 use Rattle.brl_accept.specs.declared.judge_fault.JudgeFault.TheVariants.{Load, Table, Cert, Wide, Refused, Memory}
-use Rattle.brl_cert.specs.Lines.{BodyView}
-use Rattle.brl_cert.specs.Reading.{CertView, reading, IsFaultOf}
+use Rattle.brl_edges.specs.Body.{BodyView}
+use Rattle.brl_cert.specs.Reading.{reading, IsFaultOf}
+use Rattle.brl_cert.specs.declared.cert.Cert.{Cert as Certificate}
 use Rattle.brl_cert.specs.declared.fault.CertFault.{CertFault}
 use Rattle.brl_cert.specs.declared.fault.CertFault.TheVariants as cert
 use Rattle.brl_lines.specs.Answer.{Gives}
@@ -23,11 +24,11 @@ use Rattle.brl_table.specs.TableView.{TableView}
 -- ---- Of a table and a certificate that was read
 
 -- what the acceptance of a certificate says of it: how many states and pairs it lists
-abbrev pub counted : CertView → Accepted
+abbrev pub counted : Certificate → Accepted
 counted cert = record { states = state_count cert; pairs = pair_count cert }
 
 -- the table has the machine of the certificate's version, and the states and pairs are closed for it
-abbrev pub IsAcceptedWith : TableView → CertView → Accepted → Type 0
+abbrev pub IsAcceptedWith : TableView → Certificate → Accepted → Type 0
 IsAcceptedWith t cert accepted = HasMachine t cert × IsClosedFor t cert × (accepted ≡ counted cert)
 
 -- a refusal of the checker for a machine's states and pairs
@@ -36,7 +37,7 @@ IsNotClosed fault S m body = (fault ≢ accept.Memory) × IsRefused m body fault
 
 -- the table is too wide for the machine of the certificate's version, or else the states and pairs aren't closed; an
 -- allocation may fail at any table
-abbrev pub IsRefusedWith : TableView → CertView → JudgeFault → Type 0
+abbrev pub IsRefusedWith : TableView → Certificate → JudgeFault → Type 0
 IsRefusedWith t cert (Wide fault) = HasMachine t cert → ⊥
 IsRefusedWith t cert (Refused fault) = HasMachine t cert × OfMachine (IsNotClosed fault) t cert
 IsRefusedWith t cert Memory = Unit {0}
@@ -47,13 +48,13 @@ IsRefusedWith t cert fault = ⊥
 -- the bytes spell a certificate that is accepted
 abbrev pub IsAccepted : TableView → List ℕ → Accepted → Type 0
 IsAccepted t bytes accepted =
-    (cert : CertView) × (reading bytes ≡ Ok cert) × IsAcceptedWith t cert accepted
+    (cert : Certificate) × (reading bytes ≡ Ok cert) × IsAcceptedWith t cert accepted
 
 -- the bytes spell no certificate, or one that is refused
 abbrev pub IsRefusedFor : TableView → List ℕ → JudgeFault → Type 0
 IsRefusedFor t bytes (Cert fault) = (fault ≢ cert.Memory) × IsFaultOf (reading bytes) fault
 IsRefusedFor t bytes Memory = Unit {0}
-IsRefusedFor t bytes fault = (cert : CertView) × (reading bytes ≡ Ok cert) × IsRefusedWith t cert fault
+IsRefusedFor t bytes fault = (cert : Certificate) × (reading bytes ≡ Ok cert) × IsRefusedWith t cert fault
 
 -- ---- Of the files of a source, a path and bytes
 

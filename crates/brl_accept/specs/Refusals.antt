@@ -1,10 +1,10 @@
 -- Why a certificate is refused: what is missing for its sets to be closed. The project's own choice.
 use Rattle.std.specs.Prelude.{ℕ, ◌≡◌, IsTrue, [], min, max, Some, slice_get}
 use Rattle.brl_accept.specs.Least.{IsLeast}
-use Rattle.brl_cert.specs.Sets.{pair_at, sets_of}
+use Rattle.brl_edges.specs.Sets.{pair_at, sets_of}
 use Rattle.brl_accept.specs.declared.accept_fault.AcceptFault.{AcceptFault}
 use Rattle.brl_accept.specs.declared.accept_fault.AcceptFault.TheVariants.{NoStart, StateMissing, SplitMissing, PairMissing, BothEnd, Memory}
-use Rattle.brl_cert.specs.Lines.{BodyView}
+use Rattle.brl_edges.specs.Body.{BodyView}
 use Rattle.brl_pairs.specs.Pairs.{HasPair, Moves, Splits}
 use Rattle.brl_pairs.specs.Runs.{Behaviour, IsListed}
 use Rattle.brl_pairs.specs.declared.step.Pair.{Pair}

@@ -10,10 +10,6 @@ pub record HasAllEdges {S : Type 0} (m : Behaviour S) (states : List S) (kept : 
   pub count : length kept ≡ length states
   pub each : AreKeptEdges m states kept
 
--- no state has two numbers
-abbrev pub HaveOneNumber : {S : Type 0} → List S → Type 0
-HaveOneNumber {S} states = (i j : ℕ) (s : S) → slice_get states i ≡ Some s → slice_get states j ≡ Some s → i ≡ j
-
 -- an edge of this rule has the property
 pub record HasOfRule (Has : Edge → Type 0) (edges : List Edge) (rule : ℕ) : Type 0 where
   pub place : ℕ

@@ -2,17 +2,14 @@
 ghost use Rattle.std.specs.Prelude.{◌≡◌, ◌≢◌, ℕ, IfErr, IfOk, OnOk, length};
 ghost use Rattle.brl_accept.specs.Refusals.{HasStart, HasTwoEnds, IsRefused, KeepsMoves, KeepsSplits, KeepsSteps};
 ghost use Rattle.brl_accept.specs.Steps.{HasAllEdges};
-ghost use Rattle.brl_cert.specs.Sets.{sets_of};
-ghost use Rattle.brl_cert.specs.Views.{listed};
+ghost use Rattle.brl_edges.specs.Sets.{sets_of};
 ghost use Rattle.brl_pairs.specs.Pairs.{IsClosed};
 ghost use Rattle.brl_pairs.specs.Runs.{IsUnambiguous, KeepsLaws};
 
 use crate::listing::edges_of;
-use crate::lookup::has_state;
 use crate::losses::{has_two_ends_at, lost_move_at, lost_split_at};
 use crate::{AcceptFault, Accepted};
-use brl_cert::Body;
-use brl_edges::Edge;
+use brl_edges::{Body, Edge};
 use brl_pairs::{Machine, numbered_sets_law};
 use std::alloc::Global;
 
@@ -23,14 +20,14 @@ fn check_steps<M: Machine>(
     body: &Body<M::State>,
 ) -> Result<Vec<Vec<Edge>>, AcceptFault>
     requires laws { KeepsLaws (M.behaviour machine.now) }
-    requires start { HasStart (M.behaviour machine.now) (listed body.now.states body.now.pairs) }
+    requires start { HasStart (M.behaviour machine.now) body.now }
     ensures kept { IfOk result (λ kept. HasAllEdges (M.behaviour machine.now) body.now.states kept.items) }
-    ensures keeps { OnOk result (KeepsSteps (M.behaviour machine.now) (listed body.now.states body.now.pairs)) }
-    ensures refused { IfErr result (IsRefused (M.behaviour machine.now) (listed body.now.states body.now.pairs)) }
+    ensures keeps { OnOk result (KeepsSteps (M.behaviour machine.now) body.now) }
+    ensures refused { IfErr result (IsRefused (M.behaviour machine.now) body.now) }
 {
     let mut kept = Vec::new(alloc);
-    for number in 0..body.states.len() {
-        let edges = edges_of(alloc, machine, body, number)?;
+    for number in 0..body.state_count() {
+        let edges = edges_of(alloc, machine, body, number as usize)?;
         kept.push(edges)?;
     }
     Ok(kept)
@@ -43,18 +40,17 @@ fn check_splits<M: Machine>(
     body: &Body<M::State>,
     kept: &[Vec<Edge>],
 ) -> Result<(), AcceptFault>
-    requires start { HasStart (M.behaviour machine.now) (listed body.now.states body.now.pairs) }
-    requires steps { KeepsSteps (M.behaviour machine.now) (listed body.now.states body.now.pairs) }
+    requires start { HasStart (M.behaviour machine.now) body.now }
+    requires steps { KeepsSteps (M.behaviour machine.now) body.now }
     requires kept { HasAllEdges (M.behaviour machine.now) body.now.states kept.now }
-    ensures keeps { OnOk result (KeepsSplits (M.behaviour machine.now) (listed body.now.states body.now.pairs)) }
-    ensures refused { IfErr result (IsRefused (M.behaviour machine.now) (listed body.now.states body.now.pairs)) }
+    ensures keeps { OnOk result (KeepsSplits (M.behaviour machine.now) body.now) }
+    ensures refused { IfErr result (IsRefused (M.behaviour machine.now) body.now) }
 {
-    for number in 0..body.states.len() {
-        let lost = lost_split_at(alloc, machine, body, kept, number)?;
+    for number in 0..body.state_count() {
+        let lost = lost_split_at(alloc, machine, body, kept, number as usize)?;
         if let Some((lesser, greater)) = lost {
-            let state = number as u32;
             return Err(AcceptFault::SplitMissing {
-                state,
+                state: number,
                 lesser,
                 greater,
             });
@@ -70,18 +66,17 @@ fn check_moves<M: Machine>(
     body: &Body<M::State>,
     kept: &[Vec<Edge>],
 ) -> Result<(), AcceptFault>
-    requires start { HasStart (M.behaviour machine.now) (listed body.now.states body.now.pairs) }
-    requires steps { KeepsSteps (M.behaviour machine.now) (listed body.now.states body.now.pairs) }
-    requires splits { KeepsSplits (M.behaviour machine.now) (listed body.now.states body.now.pairs) }
+    requires start { HasStart (M.behaviour machine.now) body.now }
+    requires steps { KeepsSteps (M.behaviour machine.now) body.now }
+    requires splits { KeepsSplits (M.behaviour machine.now) body.now }
     requires kept { HasAllEdges (M.behaviour machine.now) body.now.states kept.now }
-    ensures keeps { OnOk result (KeepsMoves (M.behaviour machine.now) (listed body.now.states body.now.pairs)) }
-    ensures refused { IfErr result (IsRefused (M.behaviour machine.now) (listed body.now.states body.now.pairs)) }
+    ensures keeps { OnOk result (KeepsMoves (M.behaviour machine.now) body.now) }
+    ensures refused { IfErr result (IsRefused (M.behaviour machine.now) body.now) }
 {
-    for number in 0..body.pairs.len() {
-        let lost = lost_move_at(alloc, machine, body, kept, number)?;
+    for number in 0..body.pair_count() {
+        let lost = lost_move_at(alloc, machine, body, kept, number as usize)?;
         if let Some(rule) = lost {
-            let pair = number as u32;
-            return Err(AcceptFault::PairMissing { pair, rule });
+            return Err(AcceptFault::PairMissing { pair: number, rule });
         }
     }
     Ok(())
@@ -89,17 +84,16 @@ fn check_moves<M: Machine>(
 
 /// None of the pairs has an empty lead and two states that end.
 fn check_ends<M: Machine>(machine: &M, body: &Body<M::State>) -> Result<(), AcceptFault>
-    requires start { HasStart (M.behaviour machine.now) (listed body.now.states body.now.pairs) }
-    requires steps { KeepsSteps (M.behaviour machine.now) (listed body.now.states body.now.pairs) }
-    requires splits { KeepsSplits (M.behaviour machine.now) (listed body.now.states body.now.pairs) }
-    requires moves { KeepsMoves (M.behaviour machine.now) (listed body.now.states body.now.pairs) }
-    ensures keeps { OnOk result ((number : ℕ) → HasTwoEnds (M.behaviour machine.now) (listed body.now.states body.now.pairs) number → ⊥) }
-    ensures refused { IfErr result (IsRefused (M.behaviour machine.now) (listed body.now.states body.now.pairs)) }
+    requires start { HasStart (M.behaviour machine.now) body.now }
+    requires steps { KeepsSteps (M.behaviour machine.now) body.now }
+    requires splits { KeepsSplits (M.behaviour machine.now) body.now }
+    requires moves { KeepsMoves (M.behaviour machine.now) body.now }
+    ensures keeps { OnOk result ((number : ℕ) → HasTwoEnds (M.behaviour machine.now) body.now number → ⊥) }
+    ensures refused { IfErr result (IsRefused (M.behaviour machine.now) body.now) }
 {
-    for number in 0..body.pairs.len() {
-        if has_two_ends_at(machine, body, number) {
-            let pair = number as u32;
-            return Err(AcceptFault::BothEnd { pair });
+    for number in 0..body.pair_count() {
+        if has_two_ends_at(machine, body, number as usize) {
+            return Err(AcceptFault::BothEnd { pair: number });
         }
     }
     Ok(())
@@ -107,10 +101,10 @@ fn check_ends<M: Machine>(machine: &M, body: &Body<M::State>) -> Result<(), Acce
 
 /// Whether the states and pairs are closed: each part of that after the other.
 fn check<M: Machine>(alloc: Global, machine: &M, body: &Body<M::State>) -> Result<(), AcceptFault>
-    ensures closed { OnOk result (IsClosed (M.behaviour machine.now) (sets_of (listed body.now.states body.now.pairs))) }
-    ensures refused { IfErr result (IsRefused (M.behaviour machine.now) (listed body.now.states body.now.pairs)) }
+    ensures closed { OnOk result (IsClosed (M.behaviour machine.now) (sets_of body.now)) }
+    ensures refused { IfErr result (IsRefused (M.behaviour machine.now) body.now) }
 {
-    if !has_state::<M>(body, &machine.start()) {
+    if !body.has_state(&machine.start()) {
         return Err(AcceptFault::NoStart);
     }
     let kept = check_steps(alloc, machine, body)?;
@@ -131,20 +125,20 @@ pub fn accept<M: Machine>(
     body: &Body<M::State>,
 ) -> Result<Accepted, AcceptFault>
     // The states and pairs are closed.
-    ensures closed { OnOk result (IsClosed (M.behaviour machine.now) (sets_of (listed body.now.states body.now.pairs))) }
+    ensures closed { OnOk result (IsClosed (M.behaviour machine.now) (sets_of body.now)) }
     // Texts of the machine that are translated alike are one text.
     ensures unambiguous { OnOk result (IsUnambiguous (M.behaviour machine.now)) }
     ensures states { IfOk result (λ accepted. accepted.states ≡ length body.now.states) }
     ensures pairs { IfOk result (λ accepted. accepted.pairs ≡ length body.now.pairs) }
     // What the refusal names holds, and it is the first and the least that does.
-    ensures refused { IfErr result (IsRefused (M.behaviour machine.now) (listed body.now.states body.now.pairs)) }
+    ensures refused { IfErr result (IsRefused (M.behaviour machine.now) body.now) }
     // Closed states and pairs are refused for want of memory alone.
-    ensures not_closed { IfErr result (λ fault. fault ≢ AcceptFault.Memory → IsClosed (M.behaviour machine.now) (sets_of (listed body.now.states body.now.pairs)) → ⊥) }
+    ensures not_closed { IfErr result (λ fault. fault ≢ AcceptFault.Memory → IsClosed (M.behaviour machine.now) (sets_of body.now) → ⊥) }
 {
     numbered_sets_law(machine);
     check(alloc, machine, body)?;
     Ok(Accepted {
-        states: body.states.len() as u32,
-        pairs: body.pairs.len() as u32,
+        states: body.state_count(),
+        pairs: body.pair_count(),
     })
 }

@@ -2,8 +2,6 @@
 ghost use Rattle.std.specs.Prelude.{◌≡◌, ◌⊎◌, Err, IfErr, IfOk, Ok, OnOk};
 ghost use Rattle.brl_accept.specs.Judging.{IsAccepted, IsAcceptedWith, IsRefusedBy, IsRefusedFor, IsRefusedWith, load_outcome};
 ghost use Rattle.brl_accept.specs.declared.accepted.Accepted.{Accepted as AcceptedValue};
-ghost use Rattle.brl_cert.specs.Reading.{Owing, Windows};
-ghost use Rattle.brl_cert.specs.Views.{listed};
 ghost use Rattle.brl_lines.specs.Answer.{AllStay, GivesOneAnswer};
 ghost use Rattle.brl_lines.specs.Outcome.{CountsFailure};
 ghost use Rattle.brl_reading.specs.Files.{IsTableOf};
@@ -11,8 +9,9 @@ ghost use Rattle.brl_table.specs.TableView.{TableView};
 ghost use Rattle.brl_table.specs.Translation.{IsUnambiguous};
 
 use crate::{Accepted, JudgeFault, accept};
-use brl_cert::{Body, Cert, read_cert};
+use brl_cert::{Cert, read_cert};
 use brl_dues::{Dues, DuesState};
+use brl_edges::Body;
 use brl_lines::Source;
 use brl_reading::{load_table, one_table_law};
 use brl_table::Table;
@@ -26,8 +25,8 @@ fn judge_windows(
     body: &Body<WindowState>,
 ) -> Result<Accepted, JudgeFault>
     ensures unambiguous { OnOk result (IsUnambiguous table.now) }
-    ensures accepted { IfOk result (IsAcceptedWith table.now (Windows (listed body.now.states body.now.pairs))) }
-    ensures refused { IfErr result (IsRefusedWith table.now (Windows (listed body.now.states body.now.pairs))) }
+    ensures accepted { IfOk result (IsAcceptedWith table.now (Cert.Window body.now)) }
+    ensures refused { IfErr result (IsRefusedWith table.now (Cert.Window body.now)) }
 {
     let window = Window::new(alloc, table)?;
     Ok(accept(alloc, &window, body)?)
@@ -36,8 +35,8 @@ fn judge_windows(
 /// Judges the states and pairs of a certificate of version 2 for a table.
 fn judge_dues(alloc: Global, table: &Table, body: &Body<DuesState>) -> Result<Accepted, JudgeFault>
     ensures unambiguous { OnOk result (IsUnambiguous table.now) }
-    ensures accepted { IfOk result (IsAcceptedWith table.now (Owing (listed body.now.states body.now.pairs))) }
-    ensures refused { IfErr result (IsRefusedWith table.now (Owing (listed body.now.states body.now.pairs))) }
+    ensures accepted { IfOk result (IsAcceptedWith table.now (Cert.Dues body.now)) }
+    ensures refused { IfErr result (IsRefusedWith table.now (Cert.Dues body.now)) }
 {
     let dues = Dues::new(alloc, table);
     Ok(accept(alloc, &dues, body)?)

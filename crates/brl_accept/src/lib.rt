@@ -8,7 +8,6 @@ mod accepting;
 mod judge_fault;
 mod judging;
 mod listing;
-mod lookup;
 mod losses;
 
 pub use accept_fault::AcceptFault;

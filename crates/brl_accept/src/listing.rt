@@ -1,14 +1,11 @@
 //! The steps of a state, listed once and kept as edges.
 ghost use Rattle.std.specs.Prelude.{ℕ, ◌<◌, IfErr, IfOk, length};
 ghost use Rattle.brl_accept.specs.Refusals.{HasStart, IsRefused, LosesStep};
-ghost use Rattle.brl_cert.specs.Views.{listed as body_of};
 ghost use Rattle.brl_edges.specs.Edges.{AreEdges};
 ghost use Rattle.brl_pairs.specs.Runs.{KeepsLaws};
 
 use crate::AcceptFault;
-use crate::lookup::number_of;
-use brl_cert::Body;
-use brl_edges::Edge;
+use brl_edges::{Body, Edge};
 use brl_pairs::Machine;
 use std::alloc::Global;
 
@@ -21,16 +18,17 @@ pub fn edges_of<M: Machine>(
     number: usize,
 ) -> Result<Vec<Edge>, AcceptFault>
     requires laws { KeepsLaws (M.behaviour machine.now) }
-    requires start { HasStart (M.behaviour machine.now) (body_of body.now.states body.now.pairs) }
+    requires start { HasStart (M.behaviour machine.now) body.now }
     requires within { number < length body.now.states }
-    requires earlier { (k rule : ℕ) → k < number → LosesStep (M.behaviour machine.now) (body_of body.now.states body.now.pairs) k rule → ⊥ }
+    requires earlier { (k rule : ℕ) → k < number → LosesStep (M.behaviour machine.now) body.now k rule → ⊥ }
     ensures edges { IfOk result (λ edges. AreEdges (M.behaviour machine.now) body.now.states number edges.items) }
-    ensures refused { IfErr result (IsRefused (M.behaviour machine.now) (body_of body.now.states body.now.pairs)) }
+    ensures refused { IfErr result (IsRefused (M.behaviour machine.now) body.now) }
 {
-    let listed = machine.moves(alloc, &body.states.as_slice()[number])?;
+    let listed = machine.moves(alloc, &body.states()[number])?;
+    body.law();
     let mut edges = Vec::new(alloc);
     for step in listed {
-        let Some(next) = number_of::<M>(&body.states, &step.next) else {
+        let Some(next) = body.number_of(&step.next) else {
             let state = number as u32;
             let rule = step.rule;
             return Err(AcceptFault::StateMissing { state, rule });
@@ -38,7 +36,7 @@ pub fn edges_of<M: Machine>(
         edges.push(Edge {
             rule: step.rule,
             cells: step.cells,
-            next: next as u32,
+            next,
         })?;
     }
     Ok(edges)

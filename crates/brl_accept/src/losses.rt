@@ -3,24 +3,21 @@ ghost use Rattle.std.specs.Prelude.{◌≡◌, ◌<◌, ◌↔◌, [], IfOk, IsT
 ghost use Rattle.brl_accept.specs.Least.{IsLeastFound, IsLeastPairFound, lesser_of};
 ghost use Rattle.brl_accept.specs.Refusals.{HasTwoEnds, LosesMove, LosesSplit};
 ghost use Rattle.brl_accept.specs.Steps.{HasAllEdges, HasBefore, HasOfRule, HasOfRules};
-ghost use Rattle.brl_cert.specs.Views.{listed as body_of};
 ghost use Rattle.brl_edges.specs.Edges.{AreInOrder, HaveCells};
 ghost use Rattle.brl_edges.specs.Pairs.{IsLost};
 ghost use Rattle.brl_edges.specs.Places.{ArePlacesBefore};
 ghost use Rattle.brl_edges.specs.declared.edge.Edge.{Edge as EdgeValue};
 
-use crate::lookup::{one_number_law, states_of};
 use brl_cells::Cell;
-use brl_cert::{Body, CertPair, Members};
-use brl_edges::{Edge, different_cells_law, edges_law, loses, places_before};
-use brl_pairs::Machine;
+use brl_edges::{Body, Edge, Members, different_cells_law, edges_law, loses, places_before};
+use brl_pairs::{Machine, Pair};
 use std::alloc::{AllocError, Global};
 
 /// The least rule of the edges by which a run behind makes a pair that isn't there. The other run
 /// is ahead of it by this lead, and has come to the state with the number `ahead`.
 fn lost_move(
     alloc: Global,
-    pairs: &Members<CertPair>,
+    pairs: &Members<Pair<u32>>,
     ahead: u32,
     lead: &[Cell],
     edges: &[Edge],
@@ -41,7 +38,7 @@ fn lost_move(
 /// first, so the one found last has the least rule.
 fn lost_split_with(
     alloc: Global,
-    pairs: &Members<CertPair>,
+    pairs: &Members<Pair<u32>>,
     edges: &[Edge],
     before: &[usize],
     second: usize,
@@ -90,7 +87,7 @@ fn lesser(one: Option<(u32, u32)>, other: Option<(u32, u32)>) -> Option<(u32, u3
 /// The least rules of two edges that split into a pair that isn't there.
 fn lost_split(
     alloc: Global,
-    pairs: &Members<CertPair>,
+    pairs: &Members<Pair<u32>>,
     edges: &[Edge],
 ) -> Result<Option<(u32, u32)>, AllocError>
     requires in_order { AreInOrder edges.now }
@@ -116,11 +113,11 @@ pub fn lost_split_at<M: Machine>(
 ) -> Result<Option<(u32, u32)>, AllocError>
     requires kept { HasAllEdges (M.behaviour machine.now) body.now.states kept.now }
     requires number { number < length body.now.states }
-    ensures { IfOk result (IsLeastPairFound (LosesSplit (M.behaviour machine.now) (body_of body.now.states body.now.pairs) number)) }
+    ensures { IfOk result (IsLeastPairFound (LosesSplit (M.behaviour machine.now) body.now number)) }
 {
     edges_law(machine);
-    one_number_law::<M>(&body.states);
-    lost_split(alloc, &body.pairs, kept[number].as_slice())
+    body.law();
+    lost_split(alloc, body.pairs(), kept[number].as_slice())
 }
 
 /// The least rule by which the pair with this number loses a move.
@@ -133,13 +130,13 @@ pub fn lost_move_at<M: Machine>(
 ) -> Result<Option<u32>, AllocError>
     requires kept { HasAllEdges (M.behaviour machine.now) body.now.states kept.now }
     requires number { number < length body.now.pairs }
-    ensures { IfOk result (IsLeastFound (LosesMove (M.behaviour machine.now) (body_of body.now.states body.now.pairs) number)) }
+    ensures { IfOk result (IsLeastFound (LosesMove (M.behaviour machine.now) body.now number)) }
 {
     edges_law(machine);
-    one_number_law::<M>(&body.states);
-    let pair = &body.pairs.as_slice()[number];
+    body.law();
+    let pair = &body.pairs().as_slice()[number];
     let edges = kept[pair.behind as usize].as_slice();
-    lost_move(alloc, &body.pairs, pair.ahead, pair.lead.as_slice(), edges)
+    lost_move(alloc, body.pairs(), pair.ahead, pair.lead.as_slice(), edges)
 }
 
 /// Whether a lead is empty and both states end.
@@ -152,9 +149,9 @@ fn both_end<M: Machine>(machine: &M, ahead: &M::State, behind: &M::State, lead: 
 /// Whether the pair with this number has an empty lead and two states that end.
 pub fn has_two_ends_at<M: Machine>(machine: &M, body: &Body<M::State>, number: usize) -> bool
     requires number { number < length body.now.pairs }
-    ensures { IsTrue result ↔ HasTwoEnds (M.behaviour machine.now) (body_of body.now.states body.now.pairs) number }
+    ensures { IsTrue result ↔ HasTwoEnds (M.behaviour machine.now) body.now number }
 {
-    let pair = &body.pairs.as_slice()[number];
-    let (ahead, behind) = states_of(body.states.as_slice(), pair);
+    let pair = &body.pairs().as_slice()[number];
+    let (ahead, behind) = body.states_of(pair);
     both_end(machine, ahead, behind, pair.lead.as_slice())
 }

@@ -10,15 +10,13 @@ use Rattle.std.proofs.lemmas.List.{append-nil}
 use Rattle.std.proofs.lemmas.List.Splits.{slice_split_at}
 use Rattle.brl_cert.specs.declared.fault.Wrong.{Wrong}
 use Rattle.brl_cert.specs.declared.fault.Wrong.TheVariants.{Syntax, NotCanonical}
-use Rattle.brl_cert.specs.declared.pair.CertPair.{CertPair}
-use Rattle.brl_cert.specs.contracts.pair.CertPairPartialEq.TheImpl.{eq-value as pair-eq}
+use Rattle.brl_edges.specs.Body.{BodyView, IsPairOf, NumberPair, same_pair}
 use Rattle.brl_cert.specs.Fields.{lead}
 use Rattle.brl_cert.specs.declared.line.Line.{Line}
 use Rattle.brl_cert.specs.declared.line.Line.TheVariants.{State, Pair, End}
-use Rattle.brl_cert.specs.Lines.{States, BodyView, count, fields_of, spelled_line, whole_line, spelled_body, loose_line, strict_line, line_of, may_stand, is_end, add_line, body_of}
+use Rattle.brl_cert.specs.Lines.{States, count, fields_of, spelled_line, whole_line, spelled_body, loose_line, strict_line, line_of, may_stand, is_end, add_line, body_of}
 use Rattle.brl_cells.specs.Dots.{AreCells}
 use Rattle.std.proofs.lemmas.List.Elements.{recursion_from_All}
-use Rattle.brl_cert.specs.Range.{IsPairOf}
 use Rattle.brl_cert.specs.Valid.{IsBody}
 use Rattle.brl_cert.proofs.FieldLaws.{IsAbove, Reads, ReadsCells, above_true, lower, above_joined, apart, split_joined, number_reads, lead_reads}
 
@@ -98,16 +96,16 @@ module _ {S : Type 0} (form : States S) where
       let plain : AllByRecursion (IsAbove 32) (fields_of form (End (length body.states) (length body.pairs))) = (word_above.2, (above_32 47 (decimal (length body.states)) (omega arith) a.above, (above_32 47 (decimal (length body.pairs)) (omega arith) b.above, tt))) in
       last_again n body (End (length body.states) (length body.pairs)) plain (rw (a.again, b.again) refl) refl (rw ((Decides-eqb (length body.states) (length body.states)).1 refl, (Decides-eqb (length body.pairs) (length body.pairs)).1 refl) refl) refl
 
-  pairs_again : ReadsCells → ((a b : CertPair) → pair-eq.it a b ≡ pair-eq.it b a) → (ss : List S) (few : length ss ≤ 4294967295) (rest : List ℕ) (out : BodyView S) (front ps : List CertPair) (n : ℕ) → IsDistinct pair-eq.it (front ++ ps) → AllByRecursion (IsPairOf (length ss)) ps → AllByRecursion (λ p. AreCells p.lead) ps
+  pairs_again : ReadsCells → ((a b : NumberPair) → same_pair a b ≡ same_pair b a) → (ss : List S) (few : length ss ≤ 4294967295) (rest : List ℕ) (out : BodyView S) (front ps : List NumberPair) (n : ℕ) → IsDistinct same_pair (front ++ ps) → AllByRecursion (IsPairOf (length ss)) ps → AllByRecursion (λ p. AreCells p.lead) ps
       → ((m : ℕ) → body_of form m (record { states = ss; pairs = front ++ ps }) (slice_split (λ b. eqb b 10) rest) ≡ Ok out)
       → body_of form n (record { states = ss; pairs = front }) (slice_split (λ b. eqb b 10) (flat_map (λ p. whole_line form (Pair p)) ps ++ rest)) ≡ Ok out
-  pairs_again law flips ss few rest out front [] n distinct each leads goes = ap (λ (ps : List CertPair). body_of form n (record { states = ss; pairs = ps }) (slice_split (λ b. eqb b 10) rest)) (sym (append-nil front)) ∙ goes n
+  pairs_again law flips ss few rest out front [] n distinct each leads goes = ap (λ (ps : List NumberPair). body_of form n (record { states = ss; pairs = ps }) (slice_split (λ b. eqb b 10) rest)) (sym (append-nil front)) ∙ goes n
   pairs_again law flips ss few rest out front (p ∷ ps) n distinct each leads goes =
       let a = counted p.ahead (omega (arith, each.0.ahead)) in
       let b = counted p.behind (omega (arith, each.0.behind)) in
       let l : Reads lead 44 p.lead = lead_reads law p.lead leads.0 each.0.lead in
       let plain : AllByRecursion (IsAbove 32) (fields_of form (Pair p)) = (word_above.1, (above_32 47 (decimal p.ahead) (omega arith) a.above, (above_32 47 (decimal p.behind) (omega arith) b.above, (above_32 44 (lead.spell p.lead) (omega arith) l.above, tt)))) in
-      let new : list_any (pair-eq.it p) front ≡ false = new_from_distinct pair-eq.it flips front p ps distinct in
+      let new : list_any (same_pair p) front ≡ false = new_from_distinct same_pair flips front p ps distinct in
       let again : loose_line form (fields_of form (Pair p)) ≡ Some (Pair p) = rw (a.again, b.again, l.again) refl in
       let added : add_line form (record { states = ss; pairs = front }) (Pair p) ≡ Ok (record { states = ss; pairs = front ++ p ∷ [] }) = rw ((Decides-ltb p.ahead (length ss)).1 each.0.ahead, (Decides-ltb p.behind (length ss)).1 each.0.behind, new) refl in
       let regroup : (front ++ p ∷ []) ++ ps ≡ front ++ p ∷ ps = append_assoc front (p ∷ []) ps in
@@ -130,7 +128,7 @@ module _ {S : Type 0} (form : States S) where
         ap (λ (bs : List ℕ). body_of form n (record { states = front; pairs = [] }) (slice_split (λ b. eqb b 10) bs)) (append_assoc (whole_line form (State s)) (flat_map (λ q. whole_line form (State q)) ss) rest)
         ∙ turn_again n (record { states = front; pairs = [] }) (State s) (record { states = front ++ s ∷ []; pairs = [] }) out (flat_map (λ q. whole_line form (State q)) ss ++ rest) plain again refl added refl others
 
-    pub body_again : ReadsCells → ((a b : CertPair) → pair-eq.it a b ≡ pair-eq.it b a) → (n : ℕ) (body : BodyView S) → IsBody form IsState body → body_of form n (record { states = []; pairs = [] }) (slice_split (λ b. eqb b 10) (spelled_body form body)) ≡ Ok body
+    pub body_again : ReadsCells → ((a b : NumberPair) → same_pair a b ≡ same_pair b a) → (n : ℕ) (body : BodyView S) → IsBody form IsState body → body_of form n (record { states = []; pairs = [] }) (slice_split (λ b. eqb b 10) (spelled_body form body)) ≡ Ok body
     body_again law flips n body good =
         let end : List ℕ = whole_line form (End (length body.states) (length body.pairs)) in
         let regroup : spelled_body form body ≡ flat_map (λ s. whole_line form (State s)) body.states ++ (flat_map (λ p. whole_line form (Pair p)) body.pairs ++ whole_line form (End (length body.states) (length body.pairs))) =

@@ -21,7 +21,7 @@ use Rattle.brl_cert.specs.Fields.{◌>>=◌, character, each, is_char, loose_cha
 use Rattle.brl_cert.specs.Valid.{HasSet, IsDue, IsOwing}
 use Rattle.brl_cert.proofs.FieldLaws.{IsAbove, Reads, above_append, above_joined, all_above, each_again, each_char, flag_reads, lower, number_reads, split_joined}
 use Rattle.brl_cert.proofs.Again.{KeepsStates}
-use Rattle.brl_cert.proofs.Window.{Decides-beq, flips}
+use Rattle.brl_cert.proofs.Window.{decides, flag_itself, flips}
 
 -- a mark isn't among the bytes
 abbrev Free : ℕ → List ℕ → Type 0
@@ -166,10 +166,10 @@ owing-plain s h =
 -- ---- States that are equal
 
 same-state : (s : DuesState) → owing.same s s ≡ true
-same-state s = rw ((Decides-eqb s.before.0 s.before.0).1 refl, (Decides-beq s.numeric s.numeric).1 refl) ((lists_equiv dues_equiv).refl s.dues)
+same-state s = rw ((Decides-eqb s.before.0 s.before.0).1 refl, flag_itself s.numeric) ((lists_equiv dues_equiv).refl s.dues)
 
 pub DuesState-Decides : (s t : DuesState) → Decides (owing.same s t) (s ≡ t)
-DuesState-Decides s t = (same_states s t, λ e. subst (λ (z : DuesState). owing.same s z ≡ true) e (same-state s))
+DuesState-Decides = decides owing.same same_states same-state
 
 pub keeps_owing : ((dues : List Due) → AreDues dues → in_order dues ≡ dues) → KeepsStates owing IsOwing
 keeps_owing law = record { again = owing-again law; plain = owing-plain; flips = flips owing.same DuesState-Decides }

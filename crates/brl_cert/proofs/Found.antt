@@ -8,14 +8,15 @@ use Rattle.std.proofs.lemmas.List.{append-nil, flat_map_more}
 use Rattle.std.proofs.lemmas.List.Splits.{join_with_byte-slice_split}
 use Rattle.brl_cert.specs.declared.fault.Wrong.{Wrong}
 use Rattle.brl_cert.specs.declared.fault.Wrong.TheVariants.{Syntax, NotCanonical, DuplicateState, DuplicatePair, NoSuchState, WrongCount, Version}
-use Rattle.brl_cert.specs.declared.pair.CertPair.{CertPair}
+use Rattle.brl_edges.specs.Body.{BodyView, NumberPair, same_pair}
 use Rattle.std.specs.Cmp.{first_so, second_so}
-use Rattle.brl_cert.specs.contracts.pair.CertPairPartialEq.TheImpl.{eq-value as pair-eq}
 use Rattle.brl_cert.specs.declared.line.Line.{Line}
 use Rattle.brl_cert.specs.declared.line.Line.TheVariants.{State, Pair, End}
-use Rattle.brl_cert.specs.Lines.{States, BodyView, placed, ◌>>>◌, spelled_line, whole_line, spelled_body, strict_line, line_of, may_stand, loose_line, is_end, add_line, one_line, body_of}
+use Rattle.brl_cert.specs.Lines.{States, placed, ◌>>>◌, spelled_line, whole_line, spelled_body, strict_line, line_of, may_stand, loose_line, is_end, add_line, one_line, body_of}
 use Rattle.brl_cert.specs.Dues.{owing}
-use Rattle.brl_cert.specs.Reading.{CertView, Owing, Windows, spelling, reading, certificate_of, spelled_header, strict_header, header_of, loose_header, nothing, version_of}
+use Rattle.brl_cert.specs.Reading.{spelling, reading, certificate_of, spelled_header, strict_header, header_of, loose_header, nothing, version_of}
+use Rattle.brl_cert.specs.declared.cert.Cert.TheVariants.{Dues, Window}
+use Rattle.brl_cert.specs.declared.cert.Cert.{Cert as Certificate}
 use Rattle.brl_cert.specs.Window.{windows}
 
 -- the value of a step that did not fail
@@ -75,9 +76,9 @@ module _ {S : Type 0} (form : States S) where
       empty_is [] h = refl
       empty_is (x ∷ xs) h = absurd (omega (arith, (Decides-eqb (length (x ∷ xs)) 0).0 h))
   adds body (Pair p) longer stands e open_ =
-      let a = guard_ok (not (ltb p.ahead (length body.states) && ltb p.behind (length body.states))) NoSuchState (cond (list_any (pair-eq.it p) body.pairs) (Err DuplicatePair) (Ok (record { states = body.states; pairs = body.pairs ++ p ∷ [] }))) longer e in
-      let b = guard_ok (list_any (pair-eq.it p) body.pairs) DuplicatePair (Ok (record { states = body.states; pairs = body.pairs ++ p ∷ [] })) longer a.1 in
-      let more : front (record { states = body.states; pairs = body.pairs ++ p ∷ [] }) ≡ front body ++ whole_line form (Pair p) = sym (flat_map_more (λ (x : CertPair). whole_line form (Pair x)) (flat_map (λ s. whole_line form (State s)) body.states) body.pairs p) in
+      let a = guard_ok (not (ltb p.ahead (length body.states) && ltb p.behind (length body.states))) NoSuchState (cond (list_any (same_pair p) body.pairs) (Err DuplicatePair) (Ok (record { states = body.states; pairs = body.pairs ++ p ∷ [] }))) longer e in
+      let b = guard_ok (list_any (same_pair p) body.pairs) DuplicatePair (Ok (record { states = body.states; pairs = body.pairs ++ p ∷ [] })) longer a.1 in
+      let more : front (record { states = body.states; pairs = body.pairs ++ p ∷ [] }) ≡ front body ++ whole_line form (Pair p) = sym (flat_map_more (λ (x : NumberPair). whole_line form (Pair x)) (flat_map (λ s. whole_line form (State s)) body.states) body.pairs p) in
       subst (λ (z : BodyView S). front z ≡ front body ++ whole_line form (Pair p)) (ok_is _ longer b.1) more
   adds body (End s p) longer stands e open_ = cc
 
@@ -130,27 +131,27 @@ header_is bytes (Some m) n e =
     subst (λ (z : ℕ). spelled_header z ≡ bytes) (ok_is m n b.1) ((bytes_eq-Decides (spelled_header m) bytes).0 b.0)
 
 -- lines after a header are those of its version
-lines_found : {S : Type 0} (form : States S) (wrap : BodyView S → CertView) (version n : ℕ) → ((body : BodyView S) → spelling (wrap body) ≡ spelled_header n ++ 10 ∷ spelled_body form body) → version ≡ n → (parts : List (List ℕ)) (c : CertView)
+lines_found : {S : Type 0} (form : States S) (wrap : BodyView S → Certificate) (version n : ℕ) → ((body : BodyView S) → spelling (wrap body) ≡ spelled_header n ++ 10 ∷ spelled_body form body) → version ≡ n → (parts : List (List ℕ)) (c : Certificate)
     → (body_of form 2 nothing parts >>> λ body. Ok (wrap body)) ≡ Ok c → spelling c ≡ spelled_header version ++ (10 ∷ join_with_byte 10 parts)
 lines_found form wrap version n spelled is parts c e =
     let d = then_ok (body_of form 2 nothing parts) (λ body. Ok (wrap body)) c e in
     let found : join_with_byte 10 parts ≡ spelled_body form d.0 = body_found form 2 nothing parts d.0 d.1 in
-    subst (λ (z : CertView). spelling z ≡ spelled_header version ++ (10 ∷ join_with_byte 10 parts)) (ok_is (wrap d.0) c d.2)
+    subst (λ (z : Certificate). spelling z ≡ spelled_header version ++ (10 ∷ join_with_byte 10 parts)) (ok_is (wrap d.0) c d.2)
     (spelled d.0 ∙ ap (λ (m : ℕ). spelled_header m ++ (10 ∷ spelled_body form d.0)) (sym is) ∙ ap (λ (x : List ℕ). spelled_header version ++ (10 ∷ x)) (sym found))
 
-version_found : (version : ℕ) (parts : List (List ℕ)) (c : CertView) → version_of version parts ≡ Ok c → spelling c ≡ spelled_header version ++ (10 ∷ join_with_byte 10 parts)
+version_found : (version : ℕ) (parts : List (List ℕ)) (c : Certificate) → version_of version parts ≡ Ok c → spelling c ≡ spelled_header version ++ (10 ∷ join_with_byte 10 parts)
 version_found version parts c e = by_first (eqb version 1) refl e
   where
-    by_second : (b : Bool) → eqb version 2 ≡ b → cond b (body_of owing 2 nothing parts >>> λ body. Ok (Owing body)) (Err (Version, 1)) ≡ Ok c → spelling c ≡ spelled_header version ++ (10 ∷ join_with_byte 10 parts)
-    by_second true is e = lines_found owing Owing version 2 (λ body. refl) ((Decides-eqb version 2).0 is) parts c e
+    by_second : (b : Bool) → eqb version 2 ≡ b → cond b (body_of owing 2 nothing parts >>> λ body. Ok (Dues body)) (Err (Version, 1)) ≡ Ok c → spelling c ≡ spelled_header version ++ (10 ∷ join_with_byte 10 parts)
+    by_second true is e = lines_found owing Dues version 2 (λ body. refl) ((Decides-eqb version 2).0 is) parts c e
     by_second false is e = absurd cc
 
-    by_first : (b : Bool) → eqb version 1 ≡ b → cond b (body_of windows 2 nothing parts >>> λ body. Ok (Windows body)) (cond (eqb version 2) (body_of owing 2 nothing parts >>> λ body. Ok (Owing body)) (Err (Version, 1))) ≡ Ok c
+    by_first : (b : Bool) → eqb version 1 ≡ b → cond b (body_of windows 2 nothing parts >>> λ body. Ok (Window body)) (cond (eqb version 2) (body_of owing 2 nothing parts >>> λ body. Ok (Dues body)) (Err (Version, 1))) ≡ Ok c
         → spelling c ≡ spelled_header version ++ (10 ∷ join_with_byte 10 parts)
-    by_first true is e = lines_found windows Windows version 1 (λ body. refl) ((Decides-eqb version 1).0 is) parts c e
+    by_first true is e = lines_found windows Window version 1 (λ body. refl) ((Decides-eqb version 1).0 is) parts c e
     by_first false is e = by_second (eqb version 2) refl e
 
-certificate_found : (parts : List (List ℕ)) (c : CertView) → certificate_of parts ≡ Ok c → spelling c ≡ join_with_byte 10 parts
+certificate_found : (parts : List (List ℕ)) (c : Certificate) → certificate_of parts ≡ Ok c → spelling c ≡ join_with_byte 10 parts
 certificate_found [] c e = absurd cc
 certificate_found (last ∷ []) c e = absurd cc
 certificate_found (header ∷ next ∷ more) c e =
@@ -159,5 +160,5 @@ certificate_found (header ∷ next ∷ more) c e =
     version_found a.0 (next ∷ more) c a.2 ∙ ap (λ (x : List ℕ). x ++ (10 ∷ join_with_byte 10 (next ∷ more))) h
 
 -- what is read is spelled so
-pub read_is_spelled : (bytes : List ℕ) (c : CertView) → reading bytes ≡ Ok c → spelling c ≡ bytes
+pub read_is_spelled : (bytes : List ℕ) (c : Certificate) → reading bytes ≡ Ok c → spelling c ≡ bytes
 read_is_spelled bytes c e = certificate_found (slice_split (λ b. eqb b 10) bytes) c e ∙ join_with_byte-slice_split 10 bytes

@@ -15,20 +15,20 @@ use Rattle.brl_cells.specs.declared.fault.DotsFault.{DotsFault}
 use Rattle.brl_cells.specs.declared.fault.DotsFault.TheVariants.{TooManyCells}
 use Rattle.brl_cells.specs.Dots.{AreCells, limited, cells_reading, parts, reading as dots_reading}
 use Rattle.brl_cert.specs.declared.fault.Wrong.TheVariants.{Syntax, NotCanonical, DuplicateState, DuplicatePair, NoSuchState, WrongCount, Version}
-use Rattle.brl_cert.specs.declared.pair.CertPair.{CertPair}
-use Rattle.brl_cert.specs.contracts.pair.CertPairPartialEq.TheImpl.{eq-value as pair-eq}
+use Rattle.brl_edges.specs.Body.{BodyView, IsPairOf, NumberPair, same_pair}
 use Rattle.brl_cert.specs.Fields.{◌>>=◌, loose_number, loose_lead, is_char, loose_char, loose_chars, each, number, flag}
-use Rattle.brl_cert.specs.Range.{IsPairOf}
 use Rattle.brl_cert.specs.declared.line.Line.{Line}
 use Rattle.brl_cert.specs.declared.line.Line.TheVariants.{State, Pair, End}
-use Rattle.brl_cert.specs.Lines.{States, BodyView, ◌>>>◌, placed, count, spelled_line, loose_line, loose_pair, loose_end, strict_line, line_of, may_stand, is_end, add_line, one_line, body_of}
+use Rattle.brl_cert.specs.Lines.{States, ◌>>>◌, placed, count, spelled_line, loose_line, loose_pair, loose_end, strict_line, line_of, may_stand, is_end, add_line, one_line, body_of}
 use Rattle.brl_window.specs.declared.state.WindowState.{WindowState}
 use Rattle.brl_cert.specs.Window.{windows, loose_window}
 use Rattle.brl_cert.specs.Dues.{owing}
-use Rattle.brl_cert.specs.Reading.{CertView, Owing, Windows, reading, certificate_of, version_of, header_of, nothing}
+use Rattle.brl_cert.specs.Reading.{reading, certificate_of, version_of, header_of, nothing}
+use Rattle.brl_cert.specs.declared.cert.Cert.TheVariants.{Dues, Window}
+use Rattle.brl_cert.specs.declared.cert.Cert.{Cert as Certificate}
 use Rattle.brl_cert.specs.Valid.{IsBody, IsWindow, IsOwing, IsCertificate}
 use Rattle.brl_cert.proofs.Found.{then_ok, placed_ok, guard_ok, need_ok, ok_is}
-use Rattle.brl_cert.proofs.Window.{CertPair-Decides, WindowState-Decides, flips}
+use Rattle.brl_cert.proofs.Window.{NumberPair-Decides, WindowState-Decides, flips}
 
 -- ---- What a field can stand for
 
@@ -112,15 +112,15 @@ record IsFront {S : Type 0} (form : States S) (IsState : S → Type 0) (body : B
   pub each_pair : All (IsPairOf (length body.states)) body.pairs
   pub each_lead : All (λ pair. AreCells pair.lead) body.pairs
   pub states_differ : IsDistinct form.same body.states
-  pub pairs_differ : IsDistinct pair-eq.it body.pairs
+  pub pairs_differ : IsDistinct same_pair body.pairs
 
-module _ {S : Type 0} (form : States S) (IsState : S → Type 0) (cells : ReadCells) (reads : ReadsStates form IsState) (pairs_equal : IsEquivalence pair-eq.it) where
+module _ {S : Type 0} (form : States S) (IsState : S → Type 0) (cells : ReadCells) (reads : ReadsStates form IsState) (pairs_equal : IsEquivalence same_pair) where
   pair_valid : (fields : List (List ℕ)) (line : Line S) → loose_pair form fields ≡ Some line → IsLine IsState line
   pair_valid (a ∷ b ∷ l ∷ []) line e =
       let x = then_some (count.loose a) (λ ahead. count.loose b >>= λ behind. loose_lead l >>= λ found. Some (Pair (record { ahead = ahead; behind = behind; lead = found }))) line e in
       let y = then_some (count.loose b) (λ behind. loose_lead l >>= λ found. Some (Pair (record { ahead = x.0; behind = behind; lead = found }))) line x.2 in
       let z = then_some (loose_lead l) (λ found. Some (Pair (record { ahead = x.0; behind = y.0; lead = found }))) line y.2 in
-      let made : CertPair = record { ahead = x.0; behind = y.0; lead = z.0 } in
+      let made : NumberPair = record { ahead = x.0; behind = y.0; lead = z.0 } in
       let same : Pair made ≡ line = (let f = z.2 in cc) in
       subst (IsLine IsState) same (lead_valid cells l z.0 z.1)
   pair_valid fields line e = absurd cc
@@ -175,7 +175,7 @@ module _ {S : Type 0} (form : States S) (IsState : S → Type 0) (cells : ReadCe
       let none : body.pairs ≡ [] = empty_is body.pairs stands in
       subst (IsFront form IsState) (ok_is _ longer a.1) record {
         each_state = All-push IsState body.states s front.each_state is;
-        each_pair = subst (λ (ps : List CertPair). All (IsPairOf (length (body.states ++ s ∷ []))) ps) (sym none) (All-nil (IsPairOf (length (body.states ++ s ∷ []))));
+        each_pair = subst (λ (ps : List NumberPair). All (IsPairOf (length (body.states ++ s ∷ []))) ps) (sym none) (All-nil (IsPairOf (length (body.states ++ s ∷ []))));
         each_lead = front.each_lead;
         states_differ = IsDistinct-push reads.equal body.states s front.states_differ a.0;
         pairs_differ = front.pairs_differ;
@@ -185,8 +185,8 @@ module _ {S : Type 0} (form : States S) (IsState : S → Type 0) (cells : ReadCe
       empty_is [] h = refl
       empty_is (x ∷ xs) h = absurd (omega (arith, (Decides-eqb (length (x ∷ xs)) 0).0 h))
   adds_valid body (Pair p) longer front stands is e =
-      let a = guard_ok (not (ltb p.ahead (length body.states) && ltb p.behind (length body.states))) NoSuchState (cond (list_any (pair-eq.it p) body.pairs) (Err DuplicatePair) (Ok (record { states = body.states; pairs = body.pairs ++ p ∷ [] }))) longer e in
-      let b = guard_ok (list_any (pair-eq.it p) body.pairs) DuplicatePair (Ok (record { states = body.states; pairs = body.pairs ++ p ∷ [] })) longer a.1 in
+      let a = guard_ok (not (ltb p.ahead (length body.states) && ltb p.behind (length body.states))) NoSuchState (cond (list_any (same_pair p) body.pairs) (Err DuplicatePair) (Ok (record { states = body.states; pairs = body.pairs ++ p ∷ [] }))) longer e in
+      let b = guard_ok (list_any (same_pair p) body.pairs) DuplicatePair (Ok (record { states = body.states; pairs = body.pairs ++ p ∷ [] })) longer a.1 in
       let within = both (ltb p.ahead (length body.states)) (ltb p.behind (length body.states)) a.0 in
       let one : IsPairOf (length body.states) p = record { ahead = (Decides-ltb p.ahead (length body.states)).0 within.0; behind = (Decides-ltb p.behind (length body.states)).0 within.1; lead = is.0 } in
       subst (IsFront form IsState) (ok_is _ longer b.1) record {
@@ -279,26 +279,26 @@ reads_windows : ReadsStates windows IsWindow
 reads_windows = record { valid = window_valid; equal = equal_from_decides windows.same WindowState-Decides }
 
 -- what is read by a version's form of states is a body in range
-lines_valid : {S : Type 0} (form : States S) (IsState : S → Type 0) → ReadCells → ReadsStates form IsState → (wrap : BodyView S → CertView) → ((body : BodyView S) → IsBody form IsState body → IsCertificate (wrap body)) → (parts : List (List ℕ)) (c : CertView)
+lines_valid : {S : Type 0} (form : States S) (IsState : S → Type 0) → ReadCells → ReadsStates form IsState → (wrap : BodyView S → Certificate) → ((body : BodyView S) → IsBody form IsState body → IsCertificate (wrap body)) → (parts : List (List ℕ)) (c : Certificate)
     → (body_of form 2 nothing parts >>> λ body. Ok (wrap body)) ≡ Ok c → IsCertificate c
 lines_valid form IsState cells reads wrap is parts c e =
     let d = then_ok (body_of form 2 nothing parts) (λ body. Ok (wrap body)) c e in
-    let pairs_equal = equal_from_decides pair-eq.it CertPair-Decides in
+    let pairs_equal = equal_from_decides same_pair NumberPair-Decides in
     subst IsCertificate (ok_is (wrap d.0) c d.2) (is d.0 (body_valid form IsState cells reads pairs_equal 2 nothing parts d.0 (nothing_front form IsState cells reads pairs_equal) d.1))
 
 module _ (cells : ReadCells) (reads_owing : ReadsStates owing IsOwing) where
-  version_valid : (version : ℕ) (parts : List (List ℕ)) (c : CertView) → version_of version parts ≡ Ok c → IsCertificate c
+  version_valid : (version : ℕ) (parts : List (List ℕ)) (c : Certificate) → version_of version parts ≡ Ok c → IsCertificate c
   version_valid version parts c e = by_first (eqb version 1) e
     where
-      by_second : (b : Bool) → cond b (body_of owing 2 nothing parts >>> λ body. Ok (Owing body)) (Err (Version, 1)) ≡ Ok c → IsCertificate c
-      by_second true e = lines_valid owing IsOwing cells reads_owing Owing (λ body h. h) parts c e
+      by_second : (b : Bool) → cond b (body_of owing 2 nothing parts >>> λ body. Ok (Dues body)) (Err (Version, 1)) ≡ Ok c → IsCertificate c
+      by_second true e = lines_valid owing IsOwing cells reads_owing Dues (λ body h. h) parts c e
       by_second false e = absurd cc
 
-      by_first : (b : Bool) → cond b (body_of windows 2 nothing parts >>> λ body. Ok (Windows body)) (cond (eqb version 2) (body_of owing 2 nothing parts >>> λ body. Ok (Owing body)) (Err (Version, 1))) ≡ Ok c → IsCertificate c
-      by_first true e = lines_valid windows IsWindow cells reads_windows Windows (λ body h. h) parts c e
+      by_first : (b : Bool) → cond b (body_of windows 2 nothing parts >>> λ body. Ok (Window body)) (cond (eqb version 2) (body_of owing 2 nothing parts >>> λ body. Ok (Dues body)) (Err (Version, 1))) ≡ Ok c → IsCertificate c
+      by_first true e = lines_valid windows IsWindow cells reads_windows Window (λ body h. h) parts c e
       by_first false e = by_second (eqb version 2) e
 
-  parts_valid : (parts : List (List ℕ)) (c : CertView) → certificate_of parts ≡ Ok c → IsCertificate c
+  parts_valid : (parts : List (List ℕ)) (c : Certificate) → certificate_of parts ≡ Ok c → IsCertificate c
   parts_valid [] c e = absurd cc
   parts_valid (last ∷ []) c e = absurd cc
   parts_valid (header ∷ next ∷ more) c e =
@@ -306,5 +306,5 @@ module _ (cells : ReadCells) (reads_owing : ReadsStates owing IsOwing) where
       version_valid a.0 (next ∷ more) c a.2
 
   -- what is read is a certificate
-  pub read_is_certificate : (bytes : List ℕ) (c : CertView) → reading bytes ≡ Ok c → IsCertificate c
+  pub read_is_certificate : (bytes : List ℕ) (c : Certificate) → reading bytes ≡ Ok c → IsCertificate c
   read_is_certificate bytes c e = parts_valid (slice_split (λ b. eqb b 10) bytes) c e

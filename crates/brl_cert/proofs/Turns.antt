@@ -6,7 +6,8 @@ use Rattle.brl_cert.specs.declared.fault.CertFault.TheVariants.{Refused, Memory}
 use Rattle.brl_cert.specs.declared.fault.Wrong.{Wrong}
 use Rattle.brl_cert.specs.declared.fault.Wrong.TheVariants.{Syntax, Truncated}
 use Rattle.brl_cert.specs.declared.line.Line.{Line}
-use Rattle.brl_cert.specs.Lines.{States, BodyView, ◌>>>◌, placed, line_of, add_line, is_end, one_line, body_of}
+use Rattle.brl_cert.specs.Lines.{States, ◌>>>◌, placed, line_of, add_line, is_end, one_line, body_of}
+use Rattle.brl_edges.specs.Body.{BodyView}
 use Rattle.brl_cert.specs.Reading.{IsFaultOf}
 use Rattle.brl_cert.proofs.Found.{placed_ok}
 

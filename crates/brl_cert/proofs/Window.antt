@@ -1,55 +1,40 @@
 -- States of version 1 are read back.
 use Rattle.std.proofs.Common.{◌≡◌, Bool, true, false, eqb, Some, refl, sym, subst, arith}
 use Rattle.std.specs.Bool.{Decides}
-use Rattle.std.specs.Cmp.{first_so, second_so}
 use Rattle.std.specs.List.{AllByRecursion}
 use Rattle.std.proofs.Math.Bool.{beq}
 use Rattle.std.proofs.lemmas.Bool.Decides.{Decides-eqb, same_from_decides}
 use Rattle.std.proofs.lemmas.Slice.Eq.{bytes_eq-Decides}
 use Rattle.brl_window.specs.declared.state.WindowState.{WindowState}
-use Rattle.brl_cert.specs.declared.pair.CertPair.{CertPair}
-use Rattle.brl_cert.specs.contracts.pair.CertPairPartialEq.TheImpl.{eq-value as pair-eq}
+use Rattle.brl_edges.specs.Body.{NumberPair, same_pair}
 use Rattle.brl_window.specs.contracts.state.WindowStatePartialEq.TheImpl.{eq-value as window-eq}
+use Rattle.brl_members.specs.Same.{same_numbers}
+use Rattle.brl_pairs.specs.Same.{same_pairs}
+use Rattle.brl_window.specs.Same.{same_states}
 use Rattle.brl_cert.specs.Window.{window_fields, loose_window, windows}
 use Rattle.brl_cert.specs.Valid.{IsWindow}
 use Rattle.brl_cert.proofs.FieldLaws.{IsAbove, lower, number_reads, flag_reads, chars_read}
 use Rattle.brl_cert.proofs.Again.{KeepsStates}
 
-pub CertPair-Decides : (p q : CertPair) → Decides (pair-eq.it p q) (p ≡ q)
-CertPair-Decides p q = (
-  (λ h.
-      let ahead : p.ahead ≡ q.ahead = (Decides-eqb p.ahead q.ahead).0 (first_so _ _ h) in
-      let rest = second_so (eqb p.ahead q.ahead) _ h in
-      let behind : p.behind ≡ q.behind = (Decides-eqb p.behind q.behind).0 (first_so _ _ rest) in
-      let lead : p.lead ≡ q.lead = (bytes_eq-Decides p.lead q.lead).0 (second_so (eqb p.behind q.behind) _ rest) in
-      λ i. record { ahead = ahead i; behind = behind i; lead = lead i }),
-  λ e. subst (λ (z : CertPair). pair-eq.it p z ≡ true) e (itself p),
-)
+-- a test that holds of each value and itself, and of no other two values
+pub decides : {X : Type 0} (e : X → X → Bool) → ((x y : X) → e x y ≡ true → x ≡ y) → ((x : X) → e x x ≡ true) → (x y : X) → Decides (e x y) (x ≡ y)
+decides e same itself x y = (same x y, λ is. subst (λ z. e x z ≡ true) is (itself x))
+
+pub flag_itself : (b : Bool) → beq b b ≡ true
+flag_itself true = refl
+flag_itself false = refl
+
+pub NumberPair-Decides : (p q : NumberPair) → Decides (same_pair p q) (p ≡ q)
+NumberPair-Decides = decides same_pair (same_pairs eqb same_numbers) itself
   where
-    itself : (z : CertPair) → pair-eq.it z z ≡ true
+    itself : (z : NumberPair) → same_pair z z ≡ true
     itself z = rw ((Decides-eqb z.ahead z.ahead).1 refl, (Decides-eqb z.behind z.behind).1 refl) ((bytes_eq-Decides z.lead z.lead).1 refl)
 
-pub Decides-beq : (a b : Bool) → Decides (beq a b) (a ≡ b)
-Decides-beq true true = ((λ _. refl), (λ _. refl))
-Decides-beq false false = ((λ _. refl), (λ _. refl))
-Decides-beq true false = ((λ h. cc), (λ h. cc))
-Decides-beq false true = ((λ h. cc), (λ h. cc))
-
 pub WindowState-Decides : (s t : WindowState) → Decides (window-eq.it s t) (s ≡ t)
-WindowState-Decides s t = (
-  (λ h.
-      let before : s.before.0 ≡ t.before.0 = (Decides-eqb s.before.0 t.before.0).0 (first_so _ _ h) in
-      let rest = second_so (eqb s.before.0 t.before.0) _ h in
-      let numeric : s.numeric ≡ t.numeric = (Decides-beq s.numeric t.numeric).0 (first_so _ _ rest) in
-      let more = second_so (beq s.numeric t.numeric) _ rest in
-      let ended : s.ended ≡ t.ended = (Decides-beq s.ended t.ended).0 (first_so _ _ more) in
-      let coming : s.coming ≡ t.coming = (bytes_eq-Decides s.coming t.coming).0 (second_so (beq s.ended t.ended) _ more) in
-      λ i. record { before = record { 0 = before i }; numeric = numeric i; ended = ended i; coming = coming i }),
-  λ e. subst (λ (z : WindowState). window-eq.it s z ≡ true) e (itself s),
-)
+WindowState-Decides = decides window-eq.it same_states itself
   where
     itself : (z : WindowState) → window-eq.it z z ≡ true
-    itself z = rw ((Decides-eqb z.before.0 z.before.0).1 refl, (Decides-beq z.numeric z.numeric).1 refl, (Decides-beq z.ended z.ended).1 refl) ((bytes_eq-Decides z.coming z.coming).1 refl)
+    itself z = rw ((Decides-eqb z.before.0 z.before.0).1 refl, flag_itself z.numeric, flag_itself z.ended) ((bytes_eq-Decides z.coming z.coming).1 refl)
 
 -- a test that decides identity reads the same both ways
 pub flips : {X : Type 0} (e : X → X → Bool) → ((x y : X) → Decides (e x y) (x ≡ y)) → (a b : X) → e a b ≡ e b a

@@ -1,10 +1,7 @@
 pub mod Fields
-pub mod Range
 pub mod Lines
 pub mod Window
 pub mod Dues
 pub mod Reading
 pub mod Valid
-pub mod Views
-pub mod Sets
 pub mod Kinds

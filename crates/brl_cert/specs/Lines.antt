@@ -1,14 +1,13 @@
 -- The lines of a certificate, over states of any form (the project's own choice).
-use Rattle.std.specs.Prelude.{ℕ, suc, ◌+◌, Bool, true, false, ◌&&◌, not, nat_lt, ◌==◌, if◌then◌else◌, List, [], ◌∷◌, ◌++◌, length, Option, Some, None, Result, Ok, Err, codes}
+use Rattle.std.specs.Prelude.{ℕ, suc, ◌+◌, ◌≤◌, Bool, true, false, ◌&&◌, not, nat_lt, ◌==◌, if◌then◌else◌, List, [], ◌∷◌, ◌++◌, length, Option, Some, None, Result, Ok, Err, codes}
 use Rattle.std.specs.Str.{bytes_eq}
 use Rattle.std.specs.Fmt.{decimal}
 use Rattle.std.specs.List.{slice_split, join_with_byte, flat_map, list_any}
 use Rattle.brl_cert.specs.declared.fault.Wrong.{Wrong}
 use Rattle.brl_cert.specs.declared.fault.Wrong.TheVariants.{Syntax, NotCanonical, DuplicateState, DuplicatePair, NoSuchState, WrongCount, Truncated}
-use Rattle.brl_cert.specs.declared.pair.CertPair.{CertPair}
+use Rattle.brl_edges.specs.Body.{BodyView, NumberPair, same_pair}
 use Rattle.brl_cert.specs.declared.line.Line.{Line}
 use Rattle.brl_cert.specs.declared.line.Line.TheVariants.{State, Pair, End}
-use Rattle.brl_cert.specs.contracts.pair.CertPairPartialEq.TheImpl.{eq-value as pair-eq}
 use Rattle.brl_cert.specs.Fields.{◌>>=◌, Form, number, lead}
 
 -- how states of a version are written: the fields behind the word state, what fields of the loose form stand for, and when two
@@ -17,11 +16,6 @@ pub record States (S : Type 0) : Type 0 where
   pub fields : S → List (List ℕ)
   pub loose : List (List ℕ) → Option S
   pub same : S → S → Bool
-
--- what stands in a certificate
-pub record BodyView (S : Type 0) : Type 0 where
-  pub states : List S
-  pub pairs : List CertPair
 
 -- numbers of states, and counts
 abbrev pub count : Form ℕ
@@ -45,6 +39,12 @@ module _ {S : Type 0} where
   may_stand body (Pair p) = true
   may_stand body (End s p) = true
 
+  -- the lead of a pair line isn't too long
+  abbrev pub HasShortLead : Line S → Type 0
+  HasShortLead (State s) = Unit {0}
+  HasShortLead (Pair p) = length p.lead ≤ 1024
+  HasShortLead (End s p) = Unit {0}
+
   abbrev pub is_end : Line S → Bool
   is_end (State s) = false
   is_end (Pair p) = false
@@ -56,7 +56,7 @@ module _ {S : Type 0} where
 abbrev pub behind_blanks : List (List ℕ) → List ℕ
 behind_blanks fields = flat_map (λ field. 32 ∷ field) fields
 
-abbrev pub pair_fields : CertPair → List (List ℕ)
+abbrev pub pair_fields : NumberPair → List (List ℕ)
 pair_fields p = codes "pair" ∷ decimal p.ahead ∷ decimal p.behind ∷ lead.spell p.lead ∷ []
 
 abbrev pub end_fields : ℕ → ℕ → List (List ℕ)
@@ -118,7 +118,7 @@ module _ {S : Type 0} (form : States S) where
       else Ok (record { states = body.states ++ s ∷ []; pairs = body.pairs })
   add_line body (Pair p) =
       if not (nat_lt p.ahead (length body.states) && nat_lt p.behind (length body.states)) then Err NoSuchState
-      else (if list_any (pair-eq.it p) body.pairs then Err DuplicatePair
+      else (if list_any (same_pair p) body.pairs then Err DuplicatePair
       else Ok (record { states = body.states; pairs = body.pairs ++ p ∷ [] }))
   add_line body (End s p) = if (length body.states == s) && (length body.pairs == p) then Ok body else Err WrongCount
 

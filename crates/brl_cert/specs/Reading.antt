@@ -7,16 +7,12 @@ use Rattle.brl_cert.specs.declared.fault.CertFault.{CertFault}
 use Rattle.brl_cert.specs.declared.fault.CertFault.TheVariants.{Refused, Memory}
 use Rattle.brl_cert.specs.declared.fault.Wrong.{Wrong}
 use Rattle.brl_cert.specs.declared.fault.Wrong.TheVariants.{Version, Syntax, NotCanonical, Truncated}
-use Rattle.brl_dues.specs.declared.state.DuesState.{DuesState}
-use Rattle.brl_window.specs.declared.state.WindowState.{WindowState}
+use Rattle.brl_cert.specs.declared.cert.Cert.{Cert as Certificate}
+use Rattle.brl_cert.specs.declared.cert.Cert.TheVariants.{Dues, Window}
 use Rattle.brl_cert.specs.Dues.{owing}
-use Rattle.brl_cert.specs.Lines.{count, BodyView, spelled_body, body_of, placed, ◌>>>◌}
+use Rattle.brl_cert.specs.Lines.{count, spelled_body, body_of, placed, ◌>>>◌}
+use Rattle.brl_edges.specs.Body.{BodyView}
 use Rattle.brl_cert.specs.Window.{windows}
-
--- a certificate without where it lies in memory, by its version
-pub data CertView : Type 0 where
-  Windows : BodyView WindowState → CertView
-  Owing : BodyView DuesState → CertView
 
 -- ---- Spelling
 
@@ -24,9 +20,9 @@ abbrev pub spelled_header : ℕ → List ℕ
 spelled_header n = join_with_byte 32 (codes "BRLCERT" ∷ decimal n ∷ [])
 
 -- the one spelling of a certificate
-abbrev pub spelling : CertView → List ℕ
-spelling (Windows body) = spelled_header 1 ++ 10 ∷ spelled_body windows body
-spelling (Owing body) = spelled_header 2 ++ 10 ∷ spelled_body owing body
+abbrev pub spelling : Certificate → List ℕ
+spelling (Window body) = spelled_header 1 ++ 10 ∷ spelled_body windows body
+spelling (Dues body) = spelled_header 2 ++ 10 ∷ spelled_body owing body
 
 -- ---- Reading
 
@@ -46,19 +42,19 @@ abbrev pub nothing : {S : Type 0} → BodyView S
 nothing = record { states = []; pairs = [] }
 
 -- what the lines behind a header of this version stand for, these being all that follow
-abbrev pub version_of : ℕ → List (List ℕ) → Result CertView (Wrong × ℕ)
+abbrev pub version_of : ℕ → List (List ℕ) → Result Certificate (Wrong × ℕ)
 version_of version parts =
-    if version == 1 then (body_of windows 2 nothing parts >>> λ body. Ok (Windows body))
-    else (if version == 2 then (body_of owing 2 nothing parts >>> λ body. Ok (Owing body)) else Err (Version, 1))
+    if version == 1 then (body_of windows 2 nothing parts >>> λ body. Ok (Window body))
+    else (if version == 2 then (body_of owing 2 nothing parts >>> λ body. Ok (Dues body)) else Err (Version, 1))
 
 -- what the parts of a text between its line feeds stand for
-abbrev pub certificate_of : List (List ℕ) → Result CertView (Wrong × ℕ)
+abbrev pub certificate_of : List (List ℕ) → Result Certificate (Wrong × ℕ)
 certificate_of [] = Err (Truncated, 1)
 certificate_of (last ∷ []) = Err (Truncated, 1)
 certificate_of (header ∷ next ∷ more) = placed 1 (header_of header) >>> λ version. version_of version (next ∷ more)
 
 -- what bytes stand for, or what is wrong with the first faulty line, and its number
-abbrev pub reading : List ℕ → Result CertView (Wrong × ℕ)
+abbrev pub reading : List ℕ → Result Certificate (Wrong × ℕ)
 reading bytes = certificate_of (slice_split (λ b. b == 10) bytes)
 
 -- a fault is the one that decides, or memory was wanting, which it may at any bytes

@@ -9,13 +9,13 @@ use Rattle.brl_dues.specs.declared.due.Due.{Due}
 use Rattle.brl_dues.specs.declared.due.Due.TheVariants.{Need, Bar}
 use Rattle.brl_dues.specs.declared.state.DuesState.{DuesState}
 use Rattle.brl_window.specs.declared.state.WindowState.{WindowState}
-use Rattle.brl_cert.specs.contracts.pair.CertPairPartialEq.TheImpl.{eq-value as pair-eq}
+use Rattle.brl_edges.specs.Body.{BodyView, IsPairOf, same_pair}
 use Rattle.brl_cert.specs.Fields.{is_char}
-use Rattle.brl_cert.specs.Range.{IsPairOf}
-use Rattle.brl_cert.specs.Lines.{States, BodyView}
+use Rattle.brl_cert.specs.Lines.{States}
 use Rattle.brl_cert.specs.Dues.{owing}
 use Rattle.brl_cert.specs.Window.{windows}
-use Rattle.brl_cert.specs.Reading.{CertView, Owing, Windows}
+use Rattle.brl_cert.specs.declared.cert.Cert.TheVariants.{Dues, Window}
+use Rattle.brl_cert.specs.declared.cert.Cert.{Cert as Certificate}
 
 -- a state's classes are a number of eight bits, and its characters are characters
 pub record IsWindow (s : WindowState) : Type 0 where
@@ -28,7 +28,7 @@ pub record IsBody {S : Type 0} (form : States S) (IsState : S → Type 0) (body 
   pub each_pair : All (IsPairOf (length body.states)) body.pairs
   pub each_lead : All (λ pair. AreCells pair.lead) body.pairs
   pub states_differ : IsDistinct form.same body.states
-  pub pairs_differ : IsDistinct pair-eq.it body.pairs
+  pub pairs_differ : IsDistinct same_pair body.pairs
   pub few_states : length body.states ≤ 4294967295
   pub few_pairs : length body.pairs ≤ 4294967295
 
@@ -50,6 +50,6 @@ pub record IsOwing (s : DuesState) : Type 0 where
   pub each : All IsDue s.dues
   pub kept : AreDues s.dues
 
-abbrev pub IsCertificate : CertView → Type 0
-IsCertificate (Windows body) = IsBody windows IsWindow body
-IsCertificate (Owing body) = IsBody owing IsOwing body
+abbrev pub IsCertificate : Certificate → Type 0
+IsCertificate (Window body) = IsBody windows IsWindow body
+IsCertificate (Dues body) = IsBody owing IsOwing body

@@ -1,10 +1,9 @@
 //! Certificates.
 ghost use Rattle.std.specs.Prelude.{◌≡◌};
 ghost use Rattle.brl_cert.specs.Kinds.{pair_count, state_count};
-ghost use Rattle.brl_cert.specs.Views.{cert_view};
 
-use crate::Body;
 use brl_dues::DuesState;
+use brl_edges::Body;
 use brl_window::WindowState;
 
 /// A certificate, by the machine whose states it lists.
@@ -19,12 +18,12 @@ pub enum Cert {
 impl Cert {
     /// How many states and how many pairs it lists.
     pub fn counts(&self) -> (usize, usize)
-        ensures states { result.0 ≡ state_count (cert_view self.now) }
-        ensures pairs { result.1 ≡ pair_count (cert_view self.now) }
+        ensures states { result.0 ≡ state_count self.now }
+        ensures pairs { result.1 ≡ pair_count self.now }
     {
         match self {
-            Cert::Window(body) => (body.states.len(), body.pairs.len()),
-            Cert::Dues(body) => (body.states.len(), body.pairs.len()),
+            Cert::Window(body) => (body.states().len(), body.pairs().len()),
+            Cert::Dues(body) => (body.states().len(), body.pairs().len()),
         }
     }
 }

@@ -2,14 +2,12 @@
 //! one spelling as bytes, and reading it.
 #![tactic(auto)]
 
-mod body;
 mod cert;
 mod dues_line;
 mod fault;
 mod field;
 mod laws;
 mod line;
-mod pair;
 mod reader;
 mod reading;
 mod reading_fields;
@@ -17,12 +15,9 @@ mod reading_lines;
 mod version;
 mod writing;
 
-pub use body::Body;
-pub use brl_members::Members;
 pub use cert::Cert;
 pub use fault::{CertFault, Wrong};
 pub use laws::certificate_laws;
-pub use pair::CertPair;
 pub use reading::read_cert;
 pub use version::{Version, Version1, Version2};
 pub use writing::write_cert;

@@ -1,5 +1,5 @@
 //! The lines of a certificate behind its header.
-use crate::CertPair;
+use brl_pairs::Pair;
 
 /// What a line says.
 #[derive(Drop)]
@@ -7,7 +7,7 @@ pub enum Line<S> {
     /// A state.
     State(S),
     /// A pair.
-    Pair(CertPair),
+    Pair(Pair<u32>),
     /// The end: how many states and pairs there are.
     End(u32, u32),
 }

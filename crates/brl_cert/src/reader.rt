@@ -1,29 +1,37 @@
 //! Reading the lines of a certificate one after another.
-ghost use Rattle.std.specs.Prelude.{◌≡◌, ◌≤◌, All, [], length, true, false, IfErr, IfOk, OnOk, Ok};
-ghost use Rattle.brl_cert.specs.Lines.{add_line, is_end, line_of, may_stand, one_line, placed};
-ghost use Rattle.brl_cert.specs.Range.{HasShortLead, IsPairOf};
-ghost use Rattle.brl_cert.specs.Reading.{IsFaultOf};
-ghost use Rattle.brl_cert.specs.Views.{listed};
-ghost use Rattle.brl_cert.specs.declared.line.Line.TheVariants.{State, Pair, End};
+ghost use Rattle.std.specs.Prelude.{◌≡◌, ◌≤◌, All, length, true, false, IfErr, IfOk, OnOk, Ok};
+ghost use Rattle.brl_cert.specs.Lines.{HasShortLead, add_line, is_end, line_of, may_stand, one_line, placed};
+ghost use Rattle.brl_cert.specs.Reading.{IsFaultOf, nothing};
+ghost use Rattle.brl_cert.specs.declared.line.Line.TheVariants as line;
+ghost use Rattle.brl_edges.specs.Body.{BodyView, IsPairOf, listed};
 
 use crate::line::Line;
 use crate::reading_lines::read_line;
 use crate::writing::push_line;
-use crate::{Body, CertFault, CertPair, Members, Version, Wrong};
+use crate::{CertFault, Version, Wrong};
+use brl_edges::{Body, Members};
+use brl_pairs::Pair;
 use std::alloc::Global;
+use std::marker::Model;
 
-/// What the lines so far gave.
+/// What the lines so far gave. A contract sees the states and pairs.
 #[derive(Drop)]
 pub struct Reader<V: Version> {
-    pub states: Members<V::State>,
-    pub pairs: Members<CertPair>,
-    pub ghost in_range: { All (IsPairOf (length states)) pairs },
+    states: Members<V::State>,
+    pairs: Members<Pair<u32>>,
+}
+
+impl<V: Version> Model for Reader<V> {
+    ghost Value = { BodyView V.State };
+
+    ghost view = { λ read. listed read.states read.pairs };
+
+    ghost invariant = { λ read. All (IsPairOf (length read.states)) read.pairs };
 }
 
 impl<V: Version> Reader<V> {
     pub fn new(alloc: Global) -> Reader<V>
-        ensures states { result.states ≡ [] }
-        ensures pairs { result.pairs ≡ [] }
+        ensures { result ≡ nothing }
     {
         Reader {
             states: Members::new(alloc),
@@ -35,16 +43,15 @@ impl<V: Version> Reader<V> {
     pub fn into_body(self) -> Body<V::State>
         requires few_states { length self.states ≤ 4294967295 }
         requires few_pairs { length self.pairs ≤ 4294967295 }
-        ensures states { result.states ≡ self.states }
-        ensures pairs { result.pairs ≡ self.pairs }
+        ensures { result ≡ self }
     {
         let Reader { states, pairs } = self;
-        Body { states, pairs }
+        Body::new(states, pairs)
     }
 
     /// Whether a line may stand here.
     fn may_stand(&self, line: &Line<V::State>) -> bool
-        ensures { result ≡ may_stand (listed self.now.states self.now.pairs) line.now }
+        ensures { result ≡ may_stand self.now line.now }
     {
         match line {
             Line::State(_) => self.pairs.len() == 0,
@@ -55,10 +62,10 @@ impl<V: Version> Reader<V> {
 
     /// What a line of this number stands for by its form alone.
     fn read(&self, alloc: Global, number: u64, bytes: &[u8]) -> Result<Line<V::State>, CertFault>
-        ensures line { IfOk result (λ line. placed number (line_of V.form (listed self.now.states self.now.pairs) bytes.now) ≡ Ok line) }
+        ensures line { IfOk result (λ line. placed number (line_of V.form self.now bytes.now) ≡ Ok line) }
         ensures lead { IfOk result HasShortLead }
-        ensures stands { IfOk result (λ line. may_stand (listed self.now.states self.now.pairs) line ≡ true) }
-        ensures fault { IfErr result (IsFaultOf (placed number (line_of V.form (listed self.now.states self.now.pairs) bytes.now))) }
+        ensures stands { IfOk result (λ line. may_stand self.now line ≡ true) }
+        ensures fault { IfErr result (IsFaultOf (placed number (line_of V.form self.now bytes.now))) }
     {
         let Some(line) = read_line::<V>(alloc, bytes)? else {
             return Err(CertFault::Refused {
@@ -87,8 +94,8 @@ impl<V: Version> Reader<V> {
     /// Adds the state of the line of this number.
     fn add_state(&mut self, number: u64, state: V::State) -> Result<(), CertFault>
         requires { length self.old.pairs ≡ 0 }
-        ensures ok { OnOk result (placed number (add_line V.form (listed self.old.states self.old.pairs) (State state)) ≡ Ok (listed self.new.states self.new.pairs)) }
-        ensures fault { IfErr result (IsFaultOf (placed number (add_line V.form (listed self.old.states self.old.pairs) (State state)))) }
+        ensures ok { OnOk result (placed number (add_line V.form self.old (line.State state)) ≡ Ok self.new) }
+        ensures fault { IfErr result (IsFaultOf (placed number (add_line V.form self.old (line.State state)))) }
     {
         if self.states.insert(state)? {
             Ok(())
@@ -101,10 +108,10 @@ impl<V: Version> Reader<V> {
     }
 
     /// Adds the pair of the line of this number.
-    fn add_pair(&mut self, number: u64, pair: CertPair) -> Result<(), CertFault>
+    fn add_pair(&mut self, number: u64, pair: Pair<u32>) -> Result<(), CertFault>
         requires { length pair.lead ≤ 1024 }
-        ensures ok { OnOk result (placed number (add_line V.form (listed self.old.states self.old.pairs) (Pair pair)) ≡ Ok (listed self.new.states self.new.pairs)) }
-        ensures fault { IfErr result (IsFaultOf (placed number (add_line V.form (listed self.old.states self.old.pairs) (Pair pair)))) }
+        ensures ok { OnOk result (placed number (add_line V.form self.old (line.Pair pair)) ≡ Ok self.new) }
+        ensures fault { IfErr result (IsFaultOf (placed number (add_line V.form self.old (line.Pair pair)))) }
     {
         let count = self.states.len();
         if pair.ahead as usize >= count || pair.behind as usize >= count {
@@ -125,10 +132,10 @@ impl<V: Version> Reader<V> {
 
     /// Compares the counts of the end line of this number.
     fn close(&self, number: u64, states: u32, pairs: u32) -> Result<(), CertFault>
-        ensures ok { OnOk result (placed number (add_line V.form (listed self.now.states self.now.pairs) (End states pairs)) ≡ Ok (listed self.now.states self.now.pairs)) }
+        ensures ok { OnOk result (placed number (add_line V.form self.now (line.End states pairs)) ≡ Ok self.now) }
         ensures few_states { OnOk result (length self.now.states ≤ 4294967295) }
         ensures few_pairs { OnOk result (length self.now.pairs ≤ 4294967295) }
-        ensures fault { IfErr result (IsFaultOf (placed number (add_line V.form (listed self.now.states self.now.pairs) (End states pairs)))) }
+        ensures fault { IfErr result (IsFaultOf (placed number (add_line V.form self.now (line.End states pairs)))) }
     {
         if self.states.len() == states as usize && self.pairs.len() == pairs as usize {
             Ok(())
@@ -143,12 +150,12 @@ impl<V: Version> Reader<V> {
     /// Adds what a line of this number says, and answers whether it is the end line.
     fn add(&mut self, number: u64, line: Line<V::State>) -> Result<bool, CertFault>
         requires lead { HasShortLead line }
-        requires stands { may_stand (listed self.old.states self.old.pairs) line ≡ true }
-        ensures ok { OnOk result (placed number (add_line V.form (listed self.old.states self.old.pairs) line) ≡ Ok (listed self.new.states self.new.pairs)) }
+        requires stands { may_stand self.old line ≡ true }
+        ensures ok { OnOk result (placed number (add_line V.form self.old line) ≡ Ok self.new) }
         ensures end { IfOk result (λ last. last ≡ is_end line) }
         ensures few_states { IfOk result (λ last. last ≡ true → length self.new.states ≤ 4294967295) }
         ensures few_pairs { IfOk result (λ last. last ≡ true → length self.new.pairs ≤ 4294967295) }
-        ensures fault { IfErr result (IsFaultOf (placed number (add_line V.form (listed self.old.states self.old.pairs) line))) }
+        ensures fault { IfErr result (IsFaultOf (placed number (add_line V.form self.old line))) }
     {
         match line {
             Line::State(state) => {
@@ -168,10 +175,10 @@ impl<V: Version> Reader<V> {
 
     /// Reads the line of this number, and answers whether it is the end line.
     pub fn take_line(&mut self, alloc: Global, number: u64, bytes: &[u8]) -> Result<bool, CertFault>
-        ensures ok { IfOk result (λ last. placed number (one_line V.form (listed self.old.states self.old.pairs) bytes.now) ≡ Ok (last, listed self.new.states self.new.pairs)) }
+        ensures ok { IfOk result (λ last. placed number (one_line V.form self.old bytes.now) ≡ Ok (last, self.new)) }
         ensures few_states { IfOk result (λ last. last ≡ true → length self.new.states ≤ 4294967295) }
         ensures few_pairs { IfOk result (λ last. last ≡ true → length self.new.pairs ≤ 4294967295) }
-        ensures fault { IfErr result (IsFaultOf (placed number (one_line V.form (listed self.old.states self.old.pairs) bytes.now))) }
+        ensures fault { IfErr result (IsFaultOf (placed number (one_line V.form self.old bytes.now))) }
     {
         let line = self.read(alloc, number, bytes)?;
         self.add(number, line)

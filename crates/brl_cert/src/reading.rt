@@ -2,11 +2,11 @@
 ghost use Rattle.std.specs.Prelude.{◌≡◌, ◌≤◌, ◌∷◌, [], length, map, IfErr, IfOk, IfSome, Ok};
 ghost use Rattle.brl_cert.specs.Lines.{body_of, placed};
 ghost use Rattle.brl_cert.specs.Reading.{IsFaultOf, header_of, loose_header, nothing, reading, spelling};
-ghost use Rattle.brl_cert.specs.Views.{cert_view, listed};
 
 use crate::field::{parts_of, push_number, read_number};
 use crate::reader::Reader;
-use crate::{Body, Cert, CertFault, Version, Version1, Version2, Wrong, certificate_laws};
+use crate::{Cert, CertFault, Version, Version1, Version2, Wrong, certificate_laws};
+use brl_edges::Body;
 use std::alloc::Global;
 
 /// The version of the two fields of a header in their loose form.
@@ -59,7 +59,7 @@ fn read_header(alloc: Global, bytes: &[u8]) -> Result<u64, CertFault>
 /// The body of the lines behind a header, which are the parts but for the last; this one has no line feed behind it.
 fn read_body<V: Version>(alloc: Global, parts: &[&[u8]]) -> Result<Body<V::State>, CertFault>
     requires { 1 ≤ length parts.now }
-    ensures body { IfOk result (λ body. body_of V.form 2 nothing (map (λ part. part.now) parts.now) ≡ Ok (listed body.states body.pairs)) }
+    ensures body { IfOk result (λ body. body_of V.form 2 nothing (map (λ part. part.now) parts.now) ≡ Ok body) }
     ensures fault { IfErr result (IsFaultOf (body_of V.form 2 nothing (map (λ part. part.now) parts.now))) }
 {
     let mut reader = Reader::<V>::new(alloc);
@@ -90,7 +90,7 @@ fn read_body<V: Version>(alloc: Global, parts: &[&[u8]]) -> Result<Body<V::State
 
 /// What the lines of bytes stand for.
 fn read_lines(alloc: Global, bytes: &[u8]) -> Result<Cert, CertFault>
-    ensures cert { IfOk result (λ cert. reading bytes.now ≡ Ok (cert_view cert)) }
+    ensures cert { IfOk result (λ cert. reading bytes.now ≡ Ok cert) }
     ensures fault { IfErr result (IsFaultOf (reading bytes.now)) }
 {
     let parts = parts_of(alloc, bytes, b'\n')?;
@@ -123,9 +123,9 @@ fn read_lines(alloc: Global, bytes: &[u8]) -> Result<Cert, CertFault>
 /// spelled in the one way; then `Version` in the header, `DuplicateState` in a state line, `NoSuchState` and then
 /// `DuplicatePair` in a pair line, `WrongCount` in the end line. `Memory` where it finds no memory.
 pub fn read_cert(alloc: Global, bytes: &[u8]) -> Result<Cert, CertFault>
-    ensures cert { IfOk result (λ cert. reading bytes.now ≡ Ok (cert_view cert)) }
+    ensures cert { IfOk result (λ cert. reading bytes.now ≡ Ok cert) }
     // The bytes are the certificate's one spelling.
-    ensures spelled { IfOk result (λ cert. spelling (cert_view cert) ≡ bytes.now) }
+    ensures spelled { IfOk result (λ cert. spelling cert ≡ bytes.now) }
     ensures fault { IfErr result (IsFaultOf (reading bytes.now)) }
 {
     certificate_laws();

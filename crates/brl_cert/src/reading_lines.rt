@@ -1,13 +1,13 @@
 //! Reading one line in its loose form.
 ghost use Rattle.std.specs.Prelude.{◌≡◌, ◌∷◌, ◌==◌, [], map, IfOk, IfSome};
 ghost use Rattle.std.specs.List.{slice_split};
-ghost use Rattle.brl_cert.specs.Lines.{loose_end, loose_line, loose_pair};
-ghost use Rattle.brl_cert.specs.Range.{HasShortLead};
+ghost use Rattle.brl_cert.specs.Lines.{HasShortLead, loose_end, loose_line, loose_pair};
 
+use crate::Version;
 use crate::field::{parts_of, read_number};
 use crate::line::Line;
 use crate::reading_fields::read_lead;
-use crate::{CertPair, Version};
+use brl_pairs::Pair;
 use std::alloc::{AllocError, Global};
 
 /// The greatest number of a state, and the greatest count.
@@ -33,7 +33,7 @@ fn read_pair<V: Version>(
         return Ok(None);
     };
     let (ahead, behind) = (ahead as u32, behind as u32);
-    Ok(Some(Line::Pair(CertPair {
+    Ok(Some(Line::Pair(Pair {
         ahead,
         behind,
         lead,

@@ -9,15 +9,15 @@ use crate::dues_line::{push_dues, read_dues};
 use crate::field::{push_chars, push_flag, push_number, read_flag, read_number};
 use crate::reading_fields::read_chars;
 use brl_dues::DuesState;
+use brl_members::Key;
 use brl_table::Class;
 use brl_window::WindowState;
 use std::alloc::{AllocError, Global};
-use std::hash::Hash;
 
 /// A version of certificates: which machine's states it lists, and how it writes them. Two versions may write the states of
 /// one machine in two ways.
 pub trait Version {
-    type State: Eq + Hash + Drop;
+    type State: Key;
 
     // How states are written, and when two of them are the same.
     ghost form: { States Self.State };

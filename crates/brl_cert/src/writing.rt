@@ -3,15 +3,18 @@ ghost use Rattle.std.specs.Prelude.{◌≡◌, ◌++◌, ◌∷◌, [], All, IfO
 ghost use Rattle.std.specs.List.{flat_map, join_with_byte};
 ghost use Rattle.brl_cells.specs.Dots.{AreCells};
 ghost use Rattle.brl_cert.specs.Lines.{end_fields, pair_fields, spelled_body, spelled_line, whole_line};
-ghost use Rattle.brl_cert.specs.Reading.{Owing, Windows, reading, spelling};
+ghost use Rattle.brl_cert.specs.Reading.{reading, spelling};
+ghost use Rattle.brl_cert.specs.declared.cert.Cert.TheVariants.{Dues, Window};
 ghost use Rattle.brl_cert.specs.Valid.{IsBody};
-ghost use Rattle.brl_cert.specs.Views.{cert_view, listed};
-ghost use Rattle.brl_cert.specs.declared.line.Line.TheVariants.{State, Pair, End};
+ghost use Rattle.brl_edges.specs.Body.{listed};
+ghost use Rattle.brl_cert.specs.declared.line.Line.TheVariants.{State};
 
 use crate::field::{push_lead, push_number};
 use crate::line::Line;
-use crate::{Body, Cert, CertPair, Version, Version1, Version2, certificate_laws};
+use crate::{Cert, Version, Version1, Version2, certificate_laws};
 use brl_dues::DuesState;
+use brl_edges::Body;
+use brl_pairs::Pair;
 use brl_window::WindowState;
 use std::alloc::{AllocError, Global};
 
@@ -29,7 +32,7 @@ fn push_state<V: Version>(
 }
 
 /// Writes a pair line without its line feed.
-fn push_pair(alloc: Global, out: &mut Vec<u8>, pair: &CertPair) -> Result<(), AllocError>
+fn push_pair(alloc: Global, out: &mut Vec<u8>, pair: &Pair<u32>) -> Result<(), AllocError>
     ensures written { OnOk result (out.new.items ≡ out.old.items ++ join_with_byte 32 (pair_fields pair.now)) }
     ensures in_range { OnOk result (AreCells pair.now.lead) }
 {
@@ -83,7 +86,7 @@ fn push_states<V: Version>(
 }
 
 /// Writes the pair lines.
-fn push_pairs(alloc: Global, out: &mut Vec<u8>, pairs: &[CertPair]) -> Result<(), AllocError>
+fn push_pairs(alloc: Global, out: &mut Vec<u8>, pairs: &[Pair<u32>]) -> Result<(), AllocError>
     ensures written { OnOk result (out.new.items ≡ out.old.items ++ flat_map (λ p. join_with_byte 32 (pair_fields p) ++ 10 ∷ []) pairs.now) }
     ensures in_range { OnOk result (All (λ p. AreCells p.lead) pairs.now) }
 {
@@ -100,11 +103,12 @@ fn push_body<V: Version>(
     out: &mut Vec<u8>,
     body: &Body<V::State>,
 ) -> Result<(), AllocError>
-    ensures written { OnOk result (out.new.items ≡ out.old.items ++ spelled_body V.form (listed body.now.states body.now.pairs)) }
-    ensures in_range { OnOk result (IsBody V.form V.is_state (listed body.now.states body.now.pairs)) }
+    ensures written { OnOk result (out.new.items ≡ out.old.items ++ spelled_body V.form body.now) }
+    ensures in_range { OnOk result (IsBody V.form V.is_state body.now) }
 {
-    let states = body.states.as_slice();
-    let pairs = body.pairs.as_slice();
+    body.law();
+    let states = body.states();
+    let pairs = body.pairs().as_slice();
     push_states::<V>(alloc, out, states)?;
     push_pairs(alloc, out, pairs)?;
     push_end(alloc, out, states.len() as u32, pairs.len() as u32)?;
@@ -114,8 +118,8 @@ fn push_body<V: Version>(
 
 /// The bytes of a certificate of version 1.
 fn write_windows(alloc: Global, body: &Body<WindowState>) -> Result<Vec<u8>, AllocError>
-    ensures spelled { IfOk result (λ bytes. bytes.items ≡ spelling (Windows (listed body.now.states body.now.pairs))) }
-    ensures read_back { IfOk result (λ bytes. reading bytes.items ≡ Ok (Windows (listed body.now.states body.now.pairs))) }
+    ensures spelled { IfOk result (λ bytes. bytes.items ≡ spelling (Window body.now)) }
+    ensures read_back { IfOk result (λ bytes. reading bytes.items ≡ Ok (Window body.now)) }
 {
     certificate_laws();
     let mut out = Vec::from_slice(alloc, b"BRLCERT 1\n")?;
@@ -125,8 +129,8 @@ fn write_windows(alloc: Global, body: &Body<WindowState>) -> Result<Vec<u8>, All
 
 /// The bytes of a certificate of version 2.
 fn write_dues(alloc: Global, body: &Body<DuesState>) -> Result<Vec<u8>, AllocError>
-    ensures spelled { IfOk result (λ bytes. bytes.items ≡ spelling (Owing (listed body.now.states body.now.pairs))) }
-    ensures read_back { IfOk result (λ bytes. reading bytes.items ≡ Ok (Owing (listed body.now.states body.now.pairs))) }
+    ensures spelled { IfOk result (λ bytes. bytes.items ≡ spelling (Dues body.now)) }
+    ensures read_back { IfOk result (λ bytes. reading bytes.items ≡ Ok (Dues body.now)) }
 {
     certificate_laws();
     let mut out = Vec::from_slice(alloc, b"BRLCERT 2\n")?;
@@ -136,9 +140,9 @@ fn write_dues(alloc: Global, body: &Body<DuesState>) -> Result<Vec<u8>, AllocErr
 
 /// The bytes of a certificate: its one spelling. `AllocError` where they find no memory.
 pub fn write_cert(alloc: Global, cert: &Cert) -> Result<Vec<u8>, AllocError>
-    ensures spelled { IfOk result (λ bytes. bytes.items ≡ spelling (cert_view cert.now)) }
+    ensures spelled { IfOk result (λ bytes. bytes.items ≡ spelling cert.now) }
     // The certificate is read back from them.
-    ensures read_back { IfOk result (λ bytes. reading bytes.items ≡ Ok (cert_view cert.now)) }
+    ensures read_back { IfOk result (λ bytes. reading bytes.items ≡ Ok cert.now) }
 {
     match cert {
         Cert::Window(body) => write_windows(alloc, body),

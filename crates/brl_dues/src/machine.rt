@@ -39,7 +39,6 @@ impl<'a> Dues<'a> {
 }
 
 impl<'a> Machine for Dues<'a> {
-    ghost use Rattle.brl_dues.specs.SameState.{same_states};
     ghost use Rattle.brl_dues.specs.Steps.{dues_machine};
 
     type State = DuesState;
@@ -61,8 +60,6 @@ impl<'a> Machine for Dues<'a> {
     fn ends(&self, state: &DuesState) -> bool {
         state.dues.as_slice().iter().all(is_met_by_space)
     }
-
-    ghost same_state = { same_states };
 }
 
 /// Whether class space meets a due: a bar it always does.

@@ -1,7 +1,7 @@
 -- What a run behind makes of its lead by an edge, and whether it is there.
 use Rattle.std.proofs.Common.{◌≡◌, ◌≢◌, ℕ, ◌≤◌, Bool, true, false, not, List, [], ◌∷◌, ◌++◌, inl, inr, length, IsTrue, ◌↔◌, refl, sym, ◌∙◌, ap, subst, arith, length-append, true≢false}
 use Rattle.std.proofs.lemmas.List.{append_cancel_left}
-use Rattle.brl_cert.specs.declared.pair.CertPair.{CertPair}
+use Rattle.brl_edges.specs.Body.{NumberPair}
 use Rattle.brl_edges.specs.Pairs.{IsFollowed, IsLost, IsThere}
 use Rattle.brl_edges.specs.Places.{first_of}
 use Rattle.brl_edges.specs.declared.edge.Edge.{Edge}
@@ -18,7 +18,7 @@ missed : (t : Bool) → (IsTrue t → ⊥) → IsTrue (not t)
 missed true h = absurd (h refl)
 missed false h = refl
 
-module _ (pairs : List CertPair) (ahead : ℕ) (lead : List ℕ) (e : Edge) where
+module _ (pairs : List NumberPair) (ahead : ℕ) (lead : List ℕ) (e : Edge) where
   -- the run behind stays behind by this rest
   pub lost_still : (rest : List ℕ) → lead ≡ e.cells ++ rest → (there : Bool) → IsTrue there ↔ IsThere pairs ahead e.next rest → IsTrue (not there) ↔ IsLost pairs ahead lead e
   lost_still rest longer there tells = (
@@ -52,7 +52,7 @@ begins_alike xs [] rest some e = absurd (omega (arith, some))
 begins_alike xs (y ∷ ys) rest some e = ap first_of e
 
 -- cells that begin with different cells make no pair
-pub apart_followed : (pairs : List CertPair) (x y : Edge) → 1 ≤ length x.cells → 1 ≤ length y.cells → first_of x.cells ≢ first_of y.cells → IsFollowed pairs x.next x.cells y
+pub apart_followed : (pairs : List NumberPair) (x y : Edge) → 1 ≤ length x.cells → 1 ≤ length y.cells → first_of x.cells ≢ first_of y.cells → IsFollowed pairs x.next x.cells y
 apart_followed pairs x y x_some y_some other = record {
   still = λ rest longer. absurd (other (begins_alike x.cells y.cells rest y_some longer));
   swapped = λ rest some shorter. absurd (other (sym (begins_alike y.cells x.cells rest x_some shorter)));

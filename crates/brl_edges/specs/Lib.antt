@@ -1,3 +1,5 @@
+pub mod Body
+pub mod Sets
 pub mod Edges
 pub mod Pairs
 pub mod Places

@@ -1,6 +1,6 @@
 //! Laws of edges, for the crates above. Each is the contract of a function that does nothing.
 ghost use Rattle.std.specs.Prelude.{◌≢◌, ℕ, ◌≤◌, List, length};
-ghost use Rattle.brl_cert.specs.declared.pair.CertPair.{CertPair as CertPairValue};
+ghost use Rattle.brl_edges.specs.Body.{NumberPair};
 ghost use Rattle.brl_edges.specs.Edges.{AreEdges, AreInOrder, HaveCells};
 ghost use Rattle.brl_edges.specs.Pairs.{IsFollowed};
 ghost use Rattle.brl_edges.specs.Places.{first_of};
@@ -20,6 +20,6 @@ pub fn edges_law<M: Machine>(machine: &M)
 
 /// Two edges whose cells begin with different cells make no pair, so none of theirs is missing.
 pub fn different_cells_law()
-    ensures { (pairs : List CertPairValue) (x y : EdgeValue) → 1 ≤ length x.cells → 1 ≤ length y.cells →
+    ensures { (pairs : List NumberPair) (x y : EdgeValue) → 1 ≤ length x.cells → 1 ≤ length y.cells →
         first_of x.cells ≢ first_of y.cells → IsFollowed pairs x.next x.cells y }
 {}

@@ -1,47 +1,42 @@
 //! Looking pairs up by the numbers of their states.
 ghost use Rattle.std.specs.Prelude.{◌≡◌, ◌↔◌, [], IfOk, IsTrue};
-ghost use Rattle.brl_edges.specs.Pairs.{HasNumbers, IsLost, IsThere};
+ghost use Rattle.brl_edges.specs.Pairs.{IsLost, IsThere};
+ghost use Rattle.brl_members.specs.Members.{IsMember};
+ghost use Rattle.brl_pairs.specs.Pairs.{turned};
 
 use crate::Edge;
 use brl_cells::{Cell, Cells};
-use brl_cert::{CertPair, Members};
-use brl_pairs::{Advanced, advance};
+use brl_members::Members;
+use brl_pairs::{Advanced, Pair, advance};
 use std::alloc::{AllocError, Global};
 
-/// Whether a pair is listed as it is.
-fn is_listed(pairs: &Members<CertPair>, pair: &CertPair) -> bool
-    ensures { IsTrue result ↔ HasNumbers pairs.now pair.now.ahead pair.now.behind pair.now.lead }
-{
-    pairs.index_of(pair).is_some()
-}
-
 /// Whether a pair is listed in its other order, which counts where its lead is empty.
-pub fn is_there_turned(alloc: Global, pairs: &Members<CertPair>, pair: &CertPair) -> bool
-    ensures { IsTrue result ↔ ((pair.now.lead ≡ []) × HasNumbers pairs.now pair.now.behind pair.now.ahead pair.now.lead) }
+pub fn is_there_turned(alloc: Global, pairs: &Members<Pair<u32>>, pair: &Pair<u32>) -> bool
+    ensures { IsTrue result ↔ ((pair.now.lead ≡ []) × IsMember pairs.now (turned pair.now)) }
 {
     if !pair.lead.is_empty() {
         return false;
     }
-    let turned = CertPair {
+    let turned = Pair {
         ahead: pair.behind,
         behind: pair.ahead,
         lead: Cells::new(alloc),
     };
-    is_listed(pairs, &turned)
+    pairs.contains(&turned)
 }
 
 /// Whether a pair is listed as it is, or in its other order where its lead is empty.
-pub fn is_there(alloc: Global, pairs: &Members<CertPair>, pair: &CertPair) -> bool
+pub fn is_there(alloc: Global, pairs: &Members<Pair<u32>>, pair: &Pair<u32>) -> bool
     ensures { IsTrue result ↔ IsThere pairs.now pair.now.ahead pair.now.behind pair.now.lead }
 {
-    is_listed(pairs, pair) || is_there_turned(alloc, pairs, pair)
+    pairs.contains(pair) || is_there_turned(alloc, pairs, pair)
 }
 
 /// Whether the run behind, where it takes this edge, makes a pair that isn't there. The other run
 /// is ahead of it by this lead, and has come to the state with the number `ahead`.
 pub fn loses(
     alloc: Global,
-    pairs: &Members<CertPair>,
+    pairs: &Members<Pair<u32>>,
     ahead: u32,
     lead: &[Cell],
     edge: &Edge,
@@ -50,7 +45,7 @@ pub fn loses(
 {
     match advance(lead, edge.cells.as_slice()) {
         Advanced::Still(rest) => {
-            let pair = CertPair {
+            let pair = Pair {
                 ahead,
                 behind: edge.next,
                 lead: Cells::from_slice(alloc, rest)?,
@@ -58,7 +53,7 @@ pub fn loses(
             Ok(!is_there(alloc, pairs, &pair))
         }
         Advanced::Swapped(rest) => {
-            let pair = CertPair {
+            let pair = Pair {
                 ahead: edge.next,
                 behind: ahead,
                 lead: Cells::from_slice(alloc, rest)?,

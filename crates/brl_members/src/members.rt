@@ -1,20 +1,21 @@
 //! Lists without repeats.
-ghost use Rattle.std.specs.Prelude.{◌≡◌, ◌↔◌, ℕ, List, [], ◌∷◌, ◌++◌, length, IfSome, IfOk, IsTrue, OnErr, Some, true, if◌then◌else◌, not, slice_get};
+ghost use Rattle.std.specs.Prelude.{◌≡◌, ◌↔◌, ℕ, List, [], ◌∷◌, ◌++◌, length, IfSome, IfOk, IsFalse, IsTrue, OnErr, Some, if◌then◌else◌, not, slice_get};
 ghost use Rattle.std.specs.List.{IsDistinct, list_any};
 ghost use Rattle.std.specs.Option.{option_copied};
+ghost use Rattle.brl_members.specs.Members.{HaveOneNumber, IsMember};
 
+use crate::Key;
 use indexmap::IndexSet;
 use std::alloc::{AllocError, Global};
-use std::hash::Hash;
 use std::marker::Model;
 
 /// A list without repeats, in which members are found by their hashes. A contract sees the list.
 #[derive(Drop)]
-pub struct Members<T: Eq + Hash> {
+pub struct Members<T: Key> {
     items: IndexSet<T>,
 }
 
-impl<T: Eq + Hash> Model for Members<T> {
+impl<T: Key> Model for Members<T> {
     ghost Value = { List T };
 
     ghost view = { λ m. m.items.keys };
@@ -22,7 +23,7 @@ impl<T: Eq + Hash> Model for Members<T> {
     ghost invariant = { λ m. IsDistinct T.eq m.items.keys };
 }
 
-impl<T: Eq + Hash> Members<T> {
+impl<T: Key> Members<T> {
     /// No members. It takes no memory.
     pub fn new(alloc: Global) -> Members<T>
         ensures { result ≡ [] }
@@ -53,28 +54,36 @@ impl<T: Eq + Hash> Members<T> {
         self.items.get_index(index)
     }
 
-    /// The number of the member that equals the value, from 0.
+    /// The number of a member, from 0.
     pub fn index_of(&self, value: &T) -> Option<usize>
-        ensures found { IfSome result (λ k. (x : T) × (slice_get self.now k ≡ Some x) × (T.eq value.now x ≡ true)) }
-        ensures at { (k : ℕ) (x : T) → slice_get self.now k ≡ Some x → T.eq value.now x ≡ true → result ≡ Some k }
+        ensures found { IfSome result (λ number. slice_get self.now number ≡ Some value.now) }
+        ensures only { (number : ℕ) → slice_get self.now number ≡ Some value.now → result ≡ Some number }
     {
         self.items.get_index_of(value)
+    }
+
+    /// Whether the value is a member.
+    pub fn contains(&self, value: &T) -> bool
+        ensures { IsTrue result ↔ IsMember self.now value.now }
+    {
+        self.index_of(value).is_some()
     }
 
     /// The members in order, no two of them equal.
     pub fn as_slice(&self) -> &[T]
         ensures members { result.now ≡ self.now }
         ensures distinct { IsDistinct T.eq self.now }
+        ensures one_number { HaveOneNumber self.now }
     {
         self.items.as_slice()
     }
 
-    /// Adds a value at the end, and answers whether it was added: one that equals a member is dropped. After `AllocError`
+    /// Adds a value at the end, and answers whether it was added: one that is a member already is dropped. After `AllocError`
     /// the members are as they were.
     pub fn insert(&mut self, value: T) -> Result<bool, AllocError>
-    where
-        T: Drop,
-        ensures added { IfOk result (λ added. added ≡ not (list_any (T.eq value) self.old)) }
+        ensures new { IfOk result (λ added. IsTrue added → IsMember self.old value → ⊥) }
+        ensures known { IfOk result (λ added. IsFalse added → IsMember self.old value) }
+        ensures equals_none { IfOk result (λ added. added ≡ not (list_any (T.eq value) self.old)) }
         ensures members { IfOk result (λ added. self.new ≡ (if added then self.old ++ value ∷ [] else self.old)) }
         ensures err { OnErr result (self.new ≡ self.old) }
     {

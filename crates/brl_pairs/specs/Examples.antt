@@ -1,8 +1,7 @@
 -- A worked machine: the letter a gives dot 1, and the letter b gives dot 1 and then dots 12. Its two states tell whether a letter
 -- stands before, and both end.
-use Rattle.std.specs.Prelude.{◌≡◌, ℕ, Bool, true, false, ◌||◌, ◌==◌, if◌then◌else◌, List, [], ◌∷◌, Option, slice_get, refl}
+use Rattle.std.specs.Prelude.{ℕ, Bool, true, false, ◌||◌, ◌==◌, if◌then◌else◌, List, [], ◌∷◌, Option, slice_get}
 use Rattle.std.specs.List.{flat_map, list_all}
-use Rattle.std.proofs.Math.Bool.{beq}
 use Rattle.brl_pairs.specs.declared.step.Pair.{Pair}
 use Rattle.brl_pairs.specs.declared.step.Step.{Step}
 use Rattle.brl_pairs.specs.Runs.{Behaviour}
@@ -38,9 +37,3 @@ b_before_a = record { ahead = true; behind = true; lead = 3 ∷ [] }
 
 abbrev pub letter_pairs : ℕ → Option (Pair Bool)
 letter_pairs = slice_get (b_before_a ∷ [])
-
--- equal values are one
-pub same_bools : (a b : Bool) → beq a b ≡ true → a ≡ b
-same_bools true true h = refl
-same_bools false false h = refl
-same_bools a b h = cc

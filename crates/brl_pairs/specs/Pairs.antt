@@ -72,9 +72,13 @@ pub record Sets (S : Type 0) : Type 1 where
 abbrev pub turned : {S : Type 0} → Pair S → Pair S
 turned p = record { ahead = p.behind; behind = p.ahead; lead = p.lead }
 
--- a wanted pair is there as it stands, or in its other order where its lead is empty
+-- a pair is there as it stands, or in its other order where its lead is empty
+abbrev pub InEitherOrder : {S : Type 0} → (Pair S → Type 0) → Pair S → Type 0
+InEitherOrder Has p = Has p ⊎ ((p.lead ≡ []) × Has (turned p))
+
+-- a wanted pair is there, in either order
 abbrev pub HasPair : {S : Type 0} → Sets S → Pair S → Type 0
-HasPair sets p = sets.has_pair p ⊎ ((p.lead ≡ []) × sets.has_pair (turned p))
+HasPair sets p = InEitherOrder sets.has_pair p
 
 -- the sets are closed under a machine's steps
 pub record IsClosed {S : Type 0} (m : Behaviour S) (sets : Sets S) : Type 0 where

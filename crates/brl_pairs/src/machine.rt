@@ -1,17 +1,17 @@
 //! The trait of machines.
-ghost use Rattle.std.specs.Prelude.{◌≡◌, true, IfOk};
+ghost use Rattle.std.specs.Prelude.{◌≡◌, IfOk};
 ghost use Rattle.brl_pairs.specs.Runs.{Behaviour, KeepsLaws};
 
 use crate::Step;
+use brl_members::Key;
 use std::alloc::{AllocError, Global};
-use std::hash::Hash;
 
 /// A machine that translates by steps from state to state. Each of its texts has a path from the start to a state that
 /// ends: the characters that the path's steps read, joined, are the text, and their cells, joined, its translation.
 ///
 /// It answers for every value of its state type, also for those that no text reaches.
 pub trait Machine {
-    type State: Eq + Hash + Drop;
+    type State: Key;
 
     /// What a contract sees of the machine: its start, its steps from each state, which states end, its texts and
     /// their translation.
@@ -33,7 +33,4 @@ pub trait Machine {
     /// Whether a text may end in a state. It takes no memory.
     fn ends(&self, state: &Self::State) -> bool
         ensures { result ≡ (behaviour self.now).ends state.now };
-
-    /// States that `==` calls equal are one state, so they may be keys.
-    ghost same_state: { (a b : Self.State) → Self.State.eq a b ≡ true → a ≡ b };
 }

@@ -1,9 +1,8 @@
 -- Where nothing is left to do, the sets are closed.
 use Rattle.std.proofs.Common.{◌≡◌, ◌≢◌, ℕ, ◌<◌, IsTrue, List, [], ◌∷◌, ◌++◌, ◌⊎◌, inl, inr, length, Some, slice_get, refl, sym, ◌∙◌, ap, subst, arith, append-nil}
 use Rattle.std.proofs.lemmas.Option.{slice_get_within}
-use Rattle.brl_cert.specs.Sets.{sets_of}
-use Rattle.brl_cert.specs.Views.{listed}
-use Rattle.brl_cert.specs.declared.pair.CertPair.{CertPair}
+use Rattle.brl_edges.specs.Sets.{sets_of}
+use Rattle.brl_edges.specs.Body.{NumberPair, listed}
 use Rattle.brl_pairs.specs.Pairs.{Splits, Moves, HasPair, IsClosed, turned}
 use Rattle.brl_pairs.specs.Runs.{Behaviour, IsListed, IsListedAt}
 use Rattle.brl_pairs.specs.declared.step.Pair.{Pair}
@@ -71,13 +70,13 @@ module _ {S : Type 0} (m : Behaviour S) (t : Trail S) (done : IsFinished m t) wh
         | inr after ↦ later_longer y.edge x.edge p p.lead refl (e.splits split.j split.i y.edge x.edge after y.at x.at) ahead behind lead
       ]
 
-  moves_there : (p q : Pair S) (n : ℕ) (r : CertPair) → slice_get t.pairs n ≡ Some r → Names t.states r p → Moves m p q → HasPair (sets_of (listed t.states t.pairs)) q
+  moves_there : (p q : Pair S) (n : ℕ) (r : NumberPair) → slice_get t.pairs n ≡ Some r → Names t.states r p → Moves m p q → HasPair (sets_of (listed t.states t.pairs)) q
   moves_there p q n r at names move =
       let w = done.pairs n (slice_get_within t.pairs n r at) in
       let same : w.pair ≡ r = same_place t.pairs n w.pair r w.at at in
-      let behind_at : slice_get t.states w.pair.behind ≡ Some p.behind = ap (λ (z : CertPair). slice_get t.states z.behind) same ∙ names.behind in
-      let ahead_at : slice_get t.states w.pair.ahead ≡ Some p.ahead = ap (λ (z : CertPair). slice_get t.states z.ahead) same ∙ names.ahead in
-      let lead : w.pair.lead ≡ p.lead = ap (λ (z : CertPair). z.lead) same ∙ names.lead in
+      let behind_at : slice_get t.states w.pair.behind ≡ Some p.behind = ap (λ (z : NumberPair). slice_get t.states z.behind) same ∙ names.behind in
+      let ahead_at : slice_get t.states w.pair.ahead ≡ Some p.ahead = ap (λ (z : NumberPair). slice_get t.states z.ahead) same ∙ names.ahead in
+      let lead : w.pair.lead ≡ p.lead = ap (λ (z : NumberPair). z.lead) same ∙ names.lead in
       let x = edge_of w.pair.behind w.edges w.are_edges p.behind behind_at move.listed.0 move.step move.listed.1 in
       let followed = w.moves move.listed.0 x.edge x.at in
       elim move.moved [
@@ -87,7 +86,7 @@ module _ {S : Type 0} (m : Behaviour S) (t : Trail S) (done : IsFinished m t) wh
             (followed.swapped q.lead h.some (x.is_edge.cells ∙ h.lead ∙ ap (λ (l : List ℕ). l ++ q.lead) (sym lead)))
       ]
 
-  ends_apart : (p : Pair S) (n : ℕ) (r : CertPair) → slice_get t.pairs n ≡ Some r → Names t.states r p → p.lead ≡ [] → IsTrue (m.ends p.ahead) → IsTrue (m.ends p.behind) → ⊥
+  ends_apart : (p : Pair S) (n : ℕ) (r : NumberPair) → slice_get t.pairs n ≡ Some r → Names t.states r p → p.lead ≡ [] → IsTrue (m.ends p.ahead) → IsTrue (m.ends p.behind) → ⊥
   ends_apart p n r at names level ahead behind = done.kept.no_two_ends n r at (record {
     level = names.lead ∙ level;
     ahead = p.ahead;

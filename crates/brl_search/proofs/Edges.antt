@@ -1,7 +1,7 @@
 -- Edges, where states are added and where one more edge is.
 use Rattle.std.proofs.Common.{◌≡◌, ◌≢◌, ℕ, ◌+◌, ◌<◌, ◌≤◌, List, [], ◌∷◌, ◌++◌, inl, inr, length, Some, slice_get, sym, ◌∙◌, ap, subst, arith}
 use Rattle.std.proofs.lemmas.Option.{slice_get_within}
-use Rattle.brl_cert.specs.declared.pair.CertPair.{CertPair}
+use Rattle.brl_edges.specs.Body.{NumberPair}
 use Rattle.brl_pairs.specs.declared.step.Step.{Step}
 use Rattle.brl_pairs.specs.Runs.{Behaviour, IsListedAt, KeepsLaws}
 use Rattle.brl_edges.specs.declared.edge.Edge.{Edge}
@@ -81,7 +81,7 @@ module _ {S : Type 0} (m : Behaviour S) (laws : KeepsLaws m) (states : List S) w
       fits_following number edges h j y y_at x.next x.cells (slice_get_within states x.next s.step.next s.is_edge.next) (short_cells_of number i x s)
 
   -- two edges at different places tell the split that they make
-  split_by : (number : ℕ) (i j : ℕ) (x y : Edge) → i ≢ j → HasStep number i x → HasStep number j y → (p : CertPair) → p.ahead ≡ x.next → p.behind ≡ y.next → x.cells ≡ y.cells ++ p.lead → IsSplitOf m states number i j p
+  split_by : (number : ℕ) (i j : ℕ) (x y : Edge) → i ≢ j → HasStep number i x → HasStep number j y → (p : NumberPair) → p.ahead ≡ x.next → p.behind ≡ y.next → x.cells ≡ y.cells ++ p.lead → IsSplitOf m states number i j p
   split_by number i j x y differ a b p ahead behind lead = record {
     ahead_step = a.step;
     behind_step = b.step;
@@ -93,7 +93,7 @@ module _ {S : Type 0} (m : Behaviour S) (laws : KeepsLaws m) (states : List S) w
     lead = sym a.is_edge.cells ∙ lead ∙ ap (λ (cells : List ℕ). cells ++ p.lead) b.is_edge.cells;
   }
 
-  pub explains_split : (pairs : List CertPair) (number : ℕ) (edges : List Edge) → AreEdges m states number edges → (i j : ℕ) (x y : Edge) → i < j → slice_get edges i ≡ Some x → slice_get edges j ≡ Some y
+  pub explains_split : (pairs : List NumberPair) (number : ℕ) (edges : List Edge) → AreEdges m states number edges → (i j : ℕ) (x y : Edge) → i < j → slice_get edges i ≡ Some x → slice_get edges j ≡ Some y
       → Explains m states pairs x.next x.cells y (record { still = Split number i j; swapped = Split number j i })
   explains_split pairs number edges h i j x y less x_at y_at =
       let a = step_of number edges h i x x_at in
@@ -103,7 +103,7 @@ module _ {S : Type 0} (m : Behaviour S) (laws : KeepsLaws m) (states : List S) w
         swapped = λ p ahead behind some lead. split_by number j i y x (λ same. absurd (omega arith)) b a p ahead behind lead;
       }
 
-  pub explains_move : (pairs : List CertPair) (n : ℕ) (q : CertPair) → slice_get pairs n ≡ Some q → (edges : List Edge) → AreEdges m states q.behind edges → (place : ℕ) (e : Edge) → slice_get edges place ≡ Some e
+  pub explains_move : (pairs : List NumberPair) (n : ℕ) (q : NumberPair) → slice_get pairs n ≡ Some q → (edges : List Edge) → AreEdges m states q.behind edges → (place : ℕ) (e : Edge) → slice_get edges place ≡ Some e
       → Explains m states pairs q.ahead q.lead e (record { still = Still n place; swapped = Swapped n place })
   explains_move pairs n q q_at edges h place e at =
       let x = step_of q.behind edges h place e at in
@@ -135,14 +135,14 @@ module _ {S : Type 0} (m : Behaviour S) (laws : KeepsLaws m) (states : List S) w
 
 -- ---- What is done stays done
 
-pub expanded_more : {S : Type 0} (m : Behaviour S) (xs ys : List S) (ps qs : List CertPair) → Stays xs ys → Stays ps qs → (number : ℕ) → IsExpanded m xs ps number → IsExpanded m ys qs number
+pub expanded_more : {S : Type 0} (m : Behaviour S) (xs ys : List S) (ps qs : List NumberPair) → Stays xs ys → Stays ps qs → (number : ℕ) → IsExpanded m xs ps number → IsExpanded m ys qs number
 expanded_more m xs ys ps qs states pairs number h = record {
   edges = h.edges;
   are_edges = edges_more m xs ys states number h.edges h.are_edges;
   splits = λ i j x y less x_at y_at. followed_more ps qs pairs x.next x.cells y (h.splits i j x y less x_at y_at);
 }
 
-pub walked_more : {S : Type 0} (m : Behaviour S) (xs ys : List S) (ps qs : List CertPair) → Stays xs ys → Stays ps qs → (number : ℕ) → IsWalked m xs ps number → IsWalked m ys qs number
+pub walked_more : {S : Type 0} (m : Behaviour S) (xs ys : List S) (ps qs : List NumberPair) → Stays xs ys → Stays ps qs → (number : ℕ) → IsWalked m xs ps number → IsWalked m ys qs number
 walked_more m xs ys ps qs states pairs number h = record {
   pair = h.pair;
   at = pairs number h.pair h.at;

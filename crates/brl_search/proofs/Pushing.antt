@@ -1,7 +1,7 @@
 -- What stands where in a list with one more element.
-use Rattle.std.proofs.Common.{◌≡◌, ℕ, zero, suc, ◌+◌, ◌<◌, Bool, true, false, not, List, [], ◌∷◌, ◌++◌, ◌⊎◌, inl, inr, length, Option, Some, slice_get, refl, ◌∙◌, ap, subst, arith, length-append, if◌then◌else◌, get_or}
-use Rattle.std.specs.List.{list_any}
+use Rattle.std.proofs.Common.{◌≡◌, ℕ, zero, suc, ◌+◌, ◌<◌, Bool, true, false, List, [], ◌∷◌, ◌++◌, ◌⊎◌, inl, inr, length, Some, slice_get, refl, ◌∙◌, ap, subst, arith, length-append, if◌then◌else◌, get_or}
 use Rattle.std.proofs.lemmas.Option.{slice_get_read}
+use Rattle.brl_members.specs.Members.{IsMember}
 use Rattle.brl_search.specs.Trail.{Stays}
 
 module _ {X : Type 0} where
@@ -39,22 +39,10 @@ module _ {X : Type 0} where
   pub same_place : (xs : List X) (k : ℕ) (x y : X) → slice_get xs k ≡ Some x → slice_get xs k ≡ Some y → x ≡ y
   same_place xs k x y a b = cc
 
-  -- no member equals a value that isn't found among the members
-  pub none_found : (eq : X → X → Bool) (v : X) (xs : List X) → ((k : ℕ) (x : X) → slice_get xs k ≡ Some x → eq v x ≡ true → ⊥) → list_any (eq v) xs ≡ false
-  none_found eq v [] none = refl
-  none_found eq v (x ∷ xs) none = by (eq v x) refl (none_found eq v xs (λ k y at. none (suc k) y at))
-    where
-      by : (b : Bool) → eq v x ≡ b → list_any (eq v) xs ≡ false → list_any (eq v) (x ∷ xs) ≡ false
-      by true e h = absurd (none 0 x refl e)
-      by false e h = rw e h
-
-  -- a value that isn't found is added at the end
-  pub inserted : (eq : X → X → Bool) (v : X) (xs ys : List X) (r : Option ℕ) (added : Bool) → ((k : ℕ) (x : X) → slice_get xs k ≡ Some x → eq v x ≡ true → r ≡ Some k) → ((k : ℕ) → r ≡ Some k → ⊥)
-      → added ≡ not (list_any (eq v) xs) → ys ≡ (if added then xs ++ v ∷ [] else xs) → ys ≡ xs ++ v ∷ []
-  inserted eq v xs ys r added at none is members =
-      let missing : list_any (eq v) xs ≡ false = none_found eq v xs (λ k x here same. none k (at k x here same)) in
-      let yes : added ≡ true = is ∙ ap not missing in
-      members ∙ ap (λ (b : Bool). if b then xs ++ v ∷ [] else xs) yes
+  -- a value that is no member is added at the end
+  pub inserted : (v : X) (xs ys : List X) (added : Bool) → (IsMember xs v → ⊥) → (added ≡ false → IsMember xs v) → ys ≡ (if added then xs ++ v ∷ [] else xs) → ys ≡ xs ++ v ∷ []
+  inserted v xs ys true none known members = members
+  inserted v xs ys false none known members = absurd (none (known refl))
 
   -- what a loop or an index read
   pub read_at : (xs ys : List X) (k : ℕ) (x : X) → xs ≡ ys → k < length xs → x ≡ get_or xs k x → slice_get ys k ≡ Some x

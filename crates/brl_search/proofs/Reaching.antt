@@ -1,16 +1,15 @@
 -- What is found is reached, and nothing is found twice.
 use Rattle.std.proofs.Common.{◌≡◌, ℕ, zero, suc, ◌<◌, Bool, true, false, List, [], ◌∷◌, ◌++◌, ◌⊎◌, inl, inr, length, Some, slice_get, get_or, refl, sym, ◌∙◌, ap, subst, arith, true≢false}
-use Rattle.std.specs.List.{IsDistinct}
+use Rattle.brl_members.specs.Members.{HaveOneNumber}
 use Rattle.std.proofs.lemmas.Option.{slice_get_within, get_or_from_slice_get}
 use Rattle.std.proofs.lemmas.Map.Keys.{apart_from_distinct}
-use Rattle.brl_cert.specs.Views.{listed}
-use Rattle.brl_cert.specs.declared.pair.CertPair.{CertPair}
+use Rattle.brl_edges.specs.Body.{NumberPair, listed}
 use Rattle.brl_pairs.specs.Pairs.{turned}
 use Rattle.brl_pairs.specs.Runs.{Behaviour}
 use Rattle.brl_pairs.specs.declared.step.Pair.{Pair}
 use Rattle.brl_search.specs.Answers.{AreInOrder, HasReachedPairs, HasReachedStates, HasTwoEndsReached}
 use Rattle.brl_search.specs.Reached.{AtLeast, Reached, ReachedPair, SamePair, SameState, start, step, split, move}
-use Rattle.brl_search.specs.Trail.{IsSplitOf, StaysBehindOf, GetsAheadOf, IsPairOrigin, IsEarlier, HasTwoEnds, IsTraced, turned_pair}
+use Rattle.brl_search.specs.Trail.{IsSplitOf, StaysBehindOf, GetsAheadOf, IsPairOrigin, IsEarlier, HasTwoEnds, IsTraced}
 use Rattle.brl_search.specs.declared.trail.PairOrigin.{PairOrigin}
 use Rattle.brl_search.specs.declared.trail.PairOrigin.TheVariants.{Split, Still, Swapped}
 use Rattle.brl_search.specs.declared.trail.Trail.{Trail}
@@ -36,7 +35,7 @@ module _ {S : Type 0} (m : Behaviour S) (t : Trail S) (traced : IsTraced m t) wh
   -- ---- Pairs
 
   -- the pair that numbers name
-  name_each : (n : ℕ) (q : CertPair) → slice_get t.pairs n ≡ Some q → (p : Pair S) × Names t.states q p
+  name_each : (n : ℕ) (q : NumberPair) → slice_get t.pairs n ≡ Some q → (p : Pair S) × Names t.states q p
   name_each n q at =
       let range = traced.in_range n q at in
       let a = inside t.states q.ahead range.ahead in
@@ -46,7 +45,7 @@ module _ {S : Type 0} (m : Behaviour S) (t : Trail S) (traced : IsTraced m t) wh
   one_state : (k : ℕ) (a b : S) → slice_get t.states k ≡ Some a → slice_get t.states k ≡ Some b → a ≡ b
   one_state k a b x y = same_place t.states k a b x y
 
-  by_split : (q : CertPair) (p : Pair S) (number longer shorter : ℕ) → Names t.states q p → IsSplitOf m t.states number longer shorter q → ReachedPair m p
+  by_split : (q : NumberPair) (p : Pair S) (number longer shorter : ℕ) → Names t.states q p → IsSplitOf m t.states number longer shorter q → ReachedPair m p
   by_split q p number longer shorter names h =
       let x = h.ahead_step in
       let y = h.behind_step in
@@ -65,7 +64,7 @@ module _ {S : Type 0} (m : Behaviour S) (t : Trail S) (traced : IsTraced m t) wh
         lead = h.lead ∙ ap (λ (l : List ℕ). y.cells ++ l) names.lead;
       })
 
-  by_still : (r q : CertPair) (o p : Pair S) (place : ℕ) → Names t.states r o → Names t.states q p → StaysBehindOf m t.states r place q → ReachedPair m o → ReachedPair m p
+  by_still : (r q : NumberPair) (o p : Pair S) (place : ℕ) → Names t.states r o → Names t.states q p → StaysBehindOf m t.states r place q → ReachedPair m o → ReachedPair m p
   by_still r q o p place before names h reached =
       let x = h.step in
       let same : h.taken.state ≡ o.behind = one_state r.behind h.taken.state o.behind h.taken.at before.behind in
@@ -79,7 +78,7 @@ module _ {S : Type 0} (m : Behaviour S) (t : Trail S) (traced : IsTraced m t) wh
         });
       })
 
-  by_swap : (r q : CertPair) (o p : Pair S) (place : ℕ) → Names t.states r o → Names t.states q p → GetsAheadOf m t.states r place q → ReachedPair m o → ReachedPair m p
+  by_swap : (r q : NumberPair) (o p : Pair S) (place : ℕ) → Names t.states r o → Names t.states q p → GetsAheadOf m t.states r place q → ReachedPair m o → ReachedPair m p
   by_swap r q o p place before names h reached =
       let x = h.step in
       let same : h.taken.state ≡ o.behind = one_state r.behind h.taken.state o.behind h.taken.at before.behind in
@@ -94,13 +93,13 @@ module _ {S : Type 0} (m : Behaviour S) (t : Trail S) (traced : IsTraced m t) wh
         });
       })
 
-  pair_below : (n k : ℕ) (q : CertPair) (p : Pair S) → k < n → slice_get t.pairs k ≡ Some q → Names t.states q p → ReachedPair m p
+  pair_below : (n k : ℕ) (q : NumberPair) (p : Pair S) → k < n → slice_get t.pairs k ≡ Some q → Names t.states q p → ReachedPair m p
   pair_below zero k q p less at names = absurd (omega (arith, less))
   pair_below (suc n) k q p less at names =
       let found = traced.each_pair k q at in
       by found.origin found.earlier found.found (λ j r o before r_at o_names. pair_below n j r o (omega (arith, before, less)) r_at o_names)
     where
-      by : (o : PairOrigin) → IsEarlier k o → IsPairOrigin m t.states t.pairs q o → ((j : ℕ) (r : CertPair) (o : Pair S) → j < k → slice_get t.pairs j ≡ Some r → Names t.states r o → ReachedPair m o) → ReachedPair m p
+      by : (o : PairOrigin) → IsEarlier k o → IsPairOrigin m t.states t.pairs q o → ((j : ℕ) (r : NumberPair) (o : Pair S) → j < k → slice_get t.pairs j ≡ Some r → Names t.states r o → ReachedPair m o) → ReachedPair m p
       by (Split number longer shorter) earlier h back = by_split q p number longer shorter names h
       by (Still number place) earlier h back =
           let r = name_each number h.0 h.1 in
@@ -109,7 +108,7 @@ module _ {S : Type 0} (m : Behaviour S) (t : Trail S) (traced : IsTraced m t) wh
           let r = name_each number h.0 h.1 in
           by_swap h.0 q r.0 p place r.1 names h.2 (back number h.0 r.0 earlier h.1 r.1)
 
-  pub pair_reached : (n : ℕ) (q : CertPair) (p : Pair S) → slice_get t.pairs n ≡ Some q → Names t.states q p → ReachedPair m p
+  pub pair_reached : (n : ℕ) (q : NumberPair) (p : Pair S) → slice_get t.pairs n ≡ Some q → Names t.states q p → ReachedPair m p
   pair_reached n q p at names = pair_below (suc n) n q p (omega arith) at names
 
   -- ---- Of a body, and of two ends
@@ -135,7 +134,7 @@ module _ {S : Type 0} (m : Behaviour S) (t : Trail S) (traced : IsTraced m t) wh
         });
   }
 
-  pub two_ends_reached : (n : ℕ) (q : CertPair) → slice_get t.pairs n ≡ Some q → HasTwoEnds m t.states q → HasTwoEndsReached m
+  pub two_ends_reached : (n : ℕ) (q : NumberPair) → slice_get t.pairs n ≡ Some q → HasTwoEnds m t.states q → HasTwoEndsReached m
   two_ends_reached n q at h = record {
     pair = record { ahead = h.ahead; behind = h.behind; lead = q.lead };
     reached = pair_reached n q (record { ahead = h.ahead; behind = h.behind; lead = q.lead }) at (record { ahead = h.ahead_at; behind = h.behind_at; lead = refl });
@@ -146,26 +145,13 @@ module _ {S : Type 0} (m : Behaviour S) (t : Trail S) (traced : IsTraced m t) wh
 
   -- ---- How many
 
-  module _ (eq : S → S → Bool) (itself : (s : S) → eq s s ≡ true) (distinct : IsDistinct eq t.states) where
-    states_apart : (i j : ℕ) (a b : S) → i < j → slice_get t.states i ≡ Some a → slice_get t.states j ≡ Some b → a ≡ b → ⊥
-    states_apart i j a b less a_at b_at same =
-        let x : get_or t.states i a ≡ a = get_or_from_slice_get t.states i a a a_at in
-        let y : get_or t.states j a ≡ b = get_or_from_slice_get t.states j b a b_at in
-        let apart : eq (get_or t.states i a) (get_or t.states j a) ≡ false = apart_from_distinct eq t.states i j a distinct less (slice_get_within t.states j b b_at) in
-        let no : eq a b ≡ false = subst (λ (z : S). eq z b ≡ false) x (subst (λ (z : S). eq (get_or t.states i a) z ≡ false) y apart) in
-        true≢false (sym (itself a) ∙ ap (eq a) same ∙ no)
-
+  module _ (one : HaveOneNumber t.states) where
     -- a state has one number
     one_number : (i j : ℕ) (a b : S) → slice_get t.states i ≡ Some a → slice_get t.states j ≡ Some b → a ≡ b → i ≡ j
-    one_number i j a b a_at b_at same = by (three_ways i j)
-      where
-        three_ways : (k l : ℕ) → (k ≡ l) ⊎ ((k < l) ⊎ (l < k))
-        three_ways k l = grind arith
+    one_number i j a b a_at b_at same = one i j a a_at (b_at ∙ ap (λ (s : S). Some s) (sym same))
 
-        by : (i ≡ j) ⊎ ((i < j) ⊎ (j < i)) → i ≡ j
-        by (inl e) = e
-        by (inr (inl less)) = absurd (states_apart i j a b less a_at b_at same)
-        by (inr (inr more)) = absurd (states_apart j i b a more b_at a_at (sym same))
+    states_apart : (i j : ℕ) (a b : S) → i < j → slice_get t.states i ≡ Some a → slice_get t.states j ≡ Some b → a ≡ b → ⊥
+    states_apart i j a b less a_at b_at same = omega (arith, less, one_number i j a b a_at b_at same)
 
     pub states_counted : AtLeast (length t.states) SameState (Reached m)
     states_counted = record {
@@ -176,16 +162,16 @@ module _ {S : Type 0} (m : Behaviour S) (t : Trail S) (traced : IsTraced m t) wh
     }
 
     -- the pairs that numbers name, one by one
-    all_named : (qs : List CertPair) → ((k : ℕ) (q : CertPair) → slice_get qs k ≡ Some q → (p : Pair S) × Names t.states q p) → List (Pair S)
+    all_named : (qs : List NumberPair) → ((k : ℕ) (q : NumberPair) → slice_get qs k ≡ Some q → (p : Pair S) × Names t.states q p) → List (Pair S)
     all_named [] f = []
     all_named (q ∷ qs) f = (f 0 q refl).0 ∷ all_named qs (λ k r at. f (suc k) r at)
 
-    all_count : (qs : List CertPair) (f : (k : ℕ) (q : CertPair) → slice_get qs k ≡ Some q → (p : Pair S) × Names t.states q p) → length (all_named qs f) ≡ length qs
+    all_count : (qs : List NumberPair) (f : (k : ℕ) (q : NumberPair) → slice_get qs k ≡ Some q → (p : Pair S) × Names t.states q p) → length (all_named qs f) ≡ length qs
     unfolding all_named
     all_count [] f = refl
     all_count (q ∷ qs) f = ap suc (all_count qs (λ k r at. f (suc k) r at))
 
-    all_at : (qs : List CertPair) (f : (k : ℕ) (q : CertPair) → slice_get qs k ≡ Some q → (p : Pair S) × Names t.states q p) (k : ℕ) (p : Pair S) → slice_get (all_named qs f) k ≡ Some p → (q : CertPair) × (slice_get qs k ≡ Some q) × Names t.states q p
+    all_at : (qs : List NumberPair) (f : (k : ℕ) (q : NumberPair) → slice_get qs k ≡ Some q → (p : Pair S) × Names t.states q p) (k : ℕ) (p : Pair S) → slice_get (all_named qs f) k ≡ Some p → (q : NumberPair) × (slice_get qs k ≡ Some q) × Names t.states q p
     unfolding all_named
     all_at [] f k p at = cc
     all_at (q ∷ qs) f zero p at =
@@ -193,18 +179,18 @@ module _ {S : Type 0} (m : Behaviour S) (t : Trail S) (traced : IsTraced m t) wh
         (q, refl, subst (Names t.states q) same (f 0 q refl).1)
     all_at (q ∷ qs) f (suc k) p at = all_at qs (λ j r r_at. f (suc j) r r_at) k p at
 
-    same_numbers : (q r : CertPair) (p o : Pair S) → Names t.states q p → Names t.states r o → p ≡ o → q ≡ r
+    same_numbers : (q r : NumberPair) (p o : Pair S) → Names t.states q p → Names t.states r o → p ≡ o → q ≡ r
     same_numbers q r p o q_names r_names same =
         let ahead : q.ahead ≡ r.ahead = one_number q.ahead r.ahead p.ahead o.ahead q_names.ahead r_names.ahead (ap (λ (z : Pair S). z.ahead) same) in
         let behind : q.behind ≡ r.behind = one_number q.behind r.behind p.behind o.behind q_names.behind r_names.behind (ap (λ (z : Pair S). z.behind) same) in
         let lead : q.lead ≡ r.lead = q_names.lead ∙ ap (λ (z : Pair S). z.lead) same ∙ sym r_names.lead in
         λ i. record { ahead = ahead i; behind = behind i; lead = lead i }
 
-    pairs_apart : (i j : ℕ) (q r : CertPair) (p o : Pair S) → i < j → slice_get t.pairs i ≡ Some q → slice_get t.pairs j ≡ Some r → Names t.states q p → Names t.states r o → SamePair p o → ⊥
+    pairs_apart : (i j : ℕ) (q r : NumberPair) (p o : Pair S) → i < j → slice_get t.pairs i ≡ Some q → slice_get t.pairs j ≡ Some r → Names t.states q p → Names t.states r o → SamePair p o → ⊥
     pairs_apart i j q r p o less q_at r_at q_names r_names (inl same) = (traced.differ i j q r less q_at r_at).as_they_stand (same_numbers q r p o q_names r_names same)
     pairs_apart i j q r p o less q_at r_at q_names r_names (inr same) =
         (traced.differ i j q r less q_at r_at).in_other_order (q_names.lead ∙ same.0)
-        (same_numbers (turned_pair q) r (turned p) o (record { ahead = q_names.behind; behind = q_names.ahead; lead = q_names.lead }) r_names same.1)
+        (same_numbers (turned q) r (turned p) o (record { ahead = q_names.behind; behind = q_names.ahead; lead = q_names.lead }) r_names same.1)
 
     pub pairs_counted : AtLeast (length t.pairs) SamePair (ReachedPair m)
     pairs_counted = record {

@@ -1,8 +1,7 @@
 -- What is found stays found where a trail grows.
 use Rattle.std.proofs.Common.{◌≡◌, ℕ, ◌+◌, ◌<◌, ◌≤◌, IsTrue, List, [], ◌∷◌, ◌++◌, inl, inr, length, Some, slice_get, refl, sym, ◌∙◌, ap, subst, arith}
 use Rattle.std.proofs.lemmas.Option.{slice_get_within}
-use Rattle.brl_cert.specs.Range.{IsPairOf}
-use Rattle.brl_cert.specs.declared.pair.CertPair.{CertPair}
+use Rattle.brl_edges.specs.Body.{IsPairOf, NumberPair}
 use Rattle.brl_pairs.specs.declared.step.Step.{Step}
 use Rattle.brl_pairs.specs.Runs.{Behaviour}
 use Rattle.brl_search.specs.declared.trail.StateOrigin.{StateOrigin}
@@ -19,7 +18,7 @@ module _ {S : Type 0} (m : Behaviour S) where
   pub state_origin_more : (xs ys : List S) → Stays xs ys → (s : S) (o : StateOrigin) → IsStateOrigin m xs s o → IsStateOrigin m ys s o
   state_origin_more xs ys stays s o h = record { step = h.step; taken = taken_more xs ys stays o.parent o.place h.step h.taken; next = h.next }
 
-  split_more : (xs ys : List S) → Stays xs ys → (number longer shorter : ℕ) (p : CertPair) → IsSplitOf m xs number longer shorter p → IsSplitOf m ys number longer shorter p
+  split_more : (xs ys : List S) → Stays xs ys → (number longer shorter : ℕ) (p : NumberPair) → IsSplitOf m xs number longer shorter p → IsSplitOf m ys number longer shorter p
   split_more xs ys stays number longer shorter p h = record {
     ahead_step = h.ahead_step;
     behind_step = h.behind_step;
@@ -31,7 +30,7 @@ module _ {S : Type 0} (m : Behaviour S) where
     lead = h.lead;
   }
 
-  still_more : (xs ys : List S) → Stays xs ys → (q : CertPair) (place : ℕ) (p : CertPair) → StaysBehindOf m xs q place p → StaysBehindOf m ys q place p
+  still_more : (xs ys : List S) → Stays xs ys → (q : NumberPair) (place : ℕ) (p : NumberPair) → StaysBehindOf m xs q place p → StaysBehindOf m ys q place p
   still_more xs ys stays q place p h = record {
     step = h.step;
     taken = taken_more xs ys stays q.behind place h.step h.taken;
@@ -40,7 +39,7 @@ module _ {S : Type 0} (m : Behaviour S) where
     lead = h.lead;
   }
 
-  swapped_more : (xs ys : List S) → Stays xs ys → (q : CertPair) (place : ℕ) (p : CertPair) → GetsAheadOf m xs q place p → GetsAheadOf m ys q place p
+  swapped_more : (xs ys : List S) → Stays xs ys → (q : NumberPair) (place : ℕ) (p : NumberPair) → GetsAheadOf m xs q place p → GetsAheadOf m ys q place p
   swapped_more xs ys stays q place p h = record {
     step = h.step;
     taken = taken_more xs ys stays q.behind place h.step h.taken;
@@ -50,7 +49,7 @@ module _ {S : Type 0} (m : Behaviour S) where
     lead = h.lead;
   }
 
-  pub pair_origin_more : (xs ys : List S) (ps qs : List CertPair) → Stays xs ys → Stays ps qs → (p : CertPair) (o : PairOrigin) → IsPairOrigin m xs ps p o → IsPairOrigin m ys qs p o
+  pub pair_origin_more : (xs ys : List S) (ps qs : List NumberPair) → Stays xs ys → Stays ps qs → (p : NumberPair) (o : PairOrigin) → IsPairOrigin m xs ps p o → IsPairOrigin m ys qs p o
   pair_origin_more xs ys ps qs stays kept p (Split number longer shorter) h = split_more xs ys stays number longer shorter p h
   pair_origin_more xs ys ps qs stays kept p (Still number place) h = (h.0, kept number h.0 h.1, still_more xs ys stays h.0 place p h.2)
   pair_origin_more xs ys ps qs stays kept p (Swapped number place) h = (h.0, kept number h.0 h.1, swapped_more xs ys stays h.0 place p h.2)
@@ -74,7 +73,7 @@ module _ {S : Type 0} (m : Behaviour S) where
   }
 
   -- the pairs of a trail with more states
-  pairs_more : (xs ys : List S) (ps : List CertPair) (os : List PairOrigin) → Stays xs ys → (n : ℕ) (p : CertPair) → IsFoundPair m xs ps os n p → IsFoundPair m ys ps os n p
+  pairs_more : (xs ys : List S) (ps : List NumberPair) (os : List PairOrigin) → Stays xs ys → (n : ℕ) (p : NumberPair) → IsFoundPair m xs ps os n p → IsFoundPair m ys ps os n p
   pairs_more xs ys ps os stays n p h = record {
     origin = h.origin;
     kept = h.kept;
@@ -106,20 +105,20 @@ module _ {S : Type 0} (m : Behaviour S) where
             subst (λ (xs : List S). IsFoundState m xs u.state_origins.items k r) (sym states)
             (each_state_push t s o u.state_origins.items h origin origins k r some (ap (λ (xs : List S). slice_get xs k) (sym states) ∙ at));
         each_pair = λ n p at.
-            let before = h.each_pair n p (ap (λ (ps : List CertPair). slice_get ps n) (sym pairs) ∙ at) in
+            let before = h.each_pair n p (ap (λ (ps : List NumberPair). slice_get ps n) (sym pairs) ∙ at) in
             subst (λ (xs : List S). IsFoundPair m xs u.pairs u.pair_origins.items n p) (sym states)
-            (subst (λ (ps : List CertPair). IsFoundPair m (t.states ++ s ∷ []) ps u.pair_origins.items n p) (sym pairs)
+            (subst (λ (ps : List NumberPair). IsFoundPair m (t.states ++ s ∷ []) ps u.pair_origins.items n p) (sym pairs)
             (subst (λ (os : List PairOrigin). IsFoundPair m (t.states ++ s ∷ []) t.pairs os n p) (sym pair_origins)
             (pairs_more t.states (t.states ++ s ∷ []) t.pairs t.pair_origins.items (stays_push t.states s) n p before)));
         in_range = λ n p at.
-            let before = h.in_range n p (ap (λ (ps : List CertPair). slice_get ps n) (sym pairs) ∙ at) in
+            let before = h.in_range n p (ap (λ (ps : List NumberPair). slice_get ps n) (sym pairs) ∙ at) in
             record { ahead = omega (arith, before.ahead, grown); behind = omega (arith, before.behind, grown); lead = before.lead };
         differ = λ i j p q lt at_i at_j.
-            h.differ i j p q lt (ap (λ (ps : List CertPair). slice_get ps i) (sym pairs) ∙ at_i) (ap (λ (ps : List CertPair). slice_get ps j) (sym pairs) ∙ at_j);
+            h.differ i j p q lt (ap (λ (ps : List NumberPair). slice_get ps i) (sym pairs) ∙ at_i) (ap (λ (ps : List NumberPair). slice_get ps j) (sym pairs) ∙ at_j);
       }
 
   -- where states are added, two ends of a pair were two ends before
-  pub ends_before : (xs ys : List S) → Stays xs ys → (p : CertPair) → IsPairOf (length xs) p → HasTwoEnds m ys p → HasTwoEnds m xs p
+  pub ends_before : (xs ys : List S) → Stays xs ys → (p : NumberPair) → IsPairOf (length xs) p → HasTwoEnds m ys p → HasTwoEnds m xs p
   ends_before xs ys stays p range h =
       let a = inside xs p.ahead range.ahead in
       let b = inside xs p.behind range.behind in
@@ -145,7 +144,7 @@ module _ {S : Type 0} (m : Behaviour S) where
     few_pairs = let same : length u.pairs ≡ length t.pairs = ap length pairs in omega (arith, h.few_pairs, same, limit);
     small = omega (arith, h.small, limit);
     no_two_ends = λ n p at two.
-        let before : slice_get t.pairs n ≡ Some p = ap (λ (ps : List CertPair). slice_get ps n) (sym pairs) ∙ at in
+        let before : slice_get t.pairs n ≡ Some p = ap (λ (ps : List NumberPair). slice_get ps n) (sym pairs) ∙ at in
         h.no_two_ends n p before
         (ends_before t.states u.states (subst (Stays t.states) (sym states) (stays_push t.states s)) p (h.traced.in_range n p before) two);
   }
@@ -166,7 +165,7 @@ module _ {S : Type 0} where
 module _ {S : Type 0} (m : Behaviour S) where
   -- ---- One more pair
 
-  pair_found_more : (xs : List S) (ps qs : List CertPair) (os : List PairOrigin) (o : PairOrigin) → Stays ps qs → (n : ℕ) (p : CertPair) → IsFoundPair m xs ps os n p → IsFoundPair m xs qs (os ++ o ∷ []) n p
+  pair_found_more : (xs : List S) (ps qs : List NumberPair) (os : List PairOrigin) (o : PairOrigin) → Stays ps qs → (n : ℕ) (p : NumberPair) → IsFoundPair m xs ps os n p → IsFoundPair m xs qs (os ++ o ∷ []) n p
   pair_found_more xs ps qs os o stays n p h = record {
     origin = h.origin;
     kept = stays_push os o n h.origin h.kept;
@@ -175,12 +174,12 @@ module _ {S : Type 0} (m : Behaviour S) where
   }
 
   -- an origin among these pairs is earlier than the pair that comes next
-  origin_earlier : (xs : List S) (ps : List CertPair) (p : CertPair) (o : PairOrigin) → IsPairOrigin m xs ps p o → IsEarlier (length ps) o
+  origin_earlier : (xs : List S) (ps : List NumberPair) (p : NumberPair) (o : PairOrigin) → IsPairOrigin m xs ps p o → IsEarlier (length ps) o
   origin_earlier xs ps p (Split number longer shorter) h = tt
   origin_earlier xs ps p (Still number place) h = slice_get_within ps number h.0 h.1
   origin_earlier xs ps p (Swapped number place) h = slice_get_within ps number h.0 h.1
 
-  pair_found_last : (xs : List S) (ps : List CertPair) (os : List PairOrigin) (p : CertPair) (o : PairOrigin) → length os ≡ length ps → IsPairOrigin m xs ps p o → IsFoundPair m xs (ps ++ p ∷ []) (os ++ o ∷ []) (length ps) p
+  pair_found_last : (xs : List S) (ps : List NumberPair) (os : List PairOrigin) (p : NumberPair) (o : PairOrigin) → length os ≡ length ps → IsPairOrigin m xs ps p o → IsFoundPair m xs (ps ++ p ∷ []) (os ++ o ∷ []) (length ps) p
   pair_found_last xs ps os p o many h = record {
     origin = o;
     kept = ap (slice_get (os ++ o ∷ [])) (sym many) ∙ last_push os o;
@@ -188,24 +187,24 @@ module _ {S : Type 0} (m : Behaviour S) where
     found = pair_origin_more m xs xs ps (ps ++ p ∷ []) (stays_refl xs) (stays_push ps p) p o h;
   }
 
-  module _ (t : Trail S) (p : CertPair) (o : PairOrigin) where
-    each_pair_push : IsTraced m t → IsPairOrigin m t.states t.pairs p o → (n : ℕ) (q : CertPair) → slice_get (t.pairs ++ p ∷ []) n ≡ Some q → IsFoundPair m t.states (t.pairs ++ p ∷ []) (t.pair_origins.items ++ o ∷ []) n q
+  module _ (t : Trail S) (p : NumberPair) (o : PairOrigin) where
+    each_pair_push : IsTraced m t → IsPairOrigin m t.states t.pairs p o → (n : ℕ) (q : NumberPair) → slice_get (t.pairs ++ p ∷ []) n ≡ Some q → IsFoundPair m t.states (t.pairs ++ p ∷ []) (t.pair_origins.items ++ o ∷ []) n q
     each_pair_push h origin n q at =
         elim (push_cases t.pairs p n q at) [
           | inl before ↦ pair_found_more t.states t.pairs (t.pairs ++ p ∷ []) t.pair_origins.items o (stays_push t.pairs p) n q (h.each_pair n q before)
           | inr last ↦
               subst (λ (j : ℕ). IsFoundPair m t.states (t.pairs ++ p ∷ []) (t.pair_origins.items ++ o ∷ []) j q) (sym last.0)
-              (subst (λ (z : CertPair). IsFoundPair m t.states (t.pairs ++ p ∷ []) (t.pair_origins.items ++ o ∷ []) (length t.pairs) z) last.1
+              (subst (λ (z : NumberPair). IsFoundPair m t.states (t.pairs ++ p ∷ []) (t.pair_origins.items ++ o ∷ []) (length t.pairs) z) last.1
               (pair_found_last t.states t.pairs t.pair_origins.items p o h.pair_origins origin))
         ]
 
-    range_push : IsTraced m t → IsPairOf (length t.states) p → (n : ℕ) (q : CertPair) → slice_get (t.pairs ++ p ∷ []) n ≡ Some q → IsPairOf (length t.states) q
+    range_push : IsTraced m t → IsPairOf (length t.states) p → (n : ℕ) (q : NumberPair) → slice_get (t.pairs ++ p ∷ []) n ≡ Some q → IsPairOf (length t.states) q
     range_push h range n q at = elim (push_cases t.pairs p n q at) [
       | inl before ↦ h.in_range n q before
-      | inr last ↦ subst (λ (z : CertPair). IsPairOf (length t.states) z) last.1 range
+      | inr last ↦ subst (λ (z : NumberPair). IsPairOf (length t.states) z) last.1 range
     ]
 
-    differ_push : IsTraced m t → ((n : ℕ) (q : CertPair) → slice_get t.pairs n ≡ Some q → DifferAsPairs q p) → (i j : ℕ) (q r : CertPair) → i < j → slice_get (t.pairs ++ p ∷ []) i ≡ Some q → slice_get (t.pairs ++ p ∷ []) j ≡ Some r → DifferAsPairs q r
+    differ_push : IsTraced m t → ((n : ℕ) (q : NumberPair) → slice_get t.pairs n ≡ Some q → DifferAsPairs q p) → (i j : ℕ) (q r : NumberPair) → i < j → slice_get (t.pairs ++ p ∷ []) i ≡ Some q → slice_get (t.pairs ++ p ∷ []) j ≡ Some r → DifferAsPairs q r
     differ_push h new i j q r lt q_at r_at = elim (push_cases t.pairs p j r r_at) [
       | inl r_before ↦ elim (push_cases t.pairs p i q q_at) [
         | inl q_before ↦ h.differ i j q r lt q_before r_before
@@ -217,8 +216,8 @@ module _ {S : Type 0} (m : Behaviour S) where
       ]
     ]
 
-  pub pair_pushed : (t u : Trail S) (p : CertPair) (o : PairOrigin) → IsTraced m t → IsPairOrigin m t.states t.pairs p o → IsPairOf (length t.states) p
-      → ((n : ℕ) (q : CertPair) → slice_get t.pairs n ≡ Some q → DifferAsPairs q p)
+  pub pair_pushed : (t u : Trail S) (p : NumberPair) (o : PairOrigin) → IsTraced m t → IsPairOrigin m t.states t.pairs p o → IsPairOf (length t.states) p
+      → ((n : ℕ) (q : NumberPair) → slice_get t.pairs n ≡ Some q → DifferAsPairs q p)
       → u.states ≡ t.states → u.state_origins.items ≡ t.state_origins.items → u.pairs ≡ t.pairs ++ p ∷ [] → u.pair_origins.items ≡ t.pair_origins.items ++ o ∷ [] → IsTraced m u
   pair_pushed t u p o h origin range new states state_origins pairs origins = record {
     start = ap (λ (xs : List S). slice_get xs 0) states ∙ h.start;
@@ -230,18 +229,18 @@ module _ {S : Type 0} (m : Behaviour S) where
         (h.each_state k s some (ap (λ (xs : List S). slice_get xs k) (sym states) ∙ at)));
     each_pair = λ n q at.
         subst (λ (xs : List S). IsFoundPair m xs u.pairs u.pair_origins.items n q) (sym states)
-        (subst (λ (ps : List CertPair). IsFoundPair m t.states ps u.pair_origins.items n q) (sym pairs)
+        (subst (λ (ps : List NumberPair). IsFoundPair m t.states ps u.pair_origins.items n q) (sym pairs)
         (subst (λ (os : List PairOrigin). IsFoundPair m t.states (t.pairs ++ p ∷ []) os n q) (sym origins)
-        (each_pair_push t p o h origin n q (ap (λ (ps : List CertPair). slice_get ps n) (sym pairs) ∙ at))));
+        (each_pair_push t p o h origin n q (ap (λ (ps : List NumberPair). slice_get ps n) (sym pairs) ∙ at))));
     in_range = λ n q at.
         subst (λ (xs : List S). IsPairOf (length xs) q) (sym states)
-        (range_push t p o h range n q (ap (λ (ps : List CertPair). slice_get ps n) (sym pairs) ∙ at));
+        (range_push t p o h range n q (ap (λ (ps : List NumberPair). slice_get ps n) (sym pairs) ∙ at));
     differ = λ i j q r lt q_at r_at.
-        differ_push t p o h new i j q r lt (ap (λ (ps : List CertPair). slice_get ps i) (sym pairs) ∙ q_at) (ap (λ (ps : List CertPair). slice_get ps j) (sym pairs) ∙ r_at);
+        differ_push t p o h new i j q r lt (ap (λ (ps : List NumberPair). slice_get ps i) (sym pairs) ∙ q_at) (ap (λ (ps : List NumberPair). slice_get ps j) (sym pairs) ∙ r_at);
   }
 
-  pub pair_kept : (t u : Trail S) (p : CertPair) (o : PairOrigin) → IsKept m t → IsPairOrigin m t.states t.pairs p o → IsPairOf (length t.states) p
-      → ((n : ℕ) (q : CertPair) → slice_get t.pairs n ≡ Some q → DifferAsPairs q p) → (HasTwoEnds m t.states p → ⊥)
+  pub pair_kept : (t u : Trail S) (p : NumberPair) (o : PairOrigin) → IsKept m t → IsPairOrigin m t.states t.pairs p o → IsPairOf (length t.states) p
+      → ((n : ℕ) (q : NumberPair) → slice_get t.pairs n ≡ Some q → DifferAsPairs q p) → (HasTwoEnds m t.states p → ⊥)
       → u.states ≡ t.states → u.state_origins.items ≡ t.state_origins.items → u.pairs ≡ t.pairs ++ p ∷ [] → u.pair_origins.items ≡ t.pair_origins.items ++ o ∷ []
       → u.limit ≡ t.limit → length u.pairs ≤ u.limit → IsKept m u
   pair_kept t u p o h origin range new ends states state_origins pairs origins limit few = record {
@@ -252,7 +251,7 @@ module _ {S : Type 0} (m : Behaviour S) where
     small = omega (arith, h.small, limit);
     no_two_ends = λ n q at two.
         let two_before : HasTwoEnds m t.states q = subst (λ (xs : List S). HasTwoEnds m xs q) states two in
-        elim (push_cases t.pairs p n q (ap (λ (ps : List CertPair). slice_get ps n) (sym pairs) ∙ at)) [
+        elim (push_cases t.pairs p n q (ap (λ (ps : List NumberPair). slice_get ps n) (sym pairs) ∙ at)) [
           | inl before ↦ h.no_two_ends n q before two_before
           | inr last ↦ ends (subst (HasTwoEnds m t.states) (sym last.1) two_before)
         ];

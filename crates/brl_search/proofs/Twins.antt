@@ -3,8 +3,8 @@
 use Rattle.std.proofs.Common.{◌≡◌, ◌≢◌, ℕ, ◌<◌, IsTrue, List, [], ◌∷◌, ◌++◌, ◌⊎◌, inl, inr, Some, refl, sym, ◌∙◌, ap, subst, arith, append_assoc, append-nil}
 use Rattle.std.specs.Prelude.{slice_get}
 use Rattle.std.proofs.lemmas.List.{append_cancel_left}
-use Rattle.brl_cert.specs.Lines.{BodyView}
-use Rattle.brl_cert.specs.Sets.{sets_of}
+use Rattle.brl_edges.specs.Body.{BodyView}
+use Rattle.brl_edges.specs.Sets.{sets_of}
 use Rattle.brl_pairs.specs.declared.step.Pair.{Pair}
 use Rattle.brl_pairs.specs.declared.step.Step.{Step}
 use Rattle.brl_pairs.specs.Pairs.{GetsAhead, HasPair, IsClosed, Moves, Sets, Splits, StaysBehind, turned}

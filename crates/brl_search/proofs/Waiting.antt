@@ -3,7 +3,7 @@ use Rattle.std.proofs.Common.{◌≡◌, ◌≢◌, ℕ, zero, suc, ◌+◌, ◌
 use Rattle.std.specs.List.Sorted.{IsPermutation}
 use Rattle.std.specs.declared.cmp.Reverse.{Reverse}
 use Rattle.std.proofs.lemmas.List.Sorted.{Contains-permutation, All-permutation}
-use Rattle.brl_cert.specs.declared.pair.CertPair.{CertPair}
+use Rattle.brl_edges.specs.Body.{NumberPair}
 use Rattle.brl_search.specs.Trail.{Stays}
 use Rattle.brl_search.specs.Work.{IsItemOf, Waits}
 
@@ -42,13 +42,13 @@ waits_more x xs ys same n h = (h.0, Contains-permutation (x ∷ xs) ys _ same (i
 pub waits_new : (behind n : ℕ) (xs ys : List (Reverse (ℕ × ℕ))) → IsPermutation (record { 0 = (behind, n) } ∷ xs) ys → Waits n ys
 waits_new behind n xs ys same = (behind, Contains-permutation (record { 0 = (behind, n) } ∷ xs) ys _ same (at_head _ xs))
 
-pub item_pushed : (pairs : List CertPair) (behind n : ℕ) (xs ys : List (Reverse (ℕ × ℕ))) → IsPermutation (record { 0 = (behind, n) } ∷ xs) ys → (p : CertPair) → slice_get pairs n ≡ Some p → p.behind ≡ behind
+pub item_pushed : (pairs : List NumberPair) (behind n : ℕ) (xs ys : List (Reverse (ℕ × ℕ))) → IsPermutation (record { 0 = (behind, n) } ∷ xs) ys → (p : NumberPair) → slice_get pairs n ≡ Some p → p.behind ≡ behind
     → All (IsItemOf pairs) xs → All (IsItemOf pairs) ys
 item_pushed pairs behind n xs ys same p at is h =
     All-permutation (IsItemOf pairs) (record { 0 = (behind, n) } ∷ xs) ys same (all_cons (IsItemOf pairs) (record { 0 = (behind, n) }) xs (p, at, is) h)
 
 -- where pairs are added
-pub items_more : (ps qs : List CertPair) → Stays ps qs → (xs : List (Reverse (ℕ × ℕ))) → All (IsItemOf ps) xs → All (IsItemOf qs) xs
+pub items_more : (ps qs : List NumberPair) → Stays ps qs → (xs : List (Reverse (ℕ × ℕ))) → All (IsItemOf ps) xs → All (IsItemOf qs) xs
 items_more ps qs stays xs = all_weaker (IsItemOf ps) (IsItemOf qs) xs (λ x item. (item.0, stays x.0.1 item.0 item.1, item.2))
 
 -- ---- The first is taken out
@@ -60,7 +60,7 @@ waits_popped x xs ys same n other h =
       | inr rest ↦ (h.0, rest)
     ]
 
-pub item_popped : (pairs : List CertPair) (x : Reverse (ℕ × ℕ)) (xs ys : List (Reverse (ℕ × ℕ))) → IsPermutation xs (x ∷ ys) → All (IsItemOf pairs) xs → IsItemOf pairs x × All (IsItemOf pairs) ys
+pub item_popped : (pairs : List NumberPair) (x : Reverse (ℕ × ℕ)) (xs ys : List (Reverse (ℕ × ℕ))) → IsPermutation xs (x ∷ ys) → All (IsItemOf pairs) xs → IsItemOf pairs x × All (IsItemOf pairs) ys
 item_popped pairs x xs ys same h =
     let all = All-permutation (IsItemOf pairs) xs (x ∷ ys) same h in
     (all_head (IsItemOf pairs) x ys all, all_tail (IsItemOf pairs) x ys all)

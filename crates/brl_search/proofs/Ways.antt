@@ -3,7 +3,7 @@ use Rattle.std.proofs.Common.{◌≡◌, ◌≢◌, ℕ, ◌<◌, List, [], ◌�
 use Rattle.std.proofs.lemmas.List.{reverse-append, reverse-reverse, append_cancel_left}
 use Rattle.std.proofs.lemmas.Option.{slice_get_within, slice_get_read}
 use Rattle.brl_pairs.specs.declared.step.Step.{Step}
-use Rattle.brl_cert.specs.declared.pair.CertPair.{CertPair}
+use Rattle.brl_edges.specs.Body.{NumberPair}
 use Rattle.brl_pairs.specs.Runs.{Behaviour, IsPath, KeepsLaws, cells_of, reads_of}
 use Rattle.brl_search.specs.declared.trail.StateOrigin.{StateOrigin}
 use Rattle.brl_search.specs.declared.trail.PairOrigin.{PairOrigin}
@@ -46,7 +46,7 @@ module _ {S : Type 0} (m : Behaviour S) (t : Trail S) (traced : IsTraced m t) wh
 
   -- ---- Pairs
 
-  pub pair_origin_of : (n : ℕ) (p : CertPair) → slice_get t.pairs n ≡ Some p → (o : PairOrigin) → o ≡ get_or t.pair_origins.items n o → IsEarlier n o × IsPairOrigin m t.states t.pairs p o
+  pub pair_origin_of : (n : ℕ) (p : NumberPair) → slice_get t.pairs n ≡ Some p → (o : PairOrigin) → o ≡ get_or t.pair_origins.items n o → IsEarlier n o × IsPairOrigin m t.states t.pairs p o
   pair_origin_of n p at o is =
       let found = traced.each_pair n p at in
       let n_in = slice_get_within t.pairs n p at in
@@ -62,15 +62,15 @@ module _ {S : Type 0} (m : Behaviour S) (t : Trail S) (traced : IsTraced m t) wh
   moved r s number path r_at s_at h = subst (λ (z : S). IsPath m z path) (same_place t.states number r s r_at s_at) h
 
   -- the run behind stayed behind
-  pub still_back : (n number place : ℕ) (ahead behind more : List ℕ) → GoesOn m t.states t.pairs n ahead behind → (q : CertPair) → slice_get t.pairs number ≡ Some q
-      → (p : CertPair) → slice_get t.pairs n ≡ Some p → StaysBehindOf m t.states q place p → ((x : Step S) → TakesStep m t.states q.behind place x → more ≡ behind ++ reverse x.reads)
+  pub still_back : (n number place : ℕ) (ahead behind more : List ℕ) → GoesOn m t.states t.pairs n ahead behind → (q : NumberPair) → slice_get t.pairs number ≡ Some q
+      → (p : NumberPair) → slice_get t.pairs n ≡ Some p → StaysBehindOf m t.states q place p → ((x : Step S) → TakesStep m t.states q.behind place x → more ≡ behind ++ reverse x.reads)
       → GoesOn m t.states t.pairs number ahead more
   still_back n number place ahead behind more h q q_at p p_at by put =
       let same : h.pair ≡ p = same_place t.pairs n h.pair p h.at p_at in
       let x = by.step in
-      let p_ahead : h.pair.ahead ≡ q.ahead = ap (λ (z : CertPair). z.ahead) same ∙ by.ahead in
-      let p_behind : slice_get t.states h.pair.behind ≡ Some x.next = ap (λ (z : CertPair). slice_get t.states z.behind) same ∙ by.behind in
-      let lead : h.pair.lead ≡ p.lead = ap (λ (z : CertPair). z.lead) same in
+      let p_ahead : h.pair.ahead ≡ q.ahead = ap (λ (z : NumberPair). z.ahead) same ∙ by.ahead in
+      let p_behind : slice_get t.states h.pair.behind ≡ Some x.next = ap (λ (z : NumberPair). slice_get t.states z.behind) same ∙ by.behind in
+      let lead : h.pair.lead ≡ p.lead = ap (λ (z : NumberPair). z.lead) same in
       record {
         pair = q;
         at = q_at;
@@ -89,15 +89,15 @@ module _ {S : Type 0} (m : Behaviour S) (t : Trail S) (traced : IsTraced m t) wh
       }
 
   -- the run behind got ahead
-  pub swapped_back : (n number place : ℕ) (ahead behind more : List ℕ) → GoesOn m t.states t.pairs n ahead behind → (q : CertPair) → slice_get t.pairs number ≡ Some q
-      → (p : CertPair) → slice_get t.pairs n ≡ Some p → GetsAheadOf m t.states q place p → ((x : Step S) → TakesStep m t.states q.behind place x → more ≡ ahead ++ reverse x.reads)
+  pub swapped_back : (n number place : ℕ) (ahead behind more : List ℕ) → GoesOn m t.states t.pairs n ahead behind → (q : NumberPair) → slice_get t.pairs number ≡ Some q
+      → (p : NumberPair) → slice_get t.pairs n ≡ Some p → GetsAheadOf m t.states q place p → ((x : Step S) → TakesStep m t.states q.behind place x → more ≡ ahead ++ reverse x.reads)
       → GoesOn m t.states t.pairs number behind more
   swapped_back n number place ahead behind more h q q_at p p_at by put =
       let same : h.pair ≡ p = same_place t.pairs n h.pair p h.at p_at in
       let x = by.step in
-      let p_ahead : slice_get t.states h.pair.ahead ≡ Some x.next = ap (λ (z : CertPair). slice_get t.states z.ahead) same ∙ by.ahead in
-      let p_behind : h.pair.behind ≡ q.ahead = ap (λ (z : CertPair). z.behind) same ∙ by.behind in
-      let lead : h.pair.lead ≡ p.lead = ap (λ (z : CertPair). z.lead) same in
+      let p_ahead : slice_get t.states h.pair.ahead ≡ Some x.next = ap (λ (z : NumberPair). slice_get t.states z.ahead) same ∙ by.ahead in
+      let p_behind : h.pair.behind ≡ q.ahead = ap (λ (z : NumberPair). z.behind) same ∙ by.behind in
+      let lead : h.pair.lead ≡ p.lead = ap (λ (z : NumberPair). z.lead) same in
       record {
         pair = q;
         at = q_at;
@@ -116,7 +116,7 @@ module _ {S : Type 0} (m : Behaviour S) (t : Trail S) (traced : IsTraced m t) wh
       }
 
   -- a pair with an empty lead and two ends goes on by no steps
-  pub ends_go_on : (n : ℕ) (p : CertPair) → slice_get t.pairs n ≡ Some p → HasTwoEnds m t.states p → GoesOn m t.states t.pairs n [] []
+  pub ends_go_on : (n : ℕ) (p : NumberPair) → slice_get t.pairs n ≡ Some p → HasTwoEnds m t.states p → GoesOn m t.states t.pairs n [] []
   ends_go_on n p at h = record {
     pair = p;
     at = at;
@@ -184,7 +184,7 @@ module _ {S : Type 0} (m : Behaviour S) (t : Trail S) (traced : IsTraced m t) wh
       }
 
   -- what goes on from a pair goes on from the split that made it
-  pub split_goes_on : (n number longer shorter : ℕ) (ahead behind : List ℕ) → GoesOn m t.states t.pairs n ahead behind → (p : CertPair) → slice_get t.pairs n ≡ Some p → IsSplitOf m t.states number longer shorter p
+  pub split_goes_on : (n number longer shorter : ℕ) (ahead behind : List ℕ) → GoesOn m t.states t.pairs n ahead behind → (p : NumberPair) → slice_get t.pairs n ≡ Some p → IsSplitOf m t.states number longer shorter p
       → SplitGoesOn m t.states number longer shorter ahead behind
   split_goes_on n number longer shorter ahead behind h p p_at split =
       let same : p ≡ h.pair = same_place t.pairs n p h.pair p_at h.at in

@@ -1,10 +1,7 @@
 -- What a search of a machine may answer. These are this project's own choice.
 use Rattle.std.specs.Prelude.{◌≡◌, ◌≢◌, ℕ, ◌+◌, ◌<◌, ◌≤◌, IsTrue, List, [], ◌⊎◌, length, Some, slice_get}
-use Rattle.std.specs.declared.cmp.PartialEq.{Ghosts as EqMembers}
-use Rattle.std.specs.declared.hash.Hash.{Ghosts as HashMembers}
-use Rattle.brl_cert.specs.Lines.{BodyView}
-use Rattle.brl_cert.specs.Sets.{pair_at, sets_of}
-use Rattle.brl_cert.specs.Views.{listed}
+use Rattle.brl_edges.specs.Body.{BodyView}
+use Rattle.brl_edges.specs.Sets.{pair_at, sets_of}
 use Rattle.brl_pairs.specs.declared.step.Pair.{Pair}
 use Rattle.brl_pairs.specs.declared.step.Step.{Step}
 use Rattle.brl_pairs.specs.Pairs.{IsClosed}
@@ -84,7 +81,7 @@ pub record AreTwoPaths {S : Type 0} (m : Behaviour S) (left right : List ℕ) : 
 -- ---- Outcomes
 
 -- what the outcome of a search of a machine says
-abbrev pub IsOutcome : {S : Type 0} {eq : EqMembers S} {hash : HashMembers S} → Behaviour S → ℕ → Outcome S eq hash → Type 0
-IsOutcome m limit (Closed body) = IsCertified m limit (listed body.states body.pairs)
+abbrev pub IsOutcome : {S : Type 0} → Behaviour S → ℕ → Outcome S → Type 0
+IsOutcome m limit (Closed body) = IsCertified m limit body
 IsOutcome m limit (BothEnd left right) = AreTwoPaths m left.items right.items × HasTwoEndsReached m
 IsOutcome m limit (Limit states pairs) = IsLimit m limit states pairs

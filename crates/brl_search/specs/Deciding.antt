@@ -2,8 +2,8 @@
 -- choice.
 use Rattle.std.specs.Prelude.{◌≡◌, ◌≢◌, ℕ, IsTrue, List, ◌++◌, map}
 use Rattle.std.specs.List.{Contains, flat_map}
-use Rattle.brl_cert.specs.Lines.{BodyView}
-use Rattle.brl_cert.specs.Sets.{sets_of}
+use Rattle.brl_edges.specs.Body.{BodyView}
+use Rattle.brl_edges.specs.Sets.{sets_of}
 use Rattle.brl_pairs.specs.Pairs.{HasPair, Sets}
 use Rattle.brl_pairs.specs.Runs.{Behaviour, IsListed, cells_of}
 use Rattle.brl_pairs.specs.declared.step.Pair.{Pair}

@@ -1,6 +1,6 @@
 -- What a search finds by edges: the splits of a state, and what a pair moves to (this project's own choice).
 use Rattle.std.specs.Prelude.{◌≡◌, ◌≢◌, ℕ, ◌<◌, ◌≤◌, List, [], ◌++◌, length, Some, slice_get}
-use Rattle.brl_cert.specs.declared.pair.CertPair.{CertPair}
+use Rattle.brl_edges.specs.Body.{NumberPair}
 use Rattle.brl_pairs.specs.declared.step.Step.{Step}
 use Rattle.brl_pairs.specs.Runs.{Behaviour, IsListedAt}
 use Rattle.brl_edges.specs.Edges.{AreEdges}
@@ -17,19 +17,19 @@ pub record FitsFollowing (states ahead : ℕ) (lead : List ℕ) (e : Edge) : Typ
   pub short_cells : length e.cells ≤ 1024
 
 -- the origins tell how the pair is found that the run behind makes by this edge
-pub record Explains {S : Type 0} (m : Behaviour S) (states : List S) (pairs : List CertPair) (ahead : ℕ) (lead : List ℕ) (e : Edge) (origins : Origins) : Type 0 where
-  pub still : (p : CertPair) → p.ahead ≡ ahead → p.behind ≡ e.next → lead ≡ e.cells ++ p.lead → IsPairOrigin m states pairs p origins.still
-  pub swapped : (p : CertPair) → p.ahead ≡ e.next → p.behind ≡ ahead → p.lead ≢ [] → e.cells ≡ lead ++ p.lead → IsPairOrigin m states pairs p origins.swapped
+pub record Explains {S : Type 0} (m : Behaviour S) (states : List S) (pairs : List NumberPair) (ahead : ℕ) (lead : List ℕ) (e : Edge) (origins : Origins) : Type 0 where
+  pub still : (p : NumberPair) → p.ahead ≡ ahead → p.behind ≡ e.next → lead ≡ e.cells ++ p.lead → IsPairOrigin m states pairs p origins.still
+  pub swapped : (p : NumberPair) → p.ahead ≡ e.next → p.behind ≡ ahead → p.lead ≢ [] → e.cells ≡ lead ++ p.lead → IsPairOrigin m states pairs p origins.swapped
 
 -- each split of the state with this number is among the pairs, and the states behind its steps are among the states
-pub record IsExpanded {S : Type 0} (m : Behaviour S) (states : List S) (pairs : List CertPair) (number : ℕ) : Type 0 where
+pub record IsExpanded {S : Type 0} (m : Behaviour S) (states : List S) (pairs : List NumberPair) (number : ℕ) : Type 0 where
   pub edges : List Edge
   pub are_edges : AreEdges m states number edges
   pub splits : (i j : ℕ) (x y : Edge) → i < j → slice_get edges i ≡ Some x → slice_get edges j ≡ Some y → IsFollowed pairs x.next x.cells y
 
 -- what the pair with this number moves to is among the pairs
-pub record IsWalked {S : Type 0} (m : Behaviour S) (states : List S) (pairs : List CertPair) (number : ℕ) : Type 0 where
-  pub pair : CertPair
+pub record IsWalked {S : Type 0} (m : Behaviour S) (states : List S) (pairs : List NumberPair) (number : ℕ) : Type 0 where
+  pub pair : NumberPair
   pub at : slice_get pairs number ≡ Some pair
   pub edges : List Edge
   pub are_edges : AreEdges m states pair.behind edges

@@ -1,7 +1,6 @@
 -- What a search of a table may answer. These are this project's own choice.
 use Rattle.std.specs.Prelude.{ℕ}
-use Rattle.brl_cert.specs.Lines.{BodyView}
-use Rattle.brl_cert.specs.Views.{listed}
+use Rattle.brl_edges.specs.Body.{BodyView}
 use Rattle.brl_cert.specs.declared.cert.Cert.TheVariants.{Dues, Window}
 use Rattle.brl_forward.specs.ClashView.{ClashView}
 use Rattle.brl_search.specs.Searched.{State}
@@ -10,7 +9,7 @@ use Rattle.brl_search.specs.declared.found.Found.TheVariants.{Certified, Clashin
 
 -- a fact of the body of the certificate, if there is one; it is of version 2
 abbrev pub IfCertified : (BodyView State → Type 0) → Found → Type 0
-IfCertified P (Certified (Dues body)) = P (listed body.states body.pairs)
+IfCertified P (Certified (Dues body)) = P body
 IfCertified P (Certified (Window body)) = ⊥
 IfCertified P found = Unit {0}
 

@@ -1,7 +1,8 @@
 -- The machine over which tables are searched, and the certificates that a search gives. Both are named here alone. The project's own
 -- choice.
-use Rattle.brl_cert.specs.Lines.{BodyView}
-use Rattle.brl_cert.specs.Reading.{CertView, Owing}
+use Rattle.brl_edges.specs.Body.{BodyView}
+use Rattle.brl_cert.specs.declared.cert.Cert.TheVariants.{Dues}
+use Rattle.brl_cert.specs.declared.cert.Cert.{Cert as Certificate}
 use Rattle.brl_dues.specs.Steps.{dues_machine}
 use Rattle.brl_dues.specs.declared.state.DuesState.{DuesState}
 use Rattle.brl_pairs.specs.Runs.{Behaviour}
@@ -16,5 +17,5 @@ abbrev pub machine_of : TableView → Behaviour State
 machine_of t = dues_machine t
 
 -- the certificate that lists these states and pairs of it
-abbrev pub certificate_of : BodyView State → CertView
-certificate_of body = Owing body
+abbrev pub certificate_of : BodyView State → Certificate
+certificate_of body = Dues body

@@ -1,8 +1,8 @@
 -- What a search keeps of the states and pairs that it has found (this project's own choice): how each was found, and nothing twice.
 use Rattle.std.specs.Prelude.{◌≡◌, ◌≢◌, ℕ, ◌+◌, ◌<◌, ◌≤◌, IsTrue, List, [], ◌++◌, ◌⊎◌, length, Some, slice_get}
-use Rattle.brl_cert.specs.Range.{IsPairOf}
-use Rattle.brl_cert.specs.declared.pair.CertPair.{CertPair}
+use Rattle.brl_edges.specs.Body.{IsPairOf, NumberPair}
 use Rattle.brl_pairs.specs.declared.step.Step.{Step}
+use Rattle.brl_pairs.specs.Pairs.{turned}
 use Rattle.brl_pairs.specs.Runs.{Behaviour, IsListedAt, KeepsLaws}
 use Rattle.brl_search.specs.declared.stop.Stop.{Stop}
 use Rattle.brl_search.specs.declared.stop.Stop.TheVariants as stop
@@ -35,7 +35,7 @@ pub record IsFoundState {S : Type 0} (m : Behaviour S) (states : List S) (origin
 -- ---- How pairs are found
 
 -- two steps of the state with this number, at these places, split into the pair
-pub record IsSplitOf {S : Type 0} (m : Behaviour S) (states : List S) (number longer shorter : ℕ) (p : CertPair) : Type 0 where
+pub record IsSplitOf {S : Type 0} (m : Behaviour S) (states : List S) (number longer shorter : ℕ) (p : NumberPair) : Type 0 where
   pub ahead_step : Step S
   pub behind_step : Step S
   pub differ : longer ≢ shorter
@@ -46,7 +46,7 @@ pub record IsSplitOf {S : Type 0} (m : Behaviour S) (states : List S) (number lo
   pub lead : ahead_step.cells ≡ behind_step.cells ++ p.lead
 
 -- the run behind of the earlier pair q takes the step at this place and stays behind
-pub record StaysBehindOf {S : Type 0} (m : Behaviour S) (states : List S) (q : CertPair) (place : ℕ) (p : CertPair) : Type 0 where
+pub record StaysBehindOf {S : Type 0} (m : Behaviour S) (states : List S) (q : NumberPair) (place : ℕ) (p : NumberPair) : Type 0 where
   pub step : Step S
   pub taken : TakesStep m states q.behind place step
   pub ahead : p.ahead ≡ q.ahead
@@ -54,7 +54,7 @@ pub record StaysBehindOf {S : Type 0} (m : Behaviour S) (states : List S) (q : C
   pub lead : q.lead ≡ step.cells ++ p.lead
 
 -- the run behind of the earlier pair q takes the step at this place and gets ahead
-pub record GetsAheadOf {S : Type 0} (m : Behaviour S) (states : List S) (q : CertPair) (place : ℕ) (p : CertPair) : Type 0 where
+pub record GetsAheadOf {S : Type 0} (m : Behaviour S) (states : List S) (q : NumberPair) (place : ℕ) (p : NumberPair) : Type 0 where
   pub step : Step S
   pub taken : TakesStep m states q.behind place step
   pub ahead : slice_get states p.ahead ≡ Some step.next
@@ -63,10 +63,10 @@ pub record GetsAheadOf {S : Type 0} (m : Behaviour S) (states : List S) (q : Cer
   pub lead : step.cells ≡ q.lead ++ p.lead
 
 -- the pair is found as the origin says
-abbrev pub IsPairOrigin : {S : Type 0} → Behaviour S → List S → List CertPair → CertPair → PairOrigin → Type 0
+abbrev pub IsPairOrigin : {S : Type 0} → Behaviour S → List S → List NumberPair → NumberPair → PairOrigin → Type 0
 IsPairOrigin m states pairs p (Split number longer shorter) = IsSplitOf m states number longer shorter p
-IsPairOrigin m states pairs p (Still number place) = (q : CertPair) × (slice_get pairs number ≡ Some q) × StaysBehindOf m states q place p
-IsPairOrigin m states pairs p (Swapped number place) = (q : CertPair) × (slice_get pairs number ≡ Some q) × GetsAheadOf m states q place p
+IsPairOrigin m states pairs p (Still number place) = (q : NumberPair) × (slice_get pairs number ≡ Some q) × StaysBehindOf m states q place p
+IsPairOrigin m states pairs p (Swapped number place) = (q : NumberPair) × (slice_get pairs number ≡ Some q) × GetsAheadOf m states q place p
 
 -- the origin names no pair but an earlier one
 abbrev pub IsEarlier : ℕ → PairOrigin → Type 0
@@ -75,7 +75,7 @@ IsEarlier number (Still pair place) = pair < number
 IsEarlier number (Swapped pair place) = pair < number
 
 -- the pair with this number is found by two steps of a state or by a step of an earlier pair
-pub record IsFoundPair {S : Type 0} (m : Behaviour S) (states : List S) (pairs : List CertPair) (origins : List PairOrigin) (number : ℕ) (p : CertPair) : Type 0 where
+pub record IsFoundPair {S : Type 0} (m : Behaviour S) (states : List S) (pairs : List NumberPair) (origins : List PairOrigin) (number : ℕ) (p : NumberPair) : Type 0 where
   pub origin : PairOrigin
   pub kept : slice_get origins number ≡ Some origin
   pub earlier : IsEarlier number origin
@@ -83,14 +83,10 @@ pub record IsFoundPair {S : Type 0} (m : Behaviour S) (states : List S) (pairs :
 
 -- ---- What is kept
 
--- the pair in its other order
-abbrev pub turned_pair : CertPair → CertPair
-turned_pair p = record { ahead = p.behind; behind = p.ahead; lead = p.lead }
-
 -- two pairs that aren't counted as one
-pub record DifferAsPairs (p q : CertPair) : Type 0 where
+pub record DifferAsPairs (p q : NumberPair) : Type 0 where
   pub as_they_stand : p ≢ q
-  pub in_other_order : p.lead ≡ [] → turned_pair p ≢ q
+  pub in_other_order : p.lead ≡ [] → turned p ≢ q
 
 -- each state and pair is found from the start on, and no pair is there twice
 pub record IsTraced {S : Type 0} (m : Behaviour S) (t : Trail S) : Type 0 where
@@ -98,12 +94,12 @@ pub record IsTraced {S : Type 0} (m : Behaviour S) (t : Trail S) : Type 0 where
   pub state_origins : length t.state_origins.items ≡ length t.states
   pub pair_origins : length t.pair_origins.items ≡ length t.pairs
   pub each_state : (k : ℕ) (s : S) → 0 < k → slice_get t.states k ≡ Some s → IsFoundState m t.states t.state_origins.items k s
-  pub each_pair : (n : ℕ) (p : CertPair) → slice_get t.pairs n ≡ Some p → IsFoundPair m t.states t.pairs t.pair_origins.items n p
-  pub in_range : (n : ℕ) (p : CertPair) → slice_get t.pairs n ≡ Some p → IsPairOf (length t.states) p
-  pub differ : (i j : ℕ) (p q : CertPair) → i < j → slice_get t.pairs i ≡ Some p → slice_get t.pairs j ≡ Some q → DifferAsPairs p q
+  pub each_pair : (n : ℕ) (p : NumberPair) → slice_get t.pairs n ≡ Some p → IsFoundPair m t.states t.pairs t.pair_origins.items n p
+  pub in_range : (n : ℕ) (p : NumberPair) → slice_get t.pairs n ≡ Some p → IsPairOf (length t.states) p
+  pub differ : (i j : ℕ) (p q : NumberPair) → i < j → slice_get t.pairs i ≡ Some p → slice_get t.pairs j ≡ Some q → DifferAsPairs p q
 
 -- the pair has an empty lead and two states that end
-pub record HasTwoEnds {S : Type 0} (m : Behaviour S) (states : List S) (p : CertPair) : Type 0 where
+pub record HasTwoEnds {S : Type 0} (m : Behaviour S) (states : List S) (p : NumberPair) : Type 0 where
   pub level : p.lead ≡ []
   pub ahead : S
   pub behind : S
@@ -119,7 +115,7 @@ pub record IsKept {S : Type 0} (m : Behaviour S) (t : Trail S) : Type 0 where
   pub few_states : length t.states ≤ t.limit
   pub few_pairs : length t.pairs ≤ t.limit
   pub small : t.limit ≤ 4294967295
-  pub no_two_ends : (n : ℕ) (p : CertPair) → slice_get t.pairs n ≡ Some p → HasTwoEnds m t.states p → ⊥
+  pub no_two_ends : (n : ℕ) (p : NumberPair) → slice_get t.pairs n ≡ Some p → HasTwoEnds m t.states p → ⊥
 
 -- one of the two numbers is more than the limit, and neither is by more than one
 pub record HasPassed {S : Type 0} (t : Trail S) : Type 0 where
@@ -130,7 +126,7 @@ pub record HasPassed {S : Type 0} (t : Trail S) : Type 0 where
 -- why a search stops
 abbrev pub IsStopped : {S : Type 0} → Behaviour S → Trail S → Stop → Type 0
 IsStopped m t stop.Limit = IsTraced m t × HasPassed t
-IsStopped m t (stop.BothEnd n) = IsTraced m t × (p : CertPair) × (slice_get t.pairs n ≡ Some p) × HasTwoEnds m t.states p
+IsStopped m t (stop.BothEnd n) = IsTraced m t × (p : NumberPair) × (slice_get t.pairs n ≡ Some p) × HasTwoEnds m t.states p
 IsStopped m t stop.Memory = Unit {0}
 
 -- what stands at a number stays there

@@ -1,6 +1,6 @@
 -- The texts of a pair, found step by step back to the start (this project's own choice).
 use Rattle.std.specs.Prelude.{◌≡◌, ℕ, List, [], ◌∷◌, ◌++◌, Some, slice_get, reverse}
-use Rattle.brl_cert.specs.declared.pair.CertPair.{CertPair}
+use Rattle.brl_edges.specs.Body.{NumberPair}
 use Rattle.brl_pairs.specs.declared.step.Step.{Step}
 use Rattle.brl_pairs.specs.Runs.{Behaviour, IsListed, IsPath, cells_of, reads_of}
 use Rattle.brl_search.specs.Trail.{HasTwoEnds, IsSplitOf, TakesStep}
@@ -25,8 +25,8 @@ pub record IsWayTo {S : Type 0} (m : Behaviour S) (states : List S) (from : S) (
 
 -- From the two states of the pair with this number two paths go on to states that end, and with the pair's lead they give the
 -- same cells. What they read are these texts from their ends.
-pub record GoesOn {S : Type 0} (m : Behaviour S) (states : List S) (pairs : List CertPair) (number : ℕ) (ahead behind : List ℕ) : Type 0 where
-  pub pair : CertPair
+pub record GoesOn {S : Type 0} (m : Behaviour S) (states : List S) (pairs : List NumberPair) (number : ℕ) (ahead behind : List ℕ) : Type 0 where
+  pub pair : NumberPair
   pub at : slice_get pairs number ≡ Some pair
   pub ahead_state : S
   pub behind_state : S
@@ -42,7 +42,7 @@ pub record GoesOn {S : Type 0} (m : Behaviour S) (states : List S) (pairs : List
 
 -- the same from the states behind two steps of the state with this number, at these places, which split
 pub record SplitGoesOn {S : Type 0} (m : Behaviour S) (states : List S) (number longer shorter : ℕ) (ahead behind : List ℕ) : Type 0 where
-  pub pair : CertPair
+  pub pair : NumberPair
   pub split : IsSplitOf m states number longer shorter pair
   pub one : List (Step S)
   pub two : List (Step S)
@@ -53,13 +53,13 @@ pub record SplitGoesOn {S : Type 0} (m : Behaviour S) (states : List S) (number 
   pub behind_reads : reverse behind ≡ reads_of two
 
 -- the run behind of the pair with this number has a step at this place
-pub record HasStepBehind {S : Type 0} (m : Behaviour S) (states : List S) (pairs : List CertPair) (number place : ℕ) : Type 0 where
-  pub pair : CertPair
+pub record HasStepBehind {S : Type 0} (m : Behaviour S) (states : List S) (pairs : List NumberPair) (number place : ℕ) : Type 0 where
+  pub pair : NumberPair
   pub at : slice_get pairs number ≡ Some pair
   pub step : HasStepAt m states pair.behind place
 
 -- the pair with this number has an empty lead and two states that end
-pub record HasTwoEndsAt {S : Type 0} (m : Behaviour S) (states : List S) (pairs : List CertPair) (number : ℕ) : Type 0 where
-  pub pair : CertPair
+pub record HasTwoEndsAt {S : Type 0} (m : Behaviour S) (states : List S) (pairs : List NumberPair) (number : ℕ) : Type 0 where
+  pub pair : NumberPair
   pub at : slice_get pairs number ≡ Some pair
   pub ends : HasTwoEnds m states pair

@@ -2,7 +2,7 @@
 use Rattle.std.specs.Prelude.{◌≡◌, ℕ, ◌+◌, ◌-◌, ◌*◌, ◌<◌, ◌≤◌, All, Contains, List, ◌⊎◌, length, Some, slice_get}
 use Rattle.std.specs.declared.cmp.Reverse.{Reverse}
 use Rattle.std.specs.BinaryHeap.{heap_items, heap_len}
-use Rattle.brl_cert.specs.declared.pair.CertPair.{CertPair}
+use Rattle.brl_edges.specs.Body.{NumberPair}
 use Rattle.brl_pairs.specs.Runs.{Behaviour}
 use Rattle.brl_edges.specs.Edges.{AreKeptEdges}
 use Rattle.brl_search.specs.Edges.{IsExpanded, IsWalked}
@@ -15,8 +15,8 @@ abbrev pub Waits : ℕ → List (Reverse (ℕ × ℕ)) → Type 0
 Waits n items = (behind : ℕ) × Contains items (record { 0 = (behind, n) })
 
 -- a pair waits behind the number of its own state behind
-abbrev pub IsItemOf : List CertPair → Reverse (ℕ × ℕ) → Type 0
-IsItemOf pairs item = (p : CertPair) × (slice_get pairs item.0.1 ≡ Some p) × (p.behind ≡ item.0.0)
+abbrev pub IsItemOf : List NumberPair → Reverse (ℕ × ℕ) → Type 0
+IsItemOf pairs item = (p : NumberPair) × (slice_get pairs item.0.1 ≡ Some p) × (p.behind ≡ item.0.0)
 
 -- the state behind of the pair that comes first, where one waits, has not been expanded
 abbrev pub NoneIsReady : Work → Type 0

@@ -1,8 +1,8 @@
 //! What a table's dues machine reaches. Each law is the contract of a function that does nothing.
 ghost use Rattle.std.specs.Prelude.{ℕ, length};
 ghost use Rattle.std.specs.List.{Contains};
-ghost use Rattle.brl_cert.specs.Lines.{BodyView};
-ghost use Rattle.brl_cert.specs.Sets.{sets_of};
+ghost use Rattle.brl_edges.specs.Body.{BodyView};
+ghost use Rattle.brl_edges.specs.Sets.{sets_of};
 ghost use Rattle.brl_dues.specs.Finite.{all_dues, all_leads, all_states};
 ghost use Rattle.brl_dues.specs.Steps.{dues_machine};
 ghost use Rattle.brl_dues.specs.declared.due.Due.{Due as DueValue};

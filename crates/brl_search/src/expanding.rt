@@ -7,15 +7,14 @@ ghost use Rattle.brl_search.specs.Edges.{IsExpanded, IsWalked};
 ghost use Rattle.brl_search.specs.Trail.{Grows, IsKept, IsStopped};
 ghost use Rattle.brl_edges.specs.Edges.{AreKeptEdges};
 ghost use Rattle.brl_edges.specs.declared.edge.Edge.{Edge as EdgeValue};
-ghost use Rattle.brl_cert.specs.declared.pair.CertPair.{CertPair as CertPairValue};
+ghost use Rattle.brl_edges.specs.Body.{NumberPair};
 
 use crate::pairs::follow;
 use crate::states::find_edges;
 use crate::stop::Stop;
 use crate::trail::{Origins, PairOrigin, Trail};
-use brl_cert::CertPair;
 use brl_edges::{Edge, different_cells_law, places_before};
-use brl_pairs::Machine;
+use brl_pairs::{Machine, Pair};
 use std::alloc::{AllocError, Global};
 
 /// Adds the splits of one step of a state with each earlier one whose cells begin alike.
@@ -124,7 +123,7 @@ fn find_moves<M: Machine>(
     machine: &M,
     trail: &mut Trail<M::State>,
     number: usize,
-    pair: &CertPair,
+    pair: &Pair<u32>,
     edges: &[Edge],
 ) -> Result<(), Stop>
     requires kept { IsKept (M.behaviour machine.now) trail.old }
@@ -163,10 +162,10 @@ fn find_moves<M: Machine>(
 }
 
 /// An equal pair.
-fn copy_of(pair: &CertPair) -> Result<CertPair, AllocError>
+fn copy_of(pair: &Pair<u32>) -> Result<Pair<u32>, AllocError>
     ensures { IfOk result (λ copy. copy ≡ pair.now) }
 {
-    Ok(CertPair {
+    Ok(Pair {
         ahead: pair.ahead,
         behind: pair.behind,
         lead: pair.lead.copy()?,
@@ -183,7 +182,7 @@ pub fn walk<M: Machine>(
 ) -> Result<(), Stop>
     requires kept { IsKept (M.behaviour machine.now) trail.old }
     requires edges { AreKeptEdges (M.behaviour machine.now) trail.old.states expanded.now }
-    requires pair { (p : CertPairValue) × (slice_get trail.old.pairs number ≡ Some p) × (p.behind < length expanded.now) }
+    requires pair { (p : NumberPair) × (slice_get trail.old.pairs number ≡ Some p) × (p.behind < length expanded.now) }
     ensures walked { OnOk result (IsWalked (M.behaviour machine.now) trail.new.states trail.new.pairs number) }
     ensures kept { OnOk result (IsKept (M.behaviour machine.now) trail.new) }
     ensures grows { OnOk result (Grows trail.old trail.new) }

@@ -2,8 +2,8 @@
 //! law is the contract of a function that does nothing.
 ghost use Rattle.std.specs.Prelude.{◌≡◌, ◌≤◌, ℕ, List, length};
 ghost use Rattle.std.specs.List.{Contains};
-ghost use Rattle.brl_cert.specs.Lines.{BodyView};
-ghost use Rattle.brl_cert.specs.Sets.{sets_of};
+ghost use Rattle.brl_edges.specs.Body.{BodyView};
+ghost use Rattle.brl_edges.specs.Sets.{sets_of};
 ghost use Rattle.brl_pairs.specs.Pairs.{IsClosed};
 ghost use Rattle.brl_pairs.specs.Runs.{IsExact, IsUnambiguous};
 ghost use Rattle.brl_pairs.specs.declared.step.Pair.{Pair as PairValue};

@@ -1,6 +1,5 @@
 //! The search of a machine.
 ghost use Rattle.std.specs.Prelude.{◌≡◌, ◌≤◌, [], ◌∷◌, length, IfErr, IfOk, OnOk};
-ghost use Rattle.brl_cert.specs.Views.{listed};
 ghost use Rattle.brl_pairs.specs.Runs.{KeepsLaws};
 ghost use Rattle.brl_search.specs.Answers.{IsCertified, IsOutcome};
 ghost use Rattle.brl_search.specs.Trail.{HasPassed, IsStopped, IsTraced};
@@ -11,7 +10,7 @@ use crate::stop::Stop;
 use crate::texts::texts_of;
 use crate::trail::{StateOrigin, Trail};
 use crate::turns::find_all;
-use brl_cert::{Body, Members};
+use brl_edges::{Body, Members};
 use brl_pairs::Machine;
 use std::alloc::{AllocError, Global};
 
@@ -75,14 +74,14 @@ fn counts<M: Machine>(machine: &M, trail: &Trail<M::State>) -> Outcome<M::State>
 /// The body of what was found, where nothing is left to do.
 fn body_of<M: Machine>(machine: &M, trail: Trail<M::State>) -> Body<M::State>
     requires { IsFinished (M.behaviour machine.now) trail }
-    ensures { IsCertified (M.behaviour machine.now) trail.limit (listed result.states result.pairs) }
+    ensures { IsCertified (M.behaviour machine.now) trail.limit result }
 {
     let Trail {
         states: states,
         pairs: pairs,
         ..
     } = trail;
-    Body { states, pairs }
+    Body::new(states, pairs)
 }
 
 /// Searches a machine: states are found from its start on, breadth first, each state's steps in listed order, and with them

@@ -1,10 +1,10 @@
 //! What a search of a machine comes to.
-use brl_cert::Body;
-use std::hash::Hash;
+use brl_edges::Body;
+use brl_members::Key;
 
 /// What a search of a machine comes to.
 #[derive(Drop)]
-pub enum Outcome<S: Eq + Hash> {
+pub enum Outcome<S: Key> {
     /// These states and pairs are closed.
     Closed(Body<S>),
     /// Two different paths with the same cells, both of which end, read these texts.

@@ -1,7 +1,7 @@
 //! Finding pairs.
 ghost use Rattle.std.specs.Prelude.{◌≡◌, length, IfErr, OnOk};
 ghost use Rattle.std.specs.Bool.{OnTrue, OnFalse};
-ghost use Rattle.brl_cert.specs.Range.{IsPairOf};
+ghost use Rattle.brl_edges.specs.Body.{IsPairOf};
 ghost use Rattle.brl_edges.specs.Pairs.{IsFollowed, IsThere};
 ghost use Rattle.brl_search.specs.Edges.{Explains, FitsFollowing};
 ghost use Rattle.brl_search.specs.Trail.{Grows, HasTwoEnds, IsKept, IsPairOrigin, IsStopped};
@@ -9,13 +9,12 @@ ghost use Rattle.brl_search.specs.Trail.{Grows, HasTwoEnds, IsKept, IsPairOrigin
 use crate::stop::Stop;
 use crate::trail::{Origins, PairOrigin, Trail};
 use brl_cells::{Cell, Cells};
-use brl_cert::CertPair;
 use brl_edges::{Edge, is_there_turned};
-use brl_pairs::{Advanced, Machine, advance};
+use brl_pairs::{Advanced, Machine, Pair, advance};
 use std::alloc::Global;
 
 /// Whether the pair has an empty lead and two states that end.
-fn has_two_ends<M: Machine>(machine: &M, states: &[M::State], pair: &CertPair) -> bool
+fn has_two_ends<M: Machine>(machine: &M, states: &[M::State], pair: &Pair<u32>) -> bool
     requires { IsPairOf (length states.now) pair.now }
     ensures yes { OnTrue result (HasTwoEnds (M.behaviour machine.now) states.now pair.now) }
     ensures no { OnFalse result (HasTwoEnds (M.behaviour machine.now) states.now pair.now → ⊥) }
@@ -30,7 +29,7 @@ fn find_pair<M: Machine>(
     alloc: Global,
     machine: &M,
     trail: &mut Trail<M::State>,
-    pair: CertPair,
+    pair: Pair<u32>,
     origin: PairOrigin,
 ) -> Result<(), Stop>
     requires kept { IsKept (M.behaviour machine.now) trail.old }
@@ -83,7 +82,7 @@ pub fn follow<M: Machine>(
 {
     match advance(lead, edge.cells.as_slice()) {
         Advanced::Still(rest) => {
-            let pair = CertPair {
+            let pair = Pair {
                 ahead,
                 behind: edge.next,
                 lead: Cells::from_slice(alloc, rest)?,
@@ -91,7 +90,7 @@ pub fn follow<M: Machine>(
             find_pair(alloc, machine, trail, pair, origins.still)
         }
         Advanced::Swapped(rest) => {
-            let pair = CertPair {
+            let pair = Pair {
                 ahead: edge.next,
                 behind: ahead,
                 lead: Cells::from_slice(alloc, rest)?,

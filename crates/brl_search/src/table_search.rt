@@ -1,6 +1,6 @@
 //! The search of a table.
 ghost use Rattle.std.specs.Prelude.{◌+◌, ◌<◌, ◌≤◌, ◌⊎◌, IfOk};
-ghost use Rattle.brl_cert.specs.Sets.{sets_of};
+ghost use Rattle.brl_edges.specs.Sets.{sets_of};
 ghost use Rattle.brl_pairs.specs.Pairs.{IsClosed};
 ghost use Rattle.brl_search.specs.Answers.{AreInOrder, HasReachedPairs, HasReachedStates, IsWithin};
 ghost use Rattle.brl_search.specs.Found.{IfCertified, IfClashing, IfLimit, IsCertificate};

@@ -1,6 +1,6 @@
 //! The two texts of a pair with an empty lead and two ends.
 ghost use Rattle.std.specs.Prelude.{◌≡◌, ◌<◌, ℕ, [], ◌++◌, length, IfOk, OnOk, Some, reverse, slice_get};
-ghost use Rattle.brl_cert.specs.declared.pair.CertPair.{CertPair as PairValue};
+ghost use Rattle.brl_edges.specs.Body.{NumberPair};
 ghost use Rattle.brl_pairs.specs.declared.step.Step.{Step as StepValue};
 ghost use Rattle.brl_pairs.specs.Runs.{KeepsLaws};
 ghost use Rattle.brl_search.specs.Answers.{AreTwoPaths};
@@ -77,7 +77,7 @@ fn push_behind<M: Machine>(
     text: &mut Vec<char>,
 ) -> Result<(), AllocError>
     requires { HasStepBehind (M.behaviour machine.now) trail.now.states trail.now.pairs pair place }
-    ensures { OnOk result ((q : PairValue) (x : StepValue M.State) → slice_get trail.now.pairs pair ≡ Some q →
+    ensures { OnOk result ((q : NumberPair) (x : StepValue M.State) → slice_get trail.now.pairs pair ≡ Some q →
         TakesStep (M.behaviour machine.now) trail.now.states q.behind place x → text.new.items ≡ text.old.items ++ reverse x.reads) }
 {
     let behind = trail.pairs.as_slice()[pair].behind as usize;

@@ -1,6 +1,7 @@
 //! What a search has found, and how it was found.
-use brl_cert::{CertPair, Members};
-use std::hash::Hash;
+use brl_edges::Members;
+use brl_members::Key;
+use brl_pairs::Pair;
 
 /// The step by which a state was found first: its place in the list of steps of an earlier state.
 #[derive(Clone, Copy)]
@@ -32,13 +33,13 @@ pub enum PairOrigin {
 
 /// The states and pairs that a search has found, in the order in which it found them, and how each was found.
 #[derive(Drop)]
-pub struct Trail<S: Eq + Hash> {
+pub struct Trail<S: Key> {
     /// How many states, and how many pairs, it may find.
     pub limit: u64,
     pub states: Members<S>,
     /// Of each state; that of the start is never read.
     pub state_origins: Vec<StateOrigin>,
-    pub pairs: Members<CertPair>,
+    pub pairs: Members<Pair<u32>>,
     /// Of each pair.
     pub pair_origins: Vec<PairOrigin>,
 }

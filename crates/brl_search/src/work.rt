@@ -5,8 +5,8 @@ ghost use Rattle.std.specs.List.Sorted.{IsPermutation};
 ghost use Rattle.std.specs.declared.cmp.Reverse.{Reverse as ReverseValue};
 ghost use Rattle.brl_search.specs.Work.{IsItemOf, NoneIsReady, Waits};
 
-use brl_cert::{CertPair, Members};
-use brl_edges::Edge;
+use brl_edges::{Edge, Members};
+use brl_pairs::Pair;
 use std::alloc::{AllocError, Global};
 use std::cmp::Reverse;
 use std::collections::BinaryHeap;
@@ -49,7 +49,7 @@ pub fn pop_ready(work: &mut Work) -> Option<usize>
 }
 
 /// Lets the pairs from this number on wait.
-pub fn wait_from(work: &mut Work, pairs: &Members<CertPair>, from: usize) -> Result<(), AllocError>
+pub fn wait_from(work: &mut Work, pairs: &Members<Pair<u32>>, from: usize) -> Result<(), AllocError>
     requires { from ≤ length pairs.now }
     ensures edges { work.new.edges ≡ work.old.edges }
     ensures new { OnOk result ((n : ℕ) → from ≤ n → n < length pairs.now → Waits n (heap_items work.new.waiting)) }

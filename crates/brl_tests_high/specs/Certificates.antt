@@ -4,7 +4,9 @@ use Rattle.std.specs.List.{flat_map}
 use Rattle.brl_cert.specs.declared.fault.Wrong.{Wrong}
 use Rattle.brl_cert.specs.declared.fault.Wrong.TheVariants.{Version, Syntax, NotCanonical, DuplicateState, DuplicatePair, NoSuchState, WrongCount, Truncated}
 use Rattle.brl_window.specs.declared.state.WindowState.{WindowState}
-use Rattle.brl_cert.specs.Reading.{CertView, Windows, reading}
+use Rattle.brl_cert.specs.Reading.{reading}
+use Rattle.brl_cert.specs.declared.cert.Cert.TheVariants.{Window}
+use Rattle.brl_cert.specs.declared.cert.Cert.{Cert as Certificate}
 
 -- the bytes of lines, each with its line feed
 abbrev pub lines : List (List ℕ) → List ℕ
@@ -14,8 +16,8 @@ abbrev pub state : ℕ → Bool → List ℕ → WindowState
 state before ended coming = record { before = record { 0 = before }; numeric = false; ended = ended; coming = coming }
 
 -- three states and a pair
-abbrev pub three_states : CertView
-three_states = Windows (record {
+abbrev pub three_states : Certificate
+three_states = Window (record {
   states = state 1 false [] ∷ state 8 false (97 ∷ []) ∷ state 8 true [] ∷ [];
   pairs = record { ahead = 1; behind = 2; lead = [] } ∷ [];
 })
@@ -29,8 +31,8 @@ abbrev pub three_lines : List (List ℕ)
 three_lines = front ++ codes "end 3 1" ∷ []
 
 -- the start alone, which certifies the empty table
-abbrev pub start_alone : CertView
-start_alone = Windows (record { states = state 1 false [] ∷ []; pairs = [] })
+abbrev pub start_alone : Certificate
+start_alone = Window (record { states = state 1 false [] ∷ []; pairs = [] })
 
 -- bytes, what is wrong with their first faulty line, and its number
 pub record Row : Type 0 where
@@ -99,4 +101,4 @@ faulty =
 
 -- each row is refused as it says
 abbrev pub AreRefused : List Row → Type 0
-AreRefused rows = map (λ r. reading r.bytes) rows ≡ map (λ r. let fault : Result CertView (Wrong × ℕ) = Err (r.wrong, r.line) in fault) rows
+AreRefused rows = map (λ r. reading r.bytes) rows ≡ map (λ r. let fault : Result Certificate (Wrong × ℕ) = Err (r.wrong, r.line) in fault) rows

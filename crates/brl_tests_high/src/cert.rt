@@ -5,7 +5,9 @@ ghost use Rattle.brl_tests_high.specs.Certificates.{lines, three_states, three_l
 
 use crate::lines::bytes_of;
 use brl_cells::{Cell, Cells};
-use brl_cert::{Body, Cert, CertFault, CertPair, Members, Wrong, read_cert, write_cert};
+use brl_cert::{Cert, CertFault, Wrong, read_cert, write_cert};
+use brl_edges::{Body, Members};
+use brl_pairs::Pair;
 use brl_testing::cut;
 use std::alloc::Global;
 use std::test::Fail;
@@ -191,6 +193,8 @@ fn are_3_and_5(members: &Members<u32>) -> bool {
         && !members.is_empty()
         && members.index_of(&5) == Some(1)
         && members.index_of(&4).is_none()
+        && members.contains(&3)
+        && !members.contains(&4)
         && members.get(0).copied() == Some(3)
         && members.as_slice() == [3, 5].as_slice()
 }
@@ -206,10 +210,10 @@ fn states(alloc: Global) -> Result<Members<u32>, Fail> {
 }
 
 /// One pair, from the first of two states to the second.
-fn pairs(alloc: Global) -> Result<Members<CertPair>, Fail> {
+fn pairs(alloc: Global) -> Result<Members<Pair<u32>>, Fail> {
     let mut pairs = Members::new(alloc);
     let lead = Cells::from_slice(alloc, &[Cell(1)])?;
-    let pair = CertPair {
+    let pair = Pair {
         ahead: 0,
         behind: 1,
         lead,
@@ -221,10 +225,29 @@ fn pairs(alloc: Global) -> Result<Members<CertPair>, Fail> {
     }
 }
 
+/// Whether a body lists the states 3 and 5, and the pair of them.
+fn lists_both(body: &Body<u32>) -> bool {
+    let Some(pair) = body.pairs().get(0) else {
+        return false;
+    };
+    body.states() == [3, 5].as_slice()
+        && body.state_count() == 2
+        && body.pair_count() == 1
+        && body.number_of(&5) == Some(1)
+        && body.number_of(&4).is_none()
+        && body.has_state(&3)
+        && !body.has_state(&4)
+        && *body.states_of(pair).0 == 3
+        && *body.states_of(pair).1 == 5
+}
+
 /// Whether these states and a pair of them make a body.
 fn make_a_body(alloc: Global, states: Members<u32>) -> Result<bool, Fail> {
     let pairs = pairs(alloc)?;
-    Ok(Body::from_parts(states, pairs).is_some())
+    match Body::from_parts(states, pairs) {
+        Some(body) => Ok(lists_both(&body)),
+        None => Ok(false),
+    }
 }
 
 #[test]

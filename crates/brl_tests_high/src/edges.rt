@@ -1,7 +1,7 @@
 //! Steps and pairs by numbers.
 use brl_cells::{Cell, Cells};
-use brl_cert::{CertPair, Members};
-use brl_edges::{Edge, is_there, is_there_turned, loses, places_before};
+use brl_edges::{Edge, Members, is_there, is_there_turned, loses, places_before};
+use brl_pairs::Pair;
 use brl_testing::lend;
 use std::alloc::Global;
 use std::test::Fail;
@@ -36,8 +36,8 @@ fn edges_that_begin_alike(rt: HostRuntime) -> Result<(), Fail> {
     Ok(())
 }
 
-fn pair(alloc: Global, ahead: u32, behind: u32) -> CertPair {
-    CertPair {
+fn pair(alloc: Global, ahead: u32, behind: u32) -> Pair<u32> {
+    Pair {
         ahead,
         behind,
         lead: Cells::new(alloc),
@@ -45,14 +45,14 @@ fn pair(alloc: Global, ahead: u32, behind: u32) -> CertPair {
 }
 
 /// The pair of the states 0 and 1.
-fn one_pair(alloc: Global) -> Result<Members<CertPair>, Fail> {
+fn one_pair(alloc: Global) -> Result<Members<Pair<u32>>, Fail> {
     let mut pairs = Members::new(alloc);
     pairs.insert(pair(alloc, 0, 1))?;
     Ok(pairs)
 }
 
 /// Whether the pair is found in both orders, and by the step to state 1 alone where state 0 is ahead by its cells.
-fn is_found(alloc: Global, pairs: &Members<CertPair>) -> Result<bool, Fail> {
+fn is_found(alloc: Global, pairs: &Members<Pair<u32>>) -> Result<bool, Fail> {
     let lead = [Cell(1), Cell(2)];
     let there = lend(
         edge(alloc, 1, &lead)?,

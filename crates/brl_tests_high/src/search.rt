@@ -1,8 +1,9 @@
 //! Searches of worked tables.
 use crate::lines::bytes_of;
 use brl_accept::accept;
-use brl_cert::{Body, Cert, write_cert};
+use brl_cert::{Cert, write_cert};
 use brl_dues::{Dues, DuesState};
+use brl_edges::Body;
 use brl_forward::{Clash, confirm};
 use brl_search::{Found, search};
 use brl_table::Table;

@@ -15,7 +15,7 @@ use std::test::Fail;
 struct Letters;
 
 impl Machine for Letters {
-    ghost use Rattle.brl_pairs.specs.Examples.{letters, same_bools};
+    ghost use Rattle.brl_pairs.specs.Examples.{letters};
 
     type State = bool;
 
@@ -35,8 +35,6 @@ impl Machine for Letters {
     fn ends(&self, _state: &bool) -> bool {
         true
     }
-
-    ghost same_state = { same_bools };
 }
 
 /// The step that reads a letter.

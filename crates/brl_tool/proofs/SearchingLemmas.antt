@@ -3,10 +3,10 @@ use Rattle.std.proofs.Common.{◌≡◌, ◌∙◌, refl, ℕ, List, ◌++◌, O
 use Rattle.std.specs.Global.{Global}
 use Rattle.std.specs.Io.KnownBytes.{Appends}
 use Rattle.std.specs.Prelude.{string_bytes}
-use Rattle.brl_cert.specs.Lines.{BodyView}
-use Rattle.brl_cert.specs.Reading.{Owing, reading, spelling}
-use Rattle.brl_cert.specs.Sets.{sets_of}
-use Rattle.brl_cert.specs.Views.{listed}
+use Rattle.brl_edges.specs.Body.{BodyView}
+use Rattle.brl_cert.specs.Reading.{reading, spelling}
+use Rattle.brl_cert.specs.declared.cert.Cert.TheVariants.{Dues}
+use Rattle.brl_edges.specs.Sets.{sets_of}
 use Rattle.brl_cert.specs.declared.cert.Cert.{Cert}
 use Rattle.brl_cert.specs.declared.cert.Cert.TheVariants.{Dues, Window}
 use Rattle.brl_dues.specs.Steps.{dues_machine}
@@ -36,10 +36,10 @@ use Rattle.brl_tool.specs.declared.verdict.Verdict.TheVariants.{Certified, Clash
 
 -- the verdict that has a certificate says that the table has no clash
 verdict_of_cert : (t : TableView) (limit : ℕ) (body : BodyView DuesState) (verdict : Verdict) (text : List ℕ) → IsUnambiguous t → IsCertified (dues_machine t) limit body
-    → cert_of verdict ≡ Some (spelling (Owing body)) → text ≡ certified_line (Owing body) → reading (spelling (Owing body)) ≡ Ok (Owing body) → IsVerdict t limit verdict text
+    → cert_of verdict ≡ Some (spelling (Dues body)) → text ≡ certified_line (Dues body) → reading (spelling (Dues body)) ≡ Ok (Dues body) → IsVerdict t limit verdict text
 verdict_of_cert t limit body (Certified bytes) text none certified bytes_are text_is read = (
   none,
-  (body, certified, (cc, text_is, (Owing body, read, (tt, certified.closed, refl)))),
+  (body, certified, (cc, text_is, (Dues body, read, (tt, certified.closed, refl)))),
 )
 verdict_of_cert t limit body Clash text none certified bytes_are text_is read = cc
 verdict_of_cert t limit body Limit text none certified bytes_are text_is read = cc
@@ -56,7 +56,7 @@ pub told_cert : (t : TableView) (limit : ℕ) (answer : Found) (cert : Cert) (to
 told_cert t limit (found.Certified (Dues body)) cert told same none closed states pairs within order tells =
     let it : cert ≡ Dues body = cc in
     let tells_it : TellsCertificate (Dues body) told = subst (λ (c : Cert). TellsCertificate c told) it tells in
-    verdict_of_cert t limit (listed body.states body.pairs) told.verdict (string_bytes told.text) none
+    verdict_of_cert t limit body told.verdict (string_bytes told.text) none
     (record { closed = closed; states = states; pairs = pairs; within = within; order = order }) tells_it.0 tells_it.1 tells_it.2
 told_cert t limit (found.Certified (Window body)) cert told same none closed states pairs within order tells = absurd none
 told_cert t limit (found.Clashing clash) cert told same none closed states pairs within order tells = cc

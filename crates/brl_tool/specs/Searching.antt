@@ -3,10 +3,9 @@ use Rattle.std.specs.Prelude.{ℕ, ◌≡◌, List, ◌++◌, Option, None, Some
 use Rattle.std.specs.Io.KnownBytes.{Appends}
 use Rattle.brl_accept.specs.Judging.{IsAccepted, counted}
 use Rattle.brl_cert.specs.Kinds.{pair_count, state_count}
-use Rattle.brl_cert.specs.Lines.{BodyView}
-use Rattle.brl_cert.specs.Reading.{CertView, reading, spelling}
-use Rattle.brl_cert.specs.Views.{cert_view}
-use Rattle.brl_cert.specs.declared.cert.Cert.{Cert}
+use Rattle.brl_edges.specs.Body.{BodyView}
+use Rattle.brl_cert.specs.Reading.{reading, spelling}
+use Rattle.brl_cert.specs.declared.cert.Cert.{Cert as Certificate}
 use Rattle.brl_lines.specs.Answer.{AllStay, Gives}
 use Rattle.brl_reading.specs.Files.{IsTableOf}
 use Rattle.brl_report.specs.Report.{report_text}
@@ -31,17 +30,17 @@ cert_of (Certified bytes) = Some bytes.items
 cert_of verdict = None
 
 -- how many states and pairs a certificate has, after the word
-abbrev pub certified_line : CertView → List ℕ
+abbrev pub certified_line : Certificate → List ℕ
 certified_line cert = counts_line (codes "certified") (state_count cert) (pair_count cert)
 
 -- the bytes of a certificate, from which it is read back, and its numbers are told
-abbrev pub TellsCertificate : Cert → Told → Type 0
+abbrev pub TellsCertificate : Certificate → Told → Type 0
 TellsCertificate cert told =
-    (cert_of told.verdict ≡ Some (spelling (cert_view cert))) × (string_bytes told.text ≡ certified_line (cert_view cert))
-    × (reading (spelling (cert_view cert)) ≡ Ok (cert_view cert))
+    (cert_of told.verdict ≡ Some (spelling cert)) × (string_bytes told.text ≡ certified_line cert)
+    × (reading (spelling cert) ≡ Ok cert)
 
 -- these bytes are a certificate's, which deserve acceptance for the table, and this text tells its numbers
-abbrev pub IsTold : CertView → TableView → List ℕ → List ℕ → Type 0
+abbrev pub IsTold : Certificate → TableView → List ℕ → List ℕ → Type 0
 IsTold cert t bytes text = (bytes ≡ spelling cert) × (text ≡ certified_line cert) × IsAccepted t (spelling cert) (counted cert)
 
 -- what a search with this limit says of a table, and the text that tells it

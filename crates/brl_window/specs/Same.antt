@@ -1,17 +1,13 @@
 -- Equal states are the same state.
-use Rattle.std.proofs.Common.{◌≡◌, Bool, true, false, refl, sym}
+use Rattle.std.proofs.Common.{◌≡◌, true, sym}
 use Rattle.std.proofs.Math.Bool.{beq}
 use Rattle.std.specs.Cmp.{first_so, second_so}
 use Rattle.std.specs.Cmp.Lexicographic.{same_text}
 use Rattle.std.proofs.Math.Dec.{eqb}
 use Rattle.std.proofs.lemmas.Bool.Decides.{Decides-eqb}
+use Rattle.brl_members.specs.Same.{same_bools}
 use Rattle.brl_window.specs.declared.state.WindowState.{WindowState}
 use Rattle.brl_window.specs.contracts.state.WindowStatePartialEq.TheImpl.{eq-value}
-
-same_bools : (a b : Bool) → beq a b ≡ true → a ≡ b
-same_bools true true h = refl
-same_bools false false h = refl
-same_bools a b h = cc
 
 pub same_states : (a b : WindowState) → eq-value.it a b ≡ true → a ≡ b
 same_states a b h =

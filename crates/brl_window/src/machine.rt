@@ -63,7 +63,6 @@ fn count_moves(table: &Table) -> u64
 }
 
 impl<'a> Machine for Window<'a> {
-    ghost use Rattle.brl_window.specs.Same.{same_states};
     ghost use Rattle.brl_window.specs.Windows.{window_machine};
 
     type State = WindowState;
@@ -93,6 +92,4 @@ impl<'a> Machine for Window<'a> {
     fn ends(&self, state: &WindowState) -> bool {
         state.coming.len() == 0
     }
-
-    ghost same_state = { same_states };
 }

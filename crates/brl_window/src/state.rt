@@ -3,6 +3,7 @@ ghost use Rattle.std.specs.Prelude.{◌≡◌, IfOk};
 ghost use Rattle.brl_window.specs.Windows.{context_of, state_in};
 
 use brl_cells::Chars;
+use brl_members::Key;
 use brl_table::{Class, Context};
 use std::alloc::{AllocError, Global};
 
@@ -17,6 +18,12 @@ pub struct WindowState {
     pub ended: bool,
     /// The next characters, as far as they are known.
     pub coming: Chars,
+}
+
+impl Key for WindowState {
+    ghost use Rattle.brl_window.specs.Same.{same_states};
+
+    ghost same = { same_states };
 }
 
 impl WindowState {

@@ -2,22 +2,21 @@ use Rattle.std.proofs.Common.{ℕ, arith}
 use Rattle.brl_accept.specs.Refusals.{LosesMove}
 use Rattle.brl_accept.proofs.Closing.{move_within}
 use Rattle.brl_accept.proofs.LeastLaws.{least_here, none_found, one_more, this_found}
-use Rattle.brl_cert.specs.Views.{listed}
 use Rattle.brl_accept.proofs.accepting.check_moves.Goals as goal
 
 pub returns-in-Some-clause-refused : goal.returns-in-Some-clause-refused
 returns-in-Some-clause-refused g c =
-    let loses = LosesMove (g.M.Machine.behaviour c.args.machine.now) (listed c.args.body.now.states c.args.body.now.pairs) in
+    let loses = LosesMove (g.M.Machine.behaviour c.args.machine.now) c.args.body.now in
     let n = c.loop-number.number in
     let least = this_found (loses n) c.in_ok-lost.lost c.in-Some.rule c.in-Some.is c.in_ok-lost.ensures in
     (c.requires.start, c.requires.steps, c.requires.splits, least_here (λ k. (r : ℕ) × loses k r) n (c.in-Some.rule, least.has) c.loop-number.invariant, least)
 
 pub loop-number-preserved : goal.loop-number-preserved
 loop-number-preserved g c =
-    let loses = LosesMove (g.M.Machine.behaviour c.args.machine.now) (listed c.args.body.now.states c.args.body.now.pairs) in
+    let loses = LosesMove (g.M.Machine.behaviour c.args.machine.now) c.args.body.now in
     let n = c.loop-number.number in
     one_more (λ k. (r : ℕ) × loses k r) n c.loop-number.invariant (λ h. none_found (loses n) c.in_ok-lost.lost c.in_default.not-Some c.in_ok-lost.ensures h.0 h.1)
 
 pub returns-clause-keeps : goal.returns-clause-keeps
 returns-clause-keeps g c = λ number rule lost.
-    c.loop-number.invariant number (omega (arith, move_within (g.M.Machine.behaviour c.args.machine.now) (listed c.args.body.now.states c.args.body.now.pairs) number (rule, lost), c.len-number-end.ensures)) (rule, lost)
+    c.loop-number.invariant number (omega (arith, move_within (g.M.Machine.behaviour c.args.machine.now) c.args.body.now number (rule, lost), c.pair_count-number-end.ensures)) (rule, lost)

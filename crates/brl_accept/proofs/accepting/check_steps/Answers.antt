@@ -3,12 +3,11 @@ use Rattle.brl_accept.proofs.At.{steps_kept}
 use Rattle.brl_accept.proofs.Closing.{step_within}
 use Rattle.brl_accept.proofs.Kept.{kept_push}
 use Rattle.brl_accept.proofs.Lists.{length_push}
-use Rattle.brl_cert.specs.Views.{listed}
 use Rattle.brl_accept.proofs.accepting.check_steps.Goals as goal
 
 pub edges_of-requires-clause-earlier : goal.edges_of-requires-clause-earlier
 edges_of-requires-clause-earlier g c = λ k rule lt lost.
-    steps_kept (g.M.Machine.behaviour c.args.machine.now) (listed c.args.body.now.states c.args.body.now.pairs) c.loop-number.kept.items c.loop-number.invariant.each k (omega (arith, lt, c.loop-number.invariant.count)) rule lost
+    steps_kept (g.M.Machine.behaviour c.args.machine.now) c.args.body.now c.loop-number.kept.items c.loop-number.invariant.each k (omega (arith, lt, c.loop-number.invariant.count)) rule lost
 
 pub loop-number-preserved : goal.loop-number-preserved
 loop-number-preserved g c = record {
@@ -17,10 +16,10 @@ loop-number-preserved g c = record {
 }
 
 pub returns-clause-kept : goal.returns-clause-kept
-returns-clause-kept g c = record { count = omega arith; each = c.loop-number.invariant.each }
+returns-clause-kept g c = record { count = omega (arith, c.state_count-number-end.ensures, c.loop-number.invariant.count); each = c.loop-number.invariant.each }
 
 pub returns-clause-keeps : goal.returns-clause-keeps
 returns-clause-keeps g c = λ number rule lost.
-    let body = listed c.args.body.now.states c.args.body.now.pairs in
+    let body = c.args.body.now in
     steps_kept (g.M.Machine.behaviour c.args.machine.now) body c.loop-number.kept.items c.loop-number.invariant.each number
-    (omega (arith, step_within (g.M.Machine.behaviour c.args.machine.now) body number (rule, lost), c.len-number-end.ensures, c.loop-number.invariant.count)) rule lost
+    (omega (arith, step_within (g.M.Machine.behaviour c.args.machine.now) body number (rule, lost), c.state_count-number-end.ensures, c.loop-number.invariant.count)) rule lost

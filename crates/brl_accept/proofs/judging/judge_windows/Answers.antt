@@ -2,10 +2,9 @@ use Rattle.std.proofs.Common.{subst}
 use Rattle.std.proofs.lemmas.Result.{err_from_is_err_and}
 use Rattle.brl_accept.specs.Judging.{counted}
 use Rattle.brl_accept.specs.Refusals.{IsRefused}
-use Rattle.brl_cert.specs.Reading.{Windows}
-use Rattle.brl_cert.specs.Sets.{sets_of}
+use Rattle.brl_cert.specs.declared.cert.Cert.TheVariants.{Window}
+use Rattle.brl_edges.specs.Sets.{sets_of}
 use Rattle.brl_accept.proofs.Judged.{refused_with, same_counts}
-use Rattle.brl_cert.specs.Views.{listed}
 use Rattle.brl_pairs.specs.Pairs.{IsClosed}
 use Rattle.brl_table.specs.TableView.{TableView}
 use Rattle.brl_window.specs.Windows.{window_machine}
@@ -13,15 +12,15 @@ use Rattle.brl_accept.proofs.judging.judge_windows.Goals as goal
 
 pub returns-in_err-accept-clause-refused : goal.returns-in_err-accept-clause-refused
 returns-in_err-accept-clause-refused c =
-    let body = listed c.args.body.now.states c.args.body.now.pairs in
+    let body = c.args.body.now in
     let p = err_from_is_err_and c.from_residual-in_err-accept.result c.from_residual-in_err-accept.ensures.1 in
     let refused = subst (λ (t : TableView). IsRefused (window_machine t) body c.in_err-accept.field-0.0) c.in_ok-window.ensures.table c.in_err-accept.ensures.refused in
-    rw (p.1, p.2) (refused_with c.args.table.now (Windows body) c.in_ok-window.ensures.ok c.in_err-accept.field-0.0 refused)
+    rw (p.1, p.2) (refused_with c.args.table.now (Window body) c.in_ok-window.ensures.ok c.in_err-accept.field-0.0 refused)
 
 pub returns-clause-accepted : goal.returns-clause-accepted
 returns-clause-accepted c =
-    let body = listed c.args.body.now.states c.args.body.now.pairs in (
+    let body = c.args.body.now in (
       c.in_ok-window.ensures.ok,
       subst (λ (t : TableView). IsClosed (window_machine t) (sets_of body)) c.in_ok-window.ensures.table c.in_ok-accept.ensures.closed,
-      same_counts _ (counted (Windows body)) c.in_ok-accept.ensures.states c.in_ok-accept.ensures.pairs,
+      same_counts _ (counted (Window body)) c.in_ok-accept.ensures.states c.in_ok-accept.ensures.pairs,
     )

@@ -1,11 +1,11 @@
-use Rattle.std.proofs.Common.{ℕ, List, length, ap, arith, subst}
+use Rattle.std.proofs.Common.{ℕ, IfOk, List, length, ap, arith, subst, ◌∙◌}
 use Rattle.std.proofs.lemmas.Result.{IfOk-weaker}
 use Rattle.brl_accept.specs.Least.{IsLeastFound}
 use Rattle.brl_accept.specs.Steps.{HasOfRule}
 use Rattle.brl_accept.proofs.At.{move_at}
 use Rattle.brl_accept.proofs.Kept.{edges_read, range_read}
 use Rattle.brl_accept.proofs.Lists.{read_at}
-use Rattle.brl_cert.specs.Views.{listed as body_of}
+use Rattle.brl_edges.specs.Body.{NumberPair}
 use Rattle.brl_edges.specs.Pairs.{IsLost}
 use Rattle.brl_accept.proofs.losses.lost_move_at.Goals as goal
 
@@ -13,7 +13,7 @@ pub lost_move-requires : goal.lost_move-requires
 lost_move-requires g c =
     let a = c.args in
     let q = c.index-as_slice-number.result in
-    let range = range_read (length a.body.now.states) a.body.now.pairs c.as_slice.result.now c.as_slice.ensures.members a.body.now.in_range a.number c.requires.number q c.index-as_slice-number.is in
+    let range = range_read (length a.body.now.states) a.body.now.pairs c.as_slice.result.now (c.as_slice.ensures.members ∙ c.pairs.ensures) c.law.ensures.range.each_pair a.number c.requires.number q c.index-as_slice-number.is in
     c.edges_law.ensures.in_order a.body.now.states q.behind c.as_slice-edges.result.now
     (edges_read (g.M.Machine.behaviour a.machine.now) a.body.now.states a.kept.now c.requires.kept q.behind range.behind c.index-kept-pair.result c.index-kept-pair.is c.as_slice-edges.result.now c.as_slice-edges.ensures.value)
 
@@ -22,10 +22,10 @@ returns g c =
     let a = c.args in
     let m = g.M.Machine.behaviour a.machine.now in
     let q = c.index-as_slice-number.result in
-    let q_at = read_at c.as_slice.result.now a.body.now.pairs a.number q c.as_slice.ensures.members (omega (arith, c.requires.number, ap length c.as_slice.ensures.members)) c.index-as_slice-number.is in
-    let range = range_read (length a.body.now.states) a.body.now.pairs c.as_slice.result.now c.as_slice.ensures.members a.body.now.in_range a.number c.requires.number q c.index-as_slice-number.is in
+    let q_at = read_at c.as_slice.result.now a.body.now.pairs a.number q (c.as_slice.ensures.members ∙ c.pairs.ensures) (omega (arith, c.requires.number, ap length c.as_slice.ensures.members, ap length c.pairs.ensures)) c.index-as_slice-number.is in
+    let range = range_read (length a.body.now.states) a.body.now.pairs c.as_slice.result.now (c.as_slice.ensures.members ∙ c.pairs.ensures) c.law.ensures.range.each_pair a.number c.requires.number q c.index-as_slice-number.is in
     let edges = edges_read m a.body.now.states a.kept.now c.requires.kept q.behind range.behind c.index-kept-pair.result c.index-kept-pair.is c.as_slice-edges.result.now c.as_slice-edges.ensures.value in
     IfOk-weaker c.lost_move.result _ _
-    (λ found least. move_at m (body_of a.body.now.states a.body.now.pairs) c.one_number_law.ensures a.number q q_at c.as_slice-edges.result.now edges range found
+    (λ found least. move_at m a.body.now c.law.ensures.states a.number q q_at c.as_slice-edges.result.now edges range found
     (subst (λ (lead : List ℕ). IsLeastFound (HasOfRule (IsLost a.body.now.pairs q.ahead lead) c.as_slice-edges.result.now) found) c.as_slice-2.ensures least))
-    c.lost_move.ensures
+    (subst (λ (pairs : List NumberPair). IfOk c.lost_move.result (IsLeastFound (HasOfRule (IsLost pairs q.ahead c.as_slice-2.result.now) c.as_slice-edges.result.now))) c.pairs-2.ensures c.lost_move.ensures)

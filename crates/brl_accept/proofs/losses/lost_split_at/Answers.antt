@@ -1,7 +1,11 @@
+use Rattle.std.proofs.Common.{IfOk, List, subst}
 use Rattle.std.proofs.lemmas.Result.{IfOk-weaker}
+use Rattle.brl_accept.specs.Least.{IsLeastPairFound}
+use Rattle.brl_accept.specs.Steps.{HasOfRules}
+use Rattle.brl_edges.specs.Body.{NumberPair}
+use Rattle.brl_edges.specs.Pairs.{IsLost}
 use Rattle.brl_accept.proofs.At.{split_at}
 use Rattle.brl_accept.proofs.Kept.{edges_read}
-use Rattle.brl_cert.specs.Views.{listed as body_of}
 use Rattle.brl_accept.proofs.losses.lost_split_at.Goals as goal
 
 pub lost_split-requires-clause-in_order : goal.lost_split-requires-clause-in_order
@@ -22,5 +26,5 @@ returns g c =
     let m = g.M.Machine.behaviour a.machine.now in
     let edges = edges_read m a.body.now.states a.kept.now c.requires.kept a.number c.requires.number c.index-kept-number.result c.index-kept-number.is c.as_slice.result.now c.as_slice.ensures.value in
     IfOk-weaker c.lost_split.result _ _
-    (split_at m (body_of a.body.now.states a.body.now.pairs) c.one_number_law.ensures a.number c.as_slice.result.now edges (c.edges_law.ensures.in_order a.body.now.states a.number c.as_slice.result.now edges))
-    c.lost_split.ensures
+    (split_at m a.body.now c.law.ensures.states a.number c.as_slice.result.now edges (c.edges_law.ensures.in_order a.body.now.states a.number c.as_slice.result.now edges))
+    (subst (λ (pairs : List NumberPair). IfOk c.lost_split.result (IsLeastPairFound (HasOfRules (λ earlier. IsLost pairs earlier.next earlier.cells) c.as_slice.result.now))) c.pairs.ensures c.lost_split.ensures)

@@ -1,38 +1,37 @@
 use Rattle.std.proofs.Common.{◌+◌, ◌-◌, length, Ok, ap, ◌∙◌, arith}
 use Rattle.std.proofs.lemmas.Result.{err_from_is_err_and}
-use Rattle.brl_cert.specs.Views.{listed}
 use Rattle.brl_cert.proofs.Turns.{goes_on, stops, closes, lines_behind, bytes_behind, cut}
 use Rattle.brl_cert.proofs.reading.read_body.Goals as goal
 
 pub loop-place-preserved : goal.loop-place-preserved
 loop-place-preserved g c =
-    goes_on g.V.Version.form (λ part. part.now) c.args.parts.now _ (c.loop-place.place + 2) (listed c.loop-place.reader.states c.loop-place.reader.pairs) c.loop-place.place _ c.loop-place.invariant (omega arith)
-    (listed c.take_line.new.self.states c.take_line.new.self.pairs) _ _ (omega arith) (omega arith)
-    (c.in_ok-take_line.ensures.ok ∙ ap (λ b. Ok (b, listed c.take_line.new.self.states c.take_line.new.self.pairs)) c.if-branch.false)
+    goes_on g.V.Version.form (λ part. part.now) c.args.parts.now _ (c.loop-place.place + 2) c.loop-place.reader c.loop-place.place _ c.loop-place.invariant (omega arith)
+    c.take_line.new.self _ _ (omega arith) (omega arith)
+    (c.in_ok-take_line.ensures.ok ∙ ap (λ b. Ok (b, c.take_line.new.self)) c.if-branch.false)
 
 pub returns-in_err-take_line-clause-fault : goal.returns-in_err-take_line-clause-fault
 returns-in_err-take_line-clause-fault g c =
     let p = err_from_is_err_and c.from_residual.result c.from_residual.ensures.1 in
-    rw (p.1, p.2) (stops g.V.Version.form (λ part. part.now) c.args.parts.now _ (c.loop-place.place + 2) (listed c.loop-place.reader.states c.loop-place.reader.pairs) c.loop-place.place _ c.loop-place.invariant (omega arith) _ c.in_err-take_line.ensures.fault)
+    rw (p.1, p.2) (stops g.V.Version.form (λ part. part.now) c.args.parts.now _ (c.loop-place.place + 2) c.loop-place.reader c.loop-place.place _ c.loop-place.invariant (omega arith) _ c.in_err-take_line.ensures.fault)
 
 pub returns-then-place-last-clause-fault : goal.returns-then-place-last-clause-fault
 returns-then-place-last-clause-fault g c =
-    lines_behind g.V.Version.form (λ part. part.now) c.args.parts.now _ (c.loop-place.place + 2) (listed c.loop-place.reader.states c.loop-place.reader.pairs) c.loop-place.place _ c.loop-place.invariant (omega arith)
-    (listed c.take_line.new.self.states c.take_line.new.self.pairs)
-    (c.in_ok-take_line.ensures.ok ∙ ap (λ b. Ok (b, listed c.take_line.new.self.states c.take_line.new.self.pairs)) c.if-branch.true) _ (omega arith)
+    lines_behind g.V.Version.form (λ part. part.now) c.args.parts.now _ (c.loop-place.place + 2) c.loop-place.reader c.loop-place.place _ c.loop-place.invariant (omega arith)
+    c.take_line.new.self
+    (c.in_ok-take_line.ensures.ok ∙ ap (λ b. Ok (b, c.take_line.new.self)) c.if-branch.true) _ (omega arith)
 
 pub returns-then-not-is_empty-clause-fault : goal.returns-then-not-is_empty-clause-fault
 returns-then-not-is_empty-clause-fault g c =
-    bytes_behind g.V.Version.form (λ part. part.now) c.args.parts.now _ (c.loop-place.place + 2) (listed c.loop-place.reader.states c.loop-place.reader.pairs) c.loop-place.place _ c.loop-place.invariant (omega arith)
-    (listed c.take_line.new.self.states c.take_line.new.self.pairs)
-    (c.in_ok-take_line.ensures.ok ∙ ap (λ b. Ok (b, listed c.take_line.new.self.states c.take_line.new.self.pairs)) c.if-branch.true) _ (length c.args.parts.now - 1) (omega arith) (omega arith) (let h = c.is_empty.ensures in let f = c.if-not-is_empty.true in cc)
+    bytes_behind g.V.Version.form (λ part. part.now) c.args.parts.now _ (c.loop-place.place + 2) c.loop-place.reader c.loop-place.place _ c.loop-place.invariant (omega arith)
+    c.take_line.new.self
+    (c.in_ok-take_line.ensures.ok ∙ ap (λ b. Ok (b, c.take_line.new.self)) c.if-branch.true) _ (length c.args.parts.now - 1) (omega arith) (omega arith) (let h = c.is_empty.ensures in let f = c.if-not-is_empty.true in cc)
 
 pub returns-then-branch-clause-body : goal.returns-then-branch-clause-body
 returns-then-branch-clause-body g c =
-    rw (c.into_body.ensures.states, c.into_body.ensures.pairs) (closes g.V.Version.form (λ part. part.now) c.args.parts.now _ (c.loop-place.place + 2) (listed c.loop-place.reader.states c.loop-place.reader.pairs) c.loop-place.place _ c.loop-place.invariant (omega arith)
-    (listed c.take_line.new.self.states c.take_line.new.self.pairs)
-    (c.in_ok-take_line.ensures.ok ∙ ap (λ b. Ok (b, listed c.take_line.new.self.states c.take_line.new.self.pairs)) c.if-branch.true) (length c.args.parts.now - 1) (omega arith) (let h = c.is_empty.ensures in let f = c.if-not-is_empty.false in cc))
+    rw c.into_body.ensures (closes g.V.Version.form (λ part. part.now) c.args.parts.now _ (c.loop-place.place + 2) c.loop-place.reader c.loop-place.place _ c.loop-place.invariant (omega arith)
+    c.take_line.new.self
+    (c.in_ok-take_line.ensures.ok ∙ ap (λ b. Ok (b, c.take_line.new.self)) c.if-branch.true) (length c.args.parts.now - 1) (omega arith) (let h = c.is_empty.ensures in let f = c.if-not-is_empty.false in cc))
 
 pub returns-clause-fault : goal.returns-clause-fault
 returns-clause-fault g c =
-    cut g.V.Version.form (λ part. part.now) c.args.parts.now (c.loop-place.place + 2) (listed c.loop-place.reader.states c.loop-place.reader.pairs) c.loop-place.place _ c.loop-place.invariant (omega arith) _ (omega arith)
+    cut g.V.Version.form (λ part. part.now) c.args.parts.now (c.loop-place.place + 2) c.loop-place.reader c.loop-place.place _ c.loop-place.invariant (omega arith) _ (omega arith)

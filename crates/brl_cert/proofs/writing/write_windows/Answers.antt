@@ -2,17 +2,17 @@ use Rattle.std.proofs.Common.{◌++◌, ap, ◌∙◌}
 use Rattle.std.specs.Fmt.{digits}
 use Rattle.brl_cert.specs.Lines.{spelled_body}
 use Rattle.brl_cert.specs.Window.{windows}
-use Rattle.brl_cert.specs.Reading.{Windows, reading}
-use Rattle.brl_cert.specs.Views.{listed}
+use Rattle.brl_cert.specs.Reading.{reading}
+use Rattle.brl_cert.specs.declared.cert.Cert.TheVariants.{Window}
 use Rattle.brl_cert.proofs.writing.write_windows.Goals as goal
 
 pub returns-clause-spelled : goal.returns-clause-spelled
 unfolding digits
 returns-clause-spelled c =
-    c.in_ok-push_body.ensures.written ∙ ap (λ front. front ++ spelled_body windows (listed c.args.body.now.states c.args.body.now.pairs)) c.in_ok-out.ensures.items
+    c.in_ok-push_body.ensures.written ∙ ap (λ front. front ++ spelled_body windows c.args.body.now) c.in_ok-out.ensures.items
 
 pub returns-clause-read_back : goal.returns-clause-read_back
 unfolding digits
 returns-clause-read_back c =
-    ap reading (c.in_ok-push_body.ensures.written ∙ ap (λ front. front ++ spelled_body windows (listed c.args.body.now.states c.args.body.now.pairs)) c.in_ok-out.ensures.items)
-    ∙ c.certificate_laws.ensures.read_back (Windows (listed c.args.body.now.states c.args.body.now.pairs)) c.in_ok-push_body.ensures.in_range
+    ap reading (c.in_ok-push_body.ensures.written ∙ ap (λ front. front ++ spelled_body windows c.args.body.now) c.in_ok-out.ensures.items)
+    ∙ c.certificate_laws.ensures.read_back (Window c.args.body.now) c.in_ok-push_body.ensures.in_range

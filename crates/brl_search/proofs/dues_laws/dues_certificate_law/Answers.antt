@@ -1,5 +1,5 @@
-use Rattle.brl_cert.specs.Lines.{BodyView}
-use Rattle.brl_cert.specs.Sets.{sets_of}
+use Rattle.brl_edges.specs.Body.{BodyView}
+use Rattle.brl_edges.specs.Sets.{sets_of}
 use Rattle.brl_dues.specs.Steps.{dues_machine}
 use Rattle.brl_dues.specs.declared.state.DuesState.{DuesState}
 use Rattle.brl_pairs.specs.Pairs.{IsClosed}

@@ -9,6 +9,6 @@ returns g c =
       passed = c.requires.passed.more;
       few_states = c.requires.passed.states;
       few_pairs = c.requires.passed.pairs;
-      states_reached = states_counted m c.args.trail.now c.requires.traced (g.M.State.PartialEq.eq) g.met.M.State.Eq.laws.refl c.as_slice.ensures.distinct;
-      pairs_reached = pairs_counted m c.args.trail.now c.requires.traced (g.M.State.PartialEq.eq) g.met.M.State.Eq.laws.refl c.as_slice.ensures.distinct;
+      states_reached = states_counted m c.args.trail.now c.requires.traced c.as_slice.ensures.one_number;
+      pairs_reached = pairs_counted m c.args.trail.now c.requires.traced c.as_slice.ensures.one_number;
     })

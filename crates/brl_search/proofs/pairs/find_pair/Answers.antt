@@ -1,28 +1,28 @@
 use Rattle.std.proofs.Common.{◌≡◌, ◌++◌, ◌∷◌, [], List, length, inl, inr, refl, sym, ◌∙◌, subst, arith, true≢false}
 use Rattle.brl_edges.specs.Pairs.{IsThere}
-use Rattle.brl_cert.specs.declared.pair.CertPair.{CertPair}
+use Rattle.brl_edges.specs.Body.{NumberPair}
 use Rattle.brl_search.specs.Trail.{Stays, HasTwoEnds, IsKept}
 use Rattle.brl_search.proofs.Pushing.{length_push, stays_push, stays_refl, last_push}
-use Rattle.brl_search.proofs.There.{absent_differ, added_absent, not_added, nothing_inserted, pair_inserted}
+use Rattle.brl_search.proofs.There.{absent_differ, added_absent, nothing_inserted, pair_inserted}
 use Rattle.brl_search.proofs.Tracing.{pair_pushed, pair_kept}
 use Rattle.brl_search.proofs.pairs.find_pair.Goals as goal
 
 pub returns-then-not-branch-clause-there : goal.returns-then-not-branch-clause-there
 returns-then-not-branch-clause-there g c =
     let same : c.insert.new.self ≡ c.args.trail.now.pairs = nothing_inserted c.args.trail.now.pairs c.insert.new.self c.args.pair c.in_ok-insert.field-0 c.if-not-branch.true c.in_ok-insert.ensures.members in
-    rw same (not_added c.args.trail.now.pairs c.args.pair c.in_ok-insert.field-0 c.in_ok-insert.ensures.added c.if-not-branch.true)
+    rw same (inl (c.in_ok-insert.ensures.known c.if-not-branch.true))
 
 pub returns-then-not-branch-clause-kept : goal.returns-then-not-branch-clause-kept
 returns-then-not-branch-clause-kept g c =
     let t = c.args.trail.now in
     let same : c.insert.new.self ≡ t.pairs = nothing_inserted t.pairs c.insert.new.self c.args.pair c.in_ok-insert.field-0 c.if-not-branch.true c.in_ok-insert.ensures.members in
-    subst (λ (ps : List CertPair). IsKept (g.M.Machine.behaviour c.args.machine.now) (record { limit = t.limit; states = t.states; state_origins = t.state_origins; pairs = ps; pair_origins = t.pair_origins })) (sym same) c.requires.kept
+    subst (λ (ps : List NumberPair). IsKept (g.M.Machine.behaviour c.args.machine.now) (record { limit = t.limit; states = t.states; state_origins = t.state_origins; pairs = ps; pair_origins = t.pair_origins })) (sym same) c.requires.kept
 
 pub returns-then-len-trail-clause-stopped : goal.returns-then-len-trail-clause-stopped
 returns-then-len-trail-clause-stopped g c =
-    let absent : IsThere c.args.trail.now.pairs c.args.pair.ahead c.args.pair.behind c.args.pair.lead → ⊥ = added_absent c.args.trail.now.pairs c.args.pair c.in_ok-insert.field-0 c.in_ok-insert.ensures.added c.if-not-branch.false
+    let absent : IsThere c.args.trail.now.pairs c.args.pair.ahead c.args.pair.behind c.args.pair.lead → ⊥ = added_absent c.args.trail.now.pairs c.args.pair (c.in_ok-insert.ensures.new c.if-not-branch.false)
     (λ turned. true≢false (sym (c.is_there_turned.ensures.1 turned) ∙ c.if-is_there_turned.false)) in
-    let pairs : c.insert.new.self ≡ c.args.trail.now.pairs ++ c.args.pair ∷ [] = pair_inserted c.args.trail.now.pairs c.insert.new.self c.args.pair c.in_ok-insert.field-0 absent c.in_ok-insert.ensures.added c.in_ok-insert.ensures.members in (
+    let pairs : c.insert.new.self ≡ c.args.trail.now.pairs ++ c.args.pair ∷ [] = pair_inserted c.args.trail.now.pairs c.insert.new.self c.args.pair c.in_ok-insert.field-0 absent c.in_ok-insert.ensures.known c.in_ok-insert.ensures.members in (
       pair_pushed (g.M.Machine.behaviour c.args.machine.now) c.args.trail.now _ c.args.pair c.args.origin c.requires.kept.traced c.requires.origin c.requires.range (absent_differ c.args.trail.now.pairs c.args.pair absent) refl refl pairs c.in_ok-push.ensures.items,
       record {
         more = inr (omega arith);
@@ -33,9 +33,9 @@ returns-then-len-trail-clause-stopped g c =
 
 pub returns-then-two_ends-clause-stopped : goal.returns-then-two_ends-clause-stopped
 returns-then-two_ends-clause-stopped g c =
-    let absent : IsThere c.args.trail.now.pairs c.args.pair.ahead c.args.pair.behind c.args.pair.lead → ⊥ = added_absent c.args.trail.now.pairs c.args.pair c.in_ok-insert.field-0 c.in_ok-insert.ensures.added c.if-not-branch.false
+    let absent : IsThere c.args.trail.now.pairs c.args.pair.ahead c.args.pair.behind c.args.pair.lead → ⊥ = added_absent c.args.trail.now.pairs c.args.pair (c.in_ok-insert.ensures.new c.if-not-branch.false)
     (λ turned. true≢false (sym (c.is_there_turned.ensures.1 turned) ∙ c.if-is_there_turned.false)) in
-    let pairs : c.insert.new.self ≡ c.args.trail.now.pairs ++ c.args.pair ∷ [] = pair_inserted c.args.trail.now.pairs c.insert.new.self c.args.pair c.in_ok-insert.field-0 absent c.in_ok-insert.ensures.added c.in_ok-insert.ensures.members in (
+    let pairs : c.insert.new.self ≡ c.args.trail.now.pairs ++ c.args.pair ∷ [] = pair_inserted c.args.trail.now.pairs c.insert.new.self c.args.pair c.in_ok-insert.field-0 absent c.in_ok-insert.ensures.known c.in_ok-insert.ensures.members in (
       pair_pushed (g.M.Machine.behaviour c.args.machine.now) c.args.trail.now _ c.args.pair c.args.origin c.requires.kept.traced c.requires.origin c.requires.range (absent_differ c.args.trail.now.pairs c.args.pair absent) refl refl pairs c.in_ok-push.ensures.items,
       c.args.pair,
       rw (pairs, c.len-number.ensures) (last_push c.args.trail.now.pairs c.args.pair),
@@ -44,22 +44,22 @@ returns-then-two_ends-clause-stopped g c =
 
 pub returns-clause-there : goal.returns-clause-there
 returns-clause-there g c =
-    let absent : IsThere c.args.trail.now.pairs c.args.pair.ahead c.args.pair.behind c.args.pair.lead → ⊥ = added_absent c.args.trail.now.pairs c.args.pair c.in_ok-insert.field-0 c.in_ok-insert.ensures.added c.if-not-branch.false
+    let absent : IsThere c.args.trail.now.pairs c.args.pair.ahead c.args.pair.behind c.args.pair.lead → ⊥ = added_absent c.args.trail.now.pairs c.args.pair (c.in_ok-insert.ensures.new c.if-not-branch.false)
     (λ turned. true≢false (sym (c.is_there_turned.ensures.1 turned) ∙ c.if-is_there_turned.false)) in
-    let pairs : c.insert.new.self ≡ c.args.trail.now.pairs ++ c.args.pair ∷ [] = pair_inserted c.args.trail.now.pairs c.insert.new.self c.args.pair c.in_ok-insert.field-0 absent c.in_ok-insert.ensures.added c.in_ok-insert.ensures.members in
+    let pairs : c.insert.new.self ≡ c.args.trail.now.pairs ++ c.args.pair ∷ [] = pair_inserted c.args.trail.now.pairs c.insert.new.self c.args.pair c.in_ok-insert.field-0 absent c.in_ok-insert.ensures.known c.in_ok-insert.ensures.members in
     inl (length c.args.trail.now.pairs, rw pairs (last_push c.args.trail.now.pairs c.args.pair))
 
 pub returns-clause-kept : goal.returns-clause-kept
 returns-clause-kept g c =
-    let absent : IsThere c.args.trail.now.pairs c.args.pair.ahead c.args.pair.behind c.args.pair.lead → ⊥ = added_absent c.args.trail.now.pairs c.args.pair c.in_ok-insert.field-0 c.in_ok-insert.ensures.added c.if-not-branch.false
+    let absent : IsThere c.args.trail.now.pairs c.args.pair.ahead c.args.pair.behind c.args.pair.lead → ⊥ = added_absent c.args.trail.now.pairs c.args.pair (c.in_ok-insert.ensures.new c.if-not-branch.false)
     (λ turned. true≢false (sym (c.is_there_turned.ensures.1 turned) ∙ c.if-is_there_turned.false)) in
-    let pairs : c.insert.new.self ≡ c.args.trail.now.pairs ++ c.args.pair ∷ [] = pair_inserted c.args.trail.now.pairs c.insert.new.self c.args.pair c.in_ok-insert.field-0 absent c.in_ok-insert.ensures.added c.in_ok-insert.ensures.members in
+    let pairs : c.insert.new.self ≡ c.args.trail.now.pairs ++ c.args.pair ∷ [] = pair_inserted c.args.trail.now.pairs c.insert.new.self c.args.pair c.in_ok-insert.field-0 absent c.in_ok-insert.ensures.known c.in_ok-insert.ensures.members in
     pair_kept (g.M.Machine.behaviour c.args.machine.now) c.args.trail.now _ c.args.pair c.args.origin c.requires.kept c.requires.origin c.requires.range (absent_differ c.args.trail.now.pairs c.args.pair absent)
     (subst (λ (xs : _). HasTwoEnds (g.M.Machine.behaviour c.args.machine.now) xs c.args.pair → ⊥) c.as_slice.ensures.members (c.if-two_ends.ensures.no)) refl refl pairs c.in_ok-push.ensures.items refl (omega arith)
 
 pub returns-clause-grows : goal.returns-clause-grows
 returns-clause-grows g c =
-    let absent : IsThere c.args.trail.now.pairs c.args.pair.ahead c.args.pair.behind c.args.pair.lead → ⊥ = added_absent c.args.trail.now.pairs c.args.pair c.in_ok-insert.field-0 c.in_ok-insert.ensures.added c.if-not-branch.false
+    let absent : IsThere c.args.trail.now.pairs c.args.pair.ahead c.args.pair.behind c.args.pair.lead → ⊥ = added_absent c.args.trail.now.pairs c.args.pair (c.in_ok-insert.ensures.new c.if-not-branch.false)
     (λ turned. true≢false (sym (c.is_there_turned.ensures.1 turned) ∙ c.if-is_there_turned.false)) in
-    let pairs : c.insert.new.self ≡ c.args.trail.now.pairs ++ c.args.pair ∷ [] = pair_inserted c.args.trail.now.pairs c.insert.new.self c.args.pair c.in_ok-insert.field-0 absent c.in_ok-insert.ensures.added c.in_ok-insert.ensures.members in
+    let pairs : c.insert.new.self ≡ c.args.trail.now.pairs ++ c.args.pair ∷ [] = pair_inserted c.args.trail.now.pairs c.insert.new.self c.args.pair c.in_ok-insert.field-0 absent c.in_ok-insert.ensures.known c.in_ok-insert.ensures.members in
     record { limit = refl; states = stays_refl c.args.trail.now.states; pairs = subst (Stays c.args.trail.now.pairs) (sym pairs) (stays_push c.args.trail.now.pairs c.args.pair); more_states = omega arith; more_pairs = rw pairs (omega (arith, length_push c.args.trail.now.pairs c.args.pair)) }

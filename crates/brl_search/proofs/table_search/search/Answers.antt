@@ -1,6 +1,5 @@
 use Rattle.std.proofs.Common.{slice_get, subst}
-use Rattle.brl_cert.specs.Sets.{pair_at, sets_of}
-use Rattle.brl_cert.specs.Views.{listed}
+use Rattle.brl_edges.specs.Sets.{pair_at, sets_of}
 use Rattle.brl_dues.specs.Steps.{dues_machine}
 use Rattle.brl_pairs.specs.Pairs.{IsClosed}
 use Rattle.brl_pairs.specs.Runs.{IsUnambiguous}
@@ -11,13 +10,13 @@ use Rattle.brl_search.proofs.table_search.search.Goals as goal
 
 pub returns-in-Closed-clause-closed : goal.returns-in-Closed-clause-closed
 returns-in-Closed-clause-closed c =
-    let certified : IsCertified (dues_machine c.new-dues.result) c.args.limit (listed c.in-Closed.body.states c.in-Closed.body.pairs) = subst (IsOutcome (dues_machine c.new-dues.result) c.args.limit) c.in-Closed.is c.in_ok-body.ensures in
-    subst (λ (t : TableView). IsClosed (dues_machine t) (sets_of (listed c.in-Closed.body.states c.in-Closed.body.pairs))) c.new-dues.ensures.table certified.closed
+    let certified : IsCertified (dues_machine c.new-dues.result) c.args.limit c.in-Closed.body = subst (IsOutcome (dues_machine c.new-dues.result) c.args.limit) c.in-Closed.is c.in_ok-body.ensures in
+    subst (λ (t : TableView). IsClosed (dues_machine t) (sets_of c.in-Closed.body)) c.new-dues.ensures.table certified.closed
 
 pub returns-in-Closed-clause-unambiguous : goal.returns-in-Closed-clause-unambiguous
 returns-in-Closed-clause-unambiguous c =
-    let certified : IsCertified (dues_machine c.new-dues.result) c.args.limit (listed c.in-Closed.body.states c.in-Closed.body.pairs) = subst (IsOutcome (dues_machine c.new-dues.result) c.args.limit) c.in-Closed.is c.in_ok-body.ensures in
-    let body = listed c.in-Closed.body.states c.in-Closed.body.pairs in
+    let certified : IsCertified (dues_machine c.new-dues.result) c.args.limit c.in-Closed.body = subst (IsOutcome (dues_machine c.new-dues.result) c.args.limit) c.in-Closed.is c.in_ok-body.ensures in
+    let body = c.in-Closed.body in
     let machine : IsUnambiguous (dues_machine c.new-dues.result) = c.numbered_sets_law.ensures (slice_get body.states) (pair_at body) certified.closed in
     subst (λ (t : TableView). IsUnambiguous (dues_machine t)) c.new-dues.ensures.table machine
 

@@ -2,7 +2,7 @@ use Rattle.std.proofs.Common.{ℕ, ◌∷◌, ◌≡◌, ◌∙◌, get_or, leng
 use Rattle.std.specs.BinaryHeap.{heap_items}
 use Rattle.std.proofs.lemmas.Bool.{cases_eq}
 use Rattle.std.specs.List.Sorted.{IsPermutation}
-use Rattle.brl_cert.specs.declared.pair.CertPair.{CertPair}
+use Rattle.brl_edges.specs.Body.{NumberPair}
 use Rattle.brl_search.specs.Work.{Waits}
 use Rattle.brl_search.proofs.Pushing.{read_at}
 use Rattle.brl_search.proofs.Waiting.{waits_more, waits_new, item_pushed}
@@ -12,7 +12,7 @@ pub loop-number-preserved : goal.loop-number-preserved
 loop-number-preserved c =
     let read = c.index-as_slice-number.result in
     let pair = get_or c.as_slice.result.now c.loop-number.number read in
-    let at = read_at c.as_slice.result.now c.args.pairs.now c.loop-number.number read c.as_slice.ensures.members (omega (arith, ap length c.as_slice.ensures.members)) c.index-as_slice-number.is ∙ ap (λ (p : CertPair). Some p) c.index-as_slice-number.is in
+    let at = read_at c.as_slice.result.now c.args.pairs.now c.loop-number.number read c.as_slice.ensures.members (omega (arith, ap length c.as_slice.ensures.members)) c.index-as_slice-number.is ∙ ap (λ (p : NumberPair). Some p) c.index-as_slice-number.is in
     let before = heap_items c.loop-number.work.waiting in
     let after = heap_items c.push.new.self in
     let same : IsPermutation (record { 0 = (pair.behind, c.loop-number.number) } ∷ before) after = c.in_ok-push.ensures.permutation in
