@@ -1,7 +1,7 @@
 -- What makes a judge accept a certificate for the table of some files, and why it refuses. The project's own choice.
 use Rattle.std.specs.Prelude.{ℕ, ◌≡◌, ◌≢◌, List, Result, Ok, Err}
 use Rattle.brl_accept.specs.Refusals.{IsRefused}
-use Rattle.brl_cert.specs.Kinds.{HasMachine, IsClosedFor, OfMachine, pair_count, state_count}
+use Rattle.brl_kinds.specs.Kinds.{HasMachine, IsClosedFor, OfMachine, pair_count, state_count}
 use Rattle.brl_accept.specs.declared.accept_fault.AcceptFault.{AcceptFault}
 use Rattle.brl_accept.specs.declared.accept_fault.AcceptFault.TheVariants as accept
 use Rattle.brl_accept.specs.declared.accepted.Accepted.{Accepted}
@@ -9,7 +9,7 @@ use Rattle.brl_accept.specs.declared.judge_fault.JudgeFault.{JudgeFault}
 use Rattle.brl_accept.specs.declared.judge_fault.JudgeFault.TheVariants.{Load, Table, Cert, Wide, Refused, Memory}
 use Rattle.brl_edges.specs.Body.{BodyView}
 use Rattle.brl_cert.specs.Reading.{reading, IsFaultOf}
-use Rattle.brl_cert.specs.declared.cert.Cert.{Cert as Certificate}
+use Rattle.brl_kinds.specs.declared.cert.Cert.{Cert as Certificate}
 use Rattle.brl_cert.specs.declared.fault.CertFault.{CertFault}
 use Rattle.brl_cert.specs.declared.fault.CertFault.TheVariants as cert
 use Rattle.brl_lines.specs.Answer.{Gives}

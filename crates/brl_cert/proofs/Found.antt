@@ -15,8 +15,8 @@ use Rattle.brl_cert.specs.declared.line.Line.TheVariants.{State, Pair, End}
 use Rattle.brl_cert.specs.Lines.{States, placed, ◌>>>◌, spelled_line, whole_line, spelled_body, strict_line, line_of, may_stand, loose_line, is_end, add_line, one_line, body_of}
 use Rattle.brl_cert.specs.Dues.{owing}
 use Rattle.brl_cert.specs.Reading.{spelling, reading, certificate_of, spelled_header, strict_header, header_of, loose_header, nothing, version_of}
-use Rattle.brl_cert.specs.declared.cert.Cert.TheVariants.{Dues, Window}
-use Rattle.brl_cert.specs.declared.cert.Cert.{Cert as Certificate}
+use Rattle.brl_kinds.specs.declared.cert.Cert.TheVariants.{Dues, Window}
+use Rattle.brl_kinds.specs.declared.cert.Cert.{Cert as Certificate}
 use Rattle.brl_cert.specs.Window.{windows}
 
 -- the value of a step that did not fail

@@ -24,8 +24,8 @@ use Rattle.brl_window.specs.declared.state.WindowState.{WindowState}
 use Rattle.brl_cert.specs.Window.{windows, loose_window}
 use Rattle.brl_cert.specs.Dues.{owing}
 use Rattle.brl_cert.specs.Reading.{reading, certificate_of, version_of, header_of, nothing}
-use Rattle.brl_cert.specs.declared.cert.Cert.TheVariants.{Dues, Window}
-use Rattle.brl_cert.specs.declared.cert.Cert.{Cert as Certificate}
+use Rattle.brl_kinds.specs.declared.cert.Cert.TheVariants.{Dues, Window}
+use Rattle.brl_kinds.specs.declared.cert.Cert.{Cert as Certificate}
 use Rattle.brl_cert.specs.Valid.{IsBody, IsWindow, IsOwing, IsCertificate}
 use Rattle.brl_cert.proofs.Found.{then_ok, placed_ok, guard_ok, need_ok, ok_is}
 use Rattle.brl_cert.proofs.Window.{NumberPair-Decides, WindowState-Decides, flips}

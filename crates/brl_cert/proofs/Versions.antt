@@ -8,8 +8,8 @@ use Rattle.brl_cert.specs.Dues.{owing}
 use Rattle.brl_cert.specs.Lines.{States, spelled_body, body_of, ◌>>>◌}
 use Rattle.brl_cert.specs.Window.{windows}
 use Rattle.brl_cert.specs.Reading.{spelled_header, header_of, certificate_of, nothing, reading, spelling, version_of}
-use Rattle.brl_cert.specs.declared.cert.Cert.TheVariants.{Dues, Window}
-use Rattle.brl_cert.specs.declared.cert.Cert.{Cert as Certificate}
+use Rattle.brl_kinds.specs.declared.cert.Cert.TheVariants.{Dues, Window}
+use Rattle.brl_kinds.specs.declared.cert.Cert.{Cert as Certificate}
 use Rattle.brl_cert.specs.Valid.{IsBody, IsCertificate, IsOwing}
 use Rattle.brl_cert.proofs.FieldLaws.{IsAbove, ReadsCells, apart, above_true}
 use Rattle.brl_cert.proofs.Again.{KeepsStates, body_again, first_part}

@@ -4,4 +4,3 @@ pub mod Window
 pub mod Dues
 pub mod Reading
 pub mod Valid
-pub mod Kinds

@@ -7,8 +7,8 @@ use Rattle.brl_cert.specs.declared.fault.CertFault.{CertFault}
 use Rattle.brl_cert.specs.declared.fault.CertFault.TheVariants.{Refused, Memory}
 use Rattle.brl_cert.specs.declared.fault.Wrong.{Wrong}
 use Rattle.brl_cert.specs.declared.fault.Wrong.TheVariants.{Version, Syntax, NotCanonical, Truncated}
-use Rattle.brl_cert.specs.declared.cert.Cert.{Cert as Certificate}
-use Rattle.brl_cert.specs.declared.cert.Cert.TheVariants.{Dues, Window}
+use Rattle.brl_kinds.specs.declared.cert.Cert.{Cert as Certificate}
+use Rattle.brl_kinds.specs.declared.cert.Cert.TheVariants.{Dues, Window}
 use Rattle.brl_cert.specs.Dues.{owing}
 use Rattle.brl_cert.specs.Lines.{count, spelled_body, body_of, placed, ◌>>>◌}
 use Rattle.brl_edges.specs.Body.{BodyView}

@@ -14,8 +14,8 @@ use Rattle.brl_cert.specs.Fields.{is_char}
 use Rattle.brl_cert.specs.Lines.{States}
 use Rattle.brl_cert.specs.Dues.{owing}
 use Rattle.brl_cert.specs.Window.{windows}
-use Rattle.brl_cert.specs.declared.cert.Cert.TheVariants.{Dues, Window}
-use Rattle.brl_cert.specs.declared.cert.Cert.{Cert as Certificate}
+use Rattle.brl_kinds.specs.declared.cert.Cert.TheVariants.{Dues, Window}
+use Rattle.brl_kinds.specs.declared.cert.Cert.{Cert as Certificate}
 
 -- a state's classes are a number of eight bits, and its characters are characters
 pub record IsWindow (s : WindowState) : Type 0 where

@@ -1,7 +1,7 @@
 //! The laws of certificates, for the crates above.
 ghost use Rattle.std.specs.Prelude.{◌≡◌, ℕ, List, Ok};
 ghost use Rattle.brl_cert.specs.Reading.{reading, spelling};
-ghost use Rattle.brl_cert.specs.declared.cert.Cert.{Cert as Certificate};
+ghost use Rattle.brl_kinds.specs.declared.cert.Cert.{Cert as Certificate};
 ghost use Rattle.brl_cert.specs.Valid.{IsCertificate};
 
 use brl_cells::{cells_are_read, spelled_cells_are_read};

@@ -2,7 +2,6 @@
 //! one spelling as bytes, and reading it.
 #![tactic(auto)]
 
-mod cert;
 mod dues_line;
 mod fault;
 mod field;
@@ -15,7 +14,7 @@ mod reading_lines;
 mod version;
 mod writing;
 
-pub use cert::Cert;
+pub use brl_kinds::Cert;
 pub use fault::{CertFault, Wrong};
 pub use laws::certificate_laws;
 pub use reading::read_cert;

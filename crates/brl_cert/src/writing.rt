@@ -4,7 +4,7 @@ ghost use Rattle.std.specs.List.{flat_map, join_with_byte};
 ghost use Rattle.brl_cells.specs.Dots.{AreCells};
 ghost use Rattle.brl_cert.specs.Lines.{end_fields, pair_fields, spelled_body, spelled_line, whole_line};
 ghost use Rattle.brl_cert.specs.Reading.{reading, spelling};
-ghost use Rattle.brl_cert.specs.declared.cert.Cert.TheVariants.{Dues, Window};
+ghost use Rattle.brl_kinds.specs.declared.cert.Cert.TheVariants.{Dues, Window};
 ghost use Rattle.brl_cert.specs.Valid.{IsBody};
 ghost use Rattle.brl_edges.specs.Body.{listed};
 ghost use Rattle.brl_cert.specs.declared.line.Line.TheVariants.{State};

@@ -1,5 +1,5 @@
 -- What stands where in a list with one more element.
-use Rattle.std.proofs.Common.{◌≡◌, ℕ, zero, suc, ◌+◌, ◌<◌, Bool, true, false, List, [], ◌∷◌, ◌++◌, ◌⊎◌, inl, inr, length, Some, slice_get, refl, ◌∙◌, ap, subst, arith, length-append, if◌then◌else◌, get_or}
+use Rattle.std.proofs.Common.{◌≡◌, ℕ, zero, suc, ◌+◌, ◌<◌, Bool, true, false, List, [], ◌∷◌, ◌++◌, ◌⊎◌, inl, inr, length, Some, slice_get, refl, ap, subst, arith, length-append, if◌then◌else◌, get_or}
 use Rattle.std.proofs.lemmas.Option.{slice_get_read}
 use Rattle.brl_members.specs.Members.{IsMember}
 use Rattle.brl_search.specs.Trail.{Stays}

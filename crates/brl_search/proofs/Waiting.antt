@@ -1,5 +1,5 @@
 -- Pairs that wait, where one is put in and where the first is taken out.
-use Rattle.std.proofs.Common.{◌≡◌, ◌≢◌, ℕ, zero, suc, ◌+◌, ◌<◌, All, Contains, List, ◌∷◌, ◌⊎◌, inl, inr, length, get_or, Some, slice_get, refl, sym, ap, arith}
+use Rattle.std.proofs.Common.{◌≡◌, ◌≢◌, ℕ, zero, suc, ◌<◌, All, Contains, List, ◌∷◌, ◌⊎◌, inl, inr, length, get_or, Some, slice_get, refl, sym, ap, arith}
 use Rattle.std.specs.List.Sorted.{IsPermutation}
 use Rattle.std.specs.declared.cmp.Reverse.{Reverse}
 use Rattle.std.proofs.lemmas.List.Sorted.{Contains-permutation, All-permutation}

@@ -1,8 +1,7 @@
 -- What a search finds by edges: the splits of a state, and what a pair moves to (this project's own choice).
 use Rattle.std.specs.Prelude.{◌≡◌, ◌≢◌, ℕ, ◌<◌, ◌≤◌, List, [], ◌++◌, length, Some, slice_get}
 use Rattle.brl_edges.specs.Body.{NumberPair}
-use Rattle.brl_pairs.specs.declared.step.Step.{Step}
-use Rattle.brl_pairs.specs.Runs.{Behaviour, IsListedAt}
+use Rattle.brl_pairs.specs.Runs.{Behaviour}
 use Rattle.brl_edges.specs.Edges.{AreEdges}
 use Rattle.brl_edges.specs.Pairs.{IsFollowed}
 use Rattle.brl_edges.specs.declared.edge.Edge.{Edge}

@@ -1,7 +1,7 @@
 -- What a search of a table may answer. These are this project's own choice.
 use Rattle.std.specs.Prelude.{ℕ}
 use Rattle.brl_edges.specs.Body.{BodyView}
-use Rattle.brl_cert.specs.declared.cert.Cert.TheVariants.{Dues, Window}
+use Rattle.brl_kinds.specs.declared.cert.Cert.TheVariants.{Dues, Window}
 use Rattle.brl_forward.specs.ClashView.{ClashView}
 use Rattle.brl_search.specs.Searched.{State}
 use Rattle.brl_search.specs.declared.found.Found.{Found}

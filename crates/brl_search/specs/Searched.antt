@@ -1,8 +1,8 @@
 -- The machine over which tables are searched, and the certificates that a search gives. Both are named here alone. The project's own
 -- choice.
 use Rattle.brl_edges.specs.Body.{BodyView}
-use Rattle.brl_cert.specs.declared.cert.Cert.TheVariants.{Dues}
-use Rattle.brl_cert.specs.declared.cert.Cert.{Cert as Certificate}
+use Rattle.brl_kinds.specs.declared.cert.Cert.TheVariants.{Dues}
+use Rattle.brl_kinds.specs.declared.cert.Cert.{Cert as Certificate}
 use Rattle.brl_dues.specs.Steps.{dues_machine}
 use Rattle.brl_dues.specs.declared.state.DuesState.{DuesState}
 use Rattle.brl_pairs.specs.Runs.{Behaviour}

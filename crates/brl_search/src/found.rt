@@ -1,5 +1,5 @@
 //! What a search of a table finds.
-use brl_cert::Cert;
+use brl_kinds::Cert;
 use brl_forward::Clash;
 
 /// What a search of a table finds.

@@ -5,8 +5,8 @@ use Rattle.brl_cert.specs.declared.fault.Wrong.{Wrong}
 use Rattle.brl_cert.specs.declared.fault.Wrong.TheVariants.{Version, Syntax, NotCanonical, DuplicateState, DuplicatePair, NoSuchState, WrongCount, Truncated}
 use Rattle.brl_window.specs.declared.state.WindowState.{WindowState}
 use Rattle.brl_cert.specs.Reading.{reading}
-use Rattle.brl_cert.specs.declared.cert.Cert.TheVariants.{Window}
-use Rattle.brl_cert.specs.declared.cert.Cert.{Cert as Certificate}
+use Rattle.brl_kinds.specs.declared.cert.Cert.TheVariants.{Window}
+use Rattle.brl_kinds.specs.declared.cert.Cert.{Cert as Certificate}
 
 -- the bytes of lines, each with its line feed
 abbrev pub lines : List (List ℕ) → List ℕ

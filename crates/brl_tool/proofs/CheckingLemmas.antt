@@ -1,5 +1,5 @@
 -- What a source may give is the same after a read, and what is judged of a certificate.
-use Rattle.std.proofs.Common.{◌≡◌, ◌∙◌, ℕ, ◌<◌, ◌≤◌, List, [], ◌∷◌, length, ◌⊎◌, inl, inr, ◌↔◌, Option, Result, Ok, Err, IfOk, IfErr, ap, arith, refl, subst, sym}
+use Rattle.std.proofs.Common.{◌≡◌, ◌∙◌, ℕ, ◌<◌, List, [], ◌∷◌, length, ◌⊎◌, inl, inr, Option, Result, Ok, Err, IfOk, IfErr, ap, arith, refl, subst, sym}
 use Rattle.std.specs.Io.KnownBytes.{Appends}
 use Rattle.brl_accept.specs.Judging.{IsAccepted, IsRefusedBy}
 use Rattle.brl_accept.specs.declared.accepted.Accepted.{Accepted}

@@ -5,10 +5,10 @@ use Rattle.std.specs.Io.KnownBytes.{Appends}
 use Rattle.std.specs.Prelude.{string_bytes}
 use Rattle.brl_edges.specs.Body.{BodyView}
 use Rattle.brl_cert.specs.Reading.{reading, spelling}
-use Rattle.brl_cert.specs.declared.cert.Cert.TheVariants.{Dues}
+use Rattle.brl_kinds.specs.declared.cert.Cert.TheVariants.{Dues}
 use Rattle.brl_edges.specs.Sets.{sets_of}
-use Rattle.brl_cert.specs.declared.cert.Cert.{Cert}
-use Rattle.brl_cert.specs.declared.cert.Cert.TheVariants.{Dues, Window}
+use Rattle.brl_kinds.specs.declared.cert.Cert.{Cert}
+use Rattle.brl_kinds.specs.declared.cert.Cert.TheVariants.{Dues, Window}
 use Rattle.brl_dues.specs.Steps.{dues_machine}
 use Rattle.brl_dues.specs.declared.state.DuesState.{DuesState}
 use Rattle.brl_forward.specs.ClashView.{ClashView}

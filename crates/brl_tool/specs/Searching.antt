@@ -2,10 +2,10 @@
 use Rattle.std.specs.Prelude.{ℕ, ◌≡◌, List, ◌++◌, Option, None, Some, Result, Ok, Err, codes, string_bytes}
 use Rattle.std.specs.Io.KnownBytes.{Appends}
 use Rattle.brl_accept.specs.Judging.{IsAccepted, counted}
-use Rattle.brl_cert.specs.Kinds.{pair_count, state_count}
+use Rattle.brl_kinds.specs.Kinds.{pair_count, state_count}
 use Rattle.brl_edges.specs.Body.{BodyView}
 use Rattle.brl_cert.specs.Reading.{reading, spelling}
-use Rattle.brl_cert.specs.declared.cert.Cert.{Cert as Certificate}
+use Rattle.brl_kinds.specs.declared.cert.Cert.{Cert as Certificate}
 use Rattle.brl_lines.specs.Answer.{AllStay, Gives}
 use Rattle.brl_reading.specs.Files.{IsTableOf}
 use Rattle.brl_report.specs.Report.{report_text}

@@ -2,7 +2,7 @@ use Rattle.std.proofs.Common.{subst}
 use Rattle.std.proofs.lemmas.Result.{err_from_is_err_and}
 use Rattle.brl_accept.specs.Judging.{counted}
 use Rattle.brl_accept.specs.Refusals.{IsRefused}
-use Rattle.brl_cert.specs.declared.cert.Cert.TheVariants.{Dues}
+use Rattle.brl_kinds.specs.declared.cert.Cert.TheVariants.{Dues}
 use Rattle.brl_edges.specs.Sets.{sets_of}
 use Rattle.brl_accept.proofs.Judged.{refused_with, same_counts}
 use Rattle.brl_dues.specs.Steps.{dues_machine}

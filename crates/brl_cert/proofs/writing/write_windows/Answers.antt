@@ -3,7 +3,7 @@ use Rattle.std.specs.Fmt.{digits}
 use Rattle.brl_cert.specs.Lines.{spelled_body}
 use Rattle.brl_cert.specs.Window.{windows}
 use Rattle.brl_cert.specs.Reading.{reading}
-use Rattle.brl_cert.specs.declared.cert.Cert.TheVariants.{Window}
+use Rattle.brl_kinds.specs.declared.cert.Cert.TheVariants.{Window}
 use Rattle.brl_cert.proofs.writing.write_windows.Goals as goal
 
 pub returns-clause-spelled : goal.returns-clause-spelled

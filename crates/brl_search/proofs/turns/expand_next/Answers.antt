@@ -1,4 +1,4 @@
-use Rattle.std.proofs.Common.{◌≡◌, ◌∙◌, ℕ, length, sym, ap, subst, arith}
+use Rattle.std.proofs.Common.{◌≡◌, ◌∙◌, ℕ, length, ap, subst, arith}
 use Rattle.std.specs.BinaryHeap.{heap_items}
 use Rattle.std.specs.Global.{Vec}
 use Rattle.brl_edges.specs.Edges.{AreEdges}

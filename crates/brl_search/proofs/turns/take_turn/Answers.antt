@@ -1,7 +1,6 @@
 use Rattle.std.proofs.Common.{◌≡◌, Bool, sym, subst, arith}
 use Rattle.std.specs.Bool.{OnFalse}
 use Rattle.brl_search.specs.Work.{NoneIsReady}
-use Rattle.brl_search.specs.declared.work.Work.{Work}
 use Rattle.brl_search.proofs.Working.{all_finished}
 use Rattle.brl_search.proofs.turns.take_turn.Goals as goal
 

@@ -6,7 +6,7 @@ use Rattle.brl_lines.specs.Answer.{GivesOneAnswer}
 use Rattle.brl_reading.specs.Files.{IsTableOf}
 use Rattle.brl_table.specs.TableView.{TableView}
 use Rattle.brl_table.specs.Translation.{IsUnambiguous}
-use Rattle.brl_tool.proofs.CheckingLemmas.{accepted_good, has_bytes, judged}
+use Rattle.brl_tool.proofs.CheckingLemmas.{accepted_good, judged}
 use Rattle.brl_tool.proofs.checking.judge_files.Goals as goal
 
 pub returns-clause-judges : goal.returns-clause-judges

@@ -2,8 +2,8 @@
 -- version 2 those of its machine with dues. The project's own choice.
 use Rattle.std.specs.Prelude.{ℕ, ◌≤◌, length}
 use Rattle.brl_edges.specs.Body.{BodyView}
-use Rattle.brl_cert.specs.declared.cert.Cert.TheVariants.{Dues, Window}
-use Rattle.brl_cert.specs.declared.cert.Cert.{Cert as Certificate}
+use Rattle.brl_kinds.specs.declared.cert.Cert.TheVariants.{Dues, Window}
+use Rattle.brl_kinds.specs.declared.cert.Cert.{Cert as Certificate}
 use Rattle.brl_edges.specs.Sets.{sets_of}
 use Rattle.brl_dues.specs.Steps.{dues_machine}
 use Rattle.brl_dues.specs.declared.state.DuesState.{DuesState}

@@ -1,6 +1,6 @@
 //! Certificates.
 ghost use Rattle.std.specs.Prelude.{◌≡◌};
-ghost use Rattle.brl_cert.specs.Kinds.{pair_count, state_count};
+ghost use Rattle.brl_kinds.specs.Kinds.{pair_count, state_count};
 
 use brl_dues::DuesState;
 use brl_edges::Body;
