@@ -1,6 +1,6 @@
 //! What a search of a table finds.
-use brl_kinds::Cert;
 use brl_forward::Clash;
+use brl_kinds::Cert;
 
 /// What a search of a table finds.
 #[derive(Drop)]
