@@ -1,5 +1,5 @@
 //! The next line of an input.
-ghost use Rattle.std.specs.Prelude.{◌≡◌, ◌≤◌, ◌<◌, true, length, take, IsErrOf, IfSome, IfNone, slice_index};
+ghost use Rattle.std.specs.Prelude.{◌≡◌, ◌≢◌, ◌≤◌, ◌<◌, length, take, IsErrOf, IfSome, IfNone, OnOk, slice_index};
 ghost use Rattle.brl_stream.specs.InputLines.{without_return};
 ghost use Rattle.brl_stream.specs.Window.{IsReadOn, IsWithin, HasNoFeed, FrontTells, NextTells, TailTells};
 
@@ -27,7 +27,8 @@ pub fn next_line<R: Input>(window: &mut Window, reader: &mut R) -> Result<Next, 
     ensures read { IsReadOn window.old window.new (R.remaining reader.old) (R.remaining reader.new) }
     ensures tells { NextTells window.new.bytes window.new.longer (R.remaining reader.new) result }
     ensures within { IsWithin window.new }
-    ensures failed { IsErrOf result LineFault.InputFailed → R.has_failed reader.new ≡ true }
+    ensures failed { IsErrOf result LineFault.InputFailed → R.failures reader.new ≢ R.failures reader.old }
+    ensures calm { OnOk result (R.failures reader.new ≡ R.failures reader.old) }
 {
     let mut scanned = 0;
     loop {

@@ -1,5 +1,5 @@
 //! The output of one line.
-ghost use Rattle.std.specs.Prelude.{◌≡◌, ◌≤◌, [], length, OnOk, IsErrOf, true};
+ghost use Rattle.std.specs.Prelude.{◌≡◌, ◌≢◌, ◌≤◌, [], length, OnOk, IsErrOf};
 ghost use Rattle.std.specs.Str.{chars};
 ghost use Rattle.brl_stream.specs.Output.{mark_of, marks_of, output_of};
 ghost use Rattle.brl_stream.specs.Writing.{Pushes, IsMade, WriteTells, stopped_at};
@@ -102,7 +102,8 @@ pub fn write_line<W: Output>(
     requires { length line.now ≤ 65536 }
     ensures tells { WriteTells (output_of table.now form line.now) number (W.contents writer.old) (W.contents writer.new)
         result }
-    ensures cause { IsErrOf result (StreamFault.AtLine number LineFault.OutputFailed) → W.has_failed writer.new ≡ true }
+    ensures cause { IsErrOf result (StreamFault.AtLine number LineFault.OutputFailed) → W.failures writer.new ≢ W.failures writer.old }
+    ensures calm { OnOk result (W.failures writer.new ≡ W.failures writer.old) }
 {
     if let Err(stop) = make_output(alloc, table, form, line, scratch) {
         return Err(stop.at(number));

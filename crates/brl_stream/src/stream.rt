@@ -1,5 +1,5 @@
 //! A stream: each line of an input is translated and written before the next is translated.
-ghost use Rattle.std.specs.Prelude.{◌≡◌, ℕ, List, Some, Err, true, OnOk};
+ghost use Rattle.std.specs.Prelude.{◌≡◌, ◌≢◌, ℕ, List, Some, Err, OnOk};
 ghost use Rattle.std.specs.Io.KnownBytes.{IsAtEnd};
 ghost use Rattle.brl_stream.specs.Output.{verdict, output_of, HasWritten, ReadsFew, DecidesBefore, EndsBy};
 
@@ -33,8 +33,8 @@ pub fn translate_lines<R: Input, W: Output>(
     ensures undecided { (input : List ℕ) → R.remaining reader.old ≡ Some input
         → (n : ℕ) → result ≡ Err (StreamFault.AtLine n LineFault.InputFailed)
         → DecidesBefore n (output_of table.now form) (R.remaining reader.old) (R.remaining reader.new) }
-    ensures read_failed { EndsBy LineFault.InputFailed result → R.has_failed reader.new ≡ true }
-    ensures write_failed { EndsBy LineFault.OutputFailed result → W.has_failed writer.new ≡ true }
+    ensures read_failed { EndsBy LineFault.InputFailed result → R.failures reader.new ≢ R.failures reader.old }
+    ensures write_failed { EndsBy LineFault.OutputFailed result → W.failures writer.new ≢ W.failures writer.old }
 {
     let Ok(mut window) = Window::new(alloc) else {
         return Err(StreamFault::Memory);

@@ -1,5 +1,5 @@
 //! The bytes that were read and wait to be taken as lines.
-ghost use Rattle.std.specs.Prelude.{◌≡◌, ◌+◌, ◌<◌, ◌≤◌, true, false, [], length, take, drop, IfOk, OnErr, if◌then◌else◌};
+ghost use Rattle.std.specs.Prelude.{◌≡◌, ◌≢◌, ◌+◌, ◌<◌, ◌≤◌, false, [], length, take, drop, IfOk, OnErr, OnOk, if◌then◌else◌};
 ghost use Rattle.std.specs.List.{slice_range};
 ghost use Rattle.std.specs.Io.KnownBytes.{Consumes, Keeps, IsAtEnd};
 ghost use Rattle.brl_stream.specs.Window.{IsReadOn, IsWithin};
@@ -100,7 +100,8 @@ impl Window {
         ensures taken { OnErr result (self.new.taken ≡ self.old.taken) }
         ensures longer { OnErr result (self.new.longer ≡ false) }
         ensures kept { OnErr result (Keeps (R.remaining reader.old) (R.remaining reader.new)) }
-        ensures cause { OnErr result (R.has_failed reader.new ≡ true) }
+        ensures cause { OnErr result (R.failures reader.new ≢ R.failures reader.old) }
+        ensures calm { OnOk result (R.failures reader.new ≡ R.failures reader.old) }
     {
         self.make_room();
         let most = (BUFFER - self.end).min(MOST_INPUT + 1 - self.taken);
@@ -142,7 +143,8 @@ fn read_behind<R: Input>(
         (slice_range buffer.new end (end + count))) }
     ensures end { IfOk result (λ count. count ≡ 0 → 0 < most → IsAtEnd (R.remaining reader.new)) }
     ensures kept { OnErr result (Keeps (R.remaining reader.old) (R.remaining reader.new)) }
-    ensures cause { OnErr result (R.has_failed reader.new ≡ true) }
+    ensures cause { OnErr result (R.failures reader.new ≢ R.failures reader.old) }
+    ensures calm { OnOk result (R.failures reader.new ≡ R.failures reader.old) }
 {
     reader.read_some(&mut buffer[end..end + most])
 }

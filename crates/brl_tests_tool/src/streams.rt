@@ -1,6 +1,6 @@
 //! Worked streams. In their rows fields are cut at `|`; in what is read and written `/` is a line
 //! feed, and `?` a byte that no UTF-8 has.
-ghost use Rattle.std.specs.Prelude.{◌≡◌, true};
+ghost use Rattle.std.specs.Prelude.{◌≢◌};
 ghost use Rattle.brl_stream.specs.Output.{EndsBy};
 
 use brl_table::Table;
@@ -101,7 +101,7 @@ fn translate_bytes(
     writer: &mut Watched<Vec<u8>>,
 ) -> Result<(), StreamFault>
     ensures never_read { EndsBy LineFault.InputFailed result → ⊥ }
-    ensures refused { EndsBy LineFault.OutputFailed result → writer.new.failed ≡ true }
+    ensures refused { EndsBy LineFault.OutputFailed result → writer.new.failures ≢ writer.old.failures }
 {
     let mut reader = input;
     translate_lines(alloc, table, Form::Ascii, &mut reader, writer)
@@ -215,7 +215,7 @@ fn is_interrupted(alloc: Global, table: &Table, row: &str) -> Result<bool, Fail>
     });
     let mut writer = Watched::new(Vec::new(alloc));
     let outcome = translate_lines(alloc, table, Form::Ascii, &mut reader, &mut writer);
-    Ok(reader.failed && ends_as(alloc, outcome, writer.device.as_slice(), fields)?)
+    Ok(reader.failures == 1 && ends_as(alloc, outcome, writer.device.as_slice(), fields)?)
 }
 
 #[test]
@@ -236,7 +236,7 @@ fn is_cut_off(alloc: Global, table: &Table, row: &str) -> Result<bool, Fail> {
         taken: Vec::new(alloc),
     });
     let outcome = translate_lines(alloc, table, Form::Ascii, &mut reader, &mut writer);
-    Ok(writer.failed && ends_as(alloc, outcome, writer.device.taken.as_slice(), fields)?)
+    Ok(writer.failures == 1 && ends_as(alloc, outcome, writer.device.taken.as_slice(), fields)?)
 }
 
 #[test]

@@ -1,5 +1,5 @@
 -- The fault that ends the program, and its exit status. This is the project's own choice.
-use Rattle.std.specs.Prelude.{ℕ, ◌≡◌, ◌<◌, ◌⊎◌, Bool, true, List, Option, Result, Ok, Err}
+use Rattle.std.specs.Prelude.{ℕ, ◌≡◌, ◌<◌, ◌⊎◌, List, Option, Result, Ok, Err}
 use Rattle.std.specs.Io.KnownBytes.{Appends}
 use Rattle.brl_forward.specs.declared.fault.ConfirmFault.{ConfirmFault}
 use Rattle.brl_forward.specs.declared.fault.ConfirmFault.TheVariants as confirm
@@ -42,15 +42,15 @@ IsStatus status = status < 4
 
 -- Words that ask for no work: help or the version is written, or nothing where the words have a fault or memory runs out; where the
 -- writer fails, some first bytes may be.
-abbrev pub IsAnswered : Bool → Option (List ℕ) → Option (List ℕ) → ℕ → Type 0
+abbrev pub IsAnswered : Type 0 → Option (List ℕ) → Option (List ℕ) → ℕ → Type 0
 IsAnswered failed old new status =
     ((status ≡ 0) × ((text : List ℕ) × Appends old new text))
     ⊎ (((status ≡ 2) ⊎ (status ≡ 3)) × (new ≡ old))
-    ⊎ ((status ≡ 2) × (failed ≡ true) × ((front : List ℕ) × Appends old new front))
+    ⊎ ((status ≡ 2) × failed × ((front : List ℕ) × Appends old new front))
 
 -- a text was printed, or some first bytes of it where the writer failed, or nothing where memory ran out
-abbrev pub Prints : Bool → Option (List ℕ) → Option (List ℕ) → Result (Unit {0}) RunFault → Type 0
+abbrev pub Prints : Type 0 → Option (List ℕ) → Option (List ℕ) → Result (Unit {0}) RunFault → Type 0
 Prints failed old new (Ok done) = (text : List ℕ) × Appends old new text
-Prints failed old new (Err OutputFailed) = (failed ≡ true) × ((front : List ℕ) × Appends old new front)
+Prints failed old new (Err OutputFailed) = failed × ((front : List ℕ) × Appends old new front)
 Prints failed old new (Err Memory) = new ≡ old
 Prints failed old new (Err fault) = ⊥

@@ -1,5 +1,5 @@
 //! Work by the table whose file stands at a path.
-ghost use Rattle.std.specs.Prelude.{◌≡◌, IsErrOf, true};
+ghost use Rattle.std.specs.Prelude.{◌≡◌, ◌≢◌, IsErrOf};
 ghost use Rattle.std.specs.Str.{chars};
 ghost use Rattle.brl_lines.specs.Answer.{AllStay};
 ghost use Rattle.brl_lines.specs.Outcome.{CountsFailure};
@@ -46,7 +46,7 @@ pub fn compare_by_file<S: Source, W: Output>(
 ) -> Result<Finding, RunFault>
     ensures compares { Compares (S.gives source.old) path.now (chars left.now) (chars right.now) (W.contents writer.old)
         (W.contents writer.new) result }
-    ensures failed { IsErrOf result RunFault.OutputFailed → W.has_failed writer.new ≡ true }
+    ensures failed { IsErrOf result RunFault.OutputFailed → W.failures writer.new ≢ W.failures writer.old }
     ensures count { CountsFailure (S.faults source.old) (S.faults source.new) (load_outcome result) }
     ensures same { AllStay (S.gives source.old) (S.gives source.new) }
 {

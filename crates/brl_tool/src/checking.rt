@@ -1,5 +1,5 @@
 //! Checking the certificate at one path for the table at another.
-ghost use Rattle.std.specs.Prelude.{◌≡◌, ◌≤◌, IfErr, IfOk, IsErrOf, length, true};
+ghost use Rattle.std.specs.Prelude.{◌≡◌, ◌≢◌, ◌≤◌, IfErr, IfOk, IsErrOf, length};
 ghost use Rattle.brl_lines.specs.Answer.{AllStay, Holds};
 ghost use Rattle.brl_lines.specs.Outcome.{CountsFailure};
 ghost use Rattle.brl_tool.specs.Checking.{AcceptsGood, Checks, IsFaultOfFile, Judges};
@@ -68,7 +68,7 @@ pub fn check_by_file<S: Source, W: Output>(
 ) -> Result<Judgement, RunFault>
     ensures checks { Checks (S.gives source.old) table.now cert.now (W.contents writer.old) (W.contents writer.new) result }
     ensures accepts { AcceptsGood (S.gives source.old) table.now cert.now result }
-    ensures failed { IsErrOf result RunFault.OutputFailed → W.has_failed writer.new ≡ true }
+    ensures failed { IsErrOf result RunFault.OutputFailed → W.failures writer.new ≢ W.failures writer.old }
     ensures count { CountsFailure (S.faults source.old) (S.faults source.new) (load_outcome result) }
     ensures same { AllStay (S.gives source.old) (S.gives source.new) }
 {

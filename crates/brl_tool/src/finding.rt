@@ -1,5 +1,5 @@
 //! What is found of two texts, and how it is told.
-ghost use Rattle.std.specs.Prelude.{◌≡◌, IfOk, IsErrOf, true};
+ghost use Rattle.std.specs.Prelude.{◌≡◌, ◌≢◌, IfOk, IsErrOf};
 ghost use Rattle.std.specs.Str.{chars};
 ghost use Rattle.brl_tool.specs.Comparing.{Finds};
 
@@ -29,7 +29,7 @@ pub fn compare<W: Output>(
     writer: &mut W,
 ) -> Result<Finding, RunFault>
     ensures finds { Finds table.now (chars left.now) (chars right.now) (W.contents writer.old) (W.contents writer.new) result }
-    ensures failed { IsErrOf result RunFault.OutputFailed → W.has_failed writer.new ≡ true }
+    ensures failed { IsErrOf result RunFault.OutputFailed → W.failures writer.new ≢ W.failures writer.old }
 {
     let left = characters(alloc, left)?;
     let right = characters(alloc, right)?;

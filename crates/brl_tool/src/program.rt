@@ -1,5 +1,5 @@
 //! The program over any files and streams.
-ghost use Rattle.std.specs.Prelude.{◌≡◌, ◌⊎◌};
+ghost use Rattle.std.specs.Prelude.{◌≡◌, ◌≢◌, ◌⊎◌};
 ghost use Rattle.std.specs.Str.{chars};
 ghost use Rattle.brl_tool.specs.Checking.{ReportsAcceptance, ReportsRefusal};
 ghost use Rattle.brl_tool.specs.Comparing.{ReportsClash};
@@ -46,7 +46,7 @@ pub fn run<F: Files, I: Input, O: Output, E: Write>(
     err: &mut E,
 ) -> u8
     ensures status { IsStatus result }
-    ensures runs { Runs (F.gives files.old) (F.gives files.new) (I.remaining input.old) (O.has_failed out.new)
+    ensures runs { Runs (F.gives files.old) (F.gives files.new) (I.remaining input.old) (O.failures out.new ≢ O.failures out.old)
         (O.contents out.old) (O.contents out.new) result }
     ensures clash { result ≡ 1 → ReportsClash (F.gives files.old) (O.contents out.old) (O.contents out.new)
         ⊎ ReportsRefusal (O.contents out.old) (O.contents out.new) }
@@ -68,7 +68,7 @@ fn perform<F: Files, I: Input, O: Output, E: Write>(
     err: &mut E,
 ) -> u8
     ensures status { IsStatus result }
-    ensures performs { Performs task.entry (F.gives files.old) (F.gives files.new) (I.remaining input.old) (O.has_failed out.new)
+    ensures performs { Performs task.entry (F.gives files.old) (F.gives files.new) (I.remaining input.old) (O.failures out.new ≢ O.failures out.old)
         (O.contents out.old) (O.contents out.new) result }
     ensures clash { result ≡ 1 → ReportsClash (F.gives files.old) (O.contents out.old) (O.contents out.new)
         ⊎ ReportsRefusal (O.contents out.old) (O.contents out.new) }
@@ -112,7 +112,7 @@ fn compare<S: Source, O: Output, E: Write>(
     out: &mut O,
     err: &mut E,
 ) -> u8
-    ensures compares { ComparesBy (S.gives source.old) table.now (chars left.now) (chars right.now) (O.has_failed out.new)
+    ensures compares { ComparesBy (S.gives source.old) table.now (chars left.now) (chars right.now) (O.failures out.new ≢ O.failures out.old)
         (O.contents out.old) (O.contents out.new) result }
     ensures same { AllStay (S.gives source.old) (S.gives source.new) }
 {
@@ -132,7 +132,7 @@ fn check<S: Source, O: Output, E: Write>(
     out: &mut O,
     err: &mut E,
 ) -> u8
-    ensures checks { ChecksBy (S.gives source.old) table.now cert.now (O.has_failed out.new) (O.contents out.old)
+    ensures checks { ChecksBy (S.gives source.old) table.now cert.now (O.failures out.new ≢ O.failures out.old) (O.contents out.old)
         (O.contents out.new) result }
     // Where it accepts, no two different texts of the table are translated alike.
     ensures accepted { result ≡ 0 → ReportsAcceptance (S.gives source.old) table.now (O.contents out.old) (O.contents out.new) }
@@ -155,7 +155,7 @@ fn search<F: Files, O: Output, E: Write>(
     out: &mut O,
     err: &mut E,
 ) -> u8
-    ensures searches { SearchesBy (F.gives files.old) (F.gives files.new) table.now cert.now limit (O.has_failed out.new)
+    ensures searches { SearchesBy (F.gives files.old) (F.gives files.new) table.now cert.now limit (O.failures out.new ≢ O.failures out.old)
         (O.contents out.old) (O.contents out.new) result }
     // Where it finds a certificate, no two texts of the table clash, and the certificate is written.
     ensures certified { result ≡ 0 → ReportsCertificate (F.gives files.old) (F.gives files.new) table.now cert.now
@@ -180,7 +180,7 @@ fn tell<E: Write>(fault: &RunFault, err: &mut E) -> u8
 
 /// Answers words that ask for no work: help and the version go to standard output, a use fault to standard error.
 fn answer<O: Output, E: Write>(alloc: Global, reply: &NoTask, out: &mut O, err: &mut E) -> u8
-    ensures { IsAnswered (O.has_failed out.new) (O.contents out.old) (O.contents out.new) result }
+    ensures { IsAnswered (O.failures out.new ≢ O.failures out.old) (O.contents out.old) (O.contents out.new) result }
 {
     if reply.is_fault() {
         let _ = write!(err, "{reply}");
@@ -194,7 +194,7 @@ fn answer<O: Output, E: Write>(alloc: Global, reply: &NoTask, out: &mut O, err: 
 
 /// Prints help or the version.
 fn print<O: Output>(alloc: Global, reply: &NoTask, out: &mut O) -> Result<(), RunFault>
-    ensures { Prints (O.has_failed out.new) (O.contents out.old) (O.contents out.new) result }
+    ensures { Prints (O.failures out.new ≢ O.failures out.old) (O.contents out.old) (O.contents out.new) result }
 {
     let text = format!(in alloc; "{reply}")?;
     out.put(text.as_bytes())?;

@@ -1,5 +1,5 @@
 //! Searching the table at one path for a certificate that is written to another.
-ghost use Rattle.std.specs.Prelude.{◌≡◌, IfErr, IsErrOf, IsSome, OnErr, OnOk, true};
+ghost use Rattle.std.specs.Prelude.{◌≡◌, ◌≢◌, IfErr, IsErrOf, IsSome, OnErr, OnOk};
 ghost use Rattle.brl_lines.specs.Outcome.{CountsFailure};
 ghost use Rattle.brl_tool.specs.Files.{FilesAfter, GivesAlso, OthersStay};
 ghost use Rattle.brl_tool.specs.Searching.{IsFaultOfOut, Searches, SearchesTable, cert_of};
@@ -69,7 +69,7 @@ pub fn search_by_file<F: Files, W: Output, E: Write>(
 ) -> Result<Verdict, RunFault>
     ensures searches { Searches (F.gives files.old) (F.gives files.new) path.now out.now limit (W.contents writer.old)
         (W.contents writer.new) result }
-    ensures failed { IsErrOf result RunFault.OutputFailed → W.has_failed writer.new ≡ true }
+    ensures failed { IsErrOf result RunFault.OutputFailed → W.failures writer.new ≢ W.failures writer.old }
     ensures count { CountsFailure (F.faults files.old) (F.faults files.new) (load_outcome result) }
 {
     let table = load_table(alloc, files, path)?;
@@ -88,7 +88,7 @@ fn search_table<F: Files, W: Output, E: Write>(
 ) -> Result<Verdict, RunFault>
     ensures searches { SearchesTable table.now (F.gives files.old) (F.gives files.new) out.now limit (W.contents writer.old)
         (W.contents writer.new) result }
-    ensures failed { IsErrOf result RunFault.OutputFailed → W.has_failed writer.new ≡ true }
+    ensures failed { IsErrOf result RunFault.OutputFailed → W.failures writer.new ≢ W.failures writer.old }
     ensures count { F.faults files.new ≡ F.faults files.old }
 {
     tell_notices(alloc, table, err)?;

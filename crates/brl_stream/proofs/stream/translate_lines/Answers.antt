@@ -1,4 +1,4 @@
-use Rattle.std.proofs.Common.{◌≡◌, ◌≤◌, ◌<◌, ap, sym, subst, arith, length, take, Ok, Err, Result, List, ℕ, length-drop}
+use Rattle.std.proofs.Common.{◌≡◌, ◌≤◌, ◌<◌, ◌∙◌, ap, refl, sym, subst, arith, length, take, Ok, Err, Result, List, ℕ, length-drop}
 use Rattle.brl_stream.specs.Window.{NextTells}
 use Rattle.brl_stream.specs.Writing.{WriteTells}
 use Rattle.brl_stream.specs.Output.{output_of, HasWritten, DecidesBefore, verdict}
@@ -16,6 +16,8 @@ loop-fault-init g c =
       held = omega (arith, none);
       counted = omega (arith, none);
       stands = stands_start (output_of c.args.table.now c.args.form) (g.R.Input.remaining c.args.reader.now) (g.W.Output.contents c.args.writer.now) c.in-Ok.window c.in-Ok.ensures.bytes c.in-Ok.ensures.taken c.in-Ok.ensures.longer;
+      reads = refl;
+      writes = refl;
     }
 
 pub returns-in-Err-clause-written : goal.returns-in-Err-clause-written
@@ -105,4 +107,6 @@ loop-fault-preserved g c =
       held = omega (arith, left, within.few);
       counted = omega (arith, left, room, some, within.few, read.counted, c.loop-fault.invariant.counted, c.loop-fault.invariant.held);
       stands = next;
+      reads = c.in-Ok-Line.ensures.calm ∙ c.loop-fault.invariant.reads;
+      writes = c.in_ok-write_line-in-Ok-Line.ensures.calm ∙ c.loop-fault.invariant.writes;
     }
