@@ -20,7 +20,7 @@ pub record BodyView (S : Type 0) : Type 0 where
 abbrev pub listed : {S : Type 0} → List S → List NumberPair → BodyView S
 listed states pairs = record { states = states; pairs = pairs }
 
--- a pair names two of so many states, and its lead isn't too long
+-- a pair names two states below this count, and its lead isn't too long
 pub record IsPairOf (states : ℕ) (pair : NumberPair) : Type 0 where
   pub ahead : pair.ahead < states
   pub behind : pair.behind < states

@@ -117,7 +117,7 @@ impl<S: Key> Body<S> {
     }
 }
 
-/// Whether each pair names two of so many states and has a lead of at most 1,024 cells.
+/// Whether each pair names two states below this count and has a lead of at most 1,024 cells.
 fn are_in_range(states: usize, pairs: &[Pair<u32>]) -> bool
     ensures { IsTrue result ↔ All (IsPairOf states) pairs.now }
 {

@@ -3,7 +3,7 @@ ghost use Rattle.std.specs.Prelude.{◌≡◌, true};
 
 use std::hash::Hash;
 
-/// Values of which `==` tells whether they are one value, so that a member can be found by them.
+/// Values that `==` calls equal only where they are one value, so that a member can be found by them.
 pub trait Key: Eq + Hash + Drop {
     /// Values that `==` calls equal are one value.
     ghost same: { (a b : Self) → Self.eq a b ≡ true → a ≡ b };
