@@ -26,7 +26,7 @@ pub record IsPairOf (states : ℕ) (pair : NumberPair) : Type 0 where
   pub behind : pair.behind < states
   pub lead : length pair.lead ≤ 1024
 
--- at most 4,294,967,295 states and as many pairs, and each pair is one of these states
+-- at most 4,294,967,295 states and as many pairs, and each pair names two of these states
 pub record IsInRange {S : Type 0} (body : BodyView S) : Type 0 where
   pub few_states : length body.states ≤ 4294967295
   pub few_pairs : length body.pairs ≤ 4294967295
