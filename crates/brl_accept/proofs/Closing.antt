@@ -1,10 +1,13 @@
 -- A body of which nothing is lost is closed, and one that is refused isn't.
-use Rattle.std.proofs.Common.{◌≡◌, ◌≢◌, ℕ, ◌<◌, inl, inr, length, min, max, Bool, true, Option, Some, None, slice_get, refl}
+use Rattle.std.proofs.Common.{◌≡◌, ℕ, ◌<◌, inl, inr, length, min, max, Bool, true, Option, Some, None, slice_get, refl}
 use Rattle.std.proofs.lemmas.Option.{slice_get_within}
 use Rattle.brl_accept.specs.Refusals.{HasStart, HasTwoEnds, IsRefused, KeepsMoves, KeepsSplits, KeepsSteps, LosesMove, LosesSplit, LosesStep}
 use Rattle.brl_edges.specs.Sets.{pair_at, pair_of, sets_of}
 use Rattle.brl_accept.specs.declared.accept_fault.AcceptFault.{AcceptFault}
-use Rattle.brl_accept.specs.declared.accept_fault.AcceptFault.TheVariants.{NoStart, StateMissing, SplitMissing, PairMissing, BothEnd, Memory}
+use Rattle.brl_accept.specs.declared.accept_fault.AcceptFault.TheVariants.{NoStart, StateMissing, SplitMissing, PairMissing, BothEnd}
+use Rattle.brl_failure.specs.Failure.{IfFault}
+use Rattle.brl_failure.specs.Raised.{if_fault-weaker}
+use Rattle.brl_failure.specs.declared.failure.Failure.{Failure}
 use Rattle.brl_accept.proofs.Deciding.{has_state_or, has_pair_or}
 use Rattle.std.specs.Option.{option_and_then}
 use Rattle.brl_edges.specs.Body.{BodyView, NumberPair}
@@ -31,21 +34,23 @@ module _ {S : Type 0} (m : Behaviour S) (body : BodyView S) where
     ends = λ p has level ahead behind. ends has.0 (record { pair = p; is_pair = has.1; level = level; ahead = ahead; behind = behind });
   }
 
-  pub open_where_refused : (fault : AcceptFault) → IsRefused m body fault → fault ≢ Memory → IsClosed m (sets_of body) → ⊥
-  open_where_refused NoStart h apart closed = h closed.start
-  open_where_refused (StateMissing k rule) h apart closed =
+  pub open_where_refused : (fault : AcceptFault) → IsRefused m body fault → IsClosed m (sets_of body) → ⊥
+  open_where_refused NoStart h closed = h closed.start
+  open_where_refused (StateMissing k rule) h closed =
       let lost = h.2.has in
       lost.missing (closed.steps lost.state lost.step (k, lost.is_state) lost.listed)
-  open_where_refused (SplitMissing k lesser greater) h apart closed =
+  open_where_refused (SplitMissing k lesser greater) h closed =
       let lost = h.4.has in
       lost.missing (closed.splits lost.state lost.pair (k, lost.is_state) lost.split)
-  open_where_refused (PairMissing k rule) h apart closed =
+  open_where_refused (PairMissing k rule) h closed =
       let lost = h.4.has in
       lost.missing (closed.moves lost.pair lost.next (k, lost.is_pair) lost.moves)
-  open_where_refused (BothEnd k) h apart closed =
+  open_where_refused (BothEnd k) h closed =
       let both = h.4.has in
       closed.ends both.pair (k, both.is_pair) both.level both.ahead both.behind
-  open_where_refused Memory h apart closed = apart refl
+
+  pub open_where_failed : (failure : Failure AcceptFault) → IfFault (IsRefused m body) failure → IfFault (λ fault. IsClosed m (sets_of body) → ⊥) failure
+  open_where_failed failure h = if_fault-weaker (IsRefused m body) (λ fault. IsClosed m (sets_of body) → ⊥) failure open_where_refused h
 
   pair_within : (k : ℕ) (p : Pair S) → pair_at body k ≡ Some p → k < length body.pairs
   pair_within k p e = by_look (slice_get body.pairs k) refl e

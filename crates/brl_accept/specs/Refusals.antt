@@ -3,7 +3,7 @@ use Rattle.std.specs.Prelude.{ℕ, ◌≡◌, IsTrue, [], min, max, Some, slice_
 use Rattle.brl_accept.specs.Least.{IsLeast}
 use Rattle.brl_edges.specs.Sets.{pair_at, sets_of}
 use Rattle.brl_accept.specs.declared.accept_fault.AcceptFault.{AcceptFault}
-use Rattle.brl_accept.specs.declared.accept_fault.AcceptFault.TheVariants.{NoStart, StateMissing, SplitMissing, PairMissing, BothEnd, Memory}
+use Rattle.brl_accept.specs.declared.accept_fault.AcceptFault.TheVariants.{NoStart, StateMissing, SplitMissing, PairMissing, BothEnd}
 use Rattle.brl_edges.specs.Body.{BodyView}
 use Rattle.brl_pairs.specs.Pairs.{HasPair, Moves, Splits}
 use Rattle.brl_pairs.specs.Runs.{Behaviour, IsListed}
@@ -61,7 +61,7 @@ module _ {S : Type 0} (m : Behaviour S) (body : BodyView S) where
   KeepsMoves = (number rule : ℕ) → LosesMove m body number rule → ⊥
 
   -- The first kind that holds: with the least number of a state or a pair of which it holds, and of that one the least rule, or
-  -- the least lesser rule and with it the least greater one. Memory may be wanting at any certificate.
+  -- the least lesser rule and with it the least greater one.
   abbrev pub IsRefused : AcceptFault → Type 0
   IsRefused NoStart = HasStart → ⊥
   IsRefused (StateMissing state rule) =
@@ -79,4 +79,3 @@ module _ {S : Type 0} (m : Behaviour S) (body : BodyView S) where
       × IsLeast (LosesMove m body pair) rule
   IsRefused (BothEnd pair) =
       HasStart × KeepsSteps × KeepsSplits × KeepsMoves × IsLeast (HasTwoEnds m body) pair
-  IsRefused Memory = Unit {0}

@@ -1,9 +1,8 @@
 //! Why a certificate that was read is not accepted.
-use std::alloc::{AllocError, AllocFailed};
 use thiserror::Error;
 
-/// What is missing for the states and pairs to be closed. States and pairs have their numbers in the certificate, from 0;
-/// rules have those of the machine's steps.
+/// What is missing for the states and pairs to be closed. States and pairs have their numbers in the
+/// certificate, from 0; rules have those of the machine's steps.
 #[derive(Clone, Copy, PartialEq, Eq, Debug, Error)]
 pub enum AcceptFault {
     /// The start is none of the states.
@@ -33,29 +32,4 @@ pub enum AcceptFault {
     BothEnd {
         pair: u32,
     },
-    /// A growth was refused.
-    #[error("Memory")]
-    Memory,
-}
-
-impl From<AllocError> for AcceptFault {
-    ghost use Rattle.std.specs.Prelude.{◌≡◌};
-    ghost use Rattle.brl_accept.specs.declared.accept_fault.AcceptFault.TheVariants.{Memory};
-
-    ghost from_gives = { λ _ fault. fault ≡ Memory };
-
-    fn from(_error: AllocError) -> AcceptFault {
-        AcceptFault::Memory
-    }
-}
-
-impl<T: Drop> From<AllocFailed<T>> for AcceptFault {
-    ghost use Rattle.std.specs.Prelude.{◌≡◌};
-    ghost use Rattle.brl_accept.specs.declared.accept_fault.AcceptFault.TheVariants.{Memory};
-
-    ghost from_gives = { λ _ fault. fault ≡ Memory };
-
-    fn from(_error: AllocFailed<T>) -> AcceptFault {
-        AcceptFault::Memory
-    }
 }

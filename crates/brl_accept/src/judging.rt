@@ -2,6 +2,8 @@
 ghost use Rattle.std.specs.Prelude.{◌≡◌, ◌⊎◌, Err, IfErr, IfOk, Ok, OnOk};
 ghost use Rattle.brl_accept.specs.Judging.{IsAccepted, IsAcceptedWith, IsRefusedBy, IsRefusedFor, IsRefusedWith, load_outcome};
 ghost use Rattle.brl_accept.specs.declared.accepted.Accepted.{Accepted as AcceptedValue};
+ghost use Rattle.brl_failure.specs.Failure.{IfFault};
+ghost use Rattle.brl_failure.specs.declared.failure.Failure.TheVariants as failures;
 ghost use Rattle.brl_lines.specs.Answer.{AllStay, GivesOneAnswer};
 ghost use Rattle.brl_lines.specs.Outcome.{CountsFailure};
 ghost use Rattle.brl_reading.specs.Files.{IsTableOf};
@@ -12,10 +14,11 @@ use crate::{Accepted, JudgeFault, accept};
 use brl_cert::{Cert, read_cert};
 use brl_dues::{Dues, DuesState};
 use brl_edges::Body;
+use brl_failure::{Failure, raise};
 use brl_lines::Source;
 use brl_reading::{load_table, one_table_law};
 use brl_table::Table;
-use brl_window::{Window, WindowState};
+use brl_window::{TooWide, Window, WindowState};
 use std::alloc::Global;
 
 /// Judges the states and pairs of a certificate of version 1 for a table.
@@ -23,32 +26,38 @@ fn judge_windows(
     alloc: Global,
     table: &Table,
     body: &Body<WindowState>,
-) -> Result<Accepted, JudgeFault>
+) -> Result<Accepted, Failure<JudgeFault>>
     ensures unambiguous { OnOk result (IsUnambiguous table.now) }
     ensures accepted { IfOk result (IsAcceptedWith table.now (Cert.Window body.now)) }
-    ensures refused { IfErr result (IsRefusedWith table.now (Cert.Window body.now)) }
+    ensures refused { IfErr result (IfFault (IsRefusedWith table.now (Cert.Window body.now))) }
 {
-    let window = Window::new(alloc, table)?;
-    Ok(accept(alloc, &window, body)?)
+    let Ok(window) = Window::new(alloc, table) else {
+        return Err(Failure::Fault(JudgeFault::Wide(TooWide)));
+    };
+    raise(accept(alloc, &window, body), JudgeFault::Refused)
 }
 
 /// Judges the states and pairs of a certificate of version 2 for a table.
-fn judge_dues(alloc: Global, table: &Table, body: &Body<DuesState>) -> Result<Accepted, JudgeFault>
+fn judge_dues(
+    alloc: Global,
+    table: &Table,
+    body: &Body<DuesState>,
+) -> Result<Accepted, Failure<JudgeFault>>
     ensures unambiguous { OnOk result (IsUnambiguous table.now) }
     ensures accepted { IfOk result (IsAcceptedWith table.now (Cert.Dues body.now)) }
-    ensures refused { IfErr result (IsRefusedWith table.now (Cert.Dues body.now)) }
+    ensures refused { IfErr result (IfFault (IsRefusedWith table.now (Cert.Dues body.now))) }
 {
     let dues = Dues::new(alloc, table);
-    Ok(accept(alloc, &dues, body)?)
+    raise(accept(alloc, &dues, body), JudgeFault::Refused)
 }
 
 /// Judges a certificate for a table.
-fn judge_table(alloc: Global, table: &Table, cert: &[u8]) -> Result<Accepted, JudgeFault>
+fn judge_table(alloc: Global, table: &Table, cert: &[u8]) -> Result<Accepted, Failure<JudgeFault>>
     ensures unambiguous { OnOk result (IsUnambiguous table.now) }
     ensures accepted { IfOk result (IsAccepted table.now cert.now) }
-    ensures refused { IfErr result (IsRefusedFor table.now cert.now) }
+    ensures refused { IfErr result (IfFault (IsRefusedFor table.now cert.now)) }
 {
-    match read_cert(alloc, cert)? {
+    match raise(read_cert(alloc, cert), JudgeFault::Cert)? {
         Cert::Window(body) => judge_windows(alloc, table, &body),
         Cert::Dues(body) => judge_dues(alloc, table, &body),
     }
@@ -58,31 +67,30 @@ fn judge_table(alloc: Global, table: &Table, cert: &[u8]) -> Result<Accepted, Ju
 /// characters that the table translates to the same cells are equal, of whatever length. It answers how many states and
 /// pairs the certificate lists.
 ///
-/// Each stage has its own refusals, and the first that refuses is named: `Load` where the files
-/// have no lines; `Table` where a line has a fault; `Cert` where the bytes spell no certificate;
-/// `Wide` where the certificate is of version 1 and the table has no window machine; `Refused`
-/// where the certificate's states and pairs aren't closed for the machine of its version. `Memory`
-/// where an allocation failed.
+/// Each stage has its own faults, and that of the first that refuses is named: `NoTable` where the
+/// files define no table; `Cert` where the bytes spell no certificate; `Wide` where the certificate is
+/// of version 1 and the table has no window machine; `Refused` where the certificate's states and pairs
+/// aren't closed for the machine of its version.
 pub fn judge<S: Source>(
     alloc: Global,
     source: &mut S,
     root: &str,
     cert: &[u8],
-) -> Result<Accepted, JudgeFault>
+) -> Result<Accepted, Failure<JudgeFault>>
     // The files define a table, as the source gave them. Any two texts over its characters that it translates to the same cells
     // are equal, of whatever length; and the bytes spell a certificate that shows it, with this many states and pairs.
     ensures accepted { IfOk result (λ accepted. (t : TableView) × IsTableOf (S.gives source.old) root.now t × IsUnambiguous t
         × IsAccepted t cert.now accepted) }
     // The first stage that refuses is named, by its own fault; and where that is of the certificate, nothing deserves acceptance.
-    ensures refused { IfErr result (IsRefusedBy (S.gives source.old) root.now cert.now) }
+    ensures refused { IfErr result (IfFault (IsRefusedBy (S.gives source.old) root.now cert.now)) }
     // Over files that each have one answer, what deserves acceptance is accepted, unless memory runs out.
     ensures decides { GivesOneAnswer (S.gives source.old) → (t : TableView) → IsTableOf (S.gives source.old) root.now t
-        → (accepted : AcceptedValue) → IsAccepted t cert.now accepted → (result ≡ Ok accepted) ⊎ (result ≡ Err JudgeFault.Memory) }
+        → (accepted : AcceptedValue) → IsAccepted t cert.now accepted → (result ≡ Ok accepted) ⊎ (result ≡ Err failures.Memory) }
     ensures count { CountsFailure (S.faults source.old) (S.faults source.new) (load_outcome result) }
     ensures same { AllStay (S.gives source.old) (S.gives source.new) }
 {
     one_table_law(&*source);
-    let table = load_table(alloc, source, root)?;
+    let table = raise(load_table(alloc, source, root), JudgeFault::NoTable)?;
     let judged = judge_table(alloc, &table, cert);
     drop(table);
     judged

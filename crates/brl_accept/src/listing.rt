@@ -1,11 +1,13 @@
 //! The steps of a state, listed once and kept as edges.
 ghost use Rattle.std.specs.Prelude.{ℕ, ◌<◌, IfErr, IfOk, length};
 ghost use Rattle.brl_accept.specs.Refusals.{HasStart, IsRefused, LosesStep};
+ghost use Rattle.brl_failure.specs.Failure.{IfFault};
 ghost use Rattle.brl_edges.specs.Edges.{AreEdges};
 ghost use Rattle.brl_pairs.specs.Runs.{KeepsLaws};
 
 use crate::AcceptFault;
 use brl_edges::{Body, Edge};
+use brl_failure::Failure;
 use brl_pairs::Machine;
 use std::alloc::Global;
 
@@ -16,13 +18,13 @@ pub fn edges_of<M: Machine>(
     machine: &M,
     body: &Body<M::State>,
     number: usize,
-) -> Result<Vec<Edge>, AcceptFault>
+) -> Result<Vec<Edge>, Failure<AcceptFault>>
     requires laws { KeepsLaws (M.behaviour machine.now) }
     requires start { HasStart (M.behaviour machine.now) body.now }
     requires within { number < length body.now.states }
     requires earlier { (k rule : ℕ) → k < number → LosesStep (M.behaviour machine.now) body.now k rule → ⊥ }
     ensures edges { IfOk result (λ edges. AreEdges (M.behaviour machine.now) body.now.states number edges.items) }
-    ensures refused { IfErr result (IsRefused (M.behaviour machine.now) body.now) }
+    ensures refused { IfErr result (IfFault (IsRefused (M.behaviour machine.now) body.now)) }
 {
     let listed = machine.moves(alloc, &body.states()[number])?;
     body.law();
@@ -31,7 +33,7 @@ pub fn edges_of<M: Machine>(
         let Some(next) = body.number_of(&step.next) else {
             let state = number as u32;
             let rule = step.rule;
-            return Err(AcceptFault::StateMissing { state, rule });
+            return Err(Failure::Fault(AcceptFault::StateMissing { state, rule }));
         };
         edges.push(Edge {
             rule: step.rule,

@@ -8,9 +8,9 @@ use Rattle.std.proofs.lemmas.List.{append-nil}
 use Rattle.std.proofs.lemmas.List.Elements.{All-from_recursion}
 use Rattle.std.proofs.lemmas.Nat.{or_of_8}
 use Rattle.brl_cells.specs.declared.fault.DotsFault.{DotsFault}
-use Rattle.brl_cells.specs.Dots.{AreCells, dot_marks, dot_number, stands_in, has_dot, first_fault, unless_fault, cell_reading, before_cells, cells_reading, parts, reading}
+use Rattle.brl_cells.specs.Dots.{AreCells, dot_marks, dot_number, stands_in, has_dot, first_fault, unless_fault, cell_reading, cells_reading, parts, reading}
 use Rattle.brl_cells.proofs.Reading.{HasDots, with_dot, dot_more, bad_dot, repeated_dot, no_fault, read_none, of_each}
-use Rattle.brl_cells.proofs.Parts.{limited_is}
+use Rattle.brl_cells.proofs.Parts.{before_cells, limited_is}
 
 shifted_fits : (mark : ℕ) → stands_in dot_marks mark ≡ true → 1 * 2 ^ (mark - 49) % 256 < 256
 shifted_fits mark is = let small : ltb (1 * 2 ^ (mark - 49) % 256) 256 ≡ true = of_each (λ m. ltb (1 * 2 ^ (m - 49) % 256) 256) dot_marks refl mark is in (Decides-ltb (1 * 2 ^ (mark - 49) % 256) 256).0 small

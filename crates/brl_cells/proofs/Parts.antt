@@ -1,15 +1,32 @@
 -- Cells that are read one after the other.
-use Rattle.std.proofs.Common.{◌≡◌, ℕ, suc, ◌+◌, ◌<◌, ◌≤◌, leb, eqb, true, false, List, [], ◌∷◌, ◌++◌, length, drop, get_or, Result, Ok, Err, append_assoc, refl, sym, ap, subst, ◌∙◌, inl, inr, arith}
+use Rattle.std.proofs.Common.{◌≡◌, ℕ, suc, ◌+◌, ◌<◌, ◌≤◌, leb, eqb, cond, true, false, List, [], ◌∷◌, ◌++◌, length, drop, get_or, Result, Ok, Err, append_assoc, refl, sym, ap, subst, ◌∙◌, inl, inr, arith}
 use Rattle.std.proofs.lemmas.Bool.Decides.{nat_tests}
 use Rattle.std.proofs.lemmas.List.{append-nil, drop_more}
 use Rattle.std.proofs.Math.ListN.{drop_of_length-le}
 use Rattle.std.proofs.lemmas.Bool.{cases_lt}
 use Rattle.std.proofs.lemmas.List.Splits.{length-slice_split}
 use Rattle.brl_cells.specs.declared.fault.DotsFault.{DotsFault}
-use Rattle.brl_cells.specs.declared.fault.DotsFault.TheVariants.{EmptyCell, BadDot, RepeatedDot, TooManyCells, Memory}
-use Rattle.brl_cells.specs.Dots.{cell_reading, before_cells, cells_reading, limited, parts, reading, IsFaultOf}
+use Rattle.brl_cells.specs.declared.fault.DotsFault.TheVariants.{TooManyCells}
+use Rattle.brl_cells.specs.Dots.{cell_reading, cells_reading, parts, reading}
+use Rattle.std.specs.Prelude.{MatchResult, IsErrAnd}
+use Rattle.brl_failure.specs.Failure.{◌>>=◌, IfFault}
+use Rattle.brl_failure.specs.declared.failure.Failure.{Failure}
+use Rattle.brl_failure.specs.declared.failure.Failure.TheVariants as failures
 
--- these cells, and behind them those that are read
+-- a cell before others, as the reading of parts has them
+abbrev pub before_cells : Result ℕ DotsFault → Result (List ℕ) DotsFault → Result (List ℕ) DotsFault
+before_cells first rest = do
+  cell ← first
+  cells ← rest
+  Ok (cell ∷ cells)
+
+-- cells, where they are not too many
+abbrev pub limited : ℕ → Result (List ℕ) DotsFault → Result (List ℕ) DotsFault
+limited most read = do
+  cells ← read
+  cond (leb (length cells) most) (Ok cells) (Err TooManyCells)
+
+-- these cells, and after them those that are read
 abbrev pub behind : List ℕ → Result (List ℕ) DotsFault → Result (List ℕ) DotsFault
 behind front (Ok cells) = Ok (front ++ cells)
 behind front (Err fault) = Err fault
@@ -46,6 +63,21 @@ parts_all pieces place front le so_far =
     let none : drop place pieces ≡ [] = drop_of_length-le pieces le in
     sym so_far.rest ∙ ap (λ (ps : List (List ℕ)). behind front (cells_reading ps)) none ∙ ap (λ (cs : List ℕ). Ok cs) (append-nil front)
 
+-- ---- The reading of a part, as one of the steps that may fail
+
+pub step_ok : (read : Result ℕ DotsFault) (step : Result ℕ (Failure DotsFault)) (cell : ℕ) → MatchResult read (λ y. step ≡ Ok y) (λ e. IsErrAnd step (λ f. f ≡ failures.Fault e)) → step ≡ Ok cell → Ok cell ≡ read
+step_ok (Ok y) step cell h e = cc
+step_ok (Err d) (Ok y) cell h e = absurd h
+step_ok (Err d) (Err f) cell h e = absurd cc
+
+pub step_fault : (read : Result ℕ DotsFault) (step : Result ℕ (Failure DotsFault)) (failure : Failure DotsFault) (whole : Result (List ℕ) DotsFault)
+    → MatchResult read (λ y. step ≡ Ok y) (λ e. IsErrAnd step (λ f. f ≡ failures.Fault e)) → step ≡ Err failure → ((fault : DotsFault) → Err fault ≡ read → whole ≡ Err fault) → IfFault (λ fault. whole ≡ Err fault) failure
+step_fault (Ok y) step failure whole h e decides = absurd cc
+step_fault (Err d) (Ok y) failure whole h e decides = absurd h
+step_fault (Err d) (Err f) failure whole h e decides =
+    let same : failures.Fault d ≡ failure = (let is : f ≡ failure = cc in sym h ∙ is) in
+    subst (IfFault (λ fault. whole ≡ Err fault)) same (decides d refl)
+
 -- ---- Not too many
 
 pub reading_fault : (most : ℕ) (bytes : List ℕ) (fault : DotsFault) → cells_reading (parts bytes) ≡ Err fault → reading most bytes ≡ Err fault
@@ -56,14 +88,6 @@ reading_too_many most bytes cells lt is = ap (limited most) is ∙ (let over : l
 
 pub reading_is : (most : ℕ) (bytes cells : List ℕ) → length cells ≤ most → cells_reading (parts bytes) ≡ Ok cells → reading most bytes ≡ Ok cells
 reading_is most bytes cells le is = ap (limited most) is ∙ (let within : leb (length cells) most ≡ true = grind (arith, nat_tests) in rw within refl)
-
--- the fault that decides is a fault of the text
-pub is_fault : (read : Result (List ℕ) DotsFault) (fault : DotsFault) → read ≡ Err fault → IsFaultOf read fault
-is_fault read EmptyCell e = e
-is_fault read BadDot e = e
-is_fault read RepeatedDot e = e
-is_fault read TooManyCells e = e
-is_fault read Memory e = tt
 
 -- what is read is not empty, and within the limit
 some_parts : (bytes : List ℕ) → 0 < length (parts bytes)

@@ -1,12 +1,13 @@
 -- Cells as a dots operand (liblouis User's and Programmer's Manual, "How to Write Translation Tables", on dots operands).
 -- A cell is its number: dot d adds 2 ^ (d - 1), and the blank cell is 0. A text is the list of its bytes.
 -- That a cell has no dots but 1 to 8, and none of them twice, is the project's own choice, and so is the order of faults.
-use Rattle.std.specs.Prelude.{◌≡◌, ℕ, ◌-◌, ◌^◌, ◌<◌, Bool, not, nat_le, ◌==◌, if◌then◌else◌, List, [], ◌∷◌, ◌++◌, length, map, filter, Option, Some, None, Result, Ok, Err, codes}
+use Rattle.std.specs.Prelude.{ℕ, ◌-◌, ◌^◌, ◌<◌, Bool, not, nat_le, ◌==◌, if◌then◌else◌, List, [], ◌∷◌, ◌++◌, length, map, filter, Option, Some, None, Result, Ok, Err, codes}
 use Rattle.std.specs.Int.{bit_at}
 use Rattle.std.specs.List.{All, join_with_byte, list_any, slice_split, sum_by}
 use Rattle.std.specs.Str.{bytes_eq}
+use Rattle.brl_failure.specs.Failure.{◌>>=◌}
 use Rattle.brl_cells.specs.declared.fault.DotsFault.{DotsFault}
-use Rattle.brl_cells.specs.declared.fault.DotsFault.TheVariants.{EmptyCell, BadDot, RepeatedDot, TooManyCells, Memory}
+use Rattle.brl_cells.specs.declared.fault.DotsFault.TheVariants.{EmptyCell, BadDot, RepeatedDot, TooManyCells}
 
 -- the marks of the dots, in ascending order
 abbrev pub dot_marks : List ℕ
@@ -68,31 +69,20 @@ cell_reading marks =
     else (if bytes_eq marks (codes "0") then Ok 0
     else unless_fault (first_fault [] marks) (sum_by dot_number marks))
 
--- a cell before others, or the first fault of these
-abbrev pub before_cells : Result ℕ DotsFault → Result (List ℕ) DotsFault → Result (List ℕ) DotsFault
-before_cells (Err fault) rest = Err fault
-before_cells (Ok cell) (Err fault) = Err fault
-before_cells (Ok cell) (Ok cells) = Ok (cell ∷ cells)
-
 -- the cells that parts spell, or the fault of the first part that has one
 abbrev pub cells_reading : List (List ℕ) → Result (List ℕ) DotsFault
 cells_reading [] = Ok []
-cells_reading (part ∷ parts) = before_cells (cell_reading part) (cells_reading parts)
+cells_reading (part ∷ parts) = do
+  cell ← cell_reading part
+  cells ← cells_reading parts
+  Ok (cell ∷ cells)
 
 -- the parts of a text between its hyphens
 abbrev pub parts : List ℕ → List (List ℕ)
 parts bytes = slice_split (λ mark. mark == 45) bytes
 
--- cells, where there are not too many
-abbrev pub limited : ℕ → Result (List ℕ) DotsFault → Result (List ℕ) DotsFault
-limited most (Err fault) = Err fault
-limited most (Ok cells) = if nat_le (length cells) most then Ok cells else Err TooManyCells
-
--- the cells that a text spells, or the fault that decides
+-- the cells that a text spells, where they are not too many, or the fault that decides
 abbrev pub reading : ℕ → List ℕ → Result (List ℕ) DotsFault
-reading most bytes = limited most (cells_reading (parts bytes))
-
--- a fault is the one that decides, or memory was wanting, which it may at any text
-abbrev pub IsFaultOf : Result (List ℕ) DotsFault → DotsFault → Type 0
-IsFaultOf read Memory = Unit {0}
-IsFaultOf read fault = read ≡ Err fault
+reading most bytes = do
+  cells ← cells_reading (parts bytes)
+  if nat_le (length cells) most then Ok cells else Err TooManyCells

@@ -1,8 +1,10 @@
 //! Dots operands: cells as the numbers of their dots, joined by hyphens.
-ghost use Rattle.std.specs.Prelude.{◌≡◌, ℕ, ◌<◌, ◌≤◌, ◌++◌, IsTrue, length, Ok, IfOk, IfErr, OnOk, string_bytes};
-ghost use Rattle.brl_cells.specs.Dots.{AreCells, cell_reading, cell_spelling, dot_marks, has_dot, reading, spelling, stands_in, IsFaultOf};
+ghost use Rattle.std.specs.Prelude.{◌≡◌, ℕ, ◌<◌, ◌≤◌, ◌++◌, IsTrue, length, Ok, IfOk, OnOk, string_bytes};
+ghost use Rattle.brl_cells.specs.Dots.{AreCells, cell_reading, cell_spelling, dot_marks, has_dot, reading, spelling, stands_in};
+ghost use Rattle.brl_failure.specs.Failure.{Gives};
 
 use crate::{Cell, Cells, DotsFault};
+use brl_failure::Failure;
 use std::alloc::{AllocError, Global};
 
 /// Whether a mark is one of the digits 1 to 8.
@@ -47,22 +49,22 @@ fn read_cell(marks: &[u8]) -> Result<Cell, DotsFault>
 /// order, none twice, or `0` alone, the blank cell. At most `most` cells, from 1 to 1,024, are taken.
 ///
 /// The first fault decides, cell by cell and mark by mark: `EmptyCell`, `BadDot`, `RepeatedDot`. Where there is none,
-/// more than `most` cells are `TooManyCells`. `Memory` where more than eight cells find no memory.
-pub fn read_dots(alloc: Global, text: &str, most: usize) -> Result<Cells, DotsFault>
+/// more than `most` cells are `TooManyCells`. Only more than eight cells take memory.
+pub fn read_dots(alloc: Global, text: &str, most: usize) -> Result<Cells, Failure<DotsFault>>
     requires least { 1 ≤ most }
     requires limit { most ≤ 1024 }
-    ensures cells { IfOk result (λ cells. reading most text.now ≡ Ok cells) }
+    ensures cells { Gives (reading most text.now) result }
     ensures some { IfOk result (λ cells. 1 ≤ length cells) }
     ensures limited { IfOk result (λ cells. length cells ≤ most) }
     ensures in_range { IfOk result AreCells }
-    ensures fault { IfErr result (IsFaultOf (reading most text.now)) }
 {
     let mut cells = Cells::new(alloc);
     for marks in text.split('-') {
-        cells.push(read_cell(marks.as_bytes())?)?;
+        let cell = read_cell(marks.as_bytes()).map_err(Failure::Fault)?;
+        cells.push(cell)?;
     }
     if cells.len() > most {
-        return Err(DotsFault::TooManyCells);
+        return Err(Failure::Fault(DotsFault::TooManyCells));
     }
     Ok(cells)
 }

@@ -8,8 +8,8 @@ use Rattle.std.proofs.lemmas.Slice.Eq.{bytes_eq-Decides}
 use Rattle.std.proofs.lemmas.Bool.Decides.{Decides-eqb, Decides-ltb}
 use Rattle.std.proofs.lemmas.List.{append-nil}
 use Rattle.std.proofs.lemmas.List.Splits.{slice_split_at}
-use Rattle.brl_cert.specs.declared.fault.Wrong.{Wrong}
-use Rattle.brl_cert.specs.declared.fault.Wrong.TheVariants.{Syntax, NotCanonical}
+use Rattle.brl_cert.specs.declared.fault.CertFaultKind.{CertFaultKind}
+use Rattle.brl_cert.specs.declared.fault.CertFaultKind.TheVariants.{Syntax, NotCanonical}
 use Rattle.brl_edges.specs.Body.{BodyView, IsPairOf, NumberPair, same_pair}
 use Rattle.brl_cert.specs.Fields.{lead}
 use Rattle.brl_cert.specs.declared.line.Line.{Line}
@@ -61,7 +61,7 @@ module _ {S : Type 0} (form : States S) where
       ∙ ap (λ (o : Option (Line S)). strict_line form body (spelled_line form line) o) again
       ∙ strict (may_stand body line) (bytes_eq (spelled_line form line) (spelled_line form line)) stands ((bytes_eq-Decides (spelled_line form line) (spelled_line form line)).1 refl)
     where
-      strict : (a b : Bool) → a ≡ true → b ≡ true → (let r : Result (Line S) Wrong = cond (not a) (Err Syntax) (cond b (Ok line) (Err NotCanonical)) in r) ≡ Ok line
+      strict : (a b : Bool) → a ≡ true → b ≡ true → (let r : Result (Line S) CertFaultKind = cond (not a) (Err Syntax) (cond b (Ok line) (Err NotCanonical)) in r) ≡ Ok line
       strict a b h k = rw (h, k) refl
 
   -- one line is read, and the rest goes on behind it

@@ -1,5 +1,5 @@
 -- What dots operands are read from is ASCII, and so it is text.
-use Rattle.std.proofs.Common.{◌≡◌, ℕ, zero, suc, ◌<◌, get_or, Bool, true, false, not, ◌||◌, eqb, cond, List, [], ◌∷◌, ◌++◌, length, Option, Some, None, Result, Ok, Err, refl, sym, subst, arith}
+use Rattle.std.proofs.Common.{◌≡◌, ℕ, zero, suc, ◌<◌, leb, get_or, Bool, true, false, not, ◌||◌, eqb, cond, List, [], ◌∷◌, ◌++◌, length, Option, Some, None, Result, Ok, Err, refl, sym, subst, arith}
 use Rattle.std.specs.Prelude.{codes}
 use Rattle.std.specs.Result.{result_ok}
 use Rattle.std.specs.Str.{IsUtf8, bytes_eq}
@@ -9,8 +9,9 @@ use Rattle.std.proofs.lemmas.List.Splits.{join_with_byte-slice_split}
 use Rattle.std.proofs.lemmas.Slice.Eq.{bytes_eq-Decides}
 use Rattle.std.proofs.lemmas.Str.{IsUtf8-from_ascii}
 use Rattle.brl_cells.specs.declared.fault.DotsFault.{DotsFault}
-use Rattle.brl_cells.specs.declared.fault.DotsFault.TheVariants.{EmptyCell, BadDot, RepeatedDot}
-use Rattle.brl_cells.specs.Dots.{dot_marks, dot_number, stands_in, mark_fault, first_of_two, first_fault, unless_fault, cell_reading, before_cells, cells_reading, parts, limited, reading as dots_reading}
+use Rattle.brl_cells.specs.declared.fault.DotsFault.TheVariants.{EmptyCell, BadDot, RepeatedDot, TooManyCells}
+use Rattle.brl_cells.specs.Dots.{dot_marks, dot_number, stands_in, mark_fault, first_of_two, first_fault, unless_fault, cell_reading, cells_reading, parts, reading as dots_reading}
+use Rattle.brl_failure.specs.Failure.{◌>>=◌}
 
 abbrev pub AreLow : List ℕ → Type 0
 AreLow bytes = AllByRecursion (λ b. b < 128) bytes
@@ -58,6 +59,10 @@ cell_low marks cell e = by_none (eqb (length marks) 0) e
     by_none true e = absurd cc
     by_none false e = by_blank (bytes_eq marks (codes "0")) refl e
 
+-- a cell before others, as the reading of parts has them
+abbrev before_cells : Result ℕ DotsFault → Result (List ℕ) DotsFault → Result (List ℕ) DotsFault
+before_cells first rest = first >>= λ cell. rest >>= λ cells. Ok (cell ∷ cells)
+
 before_ok : (first : Result ℕ DotsFault) (rest : Result (List ℕ) DotsFault) (cells : List ℕ) → before_cells first rest ≡ Ok cells → ((cell : ℕ) × (first ≡ Ok cell)) × ((others : List ℕ) × (rest ≡ Ok others))
 before_ok (Err fault) rest cells e = absurd cc
 before_ok (Ok cell) (Err fault) cells e = absurd cc
@@ -77,6 +82,10 @@ joined_low : (pieces : List (List ℕ)) → AllByRecursion AreLow pieces → Are
 joined_low [] h = tt
 joined_low (piece ∷ []) h = h.0
 joined_low (piece ∷ next ∷ pieces) h = low_append piece (45 ∷ join_with_byte 45 (next ∷ pieces)) h.0 (omega arith, joined_low (next ∷ pieces) h.1)
+
+-- cells, where they are not too many
+abbrev pub limited : ℕ → Result (List ℕ) DotsFault → Result (List ℕ) DotsFault
+limited most read = read >>= λ cells. cond (leb (length cells) most) (Ok cells) (Err TooManyCells)
 
 limited_ok : (most : ℕ) (read : Result (List ℕ) DotsFault) (cells : List ℕ) → limited most read ≡ Ok cells → (others : List ℕ) × (read ≡ Ok others)
 limited_ok most (Err fault) cells e = absurd cc

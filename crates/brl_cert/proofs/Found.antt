@@ -6,13 +6,13 @@ use Rattle.std.proofs.lemmas.Slice.Eq.{bytes_eq-Decides}
 use Rattle.std.proofs.lemmas.Bool.Decides.{Decides-eqb}
 use Rattle.std.proofs.lemmas.List.{append-nil, flat_map_more}
 use Rattle.std.proofs.lemmas.List.Splits.{join_with_byte-slice_split}
-use Rattle.brl_cert.specs.declared.fault.Wrong.{Wrong}
-use Rattle.brl_cert.specs.declared.fault.Wrong.TheVariants.{Syntax, NotCanonical, DuplicateState, DuplicatePair, NoSuchState, WrongCount, Version}
+use Rattle.brl_cert.specs.declared.fault.CertFaultKind.{CertFaultKind}
+use Rattle.brl_cert.specs.declared.fault.CertFaultKind.TheVariants.{Syntax, NotCanonical, DuplicateState, DuplicatePair, NoSuchState, WrongCount, Version}
 use Rattle.brl_edges.specs.Body.{BodyView, NumberPair, same_pair}
 use Rattle.std.specs.Cmp.{first_so, second_so}
 use Rattle.brl_cert.specs.declared.line.Line.{Line}
 use Rattle.brl_cert.specs.declared.line.Line.TheVariants.{State, Pair, End}
-use Rattle.brl_cert.specs.Lines.{States, placed, ◌>>>◌, spelled_line, whole_line, spelled_body, strict_line, line_of, may_stand, loose_line, is_end, add_line, one_line, body_of}
+use Rattle.brl_cert.specs.Lines.{at_line, States, placed, ◌>>>◌, spelled_line, whole_line, spelled_body, strict_line, line_of, may_stand, loose_line, is_end, add_line, one_line, body_of}
 use Rattle.brl_cert.specs.Dues.{owing}
 use Rattle.brl_cert.specs.Reading.{spelling, reading, certificate_of, spelled_header, strict_header, header_of, loose_header, nothing, version_of}
 use Rattle.brl_kinds.specs.declared.cert.Cert.TheVariants.{Dues, Window}
@@ -24,7 +24,7 @@ pub then_ok : {A B E : Type 0} (r : Result A E) (f : A → Result B E) (y : B) �
 then_ok (Ok x) f y e = (x, refl, e)
 then_ok (Err d) f y e = absurd cc
 
-pub placed_ok : {A : Type 0} (n : ℕ) (r : Result A Wrong) (x : A) → placed n r ≡ Ok x → r ≡ Ok x
+pub placed_ok : {A : Type 0} (n : ℕ) (r : Result A CertFaultKind) (x : A) → placed n r ≡ Ok x → r ≡ Ok x
 placed_ok n (Ok y) x e = cc
 placed_ok n (Err d) x e = absurd cc
 
@@ -106,22 +106,22 @@ module _ {S : Type 0} (form : States S) where
   body_found n body [] out e = absurd cc
   body_found n body (last ∷ []) out e = absurd cc
   body_found n body (bytes ∷ next ∷ more) out e =
-      let a = then_ok (placed n (one_line form body bytes)) (λ x. cond (not x.0) (body_of form (suc n) x.1 (next ∷ more)) (cond (eqb (length next + length more) 0) (Ok x.1) (Err (Syntax, suc n)))) out e in
+      let a = then_ok (placed n (one_line form body bytes)) (λ x. cond (not x.0) (body_of form (suc n) x.1 (next ∷ more)) (cond (eqb (length next + length more) 0) (Ok x.1) (Err (at_line (suc n) Syntax)))) out e in
       let b = then_ok (line_of form body bytes) (λ line. add_line form body line >>> λ longer. Ok (is_end line, longer)) a.0 (placed_ok n (one_line form body bytes) a.0 a.1) in
       let c = then_ok (add_line form body b.0) (λ longer. Ok (is_end b.0, longer)) a.0 b.2 in
       let line = line_is body bytes b.0 b.1 in
       let same : (is_end b.0, c.0) ≡ a.0 = ok_is _ a.0 c.2 in
-      let last_ : cond (not (is_end b.0)) (body_of form (suc n) c.0 (next ∷ more)) (cond (eqb (length next + length more) 0) (Ok c.0) (Err (Syntax, suc n))) ≡ Ok out = subst (λ (x : Bool × BodyView S). cond (not x.0) (body_of form (suc n) x.1 (next ∷ more)) (cond (eqb (length next + length more) 0) (Ok x.1) (Err (Syntax, suc n))) ≡ Ok out) (sym same) a.2 in
+      let last_ : cond (not (is_end b.0)) (body_of form (suc n) c.0 (next ∷ more)) (cond (eqb (length next + length more) 0) (Ok c.0) (Err (at_line (suc n) Syntax))) ≡ Ok out = subst (λ (x : Bool × BodyView S). cond (not x.0) (body_of form (suc n) x.1 (next ∷ more)) (cond (eqb (length next + length more) 0) (Ok x.1) (Err (at_line (suc n) Syntax))) ≡ Ok out) (sym same) a.2 in
       subst (λ (bs : List ℕ). front body ++ (bs ++ (10 ∷ join_with_byte 10 (next ∷ more))) ≡ spelled_body form out) line.1
       (regroup (front body) (spelled_line form b.0) (join_with_byte 10 (next ∷ more)) (spelled_body form out) (turn (λ longer h. body_found (suc n) longer (next ∷ more) out h) (is_end b.0) c.0 b.0 refl line.0 c.1 last_))
     where
       turn : ((longer : BodyView S) → body_of form (suc n) longer (next ∷ more) ≡ Ok out → front longer ++ join_with_byte 10 (next ∷ more) ≡ spelled_body form out) → (ends : Bool) (longer : BodyView S) (line : Line S) → is_end line ≡ ends → may_stand body line ≡ true → add_line form body line ≡ Ok longer
-          → cond (not ends) (body_of form (suc n) longer (next ∷ more)) (cond (eqb (length next + length more) 0) (Ok longer) (Err (Syntax, suc n))) ≡ Ok out
+          → cond (not ends) (body_of form (suc n) longer (next ∷ more)) (cond (eqb (length next + length more) 0) (Ok longer) (Err (at_line (suc n) Syntax))) ≡ Ok out
           → (front body ++ whole_line form line) ++ join_with_byte 10 (next ∷ more) ≡ spelled_body form out
       turn go false longer line is stands added rest =
           ap (λ (b : List ℕ). b ++ join_with_byte 10 (next ∷ more)) (sym (adds body line longer stands added is)) ∙ go longer rest
       turn go true longer line is stands added rest =
-          let a = need_ok (eqb (length next + length more) 0) (Syntax, suc n) (Ok longer) out rest in
+          let a = need_ok (eqb (length next + length more) 0) (at_line (suc n) Syntax) (Ok longer) out rest in
           ap (λ (b : List ℕ). (front body ++ whole_line form line) ++ b) (nothing_behind next more a.0) ∙ append-nil _ ∙ closes body line longer added is ∙ ap (λ (z : BodyView S). spelled_body form z) (ok_is longer out a.1)
 
 header_is : (bytes : List ℕ) (o : Option ℕ) (n : ℕ) → strict_header bytes o ≡ Ok n → spelled_header n ≡ bytes
@@ -142,11 +142,11 @@ lines_found form wrap version n spelled is parts c e =
 version_found : (version : ℕ) (parts : List (List ℕ)) (c : Certificate) → version_of version parts ≡ Ok c → spelling c ≡ spelled_header version ++ (10 ∷ join_with_byte 10 parts)
 version_found version parts c e = by_first (eqb version 1) refl e
   where
-    by_second : (b : Bool) → eqb version 2 ≡ b → cond b (body_of owing 2 nothing parts >>> λ body. Ok (Dues body)) (Err (Version, 1)) ≡ Ok c → spelling c ≡ spelled_header version ++ (10 ∷ join_with_byte 10 parts)
+    by_second : (b : Bool) → eqb version 2 ≡ b → cond b (body_of owing 2 nothing parts >>> λ body. Ok (Dues body)) (Err (at_line 1 Version)) ≡ Ok c → spelling c ≡ spelled_header version ++ (10 ∷ join_with_byte 10 parts)
     by_second true is e = lines_found owing Dues version 2 (λ body. refl) ((Decides-eqb version 2).0 is) parts c e
     by_second false is e = absurd cc
 
-    by_first : (b : Bool) → eqb version 1 ≡ b → cond b (body_of windows 2 nothing parts >>> λ body. Ok (Window body)) (cond (eqb version 2) (body_of owing 2 nothing parts >>> λ body. Ok (Dues body)) (Err (Version, 1))) ≡ Ok c
+    by_first : (b : Bool) → eqb version 1 ≡ b → cond b (body_of windows 2 nothing parts >>> λ body. Ok (Window body)) (cond (eqb version 2) (body_of owing 2 nothing parts >>> λ body. Ok (Dues body)) (Err (at_line 1 Version))) ≡ Ok c
         → spelling c ≡ spelled_header version ++ (10 ∷ join_with_byte 10 parts)
     by_first true is e = lines_found windows Window version 1 (λ body. refl) ((Decides-eqb version 1).0 is) parts c e
     by_first false is e = by_second (eqb version 2) refl e

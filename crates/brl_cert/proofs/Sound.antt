@@ -13,13 +13,13 @@ use Rattle.std.proofs.lemmas.List.Elements.{All-from_recursion, All-nil, All-pus
 use Rattle.std.proofs.lemmas.Map.Keys.{IsDistinct-push}
 use Rattle.brl_cells.specs.declared.fault.DotsFault.{DotsFault}
 use Rattle.brl_cells.specs.declared.fault.DotsFault.TheVariants.{TooManyCells}
-use Rattle.brl_cells.specs.Dots.{AreCells, limited, cells_reading, parts, reading as dots_reading}
-use Rattle.brl_cert.specs.declared.fault.Wrong.TheVariants.{Syntax, NotCanonical, DuplicateState, DuplicatePair, NoSuchState, WrongCount, Version}
+use Rattle.brl_cells.specs.Dots.{AreCells, cells_reading, parts, reading as dots_reading}
+use Rattle.brl_cert.specs.declared.fault.CertFaultKind.TheVariants.{Syntax, NotCanonical, DuplicateState, DuplicatePair, NoSuchState, WrongCount, Version}
 use Rattle.brl_edges.specs.Body.{BodyView, IsPairOf, NumberPair, same_pair}
 use Rattle.brl_cert.specs.Fields.{◌>>=◌, loose_number, loose_lead, is_char, loose_char, loose_chars, each, number, flag}
 use Rattle.brl_cert.specs.declared.line.Line.{Line}
 use Rattle.brl_cert.specs.declared.line.Line.TheVariants.{State, Pair, End}
-use Rattle.brl_cert.specs.Lines.{States, ◌>>>◌, placed, count, spelled_line, loose_line, loose_pair, loose_end, strict_line, line_of, may_stand, is_end, add_line, one_line, body_of}
+use Rattle.brl_cert.specs.Lines.{at_line, States, ◌>>>◌, placed, count, spelled_line, loose_line, loose_pair, loose_end, strict_line, line_of, may_stand, is_end, add_line, one_line, body_of}
 use Rattle.brl_window.specs.declared.state.WindowState.{WindowState}
 use Rattle.brl_cert.specs.Window.{windows, loose_window}
 use Rattle.brl_cert.specs.Dues.{owing}
@@ -27,6 +27,7 @@ use Rattle.brl_cert.specs.Reading.{reading, certificate_of, version_of, header_o
 use Rattle.brl_kinds.specs.declared.cert.Cert.TheVariants.{Dues, Window}
 use Rattle.brl_kinds.specs.declared.cert.Cert.{Cert as Certificate}
 use Rattle.brl_cert.specs.Valid.{IsBody, IsWindow, IsOwing, IsCertificate}
+use Rattle.brl_cert.proofs.Ascii.{limited}
 use Rattle.brl_cert.proofs.Found.{then_ok, placed_ok, guard_ok, need_ok, ok_is}
 use Rattle.brl_cert.proofs.Window.{NumberPair-Decides, WindowState-Decides, flips}
 
@@ -228,20 +229,20 @@ module _ {S : Type 0} (form : States S) (IsState : S → Type 0) (cells : ReadCe
   body_valid n body [] out front e = absurd cc
   body_valid n body (last ∷ []) out front e = absurd cc
   body_valid n body (bytes ∷ next ∷ more) out front e =
-      let a = then_ok (placed n (one_line form body bytes)) (λ x. cond (not x.0) (body_of form (suc n) x.1 (next ∷ more)) (cond (eqb (length next + length more) 0) (Ok x.1) (Err (Syntax, suc n)))) out e in
+      let a = then_ok (placed n (one_line form body bytes)) (λ x. cond (not x.0) (body_of form (suc n) x.1 (next ∷ more)) (cond (eqb (length next + length more) 0) (Ok x.1) (Err (at_line (suc n) Syntax)))) out e in
       let b = then_ok (line_of form body bytes) (λ line. add_line form body line >>> λ longer. Ok (is_end line, longer)) a.0 (placed_ok n (one_line form body bytes) a.0 a.1) in
       let c = then_ok (add_line form body b.0) (λ longer. Ok (is_end b.0, longer)) a.0 b.2 in
       let line = strict_valid body bytes (loose_line form (slice_split (λ b. eqb b 32) bytes)) b.0 (line_valid (slice_split (λ b. eqb b 32) bytes)) b.1 in
       let behind : IsFront form IsState c.0 = adds_valid body b.0 c.0 front line.0 line.1 c.1 in
       let same : (is_end b.0, c.0) ≡ a.0 = ok_is (is_end b.0, c.0) a.0 c.2 in
-      let last_ : cond (not (is_end b.0)) (body_of form (suc n) c.0 (next ∷ more)) (cond (eqb (length next + length more) 0) (Ok c.0) (Err (Syntax, suc n))) ≡ Ok out = subst (λ (x : Bool × BodyView S). cond (not x.0) (body_of form (suc n) x.1 (next ∷ more)) (cond (eqb (length next + length more) 0) (Ok x.1) (Err (Syntax, suc n))) ≡ Ok out) (sym same) a.2 in
+      let last_ : cond (not (is_end b.0)) (body_of form (suc n) c.0 (next ∷ more)) (cond (eqb (length next + length more) 0) (Ok c.0) (Err (at_line (suc n) Syntax))) ≡ Ok out = subst (λ (x : Bool × BodyView S). cond (not x.0) (body_of form (suc n) x.1 (next ∷ more)) (cond (eqb (length next + length more) 0) (Ok x.1) (Err (at_line (suc n) Syntax))) ≡ Ok out) (sym same) a.2 in
       turn b.0 (λ h. body_valid (suc n) c.0 (next ∷ more) out behind h) (closes_valid body b.0 c.0 behind line.1 c.1) (is_end b.0) refl last_
     where
       turn : {longer : BodyView S} (line : Line S) → (body_of form (suc n) longer (next ∷ more) ≡ Ok out → IsBody form IsState out) → (is_end line ≡ true → IsBody form IsState longer) → (ends : Bool) → is_end line ≡ ends
-          → cond (not ends) (body_of form (suc n) longer (next ∷ more)) (cond (eqb (length next + length more) 0) (Ok longer) (Err (Syntax, suc n))) ≡ Ok out → IsBody form IsState out
+          → cond (not ends) (body_of form (suc n) longer (next ∷ more)) (cond (eqb (length next + length more) 0) (Ok longer) (Err (at_line (suc n) Syntax))) ≡ Ok out → IsBody form IsState out
       turn line go close false is rest = go rest
       turn {longer} line go close true is rest =
-          let a = need_ok (eqb (length next + length more) 0) (Syntax, suc n) (Ok longer) out rest in
+          let a = need_ok (eqb (length next + length more) 0) (at_line (suc n) Syntax) (Ok longer) out rest in
           subst (IsBody form IsState) (ok_is longer out a.1) (close is)
 
   nothing_front : IsFront form IsState (record { states = []; pairs = [] })
@@ -290,11 +291,11 @@ module _ (cells : ReadCells) (reads_owing : ReadsStates owing IsOwing) where
   version_valid : (version : ℕ) (parts : List (List ℕ)) (c : Certificate) → version_of version parts ≡ Ok c → IsCertificate c
   version_valid version parts c e = by_first (eqb version 1) e
     where
-      by_second : (b : Bool) → cond b (body_of owing 2 nothing parts >>> λ body. Ok (Dues body)) (Err (Version, 1)) ≡ Ok c → IsCertificate c
+      by_second : (b : Bool) → cond b (body_of owing 2 nothing parts >>> λ body. Ok (Dues body)) (Err (at_line 1 Version)) ≡ Ok c → IsCertificate c
       by_second true e = lines_valid owing IsOwing cells reads_owing Dues (λ body h. h) parts c e
       by_second false e = absurd cc
 
-      by_first : (b : Bool) → cond b (body_of windows 2 nothing parts >>> λ body. Ok (Window body)) (cond (eqb version 2) (body_of owing 2 nothing parts >>> λ body. Ok (Dues body)) (Err (Version, 1))) ≡ Ok c → IsCertificate c
+      by_first : (b : Bool) → cond b (body_of windows 2 nothing parts >>> λ body. Ok (Window body)) (cond (eqb version 2) (body_of owing 2 nothing parts >>> λ body. Ok (Dues body)) (Err (at_line 1 Version))) ≡ Ok c → IsCertificate c
       by_first true e = lines_valid windows IsWindow cells reads_windows Window (λ body h. h) parts c e
       by_first false e = by_second (eqb version 2) e
 

@@ -2,7 +2,8 @@
 use Rattle.std.proofs.Common.{◌≡◌, ℕ, eqb, List, ◌∷◌, ◌++◌, Result, Ok, refl, sym, ap, ◌∙◌}
 use Rattle.std.specs.Fmt.{digits}
 use Rattle.std.proofs.lemmas.List.Splits.{slice_split_at}
-use Rattle.brl_cert.specs.declared.fault.Wrong.{Wrong}
+use Rattle.brl_cert.specs.declared.fault.CertFault.{CertFault}
+use Rattle.brl_cert.specs.declared.fault.CertFaultKind.{CertFaultKind}
 use Rattle.brl_edges.specs.Body.{BodyView, same_pair}
 use Rattle.brl_cert.specs.Dues.{owing}
 use Rattle.brl_cert.specs.Lines.{States, spelled_body, body_of, ◌>>>◌}
@@ -35,7 +36,7 @@ body_is_read form keeps law wrap n heads body good =
     let first = first_part 10 (spelled_body form body) in
     ap certificate_of (slice_split_at (λ b. eqb b 10) (spelled_header n) 10 (spelled_body form body) (apart 10 (spelled_header n) heads.bare) refl ∙ ap (λ (ps : List (List ℕ)). spelled_header n ∷ ps) first.2)
     ∙ rw heads.again (heads.lines (first.0 ∷ first.1) ∙ ap (λ (ps : List (List ℕ)). body_of form 2 nothing ps >>> λ all. Ok (wrap all)) (sym first.2)
-    ∙ ap (λ (r : Result (BodyView _) (Wrong × ℕ)). r >>> λ all. Ok (wrap all)) (body_again form keeps law (flips same_pair NumberPair-Decides) 2 body good))
+    ∙ ap (λ (r : Result (BodyView _) CertFault). r >>> λ all. Ok (wrap all)) (body_again form keeps law (flips same_pair NumberPair-Decides) 2 body good))
 
 -- what is spelled is read
 pub spelled_is_read : ReadsCells → KeepsStates owing IsOwing → (c : Certificate) → IsCertificate c → reading (spelling c) ≡ Ok c

@@ -3,8 +3,9 @@ use Rattle.std.specs.Prelude.{ℕ, suc, ◌+◌, ◌≤◌, Bool, true, false, �
 use Rattle.std.specs.Str.{bytes_eq}
 use Rattle.std.specs.Fmt.{decimal}
 use Rattle.std.specs.List.{slice_split, join_with_byte, flat_map, list_any}
-use Rattle.brl_cert.specs.declared.fault.Wrong.{Wrong}
-use Rattle.brl_cert.specs.declared.fault.Wrong.TheVariants.{Syntax, NotCanonical, DuplicateState, DuplicatePair, NoSuchState, WrongCount, Truncated}
+use Rattle.brl_cert.specs.declared.fault.CertFault.{CertFault}
+use Rattle.brl_cert.specs.declared.fault.CertFaultKind.{CertFaultKind}
+use Rattle.brl_cert.specs.declared.fault.CertFaultKind.TheVariants.{Syntax, NotCanonical, DuplicateState, DuplicatePair, NoSuchState, WrongCount, Truncated}
 use Rattle.brl_edges.specs.Body.{BodyView, NumberPair, same_pair}
 use Rattle.brl_cert.specs.declared.line.Line.{Line}
 use Rattle.brl_cert.specs.declared.line.Line.TheVariants.{State, Pair, End}
@@ -27,10 +28,14 @@ abbrev pub ◌>>>◌ : {A B E : Type 0} → Result A E → (A → Result B E) �
 (Ok x) >>> f = f x
 (Err e) >>> f = Err e
 
--- what is wrong, with its line
-abbrev pub placed : {A : Type 0} → ℕ → Result A Wrong → Result A (Wrong × ℕ)
+-- a fault of this kind in the line with this number
+abbrev pub at_line : ℕ → CertFaultKind → CertFault
+at_line n kind = record { kind = kind; line = n }
+
+-- the fault of a line, with its number
+abbrev pub placed : {A : Type 0} → ℕ → Result A CertFaultKind → Result A CertFault
 placed n (Ok x) = Ok x
-placed n (Err wrong) = Err (wrong, n)
+placed n (Err kind) = Err (at_line n kind)
 
 module _ {S : Type 0} where
   -- a state line stands before all pair lines
@@ -102,17 +107,17 @@ module _ {S : Type 0} (form : States S) where
 
   -- what a line stands for by its form alone: first whether it is of the loose form of a line that may stand here, then
   -- whether it is spelled in the one way
-  abbrev pub strict_line : BodyView S → List ℕ → Option (Line S) → Result (Line S) Wrong
+  abbrev pub strict_line : BodyView S → List ℕ → Option (Line S) → Result (Line S) CertFaultKind
   strict_line body bytes None = Err Syntax
   strict_line body bytes (Some line) =
       if not (may_stand body line) then Err Syntax
       else (if bytes_eq (spelled_line line) bytes then Ok line else Err NotCanonical)
 
-  abbrev pub line_of : BodyView S → List ℕ → Result (Line S) Wrong
+  abbrev pub line_of : BodyView S → List ℕ → Result (Line S) CertFaultKind
   line_of body bytes = strict_line body bytes (loose_line (slice_split (λ b. b == 32) bytes))
 
   -- what stands in the certificate behind this line
-  abbrev pub add_line : BodyView S → Line S → Result (BodyView S) Wrong
+  abbrev pub add_line : BodyView S → Line S → Result (BodyView S) CertFaultKind
   add_line body (State s) =
       if list_any (form.same s) body.states then Err DuplicateState
       else Ok (record { states = body.states ++ s ∷ []; pairs = body.pairs })
@@ -123,16 +128,16 @@ module _ {S : Type 0} (form : States S) where
   add_line body (End s p) = if (length body.states == s) && (length body.pairs == p) then Ok body else Err WrongCount
 
   -- all that one line does: whether it was the end line, and what stands behind it
-  abbrev pub one_line : BodyView S → List ℕ → Result (Bool × BodyView S) Wrong
+  abbrev pub one_line : BodyView S → List ℕ → Result (Bool × BodyView S) CertFaultKind
   one_line body bytes = line_of body bytes >>> λ line. add_line body line >>> λ longer. Ok (is_end line, longer)
 
   -- ---- Reading line by line
 
   -- The lines from number n on, behind those that gave the body so far. A last part has no line feed behind it, and behind
   -- the end line's line feed nothing stands.
-  abbrev pub body_of : ℕ → BodyView S → List (List ℕ) → Result (BodyView S) (Wrong × ℕ)
-  body_of n body [] = Err (Truncated, n)
-  body_of n body (last ∷ []) = Err (Truncated, n)
+  abbrev pub body_of : ℕ → BodyView S → List (List ℕ) → Result (BodyView S) CertFault
+  body_of n body [] = Err (at_line n Truncated)
+  body_of n body (last ∷ []) = Err (at_line n Truncated)
   body_of n body (bytes ∷ next ∷ more) = placed n (one_line body bytes) >>> λ x.
       if not x.0 then body_of (suc n) x.1 (next ∷ more)
-      else (if length next + length more == 0 then Ok x.1 else Err (Syntax, suc n))
+      else (if length next + length more == 0 then Ok x.1 else Err (at_line (suc n) Syntax))

@@ -1,23 +1,27 @@
 //! Why bytes are no certificate.
-use std::alloc::AllocError;
+ghost use Rattle.std.specs.Prelude.{◌≡◌};
+ghost use Rattle.brl_cert.specs.Lines.{at_line};
+ghost use Rattle.brl_failure.specs.declared.failure.Failure.TheVariants as failures;
+
+use brl_failure::Failure;
 use thiserror::Error;
 
-/// What is wrong with a line.
+/// The kinds of faults of a line.
 #[derive(Clone, Copy, PartialEq, Eq, Debug, Error)]
-pub enum Wrong {
+pub enum CertFaultKind {
     /// The header names a version that isn't known.
     #[error("K1 Version")]
     Version,
-    /// It isn't of the form of a line that may stand here.
+    /// It isn't of the form of a line that may come here.
     #[error("K2 Syntax")]
     Syntax,
     /// It has the form, but isn't spelled in the one way that is allowed.
     #[error("K3 NotCanonical")]
     NotCanonical,
-    /// Its state stands in an earlier line.
+    /// An earlier line has its state.
     #[error("K4 DuplicateState")]
     DuplicateState,
-    /// Its pair stands in an earlier line.
+    /// An earlier line has its pair.
     #[error("K5 DuplicatePair")]
     DuplicatePair,
     /// Its pair names a state that isn't there.
@@ -31,22 +35,19 @@ pub enum Wrong {
     Truncated,
 }
 
-/// Why bytes are no certificate: what is wrong with the first faulty line, and its number, from 1; or a growth was refused.
-#[derive(PartialEq, Eq, Debug, Drop, Error)]
-pub enum CertFault {
-    #[error("{wrong} line {line}")]
-    Refused { wrong: Wrong, line: u64 },
-    #[error("Memory")]
-    Memory,
+impl CertFaultKind {
+    /// A fault of this kind in the line with this number.
+    pub(crate) fn at(self, line: u64) -> Failure<CertFault>
+        ensures { result ≡ failures.Fault (at_line line self) }
+    {
+        Failure::Fault(CertFault { kind: self, line })
+    }
 }
 
-impl From<AllocError> for CertFault {
-    ghost use Rattle.std.specs.Prelude.{◌≡◌};
-    ghost use Rattle.brl_cert.specs.declared.fault.CertFault.TheVariants.{Memory};
-
-    ghost from_gives = { λ _ fault. fault ≡ Memory };
-
-    fn from(_error: AllocError) -> CertFault {
-        CertFault::Memory
-    }
+/// Why bytes are no certificate: the kind of the first faulty line's fault, and its number, from 1.
+#[derive(Clone, Copy, PartialEq, Eq, Debug, Error)]
+#[error("{kind} line {line}")]
+pub struct CertFault {
+    pub kind: CertFaultKind,
+    pub line: u64,
 }

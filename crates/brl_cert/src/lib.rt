@@ -15,7 +15,7 @@ mod version;
 mod writing;
 
 pub use brl_kinds::Cert;
-pub use fault::{CertFault, Wrong};
+pub use fault::{CertFault, CertFaultKind};
 pub use laws::certificate_laws;
 pub use reading::read_cert;
 pub use version::{Version, Version1, Version2};

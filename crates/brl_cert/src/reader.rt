@@ -1,15 +1,17 @@
 //! Reading the lines of a certificate one after another.
 ghost use Rattle.std.specs.Prelude.{◌≡◌, ◌≤◌, All, length, true, false, IfErr, IfOk, OnOk, Ok};
 ghost use Rattle.brl_cert.specs.Lines.{HasShortLead, add_line, is_end, line_of, may_stand, one_line, placed};
-ghost use Rattle.brl_cert.specs.Reading.{IsFaultOf, nothing};
+ghost use Rattle.brl_failure.specs.Failure.{IsFaultOf};
+ghost use Rattle.brl_cert.specs.Reading.{nothing};
 ghost use Rattle.brl_cert.specs.declared.line.Line.TheVariants as line;
 ghost use Rattle.brl_edges.specs.Body.{BodyView, IsPairOf, listed};
 
 use crate::line::Line;
 use crate::reading_lines::read_line;
 use crate::writing::push_line;
-use crate::{CertFault, Version, Wrong};
+use crate::{CertFault, CertFaultKind, Version};
 use brl_edges::{Body, Members};
+use brl_failure::Failure;
 use brl_pairs::Pair;
 use std::alloc::Global;
 use std::marker::Model;
@@ -61,38 +63,34 @@ impl<V: Version> Reader<V> {
     }
 
     /// What a line of this number stands for by its form alone.
-    fn read(&self, alloc: Global, number: u64, bytes: &[u8]) -> Result<Line<V::State>, CertFault>
+    fn read(
+        &self,
+        alloc: Global,
+        number: u64,
+        bytes: &[u8],
+    ) -> Result<Line<V::State>, Failure<CertFault>>
         ensures line { IfOk result (λ line. placed number (line_of V.form self.now bytes.now) ≡ Ok line) }
         ensures lead { IfOk result HasShortLead }
         ensures stands { IfOk result (λ line. may_stand self.now line ≡ true) }
         ensures fault { IfErr result (IsFaultOf (placed number (line_of V.form self.now bytes.now))) }
     {
         let Some(line) = read_line::<V>(alloc, bytes)? else {
-            return Err(CertFault::Refused {
-                wrong: Wrong::Syntax,
-                line: number,
-            });
+            return Err(CertFaultKind::Syntax.at(number));
         };
         if !self.may_stand(&line) {
-            return Err(CertFault::Refused {
-                wrong: Wrong::Syntax,
-                line: number,
-            });
+            return Err(CertFaultKind::Syntax.at(number));
         }
         let mut spelled = Vec::new(alloc);
         push_line::<V>(alloc, &mut spelled, &line)?;
         if spelled.as_slice() == bytes {
             Ok(line)
         } else {
-            Err(CertFault::Refused {
-                wrong: Wrong::NotCanonical,
-                line: number,
-            })
+            Err(CertFaultKind::NotCanonical.at(number))
         }
     }
 
     /// Adds the state of the line of this number.
-    fn add_state(&mut self, number: u64, state: V::State) -> Result<(), CertFault>
+    fn add_state(&mut self, number: u64, state: V::State) -> Result<(), Failure<CertFault>>
         requires { length self.old.pairs ≡ 0 }
         ensures ok { OnOk result (placed number (add_line V.form self.old (line.State state)) ≡ Ok self.new) }
         ensures fault { IfErr result (IsFaultOf (placed number (add_line V.form self.old (line.State state)))) }
@@ -100,38 +98,29 @@ impl<V: Version> Reader<V> {
         if self.states.insert(state)? {
             Ok(())
         } else {
-            Err(CertFault::Refused {
-                wrong: Wrong::DuplicateState,
-                line: number,
-            })
+            Err(CertFaultKind::DuplicateState.at(number))
         }
     }
 
     /// Adds the pair of the line of this number.
-    fn add_pair(&mut self, number: u64, pair: Pair<u32>) -> Result<(), CertFault>
+    fn add_pair(&mut self, number: u64, pair: Pair<u32>) -> Result<(), Failure<CertFault>>
         requires { length pair.lead ≤ 1024 }
         ensures ok { OnOk result (placed number (add_line V.form self.old (line.Pair pair)) ≡ Ok self.new) }
         ensures fault { IfErr result (IsFaultOf (placed number (add_line V.form self.old (line.Pair pair)))) }
     {
         let count = self.states.len();
         if pair.ahead as usize >= count || pair.behind as usize >= count {
-            return Err(CertFault::Refused {
-                wrong: Wrong::NoSuchState,
-                line: number,
-            });
+            return Err(CertFaultKind::NoSuchState.at(number));
         }
         if self.pairs.insert(pair)? {
             Ok(())
         } else {
-            Err(CertFault::Refused {
-                wrong: Wrong::DuplicatePair,
-                line: number,
-            })
+            Err(CertFaultKind::DuplicatePair.at(number))
         }
     }
 
     /// Compares the counts of the end line of this number.
-    fn close(&self, number: u64, states: u32, pairs: u32) -> Result<(), CertFault>
+    fn close(&self, number: u64, states: u32, pairs: u32) -> Result<(), Failure<CertFault>>
         ensures ok { OnOk result (placed number (add_line V.form self.now (line.End states pairs)) ≡ Ok self.now) }
         ensures few_states { OnOk result (length self.now.states ≤ 4294967295) }
         ensures few_pairs { OnOk result (length self.now.pairs ≤ 4294967295) }
@@ -140,15 +129,12 @@ impl<V: Version> Reader<V> {
         if self.states.len() == states as usize && self.pairs.len() == pairs as usize {
             Ok(())
         } else {
-            Err(CertFault::Refused {
-                wrong: Wrong::WrongCount,
-                line: number,
-            })
+            Err(CertFaultKind::WrongCount.at(number))
         }
     }
 
     /// Adds what a line of this number says, and answers whether it is the end line.
-    fn add(&mut self, number: u64, line: Line<V::State>) -> Result<bool, CertFault>
+    fn add(&mut self, number: u64, line: Line<V::State>) -> Result<bool, Failure<CertFault>>
         requires lead { HasShortLead line }
         requires stands { may_stand self.old line ≡ true }
         ensures ok { OnOk result (placed number (add_line V.form self.old line) ≡ Ok self.new) }
@@ -174,7 +160,12 @@ impl<V: Version> Reader<V> {
     }
 
     /// Reads the line of this number, and answers whether it is the end line.
-    pub fn take_line(&mut self, alloc: Global, number: u64, bytes: &[u8]) -> Result<bool, CertFault>
+    pub fn take_line(
+        &mut self,
+        alloc: Global,
+        number: u64,
+        bytes: &[u8],
+    ) -> Result<bool, Failure<CertFault>>
         ensures ok { IfOk result (λ last. placed number (one_line V.form self.old bytes.now) ≡ Ok (last, self.new)) }
         ensures few_states { IfOk result (λ last. last ≡ true → length self.new.states ≤ 4294967295) }
         ensures few_pairs { IfOk result (λ last. last ≡ true → length self.new.pairs ≤ 4294967295) }

@@ -3,7 +3,8 @@ ghost use Rattle.std.specs.Prelude.{◌≡◌, ◌≤◌, length, map, IfOk, IfS
 ghost use Rattle.brl_cert.specs.Fields.{each, loose_char, loose_chars, loose_lead};
 
 use crate::field::{parts_of, read_char};
-use brl_cells::{Cells, Chars, DotsFault, read_dots};
+use brl_cells::{Cells, Chars, read_dots};
+use brl_failure::Failure;
 use std::alloc::{AllocError, Global};
 
 /// The characters of parts in their loose form, where each part has one.
@@ -44,7 +45,7 @@ pub fn read_lead(alloc: Global, field: &[u8]) -> Result<Option<Cells>, AllocErro
     };
     match read_dots(alloc, text, 1024) {
         Ok(cells) => Ok(Some(cells)),
-        Err(DotsFault::Memory) => Err(AllocError),
-        Err(_) => Ok(None),
+        Err(Failure::Fault(_)) => Ok(None),
+        Err(Failure::Memory) => Err(AllocError),
     }
 }

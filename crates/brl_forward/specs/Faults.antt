@@ -13,23 +13,19 @@ use Rattle.brl_forward.specs.declared.fault.Side.TheVariants.{Left, Right}
 abbrev pub first_unknown : TableView → List ℕ → Option ℕ
 first_unknown t text = position (λ c. not (is_defined t c)) text
 
--- a fault of a text names that position; memory may be wanting at any text
+-- a fault of a text names that position
 abbrev pub IsFaultOf : TableView → List ℕ → ForwardFault → Type 0
 IsFaultOf t text (forward.UnknownChar place) = first_unknown t text ≡ Some place
-IsFaultOf t text forward.Memory = Unit {0}
 
 -- the same fault, of one of two texts
 abbrev pub fault_of_side : Side → ForwardFault → ConfirmFault
 fault_of_side side (forward.UnknownChar place) = confirm.UnknownChar side place
-fault_of_side side forward.Memory = confirm.Memory
 
 -- a fault of one of two texts names that one
 abbrev pub IsFaultOfSide : Side → TableView → List ℕ → ConfirmFault → Type 0
 IsFaultOfSide side t text (confirm.UnknownChar named place) = (named ≡ side) × (first_unknown t text ≡ Some place)
-IsFaultOfSide side t text confirm.Memory = Unit {0}
 
 -- a fault of two texts names the side too, left before right
 abbrev pub IsFaultOfTwo : TableView → List ℕ → List ℕ → ConfirmFault → Type 0
 IsFaultOfTwo t left right (confirm.UnknownChar Left place) = first_unknown t left ≡ Some place
 IsFaultOfTwo t left right (confirm.UnknownChar Right place) = (first_unknown t left ≡ None) × (first_unknown t right ≡ Some place)
-IsFaultOfTwo t left right confirm.Memory = Unit {0}

@@ -2,10 +2,12 @@
 ghost use Rattle.std.specs.Prelude.{◌≡◌, ◌↔◌, IsTrue, ℕ, List, IfOk, IfErr, IfSome, IfNone};
 ghost use Rattle.brl_table.specs.Text.{is_text};
 ghost use Rattle.brl_table.specs.Translation.{IsClash, translation};
+ghost use Rattle.brl_failure.specs.Failure.{IfFault};
 ghost use Rattle.brl_forward.specs.Faults.{IsFaultOfSide, IsFaultOfTwo};
 
 use crate::{ConfirmFault, Side, translate};
 use brl_cells::Cell;
+use brl_failure::Failure;
 use brl_table::Table;
 use std::alloc::Global;
 use std::marker::Model;
@@ -56,7 +58,7 @@ pub fn confirm(
     table: &Table,
     left: &[char],
     right: &[char],
-) -> Result<Option<Clash>, ConfirmFault>
+) -> Result<Option<Clash>, Failure<ConfirmFault>>
     ensures left_text { IfOk result (λ _. IsTrue (is_text table.now left.now)) }
     ensures right_text { IfOk result (λ _. IsTrue (is_text table.now right.now)) }
     ensures left { IfOk result (λ found. IfSome found (λ clash. clash.left ≡ left.now)) }
@@ -64,7 +66,7 @@ pub fn confirm(
     ensures clash { IfOk result (λ found. IfSome found (λ clash. IsClash table.now left.now right.now clash.cells)) }
     ensures none { IfOk result (λ found. IfNone found
         ((cells : List ℕ) → IsClash table.now left.now right.now cells → ⊥)) }
-    ensures fault { IfErr result (IsFaultOfTwo table.now left.now right.now) }
+    ensures fault { IfErr result (IfFault (IsFaultOfTwo table.now left.now right.now)) }
 {
     let cells = cells_of_side(alloc, table, left, Side::Left)?;
     let others = cells_of_side(alloc, table, right, Side::Right)?;
@@ -84,12 +86,12 @@ fn cells_of_side(
     table: &Table,
     text: &[char],
     side: Side,
-) -> Result<Vec<Cell>, ConfirmFault>
+) -> Result<Vec<Cell>, Failure<ConfirmFault>>
     ensures text { IfOk result (λ _. IsTrue (is_text table.now text.now)) }
     ensures cells { IfOk result (λ cells. cells.items ≡ translation table.now text.now) }
-    ensures fault { IfErr result (IsFaultOfSide side table.now text.now) }
+    ensures fault { IfErr result (IfFault (IsFaultOfSide side table.now text.now)) }
 {
-    translate(alloc, table, text).map_err(|fault| fault.of_side(side))
+    translate(alloc, table, text).map_err(|failure| failure.map(|fault| fault.of_side(side)))
 }
 
 fn are_same_text(left: &[char], right: &[char]) -> bool

@@ -1,5 +1,4 @@
 //! The faults of translation.
-use std::alloc::{AllocError, AllocFailed};
 use std::fmt;
 use thiserror::Error;
 
@@ -9,9 +8,6 @@ pub enum ForwardFault {
     /// The table doesn't define the character at this position, from 0, which is the first such one.
     #[error("F1 UnknownChar {0}")]
     UnknownChar(usize),
-    /// A growth was refused.
-    #[error("Memory")]
-    Memory,
 }
 
 impl ForwardFault {
@@ -24,30 +20,7 @@ impl ForwardFault {
     {
         match self {
             ForwardFault::UnknownChar(place) => ConfirmFault::UnknownChar(side, place),
-            ForwardFault::Memory => ConfirmFault::Memory,
         }
-    }
-}
-
-impl From<AllocError> for ForwardFault {
-    ghost use Rattle.std.specs.Prelude.{◌≡◌};
-    ghost use Rattle.brl_forward.specs.declared.fault.ForwardFault.TheVariants.{Memory};
-
-    ghost from_gives = { λ _ fault. fault ≡ Memory };
-
-    fn from(_error: AllocError) -> ForwardFault {
-        ForwardFault::Memory
-    }
-}
-
-impl<T: Drop> From<AllocFailed<T>> for ForwardFault {
-    ghost use Rattle.std.specs.Prelude.{◌≡◌};
-    ghost use Rattle.brl_forward.specs.declared.fault.ForwardFault.TheVariants.{Memory};
-
-    ghost from_gives = { λ _ fault. fault ≡ Memory };
-
-    fn from(_error: AllocFailed<T>) -> ForwardFault {
-        ForwardFault::Memory
     }
 }
 
@@ -70,22 +43,8 @@ impl fmt::Display for Side {
 /// Why two texts aren't compared.
 #[derive(Clone, Copy, PartialEq, Eq, Debug, Error)]
 pub enum ConfirmFault {
-    /// The table doesn't define the character at this position of this text, from 0, which is its first such one. The
-    /// left text is looked at before the right one.
+    /// The table doesn't define the character at this position of this text, from 0, which is its first
+    /// such one. The left text is looked at before the right one.
     #[error("F1 UnknownChar {1} at {0}")]
     UnknownChar(Side, usize),
-    /// A growth was refused.
-    #[error("Memory")]
-    Memory,
-}
-
-impl From<AllocError> for ConfirmFault {
-    ghost use Rattle.std.specs.Prelude.{◌≡◌};
-    ghost use Rattle.brl_forward.specs.declared.fault.ConfirmFault.TheVariants.{Memory};
-
-    ghost from_gives = { λ _ fault. fault ≡ Memory };
-
-    fn from(_error: AllocError) -> ConfirmFault {
-        ConfirmFault::Memory
-    }
 }

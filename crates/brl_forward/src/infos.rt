@@ -2,9 +2,11 @@
 ghost use Rattle.std.specs.Prelude.{◌≡◌, IsTrue, IfOk, IfErr};
 ghost use Rattle.brl_table.specs.Infos.{AreInfosOf};
 ghost use Rattle.brl_table.specs.Text.{is_text};
+ghost use Rattle.brl_failure.specs.Failure.{IfFault};
 ghost use Rattle.brl_forward.specs.Faults.{IsFaultOf};
 
 use crate::ForwardFault;
+use brl_failure::Failure;
 use brl_table::{Info, Table};
 use std::alloc::Global;
 
@@ -13,16 +15,16 @@ pub(crate) fn infos_of<'a>(
     alloc: Global,
     table: &'a Table,
     text: &[char],
-) -> Result<Vec<&'a Info>, ForwardFault>
+) -> Result<Vec<&'a Info>, Failure<ForwardFault>>
     ensures text { IfOk result (λ _. IsTrue (is_text table.now text.now)) }
     ensures infos { IfOk result (λ infos. AreInfosOf table.now text.now infos.items) }
-    ensures fault { IfErr result (IsFaultOf table.now text.now) }
+    ensures fault { IfErr result (IfFault (IsFaultOf table.now text.now)) }
 {
     let mut infos = Vec::with_capacity(alloc, text.len())?;
     for (place, character) in text.iter().enumerate() {
         match table.info(*character) {
             Some(info) => infos.push(info)?,
-            None => return Err(ForwardFault::UnknownChar(place)),
+            None => return Err(Failure::Fault(ForwardFault::UnknownChar(place))),
         }
     }
     Ok(infos)

@@ -2,12 +2,14 @@
 ghost use Rattle.std.specs.Prelude.{◌≡◌, ◌<◌, ◌≤◌, length, IsTrue, IfOk, IfErr, Some};
 ghost use Rattle.brl_table.specs.Infos.{AreInfosOf, first_info};
 ghost use Rattle.brl_table.specs.Text.{is_text};
+ghost use Rattle.brl_failure.specs.Failure.{IfFault};
 ghost use Rattle.brl_forward.specs.Faults.{IsFaultOf};
 ghost use Rattle.brl_forward.specs.Trace.{step_before, trace_of};
 
 use crate::ForwardFault;
 use crate::infos::infos_of;
 use brl_cells::Cells;
+use brl_failure::Failure;
 use brl_table::{Context, Info, Table, choice_laws, translation_laws};
 use std::alloc::{AllocError, Global};
 
@@ -27,10 +29,14 @@ pub struct Traced {
 }
 
 /// The steps of a text's translation, in order. `UnknownChar` where the table doesn't define a character of it.
-pub fn trace(alloc: Global, table: &Table, text: &[char]) -> Result<Vec<Traced>, ForwardFault>
+pub fn trace(
+    alloc: Global,
+    table: &Table,
+    text: &[char],
+) -> Result<Vec<Traced>, Failure<ForwardFault>>
     ensures text { IfOk result (λ _. IsTrue (is_text table.now text.now)) }
     ensures steps { IfOk result (λ steps. steps.items ≡ trace_of table.now text.now) }
-    ensures fault { IfErr result (IsFaultOf table.now text.now) }
+    ensures fault { IfErr result (IfFault (IsFaultOf table.now text.now)) }
 {
     let infos = infos_of(alloc, table, text)?;
     Ok(steps_of(alloc, table, text, infos.as_slice())?)

@@ -3,19 +3,25 @@ ghost use Rattle.std.specs.Prelude.{◌≡◌, IsTrue, IfOk, IfErr};
 ghost use Rattle.brl_table.specs.Infos.{AreInfosOf};
 ghost use Rattle.brl_table.specs.Text.{is_text};
 ghost use Rattle.brl_table.specs.Translation.{translation};
+ghost use Rattle.brl_failure.specs.Failure.{IfFault};
 ghost use Rattle.brl_forward.specs.Faults.{IsFaultOf};
 
 use crate::ForwardFault;
 use crate::infos::infos_of;
 use brl_cells::Cell;
+use brl_failure::Failure;
 use brl_table::{Context, Info, Table, translation_laws};
 use std::alloc::{AllocError, Global};
 
 /// The translation of a text to cells. `UnknownChar` where the table doesn't define a character of it.
-pub fn translate(alloc: Global, table: &Table, text: &[char]) -> Result<Vec<Cell>, ForwardFault>
+pub fn translate(
+    alloc: Global,
+    table: &Table,
+    text: &[char],
+) -> Result<Vec<Cell>, Failure<ForwardFault>>
     ensures text { IfOk result (λ _. IsTrue (is_text table.now text.now)) }
     ensures cells { IfOk result (λ cells. cells.items ≡ translation table.now text.now) }
-    ensures fault { IfErr result (IsFaultOf table.now text.now) }
+    ensures fault { IfErr result (IfFault (IsFaultOf table.now text.now)) }
 {
     let infos = infos_of(alloc, table, text)?;
     Ok(cells_of(alloc, table, text, infos.as_slice())?)

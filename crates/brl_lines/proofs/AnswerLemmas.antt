@@ -1,31 +1,31 @@
 -- A source with one answer for each path: what it gives for a table is one thing.
-use Rattle.std.proofs.Common.{◌≡◌, ℕ, Bool, true, false, cond, List, [], ◌∷◌, ◌++◌, refl, ap, sym, ◌∙◌, subst, Option, Some, None, Result, Ok, Err}
+use Rattle.std.proofs.Common.{◌≡◌, inl, inr, ℕ, Bool, true, false, cond, List, [], ◌∷◌, ◌++◌, refl, ap, sym, ◌∙◌, subst, Option, Some, None, Ok}
 use Rattle.std.proofs.lemmas.Slice.Eq.{bytes_eq-Decides}
 use Rattle.std.specs.Prelude.{option_map, string_bytes}
 use Rattle.std.specs.Str.{bytes_eq}
-use Rattle.brl_lines.proofs.LoadLemmas.{kept}
-use Rattle.brl_lines.proofs.MemoryLemmas.{given-at, never_unread}
-use Rattle.brl_lines.proofs.TurnLemmas.{lines_over-fewer, lines_over-more}
-use Rattle.brl_lines.specs.Answer.{Answer, Gives, GivesOneAnswer, Unreadable}
-use Rattle.brl_lines.specs.Lines.{Answers, PlaceView, Refusal, answer_at, lines_of, refusal, text_of}
+use Rattle.brl_lines.proofs.FileLemmas.{kept}
+use Rattle.brl_lines.proofs.MemoryLemmas.{given-at, never_unread, read_failed_or_not}
+use Rattle.brl_lines.proofs.MoreLemmas.{lines_over-fewer, lines_over-more}
+use Rattle.brl_lines.specs.Answer.{Answer, GivesOneAnswer, MayGive, Unreadable}
+use Rattle.brl_lines.specs.Lines.{Answers, LocationView, Refusal, answer_at, lines_of, refusal, text_of}
 use Rattle.brl_lines.specs.Outcome.{AreGiven, AreLinesOf, IsLoadFault, IsRefusedAs}
 use Rattle.brl_lines.specs.Tokens.{LineView}
-use Rattle.brl_lines.specs.Views.{place_view}
+use Rattle.brl_lines.specs.Views.{load_fault_view, location_view}
 use Rattle.brl_lines.specs.declared.fault.LoadFault.{LoadFault}
-use Rattle.brl_lines.specs.declared.fault.LoadFault.TheVariants as faults
-use Rattle.brl_lines.specs.declared.fault.Refused.{Refused}
-use Rattle.brl_lines.specs.declared.fault.Refused.TheVariants as refused
+use Rattle.brl_failure.specs.declared.failure.Failure.{Failure}
+use Rattle.brl_failure.specs.declared.failure.Failure.TheVariants.{Fault, Memory}
+use Rattle.brl_lines.specs.declared.fault.LoadFaultKind.TheVariants as kinds
 
-module _ (gives : Gives) (one : GivesOneAnswer gives) where
-  -- answers in front of others of the same source change none of them
-  behind : (answers others : Answers) (path : List ℕ) (answer : Answer) → AreGiven gives answers → gives path answer → answer_at others path ≡ Some answer
+module _ (gives : MayGive) (one : GivesOneAnswer gives) where
+  -- answers before others of the same source change none of them
+  after_others : (answers others : Answers) (path : List ℕ) (answer : Answer) → AreGiven gives answers → gives path answer → answer_at others path ≡ Some answer
       → answer_at (answers ++ others) path ≡ Some answer
-  behind [] others path answer given known h = h
-  behind (entry ∷ answers) others path answer given known h = by_test (bytes_eq entry.0 path) refl (behind answers others path answer given.1 known h)
+  after_others [] others path answer given known h = h
+  after_others (entry ∷ answers) others path answer given known h = by_test (bytes_eq path entry.0) refl (after_others answers others path answer given.1 known h)
     where
-      by_test : (b : Bool) → bytes_eq entry.0 path ≡ b → answer_at (answers ++ others) path ≡ Some answer → cond b (Some entry.1) (answer_at (answers ++ others) path) ≡ Some answer
+      by_test : (b : Bool) → bytes_eq path entry.0 ≡ b → answer_at (answers ++ others) path ≡ Some answer → cond b (Some entry.1) (answer_at (answers ++ others) path) ≡ Some answer
       by_test true e later =
-          let path_is : entry.0 ≡ path = (bytes_eq-Decides entry.0 path).0 e in
+          let path_is : entry.0 ≡ path = sym ((bytes_eq-Decides path entry.0).0 e) in
           ap Some (one path entry.1 answer (subst (λ p. gives p entry.1) path_is given.0) known)
       by_test false e later = later
 
@@ -34,12 +34,12 @@ module _ (gives : Gives) (one : GivesOneAnswer gives) where
   all_given (entry ∷ answers) others h k = (h.0, all_given answers others h.1 k)
 
   module _ (root : List ℕ) (lines : List LineView) (h : AreLinesOf gives root lines) where
-    -- the lines, over these answers and others behind them
+    -- the lines, over these answers and others after them
     together : (others : Answers) → lines_of (h.0 ++ others) root ≡ Ok lines
     together others = lines_over-more (answer_at h.0) (answer_at (h.0 ++ others)) (kept h.0 others) root (λ path place e. let no = sym h.2 ∙ e in cc) ∙ h.2
 
     known : (others : Answers) → AreGiven gives others → (path : List ℕ) (answer : Answer) → answer_at others path ≡ Some answer → answer_at (h.0 ++ others) path ≡ Some answer
-    known others given path answer e = behind h.0 others path answer h.1 (given-at gives others path answer given e) e
+    known others given path answer e = after_others h.0 others path answer h.1 (given-at gives others path answer given e) e
 
     pub one_list : (right : List LineView) → AreLinesOf gives root right → lines ≡ right
     one_list right k =
@@ -48,14 +48,14 @@ module _ (gives : Gives) (one : GivesOneAnswer gives) where
         cc
 
     -- no refusal but that of a file that can't be read
-    other_kind : (kind : Refused) (path : List ℕ) (place : Option PlaceView) → (kind ≡ refused.ReadFailed → ⊥) → IsRefusedAs gives root (refusal kind path place) → ⊥
-    other_kind kind path place other k =
-        let more = lines_over-more (answer_at k.0) (answer_at (h.0 ++ k.0)) (known k.0 k.1) root (never_unread (lines_of k.0 root) kind path place k.2 other) in
+    other_kind : (want : Refusal) → (want.kind ≡ kinds.ReadFailed → ⊥) → IsRefusedAs gives root want → ⊥
+    other_kind want other k =
+        let more = lines_over-more (answer_at k.0) (answer_at (h.0 ++ k.0)) (known k.0 k.1) root (never_unread (lines_of k.0 root) want k.2 other) in
         let no = sym (together k.0) ∙ more ∙ k.2 in
         cc
 
     -- and not that one, where it is one that the source can't read
-    unreadable : (path : List ℕ) (place : Option PlaceView) → gives path Unreadable → IsRefusedAs gives root (refusal refused.ReadFailed path place) → ⊥
+    unreadable : (path : List ℕ) (place : Option LocationView) → gives path Unreadable → IsRefusedAs gives root (refusal kinds.ReadFailed path place) → ⊥
     unreadable path place failed k =
         let text = lines_over-fewer (answer_at k.0) (answer_at (h.0 ++ k.0)) (known k.0 k.1) root lines (together k.0) path place k.2 in
         by_answer (answer_at (h.0 ++ k.0) path) refl text.1
@@ -67,13 +67,12 @@ module _ (gives : Gives) (one : GivesOneAnswer gives) where
             let no = sym (ap (λ x. text_of path place (Some x)) is) ∙ t in
             cc
 
-    pub only_memory : (fault : LoadFault) → IsLoadFault gives root fault → fault ≡ faults.Memory
-    only_memory faults.Memory k = refl
-    only_memory (faults.Refused refused.ReadFailed path place) k = absurd (unreadable (string_bytes path) (option_map place_view place) (k.1 refl) k.0)
-    only_memory (faults.Refused refused.NotFound path place) k = absurd (other_kind refused.NotFound _ _ (λ e. cc) k.0)
-    only_memory (faults.Refused refused.NotUtf8 path place) k = absurd (other_kind refused.NotUtf8 _ _ (λ e. cc) k.0)
-    only_memory (faults.Refused refused.Cycle path place) k = absurd (other_kind refused.Cycle _ _ (λ e. cc) k.0)
-    only_memory (faults.Refused refused.TooDeep path place) k = absurd (other_kind refused.TooDeep _ _ (λ e. cc) k.0)
-    only_memory (faults.Refused refused.LineTooLong path place) k = absurd (other_kind refused.LineTooLong _ _ (λ e. cc) k.0)
-    only_memory (faults.Refused refused.TooManyIncludes path place) k = absurd (other_kind refused.TooManyIncludes _ _ (λ e. cc) k.0)
-    only_memory (faults.Refused refused.TooLarge path place) k = absurd (other_kind refused.TooLarge _ _ (λ e. cc) k.0)
+    pub only_memory : (failure : Failure LoadFault) → IsLoadFault gives root failure → failure ≡ Memory
+    only_memory Memory k = refl
+    only_memory (Fault fault) k =
+        let path = string_bytes fault.path in
+        let place = option_map location_view fault.place in
+        elim (read_failed_or_not fault.kind) [
+          | inl failed ↦ absurd (unreadable path place (k.1 failed) (subst (λ kind. IsRefusedAs gives root (refusal kind path place)) failed k.0))
+          | inr other ↦ absurd (other_kind (load_fault_view fault) other k.0)
+        ]

@@ -1,5 +1,6 @@
--- The first character of a text, the digits of a number, and what an operand spells from a character on.
-use Rattle.std.proofs.Common.{◌≡◌, ◌≢◌, ℕ, zero, suc, ◌+◌, ◌-◌, ◌*◌, ◌^◌, ◌<◌, ◌≤◌, true, false, nat_eq, nat_lt, List, [], ◌∷◌, ◌++◌, length, drop, refl, ap, sym, ◌∙◌, arith, add-one, append_assoc, append-nil, length-append, Bor, MatchOption, IsUtf8, Option, Some, None, lit<}
+-- The first character of a text, the digits of a number, and what an operand spells from a
+-- character on.
+use Rattle.std.proofs.Common.{◌≡◌, ◌≢◌, ℕ, zero, suc, ◌+◌, ◌-◌, ◌*◌, ◌^◌, ◌<◌, ◌≤◌, true, false, nat_eq, nat_lt, List, [], ◌∷◌, ◌++◌, length, drop, refl, ap, sym, ◌∙◌, arith, add-one, append-nil, length-append, Bor, MatchOption, IsUtf8, Option, Some, None, lit<}
 use Rattle.std.proofs.Math.Nat.{pow-le-pow_right, pow-suc}
 use Rattle.std.proofs.lemmas.Bool.Decides.{nat_tests}
 use Rattle.std.proofs.lemmas.Bool.{eq-eqb}
@@ -7,9 +8,11 @@ use Rattle.std.proofs.lemmas.List.{drop-drop}
 use Rattle.std.proofs.lemmas.Str.{chars-nil, chars_past_char, length-encode, len_utf8_bounds}
 use Rattle.std.specs.Char.{IsScalar, digit_value, is_digit, encode_utf8}
 use Rattle.std.specs.Option.{option_map, option_and_then}
+use Rattle.std.specs.Prelude.{Ok, ok_or}
 use Rattle.std.specs.Str.{chars}
+use Rattle.brl_lines.specs.declared.operand.CharsFault.TheVariants.{BadEscape}
 use Rattle.brl_lines.proofs.RowLemmas.{not_equal}
-use Rattle.brl_lines.specs.Escapes.{character, digits_behind, escape, numbered, or_else, hexadecimal, named, spelled}
+use Rattle.brl_lines.specs.Escapes.{character, digits_after, escape, numbered, or_else, hexadecimal, named, spelled}
 
 pub first_character : (text rest : List ℕ) (c : ℕ) → IsUtf8 text → text ≡ encode_utf8 c ++ rest → (chars text ≡ c ∷ chars rest) × (length rest < length text)
 first_character text rest c u e =
@@ -37,7 +40,7 @@ spelled-drop zero marks = refl
 spelled-drop (suc taken) [] = refl
 spelled-drop (suc taken) (mark ∷ marks) = spelled-drop taken marks
 
--- a mark that stands for itself
+-- a mark that means itself
 pub spelled-plain : (mark : ℕ) (marks : List ℕ) → nat_eq mark 92 ≡ false → spelled 0 (mark ∷ marks) ≡ option_map (λ cs. mark ∷ cs) (spelled 0 marks)
 unfolding spelled
 spelled-plain mark marks e = rw e refl
@@ -51,11 +54,6 @@ spelled-escape mark marks c taken e f = rw (e, f, spelled-drop taken marks) refl
 pub spelled-bad : (mark : ℕ) (marks : List ℕ) → nat_eq mark 92 ≡ true → escape marks ≡ None → spelled 0 (mark ∷ marks) ≡ None
 unfolding spelled
 spelled-bad mark marks e f = rw (e, f) refl
-
--- one character more is found
-pub one_found : (found : List ℕ) (c : ℕ) (rest : Option (List ℕ)) → option_map (λ cs. found ++ cs) (option_map (λ cs. c ∷ cs) rest) ≡ option_map (λ cs. (found ++ c ∷ []) ++ cs) rest
-one_found found c None = refl
-one_found found c (Some cs) = ap Some (sym (append_assoc found (c ∷ []) cs))
 
 -- ---- how far a number is read
 
@@ -100,7 +98,7 @@ no_characters [] e = chars-nil
 no_characters (b ∷ bs) e = absurd (omega arith)
 
 -- an escape by number
-pub escape-numbered : (mark count code : ℕ) (marks : List ℕ) → named mark ≡ None → digits_behind mark ≡ Some count → hexadecimal count 0 marks ≡ Some code → IsScalar code
+pub escape-numbered : (mark count code : ℕ) (marks : List ℕ) → named mark ≡ None → digits_after mark ≡ Some count → hexadecimal count 0 marks ≡ Some code → IsScalar code
     → escape (mark ∷ marks) ≡ Some (code, count + 1)
 escape-numbered mark count code marks n d h s =
     ap (λ o. or_else o (numbered mark marks)) n
@@ -118,11 +116,11 @@ spelled-escaped all marks mark most bound (Some r) e backslash l h = (
   omega (arith, h.1),
 )
 
--- a mark that stands for itself is what is spelled
+-- a mark that means itself is what is spelled
 pub spelled-itself : (all marks : List ℕ) (mark : ℕ) → all ≡ mark ∷ marks → mark ≢ 92 → spelled 0 all ≡ option_map (λ cs. mark ∷ cs) (spelled 0 marks)
 spelled-itself all marks mark e apart = ap (spelled 0) e ∙ spelled-plain mark marks (not_equal mark 92 apart)
 
 -- the operand's end
-pub spelled-end : (found : List ℕ) (whole : Option (List ℕ)) (rest : List ℕ) → whole ≡ option_map (λ cs. found ++ cs) (spelled 0 (chars rest)) → length rest ≡ 0 → whole ≡ Some found
+pub spelled-end : (found : List ℕ) (whole : Option (List ℕ)) (rest : List ℕ) → whole ≡ option_map (λ cs. found ++ cs) (spelled 0 (chars rest)) → length rest ≡ 0 → ok_or whole BadEscape ≡ Ok found
 unfolding spelled
-spelled-end found whole rest e none = e ∙ rw (no_characters rest none, append-nil) refl
+spelled-end found whole rest e none = ap (λ o. ok_or o BadEscape) e ∙ rw (no_characters rest none, append-nil) refl

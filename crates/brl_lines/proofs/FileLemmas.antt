@@ -1,36 +1,250 @@
--- The files that are known, one after another.
-use Rattle.std.proofs.Common.{◌≡◌, ℕ, ◌+◌, ◌<◌, Bool, true, false, cond, List, [], ◌∷◌, ◌++◌, length, take, drop, get_or, refl, ap, sym, ◌∙◌, suc, add-one, drop-cons, Some, None}
-use Rattle.std.proofs.lemmas.List.{map-append, take-append-drop}
-use Rattle.std.specs.Prelude.{string_bytes}
-use Rattle.std.specs.Str.{bytes_eq}
-use Rattle.brl_lines.specs.Answer.{Holds}
-use Rattle.brl_lines.specs.Lines.{Answers, answer_at}
-use Rattle.brl_lines.specs.Views.{files_view, known_view}
-use Rattle.brl_lines.specs.declared.known.Known.{Known}
+-- The files that were read, and what the source answered for them.
+use Rattle.std.proofs.Common.{◌≡◌, ℕ, zero, suc, ◌+◌, ◌<◌, ◌≤◌, Bool, true, false, cond, List, [], ◌∷◌, ◌++◌, length, map, refl, ap, sym, ◌∙◌, subst, arith, append_assoc, append-nil, length-append, length-drop, drop, take, option_map, Option, Some, None, Ok, Err}
+use Rattle.std.proofs.lemmas.List.{map-append}
+use Rattle.std.proofs.lemmas.Option.{slice_get-map, slice_get_within}
+use Rattle.std.proofs.lemmas.Slice.Eq.{bytes_eq-Decides}
+use Rattle.std.specs.Global.{Global}
+use Rattle.std.specs.Map.{lookup, lookup_key, values_of}
+use Rattle.std.specs.Option.{option_map_or}
+use Rattle.std.specs.Prelude.{String, slice_get, string_bytes}
+use Rattle.std.specs.Str.{IsCharBoundary, bytes_eq}
+use Rattle.brl_lines.specs.Answer.{Answer, Holds, MayGive, most_file_bytes}
+use Rattle.brl_lines.specs.Files.{Files, answer_of_file, answers_of, lines_at, path_at, span_lines, text_at}
+use Rattle.brl_lines.specs.Lines.{Answers, LocationView, answer_at, text_of}
+use Rattle.brl_lines.specs.Outcome.{AreGiven}
+use Rattle.brl_lines.specs.Rows.{order_mark, piece, without_mark}
+use Rattle.brl_lines.specs.Steps.{AreSpans, Extends, Fails, Finds, Grows, IsOpen, IsSpan, Reads}
+use Rattle.brl_lines.specs.Tokens.{LineView, line_of, token_of, tokens}
+use Rattle.brl_lines.specs.declared.checked_file.CheckedFile.{CheckedFile}
+use Rattle.brl_failure.specs.declared.failure.Failure.{Failure}
+use Rattle.brl_failure.specs.declared.failure.Failure.TheVariants.{Fault, Memory}
+use Rattle.brl_lines.specs.declared.fault.LoadFault.{LoadFault}
+use Rattle.brl_lines.specs.declared.open_file.OpenFile.{OpenFile}
+use Rattle.brl_lines.specs.declared.span.LineSpan.{LineSpan}
 
--- a path that some answers lack
-pub answer_at-behind : (answers others : Answers) (path : List ℕ) → answer_at answers path ≡ None → answer_at (answers ++ others) path ≡ answer_at others path
-answer_at-behind [] others path h = refl
-answer_at-behind (entry ∷ answers) others path h = by_test (bytes_eq entry.0 path) h (answer_at-behind answers others path)
+-- ---- answers
+
+-- answers at the end change none of those before
+pub kept : (answers others : Answers) (path : List ℕ) (a : Answer) → answer_at answers path ≡ Some a → answer_at (answers ++ others) path ≡ Some a
+kept [] others path a h = absurd cc
+kept (entry ∷ answers) others path a h = by_test (bytes_eq path entry.0) h (kept answers others path a)
   where
-    by_test : (b : Bool) → cond b (Some entry.1) (answer_at answers path) ≡ None → (answer_at answers path ≡ None → answer_at (answers ++ others) path ≡ answer_at others path)
-        → cond b (Some entry.1) (answer_at (answers ++ others) path) ≡ answer_at others path
+    by_test : (b : Bool) → cond b (Some entry.1) (answer_at answers path) ≡ Some a → (answer_at answers path ≡ Some a → answer_at (answers ++ others) path ≡ Some a)
+        → cond b (Some entry.1) (answer_at (answers ++ others) path) ≡ Some a
+    by_test true k more = k
+    by_test false k more = more k
+
+-- an answer at the end, for a path that had none
+pub last : (answers : Answers) (path : List ℕ) (a : Answer) → answer_at answers path ≡ None → answer_at (answers ++ (path, a) ∷ []) path ≡ Some a
+last [] path a h = let same : bytes_eq path path ≡ true = (bytes_eq-Decides path path).1 refl in rw same refl
+last (entry ∷ answers) path a h = by_test (bytes_eq path entry.0) h (last answers path a)
+  where
+    by_test : (b : Bool) → cond b (Some entry.1) (answer_at answers path) ≡ None → (answer_at answers path ≡ None → answer_at (answers ++ (path, a) ∷ []) path ≡ Some a)
+        → cond b (Some entry.1) (answer_at (answers ++ (path, a) ∷ []) path) ≡ Some a
     by_test true k more = cc
     by_test false k more = more k
 
-module _ (files : List Known) (i : ℕ) (file : Known) (path : List ℕ) (before : answer_at (files_view (take i files)) path ≡ None) where
-  pub not_here : take (i + 1) files ≡ take i files ++ file ∷ [] → bytes_eq (string_bytes file.path) path ≡ false → answer_at (files_view (take (i + 1) files)) path ≡ None
-  not_here e n = rw (e, map-append) (answer_at-behind (files_view (take i files)) (files_view (file ∷ [])) path before ∙ rw n refl)
+pub given-more : (gives : MayGive) (answers : Answers) (path : List ℕ) (a : Answer) → AreGiven gives answers → gives path a → AreGiven gives (answers ++ (path, a) ∷ [])
+given-more gives [] path a h k = (k, tt)
+given-more gives (entry ∷ answers) path a h k = (h.0, given-more gives answers path a h.1 k)
 
-  pub found_here : files ≡ take i files ++ file ∷ drop (i + 1) files → bytes_eq (string_bytes file.path) path ≡ true → answer_at (files_view files) path ≡ Some (Holds (string_bytes file.whole))
-  found_here e y =
-      ap (λ fs. answer_at (files_view fs) path) e
-      ∙ ap (λ (answers : Answers). answer_at answers path) (map-append known_view (take i files) (file ∷ drop (i + 1) files))
-      ∙ answer_at-behind (files_view (take i files)) (files_view (file ∷ drop (i + 1) files)) path before
-      ∙ ap (λ b. cond b (Some (Holds (string_bytes file.whole))) (answer_at (files_view (drop (i + 1) files)) path)) y
+-- what one source gave, another may give
+pub given-stays : (g h : MayGive) → ((path : List ℕ) (a : Answer) → g path a → h path a) → (answers : Answers) → AreGiven g answers → AreGiven h answers
+given-stays g h stays [] k = tt
+given-stays g h stays (entry ∷ answers) k = (stays entry.0 entry.1 k.0, given-stays g h stays answers k.1)
 
--- a list around its element at i
-pub around : {X : Type 0} (xs : List X) (i : ℕ) (x : X) → i < length xs → x ≡ get_or xs i x → xs ≡ take i xs ++ x ∷ drop (i + 1) xs
-around xs i x h e =
-    sym (take-append-drop i xs)
-    ∙ ap (λ ys. take i xs ++ ys) (drop-cons xs i x h ∙ ap (λ y. y ∷ drop (suc i) xs) (sym e) ∙ ap (λ n. x ∷ drop n xs) (sym (add-one i)))
+-- ---- files at an index
+
+-- files at the end change none of those before
+pub get-kept : {X : Type 0} (xs ys : List X) (i : ℕ) → i < length xs → slice_get (xs ++ ys) i ≡ slice_get xs i
+get-kept [] ys i h = absurd (omega arith)
+get-kept (x ∷ xs) ys zero h = refl
+get-kept (x ∷ xs) ys (suc i) h = get-kept xs ys i (omega arith)
+
+pub path_at-kept : (files more : Files) (i : ℕ) → i < length files → path_at (files ++ more) i ≡ path_at files i
+path_at-kept files more i h = ap (λ file. option_map_or (λ (f : String Global × CheckedFile). string_bytes f.0) file []) (get-kept files more i h)
+
+pub text_at-kept : (files more : Files) (i : ℕ) → i < length files → text_at (files ++ more) i ≡ text_at files i
+text_at-kept files more i h = ap (λ file. option_map_or (λ (f : String Global × CheckedFile). without_mark (string_bytes f.1.whole)) file []) (get-kept files more i h)
+
+-- the file at the end
+pub get-last : {X : Type 0} (xs : List X) (x : X) → slice_get (xs ++ x ∷ []) (length xs) ≡ Some x
+get-last [] x = refl
+get-last (y ∷ xs) x = get-last xs x
+
+-- ---- files that were added
+
+module _ (gives : MayGive) (old new : Files) (grows : Grows gives old new) where
+  pub longer : (i : ℕ) → i < length old → i < length new
+  longer i h =
+      let whole : length new ≡ length old + length grows.more = ap length grows.kept ∙ length-append old grows.more in
+      omega arith
+
+  pub path_at-grows : (i : ℕ) → i < length old → path_at new i ≡ path_at old i
+  path_at-grows i h = ap (λ (files : Files). path_at files i) grows.kept ∙ path_at-kept old grows.more i h
+
+  pub text_at-grows : (i : ℕ) → i < length old → text_at new i ≡ text_at old i
+  text_at-grows i h = ap (λ (files : Files). text_at files i) grows.kept ∙ text_at-kept old grows.more i h
+
+  pub extends-older : (answer : List ℕ → Option Answer) → Extends new answer → Extends old answer
+  extends-older answer h path a e =
+      h path a (ap (λ (files : Files). answer_at (answers_of files) path) grows.kept ∙ ap (λ (answers : Answers). answer_at answers path) (map-append answer_of_file old grows.more)
+      ∙ kept (answers_of old) (answers_of grows.more) path a e)
+
+  pub open-grows : (file : OpenFile) → IsOpen old file → IsOpen new file
+  open-grows file h = record { within = longer file.index h.within; path = path_at-grows file.index h.within ∙ h.path }
+
+  -- spans stay where they are
+  pub span-grows : (span : LineSpan) → IsSpan old span → IsSpan new span
+  span-grows span h =
+      let text = sym (text_at-grows span.file h.file) in
+      record {
+        file = longer span.file h.file;
+        range = h.range;
+        within = subst (λ (t : List ℕ). span.to ≤ length t) text h.within;
+        from_boundary = subst (λ (t : List ℕ). IsCharBoundary t span.from) text h.from_boundary;
+        to_boundary = subst (λ (t : List ℕ). IsCharBoundary t span.to) text h.to_boundary;
+      }
+
+  pub spans-grow : (spans : List LineSpan) → AreSpans old spans → AreSpans new spans
+  spans-grow [] h = tt
+  spans-grow (span ∷ spans) h = (span-grows span h.0, spans-grow spans h.1)
+
+  span_lines-grows : (span : LineSpan) → IsSpan old span → span_lines new span ≡ span_lines old span
+  span_lines-grows span h =
+      ap (λ (path : List ℕ). line_of path span.line (map token_of (tokens (piece (text_at new span.file) span.from span.to)))) (path_at-grows span.file h.file)
+      ∙ ap (λ (text : List ℕ). line_of (path_at old span.file) span.line (map token_of (tokens (piece text span.from span.to)))) (text_at-grows span.file h.file)
+
+  pub lines_at-grows : (spans : List LineSpan) → AreSpans old spans → lines_at new spans ≡ lines_at old spans
+  lines_at-grows [] h = refl
+  lines_at-grows (span ∷ spans) h =
+      ap (λ (lines : List LineView). lines ++ lines_at new spans) (span_lines-grows span h.0) ∙ ap (λ (lines : List LineView). span_lines old span ++ lines) (lines_at-grows spans h.1)
+
+-- no files are added
+pub grows-none : (gives : MayGive) (files : Files) → AreGiven gives (answers_of files) → Grows gives files files
+grows-none gives files given = record { more = []; kept = sym (append-nil files); given = given }
+
+-- files are added twice
+pub grows-twice : (gives now : MayGive) → ((path : List ℕ) (a : Answer) → now path a → gives path a) → (old mid new : Files) → Grows gives old mid → Grows now mid new → Grows gives old new
+grows-twice gives now stays old mid new h k = record {
+  more = h.more ++ k.more;
+  kept = k.kept ∙ ap (λ files. files ++ k.more) h.kept ∙ append_assoc old h.more k.more;
+  given = given-stays now gives stays (answers_of new) k.given;
+}
+
+-- ---- a file that is looked up
+
+pub answer_at-lookup : (files : Files) (path : List ℕ) → answer_at (answers_of files) path ≡ option_map (λ (file : CheckedFile). Holds (string_bytes file.whole)) (lookup (λ k. bytes_eq path (string_bytes k)) files)
+answer_at-lookup [] path = refl
+answer_at-lookup (file ∷ files) path = by_test (bytes_eq path (string_bytes file.0)) (answer_at-lookup files path)
+  where
+    by_test : (b : Bool) → answer_at (answers_of files) path ≡ option_map (λ (f : CheckedFile). Holds (string_bytes f.whole)) (lookup (λ k. bytes_eq path (string_bytes k)) files)
+        → cond b (Some (Holds (string_bytes file.1.whole))) (answer_at (answers_of files) path)
+        ≡ option_map (λ (f : CheckedFile). Holds (string_bytes f.whole)) (cond b (Some file.1) (lookup (λ k. bytes_eq path (string_bytes k)) files))
+    by_test true e = refl
+    by_test false e = e
+
+pub key_passes : {K X : Type 0} (test : K → Bool) (es : List (K × X)) (k : K) → lookup_key test es ≡ Some k → test k ≡ true
+key_passes test [] k e = absurd cc
+key_passes test (entry ∷ es) k e = by_test (test entry.0) refl e (key_passes test es k)
+  where
+    by_test : (b : Bool) → test entry.0 ≡ b → cond b (Some entry.0) (lookup_key test es) ≡ Some k → (lookup_key test es ≡ Some k → test k ≡ true) → test k ≡ true
+    by_test true is e more = let same : entry.0 ≡ k = cc in subst (λ x. test x ≡ true) same is
+    by_test false is e more = more e
+
+-- a text that the source gave is good
+module _ (files : Files) (path : List ℕ) (index : ℕ) (name : String Global) (file : CheckedFile) (at : slice_get files index ≡ Some (name, file)) (known : answer_at (answers_of files) path ≡ Some (Holds (string_bytes file.whole))) where
+  pub text-known : (answer : List ℕ → Option Answer) → Extends files answer → (place : Option LocationView) → text_of path place (answer path) ≡ Ok (text_at files index)
+  text-known answer h place =
+      ap (text_of path place) (h path (Holds (string_bytes file.whole)) known)
+      ∙ file.good path place
+      ∙ ap (λ (f : Option (String Global × CheckedFile)). Ok (option_map_or (λ (g : String Global × CheckedFile). without_mark (string_bytes g.1.whole)) f [])) (sym at)
+
+  pub path-known : string_bytes name ≡ path → path_at files index ≡ path
+  path-known e = ap (λ (f : Option (String Global × CheckedFile)). option_map_or (λ (g : String Global × CheckedFile). string_bytes g.0) f []) at ∙ e
+
+-- a file that was read before
+pub found-file : (gives : MayGive) (files : Files) (path : List ℕ) (index : ℕ) (name : String Global) (file : CheckedFile) → AreGiven gives (answers_of files)
+    → slice_get files index ≡ Some (name, file) → lookup_key (λ k. bytes_eq path (string_bytes k)) files ≡ Some name → lookup (λ k. bytes_eq path (string_bytes k)) files ≡ Some file
+    → Finds gives files files path index
+found-file gives files path index name file given at key value =
+    let known = answer_at-lookup files path ∙ ap (option_map (λ (f : CheckedFile). Holds (string_bytes f.whole))) value in
+    let path_is : string_bytes name ≡ path = sym ((bytes_eq-Decides path (string_bytes name)).0 (key_passes (λ k. bytes_eq path (string_bytes k)) files name key)) in
+    record {
+      grows = grows-none gives files given;
+      within = slice_get_within files index (name, file) at;
+      path_is = path-known files path index name file at known path_is;
+      text_is = text-known files path index name file at known;
+    }
+
+-- a file that is read now
+pub read-file : (gives : MayGive) (files new : Files) (path : List ℕ) (name : String Global) (file : CheckedFile) → AreGiven gives (answers_of files)
+    → answer_at (answers_of files) path ≡ None → string_bytes name ≡ path → gives path (Holds (string_bytes file.whole)) → new ≡ files ++ (name, file) ∷ []
+    → Finds gives files new path (length files)
+read-file gives files new path name file given none path_is gave e =
+    let answers : answers_of new ≡ answers_of files ++ (path, Holds (string_bytes file.whole)) ∷ [] =
+    ap answers_of e ∙ map-append answer_of_file files ((name, file) ∷ []) ∙ ap (λ (p : List ℕ). answers_of files ++ (p, Holds (string_bytes file.whole)) ∷ []) path_is in
+    let at : slice_get new (length files) ≡ Some (name, file) = ap (λ (fs : Files). slice_get fs (length files)) e ∙ get-last files (name, file) in
+    let known = ap (λ (known : Answers). answer_at known path) answers ∙ last (answers_of files) path (Holds (string_bytes file.whole)) none in
+    record {
+      grows = record {
+        more = (name, file) ∷ [];
+        kept = e;
+        given = subst (AreGiven gives) (sym answers) (given-more gives (answers_of files) path (Holds (string_bytes file.whole)) given gave);
+      };
+      within = slice_get_within new (length files) (name, file) at;
+      path_is = path-known new path (length files) name file at known path_is;
+      text_is = text-known new path (length files) name file at known;
+    }
+
+-- a file that wasn't read before
+pub not-read : (files : Files) (path : List ℕ) → None ≡ lookup (λ k. bytes_eq path (string_bytes k)) files → answer_at (answers_of files) path ≡ None
+not-read files path e = answer_at-lookup files path ∙ ap (option_map (λ (f : CheckedFile). Holds (string_bytes f.whole))) (sym e)
+
+-- a file that is read now, and refused
+pub read-refused : (gives : MayGive) (files : Files) (path : List ℕ) (place : Option LocationView) → AreGiven gives (answers_of files) → answer_at (answers_of files) path ≡ None
+    → (failure : Failure LoadFault) → Reads gives path place (Err failure) → Fails gives files (λ answer. text_of path place (answer path)) failure
+read-refused gives files path place given none Memory h = tt
+read-refused gives files path place given none (Fault fault) h = record {
+  answers = answers_of files ++ (path, h.0) ∷ [];
+  given = given-more gives (answers_of files) path h.0 given h.1;
+  extends = kept (answers_of files) ((path, h.0) ∷ []);
+  fails = ap (text_of path place) (last (answers_of files) path h.0 none) ∙ h.2;
+  unreadable = h.3;
+}
+
+-- ---- the text of a file
+
+pub text-at : (files : Files) (index : ℕ) (file : CheckedFile) → slice_get (values_of files) index ≡ Some file → without_mark (string_bytes file.whole) ≡ text_at files index
+text-at files index file e = by_file (slice_get files index) (sym (slice_get-map (λ (entry : String Global × CheckedFile). entry.1) files index) ∙ e)
+  where
+    by_file : (f : Option (String Global × CheckedFile)) → option_map (λ (entry : String Global × CheckedFile). entry.1) f ≡ Some file
+        → without_mark (string_bytes file.whole) ≡ option_map_or (λ (g : String Global × CheckedFile). without_mark (string_bytes g.1.whole)) f []
+    by_file None h = absurd cc
+    by_file (Some entry) h = let same : entry.1 ≡ file = cc in ap (λ (f : CheckedFile). without_mark (string_bytes f.whole)) (sym same)
+
+take-less : (n : ℕ) (xs : List ℕ) → length (drop n xs) ≤ length xs
+take-less n xs = rw length-drop (omega arith)
+
+mark-less : (bytes : List ℕ) → length (without_mark bytes) ≤ length bytes
+mark-less bytes = by_test (bytes_eq (take 3 bytes) order_mark)
+  where
+    by_test : (b : Bool) → length (cond b (drop 3 bytes) bytes) ≤ length bytes
+    by_test true = take-less 3 bytes
+    by_test false = omega arith
+
+-- it isn't too long
+pub text_at-small : (files : Files) (index : ℕ) → length (text_at files index) ≤ most_file_bytes
+text_at-small files index = by_file (slice_get files index)
+  where
+    by_file : (f : Option (String Global × CheckedFile)) → length (option_map_or (λ (g : String Global × CheckedFile). without_mark (string_bytes g.1.whole)) f []) ≤ most_file_bytes
+    by_file None = omega arith
+    by_file (Some file) = let small = file.1.small in let less = mark-less (string_bytes file.1.whole) in omega arith
+
+-- it may be cut at its start
+pub text_at-starts : (files : Files) (index : ℕ) → IsCharBoundary (text_at files index) 0
+text_at-starts files index = by_file (slice_get files index)
+  where
+    by_file : (f : Option (String Global × CheckedFile)) → IsCharBoundary (option_map_or (λ (g : String Global × CheckedFile). without_mark (string_bytes g.1.whole)) f []) 0
+    by_file None = (omega arith, λ some. absurd (omega arith))
+    by_file (Some file) = file.1.starts

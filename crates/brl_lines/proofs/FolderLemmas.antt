@@ -44,7 +44,7 @@ module _ (path : List ℕ) (end : ℕ) (some : 0 < end) (within : end ≤ length
       let ends : take end path ≡ take (end - 1) path ++ 47 ∷ [] = last ∙ ap (λ b. take (end - 1) path ++ b ∷ []) h in
       ends ∙ sym (folder_of-slash (take (end - 1) path)) ∙ ap folder_of (sym ends) ∙ before
 
-  -- behind a slash a text may be cut
+  -- after a slash a text may be cut
   pub boundary-slash : IsUtf8 path → get_or path (end - 1) 0 ≡ 47 → IsCharBoundary path end
   boundary-slash utf8 h =
       let here : end - 1 < length path = omega arith in

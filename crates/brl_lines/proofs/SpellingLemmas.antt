@@ -1,5 +1,5 @@
 -- What characters are spelled by, and that it is read back.
-use Rattle.std.proofs.Common.{◌≡◌, ℕ, suc, ◌+◌, ◌*◌, ◌/◌, ◌%◌, ◌<◌, ◌==◌, ◌&&◌, ◌⊎◌, true, false, cond, if◌then◌else◌, Bool, nat_eq, nat_lt, List, [], ◌∷◌, ◌++◌, refl, ap, sym, subst, ◌∙◌, arith, inl, inr, Option, Some, None, option_map, codes, find, length, take, get_or, lit<}
+use Rattle.std.proofs.Common.{◌≡◌, ℕ, suc, ◌+◌, ◌*◌, ◌/◌, ◌%◌, ◌<◌, ◌==◌, ◌&&◌, ◌⊎◌, true, false, cond, if◌then◌else◌, Bool, nat_eq, nat_lt, List, [], ◌∷◌, ◌++◌, refl, ap, sym, subst, ◌∙◌, arith, inl, inr, Option, Some, None, Ok, ok_or, option_map, codes, find, length, take, get_or, lit<}
 use Rattle.std.proofs.lemmas.Bool.{eqb-true}
 use Rattle.std.proofs.lemmas.Bool.Decides.{nat_tests}
 use Rattle.std.proofs.lemmas.List.{flat_map_more, take_more}
@@ -12,6 +12,7 @@ use lib.Utf8.{scalar, low_scalar}
 use Rattle.brl_lines.proofs.EscapeLemmas.{escape-numbered, spelled-escape, spelled-plain}
 use Rattle.brl_lines.proofs.RowLemmas.{not_equal}
 use Rattle.brl_lines.specs.Escapes.{characters_of, hexadecimal, named, numbered, or_else, spelled}
+use Rattle.brl_lines.specs.declared.operand.CharsFault.TheVariants.{BadEscape}
 use Rattle.brl_lines.specs.Spelling.{character_spelling, escape_marks, means, spelled_by_mark, text_spelling}
 
 and_parts : (a b : Bool) → (a && b) ≡ true → (a ≡ true) × (b ≡ true)
@@ -42,7 +43,7 @@ spelled-control c control none =
 
 -- ---- what is spelled is read back
 
--- an element that passes the test, or what is found behind it
+-- an element that passes the test, or what is found after it
 find_step : (b : Bool) (m mark : ℕ) (rest : Option ℕ) → cond b (Some m) rest ≡ Some mark → ((b ≡ true) × (m ≡ mark)) ⊎ (rest ≡ Some mark)
 find_step true m mark rest e = inl (refl, cc)
 find_step false m mark rest e = inr e
@@ -141,8 +142,8 @@ text_scalars (c ∷ text) s =
     scalars-append (character_spelling c) (text_spelling text) (character_scalars c (find (means c) escape_marks) both.0 refl) (text_scalars text both.1)
 
 -- the text that spells characters is read back
-pub spelling_back : (text bytes : List ℕ) → all_scalars text ≡ true → bytes ≡ encode_utf8_all (text_spelling text) → characters_of bytes ≡ Some text
-spelling_back text bytes s e = ap characters_of e ∙ ap (spelled 0) (chars-encodes (text_spelling text) (text_scalars text s)) ∙ text_back text s
+pub spelling_back : (text bytes : List ℕ) → all_scalars text ≡ true → bytes ≡ encode_utf8_all (text_spelling text) → characters_of bytes ≡ Ok text
+spelling_back text bytes s e = ap characters_of e ∙ ap (λ o. ok_or o BadEscape) (ap (spelled 0) (chars-encodes (text_spelling text) (text_scalars text s)) ∙ text_back text s)
 
 -- ---- one character more
 
@@ -151,7 +152,7 @@ pub spelling_more : (text : List ℕ) (c : ℕ) (old new : List ℕ) → old ≡
 spelling_more text c old new e f = f ∙ ap (λ bytes. bytes ++ encode_utf8_all (character_spelling c)) e
     ∙ sym (encodes-append (text_spelling text) (character_spelling c)) ∙ ap encode_utf8_all (flat_map_more character_spelling [] text c)
 
--- so is the text up to a place with the character that stands there
+-- so is the text up to a place with the character that is there
 pub one_more : (text : List ℕ) (i c : ℕ) (old new : List ℕ) → i < length text → c ≡ get_or text i c → IsScalar c → all_scalars (take i text) ≡ true
     → old ≡ encode_utf8_all (text_spelling (take i text)) → new ≡ old ++ encode_utf8_all (character_spelling c)
     → (new ≡ encode_utf8_all (text_spelling (take (i + 1) text))) × (all_scalars (take (i + 1) text) ≡ true)

@@ -2,6 +2,9 @@
 -- The manual leaves open where files come from: this is the project's own choice.
 use Rattle.std.specs.Prelude.{ℕ, ◌≡◌, ◌+◌, ◌^◌, ◌-◌, ◌↔◌, min, Bool, true, false, List, length, nat_le, if◌then◌else◌, None, Some, Ok, Err, Result, Option}
 use Rattle.std.specs.Global.{Vec}
+use Rattle.brl_failure.specs.Failure.{IfFault}
+use Rattle.brl_failure.specs.declared.failure.Failure.{Failure}
+use Rattle.brl_failure.specs.declared.failure.Failure.TheVariants.{Fault}
 use Rattle.brl_lines.specs.declared.source.SourceFault.{SourceFault}
 use Rattle.brl_lines.specs.declared.source.SourceFault.TheVariants as faults
 
@@ -13,15 +16,15 @@ pub data Answer : Type 0 where
   Unreadable : Answer
 
 -- what a source may answer for each path
-abbrev pub Gives : Type 1
-Gives = List ℕ → Answer → Type 0
+abbrev pub MayGive : Type 1
+MayGive = List ℕ → Answer → Type 0
 
 -- it may answer the same as before
-abbrev pub AllStay : Gives → Gives → Type 0
+abbrev pub AllStay : MayGive → MayGive → Type 0
 AllStay old new = (path : List ℕ) (answer : Answer) → new path answer ↔ old path answer
 
 -- it has one answer at most for each path
-abbrev pub GivesOneAnswer : Gives → Type 0
+abbrev pub GivesOneAnswer : MayGive → Type 0
 GivesOneAnswer gives = (path : List ℕ) (one other : Answer) → gives path one → gives path other → one ≡ other
 
 -- the most bytes that a file may have
@@ -33,19 +36,22 @@ abbrev pub answer_of : Option (List ℕ) → Answer
 answer_of None = Missing
 answer_of (Some bytes) = if nat_le (length bytes) most_file_bytes then Holds bytes else Large
 
+-- the answer that a fault is
+abbrev pub answer_of_fault : SourceFault → Answer
+answer_of_fault faults.NotFound = Missing
+answer_of_fault faults.TooLarge = Large
+answer_of_fault faults.Failed = Unreadable
+
 -- what a read returned is an answer that may be given, unless memory ran out
-abbrev pub IsAnswer : (Answer → Type 0) → Result (Vec ℕ) SourceFault → Type 0
+abbrev pub IsAnswer : (Answer → Type 0) → Result (Vec ℕ) (Failure SourceFault) → Type 0
 IsAnswer gives (Ok bytes) = gives (Holds bytes.items)
-IsAnswer gives (Err faults.NotFound) = gives Missing
-IsAnswer gives (Err faults.TooLarge) = gives Large
-IsAnswer gives (Err faults.Failed) = gives Unreadable
-IsAnswer gives (Err faults.Memory) = Unit {0}
+IsAnswer gives (Err failure) = IfFault (λ fault. gives (answer_of_fault fault)) failure
 
 -- the source failed at this read
-abbrev pub read_failed : Result (Vec ℕ) SourceFault → Bool
-read_failed (Err faults.Failed) = true
+abbrev pub read_failed : Result (Vec ℕ) (Failure SourceFault) → Bool
+read_failed (Err (Fault faults.Failed)) = true
 read_failed outcome = false
 
--- the count of failures: one more behind a failure, up to the greatest number
+-- the count of failures: one more after a failure, up to the greatest number
 abbrev pub failures_after : ℕ → Bool → ℕ
 failures_after count failed = if failed then min (count + 1) (2 ^ 64 - 1) else count

@@ -1,12 +1,15 @@
--- The characters that an operand spells. This restates, of the section "Overview" in "How to Write Translation
--- Tables" of the liblouis User's and Programmer's Manual, how characters stand in operands, with their escapes.
-use Rattle.std.specs.Prelude.{ℕ, zero, suc, ◌+◌, ◌*◌, ◌==◌, if◌then◌else◌, List, [], ◌∷◌, Option, Some, None, option_map}
+-- The characters that an operand spells. This restates, of the section "Overview" in "How to Write
+-- Translation Tables" of the liblouis User's and Programmer's Manual, how characters are written in
+-- operands, with their escapes.
+use Rattle.std.specs.Prelude.{ℕ, zero, suc, ◌+◌, ◌*◌, ◌==◌, if◌then◌else◌, List, [], ◌∷◌, Option, Some, None, Result, ok_or, option_map}
 use Rattle.std.specs.Char.{digit_value, is_digit}
 use Rattle.std.specs.Option.{option_and_then}
 use Rattle.std.specs.Str.{all_scalars, chars}
+use Rattle.brl_lines.specs.declared.operand.CharsFault.{CharsFault}
+use Rattle.brl_lines.specs.declared.operand.CharsFault.TheVariants.{BadEscape}
 
--- the character that an escape of one mark means: a backslash, a form feed, a line feed, a carriage return, a blank,
--- a tab, a vertical tab and the character 27
+-- the character that an escape of one mark means: a backslash, a form feed, a line feed, a carriage
+-- return, a blank, a tab, a vertical tab and the character 27
 abbrev pub named : ℕ → Option ℕ
 named mark =
     if mark == 92 then Some 92
@@ -19,15 +22,16 @@ named mark =
     else if mark == 101 then Some 27
     else None
 
--- how many hexadecimal digits stand behind the mark `x`, `y` or `z`
-abbrev pub digits_behind : ℕ → Option ℕ
-digits_behind mark =
+-- how many hexadecimal digits follow the mark `x`, `y` or `z`
+abbrev pub digits_after : ℕ → Option ℕ
+digits_after mark =
     if mark == 120 then Some 4
     else if mark == 121 then Some 5
     else if mark == 122 then Some 8
     else None
 
--- the number that so many digits of either case write in hexadecimal, behind digits that write value
+-- the number that the given number of hexadecimal digits write, in either case, after digits that
+-- write value
 unfoldable pub hexadecimal : ℕ → ℕ → List ℕ → Option ℕ
 hexadecimal zero value marks = Some value
 hexadecimal (suc count) value [] = None
@@ -39,19 +43,20 @@ character code = if all_scalars (code ∷ []) then Some code else None
 
 -- the character that an escape by number means, and how many marks the escape takes
 abbrev pub numbered : ℕ → List ℕ → Option (ℕ × ℕ)
-numbered mark marks = option_and_then (λ count. option_map (λ c. (c, count + 1)) (option_and_then character (hexadecimal count 0 marks))) (digits_behind mark)
+numbered mark marks = option_and_then (λ count. option_map (λ c. (c, count + 1)) (option_and_then character (hexadecimal count 0 marks))) (digits_after mark)
 
 -- an escape of one mark, or else another
 abbrev pub or_else : Option ℕ → Option (ℕ × ℕ) → Option (ℕ × ℕ)
 or_else (Some c) other = Some (c, 1)
 or_else None other = other
 
--- the same of any escape, whose marks stand behind the backslash
+-- the same of any escape, whose marks follow the backslash
 abbrev pub escape : List ℕ → Option (ℕ × ℕ)
 escape [] = None
 escape (mark ∷ marks) = or_else (named mark) (numbered mark marks)
 
--- the characters that the marks spell, but for the first of them that an escape has taken; None at a bad escape
+-- the characters that the marks spell, but for the first of them that an escape has taken; None at
+-- a bad escape
 unfoldable pub spelled : ℕ → List ℕ → Option (List ℕ)
 spelled taken [] = Some []
 spelled (suc taken) (mark ∷ marks) = spelled taken marks
@@ -59,6 +64,6 @@ spelled zero (mark ∷ marks) =
     if mark == 92 then option_and_then (λ e. option_map (λ cs. e.0 ∷ cs) (spelled e.1 marks)) (escape marks)
     else option_map (λ cs. mark ∷ cs) (spelled zero marks)
 
--- the characters that an operand spells, or None where it has a bad escape
-abbrev pub characters_of : List ℕ → Option (List ℕ)
-characters_of operand = spelled 0 (chars operand)
+-- the characters that an operand spells
+abbrev pub characters_of : List ℕ → Result (List ℕ) CharsFault
+characters_of operand = ok_or (spelled 0 (chars operand)) BadEscape

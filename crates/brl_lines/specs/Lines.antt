@@ -1,51 +1,51 @@
--- The lines of a table over what a source answered for its files, and why a table has none. This restates, of the
--- sections "Overview" and "Miscellaneous Opcodes" in "How to Write Translation Tables" of the liblouis User's and
--- Programmer's Manual, that a table is the lines of its file, and that an include line stands for the lines of the file
--- that it names. The limits, and the order in which a file is looked at for what is wrong, are the project's own choice.
-use Rattle.std.specs.Prelude.{ℕ, zero, suc, ◌+◌, Bool, if◌then◌else◌, nat_le, nat_lt, List, [], ◌∷◌, ◌++◌, length, Option, Some, None, Result, Ok, Err}
+-- The lines of a table over what a source answered for its files, and why a table has none. This
+-- restates, of the sections "Overview" and "Miscellaneous Opcodes" in "How to Write Translation
+-- Tables" of the liblouis User's and Programmer's Manual, that a table is the lines of its file,
+-- and that an include line is replaced by the lines of the file that it names. The limits, and the
+-- order in which a file is checked for faults, are the project's own choice.
+use Rattle.std.specs.Prelude.{◌≡◌, ℕ, zero, suc, ◌+◌, Bool, if◌then◌else◌, nat_le, nat_lt, List, [], ◌∷◌, ◌++◌, length, Option, Some, None, Result, Ok, Err}
 use Rattle.std.specs.List.{list_any, position_from}
 use Rattle.std.specs.Str.{bytes_eq, is_utf8}
+use Rattle.brl_failure.specs.Failure.{◌>>=◌}
 use Rattle.brl_lines.specs.Answer.{Answer, Holds, Missing, Large, Unreadable, most_file_bytes}
 use Rattle.brl_lines.specs.Includes.{included, name_of}
 use Rattle.brl_lines.specs.Rows.{rows_of, without_mark}
 use Rattle.brl_lines.specs.Tokens.{LineView, lines_in}
-use Rattle.brl_lines.specs.declared.fault.Refused.{Refused}
-use Rattle.brl_lines.specs.declared.fault.Refused.TheVariants as refused
+use Rattle.brl_lines.specs.declared.fault.LoadFaultKind.{LoadFaultKind}
+use Rattle.brl_lines.specs.declared.fault.LoadFaultKind.TheVariants as kinds
 
 -- a file's path and a line of it
-pub record PlaceView : Type 0 where
+pub record LocationView : Type 0 where
   pub file : List ℕ
   pub line : ℕ
 
--- why a table has no lines: what is wrong with the file at a path, and the include line that named it, or none
--- for the root; of a long line the place is its own
+-- why a table has no lines: the fault of the file at a path, and the include line that named it, or
+-- none for the root; of a long line the place is its own
 pub record Refusal : Type 0 where
-  pub kind : Refused
+  pub kind : LoadFaultKind
   pub path : List ℕ
-  pub place : Option PlaceView
+  pub place : Option LocationView
 
-abbrev pub refusal : Refused → List ℕ → Option PlaceView → Refusal
+-- a refusal with these fields
+abbrev pub refusal : LoadFaultKind → List ℕ → Option LocationView → Refusal
 refusal kind path place = record { kind = kind; path = path; place = place }
 
--- what follows where there is no refusal
-infixl 10 ◌>>=◌
-abbrev pub ◌>>=◌ : {A B : Type 0} → Result A Refusal → (A → Result B Refusal) → Result B Refusal
-(Ok x) >>= f = f x
-(Err e) >>= f = Err e
-
--- A finite map from paths to what a source answered for them. A path that the map lacks is a device of the
--- contracts: such a file counts as one that can't be read, so more answers never change lines that are found.
+-- A finite map from paths to what a source answered for them. A path that is not in the map is a
+-- device of the contracts: such a file counts as one that can't be read, so more answers never
+-- change lines that are found.
 abbrev pub Answers : Type 0
 Answers = List (List ℕ × Answer)
 
+-- the answer for a path, where the map has one
 abbrev pub answer_at : Answers → List ℕ → Option Answer
 answer_at [] path = None
-answer_at (entry ∷ others) path = if bytes_eq entry.0 path then Some entry.1 else answer_at others path
+answer_at (entry ∷ others) path = if bytes_eq path entry.0 then Some entry.1 else answer_at others path
 
 -- the most bytes of a row
 abbrev pub most_row_bytes : ℕ
 most_row_bytes = 2048
 
+-- a row is too long
 abbrev pub is_long : List (ℕ × ℕ) → Bool
 is_long row = nat_lt most_row_bytes (length row)
 
@@ -56,91 +56,88 @@ long_row text = position_from is_long 1 (rows_of text)
 -- the text, unless a row of it is too long
 abbrev pub unless_long : List ℕ → List ℕ → Option ℕ → Result (List ℕ) Refusal
 unless_long path text None = Ok text
-unless_long path text (Some number) = Err (refusal refused.LineTooLong path (Some (record { file = path; line = number })))
+unless_long path text (Some number) = Err (refusal kinds.LineTooLong path (Some (record { file = path; line = number })))
 
--- the text of a file with these bytes: they are not too many, they are UTF-8, and no row is too long
-unfoldable pub text_in : List ℕ → Option PlaceView → List ℕ → Result (List ℕ) Refusal
+-- the text of a file with these bytes: they are not too many, they are UTF-8, and no row is too
+-- long
+unfoldable pub text_in : List ℕ → Option LocationView → List ℕ → Result (List ℕ) Refusal
 text_in path place bytes =
-    if nat_lt most_file_bytes (length bytes) then Err (refusal refused.TooLarge path place)
+    if nat_lt most_file_bytes (length bytes) then Err (refusal kinds.TooLarge path place)
     else if is_utf8 bytes then unless_long path (without_mark bytes) (long_row (without_mark bytes))
-    else Err (refusal refused.NotUtf8 path place)
+    else Err (refusal kinds.NotUtf8 path place)
+
+-- a file with these bytes is good, by whatever path and line it is named
+abbrev pub IsGood : List ℕ → Type 0
+IsGood bytes = (path : List ℕ) (place : Option LocationView) → text_in path place bytes ≡ Ok (without_mark bytes)
 
 -- the text of a file that was asked for
-abbrev pub text_of : List ℕ → Option PlaceView → Option Answer → Result (List ℕ) Refusal
+abbrev pub text_of : List ℕ → Option LocationView → Option Answer → Result (List ℕ) Refusal
 text_of path place (Some (Holds bytes)) = text_in path place bytes
-text_of path place (Some Missing) = Err (refusal refused.NotFound path place)
-text_of path place (Some Large) = Err (refusal refused.TooLarge path place)
-text_of path place (Some Unreadable) = Err (refusal refused.ReadFailed path place)
-text_of path place None = Err (refusal refused.ReadFailed path place)
+text_of path place (Some Missing) = Err (refusal kinds.NotFound path place)
+text_of path place (Some Large) = Err (refusal kinds.TooLarge path place)
+text_of path place (Some Unreadable) = Err (refusal kinds.ReadFailed path place)
+text_of path place None = Err (refusal kinds.ReadFailed path place)
 
 -- the most include lines that are followed
 abbrev pub most_includes : ℕ
 most_includes = 1024
 
--- The lines that stand in a place, or the refusal that decides; and how many include lines were followed by then.
-pub record Placed : Type 0 where
-  pub lines : Result (List LineView) Refusal
-  pub followed : ℕ
+-- lines, and how many include lines were followed by their end
+pub record Expanded : Type 0 where
+  pub lines : List LineView
+  pub includes : ℕ
 
-abbrev pub placed_as : Result (List LineView) Refusal → ℕ → Placed
-placed_as lines followed = record { lines = lines; followed = followed }
+-- these lines, and this number
+abbrev pub expanded_as : List LineView → ℕ → Expanded
+expanded_as lines includes = record { lines = lines; includes = includes }
 
--- some lines, and others behind them
-abbrev pub in_front : List LineView → Placed → Placed
-in_front here others = placed_as (others.lines >>= λ lines. Ok (here ++ lines)) others.followed
+-- what an include line is replaced by, from its place, the name in it, and how many include lines
+-- were followed before
+abbrev pub Follow : Type 0
+Follow = LocationView → List ℕ → ℕ → Result Expanded Refusal
 
--- what was placed, and others behind it, unless it is refused; they begin at the number of include lines that were followed
-abbrev pub joined : Result (List LineView) Refusal → ℕ → (ℕ → Placed) → Placed
-joined (Ok here) followed others = in_front here (others followed)
-joined (Err e) followed others = placed_as (Err e) followed
+-- the place of a line
+abbrev pub location_of : LineView → LocationView
+location_of line = record { file = line.file; line = line.line }
 
-abbrev pub place_of : LineView → PlaceView
-place_of line = record { file = line.file; line = line.line }
+-- a line, or what the name that it includes is replaced by
+abbrev pub replaced : Follow → LineView → Option (List ℕ) → ℕ → Result Expanded Refusal
+replaced follow line None includes = Ok (expanded_as (line ∷ []) includes)
+replaced follow line (Some name) includes = follow (location_of line) name includes
 
--- a line, or what follow makes of the name that it includes
-abbrev pub replaced : (PlaceView → List ℕ → ℕ → Placed) → LineView → Option (List ℕ) → ℕ → Placed
-replaced follow line None followed = placed_as (Ok (line ∷ [])) followed
-replaced follow line (Some name) followed = follow (place_of line) name followed
+-- the lines in order, each include line replaced
+abbrev pub expanded : Follow → List LineView → ℕ → Result Expanded Refusal
+expanded follow [] includes = Ok (expanded_as [] includes)
+expanded follow (line ∷ lines) includes = do
+  here ← replaced follow line (name_of line) includes
+  others ← expanded follow lines here.includes
+  Ok (expanded_as (here.lines ++ others.lines) others.includes)
 
--- the lines in order, each include line replaced by what follow makes of it
-abbrev pub placed : (PlaceView → List ℕ → ℕ → Placed) → List LineView → ℕ → Placed
-placed follow [] followed = placed_as (Ok []) followed
-placed follow (line ∷ lines) followed =
-    let here = replaced follow line (name_of line) followed in
-    joined here.lines here.followed (placed follow lines)
+-- an include line may be followed: it isn't one too many, and its path isn't among those that lead
+-- to it
+abbrev pub allowed : List ℕ → LocationView → List (List ℕ) → ℕ → Result (Unit {0}) Refusal
+allowed path place chain includes =
+    if nat_le most_includes includes then Err (refusal kinds.TooManyIncludes path (Some place))
+    else if list_any (bytes_eq path) chain then Err (refusal kinds.Cycle path (Some place))
+    else Ok tt
 
--- what stands in a text that is good, by which one include line more is followed
-abbrev pub entered : Result (List ℕ) Refusal → ℕ → (List ℕ → ℕ → Placed) → Placed
-entered (Ok text) followed inside = inside text (followed + 1)
-entered (Err e) followed inside = placed_as (Err e) followed
+-- what an include line is replaced by, where its file and the files below it may be this many deep
+unfoldable pub follow : ℕ → (List ℕ → Option Answer) → List ℕ → List (List ℕ) → Follow
+follow zero answer root chain place name includes = do
+  _ ← allowed (included root name) place chain includes
+  Err (refusal kinds.TooDeep (included root name) (Some place))
+follow (suc depth) answer root chain place name includes = do
+  _ ← allowed (included root name) place chain includes
+  text ← text_of (included root name) (Some place) (answer (included root name))
+  expanded (follow depth answer root (included root name ∷ chain)) (lines_in (included root name) text) (includes + 1)
 
--- an include line may be followed: it isn't one too many, and its path doesn't stand in the chain that leads to it
-abbrev pub allowed : List ℕ → PlaceView → List (List ℕ) → ℕ → Placed → Placed
-allowed path place chain followed go =
-    if nat_le most_includes followed then placed_as (Err (refusal refused.TooManyIncludes path (Some place))) followed
-    else if list_any (bytes_eq path) chain then placed_as (Err (refusal refused.Cycle path (Some place))) followed
-    else go
-
--- what stands in the place of an include line, whose file and the files below it may still stand so many deep
-unfoldable pub follow : ℕ → (List ℕ → Option Answer) → List ℕ → List (List ℕ) → PlaceView → List ℕ → ℕ → Placed
-follow zero answer root chain place name followed =
-    let path = included root name in
-    allowed path place chain followed (placed_as (Err (refusal refused.TooDeep path (Some place))) followed)
-follow (suc deeper) answer root chain place name followed =
-    let path = included root name in
-    allowed path place chain followed
-    (entered (text_of path (Some place) (answer path)) followed
-    (λ text. placed (follow deeper answer root (path ∷ chain)) (lines_in path text)))
-
--- what the root comes to, which stands 1 deep, and a file may stand 16 deep
-abbrev pub placed_root : (List ℕ → Option Answer) → List ℕ → Result (List ℕ) Refusal → Placed
-placed_root answer root (Ok text) = placed (follow 15 answer root (root ∷ [])) (lines_in root text) 0
-placed_root answer root (Err e) = placed_as (Err e) 0
-
--- the lines over what is known of each path
+-- the lines over what is known of each path: the root is 1 deep, and a file may be 16 deep
 unfoldable pub lines_over : (List ℕ → Option Answer) → List ℕ → Result (List LineView) Refusal
-lines_over answer root = (placed_root answer root (text_of root None (answer root))).lines
+lines_over answer root = do
+  text ← text_of root None (answer root)
+  found ← expanded (follow 15 answer root (root ∷ [])) (lines_in root text) 0
+  Ok found.lines
 
--- the lines of the table whose root stands at a path
+-- the lines of the table whose root is at a path
 abbrev pub lines_of : Answers → List ℕ → Result (List LineView) Refusal
 lines_of answers root = lines_over (answer_at answers) root

@@ -1,4 +1,4 @@
--- Where the tokens of a line stand in their file's text. The project's own.
+-- Where the tokens of a line are in their file's text. The project's own.
 use Rattle.std.specs.Prelude.{◌≡◌, ℕ, ◌+◌, ◌<◌, List, [], ◌∷◌, length, drop, take}
 use Rattle.std.specs.List.{AllByRecursion}
 use Rattle.brl_lines.specs.Tokens.{LineView, TokenView}
@@ -11,16 +11,16 @@ IsSlice text token = take (length token.text) (drop token.start text) ≡ token.
 abbrev pub IsCutFrom : List ℕ → LineView → Type 0
 IsCutFrom text line = AllByRecursion (IsSlice text) (line.opcode ∷ line.operands)
 
--- the tokens, if there are any, begin behind this place
-abbrev pub BeginsBehind : ℕ → List TokenView → Type 0
-BeginsBehind place [] = Unit {0}
-BeginsBehind place (token ∷ others) = place < token.start
+-- the tokens, if there are any, begin after this place
+abbrev pub BeginsAfter : ℕ → List TokenView → Type 0
+BeginsAfter place [] = Unit {0}
+BeginsAfter place (token ∷ others) = place < token.start
 
--- each token begins behind the end of the one before it
-abbrev pub StandInOrder : List TokenView → Type 0
-StandInOrder [] = Unit {0}
-StandInOrder (token ∷ others) = BeginsBehind (token.start + length token.text) others × StandInOrder others
+-- each token begins after the end of the one before it
+abbrev pub AreInOrder : List TokenView → Type 0
+AreInOrder [] = Unit {0}
+AreInOrder (token ∷ others) = BeginsAfter (token.start + length token.text) others × AreInOrder others
 
--- the tokens of the line stand in order and don't overlap
+-- the tokens of the line are in order and don't overlap
 abbrev pub IsInOrder : LineView → Type 0
-IsInOrder line = StandInOrder (line.opcode ∷ line.operands)
+IsInOrder line = AreInOrder (line.opcode ∷ line.operands)

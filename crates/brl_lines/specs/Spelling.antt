@@ -1,6 +1,7 @@
--- How characters are written so that an operand of a table spells them ("Overview" in "How to Write Translation
--- Tables" of the liblouis User's and Programmer's Manual has the escapes). Which characters are written by an escape is
--- this project's own choice: those that an escape of one mark means, and all other control characters.
+-- How characters are written so that an operand of a table spells them ("Overview" in "How to Write
+-- Translation Tables" of the liblouis User's and Programmer's Manual has the escapes). Which
+-- characters are written by an escape is this project's own choice: those that an escape of one
+-- mark means, and all other control characters.
 use Rattle.std.specs.Prelude.{ℕ, ◌/◌, ◌%◌, ◌==◌, if◌then◌else◌, Bool, false, List, [], ◌∷◌, ◌++◌, Option, Some, None, codes, find, flat_map}
 use Rattle.std.specs.Char.{digit_char, is_ascii_control}
 use Rattle.std.specs.Option.{option_map_or}

@@ -1,50 +1,145 @@
--- What the single steps of a load tell of the definitions, and of the source. The project's own; no public clause cites it.
-use Rattle.std.specs.Prelude.{◌≡◌, ℕ, ◌+◌, ◌-◌, ◌<◌, false, List, map, Option, None, Some, IsTrue, is_ok, Result, Ok, Err, string_bytes, option_map}
-use Rattle.brl_lines.specs.Answer.{Answer, Holds}
-use Rattle.brl_lines.specs.Lines.{Placed, PlaceView, Refusal, follow, most_includes, placed, placed_as, refusal, text_of}
-use Rattle.brl_lines.specs.Outcome.{RefusesAs, load_failed}
-use Rattle.brl_lines.specs.Rows.{without_mark}
-use Rattle.brl_lines.specs.Tokens.{LineView, lines_in}
-use Rattle.brl_lines.specs.Views.{line_view, place_view}
+-- Internal. What the single steps of a load do, in the words of the definitions.
+use Rattle.std.specs.Prelude.{◌≡◌, ℕ, ◌+◌, ◌<◌, ◌≤◌, List, [], ◌∷◌, ◌++◌, length, map, Option, None, Some, Result, Ok, Err, string_bytes}
+use Rattle.std.specs.List.{AllByRecursion, enumerate_from, flat_map}
+use Rattle.std.specs.Str.{IsCharBoundary}
+use Rattle.brl_failure.specs.Failure.{◌>>=◌, IfFault}
+use Rattle.brl_failure.specs.declared.failure.Failure.{Failure}
+use Rattle.brl_lines.specs.Answer.{Answer, Holds, MayGive}
+use Rattle.brl_lines.specs.Files.{Files, answers_of, chain_of, lines_at, path_at, span_lines, text_at}
+use Rattle.brl_lines.specs.Includes.{name_of}
+use Rattle.brl_lines.specs.Lines.{Answers, Expanded, LocationView, Refusal, answer_at, expanded, expanded_as, follow, text_of}
+use Rattle.brl_lines.specs.Outcome.{AreGiven, IsReadFailure}
+use Rattle.brl_lines.specs.Rows.{piece, rows}
+use Rattle.brl_lines.specs.Tokens.{LineView, line_of, lines_in, token_of, tokens}
+use Rattle.brl_lines.specs.Views.{load_fault_view}
+use Rattle.brl_lines.specs.declared.checked_file.CheckedFile.{CheckedFile}
+use Rattle.brl_lines.specs.declared.expand.Expansion.{Expansion}
 use Rattle.brl_lines.specs.declared.fault.LoadFault.{LoadFault}
-use Rattle.brl_lines.specs.declared.fault.LoadFault.TheVariants as faults
-use Rattle.brl_lines.specs.declared.fault.Refused.TheVariants as refused
-use Rattle.brl_lines.specs.declared.known.Known.{Known}
-use Rattle.brl_lines.specs.declared.loaded.Wanted.{Wanted}
-use Rattle.brl_lines.specs.declared.placing.Entered.{Entered}
-use Rattle.brl_lines.specs.declared.placing.Placed.{Placed as ThePlaced}
+use Rattle.brl_lines.specs.declared.include.IncludeLine.{IncludeLine}
+use Rattle.brl_lines.specs.declared.open_file.OpenFile.{OpenFile}
+use Rattle.brl_lines.specs.declared.row.FileRow.{FileRow}
+use Rattle.brl_lines.specs.declared.row.RowKind.{RowKind}
+use Rattle.brl_lines.specs.declared.row.RowKind.TheVariants.{Include, Line, Nothing}
+use Rattle.brl_lines.specs.declared.span.LineSpan.{LineSpan}
 
--- the lines that stand in one place, and the number of include lines that were followed, are those of the definition
-abbrev pub TellsPlaced : Placed → Result ThePlaced LoadFault → Type 0
-TellsPlaced want (Ok here) = want ≡ placed_as (Ok (map line_view here.lines.items)) here.followed
-TellsPlaced want (Err fault) = RefusesAs want.lines fault
+-- ---- spans and rows
 
--- what stands in the place of an include line is what stands in the text of the file that is returned
-abbrev pub Enters : ℕ → (List ℕ → Option Answer) → List ℕ → List (List ℕ) → PlaceView → List ℕ → ℕ → Result Entered LoadFault → Type 0
-Enters deeper answer root chain place name followed (Ok there) =
-    (0 < deeper) × (followed < most_includes)
-    × (follow deeper answer root chain place name followed
-    ≡ placed (follow (deeper - 1) answer root (map string_bytes there.chain.items)) (lines_in (string_bytes there.file.now.path) (without_mark (string_bytes there.file.now.whole))) (followed + 1))
-Enters deeper answer root chain place name followed (Err fault) = RefusesAs (follow deeper answer root chain place name followed).lines fault
+-- the lines of what is left of a text, whose first row has this number
+abbrev pub lines_from : List ℕ → ℕ → List (ℕ × ℕ) → List LineView
+lines_from file number left = flat_map (λ row. line_of file row.0 (map token_of (tokens row.1))) (enumerate_from number (rows left))
 
--- so many include lines are followed, or the refusal decides
-abbrev pub Walks : Placed → Result ℕ LoadFault → Type 0
-Walks want (Ok followed) = IsTrue (is_ok want.lines) × (want.followed ≡ followed)
-Walks want (Err fault) = RefusesAs want.lines fault
+-- a span is within the text of its file
+pub record IsSpan (files : Files) (span : LineSpan) : Type 0 where
+  pub file : span.file < length files
+  pub range : span.from ≤ span.to
+  pub within : span.to ≤ length (text_at files span.file)
+  pub from_boundary : IsCharBoundary (text_at files span.file) span.from
+  pub to_boundary : IsCharBoundary (text_at files span.file) span.to
 
--- there are lines, or the refusal decides
-abbrev pub WalksAll : Result (List LineView) Refusal → Result (Unit {0}) LoadFault → Type 0
-WalksAll want (Ok none) = IsTrue (is_ok want)
-WalksAll want (Err fault) = RefusesAs want fault
+-- each of the spans is
+abbrev pub AreSpans : Files → List LineSpan → Type 0
+AreSpans files spans = AllByRecursion (IsSpan files) spans
 
--- the source gave the bytes of the file that is returned, or the answer for which its path is refused
-abbrev pub Reads : (List ℕ → Answer → Type 0) → List ℕ → Option PlaceView → Result Known LoadFault → Type 0
-Reads gives path place (Ok file) = (string_bytes file.path ≡ path) × gives path (Holds (string_bytes file.whole))
-Reads gives path place (Err faults.Memory) = Unit {0}
-Reads gives path place (Err fault) = (answer : Answer) × gives path answer × RefusesAs (text_of path place (Some answer)) fault
+-- what a row is, by the line that it makes
+abbrev pub IsKindOf : List ℕ → ℕ → List LineView → RowKind → Type 0
+IsKindOf file number lines Nothing = lines ≡ []
+IsKindOf file number lines Line = (line : LineView) × (lines ≡ line ∷ []) × (name_of line ≡ None)
+IsKindOf file number lines (Include include) = (line : LineView) × (lines ≡ line ∷ []) × (name_of line ≡ Some (string_bytes include.name)) × (line.file ≡ file) × (line.line ≡ number) × (include.line ≡ number)
 
--- the table has lines, or asks for a file as for one that can't be read, or is refused for another fault
-abbrev pub Wants : Result (List LineView) Refusal → Result (Option Wanted) LoadFault → Type 0
-Wants want (Ok None) = IsTrue (is_ok want)
-Wants want (Ok (Some file)) = want ≡ Err (refusal refused.ReadFailed (string_bytes file.path) (option_map place_view file.place))
-Wants want (Err fault) = RefusesAs want fault × (load_failed {T = Unit {0}} (Err fault) ≡ false)
+-- a file is among those that were read
+pub record IsOpen (files : Files) (file : OpenFile) : Type 0 where
+  pub within : file.index < length files
+  pub path : path_at files file.index ≡ string_bytes file.path
+
+-- the row of a file that starts at a place of its text, and what is left after it
+pub record IsRow (files : Files) (file : OpenFile) (number from : ℕ) (row : FileRow) : Type 0 where
+  pub after : from < row.next
+  pub within : row.next ≤ length (text_at files file.index)
+  pub boundary : IsCharBoundary (text_at files file.index) row.next
+  pub span : IsSpan files row.span
+  pub kind : IsKindOf (string_bytes file.path) number (span_lines files row.span) row.kind
+  pub left : lines_from (string_bytes file.path) number (piece (text_at files file.index) from (length (text_at files file.index)))
+      ≡ span_lines files row.span ++ lines_from (string_bytes file.path) (number + 1) (piece (text_at files file.index) row.next (length (text_at files file.index)))
+
+-- the same, or no row is left
+abbrev pub IsRowAt : Files → OpenFile → ℕ → ℕ → Option FileRow → Type 0
+IsRowAt files file number from None = from ≡ length (text_at files file.index)
+IsRowAt files file number from (Some row) = IsRow files file number from row
+
+-- ---- steps
+
+-- answers that have those of the files
+abbrev pub Extends : Files → (List ℕ → Option Answer) → Type 0
+Extends files answer = (path : List ℕ) (a : Answer) → answer_at (answers_of files) path ≡ Some a → answer path ≡ Some a
+
+-- files were added after the others, and the source gave all of them
+pub record Grows (gives : MayGive) (old new : Files) : Type 0 where
+  pub more : Files
+  pub kept : new ≡ old ++ more
+  pub given : AreGiven gives (answers_of new)
+
+-- the definition has this fault too, over answers that the source may give and that have those of
+-- the files
+pub record FailsAs {U : Type 0} (gives : MayGive) (files : Files) (want : (List ℕ → Option Answer) → Result U Refusal) (fault : Refusal) : Type 0 where
+  pub answers : Answers
+  pub given : AreGiven gives answers
+  pub extends : Extends files (answer_at answers)
+  pub fails : want (answer_at answers) ≡ Err fault
+  pub unreadable : IsReadFailure gives fault
+
+-- the same of the fault with which a step failed, unless memory ran out
+abbrev pub Fails : {U : Type 0} → MayGive → Files → ((List ℕ → Option Answer) → Result U Refusal) → Failure LoadFault → Type 0
+Fails gives files want failure = IfFault (λ fault. FailsAs gives files want (load_fault_view fault)) failure
+
+-- the source gave the bytes of the file that is returned, or the answer for which its path is
+-- refused
+abbrev pub Reads : MayGive → List ℕ → Option LocationView → Result CheckedFile (Failure LoadFault) → Type 0
+Reads gives path place (Ok file) = gives path (Holds (string_bytes file.whole))
+Reads gives path place (Err failure) =
+    IfFault (λ fault. (answer : Answer) × gives path answer × (text_of path place (Some answer) ≡ Err (load_fault_view fault)) × IsReadFailure gives (load_fault_view fault)) failure
+
+-- the file with this index is the one at a path, and its text is good
+pub record Finds (gives : MayGive) (old new : Files) (path : List ℕ) (index : ℕ) : Type 0 where
+  pub grows : Grows gives old new
+  pub within : index < length new
+  pub path_is : path_at new index ≡ path
+  pub text_is : (answer : List ℕ → Option Answer) → Extends new answer → (place : Option LocationView) → text_of path place (answer path) ≡ Ok (text_at new index)
+
+-- the lines of a file can be added to a table that is being loaded
+pub record IsReady (gives : MayGive) (table : Expansion) (file : OpenFile) : Type 0 where
+  pub given : AreGiven gives (answers_of table.files.entries)
+  pub opened : IsOpen table.files.entries file
+  pub spans : AreSpans table.files.entries table.spans.items
+
+-- what an include line of a file is replaced by, in a table that is being loaded
+abbrev pub lines_of_include : List ℕ → OpenFile → IncludeLine → Expansion → (List ℕ → Option Answer) → Result Expanded Refusal
+lines_of_include root file include table answer =
+    follow file.depth_left answer root (chain_of file) (record { file = string_bytes file.path; line = include.line }) (string_bytes include.name) table.include_count
+
+-- the lines of a file, each include line replaced
+abbrev pub lines_of_file : List ℕ → OpenFile → Expansion → (List ℕ → Option Answer) → Result Expanded Refusal
+lines_of_file root file table answer =
+    expanded (follow file.depth_left answer root (chain_of file)) (lines_in (string_bytes file.path) (text_at table.files.entries file.index)) table.include_count
+
+-- an include line leads to a file, and is replaced by its lines
+pub record Enters (gives : MayGive) (old new : Expansion) (root : List ℕ) (file : OpenFile) (include : IncludeLine) (inner : OpenFile) : Type 0 where
+  pub grows : Grows gives old.files.entries new.files.entries
+  pub spans : new.spans.items ≡ old.spans.items
+  pub depth : inner.depth_left < file.depth_left
+  pub opened : IsOpen new.files.entries inner
+  pub follows : (answer : List ℕ → Option Answer) → Extends new.files.entries answer
+      → lines_of_include root file include old answer ≡ lines_of_file root inner new answer
+
+-- lines, and others after them
+abbrev pub after : List LineView → Result Expanded Refusal → Result Expanded Refusal
+after here others = do
+  more ← others
+  Ok (expanded_as (here ++ more.lines) more.includes)
+
+-- the lines that were added are those of the definition, over any answers that have those of the
+-- files
+pub record Expands (gives : MayGive) (old new : Expansion) (want : (List ℕ → Option Answer) → Result Expanded Refusal) : Type 0 where
+  pub grows : Grows gives old.files.entries new.files.entries
+  pub spans : AreSpans new.files.entries new.spans.items
+  pub adds : (answer : List ℕ → Option Answer) → Extends new.files.entries answer
+      → after (lines_at old.files.entries old.spans.items) (want answer) ≡ Ok (expanded_as (lines_at new.files.entries new.spans.items) new.include_count)

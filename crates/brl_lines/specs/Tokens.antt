@@ -1,6 +1,7 @@
--- The tokens of a row, and the lines that do something. This restates, of the section "Overview" in "How to Write
--- Translation Tables" of the liblouis User's and Programmer's Manual, that a line is an opcode and its operands,
--- parted by blanks or tabs, and that an empty line and one that begins with `#` do nothing.
+-- The tokens of a row, and the lines that do something. This restates, of the section "Overview" in
+-- "How to Write Translation Tables" of the liblouis User's and Programmer's Manual, that a line is
+-- an opcode and its operands, parted by blanks or tabs, and that an empty line and one that begins
+-- with `#` do nothing.
 use Rattle.std.specs.Prelude.{ℕ, Bool, true, ◌||◌, ◌==◌, if◌then◌else◌, List, [], ◌∷◌, map, slice_index}
 use Rattle.std.specs.List.{enumerate_from, flat_map}
 use Rattle.brl_lines.specs.Rows.{onto, rows_of}
@@ -24,6 +25,7 @@ pub record TokenView : Type 0 where
   pub text : List ℕ
   pub start : ℕ
 
+-- a token from its bytes, each with its place
 abbrev pub token_of : List (ℕ × ℕ) → TokenView
 token_of [] = record { text = []; start = 0 }
 token_of (b ∷ bs) = record { text = b.1 ∷ map (λ c. c.1) bs; start = b.0 }

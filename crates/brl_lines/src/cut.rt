@@ -23,7 +23,7 @@ fn is_gap(byte: u8) -> bool
     byte == b' ' || byte == b'\t'
 }
 
-/// Where the first line feed from `at` on stands, or the text's length.
+/// The place of the first line feed from `at` on, or the text's length.
 fn feed_from(bytes: &[u8], at: usize) -> usize
     requires { at ≤ length bytes.now }
     ensures range { at ≤ result }
@@ -89,7 +89,7 @@ pub fn skip_gaps(text: &str, from: usize, to: usize) -> usize
     at
 }
 
-/// Where the token that stands at `from` ends: at a blank, at a tab, or at `to`.
+/// Where the token that starts at `from` ends: at a blank, at a tab, or at `to`.
 pub fn token_end(text: &str, from: usize, to: usize) -> usize
     requires range { from < to }
     requires mark { is_gap_byte (slice_index text.now from) ≡ false }

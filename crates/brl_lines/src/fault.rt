@@ -1,11 +1,17 @@
 //! Why a table has no lines.
-use std::alloc::{AllocError, AllocFailed};
+ghost use Rattle.std.specs.Prelude.{◌≡◌, IfOk, option_map};
+ghost use Rattle.brl_failure.specs.Failure.{IfFault};
+ghost use Rattle.brl_lines.specs.Lines.{refusal as refusal_of};
+ghost use Rattle.brl_lines.specs.Views.{load_fault_view, location_ref_view};
+
+use brl_failure::Failure;
+use std::alloc::{AllocError, Global};
 use std::fmt;
 use thiserror::Error;
 
-/// What is wrong with a file, or with the include line that names it.
+/// The fault of a file, or of the include line that names it.
 #[derive(Clone, Copy, Debug, PartialEq, Eq, Error)]
-pub enum Refused {
+pub enum LoadFaultKind {
     /// There is no file at the path.
     #[error("L1 NotFound")]
     NotFound,
@@ -15,10 +21,10 @@ pub enum Refused {
     /// The bytes are not UTF-8.
     #[error("L3 NotUtf8")]
     NotUtf8,
-    /// The file stands in its own chain of includes.
+    /// The file is in its own chain of includes.
     #[error("L4 Cycle")]
     Cycle,
-    /// The file would stand too deep below the root.
+    /// The file would be too deep below the root.
     #[error("L5 TooDeep")]
     TooDeep,
     /// A line has more than 2,048 bytes without its end.
@@ -35,14 +41,14 @@ pub enum Refused {
 /// A file, by its path, and a line of it, from 1.
 #[derive(Debug, Drop, Error)]
 #[error("{file}:{line}")]
-pub struct Place {
+pub struct Location {
     pub file: String,
     pub line: u32,
 }
 
-/// What stands behind a refusal's path: ` at FILE:LINE` where there is a place, else nothing.
+/// What follows a fault's path: ` at FILE:LINE` where there is a place, else nothing.
 #[derive(Clone, Copy)]
-struct At<'a>(&'a Option<Place>);
+struct At<'a>(&'a Option<Location>);
 
 impl fmt::Display for At<'_> {
     fn fmt<W: fmt::Write>(&self, f: &mut fmt::Formatter<W>) -> fmt::Result {
@@ -53,40 +59,57 @@ impl fmt::Display for At<'_> {
     }
 }
 
-/// Why a table has no lines. It is shown as `CODE NAME PATH`, and ` at FILE:LINE` where it has a place.
+/// The fault of the file at `path`, for which its table has no lines. The place is the include line
+/// that named the file, and there is none for the root; of a long line it is its own. It is shown
+/// as `CODE NAME PATH`, and ` at FILE:LINE` where it has a place.
 #[derive(Debug, Drop, Error)]
-pub enum LoadFault {
-    /// The file at `path` is refused. The place is the include line that named it, and there is none for the
-    /// root; of a long line it is its own.
-    #[error("{kind} {path}{at}", at = At(.place))]
-    Refused {
-        kind: Refused,
-        path: String,
-        place: Option<Place>,
-    },
-    /// A growth was refused.
-    #[error("out of memory")]
-    Memory,
+#[error("{kind} {path}{at}", at = At(.place))]
+pub struct LoadFault {
+    pub kind: LoadFaultKind,
+    pub path: String,
+    pub place: Option<Location>,
 }
 
-impl From<AllocError> for LoadFault {
-    ghost use Rattle.std.specs.Prelude.{◌≡◌};
-    ghost use Rattle.brl_lines.specs.declared.fault.LoadFault.TheVariants.{Memory};
+/// A file, by its path, and a line of it.
+#[derive(Clone, Copy, Debug)]
+pub(crate) struct LocationRef<'a> {
+    pub file: &'a str,
+    pub line: u32,
+}
 
-    ghost from_gives = { λ _ e. e ≡ Memory };
-
-    fn from(_error: AllocError) -> LoadFault {
-        LoadFault::Memory
+impl LoadFault {
+    /// A fault, with copies of its path and place.
+    pub(crate) fn new(
+        alloc: Global,
+        kind: LoadFaultKind,
+        path: &str,
+        place: Option<LocationRef<'_>>,
+    ) -> Result<LoadFault, AllocError>
+        ensures { IfOk result (λ fault. refusal_of kind path.now (option_map location_ref_view place.entry) ≡ load_fault_view fault) }
+    {
+        let path = String::from_str(alloc, path)?;
+        let place = match place {
+            None => None,
+            Some(place) => Some(Location {
+                file: String::from_str(alloc, place.file)?,
+                line: place.line,
+            }),
+        };
+        Ok(LoadFault { kind, path, place })
     }
 }
 
-impl<T: Drop> From<AllocFailed<T>> for LoadFault {
-    ghost use Rattle.std.specs.Prelude.{◌≡◌};
-    ghost use Rattle.brl_lines.specs.declared.fault.LoadFault.TheVariants.{Memory};
-
-    ghost from_gives = { λ _ e. e ≡ Memory };
-
-    fn from(_error: AllocFailed<T>) -> LoadFault {
-        LoadFault::Memory
+/// A fault with copies of its path and place, or `Memory` where there is none for them.
+pub(crate) fn refusal(
+    alloc: Global,
+    kind: LoadFaultKind,
+    path: &str,
+    place: Option<LocationRef<'_>>,
+) -> Failure<LoadFault>
+    ensures { IfFault (λ fault. refusal_of kind path.now (option_map location_ref_view place.entry) ≡ load_fault_view fault) result }
+{
+    match LoadFault::new(alloc, kind, path, place) {
+        Ok(fault) => Failure::Fault(fault),
+        Err(_) => Failure::Memory,
     }
 }

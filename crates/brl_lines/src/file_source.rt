@@ -1,9 +1,11 @@
 //! A source over a file system.
 ghost use Rattle.std.specs.Prelude.{◌≡◌, ◌≢◌, ◌<◌, ◌≤◌, length, IfOk, IfErr, IfSome};
+ghost use Rattle.brl_failure.specs.Failure.{IfFault};
 ghost use Rattle.brl_lines.specs.Answer.{most_file_bytes};
 
 use crate::{MOST_FILE_BYTES, Source, SourceFault};
-use std::alloc::Global;
+use brl_failure::Failure;
+use std::alloc::{AllocError, Global};
 use std::fs::File;
 use std::io::{ErrorKind, Read};
 use std::rt::Files;
@@ -29,44 +31,41 @@ impl<R: Files> FileSource<R> {
 const CHUNK: usize = 65_536;
 
 /// Room for one chunk.
-fn room_for_a_chunk(alloc: Global) -> Result<Vec<u8>, SourceFault>
-    ensures ok { IfOk result (λ v. length v.items ≡ 65536) }
-    ensures err { IfErr result (λ e. e ≡ SourceFault.Memory) }
+fn room_for_a_chunk(alloc: Global) -> Result<Vec<u8>, AllocError>
+    ensures { IfOk result (λ v. length v.items ≡ 65536) }
 {
-    vec![in alloc; 0u8; CHUNK].map_err(|_| SourceFault::Memory)
+    vec![in alloc; 0u8; CHUNK]
 }
 
-/// All bytes of a reader, if they are at most `MOST_FILE_BYTES`, read a chunk at a time. At most one byte
-/// more is read to tell. An interrupted read is a failed one.
+/// All bytes of a reader, if they are at most `MOST_FILE_BYTES`, read a chunk at a time. At most
+/// one byte more is read to tell. An interrupted read is a failed one.
 pub fn read_whole<R: Read>(
     alloc: Global,
     reader: &mut R,
     chunk: &mut [u8],
-) -> Result<Vec<u8>, SourceFault>
+) -> Result<Vec<u8>, Failure<SourceFault>>
     requires { 0 < length chunk.old }
     ensures whole { IfOk result (λ v. IfSome (R.remaining reader.old) (λ bytes. v.items ≡ bytes)) }
     ensures most { IfOk result (λ v. length v.items ≤ most_file_bytes) }
-    ensures large { IfErr result (λ e. e ≡ SourceFault.TooLarge → IfSome (R.remaining reader.old) (λ bytes. most_file_bytes < length bytes)) }
-    ensures found { IfErr result (λ e. e ≢ SourceFault.NotFound) }
+    ensures large { IfErr result (IfFault (λ fault. fault ≡ SourceFault.TooLarge → IfSome (R.remaining reader.old) (λ bytes. most_file_bytes < length bytes))) }
+    ensures found { IfErr result (IfFault (λ fault. fault ≢ SourceFault.NotFound)) }
 {
     let mut bytes = Vec::new(alloc);
     while bytes.len() <= MOST_FILE_BYTES {
         let want = (MOST_FILE_BYTES + 1 - bytes.len()).min(chunk.len());
         let Ok(count) = reader.read(&mut chunk[..want]) else {
-            return Err(SourceFault::Failed);
+            return Err(Failure::Fault(SourceFault::Failed));
         };
         if count == 0 {
             return Ok(bytes);
         }
-        if bytes.extend_from_slice(&chunk[..count]).is_err() {
-            return Err(SourceFault::Memory);
-        }
+        bytes.extend_from_slice(&chunk[..count])?;
     }
-    Err(SourceFault::TooLarge)
+    Err(Failure::Fault(SourceFault::TooLarge))
 }
 
 /// All bytes of a file that was opened.
-fn read_file<R: Read>(alloc: Global, file: &mut R) -> Result<Vec<u8>, SourceFault> {
+fn read_file<R: Read>(alloc: Global, file: &mut R) -> Result<Vec<u8>, Failure<SourceFault>> {
     let mut room = room_for_a_chunk(alloc)?;
     read_whole(alloc, file, room.as_mut_slice())
 }
@@ -76,13 +75,15 @@ impl<R: Files> Source for FileSource<R> {
 
     ghost faults = { λ s. s.faults };
 
-    fn read(&mut self, alloc: Global, path: &str) -> Result<Vec<u8>, SourceFault> {
+    fn read(&mut self, alloc: Global, path: &str) -> Result<Vec<u8>, Failure<SourceFault>> {
         let outcome = match File::open(&self.system, path) {
             Ok(mut file) => read_file(alloc, &mut file),
-            Err(error) if error.kind() == ErrorKind::NotFound => Err(SourceFault::NotFound),
-            Err(_) => Err(SourceFault::Failed),
+            Err(error) if error.kind() == ErrorKind::NotFound => {
+                Err(Failure::Fault(SourceFault::NotFound))
+            }
+            Err(_) => Err(Failure::Fault(SourceFault::Failed)),
         };
-        if let Err(SourceFault::Failed) = &outcome {
+        if let Err(Failure::Fault(SourceFault::Failed)) = &outcome {
             self.faults = self.faults.saturating_add(1);
         }
         outcome

@@ -38,7 +38,7 @@ fn folder(path: &str) -> &str
     &path[..end]
 }
 
-/// The path that a name stands for, in the table whose root stands at a path.
+/// The path of the file that a name includes, in the table whose root is at a path.
 pub(crate) fn included(alloc: Global, root: &str, name: &str) -> Result<String, AllocError>
     ensures { IfOk result (λ path. string_bytes path ≡ included_of root.now name.now) }
 {

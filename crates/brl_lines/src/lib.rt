@@ -1,27 +1,30 @@
 //! The files of a table, cut into lines and tokens.
 //!
-//! A `Source` gives the bytes of a file by its path: `MapSource` from memory, `FileSource` from a file system.
-//! `load` reads and checks a table's file and the files that it includes, and `Loaded::lines` gives the lines that do
-//! something, each as tokens that are slices of its file's text. `chars_of` reads the characters that a token spells.
+//! A `Source` gives the bytes of a file by its path: `MapSource` from memory, `FileSource` from a
+//! file system. `load` reads and checks a table's file and the files that it includes, and
+//! `Loaded::lines` gives the lines that do something, each as tokens that are slices of its file's
+//! text. `chars_of` reads the characters that a token spells.
 #![tactic(auto)]
 
+mod checked_file;
 mod cut;
+mod expand;
 mod fault;
 mod file_source;
-mod files;
 mod include;
-mod known;
 mod laws;
 mod line;
 mod loaded;
 mod map_source;
+mod open_file;
 mod operand;
-mod placing;
+mod read;
+mod row;
 mod source;
+mod span;
 mod spelling;
-mod walking;
 
-pub use fault::{LoadFault, Place, Refused};
+pub use fault::{LoadFault, LoadFaultKind, Location};
 pub use file_source::{FileSource, read_whole};
 pub use laws::{files_in_memory_law, one_answer_law};
 pub use line::{Line, Token};

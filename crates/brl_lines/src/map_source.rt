@@ -1,5 +1,6 @@
 //! A source over files in memory.
 use crate::{MOST_FILE_BYTES, Source, SourceFault};
+use brl_failure::Failure;
 use std::alloc::Global;
 use std::collections::BTreeMap;
 
@@ -28,17 +29,14 @@ impl Source for MapSource {
 
     ghost faults = { λ _. 0 };
 
-    fn read(&mut self, alloc: Global, path: &str) -> Result<Vec<u8>, SourceFault> {
+    fn read(&mut self, alloc: Global, path: &str) -> Result<Vec<u8>, Failure<SourceFault>> {
         let Some(bytes) = self.files.get(path) else {
-            return Err(SourceFault::NotFound);
+            return Err(Failure::Fault(SourceFault::NotFound));
         };
         if bytes.len() > MOST_FILE_BYTES {
-            return Err(SourceFault::TooLarge);
+            return Err(Failure::Fault(SourceFault::TooLarge));
         }
-        match Vec::from_slice(alloc, bytes) {
-            Ok(copy) => Ok(copy),
-            Err(_) => Err(SourceFault::Memory),
-        }
+        Ok(Vec::from_slice(alloc, bytes)?)
     }
 
     fn failures(&self) -> u64 {

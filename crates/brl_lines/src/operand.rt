@@ -1,16 +1,18 @@
 //! The characters that an operand spells.
-ghost use Rattle.std.specs.Prelude.{◌≡◌, ◌<◌, ◌≤◌, ℕ, ◌∷◌, [], drop, length, IfErr, IfOk, None, Some, MatchOption, option_map};
+ghost use Rattle.std.specs.Prelude.{◌≡◌, ◌<◌, ◌≤◌, ℕ, ◌∷◌, [], drop, length, None, Some, MatchOption, option_map};
 ghost use Rattle.std.specs.Str.{chars};
+ghost use Rattle.brl_failure.specs.Failure.{GivesAs};
 ghost use Rattle.brl_lines.specs.Escapes.{
   characters_of,
-  digits_behind as count_behind,
+  digits_after as count_after,
   escape,
   hexadecimal,
   named as named_character,
   spelled,
 };
 
-use std::alloc::{AllocFailed, Global};
+use brl_failure::Failure;
+use std::alloc::Global;
 use thiserror::Error;
 
 /// Why an operand spells no characters.
@@ -18,20 +20,6 @@ use thiserror::Error;
 pub enum CharsFault {
     #[error("L7 BadEscape")]
     BadEscape,
-    /// A growth was refused.
-    #[error("out of memory")]
-    Memory,
-}
-
-impl<T: Drop> From<AllocFailed<T>> for CharsFault {
-    ghost use Rattle.std.specs.Prelude.{◌≡◌};
-    ghost use Rattle.brl_lines.specs.declared.operand.CharsFault.TheVariants.{Memory};
-
-    ghost from_gives = { λ _ e. e ≡ Memory };
-
-    fn from(_error: AllocFailed<T>) -> CharsFault {
-        CharsFault::Memory
-    }
 }
 
 /// The first character of a text, and what follows it.
@@ -60,9 +48,9 @@ fn named(mark: char) -> Option<char>
     }
 }
 
-/// How many hexadecimal digits stand behind a mark.
-fn digits_behind(mark: char) -> Option<u32>
-    ensures { result ≡ count_behind mark }
+/// How many hexadecimal digits follow a mark.
+fn digits_after(mark: char) -> Option<u32>
+    ensures { result ≡ count_after mark }
 {
     match mark {
         'x' => Some(4),
@@ -81,15 +69,16 @@ fn number(text: &str, count: u32) -> Option<(u32, &str)>
     let mut value = 0u32;
     let mut rest = text;
     for read in 0..count {
-        let (mark, behind) = first_of(rest)?;
+        let (mark, left) = first_of(rest)?;
         let digit = mark.to_digit(16)?;
         value = value * 16 + digit;
-        rest = behind;
+        rest = left;
     }
     Some((value, rest))
 }
 
-/// The character that an escape means, whose marks behind the backslash begin a text, and what follows it.
+/// The character that an escape means, and what follows it. The text starts after the escape's
+/// backslash.
 fn escaped(text: &str) -> Option<(char, &str)>
     ensures { MatchOption result (escape (chars text.now) ≡ None)
         (λ r. ((taken : ℕ) × (escape (chars text.now) ≡ Some (r.0, taken)) × (chars r.1.now ≡ drop taken (chars text.now))) × (length r.1.now ≤ length text.now)) }
@@ -98,7 +87,7 @@ fn escaped(text: &str) -> Option<(char, &str)>
     if let Some(character) = named(mark) {
         return Some((character, rest));
     }
-    let count = digits_behind(mark)?;
+    let count = digits_after(mark)?;
     let (code, rest) = number(rest, count)?;
     Some((char::from_u32(code)?, rest))
 }
@@ -117,20 +106,19 @@ fn next_character(text: &str) -> Option<(char, &str)>
     }
 }
 
-/// The characters that an operand spells: a character stands for itself, but for the escapes of the definition
-/// `characters_of`. `BadEscape` where it has any other escape, and `Memory`.
-pub fn chars_of(alloc: Global, operand: &str) -> Result<Vec<char>, CharsFault>
-    ensures ok { IfOk result (λ found. characters_of operand.now ≡ Some found.items) }
-    ensures bad_escape { IfErr result (λ fault. fault ≡ CharsFault.BadEscape → characters_of operand.now ≡ None) }
+/// The characters that an operand spells: a character means itself, except in the escapes of the
+/// definition `characters_of`. `BadEscape` where it has any other escape.
+pub fn chars_of(alloc: Global, operand: &str) -> Result<Vec<char>, Failure<CharsFault>>
+    ensures { GivesAs (λ found. found.items) (λ fault. fault) (characters_of operand.now) result }
 {
     let mut found = Vec::new(alloc);
     let mut rest = operand;
     while !rest.is_empty() {
-        let Some((character, behind)) = next_character(rest) else {
-            return Err(CharsFault::BadEscape);
+        let Some((character, left)) = next_character(rest) else {
+            return Err(Failure::Fault(CharsFault::BadEscape));
         };
         found.push(character)?;
-        rest = behind;
+        rest = left;
     }
     Ok(found)
 }

@@ -1,5 +1,6 @@
 //! Where the files of a table come from.
 
+use brl_failure::Failure;
 use std::alloc::Global;
 use thiserror::Error;
 
@@ -18,25 +19,22 @@ pub enum SourceFault {
     /// The file has more than `MOST_FILE_BYTES`.
     #[error("too large")]
     TooLarge,
-    /// A growth was refused.
-    #[error("out of memory")]
-    Memory,
 }
 
 /// Gives the bytes of files by their paths.
 pub trait Source {
     ghost use Rattle.std.specs.Prelude.{◌≡◌, ℕ};
-    ghost use Rattle.brl_lines.specs.Answer.{AllStay, Gives, IsAnswer, failures_after, read_failed};
+    ghost use Rattle.brl_lines.specs.Answer.{AllStay, IsAnswer, MayGive, failures_after, read_failed};
 
     // what it may answer for a path, which reading doesn't change
-    ghost gives: { Self → Gives };
+    ghost gives: { Self → MayGive };
 
     // how often it has failed
     ghost faults: { Self → ℕ };
 
-    /// All bytes of the file at `path`. `NotFound` where there is none, `TooLarge` where it has more than
-    /// `MOST_FILE_BYTES`, `Failed` where it could not be read, and `Memory`.
-    fn read(&mut self, alloc: Global, path: &str) -> Result<Vec<u8>, SourceFault>
+    /// All bytes of the file at `path`. `NotFound` where there is none, `TooLarge` where it has
+    /// more than `MOST_FILE_BYTES`, and `Failed` where it could not be read.
+    fn read(&mut self, alloc: Global, path: &str) -> Result<Vec<u8>, Failure<SourceFault>>
         ensures answer { IsAnswer (gives self.old path.now) result }
         ensures same { AllStay (gives self.old) (gives self.new) }
         ensures count { faults self.new ≡ failures_after (faults self.old) (read_failed result) };

@@ -1,5 +1,5 @@
 //! The operand that spells a text.
-ghost use Rattle.std.specs.Prelude.{◌≡◌, ◌++◌, Some, IfOk, OnOk, string_bytes, find};
+ghost use Rattle.std.specs.Prelude.{◌≡◌, ◌++◌, Ok, IfOk, OnOk, string_bytes, find};
 ghost use Rattle.std.specs.Str.{encode_utf8_all};
 ghost use Rattle.brl_lines.specs.Escapes.{characters_of};
 ghost use Rattle.brl_lines.specs.Spelling.{character_spelling, escape_marks, means, text_spelling};
@@ -23,7 +23,7 @@ fn escape_mark(character: char) -> Option<char>
     }
 }
 
-/// Writes the marks that spell a character behind a text.
+/// Writes the marks that spell a character at the end of a text.
 fn push_spelled(text: &mut String, character: char) -> Result<(), AllocError>
     ensures { OnOk result (string_bytes text.new ≡ string_bytes text.old ++ encode_utf8_all (character_spelling character)) }
 {
@@ -38,13 +38,14 @@ fn push_spelled(text: &mut String, character: char) -> Result<(), AllocError>
     text.push(character)
 }
 
-/// The text that spells characters, which `chars_of` reads back. A backslash, a blank, the characters 9 to 13 and 27 are
-/// written by their escapes of one mark, all other characters below 32 and 127 by `\x` and four hexadecimal digits in
-/// lower case, and every other character as itself. So an operand has no blank and no line feed in it. `AllocError` where
-/// the text finds no memory.
+/// The text that spells characters, which `chars_of` reads back. A backslash, a blank, the
+/// characters 9 to 13 and 27 are written by their escapes of one mark, all other characters below
+/// 32 and 127 by `\x` and four hexadecimal digits in lower case, and every other character as
+/// itself. So an operand has no blank and no line feed in it. `AllocError` where the text finds no
+/// memory.
 pub fn spell_chars(alloc: Global, characters: &[char]) -> Result<String, AllocError>
     ensures spelled { IfOk result (λ text. string_bytes text ≡ encode_utf8_all (text_spelling characters.now)) }
-    ensures read_back { IfOk result (λ text. characters_of (string_bytes text) ≡ Some characters.now) }
+    ensures read_back { IfOk result (λ text. characters_of (string_bytes text) ≡ Ok characters.now) }
 {
     let mut text = String::new(alloc);
     for character in characters {

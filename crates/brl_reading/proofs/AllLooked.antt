@@ -13,8 +13,7 @@ use Rattle.brl_table.specs.declared.rule.Info.{Info}
 use Rattle.brl_table.specs.declared.rule.Notice.{Notice}
 use Rattle.brl_table.specs.declared.rule.Rule.{Rule}
 use Rattle.brl_reading.specs.declared.table_fault.TableFault.{TableFault}
-use Rattle.brl_reading.specs.declared.table_fault.TableFault.TheVariants as faults
-use Rattle.brl_reading.specs.declared.table_fault.Wrong.TheVariants.{TwoRoles, UndefinedInList, UndefinedInRule}
+use Rattle.brl_reading.specs.declared.table_fault.TableFaultKind.TheVariants.{TwoRoles, UndefinedInList, UndefinedInRule}
 use Rattle.brl_reading.specs.Items.{Fault, fault}
 use Rattle.brl_reading.specs.Good.{IsGoodItem}
 use Rattle.brl_table.specs.Limits.{IsEntry, IsRule}
@@ -101,8 +100,7 @@ module _ (lines : List LineView) (said : List Item) (aligned : map Ok said ≡ m
       look-is place line item.0 there item.1 ∙ passed place line item.0 within there item.1
 
   pub second-fault : (told : TableFault) → PassesFirst lines → IsFaultAgain characters lines said told → IsFaultOf lines told
-  second-fault faults.Memory first again = tt
-  second-fault (faults.Refused wrong subject file number) first (place, line, item, found, file_is, number_is) = (
+  second-fault told first (place, line, item, found, file_is, number_is) = (
     place,
     line,
     inr (

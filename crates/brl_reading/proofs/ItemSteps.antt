@@ -1,5 +1,5 @@
 -- One more item: the characters, the indicators and the used rules that stand for the items, and whether these are too many.
-use Rattle.std.proofs.Common.{ℕ, ◌+◌, ◌<◌, ◌≤◌, ◌≡◌, Bool, true, false, ◌||◌, ◌==◌, not, cond, ◌⊎◌, inl, inr, List, [], ◌∷◌, ◌++◌, length, nat_lt, refl, arith, sym, ◌∙◌, ap, subst, Some, None, Ok, append-nil, append_assoc, length-append}
+use Rattle.std.proofs.Common.{ℕ, ◌+◌, ◌<◌, ◌≤◌, ◌≡◌, Bool, true, false, ◌||◌, ◌==◌, not, cond, ◌⊎◌, inl, inr, List, [], ◌∷◌, ◌++◌, length, nat_lt, refl, arith, sym, ◌∙◌, ap, subst, Some, None, Result, Ok, Err, append-nil, append_assoc, length-append}
 use Rattle.std.proofs.lemmas.Bool.Decides.{nat_tests}
 use Rattle.std.proofs.lemmas.Grind.{flat_map-append}
 use Rattle.brl_lines.specs.Tokens.{LineView}
@@ -11,11 +11,14 @@ use Rattle.brl_reading.specs.declared.item.ListLine.{ListLine}
 use Rattle.brl_reading.specs.declared.item.RuleLine.{RuleLine}
 use Rattle.brl_table.specs.declared.signs.Sign.{Sign}
 use Rattle.brl_table.specs.Signs.{by_sign, cells_at, is_same_sign, with_cells}
-use Rattle.brl_reading.specs.declared.table_fault.Wrong.TheVariants.{IndicatorTwice, TooMany}
+use Rattle.brl_reading.specs.declared.table_fault.TableFaultKind.TheVariants.{IndicatorTwice, TooMany}
 use Rattle.brl_reading.specs.Good.{IsGoodItem}
-use Rattle.brl_reading.specs.Items.{fault}
+use Rattle.brl_failure.specs.Failure.{Gives}
+use Rattle.brl_failure.specs.declared.failure.Failure.{Failure}
+use Rattle.brl_failure.specs.declared.failure.Failure.TheVariants as failures
+use Rattle.brl_reading.specs.Items.{Fault, fault}
 use Rattle.brl_reading.specs.Reading.{characters_said, definition_in, definitions, fault_behind, indicated_in, is_twice, opcode_in, sign_said, used_in, used_rules}
-use Rattle.brl_reading.specs.Said.{nowhere, SignsStand, StandFor, Stands}
+use Rattle.brl_reading.specs.Said.{Adds, nowhere, SignsStand, StandFor, Stands}
 use Rattle.brl_reading.proofs.SaidSteps.{above, count-said, not_above}
 
 -- a list of what each indicator has gives each its own
@@ -141,9 +144,6 @@ signs-within own same said files item old new once good before after few sign =
     subst P (sym (ap (λ s. cells_at s sign) after ∙ own (sign_said (said ++ item ∷ [])) sign ∙ sign-more said item sign))
     (few-signs said same files item once good (λ other. subst P (ap (λ s. cells_at s other) before ∙ own (sign_said said) other) (few other)) sign)
 
-or-first : (a b : Bool) → a ≡ true → a || b ≡ true
-or-first a b h = rw h refl
-
 or-second : (a b : Bool) → b ≡ true → a || b ≡ true
 or-second true b h = refl
 or-second false b h = h
@@ -175,3 +175,10 @@ module _ (said : List Item) (line : LineView) (item : Item) where
         let few : length (characters_said (definitions (said ++ item ∷ []))) ≤ 1024 = omega arith in
         let rules : length (used_rules (said ++ item ∷ [])) ≤ 4096 = omega arith in
         rw (once, not_above 1024 (length (characters_said (definitions (said ++ item ∷ [])))) few, not_above 4096 (length (used_rules (said ++ item ∷ []))) rules) refl
+
+-- a line that is refused for a fault which it has
+pub refused-adds : (said : List Item) (line : LineView) (file : ℕ) (want : Result Item Fault) (items : List Item) (characters : Characters) (signs : List (List ℕ)) (used : ℕ) (wrong : Fault) (result : Result (Unit {0}) (Failure Fault))
+    → Gives (Err wrong) result → fault_behind said line want ≡ Some wrong → Adds said line file want items characters signs used result
+refused-adds said line file want items characters signs used wrong (Ok done) h e = absurd cc
+refused-adds said line file want items characters signs used wrong (Err (failures.Fault found)) h e = let same : wrong ≡ found = cc in e ∙ ap Some same
+refused-adds said line file want items characters signs used wrong (Err failures.Memory) h e = tt

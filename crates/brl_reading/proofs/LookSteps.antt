@@ -1,7 +1,6 @@
 -- The second look, one more line.
-use Rattle.std.proofs.Common.{ℕ, ◌+◌, ◌<◌, ◌≡◌, ◌⊎◌, inl, inr, List, [], ◌∷◌, ◌++◌, length, map, take, refl, arith, sym, ◌∙◌, ap, subst, Some, None, get_or}
-use Rattle.std.specs.Prelude.{string_bytes, slice_get, option_map}
-use Rattle.std.specs.Borrow.{Bor}
+use Rattle.std.proofs.Common.{ℕ, ◌+◌, ◌<◌, ◌≡◌, ◌⊎◌, inl, inr, List, [], ◌∷◌, ◌++◌, length, map, take, arith, sym, ◌∙◌, ap, subst, Some, None, get_or}
+use Rattle.std.specs.Prelude.{slice_get, option_map}
 use Rattle.std.proofs.lemmas.Bool.{cases_order}
 use Rattle.std.proofs.lemmas.List.{map-append, take_more}
 use Rattle.std.proofs.lemmas.Option.{slice_get-map, slice_get-get_or}
@@ -9,14 +8,13 @@ use Rattle.brl_lines.specs.Tokens.{LineView}
 use Rattle.brl_lines.specs.Views.{line_view}
 use Rattle.brl_lines.specs.declared.line.Line.{Line}
 use Rattle.brl_reading.specs.declared.item.Item.{Item}
-use Rattle.brl_reading.specs.declared.item.LineFault.{LineFault}
-use Rattle.brl_reading.specs.declared.item.LineFault.TheVariants as line_faults
+use Rattle.brl_failure.specs.Failure.{IfFault}
+use Rattle.brl_failure.specs.declared.failure.Failure.{Failure}
+use Rattle.brl_failure.specs.declared.failure.Failure.TheVariants as failures
 use Rattle.brl_table.specs.declared.rule.Info.{Info}
 use Rattle.brl_table.specs.declared.rule.Rule.{Rule}
 use Rattle.brl_reading.specs.declared.table_fault.TableFault.{TableFault}
-use Rattle.brl_reading.specs.declared.table_fault.TableFault.TheVariants as faults
-use Rattle.brl_reading.specs.declared.table_fault.Wrong.{Wrong}
-use Rattle.brl_reading.specs.Items.{Fault, fault}
+use Rattle.brl_reading.specs.Items.{Fault}
 use Rattle.brl_reading.specs.Reading.{fault_among, rule_of, used_in, used_rules, IsAt}
 use Rattle.brl_reading.specs.Said.{over, IsFaultAgain, IsFoundAgain, PassesAgain}
 use Rattle.brl_reading.proofs.ItemSteps.{used-more}
@@ -68,13 +66,10 @@ module _ (characters : List (ℕ × Info)) (lines : List Line) (said : List Item
       let inside : i < length said = omega arith in
       record { there = line_there lines i line within is; says = at_place said i item inside at; faulty = faulty; passed = passed }
 
--- a refusal with the place of the line in which the second look finds its first fault
-pub refusal-again : (characters : List (ℕ × Info)) (lines : List LineView) (said : List Item) (place : ℕ) (view : LineView) (item : Item) (wrong : LineFault) (told : TableFault)
-    → ((kind : Wrong) (about : Bor (List ℕ)) → wrong ≡ line_faults.Wrong kind about → IsFoundAgain characters lines said place view item (fault kind about.now))
-    → IsAt wrong view told → IsFaultAgain characters lines said told
-refusal-again characters lines said place view item wrong faults.Memory first at = tt
-refusal-again characters lines said place view item line_faults.Memory (faults.Refused kind subject file number) first at = absurd at
-refusal-again characters lines said place view item (line_faults.Wrong wrong about) (faults.Refused kind subject file number) first at =
-    let e : fault kind (string_bytes subject) ≡ fault wrong about.now = ap (λ k. fault k (string_bytes subject)) at.0 ∙ ap (fault wrong) at.1 in
-    let P : Fault → Type 0 = λ f. IsFoundAgain characters lines said place view item f in
-    (place, view, item, subst P (sym e) (first wrong about refl), at.2, at.3)
+-- the fault with the place of its line, in which the second look finds it first
+pub refusal-again : (characters : List (ℕ × Info)) (lines : List LineView) (said : List Item) (place : ℕ) (view : LineView) (item : Item) (failure : Failure Fault) (told : Failure TableFault)
+    → IfFault (IsFoundAgain characters lines said place view item) failure → IsAt view failure told → IfFault (IsFaultAgain characters lines said) told
+refusal-again characters lines said place view item failure failures.Memory first at = tt
+refusal-again characters lines said place view item failures.Memory (failures.Fault found) first at = absurd at
+refusal-again characters lines said place view item (failures.Fault wrong) (failures.Fault found) first at =
+    (place, view, item, subst (IsFoundAgain characters lines said place view item) (sym at.0) first, at.1, at.2)

@@ -16,18 +16,16 @@ use Rattle.brl_reading.specs.declared.characters.Characters.{Characters}
 use Rattle.brl_reading.specs.declared.item.Definition.{Definition}
 use Rattle.brl_reading.specs.declared.item.Item.{Item}
 use Rattle.brl_reading.specs.declared.item.Item.TheVariants.{Defines, DefinesBoth, Rules, Indicates, Lists, Nothing}
-use Rattle.brl_reading.specs.Items.{Fault, fault, item_of}
-use Rattle.brl_reading.specs.declared.table_fault.Wrong.{Wrong}
+use Rattle.brl_failure.specs.Failure.{IfFault}
+use Rattle.brl_failure.specs.declared.failure.Failure.{Failure}
+use Rattle.brl_failure.specs.declared.failure.Failure.TheVariants as failures
+use Rattle.brl_reading.specs.Items.{Fault, item_of}
 use Rattle.std.proofs.lemmas.Bool.{cases_order}
 use Rattle.std.proofs.lemmas.List.Elements.{All-push}
 use Rattle.std.proofs.lemmas.List.{length-map}
 use Rattle.std.proofs.lemmas.Option.{get_or_from_slice_get}
 use Rattle.brl_reading.specs.Reading.{IsAt, IsFaultOf, IsFirstFault}
-use Rattle.brl_reading.specs.declared.item.LineFault.{LineFault}
-use Rattle.brl_reading.specs.declared.item.LineFault.TheVariants as line_faults
 use Rattle.brl_reading.specs.declared.table_fault.TableFault.{TableFault}
-use Rattle.brl_reading.specs.declared.table_fault.TableFault.TheVariants as faults
-use Rattle.std.specs.Borrow.{Bor}
 use Rattle.brl_reading.specs.Good.{IsGood, IsGoodItem}
 use Rattle.brl_reading.specs.Reading.{item_in, items, ok_of, fault_behind, fault_of, file_number, files_of, is_twice, place_among, put, PassesBefore}
 use Rattle.brl_reading.specs.Said.{AreWithin, StandFor}
@@ -200,10 +198,9 @@ module _ (lines : List Line) (names : List (String Global)) (named : map string_
           by_place (inr (inr more)) = absurd (omega (arith, more, lower))
 
       -- the next line is the first that has a fault
-      pub first-fault : (wrong : Wrong) (subject : List ℕ)
-          → fault_behind said (line_view line) (item_of file (line_view line)) ≡ Some (fault wrong subject)
-          → PassesBefore (fault_of (map line_view lines)) (map line_view lines) i → IsFirstFault (map line_view lines) i (line_view line) (fault wrong subject)
-      first-fault wrong subject h passed = inl (record {
+      pub first-fault : (wrong : Fault) → fault_behind said (line_view line) (item_of file (line_view line)) ≡ Some wrong
+          → PassesBefore (fault_of (map line_view lines)) (map line_view lines) i → IsFirstFault (map line_view lines) i (line_view line) wrong
+      first-fault wrong h passed = inl (record {
         there = there;
         faulty = looked (item_of file (line_view line)) says ∙ h;
         passed = passed;
@@ -216,16 +213,13 @@ module _ (lines : List Line) (names : List (String Global)) (named : map string_
         let P : List Item → Type 0 = λ xs. All (IsGoodItem n) xs in
         subst P (sym e) (All-push (IsGoodItem n) said item all (good-among n item within good))
 
--- a refusal with the place of the line that is the first with a fault
-pub refusal : (lines : List LineView) (place : ℕ) (view : LineView) (wrong : LineFault) (told : TableFault)
-    → ((kind : Wrong) (about : Bor (List ℕ)) → wrong ≡ line_faults.Wrong kind about → IsFirstFault lines place view (fault kind about.now))
-    → IsAt wrong view told → IsFaultOf lines told
-refusal lines place view wrong faults.Memory first at = tt
-refusal lines place view line_faults.Memory (faults.Refused kind subject file number) first at = absurd at
-refusal lines place view (line_faults.Wrong wrong about) (faults.Refused kind subject file number) first at =
-    let e : fault kind (string_bytes subject) ≡ fault wrong about.now = ap (λ k. fault k (string_bytes subject)) at.0 ∙ ap (fault wrong) at.1 in
-    let P : Fault → Type 0 = λ f. IsFirstFault lines place view f in
-    (place, view, subst P (sym e) (first wrong about refl), at.2, at.3)
+-- the fault with the place of its line, which is the first with a fault
+pub refusal : (lines : List LineView) (place : ℕ) (view : LineView) (failure : Failure Fault) (told : Failure TableFault)
+    → IfFault (IsFirstFault lines place view) failure → IsAt view failure told → IfFault (IsFaultOf lines) told
+refusal lines place view failure failures.Memory first at = tt
+refusal lines place view failures.Memory (failures.Fault found) first at = absurd at
+refusal lines place view (failures.Fault wrong) (failures.Fault found) first at =
+    (place, view, subst (IsFirstFault lines place view) (sym at.0) first, at.1, at.2)
 
 from-within : {X : Type 0} (p : X → Bool) (n : ℕ) (xs : List X) (i : ℕ) → position_from p n xs ≡ Some i → i < n + length xs
 from-within p n [] i h = cc

@@ -1,11 +1,12 @@
--- What one line of a table says, read by itself. The manual has the form of a line in section "Overview", and the opcodes in
--- sections "Character-Definition Opcodes", "Translation Opcodes", "Braille Indicator Opcodes" and "Miscellaneous Opcodes". That `=` stands
--- for the cells of the characters, and a comma between dots for two operands, is the manual's too. The faults, their order and the limit of a rule's characters are this project's own.
-use Rattle.std.specs.Prelude.{ℕ, ◌≡◌, Bool, true, false, nat_eq, nat_lt, if◌then◌else◌, List, [], ◌∷◌, length, codes, Option, Some, None, Result, Ok, Err}
+-- What one line of a table defines, read by itself. The manual has the form of a line in section "Overview", and the
+-- opcodes in sections "Character-Definition Opcodes", "Translation Opcodes", "Braille Indicator Opcodes" and
+-- "Miscellaneous Opcodes". That `=` stands for the cells of the characters, and a comma between dots for two operands, is
+-- the manual's too. The faults, their order and the limit of a rule's characters are this project's own.
+use Rattle.std.specs.Prelude.{ℕ, Bool, true, false, nat_eq, nat_lt, if◌then◌else◌, List, [], ◌∷◌, length, codes, Option, Some, None, Result, Ok, Err}
 use Rattle.std.specs.List.{list_any, before_first, after_first}
 use Rattle.std.specs.Str.{bytes_eq}
 use Rattle.brl_cells.specs.Dots.{reading}
-use Rattle.brl_cells.specs.declared.fault.DotsFault.{DotsFault}
+use Rattle.brl_failure.specs.Failure.{◌>>=◌}
 use Rattle.brl_lines.specs.Escapes.{characters_of}
 use Rattle.brl_lines.specs.Tokens.{LineView, TokenView}
 use Rattle.brl_table.specs.declared.class.Class.{Class}
@@ -14,26 +15,33 @@ use Rattle.brl_reading.specs.declared.item.Item.TheVariants.{Defines, DefinesBot
 use Rattle.brl_reading.specs.declared.item.Definition.{Definition}
 use Rattle.brl_reading.specs.declared.item.Role.{Role}
 use Rattle.brl_reading.specs.declared.item.RuleHead.{RuleHead}
-use Rattle.brl_reading.specs.declared.item.LineFault.{LineFault}
-use Rattle.brl_reading.specs.declared.item.LineFault.TheVariants as line_faults
 use Rattle.brl_reading.specs.declared.opcode.Opcode.{Opcode}
 use Rattle.brl_reading.specs.declared.opcode.Opcode.TheVariants.{Plain, Literary, Uplow, Placed, Noback, Nofor, Display, Indicator, Listing, Include}
 use Rattle.brl_table.specs.declared.place.Place.{Place}
 use Rattle.brl_table.specs.declared.signs.Sign.{Sign}
-use Rattle.brl_reading.specs.declared.table_fault.Wrong.{Wrong}
-use Rattle.brl_reading.specs.declared.table_fault.Wrong.TheVariants.{OutsideProfile, MissingOperand, BadCharacters, BadDots, TooMany}
+use Rattle.brl_reading.specs.declared.table_fault.TableFaultKind.{TableFaultKind}
+use Rattle.brl_reading.specs.declared.table_fault.TableFaultKind.TheVariants.{OutsideProfile, MissingOperand, BadCharacters, BadDots, TooMany}
 use Rattle.brl_reading.specs.Opcodes.{opcode_of}
 use Rattle.brl_table.specs.Places.{digit, lowercase_letter, uppercase_letter}
 
--- what is wrong with a line, and the word of it that this is about
+-- the fault of a line, and the word of it that this is about
 pub record Fault : Type 0 where
-  pub wrong : Wrong
+  pub kind : TableFaultKind
   pub subject : List ℕ
 
-abbrev pub fault : Wrong → List ℕ → Fault
-fault wrong subject = record { wrong = wrong; subject = subject }
+abbrev pub fault : TableFaultKind → List ℕ → Fault
+fault kind subject = record { kind = kind; subject = subject }
+
+-- whatever fault a word has is one of this kind about the word
+abbrev pub named : {A E : Type 0} → TableFaultKind → List ℕ → Result A E → Result A Fault
+named kind word (Ok x) = Ok x
+named kind word (Err other) = Err (fault kind word)
 
 -- ---- Operands
+
+-- the characters that an operand spells
+abbrev pub characters_spelled : List ℕ → Result (List ℕ) Fault
+characters_spelled word = named BadCharacters word (characters_of word)
 
 -- the only one of these characters
 abbrev pub the_one : List ℕ → List ℕ → Result ℕ Fault
@@ -41,73 +49,72 @@ the_one word (c ∷ []) = Ok c
 the_one word others = Err (fault BadCharacters word)
 
 -- the one character that an operand spells
-abbrev pub spelled_character : List ℕ → Option (List ℕ) → Result ℕ Fault
-spelled_character word None = Err (fault BadCharacters word)
-spelled_character word (Some characters) = the_one word characters
-
 abbrev pub character_of : List ℕ → Result ℕ Fault
-character_of word = spelled_character word (characters_of word)
+character_of word = do
+  characters ← characters_spelled word
+  the_one word characters
 
 -- these, if they are two different characters
-abbrev pub two_of : List ℕ → List ℕ → Result (ℕ × ℕ) Fault
-two_of word (c ∷ d ∷ []) = if nat_eq c d then Err (fault BadCharacters word) else Ok (c, d)
-two_of word others = Err (fault BadCharacters word)
+abbrev pub the_two : List ℕ → List ℕ → Result (ℕ × ℕ) Fault
+the_two word (c ∷ d ∷ []) = if nat_eq c d then Err (fault BadCharacters word) else Ok (c, d)
+the_two word others = Err (fault BadCharacters word)
 
 -- the two different characters that an operand spells
-abbrev pub two_spelled : List ℕ → Option (List ℕ) → Result (ℕ × ℕ) Fault
-two_spelled word None = Err (fault BadCharacters word)
-two_spelled word (Some characters) = two_of word characters
-
 abbrev pub two_characters_of : List ℕ → Result (ℕ × ℕ) Fault
-two_characters_of word = two_spelled word (characters_of word)
+two_characters_of word = do
+  characters ← characters_spelled word
+  the_two word characters
+
+-- these characters, at least one
+abbrev pub at_least_one : List ℕ → List ℕ → Result (List ℕ) Fault
+at_least_one word [] = Err (fault BadCharacters word)
+at_least_one word (c ∷ others) = Ok (c ∷ others)
 
 -- the characters that an operand spells, at least one
-abbrev pub some_of : List ℕ → List ℕ → Result (List ℕ) Fault
-some_of word [] = Err (fault BadCharacters word)
-some_of word (c ∷ others) = Ok (c ∷ others)
-
-abbrev pub spelled_characters : List ℕ → Option (List ℕ) → Result (List ℕ) Fault
-spelled_characters word None = Err (fault BadCharacters word)
-spelled_characters word (Some characters) = some_of word characters
-
 abbrev pub some_characters_of : List ℕ → Result (List ℕ) Fault
-some_characters_of word = spelled_characters word (characters_of word)
+some_characters_of word = do
+  characters ← characters_spelled word
+  at_least_one word characters
 
 -- the cells that an operand spells, at most 16
-abbrev pub spelled_cells : List ℕ → Result (List ℕ) DotsFault → Result (List ℕ) Fault
-spelled_cells word (Ok cells) = Ok cells
-spelled_cells word (Err wrong) = Err (fault BadDots word)
-
 abbrev pub cells_of : List ℕ → Result (List ℕ) Fault
-cells_of word = spelled_cells word (reading 16 word)
+cells_of word = named BadDots word (reading 16 word)
 
--- the two parts of an operand round its first comma; where it has none, the operand itself is both
 abbrev pub is_comma : ℕ → Bool
 is_comma byte = nat_eq byte 44
 
+-- the two parts of an operand round its first comma; where it has none, the operand itself is both
 abbrev pub parts_of : List ℕ → List ℕ × List ℕ
 parts_of word = if list_any is_comma word then (before_first is_comma word, after_first is_comma word) else (word, word)
 
--- the dots of two characters: one operand for both, or one for each with a comma between
-abbrev pub both : Result (List ℕ) Fault → Result (List ℕ) Fault → Result (List ℕ × List ℕ) Fault
-both (Ok upper) (Ok lower) = Ok (upper, lower)
-both (Ok upper) (Err wrong) = Err wrong
-both (Err wrong) lower = Err wrong
-
+-- the cells of two characters: one operand for both, or one for each with a comma between
 abbrev pub cells_of_both : List ℕ → Result (List ℕ × List ℕ) Fault
-cells_of_both word = both (spelled_cells word (reading 16 (parts_of word).0)) (spelled_cells word (reading 16 (parts_of word).1))
+cells_of_both word = do
+  upper ← named BadDots word (reading 16 (parts_of word).0)
+  lower ← named BadDots word (reading 16 (parts_of word).1)
+  Ok (upper, lower)
 
--- the dots of a rule: cells, or none for `=`
-abbrev pub given : Result (List ℕ) Fault → Result (Option (List ℕ)) Fault
-given (Ok cells) = Ok (Some cells)
-given (Err wrong) = Err wrong
+abbrev pub some_cells_of : List ℕ → Result (Option (List ℕ)) Fault
+some_cells_of word = do
+  cells ← cells_of word
+  Ok (Some cells)
 
+-- the cells of a rule, or none for `=`
 abbrev pub rule_cells_of : List ℕ → Result (Option (List ℕ)) Fault
-rule_cells_of word = if bytes_eq word (codes "=") then Ok None else given (cells_of word)
+rule_cells_of word = if bytes_eq word (codes "=") then Ok None else some_cells_of word
 
--- ---- Lines of one character and dots
+-- the first operand of an opcode; what follows it is a comment
+abbrev pub one_operand : List ℕ → List TokenView → Result (List ℕ) Fault
+one_operand opcode [] = Err (fault MissingOperand opcode)
+one_operand opcode (first ∷ comment) = Ok first.text
 
--- what a line says of a character
+-- the first two operands of an opcode; what follows them is a comment
+abbrev pub two_operands : List ℕ → List TokenView → Result (List ℕ × List ℕ) Fault
+two_operands opcode (first ∷ second ∷ comment) = Ok (first.text, second.text)
+two_operands opcode others = Err (fault MissingOperand opcode)
+
+-- ---- Lines that define characters
+
 abbrev pub definition : Class → Bool → ℕ → ℕ → ℕ → ℕ → List ℕ → Definition
 definition classes literary file line fold c cells = record {
   character = c;
@@ -119,63 +126,47 @@ definition classes literary file line fold c cells = record {
   line = line;
 }
 
--- a line that defines one character, which is its own fold
-abbrev pub defines : Class → Bool → ℕ → ℕ → ℕ → List ℕ → Item
-defines classes literary file line c cells = Defines (definition classes literary file line c c cells)
+-- a line that defines one character, which is its own fold: the character, then its cells
+abbrev pub defined : Class → Bool → ℕ → ℕ → List ℕ → List TokenView → Result Item Fault
+defined classes literary file line opcode operands = do
+  two ← two_operands opcode operands
+  c ← character_of two.0
+  cells ← cells_of two.1
+  Ok (Defines (definition classes literary file line c c cells))
 
--- the character is looked at first, then the dots
-abbrev pub by_dots : (List ℕ → Item) → Result (List ℕ) Fault → Result Item Fault
-by_dots says (Ok cells) = Ok (says cells)
-by_dots says (Err wrong) = Err wrong
+-- a line that defines an uppercase character and its lowercase one, the fold of both: these two, then the cells of both
+abbrev pub defined_both : ℕ → ℕ → List ℕ → List TokenView → Result Item Fault
+defined_both file line opcode operands = do
+  two ← two_operands opcode operands
+  cs ← two_characters_of two.0
+  cells ← cells_of_both two.1
+  Ok (DefinesBoth (definition uppercase_letter false file line cs.1 cs.0 cells.0) (definition lowercase_letter false file line cs.1 cs.1 cells.1))
 
-abbrev pub by_character : (ℕ → List ℕ → Item) → List ℕ → Result ℕ Fault → Result Item Fault
-by_character says dots (Ok c) = by_dots (says c) (cells_of dots)
-by_character says dots (Err wrong) = Err wrong
+-- a line for the display alone: it is read as if it defined a character, and not used
+abbrev pub displayed : List ℕ → List TokenView → Result Item Fault
+displayed opcode operands = do
+  two ← two_operands opcode operands
+  c ← character_of two.0
+  cells ← cells_of two.1
+  Ok Nothing
 
--- one character, then dots; what stands behind them is a comment
-abbrev pub by_operands : (ℕ → List ℕ → Item) → List ℕ → List TokenView → Result Item Fault
-by_operands says opcode [] = Err (fault MissingOperand opcode)
-by_operands says opcode (first ∷ []) = Err (fault MissingOperand opcode)
-by_operands says opcode (first ∷ second ∷ comment) = by_character says second.text (character_of first.text)
+-- ---- Lines of indicators and lists
 
--- ---- Lines of two characters and dots
+-- a line that gives an indicator its cells
+abbrev pub indicated : Sign → List ℕ → List TokenView → Result Item Fault
+indicated sign opcode operands = do
+  dots ← one_operand opcode operands
+  cells ← cells_of dots
+  Ok (Indicates sign cells)
 
--- an uppercase character and its lowercase one, the fold of both
-abbrev pub defines_both : ℕ → ℕ → ℕ × ℕ → List ℕ × List ℕ → Item
-defines_both file line two cells =
-    DefinesBoth (definition uppercase_letter false file line two.1 two.0 cells.0) (definition lowercase_letter false file line two.1 two.1 cells.1)
+-- a line that gives its characters a role
+abbrev pub listed : Role → List ℕ → List TokenView → Result Item Fault
+listed role opcode operands = do
+  word ← one_operand opcode operands
+  chars ← some_characters_of word
+  Ok (Lists (record { role = role; chars = chars }))
 
-abbrev pub by_dots_of_both : (List ℕ × List ℕ → Item) → Result (List ℕ × List ℕ) Fault → Result Item Fault
-by_dots_of_both says (Ok cells) = Ok (says cells)
-by_dots_of_both says (Err wrong) = Err wrong
-
-abbrev pub by_two : (ℕ × ℕ → List ℕ × List ℕ → Item) → List ℕ → Result (ℕ × ℕ) Fault → Result Item Fault
-by_two says dots (Ok two) = by_dots_of_both (says two) (cells_of_both dots)
-by_two says dots (Err wrong) = Err wrong
-
--- two characters, then dots; what stands behind them is a comment
-abbrev pub by_two_operands : (ℕ × ℕ → List ℕ × List ℕ → Item) → List ℕ → List TokenView → Result Item Fault
-by_two_operands says opcode [] = Err (fault MissingOperand opcode)
-by_two_operands says opcode (first ∷ []) = Err (fault MissingOperand opcode)
-by_two_operands says opcode (first ∷ second ∷ comment) = by_two says second.text (two_characters_of first.text)
-
--- ---- Lines of dots alone, and of characters alone
-
--- dots for an indicator; what stands behind them is a comment
-abbrev pub by_sign : Sign → List ℕ → List TokenView → Result Item Fault
-by_sign sign opcode [] = Err (fault MissingOperand opcode)
-by_sign sign opcode (dots ∷ comment) = by_dots (Indicates sign) (cells_of dots.text)
-
-abbrev pub listed : Role → Result (List ℕ) Fault → Result Item Fault
-listed role (Ok chars) = Ok (Lists (record { role = role; chars = chars }))
-listed role (Err wrong) = Err wrong
-
--- characters of which one thing is said; what stands behind them is a comment
-abbrev pub by_role : Role → List ℕ → List TokenView → Result Item Fault
-by_role role opcode [] = Err (fault MissingOperand opcode)
-by_role role opcode (characters ∷ comment) = listed role (some_characters_of characters.text)
-
--- ---- Rules
+-- ---- Lines of rules
 
 abbrev pub head : Bool → Bool → ℕ → ℕ → RuleHead
 head used prefixed file line = record {
@@ -191,56 +182,44 @@ rule place head opcode chars cells =
     if nat_lt 32 (length chars) then Err (fault TooMany opcode)
     else Ok (Rules (record { place = place; chars = chars; cells = cells; head = head }))
 
--- the characters are looked at first, then the dots
-abbrev pub by_rule_dots : Place → RuleHead → List ℕ → List ℕ → Result (Option (List ℕ)) Fault → Result Item Fault
-by_rule_dots place head opcode chars (Ok cells) = rule place head opcode chars cells
-by_rule_dots place head opcode chars (Err wrong) = Err wrong
+-- the rule of a place opcode: characters, then cells or `=`
+abbrev pub ruled : Place → RuleHead → List ℕ → List TokenView → Result Item Fault
+ruled place head opcode operands = do
+  two ← two_operands opcode operands
+  chars ← some_characters_of two.0
+  cells ← rule_cells_of two.1
+  rule place head opcode chars cells
 
-abbrev pub by_rule_characters : Place → RuleHead → List ℕ → List ℕ → Result (List ℕ) Fault → Result Item Fault
-by_rule_characters place head opcode dots (Ok chars) = by_rule_dots place head opcode chars (rule_cells_of dots)
-by_rule_characters place head opcode dots (Err wrong) = Err wrong
+-- what follows `noback` or `nofor` is a place opcode with its operands
+abbrev pub ruled_as : RuleHead → List ℕ → List TokenView → Option Opcode → Result Item Fault
+ruled_as head opcode operands (Some (Placed place)) = ruled place head opcode operands
+ruled_as head opcode operands other = Err (fault OutsideProfile opcode)
 
--- characters, then dots or `=`; what stands behind them is a comment
-abbrev pub by_rule_operands : Place → RuleHead → List ℕ → List TokenView → Result Item Fault
-by_rule_operands place head opcode [] = Err (fault MissingOperand opcode)
-by_rule_operands place head opcode (first ∷ []) = Err (fault MissingOperand opcode)
-by_rule_operands place head opcode (first ∷ second ∷ comment) = by_rule_characters place head opcode second.text (some_characters_of first.text)
-
--- a rule behind `noback` or `nofor`: a place opcode comes next
-abbrev pub by_next : RuleHead → List ℕ → List TokenView → Option Opcode → Result Item Fault
-by_next head opcode operands (Some (Placed place)) = by_rule_operands place head opcode operands
-by_next head opcode operands other = Err (fault OutsideProfile opcode)
-
-abbrev pub by_prefix : RuleHead → List ℕ → List TokenView → Result Item Fault
-by_prefix head prefix [] = Err (fault MissingOperand prefix)
-by_prefix head prefix (next ∷ operands) = by_next head next.text operands (opcode_of next.text)
+abbrev pub ruled_after : RuleHead → List ℕ → List TokenView → Result Item Fault
+ruled_after head prefix [] = Err (fault MissingOperand prefix)
+ruled_after head prefix (next ∷ operands) = ruled_as head next.text operands (opcode_of next.text)
 
 -- ---- Lines
 
 -- an include line: loading puts a file's lines in the place of one that names a file
-abbrev pub by_name : List ℕ → List TokenView → Result Item Fault
-by_name opcode [] = Err (fault MissingOperand opcode)
-by_name opcode (name ∷ comment) = Err (fault OutsideProfile opcode)
+abbrev pub included : List ℕ → List TokenView → Result Item Fault
+included opcode [] = Err (fault MissingOperand opcode)
+included opcode (name ∷ comment) = Err (fault OutsideProfile opcode)
 
-abbrev pub by_opcode : ℕ → LineView → Option Opcode → Result Item Fault
-by_opcode file line None = Err (fault OutsideProfile line.opcode.text)
-by_opcode file line (Some (Plain classes)) = by_operands (defines classes false file line.line) line.opcode.text line.operands
-by_opcode file line (Some Literary) = by_operands (defines digit true file line.line) line.opcode.text line.operands
-by_opcode file line (Some Uplow) = by_two_operands (defines_both file line.line) line.opcode.text line.operands
-by_opcode file line (Some Display) = by_operands (λ c cells. Nothing) line.opcode.text line.operands
-by_opcode file line (Some (Placed place)) = by_rule_operands place (head true false file line.line) line.opcode.text line.operands
-by_opcode file line (Some Noback) = by_prefix (head true true file line.line) line.opcode.text line.operands
-by_opcode file line (Some Nofor) = by_prefix (head false true file line.line) line.opcode.text line.operands
-by_opcode file line (Some (Indicator sign)) = by_sign sign line.opcode.text line.operands
-by_opcode file line (Some (Listing role)) = by_role role line.opcode.text line.operands
-by_opcode file line (Some Include) = by_name line.opcode.text line.operands
+-- what a line of this opcode defines
+abbrev pub by_opcode : ℕ → ℕ → List ℕ → List TokenView → Option Opcode → Result Item Fault
+by_opcode file line opcode operands None = Err (fault OutsideProfile opcode)
+by_opcode file line opcode operands (Some (Plain classes)) = defined classes false file line opcode operands
+by_opcode file line opcode operands (Some Literary) = defined digit true file line opcode operands
+by_opcode file line opcode operands (Some Uplow) = defined_both file line opcode operands
+by_opcode file line opcode operands (Some Display) = displayed opcode operands
+by_opcode file line opcode operands (Some (Placed place)) = ruled place (head true false file line) opcode operands
+by_opcode file line opcode operands (Some Noback) = ruled_after (head true true file line) opcode operands
+by_opcode file line opcode operands (Some Nofor) = ruled_after (head false true file line) opcode operands
+by_opcode file line opcode operands (Some (Indicator sign)) = indicated sign opcode operands
+by_opcode file line opcode operands (Some (Listing role)) = listed role opcode operands
+by_opcode file line opcode operands (Some Include) = included opcode operands
 
--- what a line of the file with this number says, or the first that is wrong with it
+-- what a line of the file with this number defines, or its first fault
 abbrev pub item_of : ℕ → LineView → Result Item Fault
-item_of file line = by_opcode file line (opcode_of line.opcode.text)
-
--- what is returned is what a definition says, unless memory ran out
-abbrev pub Tells : {X : Type 0} → Result X Fault → Result X LineFault → Type 0
-Tells want (Ok value) = want ≡ Ok value
-Tells want (Err line_faults.Memory) = Unit {0}
-Tells want (Err (line_faults.Wrong wrong subject)) = want ≡ Err (fault wrong subject.now)
+item_of file line = by_opcode file line.line line.opcode.text line.operands (opcode_of line.opcode.text)

@@ -9,6 +9,8 @@ use Rattle.std.specs.List.{find, flat_map, list_any}
 use Rattle.std.specs.Option.{option_map_or, option_or}
 use Rattle.std.specs.Int.RustNames.{bit_or}
 use Rattle.std.specs.Str.{bytes_eq}
+use Rattle.brl_failure.specs.declared.failure.Failure.{Failure}
+use Rattle.brl_failure.specs.declared.failure.Failure.TheVariants as failures
 use Rattle.brl_lines.specs.Tokens.{LineView}
 use Rattle.brl_table.specs.declared.class.Class.{Class}
 use Rattle.brl_reading.specs.declared.item.Definition.{Definition}
@@ -17,15 +19,12 @@ use Rattle.brl_reading.specs.declared.item.Item.TheVariants.{Defines, DefinesBot
 use Rattle.brl_reading.specs.declared.item.Role.{Role}
 use Rattle.brl_reading.specs.declared.item.Role.TheVariants.{Mode, Nocont}
 use Rattle.brl_reading.specs.declared.item.RuleLine.{RuleLine}
-use Rattle.brl_reading.specs.declared.item.LineFault.{LineFault}
-use Rattle.brl_reading.specs.declared.item.LineFault.TheVariants as line_faults
 use Rattle.brl_table.specs.declared.rule.Info.{Info}
 use Rattle.brl_table.specs.declared.rule.Notice.{Notice}
 use Rattle.brl_table.specs.declared.rule.Rule.{Rule}
 use Rattle.brl_table.specs.declared.signs.Sign.{Sign}
 use Rattle.brl_reading.specs.declared.table_fault.TableFault.{TableFault}
-use Rattle.brl_reading.specs.declared.table_fault.TableFault.TheVariants as faults
-use Rattle.brl_reading.specs.declared.table_fault.Wrong.TheVariants.{IndicatorTwice, TooMany, TwoRoles, UndefinedInList, UndefinedInRule}
+use Rattle.brl_reading.specs.declared.table_fault.TableFaultKind.TheVariants.{IndicatorTwice, TooMany, TwoRoles, UndefinedInList, UndefinedInRule}
 use Rattle.brl_reading.specs.Items.{Fault, fault, item_of}
 use Rattle.brl_table.specs.Rank.{in_rank}
 use Rattle.brl_table.specs.Signs.{by_sign, is_same_sign, no_cells}
@@ -309,16 +308,15 @@ IsFirstFault lines place line wrong =
     IsFirstFound (fault_of lines) lines place line wrong
     ⊎ (PassesFirst lines × IsFirstFound (fault_among_all lines) lines place line wrong)
 
--- a refusal names the first fault, and the file and number of its line; memory may be wanting at any lines
+-- the fault is the first one, with the file and number of its line
 abbrev pub IsFaultOf : List LineView → TableFault → Type 0
-IsFaultOf lines faults.Memory = Unit {0}
-IsFaultOf lines (faults.Refused wrong subject file number) =
-    (place : ℕ) × (line : LineView) × IsFirstFault lines place line (fault wrong (string_bytes subject))
-    × (string_bytes file ≡ line.file) × (number ≡ line.line)
+IsFaultOf lines found =
+    (place : ℕ) × (line : LineView) × IsFirstFault lines place line (fault found.kind (string_bytes found.subject))
+    × (string_bytes found.file ≡ line.file) × (found.line ≡ line.line)
 
 -- a line's fault with the line's place, unless memory ran out
-abbrev pub IsAt : LineFault → LineView → TableFault → Type 0
-IsAt wrong line faults.Memory = Unit {0}
-IsAt line_faults.Memory line (faults.Refused kind subject file number) = ⊥
-IsAt (line_faults.Wrong wrong about) line (faults.Refused kind subject file number) =
-    (kind ≡ wrong) × (string_bytes subject ≡ about.now) × (string_bytes file ≡ line.file) × (number ≡ line.line)
+abbrev pub IsAt : LineView → Failure Fault → Failure TableFault → Type 0
+IsAt line failure failures.Memory = Unit {0}
+IsAt line failures.Memory (failures.Fault found) = ⊥
+IsAt line (failures.Fault wrong) (failures.Fault found) =
+    (fault found.kind (string_bytes found.subject) ≡ wrong) × (string_bytes found.file ≡ line.file) × (found.line ≡ line.line)

@@ -6,15 +6,14 @@ use Rattle.brl_lines.specs.Tokens.{LineView}
 use Rattle.brl_reading.specs.declared.characters.Characters.{Characters}
 use Rattle.brl_reading.specs.declared.item.Definition.{Definition}
 use Rattle.brl_reading.specs.declared.item.Item.{Item}
-use Rattle.brl_reading.specs.declared.item.LineFault.{LineFault}
-use Rattle.brl_reading.specs.declared.item.LineFault.TheVariants as line_faults
+use Rattle.brl_failure.specs.Failure.{IfFault}
+use Rattle.brl_failure.specs.declared.failure.Failure.{Failure}
 use Rattle.brl_reading.specs.declared.item.Role.{Role}
 use Rattle.brl_reading.specs.declared.item.Role.TheVariants.{Mode, Nocont}
 use Rattle.brl_table.specs.declared.rule.Info.{Info}
 use Rattle.brl_table.specs.declared.rule.Rule.{Rule}
 use Rattle.brl_table.specs.declared.signs.Sign.{Sign}
 use Rattle.brl_reading.specs.declared.table_fault.TableFault.{TableFault}
-use Rattle.brl_reading.specs.declared.table_fault.TableFault.TheVariants as faults
 use Rattle.brl_reading.specs.Items.{Fault, fault}
 use Rattle.brl_reading.specs.Good.{IsGoodItem}
 use Rattle.brl_table.specs.Limits.{IsRule}
@@ -103,12 +102,10 @@ pub record HasAdded (said : List Item) (file : ℕ) (item : Item) (items : List 
   pub within : AreWithin characters signs used
 
 -- one more line, of the file with this number, which says this: its item is added, or its fault is told
-abbrev pub Adds : List Item → LineView → ℕ → Result Item Fault → List Item → Characters → List (List ℕ) → ℕ → Result (Unit {0}) LineFault → Type 0
+abbrev pub Adds : List Item → LineView → ℕ → Result Item Fault → List Item → Characters → List (List ℕ) → ℕ → Result (Unit {0}) (Failure Fault) → Type 0
 Adds said line file want items characters signs used (Ok done) =
     (item : Item) × (want ≡ Ok item) × HasAdded said file item items characters signs used
-Adds said line file want items characters signs used (Err line_faults.Memory) = Unit {0}
-Adds said line file want items characters signs used (Err (line_faults.Wrong wrong subject)) =
-    fault_behind said line want ≡ Some (fault wrong subject.now)
+Adds said line file want items characters signs used (Err failure) = IfFault (λ found. fault_behind said line want ≡ Some found) failure
 
 -- these items are what all the lines say, which pass the first look
 pub record AreAdded (lines : List LineView) (said : List Item) (characters : Characters) (signs : List (List ℕ)) (used : ℕ) : Type 0 where
@@ -136,18 +133,15 @@ pub record IsFoundAgain (characters : List (ℕ × Info)) (lines : List LineView
   pub passed : PassesAgain characters lines said place
 
 abbrev pub IsFaultAgain : List (ℕ × Info) → List LineView → List Item → TableFault → Type 0
-IsFaultAgain characters lines said faults.Memory = Unit {0}
-IsFaultAgain characters lines said (faults.Refused wrong subject file number) =
-    (place : ℕ) × (line : LineView) × (item : Item) × IsFoundAgain characters lines said place line item (fault wrong (string_bytes subject))
-    × (string_bytes file ≡ line.file) × (number ≡ line.line)
+IsFaultAgain characters lines said found =
+    (place : ℕ) × (line : LineView) × (item : Item) × IsFoundAgain characters lines said place line item (fault found.kind (string_bytes found.subject))
+    × (string_bytes found.file ≡ line.file) × (found.line ≡ line.line)
 
 -- the second look at a line that says this: its used rule goes last, or its fault is told
-abbrev pub LooksAgain : List (ℕ × Info) → LineView → Item → List Rule → List Rule → Result (Unit {0}) LineFault → Type 0
+abbrev pub LooksAgain : List (ℕ × Info) → LineView → Item → List Rule → List Rule → Result (Unit {0}) (Failure Fault) → Type 0
 LooksAgain characters line item old new (Ok done) =
     (fault_among (over characters) line item ≡ None) × (new ≡ old ++ map (rule_of (over characters)) (used_in item))
-LooksAgain characters line item old new (Err line_faults.Memory) = Unit {0}
-LooksAgain characters line item old new (Err (line_faults.Wrong wrong subject)) =
-    fault_among (over characters) line item ≡ Some (fault wrong subject.now)
+LooksAgain characters line item old new (Err failure) = IfFault (λ found. fault_among (over characters) line item ≡ Some found) failure
 
 -- the lines pass both looks: these items are what they say, and these rules are the used ones
 pub record AreRead (lines : List LineView) (said : List Item) (characters : Characters) (signs : List (List ℕ)) (used : ℕ) (rules : List Rule) : Type 0 where

@@ -1,5 +1,6 @@
 //! The table of some files.
 ghost use Rattle.std.specs.Prelude.{◌≡◌, ℕ, List, IfErr, IfOk};
+ghost use Rattle.brl_failure.specs.Failure.{IfFault};
 ghost use Rattle.brl_lines.specs.Answer.{AllStay, GivesOneAnswer};
 ghost use Rattle.brl_lines.specs.Outcome.{CountsFailure};
 ghost use Rattle.brl_reading.specs.Files.{IsFaultAt, IsTableOf, load_outcome};
@@ -7,30 +8,36 @@ ghost use Rattle.brl_reading.specs.declared.no_table.NoTable.{NoTable as NoTable
 ghost use Rattle.brl_table.specs.TableView.{TableView};
 
 use crate::{NoTable, read_table};
+use brl_failure::{Failure, raise};
 use brl_lines::{Source, load, one_answer_law};
 use brl_table::Table;
 use std::alloc::Global;
 
-/// The table whose root stands at a path: its files are loaded, and their lines are read. `Load` where a file is refused,
-/// `Table` where a line is, and `Memory`; a file is named as unreadable only where the source couldn't read it.
-pub fn load_table<S: Source>(alloc: Global, source: &mut S, root: &str) -> Result<Table, NoTable>
+/// The table whose root lies at a path: its files are loaded, and their lines are read. `Load` where
+/// a file can't be loaded, `Table` where a line is faulty; a file is named as unreadable only where the
+/// source couldn't read it.
+pub fn load_table<S: Source>(
+    alloc: Global,
+    source: &mut S,
+    root: &str,
+) -> Result<Table, Failure<NoTable>>
     ensures table { IfOk result (IsTableOf (S.gives source.old) root.now) }
-    ensures fault { IfErr result (IsFaultAt (S.gives source.old) root.now) }
+    ensures fault { IfErr result (IfFault (IsFaultAt (S.gives source.old) root.now)) }
     ensures count { CountsFailure (S.faults source.old) (S.faults source.new) (load_outcome result) }
     ensures same { AllStay (S.gives source.old) (S.gives source.new) }
 {
-    let loaded = load(alloc, source, root)?;
+    let loaded = raise(load(alloc, source, root), NoTable::Load)?;
     let lines = loaded.lines(alloc)?;
-    Ok(read_table(alloc, lines.as_slice())?)
+    raise(read_table(alloc, lines.as_slice()), NoTable::Table)
 }
 
-/// A source with one answer for each path has one table at a path at most; and where it has one, only memory can keep
-/// it from being loaded.
+/// A source with one answer for each path has at most one table at a path; and where it has one, no
+/// fault keeps it from being loaded.
 pub fn one_table_law<S: Source>(source: &S)
     ensures table { GivesOneAnswer (S.gives source.now) → (root : List ℕ) (one other : TableView) →
         IsTableOf (S.gives source.now) root one → IsTableOf (S.gives source.now) root other → one ≡ other }
     ensures fault { GivesOneAnswer (S.gives source.now) → (root : List ℕ) (t : TableView) → IsTableOf (S.gives source.now) root t →
-        (fault : NoTableValue) → IsFaultAt (S.gives source.now) root fault → fault ≡ NoTable.Memory }
+        (fault : NoTableValue) → IsFaultAt (S.gives source.now) root fault → ⊥ }
 {
     one_answer_law(source);
 }

@@ -1,8 +1,6 @@
 //! What one line of a table says.
-use crate::Wrong;
 use brl_cells::{Cells, Chars};
 use brl_table::{Class, Place, Sign};
-use std::alloc::{AllocError, AllocFailed};
 
 /// What a line says.
 #[derive(Drop)]
@@ -71,33 +69,4 @@ pub enum Role {
     Mode,
     /// It could be read as a digit in numeric mode.
     Nocont,
-}
-
-/// What is wrong with a line, and the word of it that this is about; or memory was wanting.
-#[derive(Clone, Copy)]
-pub enum LineFault<'a> {
-    Wrong(Wrong, &'a str),
-    Memory,
-}
-
-impl<'a> From<AllocError> for LineFault<'a> {
-    ghost use Rattle.std.specs.Prelude.{◌≡◌};
-    ghost use Rattle.brl_reading.specs.declared.item.LineFault.TheVariants.{Memory};
-
-    ghost from_gives = { λ _ fault. fault ≡ Memory };
-
-    fn from(_error: AllocError) -> LineFault<'a> {
-        LineFault::Memory
-    }
-}
-
-impl<'a, T: Drop> From<AllocFailed<T>> for LineFault<'a> {
-    ghost use Rattle.std.specs.Prelude.{◌≡◌};
-    ghost use Rattle.brl_reading.specs.declared.item.LineFault.TheVariants.{Memory};
-
-    ghost from_gives = { λ _ fault. fault ≡ Memory };
-
-    fn from(_error: AllocFailed<T>) -> LineFault<'a> {
-        LineFault::Memory
-    }
 }

@@ -14,4 +14,4 @@ mod table_fault;
 pub use files::{load_table, one_table_law};
 pub use no_table::NoTable;
 pub use reading::read_table;
-pub use table_fault::{TableFault, Wrong};
+pub use table_fault::{TableFault, TableFaultKind};

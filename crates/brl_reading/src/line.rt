@@ -1,27 +1,29 @@
 //! One line of a table, read by itself.
 ghost use Rattle.std.specs.Prelude.{ℕ, ◌≡◌, ◌+◌, IfOk, map};
+ghost use Rattle.brl_failure.specs.Failure.{Gives};
 ghost use Rattle.brl_lines.specs.Views.{line_view, token_view};
 ghost use Rattle.brl_reading.specs.Good.{IsGoodItem};
 ghost use Rattle.brl_reading.specs.Items.{
   item_of as item_said,
-  defines,
-  defines_both,
-  by_operands,
-  by_two_operands,
-  by_rule_operands,
-  by_prefix,
-  by_role,
-  by_sign,
-  Tells,
+  defined,
+  defined_both,
+  displayed,
+  indicated,
+  listed,
+  ruled,
+  ruled_after,
 };
 
-use crate::Wrong;
-use crate::item::{Definition, Item, LineFault, ListLine, Role, RuleHead, RuleLine};
+use crate::TableFaultKind;
+use crate::item::{Definition, Item, ListLine, Role, RuleHead, RuleLine};
 use crate::opcode::{Opcode, opcode_named};
 use crate::operand::{
-    both_cells, cells_of, one_character, rule_cells, some_characters, two_characters,
+    both_cells, cells_of, one_character, one_operand, refuse, rule_cells, some_characters,
+    two_characters, two_operands,
 };
+use crate::table_fault::WordFault;
 use bitflags::Flags;
+use brl_failure::Failure;
 use brl_lines::{Line, Token};
 use brl_table::{Class, Place, Sign};
 use std::alloc::Global;
@@ -31,8 +33,12 @@ const MOST_RULE_CHARACTERS: usize = 32;
 
 /// What a line of the file with this number says, or the first that is wrong with it: its opcode, its operands, its
 /// characters, its dots, and then whether its rule has too many characters.
-pub fn item_of<'a>(alloc: Global, file: usize, line: &Line<'a>) -> Result<Item, LineFault<'a>>
-    ensures item { Tells (item_said file (line_view line.now)) result }
+pub(crate) fn item_of(
+    alloc: Global,
+    file: usize,
+    line: &Line<'_>,
+) -> Result<Item, Failure<WordFault>>
+    ensures item { Gives (item_said file (line_view line.now)) result }
     ensures good { IfOk result (IsGoodItem (file + 1)) }
 {
     let opcode = line.opcode.text;
@@ -66,36 +72,28 @@ pub fn item_of<'a>(alloc: Global, file: usize, line: &Line<'a>) -> Result<Item, 
         Some(Opcode::Indicator(sign)) => indicate(alloc, sign, opcode, operands),
         Some(Opcode::Listing(role)) => list(alloc, role, opcode, operands),
         Some(Opcode::Include) if operands.is_empty() => {
-            Err(LineFault::Wrong(Wrong::MissingOperand, opcode))
+            refuse(alloc, TableFaultKind::MissingOperand, opcode)
         }
-        Some(Opcode::Include) | None => Err(LineFault::Wrong(Wrong::OutsideProfile, opcode)),
+        Some(Opcode::Include) | None => refuse(alloc, TableFaultKind::OutsideProfile, opcode),
     }
 }
 
 /// A line that defines a character with these classes: a `litdigit` line, or a plain one.
-fn define<'a>(
+fn define(
     alloc: Global,
     classes: Class,
     literary: bool,
     file: usize,
     line: u32,
-    opcode: &'a str,
-    operands: &[Token<'a>],
-) -> Result<Item, LineFault<'a>>
-    ensures item { Tells (by_operands (defines classes literary file line) opcode.now (map token_view operands.now)) result }
+    opcode: &str,
+    operands: &[Token<'_>],
+) -> Result<Item, Failure<WordFault>>
+    ensures item { Gives (defined classes literary file line opcode.now (map token_view operands.now)) result }
     ensures good { IfOk result (IsGoodItem (file + 1)) }
 {
-    let [first, second, ..] = operands else {
-        return Err(LineFault::Wrong(Wrong::MissingOperand, opcode));
-    };
-    let character = match one_character(alloc, first.text) {
-        Ok(character) => character,
-        Err(fault) => return Err(fault),
-    };
-    let cells = match cells_of(alloc, second.text) {
-        Ok(cells) => cells,
-        Err(fault) => return Err(fault),
-    };
+    let (first, second) = two_operands(alloc, opcode, operands)?;
+    let character = one_character(alloc, first)?;
+    let cells = cells_of(alloc, second)?;
     Ok(Item::Defines(Definition {
         character,
         literary,
@@ -108,27 +106,19 @@ fn define<'a>(
 }
 
 /// An `uplow` line: it defines an uppercase character and its lowercase one, the fold of both.
-fn define_both<'a>(
+fn define_both(
     alloc: Global,
     file: usize,
     line: u32,
-    opcode: &'a str,
-    operands: &[Token<'a>],
-) -> Result<Item, LineFault<'a>>
-    ensures item { Tells (by_two_operands (defines_both file line) opcode.now (map token_view operands.now)) result }
+    opcode: &str,
+    operands: &[Token<'_>],
+) -> Result<Item, Failure<WordFault>>
+    ensures item { Gives (defined_both file line opcode.now (map token_view operands.now)) result }
     ensures good { IfOk result (IsGoodItem (file + 1)) }
 {
-    let [first, second, ..] = operands else {
-        return Err(LineFault::Wrong(Wrong::MissingOperand, opcode));
-    };
-    let (upper, lower) = match two_characters(alloc, first.text) {
-        Ok(characters) => characters,
-        Err(fault) => return Err(fault),
-    };
-    let (upper_cells, lower_cells) = match both_cells(alloc, second.text) {
-        Ok(cells) => cells,
-        Err(fault) => return Err(fault),
-    };
+    let (first, second) = two_operands(alloc, opcode, operands)?;
+    let (upper, lower) = two_characters(alloc, first)?;
+    let (upper_cells, lower_cells) = both_cells(alloc, second)?;
     let uppercase = Definition {
         character: upper,
         literary: false,
@@ -151,108 +141,81 @@ fn define_both<'a>(
 }
 
 /// A line that gives an indicator its cells.
-fn indicate<'a>(
+fn indicate(
     alloc: Global,
     sign: Sign,
-    opcode: &'a str,
-    operands: &[Token<'a>],
-) -> Result<Item, LineFault<'a>>
-    ensures item { Tells (by_sign sign opcode.now (map token_view operands.now)) result }
+    opcode: &str,
+    operands: &[Token<'_>],
+) -> Result<Item, Failure<WordFault>>
+    ensures item { Gives (indicated sign opcode.now (map token_view operands.now)) result }
     ensures good { (files : ℕ) → IfOk result (IsGoodItem files) }
 {
-    let Some(dots) = operands.first() else {
-        return Err(LineFault::Wrong(Wrong::MissingOperand, opcode));
-    };
-    match cells_of(alloc, dots.text) {
-        Ok(cells) => Ok(Item::Indicates(sign, cells)),
-        Err(fault) => Err(fault),
-    }
+    let dots = one_operand(alloc, opcode, operands)?;
+    let cells = cells_of(alloc, dots)?;
+    Ok(Item::Indicates(sign, cells))
 }
 
 /// A line that says this of each of its characters.
-fn list<'a>(
+fn list(
     alloc: Global,
     role: Role,
-    opcode: &'a str,
-    operands: &[Token<'a>],
-) -> Result<Item, LineFault<'a>>
-    ensures item { Tells (by_role role opcode.now (map token_view operands.now)) result }
+    opcode: &str,
+    operands: &[Token<'_>],
+) -> Result<Item, Failure<WordFault>>
+    ensures item { Gives (listed role opcode.now (map token_view operands.now)) result }
     ensures good { (files : ℕ) → IfOk result (IsGoodItem files) }
 {
-    let Some(characters) = operands.first() else {
-        return Err(LineFault::Wrong(Wrong::MissingOperand, opcode));
-    };
-    match some_characters(alloc, characters.text) {
-        Ok(chars) => Ok(Item::Lists(ListLine { role, chars })),
-        Err(fault) => Err(fault),
-    }
+    let characters = one_operand(alloc, opcode, operands)?;
+    let chars = some_characters(alloc, characters)?;
+    Ok(Item::Lists(ListLine { role, chars }))
 }
 
 /// A line that is checked as if it defined a character, and not used.
-fn display<'a>(
-    alloc: Global,
-    opcode: &'a str,
-    operands: &[Token<'a>],
-) -> Result<Item, LineFault<'a>>
-    ensures item { Tells (by_operands (λ c cells. Item.Nothing) opcode.now (map token_view operands.now)) result }
+fn display(alloc: Global, opcode: &str, operands: &[Token<'_>]) -> Result<Item, Failure<WordFault>>
+    ensures item { Gives (displayed opcode.now (map token_view operands.now)) result }
     ensures nothing { IfOk result (λ item. item ≡ Item.Nothing) }
 {
-    let [first, second, ..] = operands else {
-        return Err(LineFault::Wrong(Wrong::MissingOperand, opcode));
-    };
-    match one_character(alloc, first.text) {
-        Ok(_) => {}
-        Err(fault) => return Err(fault),
-    }
-    match cells_of(alloc, second.text) {
-        Ok(_) => Ok(Item::Nothing),
-        Err(fault) => Err(fault),
-    }
+    let (first, second) = two_operands(alloc, opcode, operands)?;
+    one_character(alloc, first)?;
+    cells_of(alloc, second)?;
+    Ok(Item::Nothing)
 }
 
 /// A line whose opcode is `noback` or `nofor`: its operands begin with a place opcode.
-fn prefixed<'a>(
+fn prefixed(
     alloc: Global,
     head: RuleHead,
-    prefix: &'a str,
-    operands: &[Token<'a>],
-) -> Result<Item, LineFault<'a>>
-    ensures item { Tells (by_prefix head prefix.now (map token_view operands.now)) result }
+    prefix: &str,
+    operands: &[Token<'_>],
+) -> Result<Item, Failure<WordFault>>
+    ensures item { Gives (ruled_after head prefix.now (map token_view operands.now)) result }
     ensures good { IfOk result (IsGoodItem (head.file + 1)) }
 {
     let Some((next, operands)) = operands.split_first() else {
-        return Err(LineFault::Wrong(Wrong::MissingOperand, prefix));
+        return refuse(alloc, TableFaultKind::MissingOperand, prefix);
     };
     let Some(Opcode::Placed(place)) = opcode_named(next.text) else {
-        return Err(LineFault::Wrong(Wrong::OutsideProfile, next.text));
+        return refuse(alloc, TableFaultKind::OutsideProfile, next.text);
     };
     rule(alloc, place, head, next.text, operands)
 }
 
 /// The rule of a place opcode with these operands.
-fn rule<'a>(
+fn rule(
     alloc: Global,
     place: Place,
     head: RuleHead,
-    opcode: &'a str,
-    operands: &[Token<'a>],
-) -> Result<Item, LineFault<'a>>
-    ensures item { Tells (by_rule_operands place head opcode.now (map token_view operands.now)) result }
+    opcode: &str,
+    operands: &[Token<'_>],
+) -> Result<Item, Failure<WordFault>>
+    ensures item { Gives (ruled place head opcode.now (map token_view operands.now)) result }
     ensures good { IfOk result (IsGoodItem (head.file + 1)) }
 {
-    let [first, second, ..] = operands else {
-        return Err(LineFault::Wrong(Wrong::MissingOperand, opcode));
-    };
-    let chars = match some_characters(alloc, first.text) {
-        Ok(chars) => chars,
-        Err(fault) => return Err(fault),
-    };
-    let cells = match rule_cells(alloc, second.text) {
-        Ok(cells) => cells,
-        Err(fault) => return Err(fault),
-    };
+    let (first, second) = two_operands(alloc, opcode, operands)?;
+    let chars = some_characters(alloc, first)?;
+    let cells = rule_cells(alloc, second)?;
     if chars.len() > MOST_RULE_CHARACTERS {
-        return Err(LineFault::Wrong(Wrong::TooMany, opcode));
+        return refuse(alloc, TableFaultKind::TooMany, opcode);
     }
     Ok(Item::Rules(RuleLine {
         place,

@@ -1,6 +1,7 @@
 //! The table that a list of lines defines.
 ghost use Rattle.std.specs.Prelude.{◌≡◌, ◌≤◌, ◌∷◌, ◌++◌, [], false, All, IfOk, IfErr, List, OnOk, length, map, position, vec_len, string_bytes};
 ghost use Rattle.std.specs.Str.{bytes_eq};
+ghost use Rattle.brl_failure.specs.Failure.{IfFault};
 ghost use Rattle.brl_lines.specs.Views.{line_view};
 ghost use Rattle.brl_reading.specs.Items.{item_of as item_said};
 ghost use Rattle.brl_reading.specs.Good.{IsGoodItem};
@@ -41,9 +42,12 @@ ghost use Rattle.brl_reading.specs.Reading.{
 };
 
 use crate::characters::Characters;
-use crate::item::{Item, LineFault, ListLine, Role, RuleLine};
+use crate::item::{Item, ListLine, Role, RuleLine};
 use crate::line::item_of;
-use crate::{TableFault, Wrong};
+use crate::operand::refuse;
+use crate::table_fault::WordFault;
+use crate::{TableFault, TableFaultKind};
+use brl_failure::Failure;
 use brl_lines::Line;
 use brl_table::{Rule, Signs, Table, TableParts, rank_law, signs_law};
 use std::alloc::{AllocError, Global};
@@ -59,10 +63,10 @@ const MOST_RULES: usize = 4096;
 /// characters or used rules with it, and whether its indicator is defined already. Where all lines pass, they are looked at
 /// in order again: whether the characters of a rule or of a list are the table's, and then whether a character that could
 /// be read as a digit is one.
-pub fn read_table(alloc: Global, lines: &[Line<'_>]) -> Result<Table, TableFault>
+pub fn read_table(alloc: Global, lines: &[Line<'_>]) -> Result<Table, Failure<TableFault>>
     ensures passes { IfOk result (λ _. PassesAll (map line_view lines.now)) }
     ensures table { IfOk result (λ table. table ≡ table_of (map line_view lines.now)) }
-    ensures fault { IfErr result (IsFaultOf (map line_view lines.now)) }
+    ensures fault { IfErr result (IfFault (IsFaultOf (map line_view lines.now))) }
 {
     let files = file_names(alloc, lines)?;
     let mut said = Said::new(alloc);
@@ -103,14 +107,14 @@ impl Said {
         alloc: Global,
         files: &[String],
         lines: &[Line<'_>],
-    ) -> Result<Vec<Rule>, TableFault>
+    ) -> Result<Vec<Rule>, Failure<TableFault>>
         requires none { self.old.items.items ≡ [] }
         requires stands { StandFor [] self.old.characters self.old.signs self.old.used }
         requires within { AreWithin self.old.characters self.old.signs self.old.used }
         requires named { map string_bytes files.now ≡ files_of (map line_view lines.now) }
         ensures read { IfOk result (λ rules.
             AreRead (map line_view lines.now) self.new.items.items self.new.characters self.new.signs self.new.used rules.items) }
-        ensures fault { IfErr result (IsFaultOf (map line_view lines.now)) }
+        ensures fault { IfErr result (IfFault (IsFaultOf (map line_view lines.now))) }
     {
         self.add_all(alloc, files, lines)?;
         mark(self.items.as_slice(), &mut self.characters);
@@ -123,27 +127,26 @@ impl Said {
         alloc: Global,
         files: &[String],
         lines: &[Line<'_>],
-    ) -> Result<(), TableFault>
+    ) -> Result<(), Failure<TableFault>>
         requires none { self.old.items.items ≡ [] }
         requires stands { StandFor [] self.old.characters self.old.signs self.old.used }
         requires within { AreWithin self.old.characters self.old.signs self.old.used }
         requires named { map string_bytes files.now ≡ files_of (map line_view lines.now) }
         ensures added { OnOk result
             (AreAdded (map line_view lines.now) self.new.items.items self.new.characters self.new.signs self.new.used) }
-        ensures fault { IfErr result (IsFaultOf (map line_view lines.now)) }
+        ensures fault { IfErr result (IfFault (IsFaultOf (map line_view lines.now))) }
     {
         for line in lines {
             let file = place_of(files, line.file).unwrap();
-            match self.add(alloc, file, line) {
-                Ok(()) => {}
-                Err(fault) => return Err(fault_at(alloc, fault, line)),
+            if let Err(failure) = self.add(alloc, file, line) {
+                return Err(fault_at(alloc, failure, line));
             }
         }
         Ok(())
     }
 
     /// One more line, of the file with this number.
-    fn add<'a>(&mut self, alloc: Global, file: usize, line: &Line<'a>) -> Result<(), LineFault<'a>>
+    fn add(&mut self, alloc: Global, file: usize, line: &Line<'_>) -> Result<(), Failure<WordFault>>
         requires stands { StandFor self.old.items.items self.old.characters self.old.signs self.old.used }
         requires within { AreWithin self.old.characters self.old.signs self.old.used }
         ensures { let view = line_view line.now in
@@ -151,18 +154,15 @@ impl Said {
             self.new.characters self.new.signs self.new.used result }
     {
         signs_law();
-        let item = match item_of(alloc, file, line) {
-            Ok(item) => item,
-            Err(fault) => return Err(fault),
-        };
+        let item = item_of(alloc, file, line)?;
         let opcode = opcode_in(line, &item);
         if self.is_twice(&item) {
-            return Err(LineFault::Wrong(Wrong::IndicatorTwice, opcode));
+            return refuse(alloc, TableFaultKind::IndicatorTwice, opcode);
         }
         self.count(&item)?;
         self.items.push(item)?;
         if self.characters.infos.len() > MOST_CHARACTERS || self.used > MOST_RULES {
-            return Err(LineFault::Wrong(Wrong::TooMany, opcode));
+            return refuse(alloc, TableFaultKind::TooMany, opcode);
         }
         Ok(())
     }
@@ -201,61 +201,63 @@ impl Said {
     }
 
     /// The used rules in the order of these lines, which say the items; or the first fault of the second look.
-    fn rules(&self, alloc: Global, lines: &[Line<'_>]) -> Result<Vec<Rule>, TableFault>
+    fn rules(&self, alloc: Global, lines: &[Line<'_>]) -> Result<Vec<Rule>, Failure<TableFault>>
         requires { length lines.now ≡ length self.now.items.items }
         ensures rules { IfOk result (λ rules.
             rules.items ≡ map (rule_of (over self.now.characters.infos.entries)) (used_rules self.now.items.items)) }
         ensures passes { IfOk result (λ _. PassesAgain self.now.characters.infos.entries (map line_view lines.now) self.now.items.items (length lines.now)) }
-        ensures fault { IfErr result (IsFaultAgain self.now.characters.infos.entries (map line_view lines.now) self.now.items.items) }
+        ensures fault { IfErr result (IfFault (IsFaultAgain self.now.characters.infos.entries (map line_view lines.now) self.now.items.items)) }
     {
         let mut rules = Vec::new(alloc);
         for (place, line) in lines.iter().enumerate() {
-            match self.look_again(alloc, line, &self.items[place], &mut rules) {
-                Ok(()) => {}
-                Err(fault) => return Err(fault_at(alloc, fault, line)),
+            if let Err(failure) = self.look_again(alloc, line, &self.items[place], &mut rules) {
+                return Err(fault_at(alloc, failure, line));
             }
         }
         Ok(rules)
     }
 
     /// The second look at a line that says this: its rule goes behind the others if it is used.
-    fn look_again<'a>(
+    fn look_again(
         &self,
         alloc: Global,
-        line: &Line<'a>,
+        line: &Line<'_>,
         item: &Item,
         rules: &mut Vec<Rule>,
-    ) -> Result<(), LineFault<'a>>
+    ) -> Result<(), Failure<WordFault>>
         ensures { LooksAgain self.now.characters.infos.entries (line_view line.now) item.now rules.old.items rules.new.items result }
     {
         match item {
             Item::Rules(written) => {
                 let Some(rule) = self.characters.rule(alloc, written)? else {
-                    return Err(LineFault::Wrong(
-                        Wrong::UndefinedInRule,
-                        characters_in(line, written),
-                    ));
+                    let characters = characters_in(line, written);
+                    return refuse(alloc, TableFaultKind::UndefinedInRule, characters);
                 };
                 if written.head.used {
                     rules.push(rule)?;
                 }
                 Ok(())
             }
-            Item::Lists(list) => self.look_at_list(line, list),
+            Item::Lists(list) => self.look_at_list(alloc, line, list),
             _ => Ok(()),
         }
     }
 
     /// The second look at a line of characters of which one thing is said.
-    fn look_at_list<'a>(&self, line: &Line<'a>, list: &ListLine) -> Result<(), LineFault<'a>>
+    fn look_at_list(
+        &self,
+        alloc: Global,
+        line: &Line<'_>,
+        list: &ListLine,
+    ) -> Result<(), Failure<WordFault>>
         ensures { (rules : List RuleView) → LooksAgain self.now.characters.infos.entries (line_view line.now) (items.Lists list.now) rules rules result }
     {
         let characters = list.chars.as_slice();
         if !self.characters.defines_all(characters) {
-            return Err(LineFault::Wrong(Wrong::UndefinedInList, operand_of(line, 0)));
+            return refuse(alloc, TableFaultKind::UndefinedInList, operand_of(line, 0));
         }
         if list.role == Role::Nocont && self.characters.has_literary(characters) {
-            return Err(LineFault::Wrong(Wrong::TwoRoles, operand_of(line, 0)));
+            return refuse(alloc, TableFaultKind::TwoRoles, operand_of(line, 0));
         }
         Ok(())
     }
@@ -353,22 +355,19 @@ fn place_of(names: &[String], name: &str) -> Option<usize>
 }
 
 /// The fault of a line, with the line's place.
-fn fault_at(alloc: Global, fault: LineFault<'_>, line: &Line<'_>) -> TableFault
-    ensures { IsAt fault.entry (line_view line.now) result }
+fn fault_at(alloc: Global, failure: Failure<WordFault>, line: &Line<'_>) -> Failure<TableFault>
+    ensures { IsAt (line_view line.now) failure result }
 {
-    let LineFault::Wrong(wrong, subject) = fault else {
-        return TableFault::Memory;
-    };
-    let Ok(subject) = String::from_str(alloc, subject) else {
-        return TableFault::Memory;
+    let Failure::Fault(fault) = failure else {
+        return Failure::Memory;
     };
     let Ok(file) = String::from_str(alloc, line.file) else {
-        return TableFault::Memory;
+        return Failure::Memory;
     };
-    TableFault::Refused {
-        wrong,
-        subject,
+    Failure::Fault(TableFault {
+        kind: fault.kind,
+        subject: fault.subject,
         file,
         line: line.line,
-    }
+    })
 }

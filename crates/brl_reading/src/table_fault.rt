@@ -1,10 +1,10 @@
 //! Why lines define no table.
-use std::alloc::AllocError;
+use std::marker::Model;
 use thiserror::Error;
 
-/// What is wrong with a line.
+/// The kinds of faults of a line.
 #[derive(Clone, Copy, PartialEq, Eq, Debug, Error)]
-pub enum Wrong {
+pub enum TableFaultKind {
     /// Its opcode isn't one of the profile.
     #[error("B1 OutsideProfile")]
     OutsideProfile,
@@ -26,7 +26,8 @@ pub enum Wrong {
     /// A character of its list could be read as a digit and is one: it has a `litdigit` line.
     #[error("B7 TwoRoles")]
     TwoRoles,
-    /// Its rule has more characters than a rule may, or with it the table has more characters or used rules than it may.
+    /// Its rule has more characters than a rule may, or with it the table has more characters or used
+    /// rules than it may.
     #[error("B8 TooMany")]
     TooMany,
     /// It defines an indicator again.
@@ -34,28 +35,30 @@ pub enum Wrong {
     IndicatorTwice,
 }
 
-/// Why lines define no table: what is wrong with the first line that has a fault, the word of it that the fault is
-/// about, and where it stands; or a growth was refused.
+/// The first fault of a table's lines: its kind, the word of the line that it is about, and the line.
 #[derive(Debug, Drop, Error)]
-pub enum TableFault {
-    #[error("{wrong} {subject} at {file}:{line}")]
-    Refused {
-        wrong: Wrong,
-        subject: String,
-        file: String,
-        line: u32,
-    },
-    #[error("Memory")]
-    Memory,
+#[error("{kind} {subject} at {file}:{line}")]
+pub struct TableFault {
+    pub kind: TableFaultKind,
+    pub subject: String,
+    /// The path of the line's file.
+    pub file: String,
+    /// The line's number in its file, from 1.
+    pub line: u32,
 }
 
-impl From<AllocError> for TableFault {
-    ghost use Rattle.std.specs.Prelude.{◌≡◌};
-    ghost use Rattle.brl_reading.specs.declared.table_fault.TableFault.TheVariants.{Memory};
+/// The fault of a line by itself: its kind, and the word that it is about.
+#[derive(Drop)]
+pub(crate) struct WordFault {
+    pub kind: TableFaultKind,
+    pub subject: String,
+}
 
-    ghost from_gives = { λ _ fault. fault ≡ Memory };
+impl Model for WordFault {
+    ghost use Rattle.std.specs.Prelude.{string_bytes};
+    ghost use Rattle.brl_reading.specs.Items.{Fault, fault};
 
-    fn from(_error: AllocError) -> TableFault {
-        TableFault::Memory
-    }
+    ghost Value = { Fault };
+
+    ghost view = { λ found. fault found.kind (string_bytes found.subject) };
 }

@@ -4,7 +4,8 @@ ghost use Rattle.brl_report.specs.Shown.{are_same, common, shown_of, shown_steps
 ghost use Rattle.brl_table.specs.Text.{is_text};
 
 use brl_cells::Chars;
-use brl_forward::{ForwardFault, Traced, trace};
+use brl_failure::Failure;
+use brl_forward::{Traced, trace};
 use brl_table::Table;
 use std::alloc::{AllocError, Global};
 
@@ -31,8 +32,8 @@ pub fn shown_steps(alloc: Global, table: &Table, text: &[char]) -> Result<Vec<Sh
 {
     let steps = match trace(alloc, table, text) {
         Ok(steps) => steps,
-        Err(ForwardFault::UnknownChar(_)) => unreachable!(),
-        Err(ForwardFault::Memory) => return Err(AllocError),
+        Err(Failure::Fault(_)) => unreachable!(),
+        Err(Failure::Memory) => return Err(AllocError),
     };
     let mut shown = Vec::new(alloc);
     for step in steps {

@@ -1,4 +1,4 @@
--- Edges, where states are added and where one more edge is.
+-- Edges, where states are added and where an edge is added.
 use Rattle.std.proofs.Common.{◌≡◌, ◌≢◌, ℕ, ◌+◌, ◌<◌, ◌≤◌, List, [], ◌∷◌, ◌++◌, inl, inr, length, Some, slice_get, sym, ◌∙◌, ap, subst, arith}
 use Rattle.std.proofs.lemmas.Option.{slice_get_within}
 use Rattle.brl_edges.specs.Body.{NumberPair}
@@ -8,8 +8,9 @@ use Rattle.brl_edges.specs.declared.edge.Edge.{Edge}
 use Rattle.brl_search.specs.declared.trail.PairOrigin.TheVariants.{Split, Still, Swapped}
 use Rattle.brl_edges.specs.Edges.{IsEdge, AreFirstEdges, AreEdges}
 use Rattle.brl_search.specs.Edges.{FitsFollowing, Explains, IsExpanded, IsWalked}
-use Rattle.brl_search.specs.Trail.{IsSplitOf, TakesStep, Stays}
-use Rattle.brl_search.proofs.Pushing.{push_cases, length_push, same_place, inside}
+use Rattle.brl_search.specs.SearchView.{Stays}
+use Rattle.brl_search.specs.Trail.{IsSplitOf, TakesStep}
+use Rattle.brl_search.proofs.Lists.{push_cases, length_push, same_place, inside}
 use Rattle.brl_search.proofs.There.{followed_more}
 
 module _ {S : Type 0} where
@@ -31,9 +32,9 @@ module _ {S : Type 0} where
     ];
   }
 
-  -- a loop's turn: one more step has an edge
-  pub edge_turn : (xs ys : List S) → Stays xs ys → (listed : List (Step S)) (n k : ℕ) (edges : List Edge) (x : Step S) (e : Edge) → AreFirstEdges xs listed n edges → IsListedAt listed n x → k ≡ n + 1 → IsEdge ys x e → AreFirstEdges ys listed k (edges ++ e ∷ [])
-  edge_turn xs ys stays listed n k edges x e h at more is =
+  -- an iteration of a loop: one more step has an edge
+  pub edge_added : (xs ys : List S) → Stays xs ys → (listed : List (Step S)) (n k : ℕ) (edges : List Edge) (x : Step S) (e : Edge) → AreFirstEdges xs listed n edges → IsListedAt listed n x → k ≡ n + 1 → IsEdge ys x e → AreFirstEdges ys listed k (edges ++ e ∷ [])
+  edge_added xs ys stays listed n k edges x e h at more is =
       subst (λ (j : ℕ). AreFirstEdges ys listed j (edges ++ e ∷ [])) (sym more) (first_edges_push ys listed n edges x e (first_edges_more xs ys stays listed n edges h) at is)
 
   pub edges_more : (m : Behaviour S) (xs ys : List S) → Stays xs ys → (number : ℕ) (edges : List Edge) → AreEdges m xs number edges → AreEdges m ys number edges
@@ -43,7 +44,7 @@ module _ {S : Type 0} where
     listed = first_edges_more xs ys stays (m.steps h.state) (length (m.steps h.state)) edges h.listed;
   }
 
--- ---- What an edge stands for
+-- ---- The step of an edge
 
 module _ {S : Type 0} (m : Behaviour S) (laws : KeepsLaws m) (states : List S) where
   -- the step of an edge
@@ -80,7 +81,7 @@ module _ {S : Type 0} (m : Behaviour S) (laws : KeepsLaws m) (states : List S) w
       let s = step_of number edges h i x x_at in
       fits_following number edges h j y y_at x.next x.cells (slice_get_within states x.next s.step.next s.is_edge.next) (short_cells_of number i x s)
 
-  -- two edges at different places tell the split that they make
+  -- two edges at different places make a split
   split_by : (number : ℕ) (i j : ℕ) (x y : Edge) → i ≢ j → HasStep number i x → HasStep number j y → (p : NumberPair) → p.ahead ≡ x.next → p.behind ≡ y.next → x.cells ≡ y.cells ++ p.lead → IsSplitOf m states number i j p
   split_by number i j x y differ a b p ahead behind lead = record {
     ahead_step = a.step;

@@ -1,4 +1,4 @@
--- What is reached comes from lists that hold a machine's steps.
+-- What is reached comes from lists that contain a machine's steps.
 use Rattle.std.proofs.Common.{◌≡◌, ℕ, ◌+◌, ◌≤◌, List, ◌++◌, inl, inr, length, sym, ◌∙◌, ap, append_assoc, arith, length-append}
 use Rattle.std.specs.List.{Contains, flat_map}
 use Rattle.brl_pairs.specs.declared.step.Pair.{Pair}
@@ -11,7 +11,7 @@ use Rattle.brl_search.specs.Reached.{AtMost, Reached, ReachedPair, SamePair, Sam
 use Rattle.brl_search.proofs.Members.{Contains-in, at_most_listed, in-Contains, in-flat_map, in-map}
 
 module _ {S : Type 0} (m : Behaviour S) where
-  -- ---- Leads
+  -- ---- The lead of a pair
 
   of_split : (s : S) (p : Pair S) → Reached m s → Splits (m.steps s) p → HasLeadOfStep m p
   of_split s p reached h = record {
@@ -71,7 +71,7 @@ module _ {S : Type 0} (m : Behaviour S) where
   pub lead_of : {p : Pair S} → ReachedPair m p → HasLeadOfStep m p
   lead_of (split {s = s} {p = p} reached h) = of_split s p reached h
   lead_of (move {p = p} {q = q} reached h) = of_move p q h (lead_of reached)
-  lead_of (other_order {p = p} reached level) = of_other p (lead_of reached)
+  lead_of (other_order {p = p} reached no_lead) = of_other p (lead_of reached)
 
   pub short_lead : KeepsLaws m → {p : Pair S} → ReachedPair m p → length p.lead ≤ 1024
   short_lead laws {p} reached =

@@ -1,10 +1,11 @@
--- Members of lists. Where a list holds some things, no two of them the same, it is at least as long as there are things.
+-- Members of lists. A list that contains some things, no two of them the same, is at least as long
+-- as there are things.
 use Rattle.std.proofs.Common.{◌≡◌, ◌≢◌, ℕ, zero, suc, ◌<◌, ◌≤◌, List, [], ◌∷◌, ◌++◌, ◌⊎◌, inl, inr, Some, length, map, refl, sym, ◌∙◌, ap, subst, arith}
 use Rattle.std.specs.Prelude.{slice_get, slice_index_or}
 use Rattle.std.specs.List.{Contains, flat_map}
 use Rattle.brl_search.specs.Reached.{AtMost}
 
--- an element stands in a list
+-- an element is in a list
 abbrev pub IsIn : {X : Type 0} → X → List X → Type 0
 IsIn x [] = ⊥
 IsIn x (y ∷ ys) = (x ≡ y) ⊎ IsIn x ys
@@ -84,7 +85,7 @@ few (x ∷ xs) ys f differ =
     let size = without-length x ys here in
     omega (arith, rest, size)
 
--- where a list holds all that there is of a kind, there is no more of it than the list is long
+-- where a list contains all that there is of a kind, there is no more of it than the list is long
 pub at_most_listed : {X : Type 0} (Same : X → X → Type 0) (Kind : X → Type 0) → ((x y : X) → x ≡ y → Same x y) → (all : List X) → ((x : X) → Kind x → Contains all x) → AtMost (length all) Same Kind
 at_most_listed Same Kind same all holds k h =
     let within : length h.list ≤ length all =

@@ -1,4 +1,4 @@
--- The finite lists of a table's dues machine hold its steps.
+-- The finite lists of a table's dues machine contain its steps.
 use Rattle.std.proofs.Common.{◌≡◌, ℕ, List, ◌++◌}
 use Rattle.std.specs.List.{Contains}
 use Rattle.brl_dues.specs.Finite.{all_leads, all_states}

@@ -1,4 +1,4 @@
--- Pairs that are looked up, and what their absence says.
+-- Pairs that are looked up, and what follows where they aren't there.
 use Rattle.std.proofs.Common.{◌≡◌, ◌≢◌, ℕ, Bool, false, List, [], ◌∷◌, ◌++◌, inl, inr, length, Some, slice_get, refl, sym, ◌∙◌, ap, subst, arith, if◌then◌else◌, length-append}
 use Rattle.std.proofs.lemmas.List.{append_cancel_left}
 use Rattle.brl_edges.specs.Body.{NumberPair}
@@ -6,8 +6,9 @@ use Rattle.brl_edges.specs.declared.edge.Edge.{Edge}
 use Rattle.brl_edges.specs.Pairs.{IsThere, IsFollowed}
 use Rattle.brl_members.specs.Members.{IsMember}
 use Rattle.brl_pairs.specs.Pairs.{turned}
-use Rattle.brl_search.specs.Trail.{DifferAsPairs, Stays}
-use Rattle.brl_search.proofs.Pushing.{inserted}
+use Rattle.brl_search.specs.SearchView.{Stays}
+use Rattle.brl_search.specs.Trail.{DifferAsPairs}
+use Rattle.brl_search.proofs.Lists.{inserted}
 
 -- the pair by its parts
 parts : (p : NumberPair) (a b : ℕ) (l : List ℕ) → p.ahead ≡ a → p.behind ≡ b → p.lead ≡ l → p ≡ record { ahead = a; behind = b; lead = l }
@@ -16,12 +17,12 @@ parts p a b l ahead behind lead = λ i. record { ahead = ahead i; behind = behin
 -- a pair that isn't there in either order differs from those that are
 pub absent_differ : (pairs : List NumberPair) (p : NumberPair) → (IsThere pairs p.ahead p.behind p.lead → ⊥) → (n : ℕ) (q : NumberPair) → slice_get pairs n ≡ Some q → DifferAsPairs q p
 absent_differ pairs p absent n q at = record {
-  as_they_stand = λ same. absent (inl (n, at ∙ ap (λ (z : NumberPair). Some z) same));
-  in_other_order = λ level turned.
+  in_this_order = λ same. absent (inl (n, at ∙ ap (λ (z : NumberPair). Some z) same));
+  in_other_order = λ no_lead turned.
       (let ahead : q.behind ≡ p.ahead = ap (λ (z : NumberPair). z.ahead) turned in
       let behind : q.ahead ≡ p.behind = ap (λ (z : NumberPair). z.behind) turned in
       let lead : q.lead ≡ p.lead = ap (λ (z : NumberPair). z.lead) turned in
-      absent (inr (sym lead ∙ level, (n, at ∙ ap (λ (z : NumberPair). Some z) (parts q p.behind p.ahead p.lead behind ahead lead)))));
+      absent (inr (sym lead ∙ no_lead, (n, at ∙ ap (λ (z : NumberPair). Some z) (parts q p.behind p.ahead p.lead behind ahead lead)))));
 }
 
 -- a pair that isn't there is added at the end

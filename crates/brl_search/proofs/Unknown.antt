@@ -4,8 +4,8 @@ use Rattle.std.specs.List.{list_all, position}
 use Rattle.std.specs.Cmp.{first_so, second_so}
 use Rattle.std.proofs.lemmas.List.Quantifiers.{position-Some}
 use Rattle.brl_forward.specs.Faults.{IsFaultOfTwo}
-use Rattle.brl_forward.specs.declared.fault.Side.{Side}
 use Rattle.brl_forward.specs.declared.fault.Side.TheVariants.{Left, Right}
+use Rattle.brl_forward.specs.declared.fault.ConfirmFault.{ConfirmFault}
 use Rattle.brl_forward.specs.declared.fault.ConfirmFault.TheVariants.{UnknownChar}
 use Rattle.brl_table.specs.TableView.{TableView}
 use Rattle.brl_table.specs.Text.{is_defined}
@@ -22,6 +22,6 @@ none_fails q xs k all first =
     let passes = passes_at q xs k 0 all at.0 in
     true≢false (sym at.1 ∙ ap not passes)
 
-pub unknown_no_clash : (t : TableView) (left right cells : List ℕ) (side : Side) (place : ℕ) → IsFaultOfTwo t left right (UnknownChar side place) → IsClash t left right cells → ⊥
-unknown_no_clash t left right cells Left place fault clash = none_fails (is_defined t) left place clash.left_text fault
-unknown_no_clash t left right cells Right place fault clash = none_fails (is_defined t) right place clash.right_text fault.1
+pub unknown_no_clash : (t : TableView) (left right cells : List ℕ) (fault : ConfirmFault) → IsFaultOfTwo t left right fault → IsClash t left right cells → ⊥
+unknown_no_clash t left right cells (UnknownChar Left place) fault clash = none_fails (is_defined t) left place clash.left_text fault
+unknown_no_clash t left right cells (UnknownChar Right place) fault clash = none_fails (is_defined t) right place clash.right_text fault.1

@@ -1,5 +1,5 @@
--- What a search of a machine comes to where each of the machine's paths that end is a translation. These are this project's own
--- choice.
+-- What a search of a machine comes to where each of the machine's paths that end is a translation.
+-- These are this project's own choice.
 use Rattle.std.specs.Prelude.{◌≡◌, ◌≢◌, ℕ, IsTrue, List, ◌++◌, map}
 use Rattle.std.specs.List.{Contains, flat_map}
 use Rattle.brl_edges.specs.Body.{BodyView}
@@ -9,25 +9,24 @@ use Rattle.brl_pairs.specs.Runs.{Behaviour, IsListed, cells_of}
 use Rattle.brl_pairs.specs.declared.step.Pair.{Pair}
 use Rattle.brl_pairs.specs.declared.step.Step.{Step}
 use Rattle.brl_search.specs.Answers.{HasReachedPairs, HasReachedStates}
-use Rattle.brl_search.specs.Reached.{Reached, ReachedPair}
-use Rattle.brl_search.specs.Ways.{Leads}
+use Rattle.brl_search.specs.Reached.{Reached, ReachedPair, Reaches}
 
--- Two runs of a pair: steps lead from the start to its one state, and steps to its other. However the two go on, they differ. The
--- first gives the cells of the second and then the lead.
+-- Two runs of a pair: steps lead from the start to its one state, and steps to its other. However
+-- the two continue, they differ. The first gives the cells of the second and then the lead.
 pub record HasTwoRuns {S : Type 0} (m : Behaviour S) (p : Pair S) : Type 0 where
   pub one : List (Step S)
   pub two : List (Step S)
-  pub one_leads : Leads m m.start one p.ahead
-  pub two_leads : Leads m m.start two p.behind
-  pub part : (more other : List (Step S)) → one ++ more ≢ two ++ other
+  pub one_reaches : Reaches m m.start one p.ahead
+  pub two_reaches : Reaches m m.start two p.behind
+  pub diverge : (more other : List (Step S)) → one ++ more ≢ two ++ other
   pub lead : cells_of one ≡ cells_of two ++ p.lead
 
--- two different texts of a machine that are translated alike
+-- two different texts of a machine that are translated to the same cells
 pub record AreAlike {S : Type 0} (m : Behaviour S) (left right : List ℕ) : Type 0 where
   pub left_text : IsTrue (m.is_text left)
   pub right_text : IsTrue (m.is_text right)
   pub differ : left ≢ right
-  pub alike : m.translation left ≡ m.translation right
+  pub same_cells : m.translation left ≡ m.translation right
 
 -- a machine has two such texts
 abbrev pub HasClash : {S : Type 0} → Behaviour S → Type 0
@@ -37,7 +36,8 @@ HasClash m = (left : List ℕ) × (right : List ℕ) × AreAlike m left right
 abbrev pub reached_sets : {S : Type 0} → Behaviour S → Sets S
 reached_sets m = record { has_state = Reached m; has_pair = ReachedPair m }
 
--- a body lists just the reached states and just the reached pairs, each pair in one order at least where its lead is empty
+-- a body lists just the reached states and just the reached pairs, each pair in at least one order
+-- where its lead is empty
 pub record ListsJustReached {S : Type 0} (m : Behaviour S) (body : BodyView S) : Type 0 where
   pub states : HasReachedStates m body
   pub pairs : HasReachedPairs m body
@@ -46,7 +46,7 @@ pub record ListsJustReached {S : Type 0} (m : Behaviour S) (body : BodyView S) :
 
 -- ---- Finite lists
 
--- both states of a pair are reached, and its lead is what the cells of one step of a reached state end with
+-- both states of a pair are reached, and the cells of one step of a reached state end with its lead
 pub record HasLeadOfStep {S : Type 0} (m : Behaviour S) (p : Pair S) : Type 0 where
   pub ahead : Reached m p.ahead
   pub behind : Reached m p.behind
@@ -57,8 +57,8 @@ pub record HasLeadOfStep {S : Type 0} (m : Behaviour S) (p : Pair S) : Type 0 wh
   pub front : List ℕ
   pub ends : step.cells ≡ front ++ p.lead
 
--- The start is among these states, and each step from one of them ends in one of them. What the cells of such a step end with is
--- among these leads.
+-- The start is among these states, and each step from one of them ends in one of them. What the
+-- cells of such a step end with is among these leads.
 pub record HoldsSteps {S : Type 0} (m : Behaviour S) (states : List S) (leads : List (List ℕ)) : Type 0 where
   pub start : Contains states m.start
   pub next : (s : S) (x : Step S) → Contains states s → IsListed (m.steps s) x → Contains states x.next

@@ -1,9 +1,10 @@
-pub mod Reached
-pub mod Answers
-pub mod Searched
 pub mod Found
+pub mod Searched
+pub mod Answers
+pub mod Reached
+pub mod Deciding
+pub mod SearchView
 pub mod Trail
 pub mod Edges
-pub mod Work
-pub mod Ways
-pub mod Deciding
+pub mod Worklist
+pub mod Path

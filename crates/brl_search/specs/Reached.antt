@@ -1,6 +1,7 @@
--- What a search may find of a machine: the states and pairs that are reached from its start. Pairs of runs are those of Sardinas
--- and Patterson; that they are asked of a machine is this project's own choice.
-use Rattle.std.specs.Prelude.{◌≡◌, ℕ, ◌<◌, ◌≤◌, List, [], ◌⊎◌, length, Some, slice_get}
+-- What a search may find of a machine: the states and pairs that are reached from its start. Pairs
+-- of runs are those of Sardinas and Patterson, where the lead is called the dangling suffix; that
+-- they are asked of a machine is this project's own choice.
+use Rattle.std.specs.Prelude.{◌≡◌, ℕ, ◌<◌, ◌≤◌, List, [], ◌∷◌, ◌⊎◌, length, Some, slice_get}
 use Rattle.brl_pairs.specs.declared.step.Pair.{Pair}
 use Rattle.brl_pairs.specs.declared.step.Step.{Step}
 use Rattle.brl_pairs.specs.Runs.{Behaviour, IsListed}
@@ -11,8 +12,13 @@ pub data Reached {S : Type 0} (m : Behaviour S) : S → Type 0 where
   start : Reached m m.start
   step : {s : S} {x : Step S} → Reached m s → IsListed (m.steps s) x → Reached m x.next
 
--- Splits of reached states are reached pairs, and so is what a step of the run behind makes of a reached pair. With a pair whose
--- lead is empty its other order is reached.
+-- these steps lead from one state to another
+abbrev pub Reaches : {S : Type 0} → Behaviour S → S → List (Step S) → S → Type 0
+Reaches m s [] r = s ≡ r
+Reaches m s (x ∷ path) r = IsListed (m.steps s) x × Reaches m x.next path r
+
+-- Splits of reached states are reached pairs, and so is what a step of the run behind makes of a
+-- reached pair. With a pair whose lead is empty its other order is reached.
 pub data ReachedPair {S : Type 0} (m : Behaviour S) : Pair S → Type 0 where
   split : {s : S} {p : Pair S} → Reached m s → Splits (m.steps s) p → ReachedPair m p
   move : {p q : Pair S} → ReachedPair m p → Moves m p q → ReachedPair m q
@@ -26,7 +32,7 @@ SamePair p q = (p ≡ q) ⊎ ((p.lead ≡ []) × (turned p ≡ q))
 abbrev pub SameState : {S : Type 0} → S → S → Type 0
 SameState a b = a ≡ b
 
--- there are at least n things of this kind: a list of n of them that all count as different
+-- there are at least n things of this kind: a list of n of them, no two of which count as the same
 pub record AtLeast {A : Type 0} (n : ℕ) (Same : A → A → Type 0) (Kind : A → Type 0) : Type 0 where
   pub list : List A
   pub count : length list ≡ n

@@ -1,5 +1,5 @@
--- The machine over which tables are searched, and the certificates that a search gives. Both are named here alone. The project's own
--- choice.
+-- The machine over which tables are searched, and the certificates that a search gives. Both are
+-- named here alone. The project's own choice.
 use Rattle.brl_edges.specs.Body.{BodyView}
 use Rattle.brl_kinds.specs.declared.cert.Cert.TheVariants.{Dues}
 use Rattle.brl_kinds.specs.declared.cert.Cert.{Cert as Certificate}

@@ -1,11 +1,14 @@
--- What a search keeps of the states and pairs that it has found (this project's own choice): how each was found, and nothing twice.
+-- Internal. What a search keeps of the states and pairs that it has found: how each was found, and
+-- nothing twice.
 use Rattle.std.specs.Prelude.{◌≡◌, ◌≢◌, ℕ, ◌+◌, ◌<◌, ◌≤◌, IsTrue, List, [], ◌++◌, ◌⊎◌, length, Some, slice_get}
 use Rattle.brl_edges.specs.Body.{IsPairOf, NumberPair}
 use Rattle.brl_pairs.specs.declared.step.Step.{Step}
 use Rattle.brl_pairs.specs.Pairs.{turned}
 use Rattle.brl_pairs.specs.Runs.{Behaviour, IsListedAt, KeepsLaws}
-use Rattle.brl_search.specs.declared.stop.Stop.{Stop}
-use Rattle.brl_search.specs.declared.stop.Stop.TheVariants as stop
+use Rattle.brl_search.specs.SearchView.{Stays}
+use Rattle.brl_search.specs.declared.finder.Finder.{Finder}
+use Rattle.brl_search.specs.declared.finder.Stop.{Stop}
+use Rattle.brl_search.specs.declared.finder.Stop.TheVariants as stop
 use Rattle.brl_search.specs.declared.trail.StateOrigin.{StateOrigin}
 use Rattle.brl_search.specs.declared.trail.PairOrigin.{PairOrigin}
 use Rattle.brl_search.specs.declared.trail.PairOrigin.TheVariants.{Split, Still, Swapped}
@@ -62,7 +65,7 @@ pub record GetsAheadOf {S : Type 0} (m : Behaviour S) (states : List S) (q : Num
   pub some : p.lead ≢ []
   pub lead : step.cells ≡ q.lead ++ p.lead
 
--- the pair is found as the origin says
+-- the pair is found as the origin describes
 abbrev pub IsPairOrigin : {S : Type 0} → Behaviour S → List S → List NumberPair → NumberPair → PairOrigin → Type 0
 IsPairOrigin m states pairs p (Split number longer shorter) = IsSplitOf m states number longer shorter p
 IsPairOrigin m states pairs p (Still number place) = (q : NumberPair) × (slice_get pairs number ≡ Some q) × StaysBehindOf m states q place p
@@ -85,7 +88,7 @@ pub record IsFoundPair {S : Type 0} (m : Behaviour S) (states : List S) (pairs :
 
 -- two pairs that aren't counted as one
 pub record DifferAsPairs (p q : NumberPair) : Type 0 where
-  pub as_they_stand : p ≢ q
+  pub in_this_order : p ≢ q
   pub in_other_order : p.lead ≡ [] → turned p ≢ q
 
 -- each state and pair is found from the start on, and no pair is there twice
@@ -100,7 +103,7 @@ pub record IsTraced {S : Type 0} (m : Behaviour S) (t : Trail S) : Type 0 where
 
 -- the pair has an empty lead and two states that end
 pub record HasTwoEnds {S : Type 0} (m : Behaviour S) (states : List S) (p : NumberPair) : Type 0 where
-  pub level : p.lead ≡ []
+  pub no_lead : p.lead ≡ []
   pub ahead : S
   pub behind : S
   pub ahead_at : slice_get states p.ahead ≡ Some ahead
@@ -108,35 +111,41 @@ pub record HasTwoEnds {S : Type 0} (m : Behaviour S) (states : List S) (p : Numb
   pub ahead_ends : IsTrue (m.ends ahead)
   pub behind_ends : IsTrue (m.ends behind)
 
--- what is found keeps the limit, and no pair has an empty lead and two states that end
-pub record IsKept {S : Type 0} (m : Behaviour S) (t : Trail S) : Type 0 where
-  pub laws : KeepsLaws m
-  pub traced : IsTraced m t
-  pub few_states : length t.states ≤ t.limit
-  pub few_pairs : length t.pairs ≤ t.limit
-  pub small : t.limit ≤ 4294967295
-  pub no_two_ends : (n : ℕ) (p : NumberPair) → slice_get t.pairs n ≡ Some p → HasTwoEnds m t.states p → ⊥
+-- the pair with this number has an empty lead and two states that end
+pub record HasTwoEndsAt {S : Type 0} (m : Behaviour S) (states : List S) (pairs : List NumberPair) (number : ℕ) : Type 0 where
+  pub pair : NumberPair
+  pub at : slice_get pairs number ≡ Some pair
+  pub ends : HasTwoEnds m states pair
+
+-- what is found is within the limit, and no pair has an empty lead and two states that end: nothing
+-- has stopped the search
+pub record IsActive {M S : Type 0} (behaviour : M → Behaviour S) (f : Finder M S) (t : Trail S) : Type 0 where
+  pub laws : KeepsLaws (behaviour f.machine.now)
+  pub traced : IsTraced (behaviour f.machine.now) t
+  pub few_states : length t.states ≤ f.limit
+  pub few_pairs : length t.pairs ≤ f.limit
+  pub small : f.limit ≤ 4294967295
+  pub no_two_ends : (n : ℕ) (p : NumberPair) → slice_get t.pairs n ≡ Some p → HasTwoEnds (behaviour f.machine.now) t.states p → ⊥
 
 -- one of the two numbers is more than the limit, and neither is by more than one
-pub record HasPassed {S : Type 0} (t : Trail S) : Type 0 where
-  pub more : (t.limit < length t.states) ⊎ (t.limit < length t.pairs)
-  pub states : length t.states ≤ t.limit + 1
-  pub pairs : length t.pairs ≤ t.limit + 1
+pub record HasPassed {S : Type 0} (limit : ℕ) (t : Trail S) : Type 0 where
+  pub more : (limit < length t.states) ⊎ (limit < length t.pairs)
+  pub states : length t.states ≤ limit + 1
+  pub pairs : length t.pairs ≤ limit + 1
 
 -- why a search stops
-abbrev pub IsStopped : {S : Type 0} → Behaviour S → Trail S → Stop → Type 0
-IsStopped m t stop.Limit = IsTraced m t × HasPassed t
-IsStopped m t (stop.BothEnd n) = IsTraced m t × (p : NumberPair) × (slice_get t.pairs n ≡ Some p) × HasTwoEnds m t.states p
-IsStopped m t stop.Memory = Unit {0}
+abbrev pub IsStopped : {M S : Type 0} → (M → Behaviour S) → Finder M S → Trail S → Stop → Type 0
+IsStopped behaviour f t stop.Limit = IsTraced (behaviour f.machine.now) t × HasPassed f.limit t
+IsStopped behaviour f t (stop.BothEnd n) = IsTraced (behaviour f.machine.now) t × HasTwoEndsAt (behaviour f.machine.now) t.states t.pairs n
 
--- what stands at a number stays there
-abbrev pub Stays : {X : Type 0} → List X → List X → Type 0
-Stays {X} old new = (k : ℕ) (x : X) → slice_get old k ≡ Some x → slice_get new k ≡ Some x
-
--- a trail grows: its limit, and what it has found, stay
-pub record Grows {S : Type 0} (old new : Trail S) : Type 0 where
-  pub limit : new.limit ≡ old.limit
+-- what a trail has found stays found
+pub record Extends {S : Type 0} (old new : Trail S) : Type 0 where
   pub states : Stays old.states new.states
   pub pairs : Stays old.pairs new.pairs
   pub more_states : length old.states ≤ length new.states
   pub more_pairs : length old.pairs ≤ length new.pairs
+
+-- what each part of a step keeps: nothing has stopped the search, and all that was found stays
+-- found
+abbrev pub Advances : {M S : Type 0} → (M → Behaviour S) → Finder M S → Trail S → Trail S → Type 0
+Advances behaviour f old new = IsActive behaviour f new × Extends old new

@@ -19,9 +19,10 @@ use brl_dues::{Dues, exact_law, finite_law};
 use brl_table::Table;
 use std::alloc::Global;
 
-/// What the dues machine reaches comes from finite lists that depend on the table alone: states, and for pairs two of these
-/// states with one of the leads. So no more is reached than these have. The dues of a reached state come from a list, too: the
-/// needs of what places ask of a neighbour, or of its opposite, and the bars of what a rule's characters end with.
+/// What the dues machine reaches comes from finite lists that depend on the table alone: states,
+/// and for pairs two of these states with one of the leads. So no more is reached than these have.
+/// The dues of a reached state come from a list, too: the needs of what places ask of a neighbour,
+/// or of its opposite, and the bars of what a rule's characters end with.
 pub fn dues_reached_law()
     ensures states { (t : TableView) (s : StateValue) → Reached (dues_machine t) s → Contains (all_states t) s }
     ensures dues { (t : TableView) (s : StateValue) (due : DueValue) → Reached (dues_machine t) s → Contains s.dues due →
@@ -44,8 +45,8 @@ pub fn dues_closed_law(alloc: Global, table: &Table)
     reached_closed_law(&dues);
 }
 
-/// For every unambiguous table, any lists of just the states that its dues machine reaches and, in one order at least, just the
-/// pairs are closed: they are a certificate.
+/// For every unambiguous table, any lists of just the states that its dues machine reaches and, in
+/// at least one order, just the pairs are closed: they are a certificate.
 pub fn dues_certificate_law(alloc: Global, table: &Table)
     ensures { IsUnambiguous table.now → (body : BodyView StateValue) → ListsJustReached (dues_machine table.now) body →
         IsClosed (dues_machine table.now) (sets_of body) }

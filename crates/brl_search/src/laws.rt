@@ -1,5 +1,5 @@
-//! What the search of a machine comes to where each of its paths that end is a translation and each text has one path. Each
-//! law is the contract of a function that does nothing.
+//! What the search of a machine comes to where each of its paths that end is a translation and each
+//! text has one path. Each law is the contract of a function that does nothing.
 ghost use Rattle.std.specs.Prelude.{◌≡◌, ◌≤◌, ℕ, List, length};
 ghost use Rattle.std.specs.List.{Contains};
 ghost use Rattle.brl_edges.specs.Body.{BodyView};
@@ -16,22 +16,23 @@ ghost use Rattle.brl_table.specs.Translation.{IsClash, translation};
 use brl_pairs::Machine;
 use brl_table::Table;
 
-/// Each reached pair of every machine comes with two runs from the start, which differ however they go on, and whose cells
-/// differ by the lead.
+/// Each reached pair of every machine has two runs from the start, which differ however they
+/// continue, and whose cells differ by the lead.
 pub fn two_runs_law<M: Machine>(machine: &M)
     ensures { (p : PairValue M.State) → ReachedPair (M.behaviour machine.now) p → HasTwoRuns (M.behaviour machine.now) p }
 {
     let _ = machine.start();
 }
 
-/// What two different paths of an exact machine read that end and give the same cells are two different texts that are
-/// translated alike.
+/// Two different paths of an exact machine that end and give the same cells read two different
+/// texts, which are translated to the same cells.
 pub fn alike_law<M: Machine>(machine: &M)
     ensures { IsExact (M.behaviour machine.now) → (left right : List ℕ) → AreTwoPaths (M.behaviour machine.now) left right →
         AreAlike (M.behaviour machine.now) left right }
 {}
 
-/// The same over a machine of a table: such texts are a clash of the table, so `confirm` finds one in them.
+/// The same over a machine of a table: such texts are a clash of the table, so `confirm` finds one
+/// in them.
 pub fn clash_law<M: Machine>(machine: &M, table: &Table)
     requires texts { (M.behaviour machine.now).is_text ≡ is_text table.now }
     requires translation { (M.behaviour machine.now).translation ≡ translation table.now }
@@ -55,8 +56,8 @@ pub fn reached_closed_law<M: Machine>(machine: &M)
     let _ = machine.start();
 }
 
-/// Where an exact machine is unambiguous, any lists of just the reached states and, in one order at least, just the reached
-/// pairs are closed: they are a certificate.
+/// Where an exact machine is unambiguous, any lists of just the reached states and, in at least one
+/// order, just the reached pairs are closed: they are a certificate.
 pub fn just_reached_law<M: Machine>(machine: &M)
     ensures { IsExact (M.behaviour machine.now) → IsUnambiguous (M.behaviour machine.now) → (body : BodyView M.State) →
         ListsJustReached (M.behaviour machine.now) body → IsClosed (M.behaviour machine.now) (sets_of body) }
@@ -64,25 +65,28 @@ pub fn just_reached_law<M: Machine>(machine: &M)
     let _ = machine.start();
 }
 
-/// Where no more than `limit` states and no more than `limit` pairs are reached, a search doesn't come to its limit.
+/// Where at most `limit` states and at most `limit` pairs are reached, a search doesn't come to its
+/// limit.
 pub fn no_limit_law<M: Machine>(machine: &M)
     ensures { (limit states pairs : ℕ) → AtMost limit SameState (Reached (M.behaviour machine.now)) →
         AtMost limit SamePair (ReachedPair (M.behaviour machine.now)) → IsLimit (M.behaviour machine.now) limit states pairs → ⊥ }
 {}
 
-/// Both states of a reached pair are reached, and its lead is what the cells of one step of a reached state end with.
+/// Both states of a reached pair are reached, and the cells of one step of a reached state end with
+/// its lead.
 pub fn lead_law<M: Machine>(machine: &M)
     ensures { (p : PairValue M.State) → ReachedPair (M.behaviour machine.now) p → HasLeadOfStep (M.behaviour machine.now) p }
 {}
 
-/// The lead of a reached pair has no more than 1,024 cells.
+/// The lead of a reached pair has at most 1,024 cells.
 pub fn short_lead_law<M: Machine>(machine: &M)
     ensures { (p : PairValue M.State) → ReachedPair (M.behaviour machine.now) p → length p.lead ≤ 1024 }
 {
     let _ = machine.start();
 }
 
-/// Where lists hold a machine's steps, what is reached comes from them, and is no more than they have.
+/// Where lists contain a machine's steps, what is reached comes from them, and is no more than they
+/// have.
 pub fn reached_listed_law<M: Machine>(machine: &M)
     ensures states { (states : List M.State) (leads : List (List ℕ)) → HoldsSteps (M.behaviour machine.now) states leads →
         (s : M.State) → Reached (M.behaviour machine.now) s → Contains states s }

@@ -1,28 +1,33 @@
-//! The search for a certificate or a clash: states and pairs are found from a machine's start on until they are closed, or
-//! two texts with the same cells are met, or there are more than a limit allows.
+//! The search of a table for a certificate or a clash. From the start of the table's machine,
+//! states and pairs of states are found until they are closed, until two texts with the same cells
+//! are found, or until there are more of them than a limit allows.
+//!
+//! - `search` searches a table and answers what it `Found`; `found_of` answers that from the outcome
+//!   of the machine's search.
+//! - `search_machine` searches any machine and answers an `Outcome`. A `Search` is the same in
+//!   slices: it runs for a number of steps at a time, and answers its `Progress`.
+//! - Inside, a `Finder` finds the states and pairs of a machine, a `Trail` keeps them and how each
+//!   was found, and a `Worklist` has what is left to do.
+//! - The laws say what is reached, and that the search decides.
 #![tactic(auto)]
 
 mod dues_laws;
-mod expanding;
-mod fault;
-mod found;
+mod explore;
+mod finder;
 mod laws;
-mod machine_search;
 mod outcome;
 mod pairs;
-mod states;
-mod stop;
+mod successors;
 mod table_search;
 mod texts;
 mod trail;
-mod turns;
-mod work;
+mod worklist;
 
 pub use dues_laws::{dues_certificate_law, dues_closed_law, dues_reached_law};
-pub use fault::SearchFault;
-pub use found::Found;
+pub use explore::{Progress, Search, search_machine};
 pub use laws::{
     alike_law, clash_law, just_reached_law, lead_law, no_limit_law, reached_closed_law,
     reached_listed_law, short_lead_law, two_ends_law, two_runs_law,
 };
-pub use table_search::search;
+pub use outcome::Outcome;
+pub use table_search::{Found, found_of, search};

@@ -13,7 +13,7 @@ pub struct StateOrigin {
 /// How a pair was found first.
 #[derive(Clone, Copy)]
 pub enum PairOrigin {
-    /// By two steps of a state, told by their places in its list.
+    /// By two steps of a state, at these places of its list.
     Split {
         state: usize,
         longer: usize,
@@ -31,22 +31,22 @@ pub enum PairOrigin {
     },
 }
 
-/// The states and pairs that a search has found, in the order in which it found them, and how each was found.
+/// The two origins that a step may give its pair: one if the run stays behind, one if it gets
+/// ahead.
+#[derive(Clone, Copy)]
+pub struct Origins {
+    pub still: PairOrigin,
+    pub swapped: PairOrigin,
+}
+
+/// The states and pairs that have been found, in the order in which they were found, and how each
+/// was found.
 #[derive(Drop)]
 pub struct Trail<S: Key> {
-    /// How many states, and how many pairs, it may find.
-    pub limit: u64,
     pub states: Members<S>,
     /// Of each state; that of the start is never read.
     pub state_origins: Vec<StateOrigin>,
     pub pairs: Members<Pair<u32>>,
     /// Of each pair.
     pub pair_origins: Vec<PairOrigin>,
-}
-
-/// How the pair that a run behind makes was found: where it stays behind, and where it gets ahead.
-#[derive(Clone, Copy)]
-pub struct Origins {
-    pub still: PairOrigin,
-    pub swapped: PairOrigin,
 }

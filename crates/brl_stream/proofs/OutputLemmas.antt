@@ -1,5 +1,5 @@
 -- What a line gives: its marks, or its fault.
-use Rattle.std.proofs.Common.{◌≡◌, ℕ, ◌+◌, ◌<◌, ◌≤◌, Bool, true, false, not, ◌&&◌, cond, nat_lt, List, [], ◌∷◌, ◌++◌, length, drop, get_or, refl, ap, sym, ◌∙◌, Option, None, Some, Result, Ok, Err, append_assoc, drop_of_length-le, add-one}
+use Rattle.std.proofs.Common.{◌≡◌, ℕ, ◌+◌, ◌<◌, ◌≤◌, Bool, true, false, not, ◌&&◌, cond, nat_lt, List, [], ◌∷◌, ◌++◌, length, drop, get_or, refl, ap, sym, subst, ◌∙◌, Option, None, Some, Result, Ok, Err, append_assoc, drop_of_length-le, add-one}
 use Rattle.std.proofs.Math.Seq.{drop-cons}
 use Rattle.std.proofs.lemmas.Str.{is_utf8-from_IsUtf8, IsUtf8-from_is_utf8}
 use Rattle.std.proofs.lemmas.Iterator.Adapters.{position_from-zero}
@@ -13,13 +13,17 @@ use Rattle.brl_table.specs.Translation.{translation}
 use Rattle.brl_forward.specs.Faults.{first_unknown, IsFaultOf}
 use Rattle.brl_forward.specs.declared.fault.ForwardFault.{ForwardFault}
 use Rattle.brl_forward.specs.declared.fault.ForwardFault.TheVariants as forward
-use Rattle.brl_stream.specs.Output.{LineResult, mark_of, marks_of, with_feed, unless_unknown, output_of}
-use Rattle.brl_stream.specs.Writing.{IsMade, Pushes, WriteTells, stop_of, stopped_at}
+use Rattle.brl_stream.specs.Output.{LineResult, at_line, mark_of, marks_of, with_feed, unless_unknown, output_of}
+use Rattle.brl_stream.specs.Writing.{IsMade, Pushes, WriteTells, WritesBefore, line_fault_of}
 use Rattle.brl_stream.specs.declared.fault.LineFault.TheVariants as faults
-use Rattle.brl_stream.specs.declared.fault.StreamFault.TheVariants as streams
+use Rattle.brl_stream.specs.declared.fault.LineFault.{LineFault}
+use Rattle.brl_stream.specs.declared.fault.StreamFault.{StreamFault}
+use Rattle.brl_failure.specs.Failure.{IfFault, IsChanged, IsRaised}
+use Rattle.brl_failure.specs.Raised.{if_err-raised}
+use Rattle.std.specs.Prelude.{IfErr, IfOk}
+use Rattle.brl_failure.specs.declared.failure.Failure.{Failure}
+use Rattle.brl_failure.specs.declared.failure.Failure.TheVariants as failures
 use Rattle.brl_stream.specs.declared.form.Form.{Form}
-use Rattle.brl_stream.specs.declared.output.Stop.{Stop}
-use Rattle.brl_stream.specs.declared.output.Stop.TheVariants as stops
 use Rattle.brl_stream.proofs.KnownBytes.{Appends-nil}
 use Rattle.brl_stream.proofs.VerdictLemmas.{RefusesLong, test-true, test-false}
 
@@ -114,29 +118,41 @@ unfolding output_of
 output_of-own t form line = own (nat_lt 65536 (length line)) (is_utf8 line) (first_unknown t (chars line)) (marks_of form (translation t (chars line)))
 
 -- a line without output, of which nothing was written
-pub stopped : (t : TableView) (form : Form) (line buffer : List ℕ) (number : ℕ) (contents : Option (List ℕ)) (stop : Stop)
-    → IsMade (output_of t form line) buffer (Err stop) → WriteTells (output_of t form line) number contents contents (Err (stopped_at number stop))
-stopped t form line buffer number contents stops.Memory made = Appends-nil contents
-stopped t form line buffer number contents (stops.Fault faults.InputFailed) made = absurd ((output_of-own t form line).0 made)
-stopped t form line buffer number contents (stops.Fault faults.OutputFailed) made = absurd ((output_of-own t form line).1 made)
-stopped t form line buffer number contents (stops.Fault (faults.UnknownChar position)) made = (refl, made, Appends-nil contents)
-stopped t form line buffer number contents (stops.Fault faults.NoAscii) made = (refl, made, Appends-nil contents)
-stopped t form line buffer number contents (stops.Fault faults.InputNotUtf8) made = (refl, made, Appends-nil contents)
-stopped t form line buffer number contents (stops.Fault faults.InputLineTooLong) made = (refl, made, Appends-nil contents)
-stopped t form line buffer number contents (stops.Fault faults.InputTooLong) made = (refl, made, Appends-nil contents)
+nothing_written : (t : TableView) (form : Form) (line : List ℕ) (contents : Option (List ℕ)) (fault : LineFault) → output_of t form line ≡ Err fault → WritesBefore (output_of t form line) contents contents fault
+nothing_written t form line contents faults.InputFailed made = absurd ((output_of-own t form line).0 made)
+nothing_written t form line contents faults.OutputFailed made = absurd ((output_of-own t form line).1 made)
+nothing_written t form line contents (faults.UnknownChar position) made = (made, Appends-nil contents)
+nothing_written t form line contents faults.NoAscii made = (made, Appends-nil contents)
+nothing_written t form line contents faults.InputNotUtf8 made = (made, Appends-nil contents)
+nothing_written t form line contents faults.InputLineTooLong made = (made, Appends-nil contents)
+nothing_written t form line contents faults.InputTooLong made = (made, Appends-nil contents)
+
+pub stopped : (t : TableView) (form : Form) (line buffer : List ℕ) (number : ℕ) (contents : Option (List ℕ)) (failure : Failure LineFault) (told : Failure StreamFault)
+    → IsMade (output_of t form line) buffer (Err failure) → IsChanged (λ fault other. other ≡ at_line number fault) failure told → WriteTells (output_of t form line) number contents contents (Err told)
+stopped t form line buffer number contents failures.Memory failures.Memory made same = Appends-nil contents
+stopped t form line buffer number contents failures.Memory (failures.Fault other) made same = absurd same
+stopped t form line buffer number contents (failures.Fault fault) failures.Memory made same = absurd same
+stopped t form line buffer number contents (failures.Fault fault) (failures.Fault other) made same =
+    subst (λ (f : StreamFault). WriteTells (output_of t form line) number contents contents (Err (failures.Fault f))) (sym same) (refl, nothing_written t form line contents fault made)
 
 -- a line without output is no failed write
-pub not_written : (t : TableView) (form : Form) (line buffer : List ℕ) (number : ℕ) (stop : Stop)
-    → IsMade (output_of t form line) buffer (Err stop) → stopped_at number stop ≡ streams.AtLine number faults.OutputFailed → ⊥
-not_written t form line buffer number stops.Memory made h = cc
-not_written t form line buffer number (stops.Fault fault) made h =
-    let same : fault ≡ faults.OutputFailed = cc in
-    (output_of-own t form line).1 (made ∙ ap Err same)
+pub not_written : (t : TableView) (form : Form) (line buffer : List ℕ) (number : ℕ) (failure : Failure LineFault) (told : Failure StreamFault)
+    → IsMade (output_of t form line) buffer (Err failure) → IsChanged (λ fault other. other ≡ at_line number fault) failure told → told ≡ failures.Fault (at_line number faults.OutputFailed) → ⊥
+not_written t form line buffer number failures.Memory failures.Memory made same h = cc
+not_written t form line buffer number failures.Memory (failures.Fault other) made same h = absurd same
+not_written t form line buffer number (failures.Fault fault) failures.Memory made same h = absurd same
+not_written t form line buffer number (failures.Fault fault) (failures.Fault other) made same h =
+    let one : other ≡ at_line number faults.OutputFailed = cc in
+    (output_of-own t form line).1 (made ∙ ap Err (ap (λ f. f.fault) (sym same ∙ one)))
+
+-- what holds of a value
+pub value_has : {T E : Type 0} (P : T → Type 0) (step : Result T E) (x : T) → step ≡ Ok x → IfOk step P → P x
+value_has P step x e h = subst (λ (r : Result _ _). IfOk r P) e h
 
 -- a fault that went up
-pub gone_up : (output : LineResult) (buffer : List ℕ) (P : Stop → Type 0) (r : Result (Unit {0}) Stop) → IsErrAnd r P → ((stop : Stop) → P stop → IsMade output buffer (Err stop)) → IsMade output buffer r
+pub gone_up : (output : LineResult) (buffer : List ℕ) (P : Failure LineFault → Type 0) (r : Result (Unit {0}) (Failure LineFault)) → IsErrAnd r P → ((failure : Failure LineFault) → P failure → IsMade output buffer (Err failure)) → IsMade output buffer r
 gone_up output buffer P (Ok done) h f = absurd h
-gone_up output buffer P (Err stop) h f = f stop h
+gone_up output buffer P (Err failure) h f = f failure h
 
 -- ---- the parts of a line's output
 
@@ -144,9 +160,15 @@ module _ (t : TableView) (form : Form) (line text : List ℕ) (short : length li
   pub unknown_made : (position : ℕ) → first_unknown t text ≡ Some position → output_of t form line ≡ Err (faults.UnknownChar position)
   unknown_made position h = output_of-text t form line short utf8 ∙ rw (← is, h) refl
 
-  pub translate_stops : (fault : ForwardFault) → IsFaultOf t text fault → (buffer : List ℕ) → IsMade (output_of t form line) buffer (Err (stop_of fault))
-  translate_stops (forward.UnknownChar position) h buffer = unknown_made position h
-  translate_stops forward.Memory h buffer = tt
+  pub unknown_fault : (fault : ForwardFault) → IsFaultOf t text fault → output_of t form line ≡ Err (line_fault_of fault)
+  unknown_fault (forward.UnknownChar position) h = unknown_made position h
+
+  -- a translation that failed leaves the line without output
+  pub translate_stops : {T : Type 0} (step : Result T (Failure ForwardFault)) (raised : Result T (Failure LineFault)) (failure : Failure LineFault)
+      → IsRaised (λ one other. other ≡ line_fault_of one) step raised → raised ≡ Err failure → IfErr step (IfFault (IsFaultOf t text)) → (buffer : List ℕ) → IsMade (output_of t form line) buffer (Err failure)
+  translate_stops step raised failure is e h buffer =
+      subst (λ (r : Result _ (Failure LineFault)). IfErr r (IfFault (λ fault. output_of t form line ≡ Err fault))) e
+      (if_err-raised _ (IsFaultOf t text) (λ fault. output_of t form line ≡ Err fault) step raised is h (λ one other same fault. unknown_fault one fault ∙ ap Err (sym same)))
 
   module _ (cells : List ℕ) (defined : is_text t text ≡ true) (translated : cells ≡ translation t text) where
     marks_made : output_of t form line ≡ with_feed (marks_of form cells)
@@ -154,9 +176,9 @@ module _ (t : TableView) (form : Form) (line text : List ℕ) (short : length li
         let none = first_unknown-none t text defined in
         output_of-text t form line short utf8 ∙ rw (← is, ← translated, none) refl
 
-    pub marks_stop : (old new buffer : List ℕ) (stop : Stop) → Pushes (marks_of form cells) old new (Err stop) → IsMade (output_of t form line) buffer (Err stop)
-    marks_stop old new buffer stops.Memory h = tt
-    marks_stop old new buffer (stops.Fault fault) h = marks_made ∙ rw (h.0, h.1) refl
+    pub marks_stop : (old new buffer : List ℕ) (failure : Failure LineFault) → Pushes (marks_of form cells) old new (Err failure) → IsMade (output_of t form line) buffer (Err failure)
+    marks_stop old new buffer failures.Memory h = tt
+    marks_stop old new buffer (failures.Fault fault) h = marks_made ∙ rw (h.0, h.1) refl
 
     pub output_made : (old new buffer : List ℕ) → old ≡ [] → option_map (λ more. old ++ more) (marks_of form cells) ≡ Some new → buffer ≡ new ++ 10 ∷ [] → output_of t form line ≡ Ok buffer
     output_made old new buffer empty marks whole = marks_made ∙ by_marks (marks_of form cells) marks

@@ -8,13 +8,14 @@ use Rattle.std.specs.List.{concat}
 use Rattle.std.specs.Io.KnownBytes.{Appends, Consumes, IsAtEnd}
 use Rattle.brl_table.specs.TableView.{TableView}
 use Rattle.brl_stream.specs.InputLines.{without_return}
-use Rattle.brl_stream.specs.Output.{LineResult, decided, verdict_within, verdict, output_of, HasWritten, ReadsFew, DecidesBefore}
+use Rattle.brl_stream.specs.Output.{LineResult, at_line, decided, verdict_within, verdict, output_of, HasWritten, HasWrittenBefore, ReadsFew, DecidesBefore}
 use Rattle.brl_stream.specs.Window.{WindowView, IsRest, IsReadOn, IsWithin, HasNoFeed, HasLine, HasLongLine, IsOpen, IsTail, NextTells}
-use Rattle.brl_stream.specs.Writing.{WriteTells}
+use Rattle.brl_stream.specs.Writing.{WriteTells, WritesBefore}
 use Rattle.brl_stream.specs.declared.fault.LineFault.{LineFault}
 use Rattle.brl_stream.specs.declared.fault.LineFault.TheVariants as faults
 use Rattle.brl_stream.specs.declared.fault.StreamFault.{StreamFault}
-use Rattle.brl_stream.specs.declared.fault.StreamFault.TheVariants as streams
+use Rattle.brl_failure.specs.declared.failure.Failure.{Failure}
+use Rattle.brl_failure.specs.declared.failure.Failure.TheVariants as failures
 use Rattle.brl_stream.specs.declared.form.Form.{Form}
 use Rattle.brl_stream.proofs.KnownBytes.{Appends-trans, Appends-nil}
 use Rattle.brl_stream.proofs.OutputLemmas.{output_of-long}
@@ -252,44 +253,36 @@ module _ (lines : List LineResult) (outputs : List (List ℕ)) (number : ℕ) (a
     refused : (fault : LineFault) → output ≡ Err fault → lines ≡ map Ok outputs ++ Err fault ∷ others
     refused fault e = stands ∙ ap (λ r. map Ok outputs ++ r ∷ others) e
 
-    pub err_written : (fault : StreamFault) → WriteTells output number b c (Err fault) → HasWritten lines a c (Err fault)
-    err_written streams.Memory t = (outputs, output ∷ others, stands, same_out t)
-    err_written (streams.AtLine n faults.InputFailed) t = absurd t
-    err_written (streams.AtLine n faults.OutputFailed) t =
-        (outputs, t.0, t.1, others, stands ∙ ap (λ r. map Ok outputs ++ r ∷ others) t.3, t.2 ∙ count, Appends-trans a b c (concat outputs) t.0 so_far t.4)
-    err_written (streams.AtLine n (faults.UnknownChar position)) t = (outputs, others, refused _ t.1, t.0 ∙ count, same_out t.2)
-    err_written (streams.AtLine n faults.NoAscii) t = (outputs, others, refused _ t.1, t.0 ∙ count, same_out t.2)
-    err_written (streams.AtLine n faults.InputNotUtf8) t = (outputs, others, refused _ t.1, t.0 ∙ count, same_out t.2)
-    err_written (streams.AtLine n faults.InputLineTooLong) t = (outputs, others, refused _ t.1, t.0 ∙ count, same_out t.2)
-    err_written (streams.AtLine n faults.InputTooLong) t = (outputs, others, refused _ t.1, t.0 ∙ count, same_out t.2)
+    fault_written : (n : ℕ) (fault : LineFault) → n ≡ number → WritesBefore output b c fault → HasWrittenBefore lines a c n fault
+    fault_written n faults.InputFailed is t = absurd t
+    fault_written n faults.OutputFailed is t =
+        (outputs, t.0, t.1, others, stands ∙ ap (λ r. map Ok outputs ++ r ∷ others) t.2, is ∙ count, Appends-trans a b c (concat outputs) t.0 so_far t.3)
+    fault_written n (faults.UnknownChar position) is t = (outputs, others, refused _ t.0, is ∙ count, same_out t.1)
+    fault_written n faults.NoAscii is t = (outputs, others, refused _ t.0, is ∙ count, same_out t.1)
+    fault_written n faults.InputNotUtf8 is t = (outputs, others, refused _ t.0, is ∙ count, same_out t.1)
+    fault_written n faults.InputLineTooLong is t = (outputs, others, refused _ t.0, is ∙ count, same_out t.1)
+    fault_written n faults.InputTooLong is t = (outputs, others, refused _ t.0, is ∙ count, same_out t.1)
+
+    pub err_written : (failure : Failure StreamFault) → WriteTells output number b c (Err failure) → HasWritten lines a c (Err failure)
+    err_written failures.Memory t = (outputs, output ∷ others, stands, same_out t)
+    err_written (failures.Fault found) t = fault_written found.line found.fault t.0 t.1
 
   -- the same of the last line
-  pub last_written : (output : LineResult) → lines ≡ map Ok outputs ++ output ∷ [] → (r : Result (Unit {0}) StreamFault) → WriteTells output number b c r → HasWritten lines a c r
+  pub last_written : (output : LineResult) → lines ≡ map Ok outputs ++ output ∷ [] → (r : Result (Unit {0}) (Failure StreamFault)) → WriteTells output number b c r → HasWritten lines a c r
   last_written output stands (Err fault) t = err_written output [] stands fault t
   last_written output stands (Ok done) t =
       (outputs ++ t.0 ∷ [], stands ∙ ap (λ r. map Ok outputs ++ r ∷ []) t.1 ∙ sym (map-append Ok outputs (t.0 ∷ [])), more_out t.0 t.2)
 
--- a write is never a failed read
-pub never_read : (output : LineResult) (number n : ℕ) (a b : Option (List ℕ)) (r : Result (Unit {0}) StreamFault) → WriteTells output number a b r → r ≡ Err (streams.AtLine n faults.InputFailed) → ⊥
-never_read output number n a b r t e = subst (λ (r : Result (Unit {0}) StreamFault). WriteTells output number a b r) e t
-
--- a failed write names its line
-pub write_number : (output : LineResult) (number n : ℕ) (a b : Option (List ℕ)) (r : Result (Unit {0}) StreamFault) → WriteTells output number a b r → r ≡ Err (streams.AtLine n faults.OutputFailed)
-    → r ≡ Err (streams.AtLine number faults.OutputFailed)
-write_number output number n a b r t e =
-    let told = subst (λ (r : Result (Unit {0}) StreamFault). WriteTells output number a b r) e t in
-    e ∙ ap (λ k. Err (streams.AtLine k faults.OutputFailed)) told.2
-
 -- a line that could not be had
 pub next_written : (t : TableView) (form : Form) (law : RefusesLong (output_of t form)) (before after old new : Option (List ℕ)) (w : WindowView) (number : ℕ) → Stands (output_of t form) before after w old new number → IsWithin w
-    → (fault : LineFault) → NextTells w.bytes w.longer after (Err fault) → (input : List ℕ) → before ≡ Some input → HasWritten (verdict t form input) old new (Err (streams.AtLine number fault))
+    → (fault : LineFault) → NextTells w.bytes w.longer after (Err fault) → (input : List ℕ) → before ≡ Some input → HasWritten (verdict t form input) old new (Err (failures.Fault (at_line number fault)))
 next_written t form law before after old new w number stands within fault tells input known =
-    subst (λ (ls : List LineResult). HasWritten ls old new (Err (streams.AtLine number fault))) (sym (verdict-is t form input)) (by_fault fault tells)
+    subst (λ (ls : List LineResult). HasWritten ls old new (Err (failures.Fault (at_line number fault)))) (sym (verdict-is t form input)) (by_fault fault tells)
   where
     s : (rest : List ℕ) × (outputs : List (List ℕ)) × IsRest w.longer after rest × IsAt (output_of t form) input w rest outputs × Appends old new (concat outputs) × (number ≡ length outputs + 1)
     s = stands input known
 
-    by_fault : (fault : LineFault) → NextTells w.bytes w.longer after (Err fault) → HasWritten (verdict_within (output_of t form) 16777216 input) old new (Err (streams.AtLine number fault))
+    by_fault : (fault : LineFault) → NextTells w.bytes w.longer after (Err fault) → HasWritten (verdict_within (output_of t form) 16777216 input) old new (Err (failures.Fault (at_line number fault)))
     by_fault (faults.UnknownChar position) n = absurd n
     by_fault faults.NoAscii n = absurd n
     by_fault faults.InputNotUtf8 n = absurd n
@@ -306,7 +299,13 @@ next_written t form law before after old new w number stands within fault tells 
         let lines = long_last_at (output_of t form) law input s.0 s.1 w s.3 within after n.0 n.1 s.2 in
         (s.1, lines.0, lines.1, s.5, s.4)
 
-pub err_is : (r : Result (Unit {0}) StreamFault) (fault : StreamFault) → IsErrAnd r (λ e. e ≡ fault) → r ≡ Err fault
+-- a fault names one line, and has one kind
+pub same_line : (number n : ℕ) (fault other : LineFault) → (let r : Result (Unit {0}) (Failure StreamFault) = Err (failures.Fault (at_line number fault)) in r) ≡ Err (failures.Fault (at_line n other)) → (number ≡ n) × (fault ≡ other)
+same_line number n fault other e =
+    let same : at_line number fault ≡ at_line n other = cc in
+    (ap (λ (f : StreamFault). f.line) same, ap (λ (f : StreamFault). f.fault) same)
+
+pub err_is : (r : Result (Unit {0}) (Failure StreamFault)) (fault : Failure StreamFault) → IsErrAnd r (λ e. e ≡ fault) → r ≡ Err fault
 err_is (Ok done) fault h = absurd h
 err_is (Err e) fault h = ap Err h
 
@@ -339,14 +338,14 @@ module _ (t : TableView) (form : Form) (before after old new written : Option (L
       )
 
   -- a line was had, and wasn't written whole
-  pub line_written : (len whole : ℕ) → HasLine w.bytes len whole → (fault : StreamFault) → WriteTells (output_of t form (take len w.bytes)) number new written (Err fault)
+  pub line_written : (len whole : ℕ) → HasLine w.bytes len whole → (fault : Failure StreamFault) → WriteTells (output_of t form (take len w.bytes)) number new written (Err fault)
       → (input : List ℕ) → before ≡ Some input → HasWritten (verdict t form input) old written (Err fault)
   line_written len whole line fault wrote = λ input known.
       let s = stands input known in
       let lines = line_at (output_of t form) (output_of-long t form) input s.0 s.1 w s.3 within len whole line in
       err_written (verdict t form input) s.1 number old new written s.4 s.5 (output_of t form (take len w.bytes)) lines.0 (verdict-is t form input ∙ lines.1) fault wrote
 
-  pub tail_written : (len : ℕ) → IsTail w.bytes w.longer after → len ≡ length w.bytes → 0 < len → (r : Result (Unit {0}) StreamFault) → WriteTells (output_of t form (take len w.bytes)) number new written r
+  pub tail_written : (len : ℕ) → IsTail w.bytes w.longer after → len ≡ length w.bytes → 0 < len → (r : Result (Unit {0}) (Failure StreamFault)) → WriteTells (output_of t form (take len w.bytes)) number new written r
       → (input : List ℕ) → before ≡ Some input → HasWritten (verdict t form input) old written r
   tail_written len tail is some r wrote = λ input known.
       let s = stands input known in

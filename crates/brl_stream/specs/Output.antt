@@ -13,7 +13,8 @@ use Rattle.brl_stream.specs.InputLines.{lines_of, ended, unended, without_return
 use Rattle.brl_stream.specs.declared.fault.LineFault.{LineFault}
 use Rattle.brl_stream.specs.declared.fault.LineFault.TheVariants as faults
 use Rattle.brl_stream.specs.declared.fault.StreamFault.{StreamFault}
-use Rattle.brl_stream.specs.declared.fault.StreamFault.TheVariants as streams
+use Rattle.brl_failure.specs.declared.failure.Failure.{Failure}
+use Rattle.brl_failure.specs.declared.failure.Failure.TheVariants as failures
 use Rattle.brl_stream.specs.declared.form.Form.{Form}
 use Rattle.brl_stream.specs.declared.form.Form.TheVariants.{Ascii, Unicode}
 
@@ -75,21 +76,29 @@ verdict_within output most input =
 unfoldable pub verdict : TableView → Form → List ℕ → List LineResult
 verdict t form input = verdict_within (output_of t form) most_input input
 
--- What was written, by the outcome of a call: `outputs` are those of the lines before the one that the outcome names.
-abbrev pub HasWritten : List LineResult → Option (List ℕ) → Option (List ℕ) → Result (Unit {0}) StreamFault → Type 0
-HasWritten lines old new (Ok done) = (outputs : List (List ℕ)) × (lines ≡ map Ok outputs) × Appends old new (concat outputs)
-HasWritten lines old new (Err streams.Memory) =
-    (outputs : List (List ℕ)) × (others : List LineResult) × (lines ≡ map Ok outputs ++ others) × Appends old new (concat outputs)
-HasWritten lines old new (Err (streams.AtLine n faults.InputFailed)) =
+-- a fault at the line with this number
+abbrev pub at_line : ℕ → LineFault → StreamFault
+at_line n fault = record { line = n; fault = fault }
+
+-- What was written before a fault at line n: the outputs of the lines before it, and where the writer failed, a front of its own.
+abbrev pub HasWrittenBefore : List LineResult → Option (List ℕ) → Option (List ℕ) → ℕ → LineFault → Type 0
+HasWrittenBefore lines old new n faults.InputFailed =
     (outputs : List (List ℕ)) × (others : List LineResult) × (lines ≡ map Ok outputs ++ others)
     × (n ≡ length outputs + 1) × Appends old new (concat outputs)
-HasWritten lines old new (Err (streams.AtLine n faults.OutputFailed)) =
+HasWrittenBefore lines old new n faults.OutputFailed =
     (outputs : List (List ℕ)) × (front : List ℕ) × (rest : List ℕ) × (others : List LineResult)
     × (lines ≡ map Ok outputs ++ Ok (front ++ rest) ∷ others)
     × (n ≡ length outputs + 1) × Appends old new (concat outputs ++ front)
-HasWritten lines old new (Err (streams.AtLine n fault)) =
+HasWrittenBefore lines old new n fault =
     (outputs : List (List ℕ)) × (others : List LineResult) × (lines ≡ map Ok outputs ++ Err fault ∷ others)
     × (n ≡ length outputs + 1) × Appends old new (concat outputs)
+
+-- What was written, by the outcome of a call: the outputs of all lines, or of some first ones.
+abbrev pub HasWritten : List LineResult → Option (List ℕ) → Option (List ℕ) → Result (Unit {0}) (Failure StreamFault) → Type 0
+HasWritten lines old new (Ok done) = (outputs : List (List ℕ)) × (lines ≡ map Ok outputs) × Appends old new (concat outputs)
+HasWritten lines old new (Err failures.Memory) =
+    (outputs : List (List ℕ)) × (others : List LineResult) × (lines ≡ map Ok outputs ++ others) × Appends old new (concat outputs)
+HasWritten lines old new (Err (failures.Fault found)) = HasWrittenBefore lines old new found.line found.fault
 
 -- no byte behind the 16,777,217th was read
 abbrev pub ReadsFew : Option (List ℕ) → Option (List ℕ) → Type 0
@@ -101,5 +110,5 @@ DecidesBefore n output old new =
     (got : List ℕ) × Consumes old new got × (length got ≤ most_input) × (length (decided output got) + 1 ≡ n)
 
 -- the call ended at some line for this reason
-abbrev pub EndsBy : LineFault → Result (Unit {0}) StreamFault → Type 0
-EndsBy fault result = (n : ℕ) × (result ≡ Err (streams.AtLine n fault))
+abbrev pub EndsBy : LineFault → Result (Unit {0}) (Failure StreamFault) → Type 0
+EndsBy fault result = (n : ℕ) × (result ≡ Err (failures.Fault (at_line n fault)))

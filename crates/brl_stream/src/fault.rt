@@ -1,7 +1,7 @@
 //! The faults of a stream.
 use thiserror::Error;
 
-/// What is wrong at a line of an input.
+/// The fault of a line of an input.
 #[derive(Clone, Copy, PartialEq, Eq, Debug, Error)]
 pub enum LineFault {
     /// The table doesn't define the character at this position of the line, from 0, which is the first such one.
@@ -27,13 +27,10 @@ pub enum LineFault {
     InputTooLong,
 }
 
-/// Why a stream wasn't translated to its end.
+/// Why a stream wasn't translated to its end: the first fault, and the number of its line, from 1.
 #[derive(Clone, Copy, PartialEq, Eq, Debug, Error)]
-pub enum StreamFault {
-    /// The first fault, and the number of its line, from 1.
-    #[error("{fault} at line {line}")]
-    AtLine { line: u64, fault: LineFault },
-    /// A growth was refused.
-    #[error("Memory")]
-    Memory,
+#[error("{fault} at line {line}")]
+pub struct StreamFault {
+    pub line: u64,
+    pub fault: LineFault,
 }

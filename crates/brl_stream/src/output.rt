@@ -1,73 +1,18 @@
 //! The output of one line.
 ghost use Rattle.std.specs.Prelude.{◌≡◌, ◌≢◌, ◌≤◌, [], length, OnOk, IsErrOf};
 ghost use Rattle.std.specs.Str.{chars};
-ghost use Rattle.brl_stream.specs.Output.{mark_of, marks_of, output_of};
-ghost use Rattle.brl_stream.specs.Writing.{Pushes, IsMade, WriteTells, stopped_at};
+ghost use Rattle.brl_stream.specs.Output.{at_line as fault_at, mark_of, marks_of, output_of};
+ghost use Rattle.brl_failure.specs.Failure.{IsChanged};
+ghost use Rattle.brl_failure.specs.declared.failure.Failure.TheVariants as failures;
+ghost use Rattle.brl_stream.specs.Writing.{Pushes, IsMade, WriteTells, line_fault_of as of_forward};
 
 use crate::{Form, LineFault, Output, StreamFault};
 use brl_cells::{Cell, to_ascii, to_unicode};
+use brl_failure::{Failure, raise};
 use brl_forward::{ForwardFault, translate};
 use brl_table::Table;
-use std::alloc::{AllocError, AllocFailed, Global};
+use std::alloc::{AllocError, Global};
 use std::str;
-
-/// Why a line has no output.
-#[derive(Clone, Copy, PartialEq, Eq, Debug)]
-pub enum Stop {
-    Fault(LineFault),
-    Memory,
-}
-
-impl Stop {
-    /// The fault of the stream at this line.
-    fn at(self, number: u64) -> StreamFault
-        ensures { result ≡ stopped_at number self }
-    {
-        match self {
-            Stop::Fault(fault) => StreamFault::AtLine {
-                line: number,
-                fault,
-            },
-            Stop::Memory => StreamFault::Memory,
-        }
-    }
-}
-
-impl From<AllocError> for Stop {
-    ghost use Rattle.std.specs.Prelude.{◌≡◌};
-    ghost use Rattle.brl_stream.specs.declared.output.Stop.TheVariants.{Memory};
-
-    ghost from_gives = { λ _ stop. stop ≡ Memory };
-
-    fn from(_error: AllocError) -> Stop {
-        Stop::Memory
-    }
-}
-
-impl<T: Drop> From<AllocFailed<T>> for Stop {
-    ghost use Rattle.std.specs.Prelude.{◌≡◌};
-    ghost use Rattle.brl_stream.specs.declared.output.Stop.TheVariants.{Memory};
-
-    ghost from_gives = { λ _ stop. stop ≡ Memory };
-
-    fn from(_error: AllocFailed<T>) -> Stop {
-        Stop::Memory
-    }
-}
-
-impl From<ForwardFault> for Stop {
-    ghost use Rattle.std.specs.Prelude.{◌≡◌};
-    ghost use Rattle.brl_stream.specs.Writing.{stop_of};
-
-    ghost from_gives = { λ fault stop. stop ≡ stop_of fault };
-
-    fn from(fault: ForwardFault) -> Stop {
-        match fault {
-            ForwardFault::UnknownChar(position) => Stop::Fault(LineFault::UnknownChar(position)),
-            ForwardFault::Memory => Stop::Memory,
-        }
-    }
-}
 
 /// The buffers for a line's characters and its output. The next line uses them again.
 #[derive(Drop)]
@@ -98,19 +43,38 @@ pub fn write_line<W: Output>(
     number: u64,
     scratch: &mut Scratch,
     writer: &mut W,
-) -> Result<(), StreamFault>
+) -> Result<(), Failure<StreamFault>>
     requires { length line.now ≤ 65536 }
     ensures tells { WriteTells (output_of table.now form line.now) number (W.contents writer.old) (W.contents writer.new)
         result }
-    ensures cause { IsErrOf result (StreamFault.AtLine number LineFault.OutputFailed) → W.failures writer.new ≢ W.failures writer.old }
+    ensures cause { IsErrOf result (failures.Fault (fault_at number LineFault.OutputFailed)) → W.failures writer.new ≢ W.failures writer.old }
     ensures calm { OnOk result (W.failures writer.new ≡ W.failures writer.old) }
 {
-    if let Err(stop) = make_output(alloc, table, form, line, scratch) {
-        return Err(stop.at(number));
+    if let Err(failure) = make_output(alloc, table, form, line, scratch) {
+        return Err(at_line(number, failure));
     }
     match writer.put(scratch.output.as_slice()) {
         Ok(()) => Ok(()),
-        Err(_) => Err(Stop::Fault(LineFault::OutputFailed).at(number)),
+        Err(_) => Err(at_line(number, Failure::Fault(LineFault::OutputFailed))),
+    }
+}
+
+/// The failure of a line, with the line's number.
+fn at_line(line: u64, failure: Failure<LineFault>) -> Failure<StreamFault>
+    ensures { IsChanged (λ fault found. found ≡ fault_at line fault) failure result }
+{
+    match failure {
+        Failure::Fault(fault) => Failure::Fault(StreamFault { line, fault }),
+        Failure::Memory => Failure::Memory,
+    }
+}
+
+/// A fault of translation, as one of a line.
+fn line_fault_of(fault: ForwardFault) -> LineFault
+    ensures { result ≡ of_forward fault }
+{
+    match fault {
+        ForwardFault::UnknownChar(position) => LineFault::UnknownChar(position),
     }
 }
 
@@ -121,15 +85,18 @@ fn make_output(
     form: Form,
     line: &[u8],
     scratch: &mut Scratch,
-) -> Result<(), Stop>
+) -> Result<(), Failure<LineFault>>
     requires { length line.now ≤ 65536 }
     ensures { IsMade (output_of table.now form line.now) scratch.new.output.items result }
 {
     let Ok(text) = str::from_utf8(line) else {
-        return Err(Stop::Fault(LineFault::InputNotUtf8));
+        return Err(Failure::Fault(LineFault::InputNotUtf8));
     };
     put_chars(text, &mut scratch.text)?;
-    let cells = translate(alloc, table, scratch.text.as_slice())?;
+    let cells = raise(
+        translate(alloc, table, scratch.text.as_slice()),
+        line_fault_of,
+    )?;
     scratch.output.clear();
     push_marks(form, cells.as_slice(), &mut scratch.output)?;
     scratch.output.push(b'\n')?;
@@ -148,7 +115,7 @@ fn put_chars(text: &str, buffer: &mut Vec<char>) -> Result<(), AllocError>
 }
 
 /// Adds the marks of the cells in a form.
-fn push_marks(form: Form, cells: &[Cell], output: &mut Vec<u8>) -> Result<(), Stop>
+fn push_marks(form: Form, cells: &[Cell], output: &mut Vec<u8>) -> Result<(), Failure<LineFault>>
     ensures { Pushes (marks_of form cells.now) output.old.items output.new.items result }
 {
     for cell in cells {
@@ -158,13 +125,13 @@ fn push_marks(form: Form, cells: &[Cell], output: &mut Vec<u8>) -> Result<(), St
 }
 
 /// Adds the mark of a cell in a form. `NoAscii` where it has none.
-fn push_mark(form: Form, cell: Cell, output: &mut Vec<u8>) -> Result<(), Stop>
+fn push_mark(form: Form, cell: Cell, output: &mut Vec<u8>) -> Result<(), Failure<LineFault>>
     ensures { Pushes (mark_of form cell) output.old.items output.new.items result }
 {
     match form {
         Form::Ascii => match to_ascii(cell) {
             Some(mark) => output.push(mark)?,
-            None => return Err(Stop::Fault(LineFault::NoAscii)),
+            None => return Err(Failure::Fault(LineFault::NoAscii)),
         },
         Form::Unicode => {
             let mut bytes = [0; 4];

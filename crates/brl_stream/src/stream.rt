@@ -1,12 +1,14 @@
 //! A stream: each line of an input is translated and written before the next is translated.
 ghost use Rattle.std.specs.Prelude.{◌≡◌, ◌≢◌, ℕ, List, Some, Err, OnOk};
 ghost use Rattle.std.specs.Io.KnownBytes.{IsAtEnd};
-ghost use Rattle.brl_stream.specs.Output.{verdict, output_of, HasWritten, ReadsFew, DecidesBefore, EndsBy};
+ghost use Rattle.brl_failure.specs.declared.failure.Failure.TheVariants as failures;
+ghost use Rattle.brl_stream.specs.Output.{at_line, verdict, output_of, HasWritten, ReadsFew, DecidesBefore, EndsBy};
 
 use crate::line::{Next, next_line};
 use crate::output::{Scratch, write_line};
 use crate::window::Window;
 use crate::{Form, Input, LineFault, Output, StreamFault};
+use brl_failure::Failure;
 use brl_table::Table;
 use std::alloc::Global;
 
@@ -17,37 +19,37 @@ use std::alloc::Global;
 /// The first fault ends it. At one line these decide in this order: `InputFailed`, `InputLineTooLong` (more than 65,536
 /// bytes without its end), `InputNotUtf8`, `UnknownChar`, `NoAscii`, `OutputFailed`. The lines before the fault stand
 /// written, and of the faulty one nothing, but after `OutputFailed` some first bytes may. `InputTooLong` names the
-/// line that doesn't end within the first 16,777,216 bytes of a longer input. `Memory` where a growth was refused: the
-/// outputs of some first lines stand written.
+/// line that doesn't end within the first 16,777,216 bytes of a longer input. Where memory runs out, the
+/// outputs of some first lines are written.
 pub fn translate_lines<R: Input, W: Output>(
     alloc: Global,
     table: &Table,
     form: Form,
     reader: &mut R,
     writer: &mut W,
-) -> Result<(), StreamFault>
+) -> Result<(), Failure<StreamFault>>
     ensures written { (input : List ℕ) → R.remaining reader.old ≡ Some input
         → HasWritten (verdict table.now form input) (W.contents writer.old) (W.contents writer.new) result }
     ensures whole { OnOk result (IsAtEnd (R.remaining reader.new)) }
     ensures few { ReadsFew (R.remaining reader.old) (R.remaining reader.new) }
     ensures undecided { (input : List ℕ) → R.remaining reader.old ≡ Some input
-        → (n : ℕ) → result ≡ Err (StreamFault.AtLine n LineFault.InputFailed)
+        → (n : ℕ) → result ≡ Err (failures.Fault (at_line n LineFault.InputFailed))
         → DecidesBefore n (output_of table.now form) (R.remaining reader.old) (R.remaining reader.new) }
     ensures read_failed { EndsBy LineFault.InputFailed result → R.failures reader.new ≢ R.failures reader.old }
     ensures write_failed { EndsBy LineFault.OutputFailed result → W.failures writer.new ≢ W.failures writer.old }
 {
     let Ok(mut window) = Window::new(alloc) else {
-        return Err(StreamFault::Memory);
+        return Err(Failure::Memory);
     };
     let mut scratch = Scratch::new(alloc);
     let mut number = 1;
     loop {
         match next_line(&mut window, reader) {
             Err(fault) => {
-                return Err(StreamFault::AtLine {
+                return Err(Failure::Fault(StreamFault {
                     line: number,
                     fault,
-                });
+                }));
             }
             Ok(Next::End) => return Ok(()),
             Ok(Next::Last(len)) => {

@@ -1,8 +1,10 @@
 -- Worked certificates and faults, written out as lines.
 use Rattle.std.specs.Prelude.{◌≡◌, ℕ, Bool, true, false, List, [], ◌∷◌, ◌++◌, map, Result, Err, codes}
 use Rattle.std.specs.List.{flat_map}
-use Rattle.brl_cert.specs.declared.fault.Wrong.{Wrong}
-use Rattle.brl_cert.specs.declared.fault.Wrong.TheVariants.{Version, Syntax, NotCanonical, DuplicateState, DuplicatePair, NoSuchState, WrongCount, Truncated}
+use Rattle.brl_cert.specs.Lines.{at_line}
+use Rattle.brl_cert.specs.declared.fault.CertFault.{CertFault}
+use Rattle.brl_cert.specs.declared.fault.CertFaultKind.{CertFaultKind}
+use Rattle.brl_cert.specs.declared.fault.CertFaultKind.TheVariants.{Version, Syntax, NotCanonical, DuplicateState, DuplicatePair, NoSuchState, WrongCount, Truncated}
 use Rattle.brl_window.specs.declared.state.WindowState.{WindowState}
 use Rattle.brl_cert.specs.Reading.{reading}
 use Rattle.brl_kinds.specs.declared.cert.Cert.TheVariants.{Window}
@@ -34,13 +36,13 @@ three_lines = front ++ codes "end 3 1" ∷ []
 abbrev pub start_alone : Certificate
 start_alone = Window (record { states = state 1 false [] ∷ []; pairs = [] })
 
--- bytes, what is wrong with their first faulty line, and its number
+-- bytes, the fault of their first faulty line, and its number
 pub record Row : Type 0 where
   pub bytes : List ℕ
-  pub wrong : Wrong
+  pub wrong : CertFaultKind
   pub line : ℕ
 
-abbrev pub row : List ℕ → Wrong → ℕ → Row
+abbrev pub row : List ℕ → CertFaultKind → ℕ → Row
 row bytes wrong line = record { bytes = bytes; wrong = wrong; line = line }
 
 abbrev pub faulty : List Row
@@ -101,4 +103,4 @@ faulty =
 
 -- each row is refused as it says
 abbrev pub AreRefused : List Row → Type 0
-AreRefused rows = map (λ r. reading r.bytes) rows ≡ map (λ r. let fault : Result Certificate (Wrong × ℕ) = Err (r.wrong, r.line) in fault) rows
+AreRefused rows = map (λ r. reading r.bytes) rows ≡ map (λ r. let fault : Result Certificate CertFault = Err (at_line r.line r.wrong) in fault) rows

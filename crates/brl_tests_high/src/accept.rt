@@ -1,6 +1,7 @@
 //! Worked certificates, judged.
 use crate::lines::bytes_of;
 use brl_accept::{JudgeFault, judge};
+use brl_failure::Failure;
 use brl_lines::MapSource;
 use brl_testing::cut;
 use std::alloc::Global;
@@ -86,7 +87,7 @@ fn answer(alloc: Global, source: &mut MapSource, text: &str) -> Result<String, F
     }
 }
 
-fn printed(alloc: Global, fault: &JudgeFault) -> Result<String, Fail> {
+fn printed(alloc: Global, fault: &Failure<JudgeFault>) -> Result<String, Fail> {
     Ok(fault.to_string(alloc)?)
 }
 

@@ -5,8 +5,9 @@ ghost use Rattle.brl_tests_high.specs.Certificates.{lines, three_states, three_l
 
 use crate::lines::bytes_of;
 use brl_cells::{Cell, Cells};
-use brl_cert::{Cert, CertFault, Wrong, read_cert, write_cert};
+use brl_cert::{Cert, CertFault, CertFaultKind, read_cert, write_cert};
 use brl_edges::{Body, Members};
+use brl_failure::Failure;
 use brl_pairs::Pair;
 use brl_testing::cut;
 use std::alloc::Global;
@@ -165,7 +166,7 @@ fn with_lead(alloc: Global, more: usize) -> Result<String, Fail> {
 }
 
 /// The fault of that certificate, if it has one.
-fn fault_of_lead(alloc: Global, more: usize) -> Result<Option<CertFault>, Fail> {
+fn fault_of_lead(alloc: Global, more: usize) -> Result<Option<Failure<CertFault>>, Fail> {
     let text = with_lead(alloc, more)?;
     Ok(read_cert(alloc, text.as_bytes()).err())
 }
@@ -174,11 +175,11 @@ fn fault_of_lead(alloc: Global, more: usize) -> Result<Option<CertFault>, Fail> 
 fn takes_leads_of_1024_cells(rt: HostRuntime) -> Result<(), Fail> {
     let alloc = rt.alloc();
     assert!(rt; fault_of_lead(alloc, 1023)?.is_none());
-    let fault = CertFault::Refused {
-        wrong: Wrong::Syntax,
+    let fault = CertFault {
+        kind: CertFaultKind::Syntax,
         line: 3,
     };
-    assert!(rt; fault_of_lead(alloc, 1024)? == Some(fault));
+    assert!(rt; fault_of_lead(alloc, 1024)? == Some(Failure::Fault(fault)));
     Ok(())
 }
 

@@ -5,7 +5,7 @@ use brl_cert::{Cert, write_cert};
 use brl_dues::{Dues, DuesState};
 use brl_edges::Body;
 use brl_forward::{Clash, confirm};
-use brl_search::{Found, search};
+use brl_search::{Found, Outcome, Progress, Search, search};
 use brl_table::Table;
 use brl_testing::{cut, table_of};
 use std::alloc::Global;
@@ -145,5 +145,38 @@ fn worked_certificates(rt: HostRuntime) -> Result<(), Fail> {
 fn the_start_is_more_than_none(rt: HostRuntime) -> Result<(), Fail> {
     let lines = "letter a 1; letter b 12; letter x 1-12";
     assert!(rt; finds(rt.alloc(), lines, 0, "limit: 1 states, 0 pairs")?);
+    Ok(())
+}
+
+/// How many states and pairs a search of the table has found at its start and at its end, where it
+/// runs in two slices, the first of one step.
+fn counts_of_slices(alloc: Global, table: &Table) -> Result<String, Fail> {
+    let dues = Dues::new(alloc, table);
+    let Progress::Unfinished(search) = Search::start(alloc, &dues, 1_000_000)? else {
+        return Err(Fail::from("finished at the start"));
+    };
+    let (states, pairs) = (search.state_count(), search.pair_count());
+    let Progress::Unfinished(search) = search.run(1)? else {
+        return Err(Fail::from("finished after one step"));
+    };
+    let Progress::Finished(Outcome::Closed(body)) = search.run(u64::MAX)? else {
+        return Err(Fail::from("not closed"));
+    };
+    Ok(format!(in alloc;
+        "{states} {pairs}, {} {}",
+        body.state_count(),
+        body.pair_count()
+    )?)
+}
+
+#[test]
+fn a_search_runs_in_slices(rt: HostRuntime) -> Result<(), Fail> {
+    let alloc = rt.alloc();
+    let table = table_of(
+        alloc,
+        "letter a 1; letter b 12; letter x 1-12; always ab 14",
+    )?;
+    let counts = counts_of_slices(alloc, &table)?;
+    assert!(rt; counts.as_str() == "1 0, 3 1");
     Ok(())
 }

@@ -1,5 +1,6 @@
 //! Worked cells, their spellings and their marks. Fields of rows are cut at `|`, and a cell is its number.
 use brl_cells::{Cell, Cells, DotsFault, read_dots, to_ascii, to_unicode, write_dots};
+use brl_failure::Failure;
 use brl_testing::{agree, cut, lend};
 use std::alloc::Global;
 use std::fmt::Write;
@@ -112,11 +113,11 @@ fn the_first_fault_decides(rt: HostRuntime) -> Result<(), Fail> {
 /// Writes the faults as they are printed, each with a comma.
 fn write_faults(text: &mut String) -> Result<(), Fail> {
     let faults = [
-        DotsFault::EmptyCell,
-        DotsFault::BadDot,
-        DotsFault::RepeatedDot,
-        DotsFault::TooManyCells,
-        DotsFault::Memory,
+        Failure::Fault(DotsFault::EmptyCell),
+        Failure::Fault(DotsFault::BadDot),
+        Failure::Fault(DotsFault::RepeatedDot),
+        Failure::Fault(DotsFault::TooManyCells),
+        Failure::Memory,
     ];
     for fault in faults {
         write!(text, "{fault},")?;

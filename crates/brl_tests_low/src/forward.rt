@@ -1,6 +1,7 @@
 //! Worked translations, clashes and traces: rows whose fields are cut at `|`. More of them stand in brl_tests_tool, by what the
 //! program prints.
 use brl_cells::write_dots;
+use brl_failure::Failure;
 use brl_forward::{Clash, ConfirmFault, ForwardFault, Side, Traced, confirm, trace, translate};
 use brl_table::Table;
 use brl_testing::{agree, chars, cut, with_table};
@@ -127,9 +128,9 @@ fn worked_traces(rt: HostRuntime) -> Result<(), Fail> {
 
 /// Whether the translation and the trace of `az` have a fault at the `z`, and comparisons have one at a character of either text.
 fn are_unknown(alloc: Global, table: &Table) -> bool {
-    let unknown = Some(ForwardFault::UnknownChar(1));
-    let left = Some(ConfirmFault::UnknownChar(Side::Left, 0));
-    let right = Some(ConfirmFault::UnknownChar(Side::Right, 1));
+    let unknown = Some(Failure::Fault(ForwardFault::UnknownChar(1)));
+    let left = Some(Failure::Fault(ConfirmFault::UnknownChar(Side::Left, 0)));
+    let right = Some(Failure::Fault(ConfirmFault::UnknownChar(Side::Right, 1)));
     translate(alloc, table, &['a', 'z']).err() == unknown
         && trace(alloc, table, &['a', 'z']).err() == unknown
         && confirm(alloc, table, &['z'], &['y']).err() == left

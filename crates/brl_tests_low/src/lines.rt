@@ -6,8 +6,10 @@ mod sources;
 ghost use Rattle.std.specs.Prelude.{Some};
 ghost use Rattle.brl_lines.specs.InMemory.{answer_in};
 ghost use Rattle.brl_lines.specs.Lines.{lines_over};
-ghost use Rattle.brl_lines.specs.Outcome.{Tells};
+ghost use Rattle.brl_failure.specs.Failure.{GivesAs};
+ghost use Rattle.brl_lines.specs.Views.{load_fault_view};
 
+use brl_failure::Failure;
 use brl_lines::{Line, LoadFault, Loaded, MapSource, Source, files_in_memory_law, load};
 use brl_testing::{agree, cut, lend, lend_mut, one_file};
 use std::alloc::Global;
@@ -51,8 +53,12 @@ fn file_of(alloc: Global, text: &str) -> Result<MapSource, Fail> {
 }
 
 /// Loads over files in memory. The outcome is the one that all files of the map give.
-fn load_in_memory(alloc: Global, source: &mut MapSource, root: &str) -> Result<Loaded, LoadFault>
-    ensures { Tells (λ lines. lines) (lines_over (λ path. Some (answer_in source.old path)) root.now) result }
+fn load_in_memory(
+    alloc: Global,
+    source: &mut MapSource,
+    root: &str,
+) -> Result<Loaded, Failure<LoadFault>>
+    ensures { GivesAs (λ lines. lines) load_fault_view (lines_over (λ path. Some (answer_in source.old path)) root.now) result }
 {
     files_in_memory_law(source);
     load(alloc, source, root)
@@ -83,7 +89,10 @@ fn loaded_text(alloc: Global, loaded: &Loaded) -> Result<String, Fail> {
 }
 
 /// The lines of a load as text, or why it has none.
-fn outcome_text(alloc: Global, outcome: Result<Loaded, LoadFault>) -> Result<String, Fail> {
+fn outcome_text(
+    alloc: Global,
+    outcome: Result<Loaded, Failure<LoadFault>>,
+) -> Result<String, Fail> {
     match outcome {
         Ok(loaded) => lend(loaded, |loaded| loaded_text(alloc, loaded)),
         Err(fault) => Ok(format!(in alloc; "{fault}")?),

@@ -1,13 +1,14 @@
 //! Files that can't be written.
+use brl_failure::Failure;
 use brl_lines::{Source, SourceFault};
-use brl_tool::{Files, SinkFault};
+use brl_tool::{Failed, Files};
 use std::alloc::Global;
 
 /// Files of which none can be written.
 #[derive(Drop)]
 pub struct Sealed<S> {
     pub files: S,
-    pub refusal: SinkFault,
+    pub refusal: Failure<Failed>,
 }
 
 impl<S: Source> Source for Sealed<S> {
@@ -15,7 +16,7 @@ impl<S: Source> Source for Sealed<S> {
 
     ghost faults = { λ s. S.faults s.files };
 
-    fn read(&mut self, alloc: Global, path: &str) -> Result<Vec<u8>, SourceFault> {
+    fn read(&mut self, alloc: Global, path: &str) -> Result<Vec<u8>, Failure<SourceFault>> {
         self.files.read(alloc, path)
     }
 
@@ -25,7 +26,7 @@ impl<S: Source> Source for Sealed<S> {
 }
 
 impl<S: Source> Files for Sealed<S> {
-    fn write(&mut self, _alloc: Global, _path: &str, _bytes: &[u8]) -> Result<(), SinkFault> {
+    fn write(&mut self, _alloc: Global, _path: &str, _bytes: &[u8]) -> Result<(), Failure<Failed>> {
         Err(self.refusal)
     }
 }

@@ -1,9 +1,10 @@
 //! Worked runs of the program over files, streams and words in memory.
 use crate::cases;
 use crate::files::Sealed;
+use brl_failure::Failure;
 use brl_lines::{MapSource, SourceFault};
 use brl_testing::{Broken, Closed, Refusing, cut, lines_of, one_file};
-use brl_tool::{Files, SinkFault, Watched, run};
+use brl_tool::{Failed, Files, Watched, run};
 use std::alloc::Global;
 use std::collections::BTreeMap;
 use std::io::ErrorKind;
@@ -249,14 +250,14 @@ fn tables_and_inputs_are_utf8(rt: HostRuntime) -> Result<(), Fail> {
 }
 
 /// Whether a run over a source that refuses is answered so.
-fn is_refused(alloc: Global, refusal: SourceFault, fields: &str) -> Result<bool, Fail> {
+fn is_refused(alloc: Global, refusal: Failure<SourceFault>, fields: &str) -> Result<bool, Fail> {
     let files = Refusing {
         refusal,
         failures: 0,
     };
     let mut files = Sealed {
         files,
-        refusal: SinkFault::Failed,
+        refusal: Failure::Fault(Failed),
     };
     is_answered(alloc, TRANSLATE, &mut files, b"a\n", fields)
 }
@@ -264,9 +265,21 @@ fn is_refused(alloc: Global, refusal: SourceFault, fields: &str) -> Result<bool,
 #[test]
 fn sources_refuse(rt: HostRuntime) -> Result<(), Fail> {
     let alloc = rt.alloc();
-    assert!(rt; is_refused(alloc, SourceFault::Failed, "|L2 ReadFailed t.ctb|2")?);
-    assert!(rt; is_refused(alloc, SourceFault::TooLarge, "|L9 TooLarge t.ctb|2")?);
-    assert!(rt; is_refused(alloc, SourceFault::Memory, "|Memory|3")?);
+    assert!(rt;
+        is_refused(
+            alloc,
+            Failure::Fault(SourceFault::Failed),
+            "|L2 ReadFailed t.ctb|2"
+        )?
+    );
+    assert!(rt;
+        is_refused(
+            alloc,
+            Failure::Fault(SourceFault::TooLarge),
+            "|L9 TooLarge t.ctb|2"
+        )?
+    );
+    assert!(rt; is_refused(alloc, Failure::Memory, "|Memory|3")?);
     Ok(())
 }
 

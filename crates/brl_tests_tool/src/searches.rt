@@ -2,9 +2,10 @@
 use crate::cases;
 use crate::files::Sealed;
 use crate::runs::{Outcome, files_of, is_answered, outcome_of};
+use brl_failure::Failure;
 use brl_lines::MapSource;
 use brl_testing::{cut, lines_of};
-use brl_tool::SinkFault;
+use brl_tool::Failed;
 use std::alloc::Global;
 use std::test::Fail;
 
@@ -153,14 +154,14 @@ fn worked_certificates(rt: HostRuntime) -> Result<(), Fail> {
 }
 
 /// Whether a search of a table of two letters whose certificate is refused is answered so.
-fn is_sealed(alloc: Global, refusal: SinkFault, fields: &str) -> Result<bool, Fail> {
+fn is_sealed(alloc: Global, refusal: Failure<Failed>, fields: &str) -> Result<bool, Fail> {
     let files = table_of(alloc, "letter a 1; letter b 12")?;
     is_answered(alloc, SEARCH, &mut Sealed { files, refusal }, b"", fields)
 }
 
 #[test]
 fn a_certificate_cannot_be_written(rt: HostRuntime) -> Result<(), Fail> {
-    assert!(rt; is_sealed(rt.alloc(), SinkFault::Failed, "|U7 CannotWrite o|2")?);
-    assert!(rt; is_sealed(rt.alloc(), SinkFault::Memory, "|Memory|3")?);
+    assert!(rt; is_sealed(rt.alloc(), Failure::Fault(Failed), "|U7 CannotWrite o|2")?);
+    assert!(rt; is_sealed(rt.alloc(), Failure::Memory, "|Memory|3")?);
     Ok(())
 }

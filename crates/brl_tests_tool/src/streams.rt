@@ -3,6 +3,7 @@
 ghost use Rattle.std.specs.Prelude.{◌≢◌};
 ghost use Rattle.brl_stream.specs.Output.{EndsBy};
 
+use brl_failure::Failure;
 use brl_table::Table;
 use brl_testing::{Full, Slow, cut, table_of};
 use brl_tool::{Form, Input, LineFault, Output, StreamFault, Watched, translate_lines};
@@ -74,7 +75,7 @@ fn bytes_of(alloc: Global, field: &str) -> Result<Vec<u8>, Fail> {
 }
 
 /// What a stream answers: the text of its fault, or nothing where it was translated to its end.
-fn answer_of(alloc: Global, outcome: Result<(), StreamFault>) -> Result<String, Fail> {
+fn answer_of(alloc: Global, outcome: Result<(), Failure<StreamFault>>) -> Result<String, Fail> {
     match outcome {
         Ok(()) => Ok(String::new(alloc)),
         Err(fault) => Ok(fault.to_string(alloc)?),
@@ -84,7 +85,7 @@ fn answer_of(alloc: Global, outcome: Result<(), StreamFault>) -> Result<String, 
 /// Whether a stream answers this, and has written this.
 fn ends_as(
     alloc: Global,
-    outcome: Result<(), StreamFault>,
+    outcome: Result<(), Failure<StreamFault>>,
     written: &[u8],
     fields: &str,
 ) -> Result<bool, Fail> {
@@ -99,7 +100,7 @@ fn translate_bytes(
     table: &Table,
     input: &[u8],
     writer: &mut Watched<Vec<u8>>,
-) -> Result<(), StreamFault>
+) -> Result<(), Failure<StreamFault>>
     ensures never_read { EndsBy LineFault.InputFailed result → ⊥ }
     ensures refused { EndsBy LineFault.OutputFailed result → writer.new.failures ≢ writer.old.failures }
 {
@@ -324,7 +325,7 @@ fn an_endless_line_ends(rt: HostRuntime) -> Result<(), Fail> {
 
 /// Whether a fault at line 3 is printed so.
 fn is_printed(alloc: Global, fault: LineFault, printed: &str) -> Result<bool, Fail> {
-    let fault = StreamFault::AtLine { line: 3, fault };
+    let fault = StreamFault { line: 3, fault };
     Ok(fault.to_string(alloc)?.as_str() == printed)
 }
 
@@ -342,6 +343,7 @@ fn faults_are_printed(rt: HostRuntime) -> Result<(), Fail> {
     for (fault, printed) in cases {
         assert!(rt; is_printed(rt.alloc(), fault, printed)?, "{printed}");
     }
-    assert!(rt; StreamFault::Memory.to_string(rt.alloc())?.as_str() == "Memory");
+    let memory: Failure<StreamFault> = Failure::Memory;
+    assert!(rt; memory.to_string(rt.alloc())?.as_str() == "Memory");
     Ok(())
 }

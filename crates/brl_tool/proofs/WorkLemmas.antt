@@ -1,6 +1,6 @@
 -- How the work ends where the stream ends by a fault.
 use Rattle.std.proofs.Common.{◌≡◌, ℕ, List, Option, Some, Err, inl, inr, subst, sym}
-use Rattle.brl_lines.specs.Answer.{Gives}
+use Rattle.brl_lines.specs.Answer.{MayGive}
 use Rattle.brl_lines.specs.Outcome.{CountsFailure}
 use Rattle.brl_reading.specs.Files.{IsTableOf}
 use Rattle.brl_table.specs.TableView.{TableView}
@@ -8,24 +8,25 @@ use Rattle.brl_stream.specs.Output.{HasWritten, verdict}
 use Rattle.brl_tool.specs.Status.{of_stream}
 use Rattle.brl_tool.specs.Work.{Works, load_outcome}
 use Rattle.brl_stream.specs.declared.fault.StreamFault.{StreamFault}
-use Rattle.brl_stream.specs.declared.fault.StreamFault.TheVariants as stream
+use Rattle.brl_failure.specs.declared.failure.Failure.{Failure}
+use Rattle.brl_failure.specs.declared.failure.Failure.TheVariants as failures
 use Rattle.brl_stream.specs.declared.form.Form.{Form}
 use Rattle.brl_tool.specs.declared.run_fault.RunFault.{RunFault}
 
 -- the fault of the stream is that of the work
-pub works_by_stream : (gives : Gives) (path : List ℕ) (form : Form) (input : Option (List ℕ)) (old : Option (List ℕ)) (new : Option (List ℕ)) (t : TableView) (fault : StreamFault) → IsTableOf gives path t → ((bytes : List ℕ) → input ≡ Some bytes → HasWritten (verdict t form bytes) old new (Err fault)) → Works gives path form input old new (Err (of_stream fault))
-works_by_stream gives path form input old new t stream.Memory table written = inr (t, table, written)
-works_by_stream gives path form input old new t (stream.AtLine n fault) table written = ((λ e. cc), (t, table, written))
+pub works_by_stream : (gives : MayGive) (path : List ℕ) (form : Form) (input : Option (List ℕ)) (old : Option (List ℕ)) (new : Option (List ℕ)) (t : TableView) (fault : Failure StreamFault) → IsTableOf gives path t → ((bytes : List ℕ) → input ≡ Some bytes → HasWritten (verdict t form bytes) old new (Err fault)) → Works gives path form input old new (Err (of_stream fault))
+works_by_stream gives path form input old new t failures.Memory table written = inr (t, table, written)
+works_by_stream gives path form input old new t (failures.Fault fault) table written = (t, table, written)
 
 -- the work that answers that fault
-pub works_at_error : (gives : Gives) (path : List ℕ) (form : Form) (input : Option (List ℕ)) (old : Option (List ℕ)) (new : Option (List ℕ)) (t : TableView) (fault : StreamFault) (error : RunFault) → error ≡ of_stream fault → IsTableOf gives path t → ((bytes : List ℕ) → input ≡ Some bytes → HasWritten (verdict t form bytes) old new (Err fault)) → Works gives path form input old new (Err error)
+pub works_at_error : (gives : MayGive) (path : List ℕ) (form : Form) (input : Option (List ℕ)) (old : Option (List ℕ)) (new : Option (List ℕ)) (t : TableView) (fault : Failure StreamFault) (error : RunFault) → error ≡ of_stream fault → IsTableOf gives path t → ((bytes : List ℕ) → input ≡ Some bytes → HasWritten (verdict t form bytes) old new (Err fault)) → Works gives path form input old new (Err error)
 works_at_error gives path form input old new t fault error same table written =
     subst (λ (f : RunFault). Works gives path form input old new (Err f)) (sym same) (works_by_stream gives path form input old new t fault table written)
 
 -- no file fails where the stream does
-pub count_at_stream : (before now : ℕ) (fault : StreamFault) (error : RunFault) → error ≡ of_stream fault → now ≡ before → CountsFailure before now (load_outcome {T = Unit {0}} (Err error))
+pub count_at_stream : (before now : ℕ) (fault : Failure StreamFault) (error : RunFault) → error ≡ of_stream fault → now ≡ before → CountsFailure before now (load_outcome {T = Unit {0}} (Err error))
 count_at_stream before now fault error same stays = subst (λ (f : RunFault). CountsFailure before now (load_outcome {T = Unit {0}} (Err f))) (sym same) (by_fault fault)
   where
-    by_fault : (fault : StreamFault) → CountsFailure before now (load_outcome {T = Unit {0}} (Err (of_stream fault)))
-    by_fault stream.Memory = inl stays
-    by_fault (stream.AtLine n fault) = stays
+    by_fault : (fault : Failure StreamFault) → CountsFailure before now (load_outcome {T = Unit {0}} (Err (of_stream fault)))
+    by_fault failures.Memory = inl stays
+    by_fault (failures.Fault fault) = stays

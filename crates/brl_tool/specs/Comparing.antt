@@ -1,9 +1,8 @@
 -- What the comparison of two texts comes to, and what is written of it. The project's own choice.
-use Rattle.std.specs.Prelude.{ℕ, ◌≡◌, ◌≢◌, IsTrue, List, ◌++◌, Option, Result, Ok, Err, codes}
+use Rattle.std.specs.Prelude.{ℕ, ◌≡◌, IsTrue, List, ◌++◌, Option, Result, Ok, Err, codes}
 use Rattle.std.specs.Io.KnownBytes.{Appends}
 use Rattle.brl_forward.specs.Faults.{IsFaultOfTwo}
-use Rattle.brl_forward.specs.declared.fault.ConfirmFault.TheVariants as confirm
-use Rattle.brl_lines.specs.Answer.{Gives}
+use Rattle.brl_lines.specs.Answer.{MayGive}
 use Rattle.brl_reading.specs.Files.{IsTableOf}
 use Rattle.brl_report.specs.Report.{report_text}
 use Rattle.brl_table.specs.TableView.{TableView}
@@ -24,19 +23,19 @@ IsFound t left right NoClash bytes =
 -- what two texts were found to be by a table, and what was written, by how the work ended
 abbrev pub Finds : TableView → List ℕ → List ℕ → Option (List ℕ) → Option (List ℕ) → Result Finding RunFault → Type 0
 Finds t left right old new (Ok found) = (bytes : List ℕ) × IsFound t left right found bytes × Appends old new bytes
-Finds t left right old new (Err (Confirm fault)) = (fault ≢ confirm.Memory) × IsFaultOfTwo t left right fault × (new ≡ old)
+Finds t left right old new (Err (Confirm fault)) = IsFaultOfTwo t left right fault × (new ≡ old)
 Finds t left right old new (Err OutputFailed) = (found : Finding) × (front rest : List ℕ) × IsFound t left right found (front ++ rest) × Appends old new front
 Finds t left right old new (Err Memory) = new ≡ old
 Finds t left right old new (Err fault) = ⊥
 
 -- the same by the table of the file at a path
-abbrev pub Compares : Gives → List ℕ → List ℕ → List ℕ → Option (List ℕ) → Option (List ℕ) → Result Finding RunFault → Type 0
+abbrev pub Compares : MayGive → List ℕ → List ℕ → List ℕ → Option (List ℕ) → Option (List ℕ) → Result Finding RunFault → Type 0
 Compares gives path left right old new (Err (Load fault)) = (new ≡ old) × HasNoTable gives path (Load fault)
 Compares gives path left right old new (Err (Table fault)) = (new ≡ old) × HasNoTable gives path (Table fault)
 Compares gives path left right old new (Err Memory) = new ≡ old
 Compares gives path left right old new outcome = (t : TableView) × IsTableOf gives path t × Finds t left right old new outcome
 
 -- the report of two texts that clash by the table of the file at some path was written
-abbrev pub ReportsClash : Gives → Option (List ℕ) → Option (List ℕ) → Type 0
+abbrev pub ReportsClash : MayGive → Option (List ℕ) → Option (List ℕ) → Type 0
 ReportsClash gives old new =
     (path left right cells : List ℕ) × (t : TableView) × IsTableOf gives path t × IsClash t left right cells × Appends old new (report_text t left right cells)

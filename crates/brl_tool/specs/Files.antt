@@ -1,19 +1,19 @@
 -- What becomes of files that are written. The manual leaves open where files come from: this is the project's own choice.
 use Rattle.std.specs.Prelude.{ℕ, ◌≡◌, ◌≢◌, ◌↔◌, List, Option, Some, None}
-use Rattle.brl_lines.specs.Answer.{AllStay, Answer, Gives, answer_of}
+use Rattle.brl_lines.specs.Answer.{AllStay, Answer, MayGive, answer_of}
 use Rattle.brl_lines.specs.InMemory.{bytes_in}
 use Rattle.brl_lines.specs.declared.map_source.MapSource.{MapSource}
 
 -- a source may answer the same as before for each path but this one
-abbrev pub OthersStay : Gives → Gives → List ℕ → Type 0
+abbrev pub OthersStay : MayGive → MayGive → List ℕ → Type 0
 OthersStay old new path = (p : List ℕ) (a : Answer) → p ≢ path → new p a ↔ old p a
 
 -- it may answer what a file with these bytes gives
-abbrev pub GivesAlso : Gives → List ℕ → List ℕ → Type 0
+abbrev pub GivesAlso : MayGive → List ℕ → List ℕ → Type 0
 GivesAlso gives path bytes = gives path (answer_of (Some bytes))
 
 -- the files behind work that writes one with these bytes, if any
-abbrev pub FilesAfter : Gives → Gives → List ℕ → Option (List ℕ) → Type 0
+abbrev pub FilesAfter : MayGive → MayGive → List ℕ → Option (List ℕ) → Type 0
 FilesAfter old new path None = AllStay old new
 FilesAfter old new path (Some bytes) = GivesAlso new path bytes × OthersStay old new path
 

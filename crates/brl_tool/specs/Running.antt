@@ -1,7 +1,7 @@
 -- What a run of the program comes to. The project's own choice.
 use Rattle.std.specs.Prelude.{ℕ, ◌≡◌, ◌⊎◌, List, Option, Result, Err}
 use Rattle.std.specs.Str.{chars}
-use Rattle.brl_lines.specs.Answer.{AllStay, Gives}
+use Rattle.brl_lines.specs.Answer.{AllStay, MayGive}
 use Rattle.brl_tool.specs.Checking.{Checks}
 use Rattle.brl_tool.specs.Comparing.{Compares}
 use Rattle.brl_tool.specs.Searching.{Searches}
@@ -42,30 +42,30 @@ abbrev pub FailsByWriter : {T : Type 0} → Type 0 → Result T RunFault → Typ
 FailsByWriter failed outcome = outcome ≡ Err OutputFailed → failed
 
 -- the input was translated by the table of the file at a path
-abbrev pub TranslatesBy : Gives → List ℕ → Form → Option (List ℕ) → Option (List ℕ) → Option (List ℕ) → ℕ → Type 0
+abbrev pub TranslatesBy : MayGive → List ℕ → Form → Option (List ℕ) → Option (List ℕ) → Option (List ℕ) → ℕ → Type 0
 TranslatesBy gives path form input old new status =
     (outcome : Result (Unit {0}) RunFault) × Works gives path form input old new outcome × (status ≡ status_after (λ done. 0) outcome)
 
 -- two texts were compared by the table of the file at a path
-abbrev pub ComparesBy : Gives → List ℕ → List ℕ → List ℕ → Type 0 → Option (List ℕ) → Option (List ℕ) → ℕ → Type 0
+abbrev pub ComparesBy : MayGive → List ℕ → List ℕ → List ℕ → Type 0 → Option (List ℕ) → Option (List ℕ) → ℕ → Type 0
 ComparesBy gives path left right failed old new status =
     (outcome : Result Finding RunFault) × Compares gives path left right old new outcome × FailsByWriter failed outcome
     × (status ≡ status_after finding_status outcome)
 
 -- the certificate in the file at one path was judged for the table of the file at another
-abbrev pub ChecksBy : Gives → List ℕ → List ℕ → Type 0 → Option (List ℕ) → Option (List ℕ) → ℕ → Type 0
+abbrev pub ChecksBy : MayGive → List ℕ → List ℕ → Type 0 → Option (List ℕ) → Option (List ℕ) → ℕ → Type 0
 ChecksBy gives path cert failed old new status =
     (outcome : Result Judgement RunFault) × Checks gives path cert old new outcome × FailsByWriter failed outcome
     × (status ≡ status_after judgement_status outcome)
 
 -- the table of the file at one path was searched, up to a limit, for a certificate to be written to another
-abbrev pub SearchesBy : Gives → Gives → List ℕ → List ℕ → ℕ → Type 0 → Option (List ℕ) → Option (List ℕ) → ℕ → Type 0
+abbrev pub SearchesBy : MayGive → MayGive → List ℕ → List ℕ → ℕ → Type 0 → Option (List ℕ) → Option (List ℕ) → ℕ → Type 0
 SearchesBy before behind path out limit failed old new status =
     (outcome : Result Verdict RunFault) × Searches before behind path out limit old new outcome × FailsByWriter failed outcome
     × (status ≡ status_after verdict_status outcome)
 
 -- A task was done, with the paths, texts, form and limit that it has. Only a search changes a file.
-abbrev pub Performs : Task → Gives → Gives → Option (List ℕ) → Type 0 → Option (List ℕ) → Option (List ℕ) → ℕ → Type 0
+abbrev pub Performs : Task → MayGive → MayGive → Option (List ℕ) → Type 0 → Option (List ℕ) → Option (List ℕ) → ℕ → Type 0
 Performs (task.Translate path form) before behind input failed old new status =
     AllStay before behind × TranslatesBy before path.now form input old new status
 Performs (task.Clash path left right) before behind input failed old new status =
@@ -76,7 +76,7 @@ Performs (task.Search path out limit) before behind input failed old new status 
     SearchesBy before behind path.now out.now limit failed old new status
 
 -- what a run did: the task that its words ask for; or it answered words that ask for none
-abbrev pub Runs : Gives → Gives → Option (List ℕ) → Type 0 → Option (List ℕ) → Option (List ℕ) → ℕ → Type 0
+abbrev pub Runs : MayGive → MayGive → Option (List ℕ) → Type 0 → Option (List ℕ) → Option (List ℕ) → ℕ → Type 0
 Runs before behind input failed old new status =
     ((asked : Task) × Performs asked before behind input failed old new status)
     ⊎ (AllStay before behind × IsAnswered failed old new status)

@@ -6,7 +6,7 @@ use Rattle.brl_kinds.specs.Kinds.{pair_count, state_count}
 use Rattle.brl_edges.specs.Body.{BodyView}
 use Rattle.brl_cert.specs.Reading.{reading, spelling}
 use Rattle.brl_kinds.specs.declared.cert.Cert.{Cert as Certificate}
-use Rattle.brl_lines.specs.Answer.{AllStay, Gives}
+use Rattle.brl_lines.specs.Answer.{AllStay, MayGive}
 use Rattle.brl_reading.specs.Files.{IsTableOf}
 use Rattle.brl_report.specs.Report.{report_text}
 use Rattle.brl_search.specs.Answers.{IsCertified, IsLimit}
@@ -66,7 +66,7 @@ IsFaultOfOut out fault = ⊥
 
 -- What a search of a table comes to: a certificate is written to the file OUT, and no other file changes; where there is none, no file
 -- changes.
-abbrev pub SearchesTable : TableView → Gives → Gives → List ℕ → ℕ → Option (List ℕ) → Option (List ℕ) → Result Verdict RunFault → Type 0
+abbrev pub SearchesTable : TableView → MayGive → MayGive → List ℕ → ℕ → Option (List ℕ) → Option (List ℕ) → Result Verdict RunFault → Type 0
 SearchesTable t before behind out limit old new (Ok verdict) =
     FilesAfter before behind out (cert_of verdict) × ((text : List ℕ) × IsVerdict t limit verdict text × Appends old new text)
 SearchesTable t before behind out limit old new (Err OutputFailed) =
@@ -78,7 +78,7 @@ SearchesTable t before behind out limit old new (Err Memory) = (new ≡ old) × 
 SearchesTable t before behind out limit old new (Err fault) = ⊥
 
 -- the same of the table of the file at a path
-abbrev pub Searches : Gives → Gives → List ℕ → List ℕ → ℕ → Option (List ℕ) → Option (List ℕ) → Result Verdict RunFault → Type 0
+abbrev pub Searches : MayGive → MayGive → List ℕ → List ℕ → ℕ → Option (List ℕ) → Option (List ℕ) → Result Verdict RunFault → Type 0
 Searches before behind path out limit old new (Err (Load fault)) = (new ≡ old) × AllStay before behind × HasNoTable before path (Load fault)
 Searches before behind path out limit old new (Err (Table fault)) = (new ≡ old) × AllStay before behind × HasNoTable before path (Table fault)
 Searches before behind path out limit old new (Err Memory) = (new ≡ old) × OthersStay before behind out
@@ -86,7 +86,7 @@ Searches before behind path out limit old new outcome =
     (t : TableView) × IsTableOf before path t × SearchesTable t before behind out limit old new outcome
 
 -- a certificate was written which a judge accepts for the table of the file at the path, and that table is unambiguous
-abbrev pub ReportsCertificate : Gives → Gives → List ℕ → List ℕ → Option (List ℕ) → Option (List ℕ) → Type 0
+abbrev pub ReportsCertificate : MayGive → MayGive → List ℕ → List ℕ → Option (List ℕ) → Option (List ℕ) → Type 0
 ReportsCertificate before behind path out old new =
     (t : TableView) × IsTableOf before path t × IsUnambiguous t
     × ((body : BodyView State) × IsAccepted t (spelling (certificate_of body)) (counted (certificate_of body))

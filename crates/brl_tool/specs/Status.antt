@@ -1,28 +1,28 @@
 -- The fault that ends the program, and its exit status. This is the project's own choice.
 use Rattle.std.specs.Prelude.{ℕ, ◌≡◌, ◌<◌, ◌⊎◌, List, Option, Result, Ok, Err}
 use Rattle.std.specs.Io.KnownBytes.{Appends}
+use Rattle.brl_failure.specs.declared.failure.Failure.{Failure}
+use Rattle.brl_failure.specs.declared.failure.Failure.TheVariants as failures
 use Rattle.brl_forward.specs.declared.fault.ConfirmFault.{ConfirmFault}
-use Rattle.brl_forward.specs.declared.fault.ConfirmFault.TheVariants as confirm
 use Rattle.brl_reading.specs.declared.no_table.NoTable.{NoTable}
 use Rattle.brl_reading.specs.declared.no_table.NoTable.TheVariants as no_table
 use Rattle.brl_stream.specs.declared.fault.StreamFault.{StreamFault}
-use Rattle.brl_stream.specs.declared.fault.StreamFault.TheVariants as stream
 use Rattle.brl_tool.specs.declared.run_fault.RunFault.{RunFault}
 use Rattle.brl_tool.specs.declared.run_fault.RunFault.TheVariants.{Load, Table, Stream, Confirm, Wide, OutputFailed, Memory}
 
 -- out of memory is the same fault wherever it came
-abbrev pub of_no_table : NoTable → RunFault
-of_no_table (no_table.Load fault) = Load fault
-of_no_table (no_table.Table fault) = Table fault
-of_no_table no_table.Memory = Memory
+abbrev pub of_no_table : Failure NoTable → RunFault
+of_no_table (failures.Fault (no_table.Load fault)) = Load fault
+of_no_table (failures.Fault (no_table.Table fault)) = Table fault
+of_no_table failures.Memory = Memory
 
-abbrev pub of_stream : StreamFault → RunFault
-of_stream stream.Memory = Memory
-of_stream fault = Stream fault
+abbrev pub of_stream : Failure StreamFault → RunFault
+of_stream (failures.Fault fault) = Stream fault
+of_stream failures.Memory = Memory
 
-abbrev pub of_confirm : ConfirmFault → RunFault
-of_confirm confirm.Memory = Memory
-of_confirm fault = Confirm fault
+abbrev pub of_confirm : Failure ConfirmFault → RunFault
+of_confirm (failures.Fault fault) = Confirm fault
+of_confirm failures.Memory = Memory
 
 -- 3 for want of memory and for a table that is too wide, 2 for every other fault
 abbrev pub status_of : RunFault → ℕ

@@ -30,7 +30,7 @@ pub fn translate_by_file<S: Source, R: Input, W: Output>(
     let table = load_table(alloc, source, path)?;
     match translate_lines(alloc, &table, form, reader, writer) {
         Ok(()) => Ok(()),
-        Err(fault) => Err(fault.into()),
+        Err(failure) => Err(failure.into()),
     }
 }
 

@@ -9,7 +9,8 @@ use crate::Output;
 use crate::judgement::Judgement;
 use crate::run_fault::RunFault;
 use brl_accept::judge;
-use brl_lines::{LoadFault, MOST_FILE_BYTES, Refused, Source, SourceFault};
+use brl_failure::Failure;
+use brl_lines::{LoadFault, LoadFaultKind, MOST_FILE_BYTES, Source, SourceFault};
 use std::alloc::Global;
 
 /// The bytes of the certificate's file.
@@ -25,15 +26,15 @@ fn bytes_at<S: Source>(alloc: Global, source: &mut S, path: &str) -> Result<Vec<
             if bytes.len() <= MOST_FILE_BYTES {
                 return Ok(bytes);
             }
-            Refused::TooLarge
+            LoadFaultKind::TooLarge
         }
-        Err(SourceFault::TooLarge) => Refused::TooLarge,
-        Err(SourceFault::NotFound) => Refused::NotFound,
-        Err(SourceFault::Failed) => Refused::ReadFailed,
-        Err(SourceFault::Memory) => return Err(RunFault::Memory),
+        Err(Failure::Fault(SourceFault::TooLarge)) => LoadFaultKind::TooLarge,
+        Err(Failure::Fault(SourceFault::NotFound)) => LoadFaultKind::NotFound,
+        Err(Failure::Fault(SourceFault::Failed)) => LoadFaultKind::ReadFailed,
+        Err(Failure::Memory) => return Err(RunFault::Memory),
     };
     let path = String::from_str(alloc, path)?;
-    Err(RunFault::Load(LoadFault::Refused {
+    Err(RunFault::Load(LoadFault {
         kind,
         path,
         place: None,

@@ -7,6 +7,7 @@ use crate::counts::counts_text;
 use crate::run_fault::RunFault;
 use brl_accept::{AcceptFault, Accepted, JudgeFault};
 use brl_cert::CertFault;
+use brl_failure::Failure;
 use std::alloc::{AllocError, Global};
 
 /// What a certificate is found to be for a table.
@@ -27,18 +28,18 @@ const ACCEPTED: u8 = 0;
 const REFUSED: u8 = 1;
 
 impl Judgement {
-    /// What a judge's outcome tells of the certificate; a fault of the table, or want of memory, tells nothing of it.
-    pub fn of(outcome: Result<Accepted, JudgeFault>) -> Result<Judgement, RunFault>
+    /// What a judge's outcome tells of the certificate; a fault of the table, or a full
+    /// memory, tells nothing of it.
+    pub fn of(outcome: Result<Accepted, Failure<JudgeFault>>) -> Result<Judgement, RunFault>
         ensures { result ≡ judgement_of outcome }
     {
         match outcome {
             Ok(accepted) => Ok(Judgement::Accepting(accepted)),
-            Err(JudgeFault::Load(fault)) => Err(RunFault::Load(fault)),
-            Err(JudgeFault::Table(fault)) => Err(RunFault::Table(fault)),
-            Err(JudgeFault::Cert(fault)) => Ok(Judgement::Unreadable(fault)),
-            Err(JudgeFault::Wide(fault)) => Err(RunFault::Wide(fault)),
-            Err(JudgeFault::Refused(fault)) => Ok(Judgement::Refusing(fault)),
-            Err(JudgeFault::Memory) => Err(RunFault::Memory),
+            Err(Failure::Fault(JudgeFault::NoTable(fault))) => Err(Failure::Fault(fault).into()),
+            Err(Failure::Fault(JudgeFault::Cert(fault))) => Ok(Judgement::Unreadable(fault)),
+            Err(Failure::Fault(JudgeFault::Wide(fault))) => Err(RunFault::Wide(fault)),
+            Err(Failure::Fault(JudgeFault::Refused(fault))) => Ok(Judgement::Refusing(fault)),
+            Err(Failure::Memory) => Err(RunFault::Memory),
         }
     }
 

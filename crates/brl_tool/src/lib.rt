@@ -17,5 +17,5 @@ mod verdict;
 pub use brl_stream::{
     Failed, Form, Input, LineFault, Output, StreamFault, Watched, translate_lines,
 };
-pub use files::{Files, SinkFault};
+pub use files::Files;
 pub use program::run;

@@ -1,5 +1,6 @@
 //! Why the program stopped before its work was done.
 use crate::{Failed, StreamFault};
+use brl_failure::Failure;
 use brl_forward::ConfirmFault;
 use brl_lines::LoadFault;
 use brl_reading::{NoTable, TableFault};
@@ -10,8 +11,8 @@ use thiserror::Error;
 /// The status of a fault of the words, the table, a text, the input or the output.
 pub const FAULT: u8 = 2;
 
-/// The status of want of memory.
-const WANT_OF_MEMORY: u8 = 3;
+/// The status of a full memory.
+const OUT_OF_MEMORY: u8 = 3;
 
 /// The status of a table that is too wide for a certificate of version 1.
 const TOO_WIDE: u8 = 3;
@@ -40,7 +41,7 @@ pub enum RunFault {
     /// The file at this path couldn't be written; what stands there isn't known.
     #[error("U7 CannotWrite {0}")]
     CannotWrite(String),
-    /// A growth was refused.
+    /// Memory ran out.
     #[error("Memory")]
     Memory,
 }
@@ -49,13 +50,13 @@ impl RunFault {
     ghost use Rattle.std.specs.Prelude.{◌≡◌};
     ghost use Rattle.brl_tool.specs.Status.{status_of};
 
-    /// The exit status: 3 for want of memory and for a table that is too wide for a certificate of
+    /// The exit status: 3 where memory ran out and for a table that is too wide for a certificate of
     /// version 1, else 2.
     pub fn status(&self) -> u8
         ensures { result ≡ status_of self.now }
     {
         match self {
-            RunFault::Memory => WANT_OF_MEMORY,
+            RunFault::Memory => OUT_OF_MEMORY,
             RunFault::Wide(_) => TOO_WIDE,
             _ => FAULT,
         }
@@ -73,45 +74,45 @@ impl From<AllocError> for RunFault {
     }
 }
 
-impl From<NoTable> for RunFault {
+impl From<Failure<NoTable>> for RunFault {
     ghost use Rattle.std.specs.Prelude.{◌≡◌};
     ghost use Rattle.brl_tool.specs.Status.{of_no_table};
 
-    ghost from_gives = { λ none fault. fault ≡ of_no_table none };
+    ghost from_gives = { λ failure fault. fault ≡ of_no_table failure };
 
-    fn from(fault: NoTable) -> RunFault {
-        match fault {
-            NoTable::Load(refused) => RunFault::Load(refused),
-            NoTable::Table(refused) => RunFault::Table(refused),
-            NoTable::Memory => RunFault::Memory,
+    fn from(failure: Failure<NoTable>) -> RunFault {
+        match failure {
+            Failure::Fault(NoTable::Load(fault)) => RunFault::Load(fault),
+            Failure::Fault(NoTable::Table(fault)) => RunFault::Table(fault),
+            Failure::Memory => RunFault::Memory,
         }
     }
 }
 
-impl From<StreamFault> for RunFault {
+impl From<Failure<StreamFault>> for RunFault {
     ghost use Rattle.std.specs.Prelude.{◌≡◌};
     ghost use Rattle.brl_tool.specs.Status.{of_stream};
 
-    ghost from_gives = { λ stream fault. fault ≡ of_stream stream };
+    ghost from_gives = { λ failure fault. fault ≡ of_stream failure };
 
-    fn from(fault: StreamFault) -> RunFault {
-        match fault {
-            StreamFault::Memory => RunFault::Memory,
-            at_line => RunFault::Stream(at_line),
+    fn from(failure: Failure<StreamFault>) -> RunFault {
+        match failure {
+            Failure::Fault(fault) => RunFault::Stream(fault),
+            Failure::Memory => RunFault::Memory,
         }
     }
 }
 
-impl From<ConfirmFault> for RunFault {
+impl From<Failure<ConfirmFault>> for RunFault {
     ghost use Rattle.std.specs.Prelude.{◌≡◌};
     ghost use Rattle.brl_tool.specs.Status.{of_confirm};
 
-    ghost from_gives = { λ confirm fault. fault ≡ of_confirm confirm };
+    ghost from_gives = { λ failure fault. fault ≡ of_confirm failure };
 
-    fn from(fault: ConfirmFault) -> RunFault {
-        match fault {
-            ConfirmFault::Memory => RunFault::Memory,
-            unknown => RunFault::Confirm(unknown),
+    fn from(failure: Failure<ConfirmFault>) -> RunFault {
+        match failure {
+            Failure::Fault(fault) => RunFault::Confirm(fault),
+            Failure::Memory => RunFault::Memory,
         }
     }
 }

@@ -8,7 +8,8 @@ ghost use Rattle.brl_tool.specs.Work.{load_outcome};
 use crate::notices::tell_notices;
 use crate::run_fault::RunFault;
 use crate::verdict::{Verdict, decide};
-use crate::{Files, Output, SinkFault};
+use crate::{Failed, Files, Output};
+use brl_failure::Failure;
 use brl_reading::load_table;
 use brl_table::Table;
 use std::alloc::Global;
@@ -28,8 +29,8 @@ fn write_at<F: Files>(
 {
     match files.write(alloc, path, bytes) {
         Ok(()) => Ok(()),
-        Err(SinkFault::Memory) => Err(RunFault::Memory),
-        Err(SinkFault::Failed) => {
+        Err(Failure::Memory) => Err(RunFault::Memory),
+        Err(Failure::Fault(Failed)) => {
             let path = String::from_str(alloc, path)?;
             Err(RunFault::CannotWrite(path))
         }

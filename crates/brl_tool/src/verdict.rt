@@ -7,7 +7,7 @@ use crate::counts::counts_text;
 use crate::run_fault::RunFault;
 use brl_cert::{Cert, write_cert};
 use brl_report::report;
-use brl_search::{Found, SearchFault, search};
+use brl_search::{Found, search};
 use brl_table::Table;
 use std::alloc::{AllocError, Global};
 
@@ -77,12 +77,11 @@ fn certified(alloc: Global, cert: &Cert) -> Result<Told, RunFault>
 pub fn decide(alloc: Global, table: &Table, limit: u32) -> Result<Told, RunFault>
     ensures { Tells table.now limit result }
 {
-    match search(alloc, table, u64::from(limit)) {
-        Ok(Found::Certified(cert)) => certified(alloc, &cert),
-        Ok(Found::Clashing(clash)) => with_text(Verdict::Clash, report(alloc, table, &clash)),
-        Ok(Found::Limit { states, pairs }) => {
+    match search(alloc, table, u64::from(limit))? {
+        Found::Certified(cert) => certified(alloc, &cert),
+        Found::Clashing(clash) => with_text(Verdict::Clash, report(alloc, table, &clash)),
+        Found::Limit { states, pairs } => {
             with_text(Verdict::Limit, counts_text(alloc, "limit", states, pairs))
         }
-        Err(SearchFault::Memory) => Err(RunFault::Memory),
     }
 }

@@ -4,6 +4,7 @@ ghost use Rattle.brl_lines.specs.Examples.{circle_refused, in_a_circle, lacking,
 ghost use Rattle.brl_lines.specs.Lines.{lines_of};
 
 use super::{bytes_of, outcome};
+use brl_failure::Failure;
 use brl_lines::{MapSource, Source, SourceFault};
 use brl_testing::{agree, cut};
 use std::alloc::Global;
@@ -96,14 +97,14 @@ impl Source for Watched {
 
     ghost faults = { λ s. s.failures };
 
-    fn read(&mut self, alloc: Global, path: &str) -> Result<Vec<u8>, SourceFault> {
+    fn read(&mut self, alloc: Global, path: &str) -> Result<Vec<u8>, Failure<SourceFault>> {
         self.reads = self.reads.saturating_add(1);
         if self.reads == self.failing {
             self.failures = self.failures.saturating_add(1);
-            return Err(SourceFault::Failed);
+            return Err(Failure::Fault(SourceFault::Failed));
         }
         match self.files.read(alloc, path) {
-            Err(SourceFault::Failed) => Err(SourceFault::NotFound),
+            Err(Failure::Fault(SourceFault::Failed)) => Err(Failure::Fault(SourceFault::NotFound)),
             outcome => outcome,
         }
     }

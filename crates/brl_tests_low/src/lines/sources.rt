@@ -1,5 +1,6 @@
 //! Sources: files that are refused, readers, and the files of a system.
 use super::{file_of, refused};
+use brl_failure::Failure;
 use brl_lines::{FileSource, Source, SourceFault, read_whole};
 use brl_testing::{Broken, Refusing, agree, cut, lend_mut, one_file};
 use std::alloc::Global;
@@ -18,8 +19,8 @@ impl Source for LineFeeds {
 
     ghost faults = { λ _. 0 };
 
-    fn read(&mut self, alloc: Global, _path: &str) -> Result<Vec<u8>, SourceFault> {
-        vec![in alloc; b'\n'; self.count].map_err(|_| SourceFault::Memory)
+    fn read(&mut self, alloc: Global, _path: &str) -> Result<Vec<u8>, Failure<SourceFault>> {
+        vec![in alloc; b'\n'; self.count].map_err(|_| Failure::Memory)
     }
 
     fn failures(&self) -> u64 {
@@ -33,7 +34,7 @@ fn refused_and_failures<S: Source>(alloc: Global, source: &mut S) -> Result<Stri
     Ok(format!(in alloc; "{text}, {} failed;", source.failures())?)
 }
 
-fn refusal_of(alloc: Global, refusal: SourceFault, failures: u64) -> Result<String, Fail> {
+fn refusal_of(alloc: Global, refusal: Failure<SourceFault>, failures: u64) -> Result<String, Fail> {
     refused_and_failures(alloc, &mut Refusing { refusal, failures })
 }
 
@@ -41,10 +42,10 @@ fn refusal_of(alloc: Global, refusal: SourceFault, failures: u64) -> Result<Stri
 fn refusals_of(alloc: Global) -> Result<String, Fail> {
     let mut text = String::new(alloc);
     for refusal in [
-        SourceFault::NotFound,
-        SourceFault::Failed,
-        SourceFault::TooLarge,
-        SourceFault::Memory,
+        Failure::Fault(SourceFault::NotFound),
+        Failure::Fault(SourceFault::Failed),
+        Failure::Fault(SourceFault::TooLarge),
+        Failure::Memory,
     ] {
         text.push_str(refusal_of(alloc, refusal, 0)?.as_str())?;
     }
@@ -55,7 +56,7 @@ fn refusals_of(alloc: Global) -> Result<String, Fail> {
 fn refusals(rt: HostRuntime) -> Result<(), Fail> {
     let given = refusals_of(rt.alloc())?;
     let want = "L1 NotFound t.ctb, 0 failed;L2 ReadFailed t.ctb, 1 failed;\
-        L9 TooLarge t.ctb, 0 failed;out of memory, 0 failed;";
+        L9 TooLarge t.ctb, 0 failed;Memory, 0 failed;";
     agree("refusals", given.as_str(), want)
 }
 
@@ -95,7 +96,7 @@ fn files_that_are_too_large(rt: HostRuntime) -> Result<(), Fail> {
 
 #[test]
 fn a_failure_counts_to_the_greatest_number(rt: HostRuntime) -> Result<(), Fail> {
-    let given = refusal_of(rt.alloc(), SourceFault::Failed, u64::MAX)?;
+    let given = refusal_of(rt.alloc(), Failure::Fault(SourceFault::Failed), u64::MAX)?;
     let want = "L2 ReadFailed t.ctb, 18446744073709551615 failed;";
     agree("the greatest number", given.as_str(), want)
 }
@@ -114,26 +115,26 @@ fn readers(rt: HostRuntime) -> Result<(), Fail> {
 }
 
 /// The fault of a reader that gives this many bytes and then fails.
-fn fault_of(alloc: Global, bytes: usize, kind: ErrorKind) -> Option<SourceFault> {
+fn fault_of(alloc: Global, bytes: usize, kind: ErrorKind) -> Option<Failure<SourceFault>> {
     let mut reader = Broken { bytes, kind };
     read_whole(alloc, &mut reader, &mut [0u8; 4]).err()
 }
 
 #[test]
 fn readers_that_fail(rt: HostRuntime) {
-    let failed = Some(SourceFault::Failed);
+    let failed = Some(Failure::Fault(SourceFault::Failed));
     assert!(rt; fault_of(rt.alloc(), 100_000, ErrorKind::Interrupted) == failed);
     assert!(rt; fault_of(rt.alloc(), 100_000, ErrorKind::NotFound) == failed);
     assert!(rt; fault_of(rt.alloc(), 100_000, ErrorKind::Other) == failed);
-    let too_large = Some(SourceFault::TooLarge);
+    let too_large = Some(Failure::Fault(SourceFault::TooLarge));
     assert!(rt; fault_of(rt.alloc(), 16_777_217, ErrorKind::Other) == too_large);
 }
 
 /// Whether paths without a file are refused, and only the one that can't be read counts as a failure.
 fn are_refused<S: Source>(alloc: Global, source: &mut S) -> bool {
-    source.read(alloc, "no_such_file.ctb").err() == Some(SourceFault::NotFound)
+    source.read(alloc, "no_such_file.ctb").err() == Some(Failure::Fault(SourceFault::NotFound))
         && source.failures() == 0
-        && source.read(alloc, ".").err() == Some(SourceFault::Failed)
+        && source.read(alloc, ".").err() == Some(Failure::Fault(SourceFault::Failed))
         && source.failures() == 1
 }
 
@@ -143,7 +144,7 @@ fn gives_bytes<S: Source>(
     source: &mut S,
     path: &str,
     bytes: &[u8],
-) -> Result<bool, SourceFault> {
+) -> Result<bool, Failure<SourceFault>> {
     let read = source.read(alloc, path)?;
     Ok(read.as_slice() == bytes && source.failures() == 1)
 }

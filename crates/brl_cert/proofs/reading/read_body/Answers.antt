@@ -16,15 +16,15 @@ returns-in_err-take_line-clause-fault g c =
 
 pub returns-then-place-last-clause-fault : goal.returns-then-place-last-clause-fault
 returns-then-place-last-clause-fault g c =
-    lines_behind g.V.Version.form (λ part. part.now) c.args.parts.now _ (c.loop-place.place + 2) c.loop-place.reader c.loop-place.place _ c.loop-place.invariant (omega arith)
+    rw c.at.ensures (lines_behind g.V.Version.form (λ part. part.now) c.args.parts.now _ (c.loop-place.place + 2) c.loop-place.reader c.loop-place.place _ c.loop-place.invariant (omega arith)
     c.take_line.new.self
-    (c.in_ok-take_line.ensures.ok ∙ ap (λ b. Ok (b, c.take_line.new.self)) c.if-branch.true) _ (omega arith)
+    (c.in_ok-take_line.ensures.ok ∙ ap (λ b. Ok (b, c.take_line.new.self)) c.if-branch.true) _ (omega arith))
 
 pub returns-then-not-is_empty-clause-fault : goal.returns-then-not-is_empty-clause-fault
 returns-then-not-is_empty-clause-fault g c =
-    bytes_behind g.V.Version.form (λ part. part.now) c.args.parts.now _ (c.loop-place.place + 2) c.loop-place.reader c.loop-place.place _ c.loop-place.invariant (omega arith)
+    rw c.at-then-not-is_empty.ensures (bytes_behind g.V.Version.form (λ part. part.now) c.args.parts.now _ (c.loop-place.place + 2) c.loop-place.reader c.loop-place.place _ c.loop-place.invariant (omega arith)
     c.take_line.new.self
-    (c.in_ok-take_line.ensures.ok ∙ ap (λ b. Ok (b, c.take_line.new.self)) c.if-branch.true) _ (length c.args.parts.now - 1) (omega arith) (omega arith) (let h = c.is_empty.ensures in let f = c.if-not-is_empty.true in cc)
+    (c.in_ok-take_line.ensures.ok ∙ ap (λ b. Ok (b, c.take_line.new.self)) c.if-branch.true) _ (length c.args.parts.now - 1) (omega arith) (omega arith) (let h = c.is_empty.ensures in let f = c.if-not-is_empty.true in cc))
 
 pub returns-then-branch-clause-body : goal.returns-then-branch-clause-body
 returns-then-branch-clause-body g c =
@@ -34,4 +34,4 @@ returns-then-branch-clause-body g c =
 
 pub returns-clause-fault : goal.returns-clause-fault
 returns-clause-fault g c =
-    cut g.V.Version.form (λ part. part.now) c.args.parts.now (c.loop-place.place + 2) c.loop-place.reader c.loop-place.place _ c.loop-place.invariant (omega arith) _ (omega arith)
+    rw c.at-2.ensures (cut g.V.Version.form (λ part. part.now) c.args.parts.now (c.loop-place.place + 2) c.loop-place.reader c.loop-place.place _ c.loop-place.invariant (omega arith) _ (omega arith))

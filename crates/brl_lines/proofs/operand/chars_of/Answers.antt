@@ -3,5 +3,5 @@ use Rattle.std.proofs.lemmas.Grind.{common_steps}
 use Rattle.brl_lines.proofs.EscapeLemmas.{spelled-end}
 use Rattle.brl_lines.proofs.operand.chars_of.Goals as goal
 
-pub returns-clause-ok : goal.returns-clause-ok
-returns-clause-ok c = spelled-end _ _ _ c.loop-rest.invariant.same (grind (arith, common_steps))
+pub returns : goal.returns
+returns c = spelled-end _ _ _ c.loop-rest.invariant.same (grind (arith, common_steps))

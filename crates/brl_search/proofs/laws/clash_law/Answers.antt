@@ -1,4 +1,4 @@
-use Rattle.brl_search.proofs.Twins.{alike_from_paths, clash_of_table}
+use Rattle.brl_search.proofs.TwoRuns.{alike_from_paths, clash_of_table}
 use Rattle.brl_search.proofs.laws.clash_law.Goals as goal
 
 pub returns : goal.returns

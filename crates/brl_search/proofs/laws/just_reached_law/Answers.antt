@@ -1,4 +1,4 @@
-use Rattle.brl_search.proofs.Twins.{listed_closed}
+use Rattle.brl_search.proofs.TwoRuns.{listed_closed}
 use Rattle.brl_search.proofs.laws.just_reached_law.Goals as goal
 
 pub returns : goal.returns

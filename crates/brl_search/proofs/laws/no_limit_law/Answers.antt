@@ -1,4 +1,4 @@
-use Rattle.brl_search.proofs.Twins.{no_limit}
+use Rattle.brl_search.proofs.TwoRuns.{no_limit}
 use Rattle.brl_search.proofs.laws.no_limit_law.Goals as goal
 
 pub returns : goal.returns

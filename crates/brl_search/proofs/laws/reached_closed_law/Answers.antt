@@ -1,4 +1,4 @@
-use Rattle.brl_search.proofs.Twins.{reached_closed}
+use Rattle.brl_search.proofs.TwoRuns.{reached_closed}
 use Rattle.brl_search.proofs.laws.reached_closed_law.Goals as goal
 
 pub returns : goal.returns

@@ -1,4 +1,4 @@
-use Rattle.brl_search.proofs.Twins.{clash_from_ends}
+use Rattle.brl_search.proofs.TwoRuns.{clash_from_ends}
 use Rattle.brl_search.proofs.laws.two_ends_law.Goals as goal
 
 pub returns : goal.returns

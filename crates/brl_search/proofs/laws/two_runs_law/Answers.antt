@@ -1,4 +1,4 @@
-use Rattle.brl_search.proofs.Twins.{two_runs}
+use Rattle.brl_search.proofs.TwoRuns.{two_runs}
 use Rattle.brl_search.proofs.laws.two_runs_law.Goals as goal
 
 pub returns : goal.returns

@@ -1,12 +1,13 @@
-use Rattle.std.proofs.Common.{◌≡◌, ◌≤◌, ◌<◌, ◌∙◌, ap, refl, sym, subst, arith, length, take, Ok, Err, Result, List, ℕ, length-drop}
+use Rattle.std.proofs.Common.{◌≤◌, ◌<◌, ◌∙◌, ap, refl, sym, subst, arith, length, take, Ok, Err, Result, List, ℕ, length-drop}
 use Rattle.brl_stream.specs.Window.{NextTells}
 use Rattle.brl_stream.specs.Writing.{WriteTells}
 use Rattle.brl_stream.specs.Output.{output_of, HasWritten, DecidesBefore, verdict}
 use Rattle.brl_stream.specs.declared.fault.LineFault.{LineFault}
 use Rattle.brl_stream.specs.declared.fault.LineFault.TheVariants as faults
 use Rattle.brl_stream.specs.declared.fault.StreamFault.{StreamFault}
+use Rattle.brl_failure.specs.declared.failure.Failure.{Failure}
 use Rattle.brl_stream.proofs.OutputLemmas.{output_of-long}
-use Rattle.brl_stream.proofs.StreamLemmas.{stands_start, stands_read, stands_next, line_written, tail_written, all_written, next_written, reads_few, decides_before, err_is, has_whole}
+use Rattle.brl_stream.proofs.StreamLemmas.{stands_start, stands_read, stands_next, line_written, tail_written, all_written, next_written, reads_few, decides_before, err_is, has_whole, same_line}
 use Rattle.brl_stream.proofs.stream.translate_lines.Goals as goal
 
 pub loop-fault-init : goal.loop-fault-init
@@ -32,8 +33,9 @@ returns-in-Err-clause-few g c =
 
 pub returns-in-Err-clause-undecided : goal.returns-in-Err-clause-undecided
 returns-in-Err-clause-undecided g c = λ input known n same.
-    let fault : c.in-Err.fault ≡ faults.InputFailed = cc in
-    let number : c.loop-fault.number ≡ n = cc in
+    let both = same_line c.loop-fault.number n c.in-Err.fault faults.InputFailed same in
+    let number = both.0 in
+    let fault = both.1 in
     let output = output_of c.args.table.now c.args.form in
     let before = g.R.Input.remaining c.args.reader.now in
     let after = g.R.Input.remaining c.next_line.new.reader in
@@ -79,7 +81,7 @@ returns-in_err-write_line-in-Ok-Line-clause-written g c = λ input known.
     let wrote = subst (λ (bytes : List ℕ). WriteTells (output_of table c.args.form (take len bytes)) c.loop-fault.number (g.W.Output.contents c.loop-fault.writer) (g.W.Output.contents c.write_line-in-Ok-Line.new.writer) (Err fault))
     c.bytes-in-Ok-Line.ensures.bytes c.in_err-write_line-in-Ok-Line.ensures.tells in
     let same = err_is c.from_residual.result fault c.from_residual.ensures.1 in
-    subst (λ (r : Result (Unit {0}) StreamFault). HasWritten (verdict table c.args.form input) (g.W.Output.contents c.args.writer.now) (g.W.Output.contents c.write_line-in-Ok-Line.new.writer) r) (sym same)
+    subst (λ (r : Result (Unit {0}) (Failure StreamFault)). HasWritten (verdict table c.args.form input) (g.W.Output.contents c.args.writer.now) (g.W.Output.contents c.write_line-in-Ok-Line.new.writer) r) (sym same)
     (line_written table c.args.form _ _ _ _ _ _ _ stands c.in-Ok-Line.ensures.within len c.in-Ok-Line.whole tells fault wrote input known)
 
 pub returns-in_err-write_line-in-Ok-Line-clause-few : goal.returns-in_err-write_line-in-Ok-Line-clause-few

@@ -1,7 +1,8 @@
 use Rattle.std.proofs.Common.{◌≡◌, ◌⊎◌, subst, ℕ, List, Err, IfOk, IfErr, Ok}
 use Rattle.brl_accept.specs.Judging.{IsAccepted, IsRefusedBy}
 use Rattle.brl_accept.specs.declared.accepted.Accepted.{Accepted}
-use Rattle.brl_accept.specs.declared.judge_fault.JudgeFault.TheVariants.{Memory}
+use Rattle.brl_failure.specs.Failure.{IfFault}
+use Rattle.brl_failure.specs.declared.failure.Failure.TheVariants.{Memory}
 use Rattle.brl_lines.specs.Answer.{GivesOneAnswer}
 use Rattle.brl_reading.specs.Files.{IsTableOf}
 use Rattle.brl_table.specs.TableView.{TableView}
@@ -16,7 +17,7 @@ returns-clause-judges g c =
     judged (g.S.Source.gives c.args.source.now) behind c.in_ok-bytes.ensures.same c.args.table.now c.args.cert.now c.in_ok-bytes.bytes.items c.in_ok-bytes.ensures.bytes
     c.judge.result
     (subst (λ (bytes : List ℕ). IfOk c.judge.result (λ accepted. (t : TableView) × IsTableOf behind c.args.table.now t × IsUnambiguous t × IsAccepted t bytes accepted)) same c.judge.ensures.accepted)
-    (subst (λ (bytes : List ℕ). IfErr c.judge.result (IsRefusedBy behind c.args.table.now bytes)) same c.judge.ensures.refused)
+    (subst (λ (bytes : List ℕ). IfErr c.judge.result (IfFault (IsRefusedBy behind c.args.table.now bytes))) same c.judge.ensures.refused)
     c.of.result c.of.ensures
 
 pub returns-clause-accepts : goal.returns-clause-accepts

@@ -1,9 +1,9 @@
 use Rattle.std.proofs.Common.{◌+◌, ◌<◌, ◌++◌, ◌∷◌, [], ◌⊎◌, inl, inr, ◌∙◌, ap, sym, Some, arith, length}
 use Rattle.brl_lines.specs.Views.{line_view}
-use Rattle.brl_reading.specs.declared.table_fault.Wrong.TheVariants.{TooMany}
+use Rattle.brl_reading.specs.declared.table_fault.TableFaultKind.TheVariants.{TooMany}
 use Rattle.brl_reading.specs.Items.{fault}
 use Rattle.brl_reading.specs.Reading.{fault_behind}
-use Rattle.brl_reading.proofs.ItemSteps.{fault-too_many, signs-within}
+use Rattle.brl_reading.proofs.ItemSteps.{fault-too_many, refused-adds, signs-within}
 use Rattle.brl_reading.proofs.reading.Said.add.Goals as goal
 use Rattle.brl_reading.proofs.reading.Said.add.Goals.{then-len-gt-MOST_CHARACTERS-via-then-len-gt-MOST_CHARACTERS, then-len-gt-MOST_CHARACTERS-via-else-len-gt-MOST_CHARACTERS+then-self-gt-MOST_RULES}
 
@@ -19,26 +19,27 @@ returns-then-len-gt-MOST_CHARACTERS c =
       | then-len-gt-MOST_CHARACTERS-via-then-len-gt-MOST_CHARACTERS w ↦ inl (omega (arith, c.len.ensures.len))
       | then-len-gt-MOST_CHARACTERS-via-else-len-gt-MOST_CHARACTERS+then-self-gt-MOST_RULES w ↦ inr (omega arith)
     ] in
-    ap (fault_behind said line) c.in-Ok.ensures.item
-    ∙ fault-too_many said line c.in-Ok.item once characters c.count.new.self.signs used c.in_ok-count.ensures.stands many
-    ∙ ap (λ opcode. Some (fault TooMany opcode)) (sym c.opcode_in-opcode.ensures)
+    refused-adds said line c.args.file _ _ _ _ _ (fault TooMany c.opcode_in-opcode.result.now) c.refuse-then-len-gt-MOST_CHARACTERS.result c.refuse-then-len-gt-MOST_CHARACTERS.ensures
+    (ap (fault_behind said line) c.in_ok-item.ensures.item
+    ∙ fault-too_many said line c.in_ok-item.item once characters c.count.new.self.signs used c.in_ok-count.ensures.stands many
+    ∙ ap (λ opcode. Some (fault TooMany opcode)) (sym c.opcode_in-opcode.ensures))
 
 pub returns : goal.returns
 returns c =
     let said = c.args.self.now.items.items in
-    let item = c.in-Ok.item in
+    let item = c.in_ok-item.item in
     let signs = c.count.new.self.signs in
     let once = sym (c.is_twice.ensures said c.requires.stands.indicated) ∙ c.if-is_twice.false in (
       item,
-      c.in-Ok.ensures.item,
+      c.in_ok-item.ensures.item,
       record {
         added = c.in_ok-push.ensures.items ∙ ap (λ xs. xs ++ item ∷ []) c.in_ok-count.ensures.items;
         once = once;
-        good = c.in-Ok.ensures.good;
+        good = c.in_ok-item.ensures.good;
         stands = c.in_ok-count.ensures.stands;
         within = record {
           few_characters = omega (arith, c.len.ensures.len);
-          few_cells = signs-within c.signs_law.ensures.own c.signs_law.ensures.same said (c.args.file + 1) item c.args.self.now.signs signs once c.in-Ok.ensures.good c.requires.stands.indicated c.in_ok-count.ensures.stands.indicated
+          few_cells = signs-within c.signs_law.ensures.own c.signs_law.ensures.same said (c.args.file + 1) item c.args.self.now.signs signs once c.in_ok-item.ensures.good c.requires.stands.indicated c.in_ok-count.ensures.stands.indicated
               c.requires.within.few_cells;
           few_rules = omega arith;
         };

@@ -1,3 +1,4 @@
+use Rattle.brl_failure.specs.Raised.{if_fault-weaker}
 use Rattle.std.proofs.Common.{◌≤◌, sym, subst, length, map, arith}
 use Rattle.std.proofs.lemmas.List.{length-map}
 use Rattle.brl_lines.specs.Views.{line_view}
@@ -21,9 +22,9 @@ loop-line-preserved c =
     let before = c.loop-line.invariant in
     let number = number-of line.file.now names _ c.place_of.result c.unwrap-file.result named c.place_of.ensures c.unwrap-file.ensures in
     let within = number-within line.file.now names _ c.place_of.result c.unwrap-file.result named c.place_of.ensures c.unwrap-file.ensures in
-    let item = c.in-Ok.ensures.0 in
-    let is = c.in-Ok.ensures.1 in
-    let more = c.in-Ok.ensures.2 in
+    let item = c.in_default.ensures.0 in
+    let is = c.in_default.ensures.1 in
+    let more = c.in_default.ensures.2 in
     let after = c.add.new.self in
     record {
       aligned = aligned-more lines names named i line c.loop-line-test.true c.line-item.is c.unwrap-file.result number said before.aligned item _ is more.added;
@@ -42,10 +43,11 @@ returns-in-Err-clause-fault c =
     let i = c.loop-line.line-index in
     let line = c.line-item.result in
     let number = number-of line.file.now names _ c.place_of.result c.unwrap-file.result named c.place_of.ensures c.unwrap-file.ensures in
-    refusal (map line_view lines) i (line_view line) c.in-Err.fault c.fault_at.result
-    (λ kind about e.
-    first-fault lines names named i line c.loop-line-test.true c.line-item.is c.unwrap-file.result number c.loop-line.self.items.items c.loop-line.invariant.aligned
-    kind about.now (rw e at c.in-Err.ensures) c.loop-line.invariant.passed)
+    refusal (map line_view lines) i (line_view line) c.in-Err.failure c.fault_at.result
+    (if_fault-weaker _ _ c.in-Err.failure
+    (λ wrong h. first-fault lines names named i line c.loop-line-test.true c.line-item.is c.unwrap-file.result number c.loop-line.self.items.items c.loop-line.invariant.aligned
+    wrong h c.loop-line.invariant.passed)
+    c.in-Err.ensures)
     c.fault_at.ensures
 
 pub returns-clause-added : goal.returns-clause-added

@@ -7,6 +7,7 @@ use Rattle.brl_reading.specs.Reading.{definitions, files_of, listed_said, rule_o
 use Rattle.brl_reading.specs.Said.{over, PassesAgain}
 use Rattle.brl_reading.proofs.AllLooked.{passes-second, rules-good, same-length, second-fault}
 use Rattle.brl_reading.proofs.GoodItems.{good-definitions, good-folds}
+use Rattle.brl_failure.specs.Raised.{if_fault-weaker}
 use Rattle.brl_reading.proofs.Marked.{all-marked, still-within}
 use Rattle.brl_reading.proofs.SaidParts.{entries-good}
 use Rattle.brl_reading.proofs.reading.Said.read.Goals as goal
@@ -61,4 +62,6 @@ returns-clause-fault c =
     let all = c.in_ok-add_all.ensures.added in
     let said = c.add_all.new.self.items.items in
     let marked = all-marked said c.as_slice.result.now c.add_all.new.self.characters c.mark.new.characters all.stands.defined c.as_slice.ensures.value c.mark.ensures.marks c.mark.ensures.notices in
-    if_err-then c.rules.result (λ fault again. second-fault lines said all.aligned c.mark.new.characters.infos.entries marked.characters_stand fault all.passed again) c.rules.ensures.fault
+    if_err-then c.rules.result
+    (λ failure. if_fault-weaker _ _ failure (λ fault again. second-fault lines said all.aligned c.mark.new.characters.infos.entries marked.characters_stand fault all.passed again))
+    c.rules.ensures.fault

@@ -1,7 +1,7 @@
 use Rattle.std.proofs.Common.{map}
 use Rattle.brl_lines.specs.Views.{line_view}
-use Rattle.brl_reading.specs.Items.{fault}
 use Rattle.brl_reading.proofs.LookSteps.{found-again, passes-again, refusal-again, rules-again}
+use Rattle.brl_failure.specs.Raised.{if_fault-weaker}
 use Rattle.brl_reading.proofs.reading.Said.rules.Goals as goal
 
 pub returns-in-Err-clause-fault : goal.returns-in-Err-clause-fault
@@ -10,10 +10,11 @@ returns-in-Err-clause-fault c =
     let lines = c.args.lines.now in
     let said = c.args.self.now.items.items in
     let line = c.index-lines-place.result in
-    refusal-again characters (map line_view lines) said c.loop-place.place (line_view line) c.index.result.now c.in-Err.fault c.fault_at.result
-    (λ kind about e.
-    found-again characters lines said c.requires c.loop-place.place line c.loop-place-test.true c.index-lines-place.is c.index.result.now c.index.ensures
-    (fault kind about.now) (rw e at c.in-Err.ensures) c.loop-place.invariant.passed)
+    refusal-again characters (map line_view lines) said c.loop-place.place (line_view line) c.index.result.now c.in-Err.failure c.fault_at.result
+    (if_fault-weaker _ _ c.in-Err.failure
+    (λ wrong h. found-again characters lines said c.requires c.loop-place.place line c.loop-place-test.true c.index-lines-place.is c.index.result.now c.index.ensures
+    wrong h c.loop-place.invariant.passed)
+    c.in-Err.ensures)
     c.fault_at.ensures
 
 pub loop-place-preserved : goal.loop-place-preserved
@@ -25,7 +26,7 @@ loop-place-preserved c =
     let line = c.index-lines-place.result in
     record {
       rules = rules-again characters lines said c.requires i line c.loop-place-test.true c.index-lines-place.is c.index.result.now c.index.ensures
-          _ _ c.in-Ok.ensures.1 c.loop-place.invariant.rules;
+          _ _ c.in_default.ensures.1 c.loop-place.invariant.rules;
       passed = passes-again characters lines said c.requires i line c.loop-place-test.true c.index-lines-place.is c.index.result.now c.index.ensures
-          c.in-Ok.ensures.0 c.loop-place.invariant.passed;
+          c.in_default.ensures.0 c.loop-place.invariant.passed;
     }

@@ -1,0 +1,116 @@
+use Rattle.std.proofs.Common.{◌∙◌, arith, refl, subst}
+use Rattle.std.proofs.lemmas.Result.{err_from_is_err_and}
+use Rattle.brl_lines.specs.Files.{answers_of}
+use Rattle.brl_lines.specs.Steps.{IsRowAt}
+use Rattle.brl_lines.proofs.FileLemmas.{given-stays}
+use Rattle.brl_lines.proofs.LoopLemmas.{added-all, added-include, added-line, added-none, added-nothing, inner-spans, number-small, refused-include, refused-inner, row-smaller, still-boundary, still-open, still-within}
+use Rattle.brl_lines.proofs.expand.+expand.Goals as goal
+
+pub loop-row-init : goal.loop-row-init
+loop-row-init g t c =
+    record {
+      added = added-none (g.S.Source.gives c.args.source.now) c.args.root.now c.args.file.now c.args.table.now c.requires.1.1.1;
+      count = refl;
+      same = λ p a. (λ x. x, λ x. x);
+    }
+
+pub row_from-requires-clause-opened : goal.row_from-requires-clause-opened
+row_from-requires-clause-opened g t c =
+    still-open (g.S.Source.gives c.args.source.now) c.args.root.now c.args.file.now c.args.table.now c.requires.1.1.1 c.loop-row.table c.loop-row.number c.loop-row.at c.loop-row.invariant.added
+
+pub row_from-requires-clause-within : goal.row_from-requires-clause-within
+row_from-requires-clause-within g t c =
+    still-within (g.S.Source.gives c.args.source.now) c.args.root.now c.args.file.now c.args.table.now c.requires.1.1.1 c.loop-row.table c.loop-row.number c.loop-row.at c.loop-row.invariant.added
+
+pub row_from-requires-clause-boundary : goal.row_from-requires-clause-boundary
+row_from-requires-clause-boundary g t c =
+    still-boundary (g.S.Source.gives c.args.source.now) c.args.root.now c.args.file.now c.args.table.now c.requires.1.1.1 c.loop-row.table c.loop-row.number c.loop-row.at c.loop-row.invariant.added
+
+pub overflow_add-number : goal.overflow_add-number
+overflow_add-number g t c =
+    let small = number-small (g.S.Source.gives c.args.source.now) c.args.root.now c.args.file.now c.args.table.now c.requires.1.1.1 c.loop-row.table c.loop-row.number c.loop-row.at c.loop-row.invariant.added in
+    omega (arith, small)
+
+pub loop-row-smaller-in-Nothing : goal.loop-row-smaller-in-Nothing
+loop-row-smaller-in-Nothing g t c =
+    let is = subst (IsRowAt c.loop-row.table.files.entries c.args.file.now c.loop-row.number c.loop-row.at) c.in-Some.is c.in_ok-row.ensures in
+    row-smaller (g.S.Source.gives c.args.source.now) c.args.root.now c.args.file.now c.args.table.now c.requires.1.1.1 c.loop-row.table c.loop-row.number c.loop-row.at c.loop-row.invariant.added c.in-Some.row is
+
+pub loop-row-smaller-in-Continue-branch-3 : goal.loop-row-smaller-in-Continue-branch-3
+loop-row-smaller-in-Continue-branch-3 g t c =
+    let is = subst (IsRowAt c.loop-row.table.files.entries c.args.file.now c.loop-row.number c.loop-row.at) c.in-Some.is c.in_ok-row.ensures in
+    row-smaller (g.S.Source.gives c.args.source.now) c.args.root.now c.args.file.now c.args.table.now c.requires.1.1.1 c.loop-row.table c.loop-row.number c.loop-row.at c.loop-row.invariant.added c.in-Some.row is
+
+pub loop-row-smaller : goal.loop-row-smaller
+loop-row-smaller g t c =
+    let is = subst (IsRowAt c.loop-row.table.files.entries c.args.file.now c.loop-row.number c.loop-row.at) c.in-Some.is c.in_ok-row.ensures in
+    row-smaller (g.S.Source.gives c.args.source.now) c.args.root.now c.args.file.now c.args.table.now c.requires.1.1.1 c.loop-row.table c.loop-row.number c.loop-row.at c.loop-row.invariant.added c.in-Some.row is
+
+pub loop-row-preserved-in-Nothing : goal.loop-row-preserved-in-Nothing
+loop-row-preserved-in-Nothing g t c =
+    let is = subst (IsRowAt c.loop-row.table.files.entries c.args.file.now c.loop-row.number c.loop-row.at) c.in-Some.is c.in_ok-row.ensures in
+    record {
+      added = added-nothing (g.S.Source.gives c.args.source.now) c.args.root.now c.args.file.now c.args.table.now c.requires.1.1.1 c.loop-row.table c.loop-row.number c.loop-row.at c.loop-row.invariant.added c.in-Some.row is c.in-Nothing.is;
+      count = c.loop-row.invariant.count;
+      same = c.loop-row.invariant.same;
+    }
+
+pub loop-row-preserved-in-Continue-branch-3 : goal.loop-row-preserved-in-Continue-branch-3
+loop-row-preserved-in-Continue-branch-3 g t c =
+    let is = subst (IsRowAt c.loop-row.table.files.entries c.args.file.now c.loop-row.number c.loop-row.at) c.in-Some.is c.in_ok-row.ensures in
+    record {
+      added = added-line (g.S.Source.gives c.args.source.now) c.args.root.now c.args.file.now c.args.table.now c.requires.1.1.1 c.loop-row.table c.loop-row.number c.loop-row.at c.loop-row.invariant.added c.in-Some.row is c.in-Line.is c.push.new.self c.in_ok-push-in-Line.ensures.items;
+      count = c.loop-row.invariant.count;
+      same = c.loop-row.invariant.same;
+    }
+
+pub enter-requires : goal.enter-requires
+enter-requires g t c =
+    given-stays (g.S.Source.gives c.args.source.now) (g.S.Source.gives c.loop-row.source) (λ p a. (c.loop-row.invariant.same p a).1) (answers_of c.loop-row.table.files.entries) c.loop-row.invariant.added.grows.given
+
+pub returns-in_err-inner-in-Include-clause-err : goal.returns-in_err-inner-in-Include-clause-err
+returns-in_err-inner-in-Include-clause-err g t c =
+    let is = subst (IsRowAt c.loop-row.table.files.entries c.args.file.now c.loop-row.number c.loop-row.at) c.in-Some.is c.in_ok-row.ensures in
+    let p = err_from_is_err_and c.from_residual-in_err-inner-in-Include.result c.from_residual-in_err-inner-in-Include.ensures.1 in
+    rw (p.1, p.2) (refused-include (g.S.Source.gives c.args.source.now) c.args.root.now c.args.file.now c.args.table.now c.requires.1.1.1 c.loop-row.table c.loop-row.number c.loop-row.at c.loop-row.invariant.added c.in-Some.row is c.in-Include.include c.in-Include.is (g.S.Source.gives c.loop-row.source) (λ path a. (c.loop-row.invariant.same path a).0) c.in_err-inner-in-Include.field-0.0 (rw c.in-Include.is at c.in_err-inner-in-Include.ensures.err))
+
+pub expand-requires : goal.expand-requires
+expand-requires g t c κs within =
+    let is = subst (IsRowAt c.loop-row.table.files.entries c.args.file.now c.loop-row.number c.loop-row.at) c.in-Some.is c.in_ok-row.ensures in
+    let enters = rw c.in-Include.is at c.in_ok-inner-in-Include.ensures.ok in
+    let depth = enters.depth in (
+      omega (arith, depth),
+      (
+        within,
+        record {
+          given = given-stays (g.S.Source.gives c.loop-row.source) (g.S.Source.gives c.enter.new.source) (λ p a. (c.in_ok-inner-in-Include.ensures.same p a).1) (answers_of c.enter.new.table.files.entries) enters.grows.given;
+          opened = enters.opened;
+          spans = inner-spans (g.S.Source.gives c.args.source.now) c.args.root.now c.args.file.now c.args.table.now c.requires.1.1.1 c.loop-row.table c.loop-row.number c.loop-row.at c.loop-row.invariant.added c.in-Some.row is c.in-Include.include c.in-Include.is (g.S.Source.gives c.loop-row.source) (λ path a. (c.loop-row.invariant.same path a).0) c.enter.new.table c.in_ok-inner-in-Include.inner enters;
+        },
+      ),
+    )
+
+pub returns-in_err-expand-in-Include-clause-err : goal.returns-in_err-expand-in-Include-clause-err
+returns-in_err-expand-in-Include-clause-err g t c =
+    let is = subst (IsRowAt c.loop-row.table.files.entries c.args.file.now c.loop-row.number c.loop-row.at) c.in-Some.is c.in_ok-row.ensures in
+    let enters = rw c.in-Include.is at c.in_ok-inner-in-Include.ensures.ok in
+    let p = err_from_is_err_and c.from_residual-in_err-expand-in-Include.result c.from_residual-in_err-expand-in-Include.ensures.1 in
+    rw (p.1, p.2) (refused-inner (g.S.Source.gives c.args.source.now) c.args.root.now c.args.file.now c.args.table.now c.requires.1.1.1 c.loop-row.table c.loop-row.number c.loop-row.at c.loop-row.invariant.added c.in-Some.row is c.in-Include.include c.in-Include.is (g.S.Source.gives c.loop-row.source) (λ path a. (c.loop-row.invariant.same path a).0) c.enter.new.table c.in_ok-inner-in-Include.inner enters (g.S.Source.gives c.enter.new.source) (λ path a x. (c.loop-row.invariant.same path a).0 ((c.in_ok-inner-in-Include.ensures.same path a).0 x)) c.in_err-expand-in-Include.field-0.0 c.in_err-expand-in-Include.ensures.err)
+
+pub loop-row-preserved : goal.loop-row-preserved
+loop-row-preserved g t c =
+    let is = subst (IsRowAt c.loop-row.table.files.entries c.args.file.now c.loop-row.number c.loop-row.at) c.in-Some.is c.in_ok-row.ensures in
+    let enters = rw c.in-Include.is at c.in_ok-inner-in-Include.ensures.ok in
+    record {
+      added = added-include (g.S.Source.gives c.args.source.now) c.args.root.now c.args.file.now c.args.table.now c.requires.1.1.1 c.loop-row.table c.loop-row.number c.loop-row.at c.loop-row.invariant.added c.in-Some.row is c.in-Include.include c.in-Include.is (g.S.Source.gives c.loop-row.source) (λ path a. (c.loop-row.invariant.same path a).0) c.enter.new.table c.in_ok-inner-in-Include.inner enters (g.S.Source.gives c.enter.new.source) (λ path a x. (c.loop-row.invariant.same path a).0 ((c.in_ok-inner-in-Include.ensures.same path a).0 x)) c.expand.new.table c.in_ok-expand-in-Include.ensures.ok;
+      count = c.in_ok-expand-in-Include.ensures.count ∙ c.in_ok-inner-in-Include.ensures.count ∙ c.loop-row.invariant.count;
+      same = λ p a. (
+        λ x. (c.loop-row.invariant.same p a).0 ((c.in_ok-inner-in-Include.ensures.same p a).0 ((c.in_ok-expand-in-Include.ensures.same p a).0 x)),
+        λ x. (c.in_ok-expand-in-Include.ensures.same p a).1 ((c.in_ok-inner-in-Include.ensures.same p a).1 ((c.loop-row.invariant.same p a).1 x)),
+      );
+    }
+
+pub returns-clause-ok : goal.returns-clause-ok
+returns-clause-ok g t c =
+    let ends = subst (IsRowAt c.loop-row.table.files.entries c.args.file.now c.loop-row.number c.loop-row.at) c.in_default.is c.in_ok-row.ensures in
+    added-all (g.S.Source.gives c.args.source.now) c.args.root.now c.args.file.now c.args.table.now c.requires.1.1.1 c.loop-row.table c.loop-row.number c.loop-row.at c.loop-row.invariant.added ends

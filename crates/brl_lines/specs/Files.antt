@@ -1,0 +1,44 @@
+-- Internal. The files that were read, and the spans of lines in them.
+use Rattle.std.specs.Prelude.{ℕ, List, [], ◌∷◌, map, slice_get, String, string_bytes}
+use Rattle.std.specs.Global.{Global}
+use Rattle.std.specs.List.{flat_map}
+use Rattle.std.specs.Option.{option_map_or}
+use Rattle.brl_lines.specs.Answer.{Answer, Holds}
+use Rattle.brl_lines.specs.Lines.{Answers}
+use Rattle.brl_lines.specs.Rows.{piece, without_mark}
+use Rattle.brl_lines.specs.Tokens.{LineView, line_of, token_of, tokens}
+use Rattle.brl_lines.specs.declared.checked_file.CheckedFile.{CheckedFile}
+use Rattle.brl_lines.specs.declared.open_file.OpenFile.{OpenFile}
+use Rattle.brl_lines.specs.declared.span.LineSpan.{LineSpan}
+
+-- the files that were read, each with its path, in the order of their reading
+abbrev pub Files : Type 0
+Files = List (String Global × CheckedFile)
+
+-- what the source answered for a file
+abbrev pub answer_of_file : String Global × CheckedFile → List ℕ × Answer
+answer_of_file file = (string_bytes file.0, Holds (string_bytes file.1.whole))
+
+-- what the source answered for the files
+abbrev pub answers_of : Files → Answers
+answers_of files = map answer_of_file files
+
+-- the path of the file with this index
+abbrev pub path_at : Files → ℕ → List ℕ
+path_at files index = option_map_or (λ file. string_bytes file.0) (slice_get files index) []
+
+-- the text of the file with this index
+abbrev pub text_at : Files → ℕ → List ℕ
+text_at files index = option_map_or (λ file. without_mark (string_bytes file.1.whole)) (slice_get files index) []
+
+-- the line at a span, if it does something
+abbrev pub span_lines : Files → LineSpan → List LineView
+span_lines files span = line_of (path_at files span.file) span.line (map token_of (tokens (piece (text_at files span.file) span.from span.to)))
+
+-- the lines at some spans
+abbrev pub lines_at : Files → List LineSpan → List LineView
+lines_at files spans = flat_map (span_lines files) spans
+
+-- the paths that lead to a file, its own first
+abbrev pub chain_of : OpenFile → List (List ℕ)
+chain_of file = string_bytes file.path ∷ map string_bytes file.includers.items

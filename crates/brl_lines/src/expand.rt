@@ -1,0 +1,103 @@
+//! The lines of a table in their order, each include line replaced by the lines of its file. A file
+//! is read when a line first leads to it.
+ghost use Rattle.std.specs.Prelude.{IfErr, IfOk};
+ghost use Rattle.brl_lines.specs.Answer.{AllStay};
+ghost use Rattle.brl_lines.specs.Files.{answers_of};
+ghost use Rattle.brl_lines.specs.Outcome.{AreGiven, CountsFailure};
+ghost use Rattle.brl_lines.specs.Steps.{Enters, Expands, Fails, IsReady, lines_of_file, lines_of_include};
+
+use crate::checked_file::CheckedFile;
+use crate::fault::{LoadFault, LoadFaultKind, LocationRef, refusal};
+use crate::include::{IncludeLine, included};
+use crate::open_file::OpenFile;
+use crate::read::file_at;
+use crate::row::{RowKind, row_from};
+use crate::source::Source;
+use crate::span::LineSpan;
+use brl_failure::Failure;
+use indexmap::IndexMap;
+use std::alloc::Global;
+
+/// The most include lines that are followed in one load.
+const MOST_INCLUDES: u32 = 1024;
+
+/// A table that is being loaded: the files that were read, the lines so far, and how many include
+/// lines were followed.
+#[derive(Drop)]
+pub(crate) struct Expansion {
+    pub files: IndexMap<String, CheckedFile>,
+    pub spans: Vec<LineSpan>,
+    pub include_count: u32,
+}
+
+/// The file that an include line leads to.
+fn enter<S: Source>(
+    alloc: Global,
+    source: &mut S,
+    table: &mut Expansion,
+    root: &str,
+    file: &OpenFile,
+    include: &IncludeLine,
+) -> Result<OpenFile, Failure<LoadFault>>
+    requires { AreGiven (S.gives source.old) (answers_of table.old.files.entries) }
+    ensures ok { IfOk result (Enters (S.gives source.old) table.old table.new root.now file.now include.now) }
+    ensures err { IfErr result (Fails (S.gives source.old) table.old.files.entries (lines_of_include root.now file.now include.now table.old)) }
+    ensures count { CountsFailure (S.faults source.old) (S.faults source.new) result }
+    ensures same { AllStay (S.gives source.old) (S.gives source.new) }
+{
+    let owned = included(alloc, root, include.name.as_str())?;
+    let path = owned.as_str();
+    let place = Some(LocationRef {
+        file: file.path.as_str(),
+        line: include.line,
+    });
+    if table.include_count >= MOST_INCLUDES {
+        return Err(refusal(alloc, LoadFaultKind::TooManyIncludes, path, place));
+    }
+    if file.is_led_to_by(path) {
+        return Err(refusal(alloc, LoadFaultKind::Cycle, path, place));
+    }
+    if file.depth_left == 0 {
+        return Err(refusal(alloc, LoadFaultKind::TooDeep, path, place));
+    }
+    let index = file_at(alloc, source, &mut table.files, path, place)?;
+    table.include_count += 1;
+    let includers = file.chain(alloc)?;
+    Ok(OpenFile {
+        index,
+        path: owned,
+        includers,
+        depth_left: file.depth_left - 1,
+    })
+}
+
+/// Adds the lines of a file, each include line replaced by the lines of its file.
+pub(crate) fn expand<S: Source>(
+    alloc: Global,
+    source: &mut S,
+    table: &mut Expansion,
+    root: &str,
+    file: &OpenFile,
+) -> Result<(), Failure<LoadFault>>
+    requires { IsReady (S.gives source.old) table.old file.now }
+    ensures ok { IfOk result (λ _. Expands (S.gives source.old) table.old table.new (lines_of_file root.now file.now table.old)) }
+    ensures err { IfErr result (Fails (S.gives source.old) table.old.files.entries (lines_of_file root.now file.now table.old)) }
+    ensures count { CountsFailure (S.faults source.old) (S.faults source.new) result }
+    ensures same { AllStay (S.gives source.old) (S.gives source.new) }
+{
+    let mut number = 1u32;
+    let mut at = 0;
+    while let Some(row) = row_from(alloc, &table.files, file, number, at)? {
+        at = row.next;
+        number += 1;
+        match row.kind {
+            RowKind::Nothing => {}
+            RowKind::Line => table.spans.push(row.span)?,
+            RowKind::Include(include) => {
+                let inner = enter(alloc, source, table, root, file, &include)?;
+                expand(alloc, source, table, root, &inner)?;
+            }
+        }
+    }
+    Ok(())
+}
