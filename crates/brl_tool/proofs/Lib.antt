@@ -1,7 +1,7 @@
-pub mod CheckingLemmas
+pub mod CheckLemmas
+pub mod DeliveryLemmas
 pub mod FilesLemmas
-pub mod FindingLemmas
 pub mod NoticesLemmas
-pub mod SearchingLemmas
+pub mod SearchLemmas
 pub mod StatusLemmas
-pub mod WorkLemmas
+pub mod StreamLemmas

@@ -1,9 +1,7 @@
-pub mod Checking
-pub mod Comparing
-pub mod Counts
-pub mod Files
-pub mod Notices
 pub mod Running
-pub mod Searching
+pub mod Answers
+pub mod Delivery
+pub mod Streams
+pub mod Files
 pub mod Status
-pub mod Work
+pub mod Notices

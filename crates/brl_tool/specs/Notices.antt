@@ -1,4 +1,4 @@
--- How the notices of a table are told. The project's own choice.
+-- The lines of a table's notices. The project's own choice.
 use Rattle.std.specs.Prelude.{ℕ, List, [], ◌∷◌, ◌++◌, codes, flat_map}
 use Rattle.std.specs.Str.{encode_utf8_all}
 use Rattle.brl_lines.specs.Spelling.{text_spelling}
@@ -6,7 +6,7 @@ use Rattle.brl_report.specs.Rows.{place_text}
 use Rattle.brl_table.specs.TableView.{TableView}
 use Rattle.brl_table.specs.declared.rule.Notice.{Notice}
 
--- a line defines this character again
+-- the line of a notice: a line of the table defines this character again
 abbrev pub notice_line : TableView → Notice → List ℕ
 notice_line t notice =
     codes "notice DefinedAgain " ++ encode_utf8_all (text_spelling (notice.character ∷ [])) ++ codes " at " ++ place_text t notice.file notice.line ++ codes "\n"

@@ -1,82 +1,110 @@
--- What a run of the program comes to. The project's own choice.
-use Rattle.std.specs.Prelude.{ℕ, ◌≡◌, ◌⊎◌, List, Option, Result, Err}
+-- What a run of the program comes to. The project's own choice. `failed` says that the output failed
+-- in that run; `before` and `after` what the files may give.
+use Rattle.std.specs.Prelude.{ℕ, ◌≡◌, ◌<◌, ◌⊎◌, List, ◌++◌, Option, Result, Ok, Err, codes}
+use Rattle.std.specs.Io.KnownBytes.{Appends}
 use Rattle.std.specs.Str.{chars}
+use Rattle.brl_accept.specs.Judging.{IsAccepted, counted}
+use Rattle.brl_cert.specs.Reading.{spelling}
+use Rattle.brl_edges.specs.Body.{BodyView}
 use Rattle.brl_lines.specs.Answer.{AllStay, MayGive}
-use Rattle.brl_tool.specs.Checking.{Checks}
-use Rattle.brl_tool.specs.Comparing.{Compares}
-use Rattle.brl_tool.specs.Searching.{Searches}
-use Rattle.brl_tool.specs.Status.{IsAnswered, status_after}
-use Rattle.brl_tool.specs.Work.{Works}
-use Rattle.brl_tool.specs.declared.finding.Finding.{Finding}
-use Rattle.brl_tool.specs.declared.finding.Finding.TheVariants.{Clash, NoClash}
+use Rattle.brl_reading.specs.Files.{IsTableOf}
+use Rattle.brl_report.specs.Report.{report_text}
+use Rattle.brl_search.specs.Searched.{State, certificate_of}
 use Rattle.brl_stream.specs.declared.form.Form.{Form}
-use Rattle.brl_tool.specs.declared.judgement.Judgement.{Judgement}
-use Rattle.brl_tool.specs.declared.judgement.Judgement.TheVariants.{Accepting}
+use Rattle.brl_table.specs.TableView.{TableView}
+use Rattle.brl_table.specs.Translation.{IsClash, IsUnambiguous}
+use Rattle.brl_tool.specs.Answers.{AcceptsGood, Checks, ComparesByFile, Says, SearchesByFile, UnlessMemory, accepted_line, certified_line}
+use Rattle.brl_tool.specs.Delivery.{IsDelivered}
+use Rattle.brl_tool.specs.Files.{GivesAlso, OthersStay}
+use Rattle.brl_tool.specs.Status.{code_of, status_of}
+use Rattle.brl_tool.specs.Streams.{TranslatesByFile}
+use Rattle.brl_tool.specs.declared.answer.Answer.{Answer}
 use Rattle.brl_tool.specs.declared.run_fault.RunFault.{RunFault}
-use Rattle.brl_tool.specs.declared.run_fault.RunFault.TheVariants.{OutputFailed}
-use Rattle.brl_tool.specs.declared.verdict.Verdict.{Verdict}
-use Rattle.brl_tool.specs.declared.verdict.Verdict.TheVariants.{Certified, Clash as Clashing, Limit}
+use Rattle.brl_tool.specs.declared.status.Status.{Status}
+use Rattle.brl_tool.specs.declared.status.Status.TheVariants.{Done, Faulty}
 use Rattle.brl_words.specs.declared.command.Task.{Task}
 use Rattle.brl_words.specs.declared.command.Task.TheVariants as task
 
--- the status of what was found of two texts
-abbrev pub finding_status : Finding → ℕ
-finding_status Clash = 1
-finding_status NoClash = 0
+-- ---- What each task comes to
 
--- the status of what was told of a certificate
-abbrev pub judgement_status : Judgement → ℕ
-judgement_status (Accepting accepted) = 0
-judgement_status refusal = 1
-
--- the status of what a search says of a table
-abbrev pub verdict_status : Verdict → ℕ
-verdict_status (Certified bytes) = 0
-verdict_status Clashing = 1
-verdict_status Limit = 3
-
--- ---- What each task comes to, and its status; `failed` says that the writer failed in that run
-
--- what was found or decided can't be told only where the writer failed
-abbrev pub FailsByWriter : {T : Type 0} → Type 0 → Result T RunFault → Type 0
-FailsByWriter failed outcome = outcome ≡ Err OutputFailed → failed
+-- the status after the translation of a stream
+abbrev pub stream_status : Result (Unit {0}) RunFault → Status
+stream_status (Ok done) = Done
+stream_status (Err fault) = status_of fault
 
 -- the input was translated by the table of the file at a path
-abbrev pub TranslatesBy : MayGive → List ℕ → Form → Option (List ℕ) → Option (List ℕ) → Option (List ℕ) → ℕ → Type 0
+abbrev pub TranslatesBy : MayGive → List ℕ → Form → Option (List ℕ) → Option (List ℕ) → Option (List ℕ) → Status → Type 0
 TranslatesBy gives path form input old new status =
-    (outcome : Result (Unit {0}) RunFault) × Works gives path form input old new outcome × (status ≡ status_after (λ done. 0) outcome)
+    (outcome : Result (Unit {0}) RunFault) × TranslatesByFile gives path form input old new outcome × (status ≡ stream_status outcome)
 
 -- two texts were compared by the table of the file at a path
-abbrev pub ComparesBy : MayGive → List ℕ → List ℕ → List ℕ → Type 0 → Option (List ℕ) → Option (List ℕ) → ℕ → Type 0
-ComparesBy gives path left right failed old new status =
-    (outcome : Result Finding RunFault) × Compares gives path left right old new outcome × FailsByWriter failed outcome
-    × (status ≡ status_after finding_status outcome)
+abbrev pub ComparesBy : MayGive → MayGive → List ℕ → List ℕ → List ℕ → Type 0 → Option (List ℕ) → Option (List ℕ) → Status → Type 0
+ComparesBy before after path left right failed old new status =
+    IsDelivered (ComparesByFile before path left right) before after failed old new status
 
--- the certificate in the file at one path was judged for the table of the file at another
-abbrev pub ChecksBy : MayGive → List ℕ → List ℕ → Type 0 → Option (List ℕ) → Option (List ℕ) → ℕ → Type 0
-ChecksBy gives path cert failed old new status =
-    (outcome : Result Judgement RunFault) × Checks gives path cert old new outcome × FailsByWriter failed outcome
-    × (status ≡ status_after judgement_status outcome)
+-- The certificate in the file at one path was judged for the table of the file at another. Where it
+-- deserves acceptance, it is accepted, unless memory runs out.
+abbrev pub ChecksBy : MayGive → MayGive → List ℕ → List ℕ → Type 0 → Option (List ℕ) → Option (List ℕ) → Status → Type 0
+ChecksBy before after path cert failed old new status =
+    IsDelivered (λ outcome. Checks before path cert outcome × AcceptsGood before path cert outcome) before after failed old new status
 
--- the table of the file at one path was searched, up to a limit, for a certificate to be written to another
-abbrev pub SearchesBy : MayGive → MayGive → List ℕ → List ℕ → ℕ → Type 0 → Option (List ℕ) → Option (List ℕ) → ℕ → Type 0
-SearchesBy before behind path out limit failed old new status =
-    (outcome : Result Verdict RunFault) × Searches before behind path out limit old new outcome × FailsByWriter failed outcome
-    × (status ≡ status_after verdict_status outcome)
+-- the table of the file at one path was searched, up to a limit, for a certificate for another file
+abbrev pub SearchesBy : MayGive → MayGive → List ℕ → List ℕ → ℕ → Type 0 → Option (List ℕ) → Option (List ℕ) → Status → Type 0
+SearchesBy before after path out limit failed old new status =
+    IsDelivered (SearchesByFile before path out limit) before after failed old new status
 
 -- A task was done, with the paths, texts, form and limit that it has. Only a search changes a file.
-abbrev pub Performs : Task → MayGive → MayGive → Option (List ℕ) → Type 0 → Option (List ℕ) → Option (List ℕ) → ℕ → Type 0
-Performs (task.Translate path form) before behind input failed old new status =
-    AllStay before behind × TranslatesBy before path.now form input old new status
-Performs (task.Clash path left right) before behind input failed old new status =
-    AllStay before behind × ComparesBy before path.now (chars left.now) (chars right.now) failed old new status
-Performs (task.Check path cert) before behind input failed old new status =
-    AllStay before behind × ChecksBy before path.now cert.now failed old new status
-Performs (task.Search path out limit) before behind input failed old new status =
-    SearchesBy before behind path.now out.now limit failed old new status
+abbrev pub Performs : Task → MayGive → MayGive → Option (List ℕ) → Type 0 → Option (List ℕ) → Option (List ℕ) → Status → Type 0
+Performs (task.Translate path form) before after input failed old new status =
+    AllStay before after × TranslatesBy before path.now form input old new status
+Performs (task.Clash path left right) before after input failed old new status =
+    AllStay before after × ComparesBy before after path.now (chars left.now) (chars right.now) failed old new status
+Performs (task.Check path cert) before after input failed old new status =
+    AllStay before after × ChecksBy before after path.now cert.now failed old new status
+Performs (task.Search path out limit) before after input failed old new status =
+    SearchesBy before after path.now out.now limit failed old new status
 
--- what a run did: the task that its words ask for; or it answered words that ask for none
+-- the answer with help or the version
+abbrev pub IsHelp : Result Answer RunFault → Type 0
+IsHelp outcome = UnlessMemory (λ answer. (text : List ℕ) × Says Done text answer) outcome
+
+-- words that ask for no work were answered: with help or the version, or as a use fault
+abbrev pub Replies : MayGive → MayGive → Type 0 → Option (List ℕ) → Option (List ℕ) → Status → Type 0
+Replies before after failed old new status =
+    IsDelivered IsHelp before after failed old new status
+    ⊎ (AllStay before after × (new ≡ old) × (status ≡ Faulty))
+
+-- what a run did: the task that its words ask for, or it answered words that ask for none
 abbrev pub Runs : MayGive → MayGive → Option (List ℕ) → Type 0 → Option (List ℕ) → Option (List ℕ) → ℕ → Type 0
-Runs before behind input failed old new status =
-    ((asked : Task) × Performs asked before behind input failed old new status)
-    ⊎ (AllStay before behind × IsAnswered failed old new status)
+Runs before after input failed old new code =
+    (status : Status) × (code ≡ code_of status)
+    × (((asked : Task) × Performs asked before after input failed old new status) ⊎ Replies before after failed old new status)
+
+-- 0, 1, 2 or 3
+abbrev pub IsStatus : ℕ → Type 0
+IsStatus code = code < 4
+
+-- ---- What the status says
+
+-- an acceptance was written, and the table of the file at the path is unambiguous
+abbrev pub ReportsAcceptance : MayGive → List ℕ → Option (List ℕ) → Option (List ℕ) → Type 0
+ReportsAcceptance gives path old new =
+    ((t : TableView) × IsTableOf gives path t × IsUnambiguous t) × ((states pairs : ℕ) × Appends old new (accepted_line states pairs))
+
+-- the refusal of a certificate was written
+abbrev pub ReportsRefusal : Option (List ℕ) → Option (List ℕ) → Type 0
+ReportsRefusal old new = (rest : List ℕ) × Appends old new (codes "refused: " ++ rest)
+
+-- the report of two texts that clash by the table of the file at some path was written
+abbrev pub ReportsClash : MayGive → Option (List ℕ) → Option (List ℕ) → Type 0
+ReportsClash gives old new =
+    (path left right cells : List ℕ) × (t : TableView) × IsTableOf gives path t × IsClash t left right cells × Appends old new (report_text t left right cells)
+
+-- a certificate was written that a judge accepts for the table of the file at the path, and that
+-- table is unambiguous; no other file changed
+abbrev pub ReportsCertificate : MayGive → MayGive → List ℕ → List ℕ → Option (List ℕ) → Option (List ℕ) → Type 0
+ReportsCertificate before after path out old new =
+    (t : TableView) × IsTableOf before path t × IsUnambiguous t
+    × ((body : BodyView State) × IsAccepted t (spelling (certificate_of body)) (counted (certificate_of body))
+    × GivesAlso after out (spelling (certificate_of body)) × OthersStay before after out
+    × Appends old new (certified_line (certificate_of body)))

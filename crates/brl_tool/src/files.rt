@@ -11,8 +11,9 @@ pub trait Files: Source {
     ghost use Rattle.std.specs.Prelude.{◌≡◌, OnOk};
     ghost use Rattle.brl_tool.specs.Files.{GivesAlso, OthersStay};
 
-    /// Writes a file with these bytes at `path`, in place of the one that stood there. `Failed` where they couldn't all be
-    /// written. What is at `path` after a failure isn't known. No other file changes.
+    /// Writes a file with these bytes at `path`, in place of the one that was there. `Failed` where
+    /// they couldn't all be written. What is at `path` after a failure isn't known. No other file
+    /// changes.
     fn write(&mut self, alloc: Global, path: &str, bytes: &[u8]) -> Result<(), Failure<Failed>>
         ensures written { OnOk result (GivesAlso (Self.gives self.new) path.now bytes.now) }
         ensures others { OthersStay (Self.gives self.old) (Self.gives self.new) path.now }

@@ -1,18 +1,19 @@
-//! The program's work: a table from its files, and what is translated, compared, checked or searched by it; and `run`, the
-//! program over any files and streams.
+//! The program's work by the files of a table, and `run`, the program over any files and streams.
+//!
+//! Each command but `translate`, which is a stream, comes to an `Answer`: a text, a status and a file
+//! to be written, if there is one. `answer` delivers it.
 #![tactic(auto)]
 
-mod by_file;
-mod checking;
-mod counts;
+mod answer;
+mod check;
+mod clash;
 mod files;
-mod finding;
-mod judgement;
 mod notices;
 mod program;
 mod run_fault;
-mod searching;
-mod verdict;
+mod search;
+mod status;
+mod translate;
 
 pub use brl_stream::{
     Failed, Form, Input, LineFault, Output, StreamFault, Watched, translate_lines,

@@ -1,4 +1,4 @@
-//! The lines of a table that define a character again, as they are told.
+//! The notices of a table: lines that define a character again.
 ghost use Rattle.std.specs.Prelude.{◌≡◌, ◌<◌, IfOk, length, string_bytes};
 ghost use Rattle.brl_tool.specs.Notices.{notice_line, notice_lines};
 
@@ -7,7 +7,7 @@ use brl_table::{Notice, Table};
 use std::alloc::{AllocError, Global};
 use std::io::Write;
 
-/// The line that tells a notice.
+/// The line of a notice.
 fn notice_text(alloc: Global, table: &Table, notice: Notice) -> Result<String, AllocError>
     requires { notice.file < length table.now.files }
     ensures { IfOk result (λ text. string_bytes text ≡ notice_line table.now notice) }
@@ -18,7 +18,7 @@ fn notice_text(alloc: Global, table: &Table, notice: Notice) -> Result<String, A
     format!(in alloc; "notice DefinedAgain {character} at {file}:{line}\n")
 }
 
-/// The lines that tell a table's notices.
+/// The lines of a table's notices.
 fn notices_text(alloc: Global, table: &Table) -> Result<String, AllocError>
     ensures { IfOk result (λ text. string_bytes text ≡ notice_lines table.now) }
 {
@@ -30,8 +30,12 @@ fn notices_text(alloc: Global, table: &Table) -> Result<String, AllocError>
     Ok(text)
 }
 
-/// Tells a table's notices on standard error. What can't be written there is dropped.
-pub fn tell_notices<E: Write>(alloc: Global, table: &Table, err: &mut E) -> Result<(), AllocError> {
+/// Writes a table's notices to standard error. What can't be written there is dropped.
+pub fn write_notices<E: Write>(
+    alloc: Global,
+    table: &Table,
+    err: &mut E,
+) -> Result<(), AllocError> {
     let text = notices_text(alloc, table)?;
     let _ = err.write_all(text.as_bytes());
     Ok(())

@@ -1,40 +1,33 @@
 //! The program over any files and streams.
 ghost use Rattle.std.specs.Prelude.{◌≡◌, ◌≢◌, ◌⊎◌};
 ghost use Rattle.std.specs.Str.{chars};
-ghost use Rattle.brl_tool.specs.Checking.{ReportsAcceptance, ReportsRefusal};
-ghost use Rattle.brl_tool.specs.Comparing.{ReportsClash};
 ghost use Rattle.brl_lines.specs.Answer.{AllStay};
-ghost use Rattle.brl_tool.specs.Running.{ChecksBy, ComparesBy, Performs, Runs, SearchesBy, TranslatesBy};
-ghost use Rattle.brl_tool.specs.Searching.{ReportsCertificate};
-ghost use Rattle.brl_tool.specs.Status.{IsAnswered, IsStatus, Prints, status_of};
+ghost use Rattle.brl_tool.specs.Running.{ChecksBy, ComparesBy, IsHelp, IsStatus, Performs, Replies, ReportsAcceptance, ReportsCertificate, ReportsClash, ReportsRefusal, Runs, SearchesBy, TranslatesBy};
+ghost use Rattle.brl_tool.specs.declared.status.Status.TheVariants as statuses;
 
-use crate::by_file::{compare_by_file, translate_by_file};
-use crate::checking::check_by_file;
-use crate::finding::Finding;
-use crate::run_fault::{FAULT, RunFault};
-use crate::searching::search_by_file;
+use crate::answer::{Answer, deliver};
+use crate::check::check_by_file;
+use crate::clash::compare_by_file;
+use crate::run_fault::RunFault;
+use crate::search::search_by_file;
+use crate::status::Status;
+use crate::translate::translate_by_file;
 use crate::{Files, Form, Input, Output};
-use brl_lines::Source;
 use brl_words::{NoTask, Task, task_of};
 use std::alloc::Global;
 use std::io::Write;
 
-/// The status of work that was done, and of texts that don't clash.
-const DONE: u8 = 0;
-
-/// The status of texts that clash.
-const CLASH: u8 = 1;
-
-/// Does what the words ask for, and answers the exit status: 0 where the work was done, 1 where two texts clash or a
-/// certificate is refused, 2 where the words, a file, the table, a text, the input or the output had a fault, and 3 for want
-/// of memory, for a search that decided nothing and for a table that is too wide for a certificate of version 1. The first
-/// of the words is the program's name.
+/// Does what the words ask for, and answers the exit status: 0 where the work was done, 1 where two
+/// texts clash or a certificate is refused, 2 where the words, a file, the table, a text, the input or
+/// the output had a fault, and 3 where memory ran out, a search decided nothing, or a table is too wide
+/// for a certificate of version 1. The first of the words is the program's name.
 ///
-/// Standard output gets the translation, what was found of two texts, of a certificate or by a search, or help or the version
-/// where these are asked for. Standard error gets the notices of a table that is searched, one line for a fault, or the text
-/// of a use fault; what can't be written there is dropped and changes no status. Faults come in the order of the work: the
-/// words, the certificate's file, the table's file, its lines, the texts, the input, the certificate or the search, the file
-/// that gets a certificate, the verdict.
+/// Standard output gets the translation, what was found of two texts, of a certificate or by a search,
+/// or help or the version where these are asked for. Standard error gets the notices of a table that is
+/// searched, one line for a fault, or the text of a use fault; what can't be written there is dropped
+/// and changes no status. Faults come in the order of the work: the words, the certificate's file, the
+/// table's file, its lines, the texts, the input, the certificate or the search, the file that gets a
+/// certificate, the output.
 ///
 /// A file is written only where a search found a certificate: that file and no other.
 pub fn run<F: Files, I: Input, O: Output, E: Write>(
@@ -53,12 +46,12 @@ pub fn run<F: Files, I: Input, O: Output, E: Write>(
     ensures same { result ≡ 1 → AllStay (F.gives files.old) (F.gives files.new) }
 {
     match task_of(alloc, words) {
-        Ok(task) => perform(alloc, task, files, input, out, err),
-        Err(reply) => answer(alloc, &reply, out, err),
+        Ok(task) => perform(alloc, task, files, input, out, err).code(),
+        Err(reply) => answer_words(alloc, &reply, files, out, err).code(),
     }
 }
 
-/// Does a task, and answers its exit status.
+/// Does a task.
 fn perform<F: Files, I: Input, O: Output, E: Write>(
     alloc: Global,
     task: Task<'_>,
@@ -66,13 +59,12 @@ fn perform<F: Files, I: Input, O: Output, E: Write>(
     input: &mut I,
     out: &mut O,
     err: &mut E,
-) -> u8
-    ensures status { IsStatus result }
+) -> Status
     ensures performs { Performs task.entry (F.gives files.old) (F.gives files.new) (I.remaining input.old) (O.failures out.new ≢ O.failures out.old)
         (O.contents out.old) (O.contents out.new) result }
-    ensures clash { result ≡ 1 → ReportsClash (F.gives files.old) (O.contents out.old) (O.contents out.new)
+    ensures clash { result ≡ statuses.Refuted → ReportsClash (F.gives files.old) (O.contents out.old) (O.contents out.new)
         ⊎ ReportsRefusal (O.contents out.old) (O.contents out.new) }
-    ensures same { result ≡ 1 → AllStay (F.gives files.old) (F.gives files.new) }
+    ensures same { result ≡ statuses.Refuted → AllStay (F.gives files.old) (F.gives files.new) }
 {
     match task {
         Task::Translate { table, form } => translate(alloc, files, table, form, input, out, err),
@@ -83,66 +75,62 @@ fn perform<F: Files, I: Input, O: Output, E: Write>(
 }
 
 /// `brl translate`.
-fn translate<S: Source, I: Input, O: Output, E: Write>(
+fn translate<F: Files, I: Input, O: Output, E: Write>(
     alloc: Global,
-    source: &mut S,
+    files: &mut F,
     table: &str,
     form: Form,
     input: &mut I,
     out: &mut O,
     err: &mut E,
-) -> u8
-    ensures translates { TranslatesBy (S.gives source.old) table.now form (I.remaining input.old) (O.contents out.old)
+) -> Status
+    ensures translates { TranslatesBy (F.gives files.old) table.now form (I.remaining input.old) (O.contents out.old)
         (O.contents out.new) result }
-    ensures same { AllStay (S.gives source.old) (S.gives source.new) }
+    ensures same { AllStay (F.gives files.old) (F.gives files.new) }
 {
-    match translate_by_file(alloc, source, table, form, input, out) {
-        Ok(()) => DONE,
-        Err(fault) => tell(&fault, err),
+    match translate_by_file(alloc, files, table, form, input, out) {
+        Ok(()) => Status::Done,
+        Err(fault) => fault.report(err),
     }
 }
 
 /// `brl clash`.
-fn compare<S: Source, O: Output, E: Write>(
+fn compare<F: Files, O: Output, E: Write>(
     alloc: Global,
-    source: &mut S,
+    files: &mut F,
     table: &str,
     left: &str,
     right: &str,
     out: &mut O,
     err: &mut E,
-) -> u8
-    ensures compares { ComparesBy (S.gives source.old) table.now (chars left.now) (chars right.now) (O.failures out.new ≢ O.failures out.old)
-        (O.contents out.old) (O.contents out.new) result }
-    ensures same { AllStay (S.gives source.old) (S.gives source.new) }
+) -> Status
+    ensures compares { ComparesBy (F.gives files.old) (F.gives files.new) table.now (chars left.now) (chars right.now)
+        (O.failures out.new ≢ O.failures out.old) (O.contents out.old) (O.contents out.new) result }
+    ensures clash { result ≡ statuses.Refuted → ReportsClash (F.gives files.old) (O.contents out.old) (O.contents out.new) }
+    ensures same { AllStay (F.gives files.old) (F.gives files.new) }
 {
-    match compare_by_file(alloc, source, table, left, right, out) {
-        Ok(Finding::NoClash) => DONE,
-        Ok(Finding::Clash) => CLASH,
-        Err(fault) => tell(&fault, err),
-    }
+    let answer = compare_by_file(alloc, files, table, left, right);
+    deliver(alloc, answer, files, out, err)
 }
 
 /// `brl check`.
-fn check<S: Source, O: Output, E: Write>(
+fn check<F: Files, O: Output, E: Write>(
     alloc: Global,
-    source: &mut S,
+    files: &mut F,
     table: &str,
     cert: &str,
     out: &mut O,
     err: &mut E,
-) -> u8
-    ensures checks { ChecksBy (S.gives source.old) table.now cert.now (O.failures out.new ≢ O.failures out.old) (O.contents out.old)
-        (O.contents out.new) result }
-    // Where it accepts, no two different texts of the table are translated alike.
-    ensures accepted { result ≡ 0 → ReportsAcceptance (S.gives source.old) table.now (O.contents out.old) (O.contents out.new) }
-    ensures refused { result ≡ 1 → ReportsRefusal (O.contents out.old) (O.contents out.new) }
-    ensures same { AllStay (S.gives source.old) (S.gives source.new) }
+) -> Status
+    ensures checks { ChecksBy (F.gives files.old) (F.gives files.new) table.now cert.now
+        (O.failures out.new ≢ O.failures out.old) (O.contents out.old) (O.contents out.new) result }
+    // Where it accepts, no two different texts of the table are translated to the same cells.
+    ensures accepted { result ≡ statuses.Done → ReportsAcceptance (F.gives files.old) table.now (O.contents out.old) (O.contents out.new) }
+    ensures refused { result ≡ statuses.Refuted → ReportsRefusal (O.contents out.old) (O.contents out.new) }
+    ensures same { AllStay (F.gives files.old) (F.gives files.new) }
 {
-    match check_by_file(alloc, source, table, cert, out) {
-        Ok(judgement) => judgement.status(),
-        Err(fault) => tell(&fault, err),
-    }
+    let answer = check_by_file(alloc, files, table, cert);
+    deliver(alloc, answer, files, out, err)
 }
 
 /// `brl search`.
@@ -154,49 +142,43 @@ fn search<F: Files, O: Output, E: Write>(
     limit: u32,
     out: &mut O,
     err: &mut E,
-) -> u8
-    ensures searches { SearchesBy (F.gives files.old) (F.gives files.new) table.now cert.now limit (O.failures out.new ≢ O.failures out.old)
-        (O.contents out.old) (O.contents out.new) result }
+) -> Status
+    ensures searches { SearchesBy (F.gives files.old) (F.gives files.new) table.now cert.now limit
+        (O.failures out.new ≢ O.failures out.old) (O.contents out.old) (O.contents out.new) result }
     // Where it finds a certificate, no two texts of the table clash, and the certificate is written.
-    ensures certified { result ≡ 0 → ReportsCertificate (F.gives files.old) (F.gives files.new) table.now cert.now
+    ensures certified { result ≡ statuses.Done → ReportsCertificate (F.gives files.old) (F.gives files.new) table.now cert.now
         (O.contents out.old) (O.contents out.new) }
-    ensures clash { result ≡ 1 → ReportsClash (F.gives files.old) (O.contents out.old) (O.contents out.new) }
+    ensures clash { result ≡ statuses.Refuted → ReportsClash (F.gives files.old) (O.contents out.old) (O.contents out.new) }
     // Where two texts clash, no file is written.
-    ensures same { result ≡ 1 → AllStay (F.gives files.old) (F.gives files.new) }
+    ensures same { result ≡ statuses.Refuted → AllStay (F.gives files.old) (F.gives files.new) }
 {
-    match search_by_file(alloc, files, table, cert, limit, out, err) {
-        Ok(verdict) => verdict.status(),
-        Err(fault) => tell(&fault, err),
-    }
+    let answer = search_by_file(alloc, files, table, cert, limit, err);
+    deliver(alloc, answer, files, out, err)
 }
 
-/// Tells a fault on standard error, and answers its status.
-fn tell<E: Write>(fault: &RunFault, err: &mut E) -> u8
-    ensures { result ≡ status_of fault.now }
-{
-    let _ = writeln!(err, "{fault}");
-    fault.status()
-}
-
-/// Answers words that ask for no work: help and the version go to standard output, a use fault to standard error.
-fn answer<O: Output, E: Write>(alloc: Global, reply: &NoTask, out: &mut O, err: &mut E) -> u8
-    ensures { IsAnswered (O.failures out.new ≢ O.failures out.old) (O.contents out.old) (O.contents out.new) result }
+/// Answers words that ask for no work: help and the version go to standard output, a use fault to
+/// standard error.
+fn answer_words<F: Files, O: Output, E: Write>(
+    alloc: Global,
+    reply: &NoTask,
+    files: &mut F,
+    out: &mut O,
+    err: &mut E,
+) -> Status
+    ensures { Replies (F.gives files.old) (F.gives files.new) (O.failures out.new ≢ O.failures out.old)
+        (O.contents out.old) (O.contents out.new) result }
 {
     if reply.is_fault() {
         let _ = write!(err, "{reply}");
-        return FAULT;
+        return Status::Faulty;
     }
-    match print(alloc, reply, out) {
-        Ok(()) => DONE,
-        Err(fault) => tell(&fault, err),
-    }
+    deliver(alloc, help(alloc, reply), files, out, err)
 }
 
-/// Prints help or the version.
-fn print<O: Output>(alloc: Global, reply: &NoTask, out: &mut O) -> Result<(), RunFault>
-    ensures { Prints (O.failures out.new ≢ O.failures out.old) (O.contents out.old) (O.contents out.new) result }
+/// The answer with help or the version.
+fn help(alloc: Global, reply: &NoTask) -> Result<Answer, RunFault>
+    ensures { IsHelp result }
 {
     let text = format!(in alloc; "{reply}")?;
-    out.put(text.as_bytes())?;
-    Ok(())
+    Ok(Answer::new(Status::Done, text))
 }

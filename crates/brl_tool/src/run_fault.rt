@@ -1,4 +1,5 @@
 //! Why the program stopped before its work was done.
+use crate::status::Status;
 use crate::{Failed, StreamFault};
 use brl_failure::Failure;
 use brl_forward::ConfirmFault;
@@ -6,16 +7,8 @@ use brl_lines::LoadFault;
 use brl_reading::{NoTable, TableFault};
 use brl_window::TooWide;
 use std::alloc::AllocError;
+use std::io::Write;
 use thiserror::Error;
-
-/// The status of a fault of the words, the table, a text, the input or the output.
-pub const FAULT: u8 = 2;
-
-/// The status of a full memory.
-const OUT_OF_MEMORY: u8 = 3;
-
-/// The status of a table that is too wide for a certificate of version 1.
-const TOO_WIDE: u8 = 3;
 
 /// The fault that ended the work. It is shown as the line that standard error gets.
 #[derive(Debug, Drop, Error)]
@@ -35,10 +28,11 @@ pub enum RunFault {
     /// The certificate lists states of a window machine, and the table has none.
     #[error("{0}")]
     Wide(TooWide),
-    /// The writer failed at what was found, or at help or the version; some first bytes of it may be written.
+    /// The writer failed at an answer, or at help or the version; some first bytes of it may be
+    /// written.
     #[error("U4 OutputFailed")]
     OutputFailed,
-    /// The file at this path couldn't be written; what stands there isn't known.
+    /// The file at this path couldn't be written; what is there now isn't known.
     #[error("U7 CannotWrite {0}")]
     CannotWrite(String),
     /// Memory ran out.
@@ -50,16 +44,24 @@ impl RunFault {
     ghost use Rattle.std.specs.Prelude.{◌≡◌};
     ghost use Rattle.brl_tool.specs.Status.{status_of};
 
-    /// The exit status: 3 where memory ran out and for a table that is too wide for a certificate of
-    /// version 1, else 2.
-    pub fn status(&self) -> u8
+    /// The status: nothing was decided where memory ran out and where the table is too wide for a
+    /// certificate of version 1, else there is a fault.
+    pub fn status(&self) -> Status
         ensures { result ≡ status_of self.now }
     {
         match self {
-            RunFault::Memory => OUT_OF_MEMORY,
-            RunFault::Wide(_) => TOO_WIDE,
-            _ => FAULT,
+            RunFault::Memory | RunFault::Wide(_) => Status::Undecided,
+            _ => Status::Faulty,
         }
+    }
+
+    /// Writes its line to standard error, where what can't be written is dropped, and answers its
+    /// status.
+    pub fn report<E: Write>(&self, err: &mut E) -> Status
+        ensures { result ≡ status_of self.now }
+    {
+        let _ = writeln!(err, "{self}");
+        self.status()
     }
 }
 

@@ -1,6 +1,25 @@
-use Rattle.brl_tool.proofs.SearchingLemmas.{certified_at_none}
+use Rattle.brl_tool.proofs.DeliveryLemmas.{delivered_after}
+use Rattle.brl_tool.proofs.StatusLemmas.{certified_at_done, found_at_refuted}
 use Rattle.brl_tool.proofs.program.search.Goals as goal
 
-pub returns-in-Ok-clause-certified : goal.returns-in-Ok-clause-certified
-returns-in-Ok-clause-certified g c =
-    certified_at_none (g.F.Source.gives c.args.files.now) _ c.args.table.now c.args.cert.now _ _ _ c.in-Ok.verdict c.in-Ok.ensures.searches c.status.result c.status.ensures
+pub returns-clause-searches : goal.returns-clause-searches
+returns-clause-searches g c = (
+  c.search_by_file-answer.result,
+  c.search_by_file-answer.ensures.searches,
+  delivered_after (g.F.Source.gives c.args.files.now) _ _ c.search_by_file-answer.ensures.same c.search_by_file-answer.result _ _ _ c.deliver.result c.deliver.ensures,
+)
+
+pub returns-clause-certified : goal.returns-clause-certified
+returns-clause-certified g c =
+    certified_at_done (g.F.Source.gives c.args.files.now) _ _ _ _ c.args.table.now c.args.cert.now c.args.limit c.search_by_file-answer.result c.deliver.result c.search_by_file-answer.ensures.searches
+    (delivered_after (g.F.Source.gives c.args.files.now) _ _ c.search_by_file-answer.ensures.same c.search_by_file-answer.result _ _ _ c.deliver.result c.deliver.ensures)
+
+pub returns-clause-clash : goal.returns-clause-clash
+returns-clause-clash g c refuted =
+    (found_at_refuted (g.F.Source.gives c.args.files.now) _ _ _ _ c.args.table.now c.args.cert.now c.args.limit c.search_by_file-answer.result c.deliver.result c.search_by_file-answer.ensures.searches
+    (delivered_after (g.F.Source.gives c.args.files.now) _ _ c.search_by_file-answer.ensures.same c.search_by_file-answer.result _ _ _ c.deliver.result c.deliver.ensures) refuted).0
+
+pub returns-clause-same : goal.returns-clause-same
+returns-clause-same g c refuted =
+    (found_at_refuted (g.F.Source.gives c.args.files.now) _ _ _ _ c.args.table.now c.args.cert.now c.args.limit c.search_by_file-answer.result c.deliver.result c.search_by_file-answer.ensures.searches
+    (delivered_after (g.F.Source.gives c.args.files.now) _ _ c.search_by_file-answer.ensures.same c.search_by_file-answer.result _ _ _ c.deliver.result c.deliver.ensures) refuted).1

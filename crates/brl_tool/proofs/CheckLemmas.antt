@@ -1,0 +1,146 @@
+-- What is answered for the judge's outcome, by the source as it was before the certificate's file was read.
+use Rattle.std.proofs.Common.{◌≡◌, ℕ, ◌<◌, List, [], ◌∷◌, length, ◌⊎◌, inl, inr, Result, Ok, Err, IfOk, IfErr, arith, refl, subst, sym}
+use Rattle.brl_accept.specs.Judging.{IsAccepted, IsRefusedBy}
+use Rattle.brl_accept.specs.declared.accepted.Accepted.{Accepted}
+use Rattle.brl_accept.specs.declared.judge_fault.JudgeFault.{JudgeFault}
+use Rattle.brl_accept.specs.declared.judge_fault.JudgeFault.TheVariants as judge
+use Rattle.brl_failure.specs.Failure.{IfFault}
+use Rattle.brl_failure.specs.Raised.{if_fault-weaker}
+use Rattle.brl_failure.specs.declared.failure.Failure.{Failure}
+use Rattle.brl_failure.specs.declared.failure.Failure.TheVariants as failures
+use Rattle.brl_lines.specs.Answer.{AllStay, Answer as FileAnswer, MayGive, GivesOneAnswer, Holds, Large, Missing, Unreadable, most_file_bytes}
+use Rattle.brl_lines.specs.Lines.{Answers}
+use Rattle.brl_lines.specs.Outcome.{AreGiven, AreLinesOf, IsLoadFault}
+use Rattle.brl_lines.specs.Tokens.{LineView}
+use Rattle.brl_lines.specs.declared.fault.LoadFault.{LoadFault}
+use Rattle.brl_lines.specs.declared.fault.LoadFaultKind.{LoadFaultKind}
+use Rattle.brl_lines.specs.declared.fault.LoadFaultKind.TheVariants as kinds
+use Rattle.brl_reading.specs.Files.{IsFaultAt, IsTableOf}
+use Rattle.brl_reading.specs.declared.no_table.NoTable.{NoTable}
+use Rattle.brl_reading.specs.declared.no_table.NoTable.TheVariants as no_table
+use Rattle.brl_table.specs.TableView.{TableView}
+use Rattle.brl_table.specs.Translation.{IsUnambiguous}
+use Rattle.brl_tool.specs.Answers.{AcceptsGood, Checks, IsAcceptance, IsFaultOfFile, IsRefusal, LacksBytes, Tells, UnlessMemory}
+use Rattle.brl_tool.specs.declared.answer.Answer.{Answer}
+use Rattle.brl_tool.specs.declared.run_fault.RunFault.{RunFault}
+use Rattle.brl_tool.specs.declared.run_fault.RunFault.TheVariants.{Load, Table, Stream, Confirm, Wide, OutputFailed, CannotWrite, Memory}
+
+-- ---- What one source gives, another may give
+
+module _ (from to : MayGive) (moves : (p : List ℕ) (a : FileAnswer) → from p a → to p a) where
+  given : (answers : Answers) → AreGiven from answers → AreGiven to answers
+  given [] h = tt
+  given (entry ∷ others) h = (moves entry.0 entry.1 h.0, given others h.1)
+
+  lines_moved : (path : List ℕ) (lines : List LineView) → AreLinesOf from path lines → AreLinesOf to path lines
+  lines_moved path lines h = (h.0, given h.0 h.1, h.2)
+
+  pub table_moved : (path : List ℕ) (t : TableView) → IsTableOf from path t → IsTableOf to path t
+  table_moved path t h = (h.0, lines_moved path h.0 h.1, h.2, h.3)
+
+  load_fault_moved : (path : List ℕ) (fault : LoadFault) → IsLoadFault from path (failures.Fault fault) → IsLoadFault to path (failures.Fault fault)
+  load_fault_moved path fault h = ((h.0.0, given h.0.0 h.0.1, h.0.2), λ e. moves _ _ (h.1 e))
+
+  fault_moved : (path : List ℕ) (fault : NoTable) → IsFaultAt from path fault → IsFaultAt to path fault
+  fault_moved path (no_table.Load fault) h = load_fault_moved path fault h
+  fault_moved path (no_table.Table fault) h = (h.0, lines_moved path h.0 h.1, h.2)
+
+  refused_moved : (path bytes : List ℕ) (fault : JudgeFault) → IsRefusedBy from path bytes fault → IsRefusedBy to path bytes fault
+  refused_moved path bytes (judge.NoTable fault) h = fault_moved path fault h
+  refused_moved path bytes (judge.Cert fault) h = (h.0, table_moved path h.0 h.1, h.2, h.3)
+  refused_moved path bytes (judge.Wide fault) h = (h.0, table_moved path h.0 h.1, h.2, h.3)
+  refused_moved path bytes (judge.Refused fault) h = (h.0, table_moved path h.0 h.1, h.2, h.3)
+
+  pub failed_moved : (path bytes : List ℕ) (failure : Failure JudgeFault) → IfFault (IsRefusedBy from path bytes) failure → IfFault (IsRefusedBy to path bytes) failure
+  failed_moved path bytes failure h = if_fault-weaker (IsRefusedBy from path bytes) (IsRefusedBy to path bytes) failure (refused_moved path bytes) h
+
+-- ---- The judge's outcome
+
+module _ (gives after : MayGive) (same : AllStay gives after) (path cert bytes : List ℕ) (holds : gives cert (Holds bytes)) where
+  back : (p : List ℕ) (a : FileAnswer) → after p a → gives p a
+  back p a = (same p a).0
+
+  forth : (p : List ℕ) (a : FileAnswer) → gives p a → after p a
+  forth p a = (same p a).1
+
+  -- an answer, unless memory ran out
+  unless : (is : Answer → Type 0) (result : Result Answer RunFault) → UnlessMemory is result → ((answer : Answer) → is answer → Checks gives path cert (Ok answer)) → Checks gives path cert result
+  unless is (Ok answer) h then = then answer h
+  unless is (Err Memory) h then = inr (bytes, holds, tt)
+  unless is (Err (Load fault)) h then = absurd h
+  unless is (Err (Table fault)) h then = absurd h
+  unless is (Err (Stream fault)) h then = absurd h
+  unless is (Err (Confirm fault)) h then = absurd h
+  unless is (Err (Wide fault)) h then = absurd h
+  unless is (Err OutputFailed) h then = absurd h
+  unless is (Err (CannotWrite named)) h then = absurd h
+
+  -- a fault is answered as it is
+  as_it_is : (fault : RunFault) (result : Result Answer RunFault) → Checks gives path cert (Err fault) → result ≡ Err fault → Checks gives path cert result
+  as_it_is fault result is e = subst (Checks gives path cert) (sym e) is
+
+  refused_as : (failure : Failure JudgeFault) → IfFault (IsRefusedBy gives path bytes) failure → (result : Result Answer RunFault) → Tells (Err failure) result → Checks gives path cert result
+  refused_as (failures.Fault (judge.NoTable (no_table.Load fault))) h result told = as_it_is (Load fault) result (inr (bytes, holds, h)) told
+  refused_as (failures.Fault (judge.NoTable (no_table.Table fault))) h result told = as_it_is (Table fault) result (inr (bytes, holds, h)) told
+  refused_as (failures.Fault (judge.Cert fault)) h result told = unless IsRefusal result told (λ answer is. (bytes, holds, inr (judge.Cert fault, tt, h, is)))
+  refused_as (failures.Fault (judge.Wide fault)) h result told = as_it_is (Wide fault) result (inr (bytes, holds, h)) told
+  refused_as (failures.Fault (judge.Refused fault)) h result told = unless IsRefusal result told (λ answer is. (bytes, holds, inr (judge.Refused fault, tt, h, is)))
+  refused_as failures.Memory h result told = as_it_is Memory result (inr (bytes, holds, tt)) told
+
+  -- the answer to a judge's outcome is one about the table of the path
+  pub judged : (outcome : Result Accepted (Failure JudgeFault))
+      → IfOk outcome (λ accepted. (t : TableView) × IsTableOf after path t × IsUnambiguous t × IsAccepted t bytes accepted)
+      → IfErr outcome (IfFault (IsRefusedBy after path bytes))
+      → (result : Result Answer RunFault) → Tells outcome result → Checks gives path cert result
+  judged (Ok accepted) is refused result told =
+      unless (IsAcceptance accepted) result told (λ answer says. (bytes, holds, inl (is.0, table_moved after gives back path is.0 is.1, is.2, (accepted, is.3, says))))
+  judged (Err failure) is refused result told = refused_as failure (failed_moved after gives back path bytes failure refused) result told
+
+  -- a good certificate is accepted, unless memory ran out
+  pub accepted_good : (outcome : Result Accepted (Failure JudgeFault))
+      → (GivesOneAnswer after → (t : TableView) → IsTableOf after path t → (accepted : Accepted) → IsAccepted t bytes accepted → (outcome ≡ Ok accepted) ⊎ (outcome ≡ Err failures.Memory))
+      → (result : Result Answer RunFault) → Tells outcome result → AcceptsGood gives path cert result
+  accepted_good outcome decides result told one certificate there short t table accepted deserved =
+      let are : certificate ≡ bytes = same_bytes (one cert (Holds certificate) (Holds bytes) there holds) in
+      let decided = decides (λ p a b h k. one p a b (back p a h) (back p b k)) t (table_moved gives after forth path t table) accepted (subst (λ (b : List ℕ). IsAccepted t b accepted) are deserved) in
+      elim decided [
+        | inl ok ↦ subst (λ (o : Result Accepted (Failure JudgeFault)). Tells o result) ok told
+        | inr err ↦ subst (UnlessMemory (IsAcceptance accepted)) (sym (subst (λ (o : Result Accepted (Failure JudgeFault)). Tells o result) err told)) tt
+      ]
+    where
+      same_bytes : {x y : List ℕ} → Holds x ≡ Holds y → x ≡ y
+      same_bytes e = cc
+
+-- a file with few enough bytes is read, unless memory runs out
+pub has_bytes : (gives : MayGive) (path cert : List ℕ) (fault : RunFault) → IsFaultOfFile gives cert fault → AcceptsGood gives path cert (Err fault)
+has_bytes gives path cert fault h one bytes there short t table accepted deserved =
+    subst (λ (f : RunFault). UnlessMemory (IsAcceptance accepted) (Err f)) (sym (by_fault fault h)) tt
+  where
+    other : (a : FileAnswer) → gives cert a → Holds bytes ≡ a
+    other a given = one cert (Holds bytes) a there given
+
+    too_long : {x : List ℕ} → Holds bytes ≡ Holds x → most_file_bytes < length x → ⊥
+    too_long {x} e long = let are : bytes ≡ x = cc in let here = subst (λ (b : List ℕ). most_file_bytes < length b) (sym are) long in absurd (omega (arith, here, short))
+
+    lacks : (kind : LoadFaultKind) → LacksBytes (gives cert) kind → ⊥
+    lacks kinds.NotFound k = let e = other Missing k in cc
+    lacks kinds.ReadFailed k = let e = other Unreadable k in cc
+    lacks kinds.TooLarge k = elim k [
+      | inl large ↦ let e = other Large large in cc
+      | inr (x, given, long) ↦ too_long (other (Holds x) given) long
+    ]
+    lacks kinds.NotUtf8 k = k
+    lacks kinds.Cycle k = k
+    lacks kinds.TooDeep k = k
+    lacks kinds.LineTooLong k = k
+    lacks kinds.TooManyIncludes k = k
+
+    by_fault : (fault : RunFault) → IsFaultOfFile gives cert fault → fault ≡ Memory
+    by_fault (Load found) k = absurd (lacks found.kind k.2)
+    by_fault (Table fault) k = absurd k
+    by_fault (Stream fault) k = absurd k
+    by_fault (Confirm fault) k = absurd k
+    by_fault (Wide fault) k = absurd k
+    by_fault OutputFailed k = absurd k
+    by_fault (CannotWrite named) k = absurd k
+    by_fault Memory k = refl

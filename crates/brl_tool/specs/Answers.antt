@@ -1,0 +1,185 @@
+-- What each command answers. The project's own choice.
+use Rattle.std.specs.Prelude.{ℕ, ◌≡◌, ◌<◌, ◌≤◌, ◌⊎◌, IsTrue, List, ◌++◌, length, Option, None, Some, Result, Ok, Err, codes, string_bytes}
+use Rattle.std.specs.Fmt.{decimal}
+use Rattle.brl_accept.specs.Judging.{IsAccepted, IsRefusedBy, counted}
+use Rattle.brl_accept.specs.declared.accepted.Accepted.{Accepted}
+use Rattle.brl_accept.specs.declared.judge_fault.JudgeFault.{JudgeFault}
+use Rattle.brl_accept.specs.declared.judge_fault.JudgeFault.TheVariants as judge
+use Rattle.brl_cert.specs.Reading.{reading, spelling}
+use Rattle.brl_edges.specs.Body.{BodyView}
+use Rattle.brl_failure.specs.declared.failure.Failure.{Failure}
+use Rattle.brl_failure.specs.declared.failure.Failure.TheVariants as failures
+use Rattle.brl_forward.specs.Faults.{IsFaultOfTwo}
+use Rattle.brl_kinds.specs.Kinds.{pair_count, state_count}
+use Rattle.brl_kinds.specs.declared.cert.Cert.{Cert as Certificate}
+use Rattle.brl_lines.specs.Answer.{Answer as FileAnswer, MayGive, GivesOneAnswer, Holds, Large, Missing, Unreadable, most_file_bytes}
+use Rattle.brl_lines.specs.declared.fault.LoadFault.{LoadFault}
+use Rattle.brl_lines.specs.declared.fault.LoadFaultKind.{LoadFaultKind}
+use Rattle.brl_lines.specs.declared.fault.LoadFaultKind.TheVariants as kinds
+use Rattle.brl_reading.specs.Files.{IsFaultAt, IsTableOf}
+use Rattle.brl_reading.specs.declared.no_table.NoTable.TheVariants as no_table
+use Rattle.brl_report.specs.Report.{report_text}
+use Rattle.brl_search.specs.Answers.{IsCertified, IsLimit}
+use Rattle.brl_search.specs.Searched.{State, certificate_of, machine_of}
+use Rattle.brl_table.specs.TableView.{TableView}
+use Rattle.brl_table.specs.Text.{is_text}
+use Rattle.brl_table.specs.Translation.{IsClash, IsUnambiguous}
+use Rattle.brl_tool.specs.Status.{of_no_table}
+use Rattle.brl_tool.specs.declared.answer.Answer.{Answer}
+use Rattle.brl_tool.specs.declared.answer.NewFile.{NewFile}
+use Rattle.brl_tool.specs.declared.run_fault.RunFault.{RunFault}
+use Rattle.brl_tool.specs.declared.run_fault.RunFault.TheVariants.{Load, Table, Confirm, Wide, Memory}
+use Rattle.brl_tool.specs.declared.status.Status.{Status}
+use Rattle.brl_tool.specs.declared.status.Status.TheVariants.{Done, Refuted, Undecided}
+
+-- an answer has this status and text, and no file
+abbrev pub Says : Status → List ℕ → Answer → Type 0
+Says status text answer = (answer.status ≡ status) × (string_bytes answer.text ≡ text) × (answer.file ≡ None)
+
+-- a line with numbers of states and of pairs after a word
+abbrev pub counts_line : List ℕ → ℕ → ℕ → List ℕ
+counts_line word states pairs = word ++ (codes ": " ++ (decimal states ++ (codes " states, " ++ (decimal pairs ++ codes " pairs\n"))))
+
+-- ---- The table of a file
+
+-- there is no table at a path, and this is why; memory may run out at any file
+abbrev pub HasNoTable : MayGive → List ℕ → RunFault → Type 0
+HasNoTable gives path (Load fault) = IsFaultAt gives path (no_table.Load fault)
+HasNoTable gives path (Table fault) = IsFaultAt gives path (no_table.Table fault)
+HasNoTable gives path Memory = Unit {0}
+HasNoTable gives path fault = ⊥
+
+-- how the loading of files ended
+abbrev pub load_outcome : {T : Type 0} → Result T RunFault → Result (Unit {0}) (Failure LoadFault)
+load_outcome (Err (Load fault)) = Err (failures.Fault fault)
+load_outcome (Err Memory) = Err failures.Memory
+load_outcome outcome = Ok tt
+
+-- what is answered by the table of the file at a path: what the table gives, or why there is none
+abbrev pub ByTable : MayGive → List ℕ → (TableView → Result Answer RunFault → Type 0) → Result Answer RunFault → Type 0
+ByTable gives path answers (Err (Load fault)) = HasNoTable gives path (Load fault)
+ByTable gives path answers (Err (Table fault)) = HasNoTable gives path (Table fault)
+ByTable gives path answers (Err Memory) = Unit {0}
+ByTable gives path answers outcome = (t : TableView) × IsTableOf gives path t × answers t outcome
+
+-- ---- `brl clash`
+
+-- the answer for two texts of a table: the report of a clash, or that there is none
+abbrev pub IsComparison : TableView → List ℕ → List ℕ → Answer → Type 0
+IsComparison t left right answer =
+    ((cells : List ℕ) × IsClash t left right cells × Says Refuted (report_text t left right cells) answer)
+    ⊎ (IsTrue (is_text t left) × IsTrue (is_text t right) × ((cells : List ℕ) → IsClash t left right cells → ⊥)
+    × Says Done (codes "no clash\n") answer)
+
+-- two texts were compared by a table
+abbrev pub Compares : TableView → List ℕ → List ℕ → Result Answer RunFault → Type 0
+Compares t left right (Ok answer) = IsComparison t left right answer
+Compares t left right (Err (Confirm fault)) = IsFaultOfTwo t left right fault
+Compares t left right (Err Memory) = Unit {0}
+Compares t left right (Err fault) = ⊥
+
+-- the same by the table of the file at a path
+abbrev pub ComparesByFile : MayGive → List ℕ → List ℕ → List ℕ → Result Answer RunFault → Type 0
+ComparesByFile gives path left right outcome = ByTable gives path (λ t. Compares t left right) outcome
+
+-- ---- `brl check`
+
+-- why a file has no bytes for a certificate
+abbrev pub LacksBytes : (FileAnswer → Type 0) → LoadFaultKind → Type 0
+LacksBytes gives kinds.NotFound = gives Missing
+LacksBytes gives kinds.ReadFailed = gives Unreadable
+LacksBytes gives kinds.TooLarge = gives Large ⊎ ((bytes : List ℕ) × gives (Holds bytes) × (most_file_bytes < length bytes))
+LacksBytes gives kind = ⊥
+
+-- the fault is of the certificate's file: it names its path and no line
+abbrev pub IsFaultOfFile : MayGive → List ℕ → RunFault → Type 0
+IsFaultOfFile gives path Memory = Unit {0}
+IsFaultOfFile gives path (Load fault) = (string_bytes fault.path ≡ path) × (fault.place ≡ None) × LacksBytes (gives path) fault.kind
+IsFaultOfFile gives path fault = ⊥
+
+-- the line of an acceptance
+abbrev pub accepted_line : ℕ → ℕ → List ℕ
+accepted_line states pairs = counts_line (codes "accepted") states pairs
+
+-- the answer where a certificate is accepted
+abbrev pub IsAcceptance : Accepted → Answer → Type 0
+IsAcceptance accepted answer = Says Done (accepted_line accepted.states accepted.pairs) answer
+
+-- the answer where a certificate is refused: a line that begins with this word
+abbrev pub IsRefusal : Answer → Type 0
+IsRefusal answer = (rest : List ℕ) × Says Refuted (codes "refused: " ++ rest) answer
+
+-- the fault is the certificate's, and not the table's
+abbrev pub IsOfCertificate : JudgeFault → Type 0
+IsOfCertificate (judge.Cert fault) = Unit {0}
+IsOfCertificate (judge.Refused fault) = Unit {0}
+IsOfCertificate fault = ⊥
+
+-- The answer for a certificate's bytes and the table of the file at a path. Where they are accepted,
+-- any two texts of the table, of whatever length, that it translates to the same cells are equal.
+abbrev pub IsJudgement : MayGive → List ℕ → List ℕ → Answer → Type 0
+IsJudgement gives path bytes answer =
+    ((t : TableView) × IsTableOf gives path t × IsUnambiguous t × ((accepted : Accepted) × IsAccepted t bytes accepted × IsAcceptance accepted answer))
+    ⊎ ((fault : JudgeFault) × IsOfCertificate fault × IsRefusedBy gives path bytes fault × IsRefusal answer)
+
+-- there is no table at the path, or it is too wide for the certificate's version
+abbrev pub IsFaultOfTable : MayGive → List ℕ → List ℕ → RunFault → Type 0
+IsFaultOfTable gives path bytes (Wide fault) = IsRefusedBy gives path bytes (judge.Wide fault)
+IsFaultOfTable gives path bytes fault = HasNoTable gives path fault
+
+-- the certificate in the file at one path was judged for the table of the file at another
+abbrev pub Checks : MayGive → List ℕ → List ℕ → Result Answer RunFault → Type 0
+Checks gives path cert (Ok answer) = (bytes : List ℕ) × gives cert (Holds bytes) × IsJudgement gives path bytes answer
+Checks gives path cert (Err fault) =
+    IsFaultOfFile gives cert fault ⊎ ((bytes : List ℕ) × gives cert (Holds bytes) × IsFaultOfTable gives path bytes fault)
+
+-- this was answered, unless memory ran out
+abbrev pub UnlessMemory : (Answer → Type 0) → Result Answer RunFault → Type 0
+UnlessMemory is (Ok answer) = is answer
+UnlessMemory is (Err Memory) = Unit {0}
+UnlessMemory is (Err fault) = ⊥
+
+-- what is answered for each outcome of the judge
+abbrev pub Tells : Result Accepted (Failure JudgeFault) → Result Answer RunFault → Type 0
+Tells (Ok accepted) outcome = UnlessMemory (IsAcceptance accepted) outcome
+Tells (Err (failures.Fault (judge.NoTable fault))) outcome = outcome ≡ Err (of_no_table (failures.Fault fault))
+Tells (Err (failures.Fault (judge.Wide fault))) outcome = outcome ≡ Err (Wide fault)
+Tells (Err (failures.Fault fault)) outcome = UnlessMemory IsRefusal outcome
+Tells (Err failures.Memory) outcome = outcome ≡ Err Memory
+
+-- Over files that each have one answer: where they define a table, and the certificate's file has
+-- bytes that deserve acceptance for it, they are accepted, unless memory runs out.
+abbrev pub AcceptsGood : MayGive → List ℕ → List ℕ → Result Answer RunFault → Type 0
+AcceptsGood gives path cert outcome =
+    GivesOneAnswer gives → (bytes : List ℕ) → gives cert (Holds bytes) → length bytes ≤ most_file_bytes
+    → (t : TableView) → IsTableOf gives path t → (accepted : Accepted) → IsAccepted t bytes accepted → UnlessMemory (IsAcceptance accepted) outcome
+
+-- ---- `brl search`
+
+-- how many states and pairs a certificate has
+abbrev pub certified_line : Certificate → List ℕ
+certified_line cert = counts_line (codes "certified") (state_count cert) (pair_count cert)
+
+-- a file at a path with the bytes of a certificate
+abbrev pub IsFileOf : Certificate → List ℕ → Option NewFile → Type 0
+IsFileOf cert path None = ⊥
+IsFileOf cert path (Some file) = (string_bytes file.path ≡ path) × (file.bytes.items ≡ spelling cert)
+
+-- the answer with a certificate, which is read back from the bytes for its file
+abbrev pub IsCertificateAt : List ℕ → Certificate → Answer → Type 0
+IsCertificateAt path cert answer =
+    (answer.status ≡ Done) × (string_bytes answer.text ≡ certified_line cert) × IsFileOf cert path answer.file
+    × (reading (spelling cert) ≡ Ok cert)
+
+-- The answer of the search of a table with a limit: a certificate for a file, where no two texts
+-- clash; or the report of a clash; or the numbers at which the limit was passed.
+abbrev pub IsVerdict : TableView → List ℕ → ℕ → Answer → Type 0
+IsVerdict t out limit answer =
+    (IsUnambiguous t × ((body : BodyView State) × IsCertified (machine_of t) limit body
+    × IsAccepted t (spelling (certificate_of body)) (counted (certificate_of body)) × IsCertificateAt out (certificate_of body) answer))
+    ⊎ ((left right cells : List ℕ) × IsClash t left right cells × Says Refuted (report_text t left right cells) answer)
+    ⊎ ((states pairs : ℕ) × IsLimit (machine_of t) limit states pairs × Says Undecided (counts_line (codes "limit") states pairs) answer)
+
+-- the table of the file at a path was searched, up to a limit, for a certificate for another file
+abbrev pub SearchesByFile : MayGive → List ℕ → List ℕ → ℕ → Result Answer RunFault → Type 0
+SearchesByFile gives path out limit outcome = ByTable gives path (λ t. UnlessMemory (IsVerdict t out limit)) outcome
