@@ -9,8 +9,8 @@ use std::process::ExitCode;
 /// The status of arguments that can't be read.
 const USE: u8 = 2;
 
-/// The status of want of memory.
-const WANT_OF_MEMORY: u8 = 3;
+/// The status where memory ran out.
+const OUT_OF_MEMORY: u8 = 3;
 
 fn main(rt: HostRuntime) -> ExitCode {
     let alloc = rt.alloc();
@@ -23,7 +23,7 @@ fn main(rt: HostRuntime) -> ExitCode {
     };
     let Ok(words) = arguments.collect::<Vec<String>>(alloc) else {
         let _ = rt.eprintln("Memory");
-        return ExitCode::from(WANT_OF_MEMORY);
+        return ExitCode::from(OUT_OF_MEMORY);
     };
     let status = run(
         alloc,

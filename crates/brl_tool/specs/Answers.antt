@@ -154,6 +154,11 @@ AcceptsGood gives path cert outcome =
     GivesOneAnswer gives → (bytes : List ℕ) → gives cert (Holds bytes) → length bytes ≤ most_file_bytes
     → (t : TableView) → IsTableOf gives path t → (accepted : Accepted) → IsAccepted t bytes accepted → UnlessMemory (IsAcceptance accepted) outcome
 
+-- the certificate was judged, and accepted where it deserves that
+pub record Judges (gives : MayGive) (path cert : List ℕ) (outcome : Result Answer RunFault) : Type 0 where
+  pub checks : Checks gives path cert outcome
+  pub accepts : AcceptsGood gives path cert outcome
+
 -- ---- `brl search`
 
 -- how many states and pairs a certificate has

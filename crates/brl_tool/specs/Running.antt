@@ -13,7 +13,7 @@ use Rattle.brl_search.specs.Searched.{State, certificate_of}
 use Rattle.brl_stream.specs.declared.form.Form.{Form}
 use Rattle.brl_table.specs.TableView.{TableView}
 use Rattle.brl_table.specs.Translation.{IsClash, IsUnambiguous}
-use Rattle.brl_tool.specs.Answers.{AcceptsGood, Checks, ComparesByFile, Says, SearchesByFile, UnlessMemory, accepted_line, certified_line}
+use Rattle.brl_tool.specs.Answers.{ComparesByFile, Judges, Says, SearchesByFile, UnlessMemory, accepted_line, certified_line}
 use Rattle.brl_tool.specs.Delivery.{IsDelivered}
 use Rattle.brl_tool.specs.Files.{GivesAlso, OthersStay}
 use Rattle.brl_tool.specs.Status.{code_of, status_of}
@@ -46,7 +46,7 @@ ComparesBy before after path left right failed old new status =
 -- deserves acceptance, it is accepted, unless memory runs out.
 abbrev pub ChecksBy : MayGive → MayGive → List ℕ → List ℕ → Type 0 → Option (List ℕ) → Option (List ℕ) → Status → Type 0
 ChecksBy before after path cert failed old new status =
-    IsDelivered (λ outcome. Checks before path cert outcome × AcceptsGood before path cert outcome) before after failed old new status
+    IsDelivered (Judges before path cert) before after failed old new status
 
 -- the table of the file at one path was searched, up to a limit, for a certificate for another file
 abbrev pub SearchesBy : MayGive → MayGive → List ℕ → List ℕ → ℕ → Type 0 → Option (List ℕ) → Option (List ℕ) → Status → Type 0

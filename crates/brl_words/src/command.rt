@@ -8,24 +8,24 @@ use std::fmt;
 /// What the words ask for.
 #[derive(Clone, Copy)]
 pub enum Task<'a> {
-    /// Translate the input to this form by the table whose file stands at this path.
+    /// Translate the input to this form by the table whose file is at this path.
     Translate {
         table: &'a str,
         form: Form,
     },
-    /// Compare two texts by the table whose file stands at this path.
+    /// Compare two texts by the table whose file is at this path.
     Clash {
         table: &'a str,
         left: &'a str,
         right: &'a str,
     },
-    /// Check the certificate in the file at this path for the table whose file stands at this path.
+    /// Check the certificate in the file at one path for the table whose file is at another.
     Check {
         table: &'a str,
         cert: &'a str,
     },
-    /// Search the table whose file stands at this path, and write a certificate to the file at this path. Neither more states nor
-    /// more pairs than the limit are wanted.
+    /// Search the table whose file is at one path, and write a certificate to the file at another. At
+    /// most `limit` states and `limit` pairs may be found.
     Search {
         table: &'a str,
         cert: &'a str,
@@ -34,7 +34,7 @@ pub enum Task<'a> {
 }
 
 /// Why the words ask for no work: a use fault, or help or the version that was asked for, or memory
-/// was refused. It is shown as the text that belongs to it.
+/// ran out. It is shown as the text that belongs to it.
 #[derive(Drop)]
 pub struct NoTask {
     error: Error,
@@ -122,10 +122,10 @@ const TRANSLATE: Page = Page {
 Reads standard input line by line and writes the cells of each line to standard
 output, as North American Braille ASCII or as Unicode braille. A line is written
 before the next is translated. The first fault ends the work: standard error
-names it with its line, and the lines before it stand written.",
+names it with its line, and the lines before it have been written.",
     example: "A table is a UTF-8 file. A line defines a character: an opcode (as letter,
 digit, punctuation or space), the character (\\s is a blank) and its dots (0 is
-the blank cell, - joins cells). Or it has a rule: where in a word it stands (as
+the blank cell, - joins cells). Or it has a rule: where in a word it applies (as
 always, word or endword), characters and dots. Or it includes another file. A
 line that begins with # is a comment.
 
@@ -150,8 +150,8 @@ cells, they clash: standard output gets their report, and the exit status is 1.
 Else it gets 'no clash', and the status is 0.
 
 The report has the texts and their cells, and then of each text the steps of its
-translation from where the two part: the characters, their cells, and the file
-and line of the rule. A blank is written \\s, a backslash \\\\, and control
+translation from where the two diverge: the characters, their cells, and the
+file and line of the rule. A blank is written \\s, a backslash \\\\, and control
 characters as in a table, so that each text can be copied into one.",
     example: "Example, a table in which x looks like ab:
   printf '%s\\n' 'letter a 1' 'letter b 12' 'letter x 1-12' > alike.ctb
@@ -172,7 +172,7 @@ It prints:
         Operand {
             id: "left",
             name: "LEFT",
-            help: "A text, as it stands",
+            help: "A text",
         },
         Operand {
             id: "right",
@@ -246,7 +246,7 @@ It prints:
 /// The commands of `brl`.
 const PAGES: [Page; 4] = [TRANSLATE, CLASH, CHECK, SEARCH];
 
-/// How many states, and how many pairs, a search finds at most, where the words don't say.
+/// How many states, and how many pairs, a search may find where the words give no limit.
 const USUAL_LIMIT: &str = "1000000";
 
 /// An operand that must be there.

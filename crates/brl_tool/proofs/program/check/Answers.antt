@@ -5,7 +5,7 @@ use Rattle.brl_tool.proofs.program.check.Goals as goal
 pub returns-clause-checks : goal.returns-clause-checks
 returns-clause-checks g c = (
   c.check_by_file-answer.result,
-  (c.check_by_file-answer.ensures.checks, c.check_by_file-answer.ensures.accepts),
+  record { checks = c.check_by_file-answer.ensures.checks; accepts = c.check_by_file-answer.ensures.accepts },
   delivered_after (g.F.Source.gives c.args.files.now) _ _ c.check_by_file-answer.ensures.same c.check_by_file-answer.result _ _ _ c.deliver.result c.deliver.ensures,
 )
 
