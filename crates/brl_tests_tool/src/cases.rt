@@ -1,7 +1,8 @@
 //! What the program answers, in rows whose fields are cut at `|`.
 
-/// Files, the words, an input, what stands on standard output and on standard error, and the status. Files are cut at ` & `, a
-/// path from its lines at `: `, words at `,`, and the lines of a field at `; `. An empty field has no line.
+/// Files, the words, an input, what is written to standard output and to standard error, and the
+/// status. Files are cut at ` & `, a path from its lines at `: `, words at `,`, and the lines of a field
+/// at `; `. An empty field has no line.
 pub const TRANSLATIONS: &str = "\
 t.ctb: space \\s 0; letter a 1; letter b 12; letter c 14|brl,translate,t.ctb|abc a|ABC A||0
 t.ctb: space \\s 0; letter a 1; letter b 12; letter c 14|brl,translate,t.ctb||||0
@@ -167,8 +168,8 @@ letter a 1; litdigit 1 1; numsign 3456
 uplow Aa 1
 ";
 
-/// The words, over no files, and a text that stands on standard output, and on standard error; where it is empty, nothing stands
-/// there; and the status.
+/// The words, over no files; a text that is written to standard output and one to standard error,
+/// where an empty one says that nothing is written; and the status.
 pub const REQUESTS: &str = "\
 brl,translate,t.ctb||L1 NotFound t.ctb|2
 brl,--help|Usage: brl <COMMAND>||0

@@ -27,7 +27,7 @@ fn a_certificate_has_16777216_bytes(rt: HostRuntime) -> Result<(), Fail> {
     Ok(())
 }
 
-/// A certificate, and a table of so many letters.
+/// A certificate, and a table of `count` letters.
 fn letters(alloc: Global, count: u32) -> Result<String, Fail> {
     let mut files = String::from_str(alloc, "c: BRLCERT 1; state 1 0 0 -; end 1 0 & t.ctb: #")?;
     for code in 0..count {

@@ -138,8 +138,8 @@ fn worked_runs(rt: HostRuntime) -> Result<(), Fail> {
     check_rows(&rt, rt.alloc(), cases::SEARCHES)
 }
 
-/// Whether a text that isn't empty stands in what was written; of the empty text, whether nothing
-/// was written.
+/// Whether what was written has a text that isn't empty; of the empty text, whether nothing was
+/// written.
 fn has_text(written: &[u8], text: &str) -> Result<bool, Fail> {
     let written = std::str::from_utf8(written)?;
     Ok(written.is_empty() == text.is_empty() && written.contains(text))
@@ -186,7 +186,7 @@ fn is_translated(alloc: Global, table: &[u8], input: &[u8], fields: &str) -> Res
     )
 }
 
-/// A table of the letters `a` and `b` and so many rules of both.
+/// A table of the letters `a` and `b` and `count` rules of both.
 fn with_rules(alloc: Global, count: usize) -> Result<Vec<u8>, Fail> {
     let mut table = Vec::from_slice(alloc, b"letter a 1\nletter b 12\n")?;
     for _ in 0..count {
@@ -195,7 +195,7 @@ fn with_rules(alloc: Global, count: usize) -> Result<Vec<u8>, Fail> {
     Ok(table)
 }
 
-/// Whether an input is translated so by a table of so many rules.
+/// Whether an input is translated so by a table of `count` rules.
 fn is_ruled(alloc: Global, count: usize, input: &[u8], fields: &str) -> Result<bool, Fail> {
     is_translated(alloc, with_rules(alloc, count)?.as_slice(), input, fields)
 }
