@@ -1,4 +1,4 @@
--- Cells that are read one after the other.
+-- Reading cells, one after the other.
 use Rattle.std.proofs.Common.{◌≡◌, ℕ, suc, ◌+◌, ◌<◌, ◌≤◌, leb, eqb, cond, true, false, List, [], ◌∷◌, ◌++◌, length, drop, get_or, Result, Ok, Err, append_assoc, refl, sym, ap, subst, ◌∙◌, inl, inr, arith}
 use Rattle.std.proofs.lemmas.Bool.Decides.{nat_tests}
 use Rattle.std.proofs.lemmas.List.{append-nil, drop_more}
@@ -13,20 +13,20 @@ use Rattle.brl_failure.specs.Failure.{◌>>=◌, IfFault}
 use Rattle.brl_failure.specs.declared.failure.Failure.{Failure}
 use Rattle.brl_failure.specs.declared.failure.Failure.TheVariants as failures
 
--- a cell before others, as the reading of parts has them
+-- a cell before the cells of other parts
 abbrev pub before_cells : Result ℕ DotsFault → Result (List ℕ) DotsFault → Result (List ℕ) DotsFault
 before_cells first rest = do
   cell ← first
   cells ← rest
   Ok (cell ∷ cells)
 
--- cells, where they are not too many
+-- the cells, if they are not too many
 abbrev pub limited : ℕ → Result (List ℕ) DotsFault → Result (List ℕ) DotsFault
 limited most read = do
   cells ← read
   cond (leb (length cells) most) (Ok cells) (Err TooManyCells)
 
--- these cells, and after them those that are read
+-- these cells, before those that are read
 abbrev pub behind : List ℕ → Result (List ℕ) DotsFault → Result (List ℕ) DotsFault
 behind front (Ok cells) = Ok (front ++ cells)
 behind front (Err fault) = Err fault
@@ -63,7 +63,7 @@ parts_all pieces place front le so_far =
     let none : drop place pieces ≡ [] = drop_of_length-le pieces le in
     sym so_far.rest ∙ ap (λ (ps : List (List ℕ)). behind front (cells_reading ps)) none ∙ ap (λ (cs : List ℕ). Ok cs) (append-nil front)
 
--- ---- The reading of a part, as one of the steps that may fail
+-- ---- The reading of a part, as a step that may fail
 
 pub step_ok : (read : Result ℕ DotsFault) (step : Result ℕ (Failure DotsFault)) (cell : ℕ) → MatchResult read (λ y. step ≡ Ok y) (λ e. IsErrAnd step (λ f. f ≡ failures.Fault e)) → step ≡ Ok cell → Ok cell ≡ read
 step_ok (Ok y) step cell h e = cc
@@ -78,7 +78,7 @@ step_fault (Err d) (Err f) failure whole h e decides =
     let same : failures.Fault d ≡ failure = (let is : f ≡ failure = cc in sym h ∙ is) in
     subst (IfFault (λ fault. whole ≡ Err fault)) same (decides d refl)
 
--- ---- Not too many
+-- ---- The limit
 
 pub reading_fault : (most : ℕ) (bytes : List ℕ) (fault : DotsFault) → cells_reading (parts bytes) ≡ Err fault → reading most bytes ≡ Err fault
 reading_fault most bytes fault is = ap (limited most) is
@@ -89,7 +89,7 @@ reading_too_many most bytes cells lt is = ap (limited most) is ∙ (let over : l
 pub reading_is : (most : ℕ) (bytes cells : List ℕ) → length cells ≤ most → cells_reading (parts bytes) ≡ Ok cells → reading most bytes ≡ Ok cells
 reading_is most bytes cells le is = ap (limited most) is ∙ (let within : leb (length cells) most ≡ true = grind (arith, nat_tests) in rw within refl)
 
--- what is read is not empty, and within the limit
+-- whatever is read is not empty, and within the limit
 some_parts : (bytes : List ℕ) → 0 < length (parts bytes)
 some_parts bytes = omega (arith, length-slice_split (λ m. eqb m 45) bytes)
 

@@ -1,4 +1,4 @@
--- What is spelled is read back, and what is read are cells.
+-- Spelled cells are read back, and whatever is read are cells.
 use Rattle.std.proofs.Common.{◌≡◌, ℕ, zero, suc, ◌+◌, ◌<◌, ◌≤◌, Bool, true, false, ◌&&◌, eqb, ltb, All, List, [], ◌∷◌, length, map, Result, Ok, Err, refl, sym, ap, ◌∙◌, inl, inr, arith}
 use Rattle.std.specs.Cmp.{first_so, second_so}
 use Rattle.std.specs.List.{AllByRecursion, list_all}
@@ -66,21 +66,21 @@ cells_again : (cells : List ℕ) → AllByRecursion (λ c. c < 256) cells → ce
 cells_again [] are = refl
 cells_again (cell ∷ cells) are = rw (cell_again cell are.0, cells_again cells are.1) refl
 
--- what one cell or more spell is read as these cells
+-- the spelling of one cell or more is read as these cells
 pub spelled_cells_are_read : (most : ℕ) (cells : List ℕ) → AreCells cells → 1 ≤ length cells → length cells ≤ most → reading most (spelling cells) ≡ Ok cells
 spelled_cells_are_read most [] are some le = absurd (omega arith)
 spelled_cells_are_read most (cell ∷ cells) are some le =
     let all = recursion_from_All (λ c. c < 256) (cell ∷ cells) are in
     reading_is most (spelling (cell ∷ cells)) (cell ∷ cells) le (ap cells_reading (parts-spelling cell cells all) ∙ cells_again (cell ∷ cells) all)
 
--- no cells are spelled by the empty text, which is not the spelling of a cell
+-- only no cells have the empty text as their spelling
 not_empty : (cell : ℕ) (cells : List ℕ) → AreCells (cell ∷ cells) → spelling (cell ∷ cells) ≡ [] → ⊥
 not_empty cell cells are e =
     let again = spelled_cells_are_read (length (cell ∷ cells)) (cell ∷ cells) are (omega arith) (omega arith) in
     let none : reading (length (cell ∷ cells)) [] ≡ Ok (cell ∷ cells) = ap (reading (length (cell ∷ cells))) (sym e) ∙ again in
     cc
 
--- two lists of cells with one spelling are one list
+-- lists of cells with the same spelling are equal
 pub cells_have_one_spelling : (left right : List ℕ) → AreCells left → AreCells right → spelling left ≡ spelling right → left ≡ right
 cells_have_one_spelling [] [] are_left are_right e = refl
 cells_have_one_spelling [] (cell ∷ cells) are_left are_right e = absurd (not_empty cell cells are_right (sym e))

@@ -1,11 +1,11 @@
--- Cells that are written one after the other.
+-- Writing cells, one after the other.
 use Rattle.std.proofs.Common.{◌≡◌, ℕ, ◌+◌, ◌<◌, Bool, true, false, List, [], ◌∷◌, ◌++◌, length, take, take_all, get_or, subst, ◌≤◌, append_assoc, arith, refl, sym, ap, ◌∙◌}
 use Rattle.std.specs.Prelude.{filter}
 use Rattle.std.proofs.lemmas.List.{take_more, append-nil, length-take}
 use Rattle.brl_cells.specs.Dots.{AreCells, cell_spelling, spelling}
 use Rattle.std.proofs.lemmas.List.Elements.{filter-append, All-push}
 
--- the marks before this place that pass a test are written behind the text that stood there
+-- the marks before this place that pass a test were appended to the text
 abbrev pub IsFilteredTo : (ℕ → Bool) → List ℕ → ℕ → List ℕ → List ℕ → Type 0
 IsFilteredTo test marks place old text = text ≡ old ++ filter test (take place marks)
 
@@ -25,7 +25,7 @@ module _ (test : ℕ → Bool) (marks : List ℕ) (place : ℕ) (old : List ℕ)
       let all : filter test (take (place + 1) marks) ≡ filter test (take place marks) = one_more lt ∙ ap (λ (ms : List ℕ). filter test (take place marks) ++ ms) none ∙ append-nil (filter test (take place marks)) in
       is ∙ so_far ∙ ap (λ (ms : List ℕ). old ++ ms) (sym all)
 
--- a cell behind others stands behind a hyphen
+-- a hyphen comes between a cell and the cells before it
 spelling_push : (cells : List ℕ) (cell : ℕ) → 0 < length cells → spelling (cells ++ cell ∷ []) ≡ spelling cells ++ 45 ∷ cell_spelling cell
 spelling_push [] cell some = absurd (omega arith)
 spelling_push (first ∷ []) cell some = refl

@@ -10,12 +10,12 @@ use Rattle.std.proofs.lemmas.Bool.Decides.{Decides-eqb, nat_tests}
 use Rattle.std.proofs.lemmas.Option.{slice_get-get_or, slice_get_past}
 use Rattle.brl_cells.specs.Marks.{ascii_mark, braille_ascii}
 
--- what `get` lends is the item at the place
+-- what `get` lends is the element at the place
 pub looked_up : (items : List ℕ) (place : ℕ) (found : Option (Bor ℕ)) → IsItemAt items place found → option_copied found ≡ slice_get items place
 looked_up items place None is = sym (slice_get_past items place is.3)
 looked_up items place (Some x) is = ap (λ (n : ℕ). Some n) is.1 ∙ sym (slice_get-get_or items place x.now is.3.0)
 
--- a test of each place and its item, the first place being the given one
+-- a test of each place and its element, counted from the given place
 abbrev all_at : (ℕ → ℕ → Bool) → ℕ → List ℕ → Bool
 all_at test first [] = true
 all_at test first (item ∷ items) = test first item && all_at test (suc first) items
@@ -27,7 +27,7 @@ at_place test first (x ∷ items) (suc place) item all is =
     let k : suc first + place ≡ first + suc place = omega arith in
     ap (λ (n : ℕ). test n item) (sym k) ∙ at_place test (suc first) items place item (second_so (test first x) (all_at test (suc first) items) all) is
 
--- each mark stands first where it stands
+-- each mark occurs nowhere before its place
 stands_first : (cell mark : ℕ) → ascii_mark cell ≡ Some mark → position_or_len (λ m. eqb m mark) braille_ascii ≡ cell
 unfolding ascii_mark
 stands_first cell mark is = (Decides-eqb (position_or_len (λ m. eqb m mark) braille_ascii) (0 + cell)).0 (at_place (λ place item. eqb (position_or_len (λ m. eqb m item) braille_ascii) place) 0 braille_ascii cell mark refl is) ∙ zero-add cell
@@ -43,7 +43,7 @@ ascii_marks_range cell mark is =
     let high : ltb mark 96 ≡ true = second_so (leb 32 mark) (ltb mark 96) within in
     (grind (arith, nat_tests), grind (arith, nat_tests))
 
--- just the cells with dot 7 or 8 have no mark
+-- exactly the cells with dot 7 or 8 have no mark
 pub unmarked : (cell : ℕ) (mark : Option ℕ) → mark ≡ ascii_mark cell → IsNone mark ↔ (64 ≤ cell)
 unfolding ascii_mark
 unmarked cell None is = (

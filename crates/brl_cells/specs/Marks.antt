@@ -1,9 +1,9 @@
--- The characters that are written for a cell: a mark of North American Braille ASCII, or a character of the Unicode block
--- Braille Patterns. That these two are written is the project's own choice.
+-- The characters that are written for a cell: a mark of North American Braille ASCII, or a
+-- character of the Unicode block Braille Patterns. The choice of these two is the project's own.
 use Rattle.std.specs.Prelude.{ℕ, ◌+◌, List, [], ◌∷◌, ◌++◌, codes, map, Option, Some}
 use Rattle.std.specs.List.{slice_get}
 
--- the marks of North American Braille ASCII, in the order of the numbers of their cells, 0 to 63
+-- the marks of North American Braille ASCII, by the numbers of their cells, 0 to 63
 abbrev pub braille_ascii : List ℕ
 braille_ascii =
     codes " A1B'K2L@CIF/MSP"
@@ -23,7 +23,7 @@ first_decade = 1 ∷ 3 ∷ 9 ∷ 25 ∷ 17 ∷ 11 ∷ 27 ∷ 19 ∷ 10 ∷ 26 �
 abbrev pub ascii_marks : List ℕ → List (Option ℕ)
 ascii_marks cells = map ascii_mark cells
 
--- these marks
+-- these marks, each as that of a cell
 abbrev pub marked : List ℕ → List (Option ℕ)
 marked marks = map (λ m. Some m) marks
 

@@ -4,8 +4,8 @@ ghost use Rattle.std.specs.Cmp.{nat_eq_equiv, partial_equiv_from_equiv};
 
 use std::marker::Model;
 
-/// A braille cell of up to eight dots, as a number: dot `d` is bit `d - 1`. The blank cell is 0.
-/// A contract sees that number.
+/// A braille cell of up to eight dots, as a number: dot `d` is bit `d - 1`, and the blank cell is
+/// 0. A contract sees that number.
 #[derive(Clone, Copy, Eq, PartialOrd, Ord, Hash, Debug, Default)]
 pub struct Cell(pub u8);
 

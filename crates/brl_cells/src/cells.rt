@@ -12,7 +12,7 @@ use std::alloc::{AllocError, Global};
 use std::hash::{Hash, Hasher};
 use std::marker::Model;
 
-/// A list of cells, the first eight of which lie in place. A contract sees the list of their numbers.
+/// A list of cells, with up to eight of them in place. A contract sees the list of their numbers.
 #[derive(Debug, Drop)]
 pub struct Cells {
     items: SmallVec<Cell, 8>,
@@ -36,7 +36,7 @@ impl Cells {
         }
     }
 
-    /// The cells of a slice, in its order. `AllocError` where more than eight find no memory.
+    /// The cells of a slice, in order. Only more than eight take memory.
     pub fn from_slice(alloc: Global, cells: &[Cell]) -> Result<Cells, AllocError>
         ensures { IfOk result (λ c. c ≡ cells.now) }
     {
@@ -45,7 +45,7 @@ impl Cells {
         })
     }
 
-    /// How many cells there are.
+    /// The number of cells.
     pub fn len(&self) -> usize
         ensures { result ≡ length self.now }
     {
@@ -66,7 +66,7 @@ impl Cells {
         self.items.as_slice()
     }
 
-    /// Puts a cell at the end. After `AllocError` the list is as it was.
+    /// Appends a cell. After `AllocError` the list is unchanged.
     pub fn push(&mut self, cell: Cell) -> Result<(), AllocError>
         ensures ok { OnOk result (self.new ≡ self.old ++ cell ∷ []) }
         ensures err { OnErr result (self.new ≡ self.old) }
@@ -75,7 +75,7 @@ impl Cells {
         Ok(())
     }
 
-    /// An equal list. `AllocError` where more than eight cells find no memory.
+    /// An equal list. Only more than eight cells take memory.
     pub fn copy(&self) -> Result<Cells, AllocError>
         ensures { IfOk result (λ c. c ≡ self.now) }
     {

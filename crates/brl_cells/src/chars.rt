@@ -40,7 +40,7 @@ impl Chars {
         chars
     }
 
-    /// How many characters there are.
+    /// The number of characters.
     pub fn len(&self) -> usize
         ensures { result ≡ length self.now }
     {
@@ -54,7 +54,7 @@ impl Chars {
         &self.items
     }
 
-    /// An equal list, or `AllocError` where it finds no memory.
+    /// An equal list.
     pub fn copy(&self, alloc: Global) -> Result<Chars, AllocError>
         ensures { IfOk result (λ c. c ≡ self.now) }
     {

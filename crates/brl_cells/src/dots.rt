@@ -1,6 +1,6 @@
 //! Dots operands: cells as the numbers of their dots, joined by hyphens.
 ghost use Rattle.std.specs.Prelude.{◌≡◌, ℕ, ◌<◌, ◌≤◌, ◌++◌, IsTrue, length, Ok, IfOk, OnOk, string_bytes};
-ghost use Rattle.brl_cells.specs.Dots.{AreCells, cell_reading, cell_spelling, dot_marks, has_dot, reading, spelling, stands_in};
+ghost use Rattle.brl_cells.specs.Dots.{AreCells, cell_reading, cell_spelling, dot_marks, has_dot, reading, spelling, is_among};
 ghost use Rattle.brl_failure.specs.Failure.{Gives};
 
 use crate::{Cell, Cells, DotsFault};
@@ -9,14 +9,14 @@ use std::alloc::{AllocError, Global};
 
 /// Whether a mark is one of the digits 1 to 8.
 fn is_dot(mark: u8) -> bool
-    ensures { result ≡ stands_in dot_marks mark }
+    ensures { result ≡ is_among dot_marks mark }
 {
     matches!(mark, b'1'..=b'8')
 }
 
 /// Whether a cell has the dot of this mark.
 fn has_dot(cell: Cell, mark: u8) -> bool
-    requires { IsTrue (stands_in dot_marks mark) }
+    requires { IsTrue (is_among dot_marks mark) }
     ensures { result ≡ has_dot cell mark }
 {
     (cell.0 >> (mark - b'1')) % 2 == 1
@@ -45,11 +45,13 @@ fn read_cell(marks: &[u8]) -> Result<Cell, DotsFault>
     Ok(cell)
 }
 
-/// The cells that a dots operand spells: cells are joined by `-`, and each is one or more of the digits 1 to 8 in any
-/// order, none twice, or `0` alone, the blank cell. At most `most` cells, from 1 to 1,024, are taken.
+/// The cells that a dots operand spells. Cells are joined by `-`. Each is one or more of the digits
+/// 1 to 8 in any order, none twice, or `0` alone, the blank cell. There may be at most `most`
+/// cells, a limit from 1 to 1,024.
 ///
-/// The first fault decides, cell by cell and mark by mark: `EmptyCell`, `BadDot`, `RepeatedDot`. Where there is none,
-/// more than `most` cells are `TooManyCells`. Only more than eight cells take memory.
+/// The first fault decides, cell by cell and mark by mark: `EmptyCell`, `BadDot`, `RepeatedDot`.
+/// Where there is none of these, more than `most` cells are `TooManyCells`. Only more than eight
+/// cells take memory.
 pub fn read_dots(alloc: Global, text: &str, most: usize) -> Result<Cells, Failure<DotsFault>>
     requires least { 1 ≤ most }
     requires limit { most ≤ 1024 }
@@ -69,7 +71,7 @@ pub fn read_dots(alloc: Global, text: &str, most: usize) -> Result<Cells, Failur
     Ok(cells)
 }
 
-/// Writes the marks of a cell behind a text.
+/// Appends the marks of a cell to a text.
 fn push_cell(text: &mut String, cell: Cell) -> Result<(), AllocError>
     ensures written { OnOk result (string_bytes text.new ≡ string_bytes text.old ++ cell_spelling cell) }
     ensures in_range { cell < 256 }
@@ -85,11 +87,11 @@ fn push_cell(text: &mut String, cell: Cell) -> Result<(), AllocError>
     Ok(())
 }
 
-/// The text that spells cells: the dots of each in ascending order, `0` for the blank cell, joined by `-`. No cells
-/// give the empty text. `AllocError` where the text finds no memory.
+/// The text that spells cells: the dots of each in ascending order, `0` for the blank cell, joined
+/// by `-`. It is empty for no cells.
 pub fn write_dots(alloc: Global, cells: &[Cell]) -> Result<String, AllocError>
     ensures spelled { IfOk result (λ text. string_bytes text ≡ spelling cells.now) }
-    // One cell or more are read back from the text, by each limit that they keep to.
+    // One cell or more are read back from the text, with any limit that they keep.
     ensures read_back { (most : ℕ) → 1 ≤ length cells.now → length cells.now ≤ most
         → IfOk result (λ text. reading most (string_bytes text) ≡ Ok cells.now) }
     ensures in_range { OnOk result (AreCells cells.now) }

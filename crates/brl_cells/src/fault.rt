@@ -1,4 +1,4 @@
-//! Why a text is no dots operand.
+//! The faults of dots operands.
 use thiserror::Error;
 
 /// The fault of a text that spells no cells.
@@ -7,13 +7,13 @@ pub enum DotsFault {
     /// A cell has no marks.
     #[error("C1 EmptyCell")]
     EmptyCell,
-    /// A mark is none of the digits 1 to 8, nor a `0` alone in its cell.
+    /// A mark is not one of the digits 1 to 8, nor a `0` alone in its cell.
     #[error("C2 BadDot")]
     BadDot,
     /// A cell has a dot twice.
     #[error("C3 RepeatedDot")]
     RepeatedDot,
-    /// There are more cells than the caller takes.
+    /// There are more cells than the caller allows.
     #[error("C4 TooManyCells")]
     TooManyCells,
 }

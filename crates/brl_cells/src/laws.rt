@@ -1,32 +1,34 @@
-//! Laws of cells' spellings and marks, for the crates above.
+//! Laws of the spellings and marks of cells, for proofs in the crates above.
 ghost use Rattle.std.specs.Prelude.{◌≡◌, ◌+◌, ◌*◌, ◌<◌, ◌≤◌, ℕ, List, length, map, take, codes, Ok, Some};
 ghost use Rattle.brl_cells.specs.Marks.{ascii_mark, ascii_marks, first_decade, marked};
 ghost use Rattle.brl_cells.specs.Dots.{AreCells, reading, spelling};
 
-/// What one cell or more spell is read as these cells, by each limit that they keep to.
+/// The spelling of one cell or more is read as these cells, with any limit that they keep.
 pub fn spelled_cells_are_read()
     ensures { (most : ℕ) (cells : List ℕ) → AreCells cells → 1 ≤ length cells → length cells ≤ most
         → reading most (spelling cells) ≡ Ok cells }
 {}
 
-/// Two lists of cells with one spelling are one list.
+/// Lists of cells with the same spelling are equal.
 pub fn cells_have_one_spelling()
     ensures { (left right : List ℕ) → AreCells left → AreCells right → spelling left ≡ spelling right → left ≡ right }
 {}
 
-/// What a dots operand is read as are cells.
+/// Whatever is read from a dots operand are cells.
 pub fn cells_are_read()
     ensures { (most : ℕ) (bytes cells : List ℕ) → reading most bytes ≡ Ok cells → AreCells cells }
 {}
 
-/// The marks of braille ASCII are the characters from the blank to `_`, no two cells having one.
+/// No two cells have the same mark in braille ASCII, and the marks are characters from the blank to
+/// `_`.
 pub fn ascii_marks_differ()
     ensures differ { (left right mark : ℕ) → ascii_mark left ≡ Some mark → ascii_mark right ≡ Some mark → left ≡ right }
     ensures range { (cell mark : ℕ) → ascii_mark cell ≡ Some mark → (32 ≤ mark) × (mark < 96) }
 {}
 
-/// Letters and digits are marked as in the decades of braille: `K` to `T` are `A` to `J` with dot 3, `U` to `Z` but
-/// for `W` are `A` to `E` with the dots 3 and 6, and the digits are `A` to `J` one row lower.
+/// Letters and digits have marks as in the decades of braille: `K` to `T` are `A` to `J` with dot
+/// 3, `U` to `Z` except `W` are `A` to `E` with the dots 3 and 6, and the digits are `A` to `J` one
+/// row lower.
 #[tactic(auto, unfolding(crate::specs::Marks::ascii_mark))]
 pub fn ascii_marks_keep_decades()
     ensures first { ascii_marks first_decade ≡ marked (codes "ABCDEFGHIJ") }

@@ -1,5 +1,6 @@
-//! Braille cells: one cell as a set of dots, lists of cells and of characters, and the texts that stand for cells: dots
-//! operands, braille ASCII and Unicode braille.
+//! Braille cells. A `Cell` is a set of dots; `Cells` and `Chars` are lists of cells and of
+//! characters. Cells are read from dots operands, and written as these (`read_dots`, `write_dots`),
+//! in braille ASCII and in Unicode braille (`to_ascii`, `to_unicode`).
 #![tactic(auto)]
 
 mod cell;

@@ -10,17 +10,17 @@ use Rattle.std.proofs.lemmas.Slice.Eq.{bytes_eq-Decides}
 use Rattle.std.proofs.lemmas.Str.{IsUtf8-from_ascii}
 use Rattle.brl_cells.specs.declared.fault.DotsFault.{DotsFault}
 use Rattle.brl_cells.specs.declared.fault.DotsFault.TheVariants.{EmptyCell, BadDot, RepeatedDot, TooManyCells}
-use Rattle.brl_cells.specs.Dots.{dot_marks, dot_number, stands_in, mark_fault, first_of_two, first_fault, unless_fault, cell_reading, cells_reading, parts, reading as dots_reading}
+use Rattle.brl_cells.specs.Dots.{dot_marks, dot_number, is_among, mark_fault, first_of_two, first_fault, unless_fault, cell_reading, cells_reading, parts, reading as dots_reading}
 use Rattle.brl_failure.specs.Failure.{◌>>=◌}
 
 abbrev pub AreLow : List ℕ → Type 0
 AreLow bytes = AllByRecursion (λ b. b < 128) bytes
 
-stands_low : (marks : List ℕ) (mark : ℕ) → AreLow marks → stands_in marks mark ≡ true → mark < 128
+stands_low : (marks : List ℕ) (mark : ℕ) → AreLow marks → is_among marks mark ≡ true → mark < 128
 stands_low [] mark h e = absurd cc
 stands_low (m ∷ marks) mark h e = by_test (eqb m mark) refl e (stands_low marks mark h.1)
   where
-    by_test : (t : Bool) → eqb m mark ≡ t → t || stands_in marks mark ≡ true → (stands_in marks mark ≡ true → mark < 128) → mark < 128
+    by_test : (t : Bool) → eqb m mark ≡ t → t || is_among marks mark ≡ true → (is_among marks mark ≡ true → mark < 128) → mark < 128
     by_test true is e k = (let same : m ≡ mark = (Decides-eqb m mark).0 is in subst (λ (n : ℕ). n < 128) same h.0)
     by_test false is e k = k e
 
@@ -32,9 +32,9 @@ both_none (Some fault) later e = absurd cc
 both_none None later e = (refl, e)
 
 no_fault_low : (before : List ℕ) (mark : ℕ) → mark_fault before mark ≡ None → mark < 128
-no_fault_low before mark e = by_test (stands_in dot_marks mark) refl e
+no_fault_low before mark e = by_test (is_among dot_marks mark) refl e
   where
-    by_test : (t : Bool) → stands_in dot_marks mark ≡ t → cond (not t) (Some BadDot) (cond (stands_in before mark) (Some RepeatedDot) None) ≡ None → mark < 128
+    by_test : (t : Bool) → is_among dot_marks mark ≡ t → cond (not t) (Some BadDot) (cond (is_among before mark) (Some RepeatedDot) None) ≡ None → mark < 128
     by_test true is e = stands_low dot_marks mark dots_low is
     by_test false is e = absurd cc
 
