@@ -1,6 +1,6 @@
-pub mod Turns
-pub mod Unknown
-pub mod StepTurns
+pub mod TranslationLoop
+pub mod UnknownChars
+pub mod StepLoop
 pub mod StepCells
-pub mod InfoRest
+pub mod InfoLists
 pub mod Sides

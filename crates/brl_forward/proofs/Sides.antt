@@ -10,7 +10,7 @@ use Rattle.brl_forward.specs.declared.fault.ConfirmFault.TheVariants.{UnknownCha
 use Rattle.brl_forward.specs.declared.fault.Side.TheVariants.{Left, Right}
 use Rattle.brl_forward.specs.Faults.{first_unknown, IsFaultOfSide, IsFaultOfTwo}
 
--- that of the right one, where the left one has none
+-- the fault of the right text, where the left one has none
 fault-of_right : (t : TableView) (left right : List ℕ) (fault : ConfirmFault) → first_unknown t left ≡ None → IsFaultOfSide Right t right fault → IsFaultOfTwo t left right fault
 fault-of_right t left right (UnknownChar Left place) none is = let other = is.0 in cc
 fault-of_right t left right (UnknownChar Right place) none is = (none, is.1)

@@ -1,4 +1,4 @@
--- The steps of a translation, by position over a whole text.
+-- The steps of a translation, by position in a whole text.
 use Rattle.std.specs.Prelude.{ℕ, zero, suc, ◌+◌, List, [], ◌∷◌, ◌++◌, length, drop, nat_lt, if◌then◌else◌}
 use Rattle.brl_table.specs.declared.context.Context.{Context}
 use Rattle.brl_table.specs.TableView.{TableView}
@@ -8,7 +8,7 @@ use Rattle.brl_table.specs.Choice.{chosen}
 use Rattle.brl_table.specs.Translation.{chosen_at}
 use Rattle.brl_forward.specs.declared.steps.Traced.{Traced}
 
--- the step in front of `rest`, which begins at position i: its rule is the one that is chosen there
+-- the step at the start of `rest`, which begins at position i: the chosen rule and its indicators
 abbrev pub step_before : TableView → Context → ℕ → List ℕ → Traced
 step_before t here i rest = record {
   start = i;
@@ -22,12 +22,12 @@ step_before t here i rest = record {
 abbrev pub step_at : TableView → List ℕ → ℕ → Traced
 step_at t text i = step_before t (context_at t text i) i (drop i text)
 
--- the steps from position i on, at most so many of them
+-- the steps from position i on, at most the given number
 abbrev pub steps_from : TableView → List ℕ → ℕ → ℕ → List Traced
 steps_from t text zero i = []
 steps_from t text (suc steps) i =
     if nat_lt i (length text) then step_at t text i ∷ steps_from t text steps (i + (chosen_at t text i).taken) else []
 
--- the trace of a text: each step takes a character at least, so its length is steps enough
+-- the trace of a text; each step takes at least one character, so its length is enough steps
 unfoldable pub trace_of : TableView → List ℕ → List Traced
 trace_of t text = steps_from t text (length text) 0

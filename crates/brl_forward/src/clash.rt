@@ -1,4 +1,4 @@
-//! Clashes: two different texts that are translated alike.
+//! Clashes: two different texts that are translated to the same cells.
 ghost use Rattle.std.specs.Prelude.{◌≡◌, ◌↔◌, IsTrue, ℕ, List, IfOk, IfErr, IfSome, IfNone};
 ghost use Rattle.brl_table.specs.Text.{is_text};
 ghost use Rattle.brl_table.specs.Translation.{IsClash, translation};
@@ -51,8 +51,8 @@ impl Clash {
     }
 }
 
-/// Whether two texts clash: Some where they differ and the table translates them to the same cells, else None.
-/// `UnknownChar` where the table doesn't define a character of one, the left text first.
+/// The clash of two texts, if they differ and the table translates them to the same cells.
+/// `UnknownChar` where the table doesn't define a character of one; the left text comes first.
 pub fn confirm(
     alloc: Global,
     table: &Table,
@@ -94,12 +94,14 @@ fn cells_of_side(
     translate(alloc, table, text).map_err(|failure| failure.map(|fault| fault.of_side(side)))
 }
 
+/// Whether two texts are equal.
 fn are_same_text(left: &[char], right: &[char]) -> bool
     ensures { IsTrue result ↔ (left.now ≡ right.now) }
 {
     left == right
 }
 
+/// Whether two lists of cells are equal.
 fn are_same_cells(left: &[Cell], right: &[Cell]) -> bool
     ensures { IsTrue result ↔ (left.now ≡ right.now) }
 {

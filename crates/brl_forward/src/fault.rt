@@ -2,10 +2,11 @@
 use std::fmt;
 use thiserror::Error;
 
-/// Why a text isn't translated.
+/// Why a text can't be translated.
 #[derive(Clone, Copy, PartialEq, Eq, Debug, Error)]
 pub enum ForwardFault {
-    /// The table doesn't define the character at this position, from 0, which is the first such one.
+    /// The table doesn't define the character at this position, from 0. It is the first such
+    /// character.
     #[error("F1 UnknownChar {0}")]
     UnknownChar(usize),
 }
@@ -14,7 +15,7 @@ impl ForwardFault {
     ghost use Rattle.std.specs.Prelude.{◌≡◌};
     ghost use Rattle.brl_forward.specs.Faults.{fault_of_side};
 
-    /// The same fault, of one of two texts.
+    /// The same fault, as that of one of two texts.
     pub(crate) fn of_side(self, side: Side) -> ConfirmFault
         ensures { result ≡ fault_of_side side self }
     {
@@ -40,11 +41,11 @@ impl fmt::Display for Side {
     }
 }
 
-/// Why two texts aren't compared.
+/// Why two texts can't be compared.
 #[derive(Clone, Copy, PartialEq, Eq, Debug, Error)]
 pub enum ConfirmFault {
-    /// The table doesn't define the character at this position of this text, from 0, which is its first
-    /// such one. The left text is looked at before the right one.
+    /// The table doesn't define the character at this position of this text, from 0. It is the
+    /// first such character; the left text comes before the right one.
     #[error("F1 UnknownChar {1} at {0}")]
     UnknownChar(Side, usize),
 }

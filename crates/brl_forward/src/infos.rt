@@ -1,4 +1,4 @@
-//! A table's infos of the characters of a text.
+//! The infos of the characters of a text.
 ghost use Rattle.std.specs.Prelude.{◌≡◌, IsTrue, IfOk, IfErr};
 ghost use Rattle.brl_table.specs.Infos.{AreInfosOf};
 ghost use Rattle.brl_table.specs.Text.{is_text};
@@ -10,7 +10,8 @@ use brl_failure::Failure;
 use brl_table::{Info, Table};
 use std::alloc::Global;
 
-/// The infos of the characters of a text, in order. `UnknownChar` where the table doesn't define a character of it.
+/// The infos of the characters of a text, in order. `UnknownChar` where the table doesn't define
+/// one of them.
 pub(crate) fn infos_of<'a>(
     alloc: Global,
     table: &'a Table,

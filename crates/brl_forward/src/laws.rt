@@ -1,4 +1,4 @@
-//! Laws of the definitions, for proofs in the crates above: a function whose contract is the law.
+//! Laws of the definitions, for proofs in the crates above. A function's contract is the law.
 ghost use Rattle.std.specs.Prelude.{◌≡◌, ◌+◌, ◌<◌, ◌∷◌, ℕ, List, length};
 ghost use Rattle.std.specs.List.{flat_map};
 ghost use Rattle.brl_table.specs.TableView.{TableView};
@@ -7,8 +7,8 @@ ghost use Rattle.brl_forward.specs.Trace.{step_at, steps_from, trace_of};
 
 use brl_table::choice_laws;
 
-/// A trace, one step at a time: from a position on it is the step there, then the steps from behind its last character
-/// on. The cells of all steps, joined, are the translation.
+/// A trace, one step at a time. From a position on it is the step there, then the steps from after
+/// the step's last character on. The cells of all steps, joined, are the translation.
 pub fn trace_laws()
     ensures position { (t : TableView) (text : List ℕ) (i : ℕ) → i < length text →
         steps_from t text (length text) i

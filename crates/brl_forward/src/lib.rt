@@ -1,4 +1,5 @@
-//! Forward translation: the cells of a text, the steps that give them, and whether two texts clash.
+//! Forward translation: the cells of a text (`translate`), the steps that give them (`trace`), and
+//! whether two texts clash (`confirm`).
 #![tactic(auto)]
 
 mod clash;

@@ -13,22 +13,24 @@ use brl_failure::Failure;
 use brl_table::{Context, Info, Table, choice_laws, translation_laws};
 use std::alloc::{AllocError, Global};
 
-/// A step of a translation.
+/// A step of a translation: one rule and the indicators before it.
 #[derive(Debug, Drop)]
 pub struct Traced {
     /// The position of its first character in the text, from 0.
     pub start: usize,
-    /// The number of its rule: rules in rank from 0, behind them the own definitions by the numbers of the characters.
+    /// The number of its rule: rules in rank from 0, after them the own definitions by the numbers
+    /// of the characters.
     pub rule: u32,
-    /// How many characters it takes.
+    /// The number of characters that it takes.
     pub length: usize,
-    /// How many of its cells are those of indicators, which come first.
+    /// The number of its cells that are those of indicators, which come first.
     pub indicators: usize,
     /// The cells of the indicators, then those of the rule.
     pub cells: Cells,
 }
 
-/// The steps of a text's translation, in order. `UnknownChar` where the table doesn't define a character of it.
+/// The steps of a text's translation, in order. `UnknownChar` where the table doesn't define a
+/// character.
 pub fn trace(
     alloc: Global,
     table: &Table,
@@ -42,7 +44,7 @@ pub fn trace(
     Ok(steps_of(alloc, table, text, infos.as_slice())?)
 }
 
-/// The steps of a text whose characters have these infos.
+/// The steps of a text, given the infos of its characters.
 fn steps_of(
     alloc: Global,
     table: &Table,
@@ -67,7 +69,7 @@ fn steps_of(
     Ok(steps)
 }
 
-/// The step at the start of `rest`, whose first character is at position `start` and has this info.
+/// The step at the start of `rest`, given the position and the info of its first character.
 fn step(
     alloc: Global,
     table: &Table,

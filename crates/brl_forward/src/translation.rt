@@ -13,7 +13,7 @@ use brl_failure::Failure;
 use brl_table::{Context, Info, Table, translation_laws};
 use std::alloc::{AllocError, Global};
 
-/// The translation of a text to cells. `UnknownChar` where the table doesn't define a character of it.
+/// The translation of a text to cells. `UnknownChar` where the table doesn't define a character.
 pub fn translate(
     alloc: Global,
     table: &Table,
@@ -27,8 +27,8 @@ pub fn translate(
     Ok(cells_of(alloc, table, text, infos.as_slice())?)
 }
 
-/// The cells of a text whose characters have these infos: at each position the indicators, then the cells of the rule that
-/// is taken there.
+/// The cells of a text, given the infos of its characters: at each position the indicators, then
+/// the cells of the rule that is chosen there.
 fn cells_of(
     alloc: Global,
     table: &Table,

@@ -12,7 +12,7 @@ use Rattle.brl_table.specs.Infos.{first_info}
 use Rattle.brl_table.specs.Limits.{AreNumbered, IsAmong, IsRule, IsTable}
 use Rattle.brl_table.specs.Text.{fold_of}
 use Rattle.brl_table.specs.Choice.{Choice, fits, own, chosen}
-use Rattle.brl_table.proofs.Entries.{number_small}
+use Rattle.brl_table.proofs.EntryNumbers.{number_small}
 use Rattle.brl_table.proofs.TreeWalk.{position-none, not_true, fits-matches, front, chosen-none}
 
 pub first_info-got : (t : TableView) (rest : List ℕ) (d : ℕ) → 0 < length rest → first_info t rest ≡ info_of t (get_or rest 0 d)

@@ -1,4 +1,4 @@
--- The indicators and their numbers, and lists of what each of them has.
+-- The indicators by their numbers, and lists of the cells of each.
 use Rattle.std.proofs.Common.{ℕ, zero, suc, ◌<◌, ◌≤◌, ◌≡◌, ◌∙◌, Bool, true, List, [], ◌∷◌, length, map, ap, arith, refl, subst, sym, Some}
 use Rattle.std.proofs.lemmas.Bool.Decides.{Decides-eqb}
 use Rattle.std.proofs.lemmas.List.{length-map}
@@ -39,13 +39,13 @@ own-cells cells sign =
     (sym (slice_get-get_or (map cells all_signs) (sign_number sign) [] within)
     ∙ slice_get-map cells all_signs (sign_number sign) ∙ ap (option_map cells) (at-number sign))
 
--- what is read within a list doesn't depend on what is read past it
+-- an element within a list doesn't depend on the default
 any-default : (xs : List (List ℕ)) (i : ℕ) (d e : List ℕ) → i < length xs → slice_index_or xs i d ≡ slice_index_or xs i e
 any-default [] i d e within = absurd (omega (arith, within))
 any-default (x ∷ xs) zero d e within = refl
 any-default (x ∷ xs) (suc i) d e within = any-default xs i d e (omega (arith, within))
 
--- each of these lists is short where the cells of each indicator are few
+-- each of the lists is short exactly where each indicator has few cells
 pub each-few : (signs : List (List ℕ)) (most : ℕ) (b : Bool) → length signs ≡ length all_signs → IsTrue b ↔ All (λ cells. length cells ≤ most) signs
     → IsTrue b ↔ ((sign : Sign) → length (cells_at signs sign) ≤ most)
 each-few signs most b count all = (

@@ -14,10 +14,10 @@ use Rattle.brl_table.specs.declared.rule.Rule.{Rule}
 use Rattle.brl_table.specs.TableView.{TableView, info_of}
 use Rattle.brl_table.specs.Places.{holds, before_of, after_of}
 use Rattle.brl_table.specs.Text.{fold_of, classes_at}
-use Rattle.brl_table.specs.Choice.{matches, fits, may_stand, may_stand_by_number, by_rule, own, first_fitting, chosen, chosen_number}
+use Rattle.brl_table.specs.Choice.{matches, fits, place_allows, place_allows_number, by_rule, own, first_fitting, chosen, chosen_number}
 use Rattle.brl_table.specs.Rank.{weight, IsInRank}
 use Rattle.brl_table.specs.Tree.{is_just, numbers, ends_of}
-use Rattle.brl_table.proofs.Taken.{fits-Takes}
+use Rattle.brl_table.proofs.TakenLengths.{fits-Takes}
 
 -- ---- the first place at which a test holds
 
@@ -78,7 +78,8 @@ upto f k r = f r && nat_le (weight r) k
 exactly : (Rule → Bool) → ℕ → Rule → Bool
 exactly f k r = f r && nat_eq (weight r) k
 
--- no more than k, of k + 1, and no more than k + 1, for a rule that is as heavy, lighter and heavier
+-- no more than k, of k + 1, and no more than k + 1, for a rule that is as heavy, lighter and
+-- heavier
 light-le : (w k : ℕ) → w ≤ k → nat_le w (suc k) ≡ true
 light-le w k h = grind (arith, nat_tests)
 
@@ -109,7 +110,7 @@ got_within [] k s is = cc
 got_within (r ∷ rules) zero s is = omega arith
 got_within (r ∷ rules) (suc k) s is = omega (arith, got_within rules k s is)
 
--- behind the first of a rank no rule is heavier
+-- no rule after the first in rank is heavier
 lighter : (r : Rule) (rules : List Rule) → IsInRank (r ∷ rules) → (k : ℕ) (s : Rule) → slice_get rules k ≡ Some s → weight s ≤ weight r
 lighter r rules h k s is =
     let within : k < length rules = got_within rules k s is in
@@ -153,7 +154,7 @@ rank-step f k n (r ∷ rules) h = by_order (cases_order (weight r) (k + 1)) (ran
     by_order (inr (inr above)) more =
         rw (le-false (weight r) (k + 1) above, eq-false-above (weight r) (k + 1) above, le-false (weight r) k (omega arith)) (too_heavy (f r) n _ _ _ more)
 
--- ---- rules with just the characters that stand in front
+-- ---- rules with just the first characters of a rest
 
 and-nil : (b : Bool) → b && false ≡ false
 and-nil true = refl
@@ -227,7 +228,7 @@ just-itself : (chars : List ℕ) → is_just chars chars ≡ true
 just-itself [] = refl
 just-itself (x ∷ chars) = ap (λ b. b && is_just chars chars) (same-itself x) ∙ just-itself chars
 
--- characters that stand in front and go on behind the first k
+-- a start of the rest with more than k characters has its character k
 longer-front : (k : ℕ) (behind others : List ℕ) (d : ℕ) → starts_with nat_eq behind others ≡ true → k < length others
     → is_just others (take k behind ++ get_or behind k d ∷ drop (suc k) others) ≡ true
 longer-front k behind [] d h more = absurd (omega arith)
@@ -250,19 +251,19 @@ module _ (t : TableView) (before : Class) (c first : ℕ) (behind : List ℕ) (f
       ∙ ap (λ e. (nat_eq (fold_of t c) x && starts_with nat_eq behind others) && e) (sym (suc-eq (length others) k) ∙ ap (nat_eq (suc (length others))) (sym plus))
 
   pub just-fits : (k : ℕ) → k ≤ length behind → (r : Rule)
-      → is_just r.chars (first ∷ take k behind) && may_stand t before (c ∷ behind) r ≡ fits t before (c ∷ behind) r && nat_eq (weight r) (k + 1)
+      → is_just r.chars (first ∷ take k behind) && place_allows t before (c ∷ behind) r ≡ fits t before (c ∷ behind) r && nat_eq (weight r) (k + 1)
   just-fits k h r =
-      ap (λ e. e && may_stand t before (c ∷ behind) r) (just-matches r.chars k h)
+      ap (λ e. e && place_allows t before (c ∷ behind) r) (just-matches r.chars k h)
       ∙ four (matches t (c ∷ behind) r.chars) (nat_eq (weight r) (k + 1)) (holds (before_of r.place) before)
       (holds (after_of r.place before) (classes_at t (c ∷ behind) (length r.chars)))
 
-  -- the first rule at a node that may stand is the first rule in rank that fits and has this number of characters
+  -- the first rule at a node whose place allows it is the first in rank of this length that fits
   pub at_node : (k : ℕ) → k ≤ length behind
-      → find (may_stand_by_number t before (c ∷ behind)) (numbers (λ r. is_just r.chars (first ∷ take k behind)) 0 t.rules)
+      → find (place_allows_number t before (c ∷ behind)) (numbers (λ r. is_just r.chars (first ∷ take k behind)) 0 t.rules)
       ≡ position_from (λ r. fits t before (c ∷ behind) r && nat_eq (weight r) (k + 1)) 0 t.rules
   at_node k h =
-      find-numbers t.rules (λ r. is_just r.chars (first ∷ take k behind)) (may_stand t before (c ∷ behind)) 0 t.rules (λ j. let e : 0 + j ≡ j = omega arith in ap (slice_get t.rules) e)
-      ∙ position-agree (λ r. is_just r.chars (first ∷ take k behind) && may_stand t before (c ∷ behind) r) (λ r. fits t before (c ∷ behind) r && nat_eq (weight r) (k + 1)) 0 t.rules
+      find-numbers t.rules (λ r. is_just r.chars (first ∷ take k behind)) (place_allows t before (c ∷ behind)) 0 t.rules (λ j. let e : 0 + j ≡ j = omega arith in ap (slice_get t.rules) e)
+      ∙ position-agree (λ r. is_just r.chars (first ∷ take k behind) && place_allows t before (c ∷ behind) r) (λ r. fits t before (c ∷ behind) r && nat_eq (weight r) (k + 1)) 0 t.rules
       (λ j r is. just-fits k h r)
 
   pub fits-matches : (r : Rule) → fits t before (c ∷ behind) r ≡ true → matches t (c ∷ behind) r.chars ≡ true
@@ -270,14 +271,14 @@ module _ (t : TableView) (before : Class) (c first : ℕ) (behind : List ℕ) (f
       first_so (matches t (c ∷ behind) r.chars) (holds (before_of r.place) before)
       (first_so (matches t (c ∷ behind) r.chars && holds (before_of r.place) before) (holds (after_of r.place before) (classes_at t (c ∷ behind) (length r.chars))) h)
 
-  -- the characters of a rule that stand in front
+  -- the characters of a rule with which the rest begins
   pub front : (chars : List ℕ) → matches t (c ∷ behind) chars ≡ true → (others : List ℕ) × (chars ≡ first ∷ others) × (starts_with nat_eq behind others ≡ true)
   front [] h = cc
   front (x ∷ others) h =
       let x-is : first ≡ x = sym fold ∙ same-number (fold_of t c) x (first_so (nat_eq (fold_of t c) x) (starts_with nat_eq behind others) h) in
       (others, ap (λ y. y ∷ others) (sym x-is), second_so (nat_eq (fold_of t c) x) (starts_with nat_eq behind others) h)
 
-  -- at the first node stand the rules of one character
+  -- the rules of one character are at the first node
   pub at_first : position_from (λ r. fits t before (c ∷ behind) r && nat_eq (weight r) (0 + 1)) 0 t.rules
       ≡ position_from (λ r. fits t before (c ∷ behind) r && nat_le (weight r) (0 + 1)) 0 t.rules
   at_first =
@@ -295,7 +296,7 @@ module _ (t : TableView) (before : Class) (c first : ℕ) (behind : List ℕ) (f
       → position_from (λ r. fits t before (c ∷ behind) r && nat_le (weight r) (k + 1)) 0 t.rules ≡ position_from (fits t before (c ∷ behind)) 0 t.rules
   at_end k h = no_more (k + 1) (λ j r is does. omega (arith, h, (fits-Takes t before (c ∷ behind) r does).room))
 
-  -- where the tree says nothing of a character, no rule that fits has it
+  -- where a character leads to no rules, no rule that fits has it
   pub no_root : ((at : List ℕ) → [] ≡ ends_of t.rules (first ∷ at)) → position_from (fits t before (c ∷ behind)) 0 t.rules ≡ None
   no_root none =
       position-none (fits t before (c ∷ behind)) 0 t.rules
@@ -333,20 +334,20 @@ module _ (t : TableView) (before : Class) (rest : List ℕ) (c first : ℕ) (beh
   pub rest-no_root : ((at : List ℕ) → [] ≡ ends_of t.rules (first ∷ at)) → position_from (fits t before rest) 0 t.rules ≡ None
   rest-no_root none = rw rest-is (no_root t before c first behind fold none)
 
-  pub rest-first : find (may_stand_by_number t before rest) (ends_of t.rules (first ∷ []))
+  pub rest-first : find (place_allows_number t before rest) (ends_of t.rules (first ∷ []))
       ≡ position_from (λ r. fits t before rest r && nat_le (weight r) (0 + 1)) 0 t.rules
   rest-first = rw rest-is (at_node t before c first behind fold 0 (omega arith) ∙ at_first t before c first behind fold)
 
   pub rest-next : (k : ℕ) (best : Option ℕ) → k < length behind → IsInRank t.rules
       → best ≡ position_from (λ r. fits t before rest r && nat_le (weight r) (k + 1)) 0 t.rules
-      → option_or (find (may_stand_by_number t before rest) (ends_of t.rules (first ∷ take (k + 1) behind))) best
+      → option_or (find (place_allows_number t before rest) (ends_of t.rules (first ∷ take (k + 1) behind))) best
       ≡ position_from (λ r. fits t before rest r && nat_le (weight r) (k + 1 + 1)) 0 t.rules
   rest-next k best within rank e =
       let here = at_node t before c first behind fold (k + 1) (omega (arith, within)) in
       let back = ap (λ (rest : List ℕ). position_from (λ r. fits t before rest r && nat_le (weight r) (k + 1 + 1)) 0 t.rules) (sym rest-is) in
-      ap (option_or (find (may_stand_by_number t before rest) (ends_of t.rules (first ∷ take (k + 1) behind))))
+      ap (option_or (find (place_allows_number t before rest) (ends_of t.rules (first ∷ take (k + 1) behind))))
       (e ∙ ap (λ (rest : List ℕ). position_from (λ r. fits t before rest r && nat_le (weight r) (k + 1)) 0 t.rules) rest-is)
-      ∙ ap (λ (rest : List ℕ). option_or (find (may_stand_by_number t before rest) (ends_of t.rules (first ∷ take (k + 1) behind)))
+      ∙ ap (λ (rest : List ℕ). option_or (find (place_allows_number t before rest) (ends_of t.rules (first ∷ take (k + 1) behind)))
       (position_from (λ r. fits t before (c ∷ behind) r && nat_le (weight r) (k + 1)) 0 t.rules)) rest-is
       ∙ ap (λ found. option_or found (position_from (λ r. fits t before (c ∷ behind) r && nat_le (weight r) (k + 1)) 0 t.rules)) here
       ∙ sym (rank-step (fits t before (c ∷ behind)) (k + 1) 0 t.rules rank) ∙ back
@@ -427,7 +428,7 @@ module _ (t : TableView) (before : Class) (rest : List ℕ) where
       let there : slice_get t.rules place ≡ Some found.rule = ap (slice_get t.rules) (sym e) ∙ found.there in
       record { rule = found.rule; there = there; within = got_within t.rules place found.rule there; chosen_is = found.chosen_is }
 
-  -- where a place is found, the rule there is chosen
+  -- the rule at the place that is found is chosen
   pub chosen-at : (place : ℕ) → position_from (fits t before rest) 0 t.rules ≡ Some place → (all : List Rule) → all ≡ t.rules
       → (r : Rule) → r ≡ get_or all place r → chosen t before rest ≡ by_rule place r
   chosen-at place h all all-is r r-is =
@@ -438,7 +439,7 @@ module _ (t : TableView) (before : Class) (rest : List ℕ) where
   pub place-within : (place : ℕ) → position_from (fits t before rest) 0 t.rules ≡ Some place → (all : List Rule) → all ≡ t.rules → place < length all
   place-within place h all all-is = let found = chosen-some place h in omega (arith, found.within, ap length all-is)
 
-  -- the number that is chosen, where the table defines the first character
+  -- the chosen number, where the table defines the first character
   pub number-known : (c : ℕ) (info : Info) → slice_get rest 0 ≡ Some c → info_of t c ≡ Some info → chosen_number t before rest ≡ Some (chosen t before rest).number
   number-known c info there known = of_rest rest there
     where

@@ -1,4 +1,4 @@
--- Worked tables, written out. Each comment has the lines that such a table comes from.
+-- Worked tables, written out. The comment above each has the lines that define such a table.
 use Rattle.std.specs.Prelude.{ℕ, ◌+◌, true, false, List, [], ◌∷◌, codes}
 use Rattle.brl_table.specs.declared.rule.Rule.{Rule}
 use Rattle.brl_table.specs.declared.rule.Info.{Info}
@@ -25,9 +25,11 @@ plain number c set cells = (
   },
 )
 
+-- a rule with this place, these characters and these cells
 abbrev pub rule : Place → List ℕ → List ℕ → Rule
 rule place chars cells = record { chars = chars; cells = cells; place = place; file = 0; line = 0 }
 
+-- a table with these characters, rules and number sign
 abbrev pub table : List (ℕ × Info) → List Rule → List ℕ → TableView
 table characters rules num_sign = record {
   characters = characters;

@@ -1,5 +1,6 @@
--- What every table keeps. The numbers are this project's own limits: with them a step of any machine gives at most
--- 512 cells of a rule and 16 of each of three indicators, which is less than the 1,024 that a lead may have.
+-- What every table keeps. The numbers are this project's own limits. With them a step of any
+-- machine gives at most 512 cells of a rule and 16 of each of three indicators, fewer than the
+-- 1,024 that a lead may have.
 use Rattle.std.specs.Prelude.{ℕ, ◌≡◌, ◌≤◌, ◌<◌, All, List, length, nat_eq, Some, IsSome, slice_get}
 use Rattle.std.specs.List.{IsDistinct}
 use Rattle.std.specs.Map.{keys_of, lookup}
@@ -9,18 +10,18 @@ use Rattle.brl_table.specs.declared.signs.Sign.{Sign}
 use Rattle.brl_table.specs.TableView.{TableView, sign_cells}
 use Rattle.brl_table.specs.Rank.{IsInRank}
 
--- these entries define the character
+-- these entries define a character
 abbrev pub IsAmong : List (ℕ × Info) → ℕ → Type 0
 IsAmong characters c = IsSome (lookup (nat_eq c) characters)
 
--- what a table with these characters and so many files keeps of what it says of a character
+-- an info is valid in a table with these characters and this number of files
 pub record IsEntry (characters : List (ℕ × Info)) (files : ℕ) (info : Info) : Type 0 where
   pub some_cells : 1 ≤ length info.cells
   pub few_cells : length info.cells ≤ 16
   pub fold_defined : IsAmong characters info.fold
   pub file_named : info.file < files
 
--- what it keeps of a rule
+-- a rule is valid in a table with these characters and this number of files
 pub record IsRule (characters : List (ℕ × Info)) (files : ℕ) (rule : Rule) : Type 0 where
   pub some_characters : 1 ≤ length rule.chars
   pub few_characters : length rule.chars ≤ 32
@@ -39,10 +40,10 @@ pub record AreFew (t : TableView) : Type 0 where
 abbrev pub AreNumbered : List (ℕ × Info) → Type 0
 AreNumbered characters = (place : ℕ) (entry : ℕ × Info) → slice_get characters place ≡ Some entry → entry.1.number ≡ place
 
--- what the parts of a table keep, in whatever order the rules stand
+-- what the parts of a table keep, in any order of the rules
 pub record AreParts (t : TableView) : Type 0 where
   pub few : AreFew t
-  -- no character stands twice
+  -- no character occurs twice
   pub distinct : IsDistinct nat_eq (keys_of t.characters)
   pub numbered : AreNumbered t.characters
   pub entries : All (λ entry. IsEntry t.characters (length t.files) entry.1) t.characters

@@ -1,6 +1,6 @@
--- Conditions on the classes of a neighbour, and what each place asks of both neighbours.
--- The manual, section "Translation Opcodes", says of each place where in a word it may be used; which classes it asks for is this
--- project's own choice.
+-- Classes, conditions on the classes of a neighbour, and the conditions of each place on both
+-- neighbours. The manual, section "Translation Opcodes", says where in a word each place allows a
+-- rule; by which classes is this project's own choice.
 use Rattle.std.specs.Prelude.{Bool, true, not, ◌==◌, if◌then◌else◌}
 use Rattle.std.specs.Int.RustNames.{bit_and}
 use Rattle.brl_table.specs.declared.class.Class.{Class}
@@ -18,37 +18,43 @@ none = record { 0 = 0 }
 abbrev pub space : Class
 space = record { 0 = 1 }
 
--- space or punctuation
+-- class space or punctuation
 abbrev pub gap : Class
 gap = record { 0 = 3 }
 
+-- class punctuation
 abbrev pub punctuation : Class
 punctuation = record { 0 = 2 }
 
+-- class digit
 abbrev pub digit : Class
 digit = record { 0 = 4 }
 
+-- class letter
 abbrev pub letter : Class
 letter = record { 0 = 8 }
 
--- space, punctuation or letter
+-- class space, punctuation or letter
 abbrev pub gap_or_letter : Class
 gap_or_letter = record { 0 = 11 }
 
+-- class uppercase
 abbrev pub uppercase : Class
 uppercase = record { 0 = 32 }
 
+-- class sign
 abbrev pub sign : Class
 sign = record { 0 = 64 }
 
+-- class math
 abbrev pub math : Class
 math = record { 0 = 128 }
 
--- lowercase and letter
+-- the classes lowercase and letter
 abbrev pub lowercase_letter : Class
 lowercase_letter = record { 0 = 24 }
 
--- uppercase and letter
+-- the classes uppercase and letter
 abbrev pub uppercase_letter : Class
 uppercase_letter = record { 0 = 40 }
 
@@ -62,10 +68,11 @@ holds Any classes = true
 holds (Meets set) classes = share classes set
 holds (Avoids set) classes = not (share classes set)
 
+-- this condition on the character before a rule, and this one on the character after it
 abbrev pub asks : Cond → Cond → Conditions
 asks before after = record { before = before; after = after }
 
--- what a place asks of the character before a rule and of the character behind it, where the classes `here` stand before
+-- the conditions of a place, where the character before a rule has the classes `here`
 abbrev pub conditions_of : Place → Class → Conditions
 conditions_of Always here = asks Any Any
 conditions_of Word here = asks (Meets gap) (Meets gap)
@@ -81,8 +88,10 @@ conditions_of Begnum here = asks (Meets gap) (Meets digit)
 conditions_of Midnum here = asks (Meets digit) (Meets digit)
 conditions_of Endnum here = asks (Meets digit) (Avoids digit)
 
+-- the condition of a place on the character before a rule
 abbrev pub before_of : Place → Cond
 before_of place = (conditions_of place none).before
 
+-- the condition on the character after a rule, where the one before has these classes
 abbrev pub after_of : Place → Class → Cond
 after_of place before = (conditions_of place before).after

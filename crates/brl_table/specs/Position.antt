@@ -1,4 +1,4 @@
--- When a rule fits, said by position over a whole text; and which rule is chosen, said by place in rank.
+-- When a rule fits, by position in a whole text, and which rule is chosen, by place in rank.
 use Rattle.std.specs.Prelude.{ℕ, ◌+◌, ◌<◌, ◌≤◌, ◌≡◌, false, IsTrue, List, length, slice_get, slice_index, Some}
 use Rattle.brl_table.specs.declared.class.Class.{Class}
 use Rattle.brl_table.specs.declared.rule.Rule.{Rule}
@@ -7,8 +7,9 @@ use Rattle.brl_table.specs.Places.{holds, before_of, after_of}
 use Rattle.brl_table.specs.Text.{fold_of, classes_at, classes_before}
 use Rattle.brl_table.specs.Choice.{fits}
 
--- Rule r fits at position i: it has characters and room; its first character equals the fold of the text's, its others equal
--- the text's exactly; and the classes before and behind it meet what its place asks.
+-- Rule r fits at position i: it has characters, and the text has as many from there on; its first
+-- character is the fold of the text's, its others are the text's own; and the classes before and
+-- after it meet the conditions of its place.
 pub record FitsAt (t : TableView) (text : List ℕ) (i : ℕ) (r : Rule) : Type 0 where
   pub some : 1 ≤ length r.chars
   pub room : i + length r.chars ≤ length text
@@ -17,7 +18,7 @@ pub record FitsAt (t : TableView) (text : List ℕ) (i : ℕ) (r : Rule) : Type 
   pub before : IsTrue (holds (before_of r.place) (classes_before t text i))
   pub after : IsTrue (holds (after_of r.place (classes_before t text i)) (classes_at t text (i + length r.chars)))
 
--- the rule at this place fits in front of `rest`, and no rule of an earlier place does
+-- the rule at this place in rank fits at the start of `rest`, and none at an earlier place does
 pub record IsFirstThatFits (t : TableView) (before : Class) (rest : List ℕ) (place : ℕ) (r : Rule) : Type 0 where
   pub there : slice_get t.rules place ≡ Some r
   pub fitting : IsTrue (fits t before rest r)

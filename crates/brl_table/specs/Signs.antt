@@ -1,4 +1,4 @@
--- The indicators by their numbers, and lists of what each of them has.
+-- The indicators by their numbers, and lists of the cells of each.
 use Rattle.std.specs.Prelude.{ℕ, Bool, ◌==◌, List, [], ◌∷◌, map, slice_index_or, if◌then◌else◌}
 use Rattle.brl_table.specs.declared.signs.Sign.{Sign}
 use Rattle.brl_table.specs.declared.signs.Sign.TheVariants.{CapsLetter, NumSign, NoContractSign}

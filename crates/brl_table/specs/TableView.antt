@@ -1,4 +1,4 @@
--- A table, as every definition of translation sees it.
+-- A table, as all definitions of translation see it.
 use Rattle.std.specs.Prelude.{ℕ, List, Option, nat_eq}
 use Rattle.std.specs.Map.{lookup}
 use Rattle.brl_table.specs.declared.rule.Info.{Info}
@@ -7,9 +7,9 @@ use Rattle.brl_table.specs.declared.rule.Rule.{Rule}
 use Rattle.brl_table.specs.declared.signs.Sign.{Sign}
 use Rattle.brl_table.specs.Signs.{cells_at}
 
--- The characters in the order of their first definitions, each with what the table says of it;
--- the used rules in rank; the cells of each indicator by their numbers, none where it isn't
--- defined; the names of the files, as bytes; and the notices.
+-- The characters in the order of their first definitions, with their infos; the used rules in rank;
+-- the cells of the indicators by their numbers, none where one isn't defined; the names of the
+-- files, as bytes; and the notices.
 pub record TableView : Type 0 where
   pub characters : List (ℕ × Info)
   pub rules : List Rule
@@ -17,7 +17,7 @@ pub record TableView : Type 0 where
   pub files : List (List ℕ)
   pub notices : List Notice
 
--- what the table says of a character
+-- the info of a character, if the table defines it
 abbrev pub info_of : TableView → ℕ → Option Info
 info_of t c = lookup (nat_eq c) t.characters
 

@@ -1,7 +1,8 @@
--- Texts over a table's characters, and what stands before a position: the neighbour's classes and numeric mode.
--- The manual has classes and `litdigit` in section "Character-Definition Opcodes", and `numericmodechars` in section "Braille
--- Indicator Opcodes". That both ends of a text count as class space, and when exactly numeric mode holds, is this project's own
--- choice: here a `numericmodechars` character keeps the mode and never starts it.
+-- Texts over a table's characters, and the context of a position: the classes of the character
+-- before it, and numeric mode. The manual has classes and `litdigit` in section
+-- "Character-Definition Opcodes", and `numericmodechars` in section "Braille Indicator Opcodes".
+-- That both ends of a text count as class space, and when exactly numeric mode holds, is this
+-- project's own choice: a `numericmodechars` character keeps the mode and never starts it.
 use Rattle.std.specs.Prelude.{ℕ, zero, suc, Bool, false, ◌&&◌, ◌||◌, List, [], ◌∷◌, is_some, slice_get}
 use Rattle.std.specs.List.{list_all}
 use Rattle.std.specs.Option.{option_map_or}
@@ -10,26 +11,31 @@ use Rattle.brl_table.specs.declared.context.Context.{Context}
 use Rattle.brl_table.specs.TableView.{TableView, info_of}
 use Rattle.brl_table.specs.Places.{space, none}
 
--- a text is a list of characters that the table defines
+-- the table defines the character
 abbrev pub is_defined : TableView → ℕ → Bool
 is_defined t c = is_some (info_of t c)
 
+-- a text is a list of characters that the table defines
 abbrev pub is_text : TableView → List ℕ → Bool
 is_text t text = list_all (is_defined t) text
 
--- what the table says of a character: of one that it doesn't define nothing, and such a one is its own fold
+-- the classes of a character; an undefined one has none
 abbrev pub classes_of : TableView → ℕ → Class
 classes_of t c = option_map_or (λ info. info.classes) (info_of t c) none
 
+-- the fold of a character; an undefined one is its own fold
 abbrev pub fold_of : TableView → ℕ → ℕ
 fold_of t c = option_map_or (λ info. info.fold) (info_of t c) c
 
+-- whether the character has a `litdigit` line
 abbrev pub is_literary : TableView → ℕ → Bool
 is_literary t c = option_map_or (λ info. info.literary) (info_of t c) false
 
+-- whether the character is in `numericmodechars`
 abbrev pub is_mode : TableView → ℕ → Bool
 is_mode t c = option_map_or (λ info. info.mode) (info_of t c) false
 
+-- whether the character is in `numericnocontchars`
 abbrev pub is_nocont : TableView → ℕ → Bool
 is_nocont t c = option_map_or (λ info. info.nocont) (info_of t c) false
 
@@ -37,31 +43,33 @@ is_nocont t c = option_map_or (λ info. info.nocont) (info_of t c) false
 abbrev pub classes_at : TableView → List ℕ → ℕ → Class
 classes_at t text i = option_map_or (classes_of t) (slice_get text i) space
 
--- the classes before position i
+-- the classes of the character before position i, and class space at the start
 abbrev pub classes_before : TableView → List ℕ → ℕ → Class
 classes_before t text zero = space
 classes_before t text (suc i) = classes_at t text i
 
--- numeric mode behind a character, where it held before it or not
+-- numeric mode after a character, given whether it held before it
 abbrev pub numeric_behind : TableView → ℕ → Bool → Bool
 numeric_behind t c numeric = is_literary t c || (is_mode t c && numeric)
 
--- numeric mode at position i: the character before is a literary digit, or keeps the mode that holds before it
+-- numeric mode at position i: the character before is a literary digit, or keeps the mode
 abbrev pub numeric_at : TableView → List ℕ → ℕ → Bool
 numeric_at t text zero = false
 numeric_at t text (suc i) = option_map_or (λ c. numeric_behind t c (numeric_at t text i)) (slice_get text i) false
 
--- what position i knows of the text before it
+-- the context of position i: what it knows of the text before it
 abbrev pub context_at : TableView → List ℕ → ℕ → Context
 context_at t text i = record { classes = classes_before t text i; numeric = numeric_at t text i }
 
+-- the context at the start of a text
 abbrev pub at_start : Context
 at_start = record { classes = space; numeric = false }
 
--- the same behind one more character, and behind some
+-- the context after one more character
 abbrev pub context_behind : TableView → Context → ℕ → Context
 context_behind t here c = record { classes = classes_of t c; numeric = numeric_behind t c here.numeric }
 
+-- the context after more characters
 abbrev pub context_behind_all : TableView → Context → List ℕ → Context
 context_behind_all t here [] = here
 context_behind_all t here (c ∷ cs) = context_behind_all t (context_behind t here c) cs

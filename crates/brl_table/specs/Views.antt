@@ -1,9 +1,10 @@
--- The parts of a table, seen as a table whose rules stand in the order that the parts have.
+-- How contracts see the parts of a table: as a table whose rules are in the order of the parts.
 use Rattle.std.specs.Prelude.{map}
 use Rattle.std.specs.String.{string_bytes}
 use Rattle.brl_table.specs.declared.parts.TableParts.{TableParts}
 use Rattle.brl_table.specs.TableView.{TableView}
 
+-- the view of the parts of a table
 abbrev pub parts_view : TableParts → TableView
 parts_view p = record {
   characters = p.characters.entries;

@@ -1,8 +1,7 @@
-//! Which rule a table takes in front of a text's rest, by the tree of its rules.
+//! The rule that a table chooses at the start of a rest of a text, found by the tree of its rules.
 ghost use Rattle.std.specs.Prelude.{◌≡◌, [], ◌<◌, ◌≤◌, length, slice_get, IfSome, Some};
 ghost use Rattle.std.specs.List.{find, position_from};
-ghost use Rattle.brl_table.specs.Choice.{fits, may_stand, may_stand_by_number, chosen, chosen_number};
-ghost use Rattle.brl_table.specs.Choices.{IsChoice};
+ghost use Rattle.brl_table.specs.Choice.{fits, place_allows, place_allows_number, chosen, chosen_number, IsChoice};
 ghost use Rattle.brl_table.specs.Infos.{first_info};
 ghost use Rattle.brl_table.specs.Text.{fold_of};
 ghost use Rattle.brl_table.specs.Tree.{ends_at};
@@ -11,21 +10,22 @@ use crate::tree::Node;
 use crate::{Class, Cond, Info, Rule, Table, holds};
 use brl_cells::Cell;
 
-/// A rule that is taken in front of a text's rest.
+/// The rule that is chosen at the start of a rest.
 #[derive(Clone, Copy)]
 pub struct Choice<'a> {
-    /// The place of the rule in rank, from 0; behind the rules come the own definitions, by the numbers of their
-    /// characters.
+    /// The place of the rule in rank, from 0. After the rules come the own definitions, by the
+    /// numbers of their characters.
     pub number: u32,
-    /// How many characters it takes.
+    /// The number of characters that it takes.
     pub taken: usize,
     /// Its cells, without indicators.
     pub cells: &'a [Cell],
 }
 
 impl Table {
-    /// The rule that the table takes in front of `rest`, where these classes stand before: the first in rank that
-    /// fits, and the own definition of the first character where none does. `rest` is the text to its end.
+    /// The rule that the table chooses at the start of `rest`, after a character with these
+    /// classes: the first in rank that fits, else the own definition of the first character. `rest`
+    /// is the text to its end.
     pub fn choice(&self, before: Class, rest: &[char]) -> Choice<'_>
         requires { 0 < length rest.now }
         ensures choice { IsChoice result (chosen self.now before rest.now) }
@@ -43,7 +43,7 @@ impl Table {
         }
     }
 
-    /// The same, where the first character has this info.
+    /// The same, given the info of the first character.
     pub fn choice_of<'a>(&'a self, info: &'a Info, before: Class, rest: &[char]) -> Choice<'a>
         requires { first_info self.now rest.now ≡ Some info.now }
         ensures choice { IsChoice result (chosen self.now before rest.now) }
@@ -51,7 +51,7 @@ impl Table {
         ensures room { result.taken ≤ length rest.now }
     {
         self.law();
-        match self.rule_in_front(info.fold, before, rest) {
+        match self.fitting_rule(info.fold, before, rest) {
             Some(number) => {
                 let rule = &self.rules_in_rank()[number as usize];
                 Choice {
@@ -68,9 +68,10 @@ impl Table {
         }
     }
 
-    /// The number of the rule that the table takes in front of `rest`, where these classes stand before: a rule's place in
-    /// rank, from 0, and behind the rules the own definitions by the numbers of their characters. None where `rest` is
-    /// empty or the table doesn't define its first character.
+    /// The number of the rule that the table chooses at the start of `rest`, after a character with
+    /// these classes: a rule's place in rank, from 0, and after the rules the own definitions by
+    /// the numbers of their characters. `None` where `rest` is empty or the table doesn't define
+    /// its first character.
     pub fn choose(&self, before: Class, rest: &[char]) -> Option<u32>
         ensures { result ≡ chosen_number self.now before rest.now }
     {
@@ -78,16 +79,16 @@ impl Table {
         Some(self.choice_of(info, before, rest).number)
     }
 
-    /// The number of the first rule in rank that fits in front of `rest`, whose first character has this fold: None where
-    /// no rule does.
-    fn rule_in_front(&self, fold: char, before: Class, rest: &[char]) -> Option<u32>
+    /// The number of the first rule in rank that fits at the start of `rest`, whose first character
+    /// has this fold. `None` where no rule fits.
+    fn fitting_rule(&self, fold: char, before: Class, rest: &[char]) -> Option<u32>
         requires { IfSome (slice_get rest.now 0) (λ first. fold ≡ fold_of self.now first) }
         ensures { result ≡ position_from (fits self.now before rest.now) 0 self.now.rules }
     {
-        let (_, behind) = rest.split_first()?;
+        let (_, others) = rest.split_first()?;
         let mut node = self.root(fold)?;
         let mut best = self.rule_at(node, before, rest);
-        for character in behind {
+        for character in others {
             let Some(branch) = node.branch(*character) else {
                 return best;
             };
@@ -97,29 +98,29 @@ impl Table {
         best
     }
 
-    /// The first of the rules that end at a node whose place allows it in front of `rest`.
+    /// The first of the rules ending at a node whose place allows it at the start of `rest`.
     fn rule_at(&self, node: &Node, before: Class, rest: &[char]) -> Option<u32>
-        ensures { result ≡ find (may_stand_by_number self.now before rest.now) (ends_at node.now []) }
+        ensures { result ≡ find (place_allows_number self.now before rest.now) (ends_at node.now []) }
     {
         node.rules()
             .iter()
             .copied()
-            .find(|number| self.may_stand_by_number(before, rest, *number))
+            .find(|number| self.place_allows_number(before, rest, *number))
     }
 
-    /// Whether there is a rule with this number, and its place allows it in front of `rest`.
-    fn may_stand_by_number(&self, before: Class, rest: &[char], number: u32) -> bool
-        ensures { result ≡ may_stand_by_number self.now before rest.now number }
+    /// Whether there is a rule with this number, and its place allows it at the start of `rest`.
+    fn place_allows_number(&self, before: Class, rest: &[char], number: u32) -> bool
+        ensures { result ≡ place_allows_number self.now before rest.now number }
     {
         match self.rules_in_rank().get(number as usize) {
-            Some(rule) => self.may_stand(before, rest, rule),
+            Some(rule) => self.place_allows(before, rest, rule),
             None => false,
         }
     }
 
-    /// Whether what a rule's place asks of its neighbours holds in front of `rest`.
-    fn may_stand(&self, before: Class, rest: &[char], rule: &Rule) -> bool
-        ensures { result ≡ may_stand self.now before rest.now rule.now }
+    /// Whether a rule's place allows it at the start of `rest`: the neighbours meet its conditions.
+    fn place_allows(&self, before: Class, rest: &[char], rule: &Rule) -> bool
+        ensures { result ≡ place_allows self.now before rest.now rule.now }
     {
         holds(rule.place.before(), before)
             && match rule.place.after(before) {

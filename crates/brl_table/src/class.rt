@@ -3,8 +3,8 @@ ghost use Rattle.std.specs.Prelude.{⊤, [], ◌∷◌, codes};
 
 use bitflags::{Flag, Flags, bitflag_items};
 
-/// A set of character classes, as a number: each class is one bit. A contract reads the number as `.0`.
-/// The manual's section "Character-Definition Opcodes" has the classes.
+/// A set of character classes, as a number with one bit for each class. A contract reads the number
+/// as `.0`. The manual's section "Character-Definition Opcodes" has the classes.
 #[derive(Clone, Copy, PartialEq, Eq, PartialOrd, Ord, Hash, Debug)]
 pub struct Class(pub u8);
 
@@ -25,7 +25,7 @@ impl Class {
     /// No class.
     pub const NONE: Class = Class(0);
 
-    /// Space or punctuation: what parts words.
+    /// Space or punctuation: what separates words.
     pub const GAP: Class = Class(3);
 
     /// Space, punctuation or letter.

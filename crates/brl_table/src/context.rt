@@ -1,8 +1,8 @@
-//! What stands before a position of a text.
-use crate::{Class, Info};
+//! What comes before a position of a text.
+use crate::{Class, Info, Table};
 
-/// What a position of a text knows of the characters before it: the classes of the last one (class space at the
-/// text's start), and whether numeric mode holds.
+/// What a position of a text knows of the characters before it: the classes of the last one (class
+/// space at the text's start), and whether numeric mode holds.
 #[derive(Clone, Copy, PartialEq, Eq, Hash, Debug)]
 pub struct Context {
     pub classes: Class,
@@ -21,7 +21,7 @@ impl Context {
         numeric: false,
     };
 
-    /// The context after one more character, which has this info.
+    /// The context after one more character, given its info.
     pub fn behind(self, info: &Info) -> Context
         ensures { (t : TableView) (c : ℕ) → info_of t c ≡ Some info.now → result ≡ context_behind t self c }
     {
@@ -31,7 +31,7 @@ impl Context {
         }
     }
 
-    /// The context after some more characters, which have these infos.
+    /// The context after more characters, given their infos.
     pub fn behind_all(self, infos: &[&Info]) -> Context
         ensures { (t : TableView) (chars : List ℕ) → AreInfosOf t chars infos.now →
             result ≡ context_behind_all t self chars }
@@ -41,5 +41,34 @@ impl Context {
             context = context.behind(info);
         }
         context
+    }
+}
+
+impl Table {
+    ghost use Rattle.std.specs.Prelude.{◌≡◌};
+    ghost use Rattle.brl_table.specs.Text.{context_behind, context_behind_all};
+
+    /// The context after more characters.
+    pub fn context_behind(&self, here: Context, chars: &[char]) -> Context
+        ensures { result ≡ context_behind_all self.now here chars.now }
+    {
+        let mut context = here;
+        for character in chars {
+            context = self.behind(context, *character);
+        }
+        context
+    }
+
+    /// The context after one more character.
+    fn behind(&self, here: Context, character: char) -> Context
+        ensures { result ≡ context_behind self.now here character }
+    {
+        match self.info(character) {
+            Some(info) => here.behind(info),
+            None => Context {
+                classes: Class::NONE,
+                numeric: false,
+            },
+        }
     }
 }

@@ -1,4 +1,5 @@
-//! Laws of the definitions, for proofs in the crates above: each function has an empty body, and its contract is the law.
+//! Laws of the definitions, for proofs in the crates above. Each function has an empty body; its
+//! contract is the law.
 ghost use Rattle.std.specs.Prelude.{◌≡◌, ◌++◌, ◌+◌, ◌<◌, ◌≤◌, ◌↔◌, ℕ, false, IsTrue, [], List, length, take, drop, slice_get, Some};
 ghost use Rattle.brl_table.specs.declared.class.Class.{Class};
 ghost use Rattle.brl_table.specs.declared.context.Context.{Context};
@@ -13,22 +14,22 @@ ghost use Rattle.brl_table.specs.TableView.{TableView};
 ghost use Rattle.brl_table.specs.Text.{at_start, classes_before, context_at, context_behind_all};
 ghost use Rattle.brl_table.specs.Translation.{IsClash, IsUnambiguous, indicators_at, chosen_at, translation_from, translation};
 
-/// A list of what each indicator has gives each its own, and indicators with the same number are
-/// the same.
+/// A list of the cells of each indicator gives each its own, and indicators with the same number
+/// are the same.
 pub fn signs_law()
     ensures own { (cells : Sign → List ℕ) (sign : Sign) → cells_at (by_sign cells) sign ≡ cells sign }
     ensures same { (sign other : Sign) → IsTrue (is_same_sign sign other) → sign ≡ other }
 {}
 
-/// The same rules are put in rank in one way only, which `in_rank` computes.
+/// Rules have one ranking only, which `in_rank` computes.
 pub fn rank_law()
     ensures one { (lines one other : List Rule) → IsRanking lines one → IsRanking lines other → one ≡ other }
     ensures computed { (lines : List Rule) → IsRanking lines (in_rank lines) }
 {}
 
-/// Which rule is chosen. A rule fits in front of a text's rest exactly where it fits at that position of the text; the
-/// chosen rule is the first in rank that fits, and the own definition where none does; and it takes at least one
-/// character, and no more than there are.
+/// Which rule is chosen. A rule fits at the start of a rest exactly where it fits at that position
+/// of the whole text. The chosen rule is the first in rank that fits, else the own definition. It
+/// takes at least one character, and no more than there are.
 pub fn choice_laws()
     ensures fitting { (t : TableView) (text : List ℕ) (i : ℕ) (r : Rule) →
         IsTrue (fits t (classes_before t text i) (drop i text) r) ↔ FitsAt t text i r }
@@ -42,9 +43,9 @@ pub fn choice_laws()
         (chosen t before rest).taken ≤ length rest }
 {}
 
-/// A translation, one rule at a time. From a position on it is the indicators there, the chosen rule's cells, and the
-/// translation from behind the rule's last character on. And it is told from the text's start on by what stands before
-/// and what is left of the text alone, as is the context behind some characters.
+/// A translation, one rule at a time. From a position on it is the indicators there, the chosen
+/// rule's cells, and the translation from after the rule's last character on. It depends only on
+/// the context and the rest of the text, and so does the context after more characters.
 pub fn translation_laws()
     ensures position { (t : TableView) (text : List ℕ) (i : ℕ) → i < length text →
         translation_from t text (length text) i

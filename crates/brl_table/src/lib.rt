@@ -1,11 +1,12 @@
-//! Braille tables: characters with their classes, rules with their places, indicators; and the definitions of
-//! forward translation, which every crate above reads.
+//! Braille tables. A `Table` has characters with their classes (`Info`, `Class`), rules with their
+//! places (`Rule`, `Place`) and the cells of indicators (`Sign`); it is made from `TableParts`. For
+//! a position of a text, of which a `Context` is known, it gives the indicators and the chosen rule
+//! (`Choice`). The specs define forward translation, on which every crate above builds.
 #![tactic(auto)]
 
 mod choice;
 mod class;
 mod context;
-mod front;
 mod laws;
 mod parts;
 mod place;

@@ -1,23 +1,23 @@
-//! The places where a rule may be used, and what each asks of the rule's neighbours.
+//! The places where a rule may be used, and the conditions of each on the rule's neighbours.
 ghost use Rattle.std.specs.Prelude.{◌≡◌};
 ghost use Rattle.brl_table.specs.Places.{holds as does_hold, conditions_of, before_of, after_of};
 
 use crate::Class;
 use bitflags::Flags;
 
-/// What a place asks of the classes of a neighbour.
+/// A condition of a place on the classes of a neighbour.
 #[derive(Clone, Copy, PartialEq, Eq, PartialOrd, Ord, Hash, Debug)]
 pub enum Cond {
-    /// Nothing.
+    /// It always holds.
     Any,
-    /// That they share a class with this set.
+    /// The classes share one with this set.
     Meets(Class),
-    /// That they share no class with it.
+    /// The classes share none with this set.
     Avoids(Class),
 }
 
-/// Where a rule may be used: the translation opcode of its line. The manual's section "Translation Opcodes"
-/// has them.
+/// Where a rule may be used: the translation opcode of its line. The manual's section "Translation
+/// Opcodes" has them.
 #[derive(Clone, Copy, PartialEq, Eq, Hash, Debug)]
 pub enum Place {
     Always,
@@ -35,7 +35,7 @@ pub enum Place {
     Endnum,
 }
 
-/// What a place asks of the character before a rule and of the character behind it.
+/// The conditions of a place on the character before a rule and on the one after it.
 #[derive(Clone, Copy)]
 struct Conditions {
     before: Cond,
@@ -54,21 +54,22 @@ pub fn holds(cond: Cond, classes: Class) -> bool
 }
 
 impl Place {
-    /// What the place asks of the classes of the character before a rule.
+    /// The condition on the classes of the character before a rule.
     pub fn before(self) -> Cond
         ensures { result ≡ before_of self }
     {
         self.conditions(Class::NONE).before
     }
 
-    /// What the place asks of the classes of the character behind a rule that these classes stand before.
+    /// The condition on the classes of the character after a rule, where the character before the
+    /// rule has these classes.
     pub fn after(self, before: Class) -> Cond
         ensures { result ≡ after_of self before }
     {
         self.conditions(before).after
     }
 
-    /// Both conditions, where these classes stand before.
+    /// Both conditions, where the character before the rule has these classes.
     fn conditions(self, before: Class) -> Conditions
         ensures { result ≡ conditions_of self before }
     {

@@ -1,9 +1,9 @@
-//! Rules, and what a table says of a character.
+//! The rules and the characters of a table.
 use crate::{Class, Place};
 use brl_cells::{Cells, Chars};
 
-/// A rule: its characters, folded; the cells that they give; and where it may be used. `file` is the number of
-/// its file among the table's, from 0, and `line` its line there, from 1.
+/// A rule: its characters, folded; the cells that they give; and where it may be used. `file` is
+/// the number of its file among the table's, from 0, and `line` its line there, from 1.
 #[derive(Debug, Drop)]
 pub struct Rule {
     pub chars: Chars,
@@ -13,7 +13,7 @@ pub struct Rule {
     pub line: u32,
 }
 
-/// What a table says of a character.
+/// The info of a character: what a table defines for it.
 #[derive(Debug, Drop)]
 pub struct Info {
     /// Its place among the table's characters in the order of their first definitions, from 0.
@@ -28,7 +28,8 @@ pub struct Info {
     pub mode: bool,
     /// Whether it is in `numericnocontchars`.
     pub nocont: bool,
-    /// The lowercase character of the first `uplow` line that names it as uppercase, else the character itself.
+    /// The lowercase character of the first `uplow` line that names it as uppercase, else the
+    /// character itself.
     pub fold: char,
     /// The file and the line that gave its cells, as in a `Rule`.
     pub file: usize,

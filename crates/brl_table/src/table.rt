@@ -1,15 +1,16 @@
-//! A table and its readers.
+//! A table, and what it gives for characters, rules, indicators and files.
 ghost use Rattle.std.specs.Prelude.{◌≡◌, ◌<◌, ◌≤◌, ◌∷◌, [], ℕ, List, length, map, slice_get, Some, IfOk, OnOk, IfSome, option_copied};
 ghost use Rattle.std.specs.List.Sorted.{IsPermutation};
 ghost use Rattle.std.specs.Option.{option_map_or};
 ghost use Rattle.brl_table.specs.Limits.{AreParts, IsTable};
 ghost use Rattle.brl_table.specs.Rank.{IsInRank, IsRanking};
 ghost use Rattle.brl_table.specs.TableView.{info_of, sign_cells};
+ghost use Rattle.brl_table.specs.Text.{classes_at as classes_there, classes_of};
 ghost use Rattle.brl_table.specs.Tree.{ends_at, ends_of};
 ghost use Rattle.brl_table.specs.Views.{parts_view};
 
 use crate::tree::{Node, RuleTree};
-use crate::{Info, Notice, Rule, Sign, TableParts};
+use crate::{Class, Info, Notice, Rule, Sign, TableParts};
 use brl_cells::Cell;
 use std::alloc::AllocError;
 use std::marker::Model;
@@ -17,7 +18,7 @@ use std::marker::Model;
 /// A braille table. A contract sees a `TableView`.
 #[derive(Drop)]
 pub struct Table {
-    /// The parts, the rules in rank.
+    /// The parts, with the rules in rank.
     parts: TableParts,
     /// The tree of the rules.
     tree: RuleTree,
@@ -36,7 +37,7 @@ impl Model for Table {
 }
 
 impl Table {
-    /// The table of these parts, its rules put in rank. `AllocError` where sorting them finds no memory.
+    /// The table of these parts, with its rules put in rank.
     pub fn from_parts(parts: TableParts) -> Result<Table, AllocError>
         requires { AreParts (parts_view parts) }
         ensures characters { IfOk result (λ t. t.characters ≡ (parts_view parts).characters) }
@@ -52,14 +53,14 @@ impl Table {
         Ok(Table { parts, tree })
     }
 
-    /// What every table keeps, for proofs in the crates above: the contract is the law.
+    /// What every table keeps, for proofs in the crates above. The contract is the law.
     pub fn law(&self)
         ensures { IsTable self.now }
     {
         let _ = &self.parts;
     }
 
-    /// What the table says of a character: None where it doesn't define it.
+    /// The info of a character. `None` where the table doesn't define it.
     pub fn info(&self, character: char) -> Option<&Info>
         ensures value { option_copied result ≡ info_of self.now character }
         ensures number { IfSome result (λ info. info.now.number < 1024) }
@@ -67,7 +68,27 @@ impl Table {
         self.parts.characters.get(&character)
     }
 
-    /// How many characters the table defines.
+    /// The classes of a character: none where the table doesn't define it.
+    fn classes(&self, character: char) -> Class
+        ensures { result ≡ classes_of self.now character }
+    {
+        match self.info(character) {
+            Some(info) => info.classes,
+            None => Class::NONE,
+        }
+    }
+
+    /// The classes of the character at a place of a text, and class space after the text's end.
+    pub(crate) fn classes_at(&self, text: &[char], place: usize) -> Class
+        ensures { result ≡ classes_there self.now text.now place }
+    {
+        match text.get(place) {
+            Some(character) => self.classes(*character),
+            None => Class::SPACE,
+        }
+    }
+
+    /// The number of characters that the table defines.
     pub fn char_count(&self) -> usize
         ensures count { result ≡ length self.now.characters }
         ensures few { result ≤ 1024 }
@@ -92,8 +113,8 @@ impl Table {
         self.parts.rules.as_slice()
     }
 
-    /// The node of the rules that begin with this character. From it the characters behind lead to the numbers of the rules
-    /// that have just these, in rank.
+    /// The node of the rules that begin with this character. The characters that follow lead from
+    /// it to the numbers of the rules with just these characters, in rank.
     pub(crate) fn root(&self, first: char) -> Option<&Node>
         ensures node { (at : List ℕ) → option_map_or (λ root. ends_at root at) (option_copied result) [] ≡ ends_of self.now.rules (first ∷ at) }
         ensures rank { IsInRank self.now.rules }
@@ -117,7 +138,7 @@ impl Table {
         self.parts.files[number].as_str()
     }
 
-    /// The lines that define a character again, in their order.
+    /// The lines that define a character again, in order.
     pub fn notices(&self) -> &[Notice]
         ensures { result.now ≡ self.now.notices }
     {
@@ -125,7 +146,7 @@ impl Table {
     }
 }
 
-/// Puts rules in rank: the longer first, and those of one length in the order that they have.
+/// Puts rules in rank: longer ones first, and those of one length in the order that they have.
 fn rank(rules: &mut Vec<Rule>) -> Result<(), AllocError>
     ensures ranking { OnOk result (IsRanking rules.old.items rules.new.items) }
     ensures permutation { IsPermutation rules.old.items rules.new.items }

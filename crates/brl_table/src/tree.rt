@@ -1,4 +1,5 @@
-//! The tree of a table's rules, by their characters.
+//! The tree of a table's rules, by their characters. It finds the longest rule that fits in one
+//! walk over a text.
 ghost use Rattle.std.specs.Prelude.{◌≡◌, ◌==◌, ◌≤◌, ◌∷◌, [], ℕ, List, IfOk, OnOk, length, option_copied};
 ghost use Rattle.std.specs.List.{position};
 ghost use Rattle.std.specs.Option.{option_map_or};
@@ -9,7 +10,8 @@ use crate::Rule;
 use indexmap::IndexMap;
 use std::alloc::{AllocError, Global};
 
-/// A node: where some characters lead. A contract reads it by the numbers of the rules that end at the characters behind it.
+/// A node of the tree. A contract reads it by the numbers of the rules to which characters lead
+/// from it.
 #[derive(Drop)]
 pub struct Node {
     /// The character that leads here.
@@ -32,7 +34,7 @@ impl Node {
         }
     }
 
-    /// Puts in the rule with this number, which has these characters from here on, behind all others.
+    /// Inserts the rule with this number as the last one. From here on it has these characters.
     pub fn insert(&mut self, alloc: Global, chars: &[char], number: u32) -> Result<(), AllocError>
         ensures mark { OnOk result ((out-Node self.new).mark ≡ (out-Node self.old).mark) }
         ensures ends { OnOk result ((at : List ℕ) → ends_at self.new at ≡ with_rule chars.now number at (ends_at self.old at)) }
@@ -54,7 +56,7 @@ impl Node {
         Ok(())
     }
 
-    /// The place of the branch that a character leads to.
+    /// The place of the branch to which a character leads.
     fn place_of(&self, mark: char) -> Option<usize>
         ensures { result ≡ position (λ branch. (out-Node branch).mark == mark) (out-Node self.now).branches.items }
     {
@@ -68,7 +70,7 @@ impl Node {
         self.rules.as_slice()
     }
 
-    /// The branch that a character leads to.
+    /// The branch to which a character leads.
     pub fn branch(&self, mark: char) -> Option<&Node>
         ensures { (at : List ℕ) → option_map_or (λ branch. ends_at branch at) (option_copied result) [] ≡ ends_at self.now (mark ∷ at) }
     {
@@ -77,15 +79,15 @@ impl Node {
     }
 }
 
-/// The tree of some rules. A contract reads it by the numbers of the rules that have just some characters.
+/// A tree of rules. A contract reads it by the numbers of the rules with just the given characters.
 #[derive(Drop)]
 pub struct RuleTree {
-    /// By the first character of a rule.
+    /// The nodes of the first characters of rules.
     roots: IndexMap<char, Node>,
 }
 
 impl RuleTree {
-    /// The tree of these rules, which are numbered from 0.
+    /// The tree of these rules, numbered from 0.
     pub fn of_rules(alloc: Global, rules: &[Rule]) -> Result<RuleTree, AllocError>
         requires { length rules.now ≤ 4096 }
         ensures { IfOk result (IsTreeOf rules.now) }
@@ -106,7 +108,7 @@ impl RuleTree {
         }
     }
 
-    /// Puts in the rule with this number and these characters, behind all others.
+    /// Inserts the rule with this number and these characters as the last one.
     fn insert(&mut self, alloc: Global, chars: &[char], number: u32) -> Result<(), AllocError>
         ensures { OnOk result ((c : ℕ) (at : List ℕ) →
             ends_in self.new c at ≡ with_rule chars.now number (c ∷ at) (ends_in self.old c at)) }
@@ -125,7 +127,7 @@ impl RuleTree {
         Ok(())
     }
 
-    /// The node of rules that begin with this character.
+    /// The node of the rules that begin with this character.
     pub fn root(&self, first: char) -> Option<&Node>
         ensures { (at : List ℕ) → option_map_or (λ root. ends_at root at) (option_copied result) [] ≡ ends_in self.now first at }
     {

@@ -1,5 +1,5 @@
 use Rattle.brl_forward.proofs.Sides.{err-of_right}
-use Rattle.brl_forward.proofs.Unknown.{first_unknown-of_text}
+use Rattle.brl_forward.proofs.UnknownChars.{first_unknown-of_text}
 use Rattle.brl_forward.proofs.clash.confirm.Goals as goal
 
 pub returns-in_err-others-clause-fault : goal.returns-in_err-others-clause-fault

@@ -1,5 +1,5 @@
 use Rattle.brl_forward.proofs.StepCells.{trace-cells}
-use Rattle.brl_forward.proofs.StepTurns.{trace-position}
+use Rattle.brl_forward.proofs.StepLoop.{trace-position}
 use Rattle.brl_forward.proofs.laws.trace_laws.Goals as goal
 
 pub returns : goal.returns

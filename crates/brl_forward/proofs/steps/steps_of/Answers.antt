@@ -3,8 +3,8 @@ use Rattle.std.proofs.lemmas.List.{take_rest}
 use Rattle.brl_table.specs.Infos.{first_info}
 use Rattle.brl_table.specs.Text.{context_at, context_behind_all}
 use Rattle.brl_forward.specs.Trace.{step_before}
-use Rattle.brl_forward.proofs.InfoRest.{first_info-at, infos-taken, length-infos}
-use Rattle.brl_forward.proofs.StepTurns.{none_yet, step_more}
+use Rattle.brl_forward.proofs.InfoLists.{first_info-at, infos-taken, length-infos}
+use Rattle.brl_forward.proofs.StepLoop.{none_yet, step_more}
 use Rattle.brl_forward.proofs.steps.steps_of.Goals as goal
 
 pub loop-info-init : goal.loop-info-init

@@ -1,10 +1,9 @@
 use Rattle.std.proofs.Common.{◌≡◌, ◌+◌, ◌-◌, ◌<◌, ◌≤◌, ◌∙◌, List, ℕ, ap, arith, drop, length, length-drop, refl, rules, subst, sym, take}
 use Rattle.std.proofs.lemmas.List.{drop-drop, drop_all, take_rest}
-use Rattle.brl_table.specs.Choice.{chosen}
-use Rattle.brl_table.specs.Choices.{IsChoice}
+use Rattle.brl_table.specs.Choice.{IsChoice, chosen}
 use Rattle.brl_table.specs.Infos.{first_info}
-use Rattle.brl_forward.proofs.InfoRest.{first_info-at, infos-taken, length-infos}
-use Rattle.brl_forward.proofs.Turns.{rule_more, no_more}
+use Rattle.brl_forward.proofs.InfoLists.{first_info-at, infos-taken, length-infos}
+use Rattle.brl_forward.proofs.TranslationLoop.{rule_more, no_more}
 use Rattle.brl_forward.proofs.translation.cells_of.Goals as goal
 
 pub choice_of-choice-requires : goal.choice_of-choice-requires

@@ -1,6 +1,6 @@
-use Rattle.brl_table.proofs.Chosen.{chosen-rule, chosen-own}
-use Rattle.brl_table.proofs.Positions.{fits-FitsAt}
-use Rattle.brl_table.proofs.Taken.{chosen-takes}
+use Rattle.brl_table.proofs.ChosenRule.{chosen-rule, chosen-own}
+use Rattle.brl_table.proofs.FitsAtPosition.{fits-FitsAt}
+use Rattle.brl_table.proofs.TakenLengths.{chosen-takes}
 use Rattle.brl_table.proofs.laws.choice_laws.Goals as goal
 
 pub returns : goal.returns

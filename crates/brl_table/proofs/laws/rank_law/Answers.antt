@@ -1,5 +1,5 @@
-use Rattle.brl_table.proofs.InRank.{in_rank-ranking}
-use Rattle.brl_table.proofs.Ranked.{ranking-unique}
+use Rattle.brl_table.proofs.ComputedRanking.{in_rank-ranking}
+use Rattle.brl_table.proofs.UniqueRanking.{ranking-unique}
 use Rattle.brl_table.proofs.laws.rank_law.Goals as goal
 
 pub returns : goal.returns

@@ -1,4 +1,4 @@
-use Rattle.brl_table.proofs.Bridge.{translation_from-step, translation-rest, translation_of_rest-nil, translation_of_rest-step, context_behind_all-take}
+use Rattle.brl_table.proofs.PositionAndRest.{translation_from-step, translation-rest, translation_of_rest-nil, translation_of_rest-step, context_behind_all-take}
 use Rattle.brl_table.proofs.laws.translation_laws.Goals as goal
 
 pub returns : goal.returns

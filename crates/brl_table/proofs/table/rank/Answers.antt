@@ -1,5 +1,5 @@
 use Rattle.std.proofs.Common.{rules}
-use Rattle.brl_table.proofs.Ranking.{ranking_from_sort}
+use Rattle.brl_table.proofs.SortedRanking.{ranking_from_sort}
 use Rattle.brl_table.proofs.table.rank.Goals as goal
 
 pub returns-clause-ranking : goal.returns-clause-ranking

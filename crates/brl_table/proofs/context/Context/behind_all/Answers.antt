@@ -1,6 +1,6 @@
 use Rattle.std.proofs.Common.{◌∙◌, ap, sym, Bor, Some}
 use Rattle.brl_table.specs.declared.rule.Info.{Info}
-use Rattle.brl_table.proofs.InfoLists.{context-more}
+use Rattle.brl_table.proofs.InfoContexts.{context-more}
 use Rattle.brl_table.proofs.context.Context.behind_all.Goals as goal
 
 pub loop-info-preserved : goal.loop-info-preserved

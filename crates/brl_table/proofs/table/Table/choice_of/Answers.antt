@@ -1,7 +1,7 @@
 use Rattle.std.proofs.Common.{◌+◌, ◌<◌, ◌∙◌, ap, arith, length, sym}
 use Rattle.brl_table.specs.Choice.{Choice}
 use Rattle.brl_table.proofs.FirstInfo.{number-small, own-known, some-characters}
-use Rattle.brl_table.proofs.Taken.{chosen-takes}
+use Rattle.brl_table.proofs.TakenLengths.{chosen-takes}
 use Rattle.brl_table.proofs.TreeWalk.{chosen-at, chosen-none, place-within}
 use Rattle.brl_table.proofs.table.Table.choice_of.Goals as goal
 

@@ -1,4 +1,4 @@
-use Rattle.brl_table.proofs.Entries.{found_number-small}
+use Rattle.brl_table.proofs.EntryNumbers.{found_number-small}
 use Rattle.brl_table.proofs.table.Table.info.Goals as goal
 
 pub returns-clause-number : goal.returns-clause-number

@@ -3,7 +3,7 @@ use Rattle.brl_table.specs.declared.tree.Node.{Node}
 use Rattle.brl_table.specs.declared.tree.Node.TheViews.{out-Node}
 use Rattle.brl_table.specs.Tree.{branch_of, ends_at, with_rule}
 use Rattle.std.proofs.lemmas.List.Quantifiers.{position-Some}
-use Rattle.brl_table.proofs.TreeSteps.{by_layer, found-set, found-push, find-none, same_number}
+use Rattle.brl_table.proofs.TreeInsert.{by_layer, found-set, found-push, find-none, same_number}
 use Rattle.brl_table.proofs.tree.Node.+insert.Goals as goal
 
 pub returns-in_ok-insert-in-Some-place_of-clause-ends :

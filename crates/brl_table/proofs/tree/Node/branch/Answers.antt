@@ -5,7 +5,7 @@ use Rattle.std.proofs.lemmas.List.Quantifiers.{position-Some}
 use Rattle.std.proofs.lemmas.Option.{slice_get-get_or}
 use Rattle.std.specs.Option.{option_copied, option_map_or}
 use Rattle.brl_table.specs.Tree.{ends_at}
-use Rattle.brl_table.proofs.TreeSteps.{find-at, find-none}
+use Rattle.brl_table.proofs.TreeInsert.{find-at, find-none}
 use Rattle.brl_table.proofs.tree.Node.branch.Goals as goal
 
 pub returns-in_err-place : goal.returns-in_err-place

@@ -1,6 +1,6 @@
 use Rattle.std.proofs.Common.{ap, []}
 use Rattle.brl_table.specs.Tree.{branch_of, ends_at}
-use Rattle.brl_table.proofs.TreeSteps.{by_layer}
+use Rattle.brl_table.proofs.TreeInsert.{by_layer}
 use Rattle.brl_table.proofs.tree.Node.new.Goals as goal
 
 pub returns-clause-empty : goal.returns-clause-empty

@@ -4,10 +4,10 @@ use Rattle.std.specs.List.{position_from}
 use Rattle.brl_table.specs.Choice.{fits}
 use Rattle.brl_table.specs.Rank.{weight}
 use Rattle.brl_table.specs.Tree.{ends_at, ends_of}
-use Rattle.brl_table.proofs.table.Table.rule_in_front.Given as goal
+use Rattle.brl_table.proofs.table.Table.fitting_rule.Given as goal
 
 abbrev pub invariant-loop-character : goal.invariant-loop-character
 invariant-loop-character l = record {
-  node : (at : List ℕ) → ends_at l.node at ≡ ends_of l.self.rules (l.fn.fold ∷ (take l.character-index l.behind ++ at));
+  node : (at : List ℕ) → ends_at l.node at ≡ ends_of l.self.rules (l.fn.fold ∷ (take l.character-index l.others ++ at));
   best : l.best ≡ position_from (λ r. fits l.self l.before l.rest r && nat_le (weight r) (l.character-index + 1)) 0 l.self.rules;
 }

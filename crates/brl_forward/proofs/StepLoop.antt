@@ -1,4 +1,4 @@
--- The steps of a text, one at a time.
+-- The loop over the steps of a text.
 use Rattle.std.proofs.Common.{ℕ, zero, suc, ◌+◌, ◌<◌, ◌≤◌, ◌≡◌, Bool, true, false, List, [], ◌∷◌, ◌++◌, length, drop, refl, arith, cond, nat_lt, sym, ◌∙◌, ap, append_assoc, append-nil, length-drop}
 use Rattle.std.proofs.lemmas.Bool.Decides.{nat_tests}
 use Rattle.brl_table.specs.TableView.{TableView}
@@ -12,14 +12,14 @@ use Rattle.brl_forward.specs.Trace.{step_at, steps_from, trace_of}
 in_text : (i n : ℕ) → nat_lt i n ≡ true → i < n
 in_text i n h = grind (arith, nat_tests)
 
--- none behind the text's end
+-- no steps after the end of the text
 pub steps_from-end : (t : TableView) (text : List ℕ) (n i : ℕ) → length text ≤ i → steps_from t text n i ≡ []
 steps_from-end t text zero i h = refl
 steps_from-end t text (suc n) i h =
     let e : nat_lt i (length text) ≡ false = grind (arith, nat_tests) in
     rw e refl
 
--- the law that a chosen rule takes some character
+-- the law that a chosen rule takes at least one character
 abbrev pub TakesSome : Type 0
 TakesSome = (t : TableView) (before : Class) (rest : List ℕ) → 0 < length rest → 1 ≤ (chosen t before rest).taken
 
@@ -32,7 +32,7 @@ both : (b : Bool) (x : Traced) (xs ys : List Traced) → (b ≡ true → xs ≡ 
 both true x xs ys h = ap (λ zs. x ∷ zs) (h refl)
 both false x xs ys h = refl
 
--- any number of steps that is large enough gives the same
+-- any number of steps that is large enough gives the same steps
 steps_from-enough : TakesSome → (t : TableView) (text : List ℕ) (n m i : ℕ) → length text ≤ n + i → length text ≤ m + i → steps_from t text n i ≡ steps_from t text m i
 steps_from-enough takes t text zero m i h k = let within : length text ≤ i = omega (arith, h) in sym (steps_from-end t text m i within)
 steps_from-enough takes t text (suc n) zero i h k = let within : length text ≤ i = omega (arith, k) in steps_from-end t text (suc n) i within
@@ -51,7 +51,7 @@ first takes t text (suc n) i h k =
     (ap (λ zs. step_at t text i ∷ zs)
     (steps_from-enough takes t text n (suc n) (i + (chosen_at t text i).taken) (omega (arith, h, k, some)) (omega (arith, h, k, some))))
 
--- one turn of the loop
+-- one iteration of the loop
 pub step_more : TakesSome → (t : TableView) (text : List ℕ) (i j : ℕ) (done more total : List Traced) (x : Traced) → i < length text → x ≡ step_at t text i → j ≡ i + x.length → more ≡ done ++ x ∷ []
     → done ++ steps_from t text (length text) i ≡ total → more ++ steps_from t text (length text) j ≡ total
 step_more takes t text i j done more total x h ex ej em inv =
@@ -59,11 +59,11 @@ step_more takes t text i j done more total x h ex ej em inv =
     let k : j ≡ i + (chosen_at t text i).taken = ej ∙ ap (λ y. i + y.length) ex in
     rw (em, k, ex) (append_assoc done (step_at t text i ∷ []) (steps_from t text (length text) (i + (chosen_at t text i).taken)) ∙ ap (λ zs. done ++ zs) (sym law) ∙ inv)
 
--- the loop's end
+-- the end of the loop
 pub no_more : (t : TableView) (text : List ℕ) (i : ℕ) (done total : List Traced) → length text ≤ i → done ++ steps_from t text (length text) i ≡ total → done ≡ total
 no_more t text i done total h inv = sym (append-nil done) ∙ ap (λ zs. done ++ zs) (sym (steps_from-end t text (length text) i h)) ∙ inv
 
--- its start
+-- the start of the loop
 pub none_yet : (t : TableView) (text : List ℕ) → [] ++ steps_from t text (length text) 0 ≡ trace_of t text
 unfolding trace_of
 none_yet t text = refl

@@ -1,4 +1,4 @@
--- One more rule in a node of the tree.
+-- Inserting one rule into a node of the tree.
 use Rattle.std.proofs.Common.{ℕ, zero, suc, ◌<◌, ◌≡◌, Bool, true, false, cond, List, [], ◌∷◌, ◌++◌, length, refl, arith, ◌∙◌, ap, ◌≤◌, nat_eq, nat_lt, get_or, slice_set, Option, Some, None}
 use Rattle.std.specs.Prelude.{slice_get}
 use Rattle.std.specs.List.{find, position, position_or_len}
@@ -20,12 +20,12 @@ not_below m n h = grind (arith, nat_tests)
 pub same_number : (m n : ℕ) → nat_eq m n ≡ true → m ≡ n
 same_number m n h = grind (arith, nat_tests)
 
--- a list of things that characters lead to
+-- a list of branches to which characters lead
 module _ {X : Type 0} (mark : X → ℕ) (f : X → List ℕ) (h : List ℕ → List ℕ) (x c : ℕ) where
   abbrev found : List X → List ℕ
   found xs = option_map_or f (find (λ y. nat_eq (mark y) c) xs) []
 
-  -- what is found where x has changed
+  -- what is found after the branch of x has changed
   abbrev changed : List ℕ → List ℕ
   changed ends = cond (nat_eq x c) (h ends) ends
 
@@ -69,12 +69,12 @@ module _ {X : Type 0} (mark : X → ℕ) (f : X → List ℕ) (h : List ℕ → 
       (λ same. other (mark z) x c same (not_first (nat_eq (mark z) x) z (find (λ y. nat_eq (mark y) x) zs) none))
       (found-push zs y my (nor_behind (nat_eq (mark z) x) z (find (λ y. nat_eq (mark y) x) zs) none) e)
 
--- what a node says that was made of these fields
-pub by_layer : (fields : Node-F Node) (said : List ℕ → List ℕ) → fields.rules.items ≡ said []
-    → ((c : ℕ) (at : List ℕ) → branch_of c fields.branches.items (λ branch. ends_at branch at) ≡ said (c ∷ at))
-    → (at : List ℕ) → ends_at (roll-Node fields) at ≡ said at
-by_layer fields said none some [] = ap (λ (n : Node-F Node). n.rules.items) (out-roll-Node fields) ∙ none
-by_layer fields said none some (c ∷ at) =
+-- the numbers at a node that was made of these fields
+pub by_layer : (fields : Node-F Node) (numbers_at : List ℕ → List ℕ) → fields.rules.items ≡ numbers_at []
+    → ((c : ℕ) (at : List ℕ) → branch_of c fields.branches.items (λ branch. ends_at branch at) ≡ numbers_at (c ∷ at))
+    → (at : List ℕ) → ends_at (roll-Node fields) at ≡ numbers_at at
+by_layer fields numbers_at none some [] = ap (λ (n : Node-F Node). n.rules.items) (out-roll-Node fields) ∙ none
+by_layer fields numbers_at none some (c ∷ at) =
     ap (λ (n : Node-F Node). branch_of c n.branches.items (λ branch. ends_at branch at)) (out-roll-Node fields) ∙ some c at
 
 not_found : {X : Type 0} (p : X → Bool) (b : Bool) (i : ℕ) → cond b (Some i) None ≡ None → b ≡ false

@@ -1,4 +1,4 @@
--- The chosen rule is the first in rank that fits, and the own definition where none does.
+-- The chosen rule is the first in rank that fits, else the own definition.
 use Rattle.std.proofs.Common.{ℕ, zero, suc, ◌+◌, ◌<◌, ◌≡◌, Bool, true, false, cond, List, [], ◌∷◌, refl, arith, ◌∙◌, ap, Some}
 use Rattle.std.specs.Prelude.{slice_get}
 use Rattle.brl_table.specs.declared.class.Class.{Class}

@@ -1,4 +1,4 @@
--- A rule fits in front of a text's rest exactly where it fits at that position of the text.
+-- A rule fits at the start of a rest exactly where it fits at that position of the whole text.
 use Rattle.std.proofs.Common.{ℕ, zero, suc, ◌+◌, ◌<◌, ◌≤◌, ◌≡◌, ◌↔◌, Bool, true, ◌&&◌, IsTrue, List, [], ◌∷◌, length, drop, nat_eq, refl, arith, sym, ◌∙◌, ap, length-drop}
 use Rattle.std.specs.Prelude.{slice_index, slice_get}
 use Rattle.std.specs.List.{starts_with}
@@ -12,7 +12,7 @@ use Rattle.brl_table.specs.Places.{space, holds, before_of, after_of}
 use Rattle.brl_table.specs.Text.{fold_of, classes_of, classes_at, classes_before}
 use Rattle.brl_table.specs.Choice.{matches, fits}
 use Rattle.brl_table.specs.Position.{FitsAt}
-use Rattle.brl_table.proofs.Taken.{matches-Takes}
+use Rattle.brl_table.proofs.TakenLengths.{matches-Takes}
 
 same : (m n : ℕ) → nat_eq m n ≡ true → m ≡ n
 same m n h = grind (arith, nat_tests)
@@ -23,7 +23,7 @@ tested m n h = grind (arith, nat_tests)
 both_so : (a b : Bool) → a ≡ true → b ≡ true → (a && b) ≡ true
 both_so a b ea eb = rw (ea, eb) refl
 
--- the items of a prefix are those of the list
+-- a prefix has the elements of the list
 starts_with-items : (ys xs : List ℕ) → starts_with nat_eq ys xs ≡ true → (k : ℕ) → k < length xs → slice_index ys k ≡ slice_index xs k
 starts_with-items ys [] h k within = absurd (omega (arith, within))
 starts_with-items [] (x ∷ xs) h k within = cc
@@ -31,7 +31,7 @@ starts_with-items (y ∷ ys) (x ∷ xs) h zero within = sym (same x y (first_so 
 starts_with-items (y ∷ ys) (x ∷ xs) h (suc k) within =
     starts_with-items ys xs (second_so (nat_eq x y) (starts_with nat_eq ys xs) h) k (omega (arith, within))
 
--- and a list with the items of a shorter one begins with it
+-- a list that has the elements of a shorter one begins with it
 items-starts_with : (ys xs : List ℕ) → length xs ≤ length ys → ((k : ℕ) → k < length xs → slice_index ys k ≡ slice_index xs k) → starts_with nat_eq ys xs ≡ true
 items-starts_with ys [] room h = refl
 items-starts_with [] (x ∷ xs) room h = absurd (omega (arith, room))
@@ -39,7 +39,7 @@ items-starts_with (y ∷ ys) (x ∷ xs) room h =
     both_so (nat_eq x y) (starts_with nat_eq ys xs) (tested x y (sym (h 0 (omega arith))))
     (items-starts_with ys xs (omega (arith, room)) (λ k within. h (suc k) (omega (arith, within))))
 
--- the characters of a rule stand in front of this rest, item by item
+-- the rest begins with the characters of a rule, element by element
 record MatchesItems (t : TableView) (rest chars : List ℕ) : Type 0 where
   some : 1 ≤ length chars
   room : length chars ≤ length rest
@@ -70,7 +70,7 @@ matches_from_items t (c ∷ rest) (x ∷ xs) h =
     both_so (nat_eq (fold_of t c) x) (starts_with nat_eq rest xs) (tested (fold_of t c) x h.first)
     (items-starts_with rest xs (omega (arith, h.room)) (λ k within. h.others (suc k) (omega arith) (omega (arith, within))))
 
--- an item behind the first i ones
+-- an element after the first i ones
 slice_get-drop : (i : ℕ) (text : List ℕ) (k : ℕ) → slice_get (drop i text) k ≡ slice_get text (i + k)
 slice_get-drop zero text k = let e : k ≡ 0 + k = omega arith in ap (slice_get text) e
 slice_get-drop (suc i) [] k = refl

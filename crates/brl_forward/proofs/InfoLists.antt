@@ -1,4 +1,4 @@
--- The infos of a text at a position: the one there, and those that are taken in a step.
+-- The infos of a text: the one at a position, and those of the characters that a step takes.
 use Rattle.std.proofs.Common.{ℕ, zero, suc, ◌<◌, ◌≡◌, List, [], ◌∷◌, length, take, drop, get_or, map, sym, ◌∙◌, ap, Option, Some, Bor}
 use Rattle.std.specs.Prelude.{slice_get}
 use Rattle.std.proofs.lemmas.Option.{slice_get-get_or}
@@ -27,7 +27,7 @@ module _ (t : TableView) where
   first_info-there (c ∷ text) (x ∷ infos) (suc start) info are there =
       first_info-there text infos start info (others_same (Some x.now) (info_of t c) (map (λ (info : Bor Info). Some info.now) infos) (map (info_of t) text) are) there
 
-  -- what is left of the text at a position begins with the character that has the info there
+  -- the rest at a position begins with the character of the info there
   pub first_info-at : (text : List ℕ) (infos : List (Bor Info)) (start : ℕ) (info : Bor Info) → AreInfosOf t text infos → start < length infos → info ≡ get_or infos start info
       → first_info t (drop start text) ≡ Some info.now
   first_info-at text infos start info are within is =

@@ -1,4 +1,4 @@
--- What a table keeps of the entry that a look-up finds.
+-- The number of an entry that a look-up finds is small.
 use Rattle.std.proofs.Common.{ℕ, ◌≡◌, ◌<◌, ◌≤◌, List, length, nat_eq, Option, Some, None, arith, sym}
 use Rattle.std.specs.Prelude.{IfSome, option_copied, slice_get}
 use Rattle.std.specs.Borrow.{Bor}
@@ -7,7 +7,7 @@ use Rattle.std.proofs.lemmas.Map.Entries.{place_from_lookup}
 use Rattle.std.proofs.lemmas.Option.{slice_get_within}
 use Rattle.brl_table.specs.declared.rule.Info.{Info}
 
--- an entry's number is its place, and so below the number of entries
+-- an entry's number is its place, and so less than the number of entries
 pub number_small : (entries : List (ℕ × Info)) → ((place : ℕ) (entry : ℕ × Info) → slice_get entries place ≡ Some entry → entry.1.number ≡ place) → length entries ≤ 1024
     → (c : ℕ) (found : Option Info) → lookup (nat_eq c) entries ≡ found → IfSome found (λ info. info.number < 1024)
 number_small entries numbered few c None e = tt

@@ -15,7 +15,7 @@ starts_with-length [] (x ∷ xs) h = cc
 starts_with-length (c ∷ rest) (x ∷ xs) h =
     omega (arith, starts_with-length rest xs (second_so (nat_eq x c) (starts_with nat_eq rest xs) h))
 
--- so many characters may be taken
+-- n is a number of characters that may be taken
 pub record Takes (n : ℕ) (rest : List ℕ) : Type 0 where
   pub some : 1 ≤ n
   pub room : n ≤ length rest
@@ -34,7 +34,7 @@ fits-Takes t before rest r h =
     (first_so (matches t rest r.chars && holds (before_of r.place) before)
     (holds (after_of r.place before) (classes_at t rest (length r.chars))) h))
 
--- whichever of two choices a test picks
+-- the same of the choice that a test picks
 choice-Takes : (b : Bool) (x y : Choice) (rest : List ℕ) → (b ≡ true → Takes x.taken rest) → Takes y.taken rest → Takes (cond b x y).taken rest
 choice-Takes true x y rest h k = h refl
 choice-Takes false x y rest h k = k
@@ -49,7 +49,7 @@ first_fitting-Takes t before c rest n (r ∷ rs) =
 pub chosen-Takes : (t : TableView) (before : Class) (c : ℕ) (rest : List ℕ) → Takes (chosen t before (c ∷ rest)).taken (c ∷ rest)
 chosen-Takes t before c rest = first_fitting-Takes t before c rest 0 t.rules
 
--- the same, at any text that isn't empty
+-- the same at any rest that isn't empty
 pub chosen-takes : (t : TableView) (before : Class) (rest : List ℕ) → 0 < length rest → Takes (chosen t before rest).taken rest
 chosen-takes t before [] h = absurd (omega (arith, h))
 chosen-takes t before (c ∷ rest) h = chosen-Takes t before c rest

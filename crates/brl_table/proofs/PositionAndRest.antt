@@ -1,4 +1,4 @@
--- The translation by positions is the translation of what is left, and a translation unfolds one rule at a time.
+-- The translation by position is the translation of the rest, and unfolds one rule at a time.
 use Rattle.std.proofs.Common.{ℕ, zero, suc, ◌+◌, ◌≤◌, ◌<◌, ◌≡◌, true, false, List, [], ◌∷◌, ◌++◌, length, take, drop, refl, arith, nat_lt, sym, ◌∙◌, ap, Some, add-zero, length-drop}
 use Rattle.std.proofs.lemmas.List.{drop-drop, length-take-le, take-append-drop}
 use Rattle.std.proofs.lemmas.Bool.Decides.{nat_tests}
@@ -10,9 +10,9 @@ use Rattle.brl_table.specs.Indicators.{indicators}
 use Rattle.brl_table.specs.Choice.{chosen}
 use Rattle.brl_table.specs.Translation.{indicators_at, chosen_at, translation_from, translation}
 use Rattle.brl_table.specs.Rest.{rest_from, translation_of_rest}
-use Rattle.brl_table.proofs.Taken.{chosen-Takes, chosen-takes}
+use Rattle.brl_table.proofs.TakenLengths.{chosen-Takes, chosen-takes}
 
--- any number of steps that is large enough gives the same
+-- any number of steps that is large enough gives the same translation
 pub rest_from-steps : (t : TableView) (n m : ℕ) (here : Context) (rest : List ℕ) → length rest ≤ n → length rest ≤ m → rest_from t n here rest ≡ rest_from t m here rest
 rest_from-steps t zero zero here rest h k = refl
 rest_from-steps t zero (suc m) here [] h k = refl
@@ -53,7 +53,7 @@ drop-next zero text x rest e = ap (drop 1) e
 drop-next (suc i) [] x rest e = cc
 drop-next (suc i) (y ∷ ys) x rest e = drop-next i ys x rest e
 
--- behind xs the context is that of the position behind them
+-- the context after xs is that of the position after them
 pub context_behind_all-at : (t : TableView) (text : List ℕ) (i : ℕ) (xs ys : List ℕ) → drop i text ≡ xs ++ ys
     → context_at t text (i + length xs) ≡ context_behind_all t (context_at t text i) xs
 context_behind_all-at t text i [] ys e = rw add-zero refl
@@ -78,7 +78,7 @@ at_end i text e =
     let k : length text ≤ i = omega arith in
     grind (arith, nat_tests)
 
--- the step of a position, where so much is left of the text
+-- the step at a position, given the rest there
 step : (t : TableView) (text : List ℕ) (n i : ℕ) (rest : List ℕ) → drop i text ≡ rest
     → ((j : ℕ) → translation_from t text n j ≡ rest_from t n (context_at t text j) (drop j text))
     → translation_from t text (suc n) i ≡ rest_from t (suc n) (context_at t text i) rest
@@ -97,12 +97,12 @@ step t text n i (c ∷ rest) e more =
     (more (i + choice.taken) ∙ ap (λ h. rest_from t n h (drop (i + choice.taken) text)) behind
     ∙ ap (rest_from t n (context_behind_all t here (take choice.taken (c ∷ rest)))) left))
 
--- the translation from a position on is that of what is left there
+-- the translation from a position on is that of the rest there
 pub translation_from-rest : (t : TableView) (text : List ℕ) (n i : ℕ) → translation_from t text n i ≡ rest_from t n (context_at t text i) (drop i text)
 translation_from-rest t text zero i = refl
 translation_from-rest t text (suc n) i = step t text n i (drop i text) refl (translation_from-rest t text n)
 
--- the translation of a text is that of the whole text from the start
+-- the translation of a text is that of the whole text as a rest
 pub translation-rest : (t : TableView) (text : List ℕ) → translation t text ≡ translation_of_rest t at_start text
 unfolding translation translation_of_rest
 translation-rest t text = translation_from-rest t text (length text) 0
@@ -114,7 +114,7 @@ pub translation_of_rest-step : (t : TableView) (here : Context) (rest : List ℕ
 translation_of_rest-step t here [] h = absurd (omega (arith, h))
 translation_of_rest-step t here (c ∷ rest) h = translation_of_rest-rule t here c rest
 
--- the context behind the next n characters
+-- the context after the next n characters
 pub context_behind_all-take : (t : TableView) (text : List ℕ) (i n : ℕ) → n ≤ length (drop i text)
     → context_behind_all t (context_at t text i) (take n (drop i text)) ≡ context_at t text (i + n)
 context_behind_all-take t text i n h =

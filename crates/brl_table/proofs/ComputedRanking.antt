@@ -1,4 +1,4 @@
--- Rules that are put in rank one after another are a ranking.
+-- Rules that `in_rank` puts in rank are a ranking.
 use Rattle.std.proofs.Common.{ℕ, suc, ◌<◌, ◌≤◌, ◌≡◌, Bool, true, false, cond, List, [], ◌∷◌, refl, arith, ◌∙◌, ap, nat_eq}
 use Rattle.std.specs.Prelude.{nat_le, filter, All}
 use Rattle.std.proofs.lemmas.Bool.Decides.{nat_tests}
@@ -13,7 +13,7 @@ no_heavier m n h = grind (arith, nat_tests)
 heavier : (m n : ℕ) → nat_le m n ≡ false → n < m
 heavier m n h = grind (arith, nat_tests)
 
--- ---- the rules of each weight stand in the order of their lines
+-- ---- the rules of each weight are in the order of their lines
 
 of_weight : ℕ → List Rule → List Rule
 of_weight n rules = filter (λ r. nat_eq (weight r) n) rules
@@ -21,7 +21,7 @@ of_weight n rules = filter (λ r. nat_eq (weight r) n) rules
 not_both : (m n k : ℕ) → n < m → nat_eq m k ≡ true → nat_eq n k ≡ false
 not_both m n k h e = grind (arith, nat_tests)
 
--- two rules of different weight stand in either order
+-- two rules of different weight may be exchanged
 swapped : (a b : Bool) (r s : Rule) (rules : List Rule) → (a ≡ true → b ≡ false)
     → cond a (s ∷ cond b (r ∷ rules) rules) (cond b (r ∷ rules) rules) ≡ cond b (r ∷ cond a (s ∷ rules) rules) (cond a (s ∷ rules) rules)
 swapped true true r s rules h = let e : true ≡ false = h refl in absurd (cc)
@@ -63,7 +63,7 @@ All-put P r (s ∷ rules) h all = cases (nat_le (weight s) (weight r)) (All-put 
 none : IsInRank []
 none i j d before within = absurd (omega arith)
 
--- the first rule of a rank is no lighter than any behind it
+-- the first rule in rank is no lighter than any after it
 behind : (s : Rule) (rules : List Rule) → IsInRank (s ∷ rules) → All (AtMost s) rules
 behind s rules h k d within = h 0 (suc k) d (omega arith) (omega (arith, within))
 

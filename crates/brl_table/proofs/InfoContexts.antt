@@ -1,4 +1,4 @@
--- The context after characters that have the infos of a list.
+-- The context after characters, given their infos.
 use Rattle.std.proofs.Common.{ℕ, zero, suc, ◌+◌, ◌<◌, ◌≡◌, List, [], ◌∷◌, length, drop, get_or, map, arith, add-one, sym, ap, Some, Option, Bor}
 use Rattle.brl_table.specs.declared.context.Context.{Context}
 use Rattle.brl_table.specs.declared.rule.Info.{Info}

@@ -1,14 +1,14 @@
--- All rules in a tree.
+-- A tree after all its rules were inserted.
 use Rattle.std.proofs.Common.{ℕ, ◌+◌, ◌≡◌, Bool, true, false, cond, List, [], ◌∷◌, ◌++◌, refl, sym, ◌∙◌, ap, append-nil, append_assoc, ◌&&◌, ◌==◌}
 use Rattle.brl_table.specs.declared.rule.Rule.{Rule}
 use Rattle.brl_table.specs.Tree.{with_rule, is_just, numbers, ends_of}
 
--- what the tree says of `at` after these rules are inserted; the first of them has this number
-abbrev pub told : List ℕ → ℕ → List Rule → List ℕ → List ℕ
-told at number [] ends = ends
-told at number (r ∷ rules) ends = told at (number + 1) rules (with_rule r.chars number at ends)
+-- the numbers at `at` after these rules are inserted, numbered from this number on
+abbrev pub inserted : List ℕ → ℕ → List Rule → List ℕ → List ℕ
+inserted at number [] ends = ends
+inserted at number (r ∷ rules) ends = inserted at (number + 1) rules (with_rule r.chars number at ends)
 
--- a number where a test holds
+-- the number, if a test holds
 abbrev given : Bool → ℕ → List ℕ
 given b number = cond b (number ∷ []) []
 
@@ -23,17 +23,17 @@ with_rule-is (x ∷ chars) number (c ∷ at) ends = cases (x == c) (with_rule-is
     cases true e = e
     cases false e = sym (append-nil ends)
 
--- a number where the test holds, and then the others
+-- the number, if the test holds, before the others
 joined : (b : Bool) (xs : List ℕ) (number : ℕ) (others : List ℕ) → (xs ++ given b number) ++ others ≡ xs ++ cond b (number ∷ others) others
 joined true xs number others = append_assoc xs (number ∷ []) others
 joined false xs number others = ap (λ ys. ys ++ others) (append-nil xs)
 
-told-is : (at : List ℕ) (number : ℕ) (rules : List Rule) (ends : List ℕ) → told at number rules ends ≡ ends ++ numbers (λ r. is_just r.chars at) number rules
-told-is at number [] ends = sym (append-nil ends)
-told-is at number (r ∷ rules) ends =
-    ap (told at (number + 1) rules) (with_rule-is r.chars number at ends)
-    ∙ told-is at (number + 1) rules (ends ++ given (is_just r.chars at) number)
+inserted-is : (at : List ℕ) (number : ℕ) (rules : List Rule) (ends : List ℕ) → inserted at number rules ends ≡ ends ++ numbers (λ r. is_just r.chars at) number rules
+inserted-is at number [] ends = sym (append-nil ends)
+inserted-is at number (r ∷ rules) ends =
+    ap (inserted at (number + 1) rules) (with_rule-is r.chars number at ends)
+    ∙ inserted-is at (number + 1) rules (ends ++ given (is_just r.chars at) number)
     ∙ joined (is_just r.chars at) ends number (numbers (λ r. is_just r.chars at) (number + 1) rules)
 
-pub told-all : (at : List ℕ) (rules : List Rule) → told at 0 rules [] ≡ ends_of rules at
-told-all at rules = told-is at 0 rules []
+pub inserted-all : (at : List ℕ) (rules : List Rule) → inserted at 0 rules [] ≡ ends_of rules at
+inserted-all at rules = inserted-is at 0 rules []

@@ -1,4 +1,4 @@
--- The same rules are put in rank in one way only.
+-- Rules have one ranking only.
 use Rattle.std.proofs.Common.{ℕ, zero, suc, ◌<◌, ◌≤◌, ◌≡◌, Bool, true, false, cond, ◌⊎◌, inl, inr, List, [], ◌∷◌, length, nat_eq, refl, arith, sym, ◌∙◌, ap}
 use Rattle.std.specs.Prelude.{filter, slice_index_or}
 use Rattle.std.proofs.lemmas.Bool.{cases_order}
@@ -30,7 +30,7 @@ first_counts : (r : Rule) (rules : List Rule) → of_weight (weight r) (r ∷ ru
 unfolding of_weight
 first_counts r rules = rw (same (weight r)) refl
 
--- behind the first rule of a ranking no rule has more weight
+-- no rule after the first of a ranking is heavier
 at_most_first : (r : Rule) (rules : List Rule) → IsInRank (r ∷ rules) → (k : ℕ) (d : Rule) → k < length (r ∷ rules) → weight (slice_index_or (r ∷ rules) k d) ≤ weight r
 at_most_first r rules h zero d within = omega arith
 at_most_first r rules h (suc k) d within = h 0 (suc k) d (omega arith) within
@@ -66,7 +66,7 @@ same_head x y xs ys e = cc
 same_tail : (x y : Rule) (xs ys : List Rule) → x ∷ xs ≡ y ∷ ys → xs ≡ ys
 same_tail x y xs ys e = cc
 
--- without one first rule the rules of each weight still agree
+-- after removing the same first rule, the rules of each weight still agree
 tails_agree : (n : ℕ) (x : Rule) (xs ys : List Rule) → of_weight n (x ∷ xs) ≡ of_weight n (x ∷ ys) → of_weight n xs ≡ of_weight n ys
 unfolding of_weight
 tails_agree n x xs ys = by_test (nat_eq (weight x) n)
