@@ -1,7 +1,7 @@
 pub mod KnownBytes
-pub mod FrontLemmas
+pub mod FirstLineLemmas
 pub mod LineLemmas
 pub mod OutputLemmas
 pub mod StreamLemmas
 pub mod VerdictLemmas
-pub mod WindowLemmas
+pub mod BufferLemmas

@@ -1,4 +1,4 @@
--- The lines of bytes: the first of them, and the others.
+-- The lines of bytes: the first line, and the others.
 use Rattle.std.proofs.Common.{◌≡◌, ◌≢◌, ℕ, zero, suc, ◌+◌, ◌-◌, ◌<◌, ◌≤◌, Bool, true, false, ◌&&◌, ◌||◌, cond, nat_eq, List, [], ◌∷◌, ◌++◌, length, take, get_or, refl, ap, arith, inl, inr, sym, ◌∙◌}
 use Rattle.std.proofs.lemmas.Bool.Decides.{eqb_tells}
 use Rattle.std.proofs.lemmas.List.Sums.{sum_by-cons}
@@ -24,7 +24,7 @@ and_false true = refl
 
 -- ---- lines
 
--- the lines, cut from the bytes alone
+-- the lines, cut from the bytes without their places
 abbrev feed_first : List ℕ → Bool
 feed_first [] = false
 feed_first (b ∷ bs) = nat_eq b 10

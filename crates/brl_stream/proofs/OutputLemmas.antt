@@ -1,4 +1,4 @@
--- What a line gives: its marks, or its fault.
+-- The output of a line, or its fault.
 use Rattle.std.proofs.Common.{◌≡◌, ℕ, ◌+◌, ◌<◌, ◌≤◌, Bool, true, false, not, ◌&&◌, cond, nat_lt, List, [], ◌∷◌, ◌++◌, length, drop, get_or, refl, ap, sym, subst, ◌∙◌, Option, None, Some, Result, Ok, Err, append_assoc, drop_of_length-le, add-one}
 use Rattle.std.proofs.Math.Seq.{drop-cons}
 use Rattle.std.proofs.lemmas.Str.{is_utf8-from_IsUtf8, IsUtf8-from_is_utf8}
@@ -14,7 +14,7 @@ use Rattle.brl_forward.specs.Faults.{first_unknown, IsFaultOf}
 use Rattle.brl_forward.specs.declared.fault.ForwardFault.{ForwardFault}
 use Rattle.brl_forward.specs.declared.fault.ForwardFault.TheVariants as forward
 use Rattle.brl_stream.specs.Output.{LineResult, at_line, mark_of, marks_of, with_feed, unless_unknown, output_of}
-use Rattle.brl_stream.specs.Writing.{IsMade, Pushes, WriteTells, WritesBefore, line_fault_of}
+use Rattle.brl_stream.specs.Writing.{IsMade, Pushes, WritesOutput, WritesBefore, line_fault_of}
 use Rattle.brl_stream.specs.declared.fault.LineFault.TheVariants as faults
 use Rattle.brl_stream.specs.declared.fault.LineFault.{LineFault}
 use Rattle.brl_stream.specs.declared.fault.StreamFault.{StreamFault}
@@ -43,7 +43,7 @@ more_marks now later (Some mark) (Some others) h =
     let same : now ++ mark ≡ later = cc in
     ap Some (sym (append_assoc now mark others) ∙ ap (λ l. l ++ others) same)
 
--- one more cell was marked
+-- the mark of one more cell was added
 pub marks_of-more : (form : Form) (cells : List ℕ) (i cell : ℕ) (now later : List ℕ) → i < length cells → cell ≡ get_or cells i cell → option_map (λ more. now ++ more) (mark_of form cell) ≡ Some later
     → option_map (λ more. now ++ more) (marks_of form (drop i cells)) ≡ option_map (λ more. later ++ more) (marks_of form (drop (i + 1) cells))
 marks_of-more form cells i cell now later h e m =
@@ -103,7 +103,7 @@ output_of-not_utf8 t form line short not_text =
     by_test true never = absurd (never refl)
     by_test false never = refl
 
--- no line has a fault of the reader or the writer
+-- the output of a line is no fault of the reader or the writer
 own : (long text : Bool) (unknown : Option ℕ) (marks : Option (List ℕ))
     → ((cond long (Err faults.InputLineTooLong) (cond text (unless_unknown unknown (with_feed marks)) (Err faults.InputNotUtf8)) ≡ Err faults.InputFailed → ⊥)
     × (cond long (Err faults.InputLineTooLong) (cond text (unless_unknown unknown (with_feed marks)) (Err faults.InputNotUtf8)) ≡ Err faults.OutputFailed → ⊥))
@@ -117,7 +117,7 @@ output_of-own : (t : TableView) (form : Form) (line : List ℕ) → (output_of t
 unfolding output_of
 output_of-own t form line = own (nat_lt 65536 (length line)) (is_utf8 line) (first_unknown t (chars line)) (marks_of form (translation t (chars line)))
 
--- a line without output, of which nothing was written
+-- nothing was written of a line without output
 nothing_written : (t : TableView) (form : Form) (line : List ℕ) (contents : Option (List ℕ)) (fault : LineFault) → output_of t form line ≡ Err fault → WritesBefore (output_of t form line) contents contents fault
 nothing_written t form line contents faults.InputFailed made = absurd ((output_of-own t form line).0 made)
 nothing_written t form line contents faults.OutputFailed made = absurd ((output_of-own t form line).1 made)
@@ -128,12 +128,12 @@ nothing_written t form line contents faults.InputLineTooLong made = (made, Appen
 nothing_written t form line contents faults.InputTooLong made = (made, Appends-nil contents)
 
 pub stopped : (t : TableView) (form : Form) (line buffer : List ℕ) (number : ℕ) (contents : Option (List ℕ)) (failure : Failure LineFault) (told : Failure StreamFault)
-    → IsMade (output_of t form line) buffer (Err failure) → IsChanged (λ fault other. other ≡ at_line number fault) failure told → WriteTells (output_of t form line) number contents contents (Err told)
+    → IsMade (output_of t form line) buffer (Err failure) → IsChanged (λ fault other. other ≡ at_line number fault) failure told → WritesOutput (output_of t form line) number contents contents (Err told)
 stopped t form line buffer number contents failures.Memory failures.Memory made same = Appends-nil contents
 stopped t form line buffer number contents failures.Memory (failures.Fault other) made same = absurd same
 stopped t form line buffer number contents (failures.Fault fault) failures.Memory made same = absurd same
 stopped t form line buffer number contents (failures.Fault fault) (failures.Fault other) made same =
-    subst (λ (f : StreamFault). WriteTells (output_of t form line) number contents contents (Err (failures.Fault f))) (sym same) (refl, nothing_written t form line contents fault made)
+    subst (λ (f : StreamFault). WritesOutput (output_of t form line) number contents contents (Err (failures.Fault f))) (sym same) (refl, nothing_written t form line contents fault made)
 
 -- a line without output is no failed write
 pub not_written : (t : TableView) (form : Form) (line buffer : List ℕ) (number : ℕ) (failure : Failure LineFault) (told : Failure StreamFault)
@@ -145,11 +145,11 @@ not_written t form line buffer number (failures.Fault fault) (failures.Fault oth
     let one : other ≡ at_line number faults.OutputFailed = cc in
     (output_of-own t form line).1 (made ∙ ap Err (ap (λ f. f.fault) (sym same ∙ one)))
 
--- what holds of a value
+-- a fact of the value of a success
 pub value_has : {T E : Type 0} (P : T → Type 0) (step : Result T E) (x : T) → step ≡ Ok x → IfOk step P → P x
 value_has P step x e h = subst (λ (r : Result _ _). IfOk r P) e h
 
--- a fault that went up
+-- a fault that is handed on
 pub gone_up : (output : LineResult) (buffer : List ℕ) (P : Failure LineFault → Type 0) (r : Result (Unit {0}) (Failure LineFault)) → IsErrAnd r P → ((failure : Failure LineFault) → P failure → IsMade output buffer (Err failure)) → IsMade output buffer r
 gone_up output buffer P (Ok done) h f = absurd h
 gone_up output buffer P (Err failure) h f = f failure h

@@ -1,4 +1,4 @@
--- How far a stream has come: the lines that went, those that wait, and what was written.
+-- The progress of a stream: the lines that were taken, those that follow, and what was written.
 use Rattle.std.proofs.Common.{◌≡◌, ℕ, ◌+◌, ◌-◌, ◌<◌, ◌≤◌, Bool, true, false, List, [], ◌∷◌, ◌++◌, length, take, drop, refl, ap, sym, ◌∙◌, subst, arith, Option, None, Some, Result, Ok, Err, length-append, append_assoc, append-nil, inl, inr}
 use Rattle.std.proofs.lemmas.List.{map-append, length-map}
 use Rattle.std.proofs.lemmas.List.Folds.{concat-append}
@@ -9,8 +9,8 @@ use Rattle.std.specs.Io.KnownBytes.{Appends, Consumes, IsAtEnd}
 use Rattle.brl_table.specs.TableView.{TableView}
 use Rattle.brl_stream.specs.InputLines.{without_return}
 use Rattle.brl_stream.specs.Output.{LineResult, at_line, decided, verdict_within, verdict, output_of, HasWritten, HasWrittenBefore, ReadsFew, DecidesBefore}
-use Rattle.brl_stream.specs.Window.{WindowView, IsRest, IsReadOn, IsWithin, HasNoFeed, HasLine, HasLongLine, IsOpen, IsTail, NextTells}
-use Rattle.brl_stream.specs.Writing.{WriteTells, WritesBefore}
+use Rattle.brl_stream.specs.InputBuffer.{BufferView, IsRest, IsReadOn, IsWithin, HasNoFeed, HasLine, HasLongLine, IsOpen, IsTail, ReadsNext}
+use Rattle.brl_stream.specs.Writing.{WritesOutput, WritesBefore}
 use Rattle.brl_stream.specs.declared.fault.LineFault.{LineFault}
 use Rattle.brl_stream.specs.declared.fault.LineFault.TheVariants as faults
 use Rattle.brl_stream.specs.declared.fault.StreamFault.{StreamFault}
@@ -21,7 +21,7 @@ use Rattle.brl_stream.proofs.KnownBytes.{Appends-trans, Appends-nil}
 use Rattle.brl_stream.proofs.OutputLemmas.{output_of-long}
 use Rattle.brl_stream.proofs.VerdictLemmas.{RefusesLong, decided-line, decided-short, verdict-line, verdict-last, verdict-nil, verdict-too_long, verdict-long}
 
--- whole lines, which have these outputs
+-- whole lines with these outputs
 pub record IsGone (output : List ℕ → LineResult) (gone : List ℕ) (outputs : List (List ℕ)) : Type 0 where
   pub verdict : (most : ℕ) (more : List ℕ) → length gone ≤ most → verdict_within output most (gone ++ more) ≡ map Ok outputs ++ verdict_within output (most - length gone) more
   pub decided : (more : List ℕ) → decided output (gone ++ more) ≡ map Ok outputs ++ decided output more
@@ -29,7 +29,7 @@ pub record IsGone (output : List ℕ → LineResult) (gone : List ℕ) (outputs 
 pub gone_none : (output : List ℕ → LineResult) → IsGone output [] []
 gone_none output = record { verdict = λ most more h. ap (λ n. verdict_within output n more) (omega arith); decided = λ more. refl }
 
--- one more line went
+-- one more line was taken
 pub gone_more : (output : List ℕ → LineResult) (gone row : List ℕ) (outputs : List (List ℕ)) (bytes : List ℕ) → IsGone output gone outputs → HasNoFeed row → output (without_return row) ≡ Ok bytes
     → IsGone output (gone ++ (row ++ 10 ∷ [])) (outputs ++ bytes ∷ [])
 gone_more output gone row outputs bytes is plain made =
@@ -61,26 +61,26 @@ gone_more output gone row outputs bytes is plain made =
         ap (λ r. map Ok outputs ++ r ∷ others) made ∙ sym (append_assoc (map Ok outputs) (Ok bytes ∷ []) others)
         ∙ ap (λ ls. ls ++ others) (sym (map-append Ok outputs (bytes ∷ [])))
 
--- a line in front has its end there
+-- the line at the start ends there
 pub has_whole : (bytes : List ℕ) (len whole : ℕ) → HasLine bytes len whole → whole ≤ length bytes
 has_whole bytes len whole line =
     let all = ap length line.2 in
     let count = length-append line.0 (10 ∷ line.1) in
     omega (arith, line.5, all, count)
 
--- the lines before those that wait went, and the rest follows them
-pub record IsAt (output : List ℕ → LineResult) (input : List ℕ) (w : WindowView) (rest : List ℕ) (outputs : List (List ℕ)) : Type 0 where
+-- the lines before the buffer were taken, and the rest follows the buffer
+pub record IsAt (output : List ℕ → LineResult) (input : List ℕ) (w : BufferView) (rest : List ℕ) (outputs : List (List ℕ)) : Type 0 where
   pub gone : List ℕ
   pub whole : input ≡ gone ++ (w.bytes ++ rest)
   pub counted : length gone + length w.bytes ≡ w.taken
   pub is_gone : IsGone output gone outputs
 
-pub at_start : (output : List ℕ → LineResult) (input : List ℕ) (w : WindowView) → w.bytes ≡ [] → w.taken ≡ 0 → IsAt output input w input []
+pub at_start : (output : List ℕ → LineResult) (input : List ℕ) (w : BufferView) → w.bytes ≡ [] → w.taken ≡ 0 → IsAt output input w input []
 at_start output input w none zero_taken =
     record { gone = []; whole = sym (ap (λ l. l ++ input) none); counted = let none_there = ap length none in omega (arith, none_there, zero_taken); is_gone = gone_none output }
 
 -- more was read
-pub at_read : (output : List ℕ → LineResult) (input rest : List ℕ) (outputs : List (List ℕ)) (old new : WindowView) (before after : Option (List ℕ)) → IsAt output input old rest outputs
+pub at_read : (output : List ℕ → LineResult) (input rest : List ℕ) (outputs : List (List ℕ)) (old new : BufferView) (before after : Option (List ℕ)) → IsAt output input old rest outputs
     → IsReadOn old new before after → IsRest old.longer before rest → (later : List ℕ) × IsRest new.longer after later × IsAt output input new later outputs
 at_read output input rest outputs old new before after is read follows =
     let same = read.same rest follows in (
@@ -89,8 +89,8 @@ at_read output input rest outputs old new before after is read follows =
       record { gone = is.gone; whole = is.whole ∙ ap (λ l. is.gone ++ l) same.2; counted = omega (arith, is.counted, read.counted); is_gone = is.is_gone },
     )
 
-module _ (output : List ℕ → LineResult) (law : RefusesLong output) (input rest : List ℕ) (outputs : List (List ℕ)) (w : WindowView) (is : IsAt output input w rest outputs) (within : IsWithin w) where
-  -- the lines of the input are those that went, and those of what waits and follows
+module _ (output : List ℕ → LineResult) (law : RefusesLong output) (input rest : List ℕ) (outputs : List (List ℕ)) (w : BufferView) (is : IsAt output input w rest outputs) (within : IsWithin w) where
+  -- the lines of the input are those that were taken, and those of the buffer and the rest
   pub lines_at : verdict_within output 16777216 input ≡ map Ok outputs ++ verdict_within output (16777216 - length is.gone) (w.bytes ++ rest)
   lines_at = ap (verdict_within output 16777216) is.whole ∙ is.is_gone.verdict 16777216 (w.bytes ++ rest) (omega (arith, is.counted, within.limit))
 
@@ -192,7 +192,7 @@ module _ (output : List ℕ → LineResult) (law : RefusesLong output) (input re
 
 -- ---- what was read
 
-reads_by : (output : List ℕ → LineResult) (input rest : List ℕ) (outputs : List (List ℕ)) (w : WindowView) (after : Option (List ℕ)) → IsAt output input w rest outputs → IsWithin w
+reads_by : (output : List ℕ → LineResult) (input rest : List ℕ) (outputs : List (List ℕ)) (w : BufferView) (after : Option (List ℕ)) → IsAt output input w rest outputs → IsWithin w
     → (longer : Bool) → IsRest longer after rest → ReadsFew (Some input) after
 reads_by output input rest outputs w after is within false follows =
     let whole = is.whole ∙ sym (append_assoc is.gone w.bytes rest) in
@@ -208,19 +208,19 @@ reads_by output input rest outputs w after is within true follows =
     let more = length-append (is.gone ++ w.bytes) (b ∷ []) in
     (got, subst (λ (o : Option (List ℕ)). Consumes (Some input) o got) (sym follows.2) whole, omega (arith, count, more, is.counted, within.limit))
 
--- where a stream stands, once its input is known
-abbrev pub Stands : (List ℕ → LineResult) → Option (List ℕ) → Option (List ℕ) → WindowView → Option (List ℕ) → Option (List ℕ) → ℕ → Type 0
-Stands output before after w old new number = (input : List ℕ) → before ≡ Some input
+-- the progress of a stream, once its input is known
+abbrev pub HasProgressed : (List ℕ → LineResult) → Option (List ℕ) → Option (List ℕ) → BufferView → Option (List ℕ) → Option (List ℕ) → ℕ → Type 0
+HasProgressed output before after w old new number = (input : List ℕ) → before ≡ Some input
     → (rest : List ℕ) × (outputs : List (List ℕ)) × IsRest w.longer after rest × IsAt output input w rest outputs × Appends old new (concat outputs) × (number ≡ length outputs + 1)
 
-pub reads_few : (output : List ℕ → LineResult) (before after old new : Option (List ℕ)) (w : WindowView) (number : ℕ) → Stands output before after w old new number → IsWithin w → ReadsFew before after
-reads_few output None after old new w number stands within = ([], tt, omega arith)
-reads_few output (Some input) after old new w number stands within = let s = stands input refl in reads_by output input s.0 s.1 w after s.3 within w.longer s.2
+pub reads_few : (output : List ℕ → LineResult) (before after old new : Option (List ℕ)) (w : BufferView) (number : ℕ) → HasProgressed output before after w old new number → IsWithin w → ReadsFew before after
+reads_few output None after old new w number progress within = ([], tt, omega arith)
+reads_few output (Some input) after old new w number progress within = let s = progress input refl in reads_by output input s.0 s.1 w after s.3 within w.longer s.2
 
-pub decides_before : (output : List ℕ → LineResult) (before after old new : Option (List ℕ)) (w : WindowView) (number : ℕ) → Stands output before after w old new number → IsWithin w → IsOpen w.bytes → w.longer ≡ false
+pub decides_before : (output : List ℕ → LineResult) (before after old new : Option (List ℕ)) (w : BufferView) (number : ℕ) → HasProgressed output before after w old new number → IsWithin w → IsOpen w.bytes → w.longer ≡ false
     → (input : List ℕ) → before ≡ Some input → DecidesBefore number output before after
-decides_before output before after old new w number stands within line longer input known =
-    let s = stands input known in
+decides_before output before after old new w number progress within line longer input known =
+    let s = progress input known in
     let is = s.3 in
     let follows : after ≡ Some s.0 = subst (λ (b : Bool). IsRest b after s.0) longer s.2 in
     let whole : input ≡ (is.gone ++ w.bytes) ++ s.0 = is.whole ∙ sym (append_assoc is.gone w.bytes s.0) in
@@ -248,41 +248,41 @@ module _ (lines : List LineResult) (outputs : List (List ℕ)) (number : ℕ) (a
       let joined : concat outputs ++ bytes ≡ concat (outputs ++ bytes ∷ []) = ap (λ l. concat outputs ++ l) (sym (append-nil bytes)) ∙ sym (concat-append outputs (bytes ∷ [])) in
       subst (λ (xs : List ℕ). Appends a c xs) joined (Appends-trans a b c (concat outputs) bytes so_far p)
 
-  -- the output of a line was to be written
-  module _ (output : LineResult) (others : List LineResult) (stands : lines ≡ map Ok outputs ++ output ∷ others) where
+  -- the write of a line's output
+  module _ (output : LineResult) (others : List LineResult) (progress : lines ≡ map Ok outputs ++ output ∷ others) where
     refused : (fault : LineFault) → output ≡ Err fault → lines ≡ map Ok outputs ++ Err fault ∷ others
-    refused fault e = stands ∙ ap (λ r. map Ok outputs ++ r ∷ others) e
+    refused fault e = progress ∙ ap (λ r. map Ok outputs ++ r ∷ others) e
 
     fault_written : (n : ℕ) (fault : LineFault) → n ≡ number → WritesBefore output b c fault → HasWrittenBefore lines a c n fault
     fault_written n faults.InputFailed is t = absurd t
     fault_written n faults.OutputFailed is t =
-        (outputs, t.0, t.1, others, stands ∙ ap (λ r. map Ok outputs ++ r ∷ others) t.2, is ∙ count, Appends-trans a b c (concat outputs) t.0 so_far t.3)
+        (outputs, t.0, t.1, others, progress ∙ ap (λ r. map Ok outputs ++ r ∷ others) t.2, is ∙ count, Appends-trans a b c (concat outputs) t.0 so_far t.3)
     fault_written n (faults.UnknownChar position) is t = (outputs, others, refused _ t.0, is ∙ count, same_out t.1)
     fault_written n faults.NoAscii is t = (outputs, others, refused _ t.0, is ∙ count, same_out t.1)
     fault_written n faults.InputNotUtf8 is t = (outputs, others, refused _ t.0, is ∙ count, same_out t.1)
     fault_written n faults.InputLineTooLong is t = (outputs, others, refused _ t.0, is ∙ count, same_out t.1)
     fault_written n faults.InputTooLong is t = (outputs, others, refused _ t.0, is ∙ count, same_out t.1)
 
-    pub err_written : (failure : Failure StreamFault) → WriteTells output number b c (Err failure) → HasWritten lines a c (Err failure)
-    err_written failures.Memory t = (outputs, output ∷ others, stands, same_out t)
+    pub err_written : (failure : Failure StreamFault) → WritesOutput output number b c (Err failure) → HasWritten lines a c (Err failure)
+    err_written failures.Memory t = (outputs, output ∷ others, progress, same_out t)
     err_written (failures.Fault found) t = fault_written found.line found.fault t.0 t.1
 
-  -- the same of the last line
-  pub last_written : (output : LineResult) → lines ≡ map Ok outputs ++ output ∷ [] → (r : Result (Unit {0}) (Failure StreamFault)) → WriteTells output number b c r → HasWritten lines a c r
-  last_written output stands (Err fault) t = err_written output [] stands fault t
-  last_written output stands (Ok done) t =
-      (outputs ++ t.0 ∷ [], stands ∙ ap (λ r. map Ok outputs ++ r ∷ []) t.1 ∙ sym (map-append Ok outputs (t.0 ∷ [])), more_out t.0 t.2)
+  -- the write of the last line's output
+  pub last_written : (output : LineResult) → lines ≡ map Ok outputs ++ output ∷ [] → (r : Result (Unit {0}) (Failure StreamFault)) → WritesOutput output number b c r → HasWritten lines a c r
+  last_written output progress (Err fault) t = err_written output [] progress fault t
+  last_written output progress (Ok done) t =
+      (outputs ++ t.0 ∷ [], progress ∙ ap (λ r. map Ok outputs ++ r ∷ []) t.1 ∙ sym (map-append Ok outputs (t.0 ∷ [])), more_out t.0 t.2)
 
--- a line that could not be had
-pub next_written : (t : TableView) (form : Form) (law : RefusesLong (output_of t form)) (before after old new : Option (List ℕ)) (w : WindowView) (number : ℕ) → Stands (output_of t form) before after w old new number → IsWithin w
-    → (fault : LineFault) → NextTells w.bytes w.longer after (Err fault) → (input : List ℕ) → before ≡ Some input → HasWritten (verdict t form input) old new (Err (failures.Fault (at_line number fault)))
-next_written t form law before after old new w number stands within fault tells input known =
+-- a line that could not be read
+pub next_written : (t : TableView) (form : Form) (law : RefusesLong (output_of t form)) (before after old new : Option (List ℕ)) (w : BufferView) (number : ℕ) → HasProgressed (output_of t form) before after w old new number → IsWithin w
+    → (fault : LineFault) → ReadsNext w.bytes w.longer after (Err fault) → (input : List ℕ) → before ≡ Some input → HasWritten (verdict t form input) old new (Err (failures.Fault (at_line number fault)))
+next_written t form law before after old new w number progress within fault tells input known =
     subst (λ (ls : List LineResult). HasWritten ls old new (Err (failures.Fault (at_line number fault)))) (sym (verdict-is t form input)) (by_fault fault tells)
   where
     s : (rest : List ℕ) × (outputs : List (List ℕ)) × IsRest w.longer after rest × IsAt (output_of t form) input w rest outputs × Appends old new (concat outputs) × (number ≡ length outputs + 1)
-    s = stands input known
+    s = progress input known
 
-    by_fault : (fault : LineFault) → NextTells w.bytes w.longer after (Err fault) → HasWritten (verdict_within (output_of t form) 16777216 input) old new (Err (failures.Fault (at_line number fault)))
+    by_fault : (fault : LineFault) → ReadsNext w.bytes w.longer after (Err fault) → HasWritten (verdict_within (output_of t form) 16777216 input) old new (Err (failures.Fault (at_line number fault)))
     by_fault (faults.UnknownChar position) n = absurd n
     by_fault faults.NoAscii n = absurd n
     by_fault faults.InputNotUtf8 n = absurd n
@@ -311,23 +311,23 @@ err_is (Err e) fault h = ap Err h
 
 -- ---- from line to line
 
-pub stands_start : (output : List ℕ → LineResult) (before new : Option (List ℕ)) (w : WindowView) → w.bytes ≡ [] → w.taken ≡ 0 → w.longer ≡ false → Stands output before before w new new 1
-stands_start output before new w none zero_taken longer = λ input known.
+pub progress_start : (output : List ℕ → LineResult) (before new : Option (List ℕ)) (w : BufferView) → w.bytes ≡ [] → w.taken ≡ 0 → w.longer ≡ false → HasProgressed output before before w new new 1
+progress_start output before new w none zero_taken longer = λ input known.
     (input, [], subst (λ (b : Bool). IsRest b before input) (sym longer) known, at_start output input w none zero_taken, Appends-nil new, omega arith)
 
-pub stands_read : (output : List ℕ → LineResult) (before after later old new : Option (List ℕ)) (w next : WindowView) (number : ℕ) → Stands output before after w old new number → IsReadOn w next after later
-    → Stands output before later next old new number
-stands_read output before after later old new w next number stands read = λ input known.
-    let s = stands input known in
+pub progress_read : (output : List ℕ → LineResult) (before after later old new : Option (List ℕ)) (w next : BufferView) (number : ℕ) → HasProgressed output before after w old new number → IsReadOn w next after later
+    → HasProgressed output before later next old new number
+progress_read output before after later old new w next number progress read = λ input known.
+    let s = progress input known in
     let at = at_read output input s.0 s.1 w next after later s.3 read s.2 in
     (at.0, s.1, at.1, at.2, s.4, s.5)
 
-module _ (t : TableView) (form : Form) (before after old new written : Option (List ℕ)) (w : WindowView) (number : ℕ) (stands : Stands (output_of t form) before after w old new number) (within : IsWithin w) where
+module _ (t : TableView) (form : Form) (before after old new written : Option (List ℕ)) (w : BufferView) (number : ℕ) (progress : HasProgressed (output_of t form) before after w old new number) (within : IsWithin w) where
   -- one more line was written
-  pub stands_next : (len whole : ℕ) → HasLine w.bytes len whole → WriteTells (output_of t form (take len w.bytes)) number new written (Ok tt)
-      → Stands (output_of t form) before after (record w { bytes = drop whole w.bytes }) old written (number + 1)
-  stands_next len whole line wrote = λ input known.
-      let s = stands input known in
+  pub progress_next : (len whole : ℕ) → HasLine w.bytes len whole → WritesOutput (output_of t form (take len w.bytes)) number new written (Ok tt)
+      → HasProgressed (output_of t form) before after (record w { bytes = drop whole w.bytes }) old written (number + 1)
+  progress_next len whole line wrote = λ input known.
+      let s = progress input known in
       let count = length-append s.1 (wrote.0 ∷ []) in (
         s.0,
         s.1 ++ wrote.0 ∷ [],
@@ -337,25 +337,25 @@ module _ (t : TableView) (form : Form) (before after old new written : Option (L
         omega (arith, s.5, count),
       )
 
-  -- a line was had, and wasn't written whole
-  pub line_written : (len whole : ℕ) → HasLine w.bytes len whole → (fault : Failure StreamFault) → WriteTells (output_of t form (take len w.bytes)) number new written (Err fault)
+  -- a line was read, and not all of it was written
+  pub line_written : (len whole : ℕ) → HasLine w.bytes len whole → (fault : Failure StreamFault) → WritesOutput (output_of t form (take len w.bytes)) number new written (Err fault)
       → (input : List ℕ) → before ≡ Some input → HasWritten (verdict t form input) old written (Err fault)
   line_written len whole line fault wrote = λ input known.
-      let s = stands input known in
+      let s = progress input known in
       let lines = line_at (output_of t form) (output_of-long t form) input s.0 s.1 w s.3 within len whole line in
       err_written (verdict t form input) s.1 number old new written s.4 s.5 (output_of t form (take len w.bytes)) lines.0 (verdict-is t form input ∙ lines.1) fault wrote
 
-  pub tail_written : (len : ℕ) → IsTail w.bytes w.longer after → len ≡ length w.bytes → 0 < len → (r : Result (Unit {0}) (Failure StreamFault)) → WriteTells (output_of t form (take len w.bytes)) number new written r
+  pub tail_written : (len : ℕ) → IsTail w.bytes w.longer after → len ≡ length w.bytes → 0 < len → (r : Result (Unit {0}) (Failure StreamFault)) → WritesOutput (output_of t form (take len w.bytes)) number new written r
       → (input : List ℕ) → before ≡ Some input → HasWritten (verdict t form input) old written r
   tail_written len tail is some r wrote = λ input known.
-      let s = stands input known in
+      let s = progress input known in
       let all : take len w.bytes ≡ w.bytes = ap (λ n. take n w.bytes) is ∙ take-length w.bytes in
       let lines = last_at (output_of t form) (output_of-long t form) input s.0 s.1 w s.3 within after tail (omega (arith, is, some)) s.2 in
       last_written (verdict t form input) s.1 number old new written s.4 s.5 (output_of t form (take len w.bytes)) (verdict-is t form input ∙ lines ∙ ap (λ l. map Ok s.1 ++ output_of t form l ∷ []) (sym all)) r wrote
 
 -- every line was written
-pub all_written : (t : TableView) (form : Form) (before after old new : Option (List ℕ)) (w : WindowView) (number : ℕ) → Stands (output_of t form) before after w old new number → IsWithin w
+pub all_written : (t : TableView) (form : Form) (before after old new : Option (List ℕ)) (w : BufferView) (number : ℕ) → HasProgressed (output_of t form) before after w old new number → IsWithin w
     → IsTail w.bytes w.longer after → length w.bytes ≡ 0 → (input : List ℕ) → before ≡ Some input → HasWritten (verdict t form input) old new (Ok tt)
-all_written t form before after old new w number stands within tail none = λ input known.
-    let s = stands input known in
+all_written t form before after old new w number progress within tail none = λ input known.
+    let s = progress input known in
     (s.1, verdict-is t form input ∙ end_at (output_of t form) (output_of-long t form) input s.0 s.1 w s.3 within after tail none s.2, s.4)

@@ -1,4 +1,4 @@
-pub mod InputLines
 pub mod Output
-pub mod Window
+pub mod InputLines
+pub mod InputBuffer
 pub mod Writing

@@ -1,4 +1,4 @@
--- What the lines of an input give, and what a stream has written. This is the project's own choice.
+-- What the lines of an input give, and what a stream writes. This is the project's own choice.
 use Rattle.std.specs.Prelude.{ℕ, ◌≡◌, ◌≤◌, ◌+◌, if◌then◌else◌, nat_lt, nat_le, Bool, List, [], ◌∷◌, ◌++◌, length, take, map, Option, None, Some, option_map, Result, Ok, Err}
 use Rattle.std.specs.List.{list_any, concat}
 use Rattle.std.specs.Fmt.{option_append}
@@ -18,16 +18,16 @@ use Rattle.brl_failure.specs.declared.failure.Failure.TheVariants as failures
 use Rattle.brl_stream.specs.declared.form.Form.{Form}
 use Rattle.brl_stream.specs.declared.form.Form.TheVariants.{Ascii, Unicode}
 
--- what a line of an input gives: its output, or its fault
+-- what a line gives: its output, or its fault
 abbrev pub LineResult : Type 0
 LineResult = Result (List ℕ) LineFault
 
--- the bytes of a cell in a form, if it has a mark there
+-- the bytes of a cell's mark in a form, if it has one
 abbrev pub mark_of : Form → ℕ → Option (List ℕ)
 mark_of Ascii cell = option_map (λ mark. mark ∷ []) (ascii_mark cell)
 mark_of Unicode cell = Some (encode_utf8 (unicode_mark cell))
 
--- the bytes of cells in a form, if each has a mark there
+-- the bytes of the marks of cells in a form, if each has one
 abbrev pub marks_of : Form → List ℕ → Option (List ℕ)
 marks_of form [] = Some []
 marks_of form (cell ∷ cells) = option_append (mark_of form cell) (marks_of form cells)
@@ -40,33 +40,34 @@ most_line = 65536
 abbrev pub most_input : ℕ
 most_input = 16777216
 
--- the marks of a line and a line feed
+-- the marks of a line and a line feed, or the fault of a cell without a mark
 abbrev pub with_feed : Option (List ℕ) → LineResult
 with_feed (Some marks) = Ok (marks ++ 10 ∷ [])
 with_feed None = Err faults.NoAscii
 
--- the output of a text without unknown characters
+-- this output, unless the text has an unknown character
 abbrev pub unless_unknown : Option ℕ → LineResult → LineResult
 unless_unknown (Some position) output = Err (faults.UnknownChar position)
 unless_unknown None output = output
 
--- What a line gives: the marks of its translation and a line feed, unless it is too long, isn't UTF-8, has a character
--- that the table doesn't define, or has a cell without a mark; the first of these decides.
+-- what a line gives: the marks of its translation and a line feed, unless it is too long, isn't
+-- UTF-8, has a character that the table doesn't define, or a cell without a mark; the first of
+-- these decides
 unfoldable pub output_of : TableView → Form → List ℕ → LineResult
 output_of t form line =
     if nat_lt most_line (length line) then Err faults.InputLineTooLong
     else if is_utf8 line then unless_unknown (first_unknown t (chars line)) (with_feed (marks_of form (translation t (chars line))))
     else Err faults.InputNotUtf8
 
--- too long whatever follows: a carriage return at its end may belong to a line feed
+-- the line is too long whatever follows: a carriage return at its end may belong to a line feed
 abbrev pub is_long : List ℕ → Bool
 is_long line = nat_lt most_line (length (without_return line))
 
--- what the lines give that these bytes decide, whatever follows them
+-- what the lines give that these first bytes of an input decide, whatever follows
 unfoldable pub decided : (List ℕ → LineResult) → List ℕ → List LineResult
 decided output bytes = map output (ended bytes) ++ (if list_any is_long (unended bytes) then Err faults.InputLineTooLong ∷ [] else [])
 
--- what the lines of an input give, where at most so many of its bytes may be used
+-- what the lines of an input give, where at most this number of its bytes may be used
 unfoldable pub verdict_within : (List ℕ → LineResult) → ℕ → List ℕ → List LineResult
 verdict_within output most input =
     if nat_le (length input) most then map output (lines_of input)
@@ -80,7 +81,8 @@ verdict t form input = verdict_within (output_of t form) most_input input
 abbrev pub at_line : ℕ → LineFault → StreamFault
 at_line n fault = record { line = n; fault = fault }
 
--- What was written before a fault at line n: the outputs of the lines before it, and where the writer failed, a front of its own.
+-- what was written before a fault at line n: the outputs of the lines before it and, where the
+-- writer failed, a first part of its own output
 abbrev pub HasWrittenBefore : List LineResult → Option (List ℕ) → Option (List ℕ) → ℕ → LineFault → Type 0
 HasWrittenBefore lines old new n faults.InputFailed =
     (outputs : List (List ℕ)) × (others : List LineResult) × (lines ≡ map Ok outputs ++ others)
@@ -93,22 +95,22 @@ HasWrittenBefore lines old new n fault =
     (outputs : List (List ℕ)) × (others : List LineResult) × (lines ≡ map Ok outputs ++ Err fault ∷ others)
     × (n ≡ length outputs + 1) × Appends old new (concat outputs)
 
--- What was written, by the outcome of a call: the outputs of all lines, or of some first ones.
+-- what was written, by the outcome of a call: the outputs of all lines, or of some first ones
 abbrev pub HasWritten : List LineResult → Option (List ℕ) → Option (List ℕ) → Result (Unit {0}) (Failure StreamFault) → Type 0
 HasWritten lines old new (Ok done) = (outputs : List (List ℕ)) × (lines ≡ map Ok outputs) × Appends old new (concat outputs)
 HasWritten lines old new (Err failures.Memory) =
     (outputs : List (List ℕ)) × (others : List LineResult) × (lines ≡ map Ok outputs ++ others) × Appends old new (concat outputs)
 HasWritten lines old new (Err (failures.Fault found)) = HasWrittenBefore lines old new found.line found.fault
 
--- no byte behind the 16,777,217th was read
+-- no byte after the 16,777,217th was read
 abbrev pub ReadsFew : Option (List ℕ) → Option (List ℕ) → Type 0
 ReadsFew old new = (got : List ℕ) × Consumes old new got × (length got ≤ most_input + 1)
 
--- the bytes that were read decide the lines before line n, and no more
+-- the bytes that were read decide the lines before line n, and no others
 abbrev pub DecidesBefore : ℕ → (List ℕ → LineResult) → Option (List ℕ) → Option (List ℕ) → Type 0
 DecidesBefore n output old new =
     (got : List ℕ) × Consumes old new got × (length got ≤ most_input) × (length (decided output got) + 1 ≡ n)
 
--- the call ended at some line for this reason
+-- the call ended with this fault at some line
 abbrev pub EndsBy : LineFault → Result (Unit {0}) (Failure StreamFault) → Type 0
 EndsBy fault result = (n : ℕ) × (result ≡ Err (failures.Fault (at_line n fault)))

@@ -1,4 +1,4 @@
--- How one line's output is made and written. This is the project's own choice.
+-- Internal. How the output of one line is made and written.
 use Rattle.std.specs.Prelude.{ℕ, ◌≡◌, List, [], ◌++◌, Option, None, Some, option_map, Result, Ok, Err}
 use Rattle.std.specs.Io.KnownBytes.{Appends}
 use Rattle.brl_failure.specs.Failure.{IfFault}
@@ -11,16 +11,16 @@ use Rattle.brl_stream.specs.declared.fault.StreamFault.{StreamFault}
 use Rattle.brl_forward.specs.declared.fault.ForwardFault.{ForwardFault}
 use Rattle.brl_forward.specs.declared.fault.ForwardFault.TheVariants as forward
 
--- a fault of translation, as it ends a line
+-- a fault of translation, as the fault of a line
 abbrev pub line_fault_of : ForwardFault → LineFault
 line_fault_of (forward.UnknownChar position) = faults.UnknownChar position
 
--- marks came in at the end of a buffer, if there are such
+-- the marks were added at the end of a buffer, if each cell has one
 abbrev pub Pushes : Option (List ℕ) → List ℕ → List ℕ → Result (Unit {0}) (Failure LineFault) → Type 0
 Pushes marks old new (Ok done) = option_map (λ more. old ++ more) marks ≡ Some new
 Pushes marks old new (Err failure) = IfFault (λ fault. (marks ≡ None) × (fault ≡ faults.NoAscii)) failure
 
--- the buffer has the output of a line, or the line has the fault
+-- the buffer has the output of a line, or the line has this fault
 abbrev pub IsMade : LineResult → List ℕ → Result (Unit {0}) (Failure LineFault) → Type 0
 IsMade output buffer (Ok done) = output ≡ Ok buffer
 IsMade output buffer (Err failure) = IfFault (λ fault. output ≡ Err fault) failure
@@ -31,8 +31,8 @@ WritesBefore output old new faults.InputFailed = ⊥
 WritesBefore output old new faults.OutputFailed = (front : List ℕ) × (rest : List ℕ) × (output ≡ Ok (front ++ rest)) × Appends old new front
 WritesBefore output old new fault = (output ≡ Err fault) × Appends old new []
 
--- what was written of the output of the line with this number
-abbrev pub WriteTells : LineResult → ℕ → Option (List ℕ) → Option (List ℕ) → Result (Unit {0}) (Failure StreamFault) → Type 0
-WriteTells output number old new (Ok done) = (bytes : List ℕ) × (output ≡ Ok bytes) × Appends old new bytes
-WriteTells output number old new (Err failures.Memory) = Appends old new []
-WriteTells output number old new (Err (failures.Fault found)) = (found.line ≡ number) × WritesBefore output old new found.fault
+-- what was written of the output of the line with this number, by the outcome of the call
+abbrev pub WritesOutput : LineResult → ℕ → Option (List ℕ) → Option (List ℕ) → Result (Unit {0}) (Failure StreamFault) → Type 0
+WritesOutput output number old new (Ok done) = (bytes : List ℕ) × (output ≡ Ok bytes) × Appends old new bytes
+WritesOutput output number old new (Err failures.Memory) = Appends old new []
+WritesOutput output number old new (Err (failures.Fault found)) = (found.line ≡ number) × WritesBefore output old new found.fault

@@ -1,11 +1,11 @@
-//! What is read from and written to: readers and writers that also count their failures.
+//! Readers and writers that count their failures.
 use std::io::{Read, Write};
 
 /// The reader or the writer has failed.
 #[derive(Clone, Copy, PartialEq, Eq, Debug)]
 pub struct Failed;
 
-/// A reader that counts its failures, and its bytes where they are known.
+/// A reader that counts its failures. Where its bytes are known, contracts speak of them.
 pub trait Input {
     ghost use Rattle.std.specs.Prelude.{Option, ◌≡◌, ◌≢◌, ℕ, List, OnOk, OnErr};
     ghost use Rattle.std.specs.Io.{ReadsAtMost};
@@ -14,11 +14,10 @@ pub trait Input {
     // the bytes that reads will give, where they are known
     ghost remaining: { Self → Option (List ℕ) };
 
-    // how many reads have failed: each failure changes the count
+    // the number of failed reads; each failure changes it
     ghost failures: { Self → ℕ };
 
-    /// Reads once, at most as many bytes as there is room for. No byte comes only at the end, or where there is no
-    /// room.
+    /// Reads once into the buffer. Returns 0 only at the end of the input or for an empty buffer.
     fn read_some(&mut self, buffer: &mut [u8]) -> Result<usize, Failed>
         ensures bound { ReadsAtMost result buffer.new }
         ensures bytes { ReadConsumes (remaining self.old) (remaining self.new) result buffer.new }
@@ -26,7 +25,8 @@ pub trait Input {
         ensures calm { OnOk result (failures self.new ≡ failures self.old) };
 }
 
-/// A writer that counts its failures, and the bytes that it holds where they are known.
+/// A writer that counts its failures. Where the bytes that it holds are known, contracts speak of
+/// them.
 pub trait Output {
     ghost use Rattle.std.specs.Prelude.{Option, ◌≡◌, ◌≢◌, ℕ, List, OnOk, OnErr, ◌++◌};
     ghost use Rattle.std.specs.Io.KnownBytes.{Appends};
@@ -34,10 +34,10 @@ pub trait Output {
     // the bytes that it holds, where they are known
     ghost contents: { Self → Option (List ℕ) };
 
-    // how many writes have failed: each failure changes the count
+    // the number of failed writes; each failure changes it
     ghost failures: { Self → ℕ };
 
-    /// Writes all the bytes. Where a write fails, some first ones of them may be written.
+    /// Writes all the bytes. Where a write fails, a first part of them may have been written.
     fn put(&mut self, bytes: &[u8]) -> Result<(), Failed>
         ensures ok { OnOk result (Appends (contents self.old) (contents self.new) bytes.now) }
         ensures err { OnErr result ((front rest : List ℕ) × (bytes.now ≡ front ++ rest)
@@ -62,8 +62,8 @@ impl Input for &[u8] {
     }
 }
 
-/// A reader or a writer of the standard library, and how often it has failed, after 2^64 times from 0 again. An
-/// interrupted call has failed, and so has a write that takes no byte.
+/// A reader or writer of the standard library with the number of its failures, modulo 2^64. An
+/// interrupted call is a failure, and so is a write that takes no byte.
 #[derive(Drop)]
 pub struct Watched<D> {
     pub device: D,

@@ -4,7 +4,8 @@ use thiserror::Error;
 /// The fault of a line of an input.
 #[derive(Clone, Copy, PartialEq, Eq, Debug, Error)]
 pub enum LineFault {
-    /// The table doesn't define the character at this position of the line, from 0, which is the first such one.
+    /// The table doesn't define the character at this position of the line, from 0, which is the
+    /// first such one.
     #[error("F1 UnknownChar {0}")]
     UnknownChar(usize),
     /// A cell of the line has dot 7 or 8, and braille ASCII has no mark for it.
@@ -22,7 +23,7 @@ pub enum LineFault {
     /// The line has more than 65,536 bytes without its end.
     #[error("U5 InputLineTooLong")]
     InputLineTooLong,
-    /// The input has more than 16,777,216 bytes, and the line doesn't end within these.
+    /// The input has more than 16,777,216 bytes, and the line doesn't end within the limit.
     #[error("U6 InputTooLong")]
     InputTooLong,
 }

@@ -1,4 +1,4 @@
-//! How cells are written.
+//! The forms in which cells are written.
 
 /// A form of written cells.
 #[derive(Clone, Copy, PartialEq, Eq, Debug)]

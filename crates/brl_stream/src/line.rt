@@ -1,42 +1,42 @@
 //! The next line of an input.
 ghost use Rattle.std.specs.Prelude.{◌≡◌, ◌≢◌, ◌≤◌, ◌<◌, length, take, IsErrOf, IfSome, IfNone, OnOk, slice_index};
 ghost use Rattle.brl_stream.specs.InputLines.{without_return};
-ghost use Rattle.brl_stream.specs.Window.{IsReadOn, IsWithin, HasNoFeed, FrontTells, NextTells, TailTells};
+ghost use Rattle.brl_stream.specs.InputBuffer.{IsReadOn, IsWithin, HasNoFeed, ReadsFront, ReadsNext, ReadsTail};
 
-use crate::window::Window;
+use crate::buffer::InputBuffer;
 use crate::{Input, LineFault};
 use memchr::memchr;
 
 /// The most bytes of a line without its end.
 const MOST_LINE: usize = 65_536;
 
-/// What stands next in an input.
+/// The next line of an input.
 #[derive(Clone, Copy, PartialEq, Eq, Debug)]
 pub enum Next {
     /// A line of `len` bytes, which has `whole` bytes with its end.
     Line { len: usize, whole: usize },
-    /// A last line of so many bytes, which no line feed ends.
+    /// A last line of this number of bytes, without a line feed.
     Last(usize),
-    /// Nothing.
+    /// No line: the end of the input.
     End,
 }
 
-/// Reads until a whole line stands in front of the window. `InputFailed` where the reader fails before that,
-/// `InputLineTooLong` and `InputTooLong` as soon as the bytes that were read decide it.
-pub fn next_line<R: Input>(window: &mut Window, reader: &mut R) -> Result<Next, LineFault>
-    ensures read { IsReadOn window.old window.new (R.remaining reader.old) (R.remaining reader.new) }
-    ensures tells { NextTells window.new.bytes window.new.longer (R.remaining reader.new) result }
-    ensures within { IsWithin window.new }
+/// Reads until the buffer begins with a whole line. `InputFailed` where the reader fails before
+/// that, `InputLineTooLong` and `InputTooLong` as soon as the bytes that were read decide it.
+pub fn next_line<R: Input>(buffer: &mut InputBuffer, reader: &mut R) -> Result<Next, LineFault>
+    ensures read { IsReadOn buffer.old buffer.new (R.remaining reader.old) (R.remaining reader.new) }
+    ensures next { ReadsNext buffer.new.bytes buffer.new.longer (R.remaining reader.new) result }
+    ensures within { IsWithin buffer.new }
     ensures failed { IsErrOf result LineFault.InputFailed → R.failures reader.new ≢ R.failures reader.old }
     ensures calm { OnOk result (R.failures reader.new ≡ R.failures reader.old) }
 {
     let mut scanned = 0;
     loop {
-        if let Some(next) = front_of(window.bytes(), scanned, window.is_longer())? {
+        if let Some(next) = first_line(buffer.bytes(), scanned, buffer.is_longer())? {
             return Ok(next);
         }
-        scanned = window.bytes().len();
-        match window.fill(reader) {
+        scanned = buffer.bytes().len();
+        match buffer.fill(reader) {
             Err(_) => return Err(LineFault::InputFailed),
             Ok(0) => return last_line(scanned),
             Ok(_) => {}
@@ -44,13 +44,14 @@ pub fn next_line<R: Input>(window: &mut Window, reader: &mut R) -> Result<Next, 
     }
 }
 
-/// What stands in front, of bytes whose first `scanned` have no line feed; `None` where more must be read to tell.
-fn front_of(bytes: &[u8], scanned: usize, longer: bool) -> Result<Option<Next>, LineFault>
+/// The line at the start of bytes, whose first `scanned` have no line feed. `None` where more bytes
+/// must be read to decide.
+fn first_line(bytes: &[u8], scanned: usize, longer: bool) -> Result<Option<Next>, LineFault>
     requires within { scanned ≤ length bytes.now }
     requires plain { HasNoFeed (take scanned bytes.now) }
-    ensures { FrontTells bytes.now longer result }
+    ensures { ReadsFront bytes.now longer result }
 {
-    if let Some(feed) = feed_behind(bytes, scanned) {
+    if let Some(feed) = find_feed(bytes, scanned) {
         let len = length_without_return(&bytes[..feed]);
         if len > MOST_LINE {
             return Err(LineFault::InputLineTooLong);
@@ -69,8 +70,8 @@ fn front_of(bytes: &[u8], scanned: usize, longer: bool) -> Result<Option<Next>, 
     Ok(None)
 }
 
-/// The first line feed, of bytes whose first `scanned` have none.
-fn feed_behind(bytes: &[u8], scanned: usize) -> Option<usize>
+/// The place of the first line feed in bytes, whose first `scanned` have none.
+fn find_feed(bytes: &[u8], scanned: usize) -> Option<usize>
     requires within { scanned ≤ length bytes.now }
     requires plain { HasNoFeed (take scanned bytes.now) }
     ensures found { IfSome result (λ feed. (feed < length bytes.now) × (slice_index bytes.now feed ≡ 10)
@@ -81,7 +82,7 @@ fn feed_behind(bytes: &[u8], scanned: usize) -> Option<usize>
     Some(scanned + ahead)
 }
 
-/// How long a line is without a carriage return at its end.
+/// The length of a line without a carriage return at its end.
 fn length_without_return(line: &[u8]) -> usize
     ensures within { result ≤ length line.now }
     ensures bytes { take result line.now ≡ without_return line.now }
@@ -93,9 +94,9 @@ fn length_without_return(line: &[u8]) -> usize
     len
 }
 
-/// What so many bytes in front are, which the input's end ends.
+/// The line that the last `len` bytes of an input are, without a line feed.
 fn last_line(len: usize) -> Result<Next, LineFault>
-    ensures { TailTells len result }
+    ensures { ReadsTail len result }
 {
     if len > MOST_LINE {
         return Err(LineFault::InputLineTooLong);

@@ -4,7 +4,7 @@ ghost use Rattle.std.specs.Str.{chars};
 ghost use Rattle.brl_stream.specs.Output.{at_line as fault_at, mark_of, marks_of, output_of};
 ghost use Rattle.brl_failure.specs.Failure.{IsChanged};
 ghost use Rattle.brl_failure.specs.declared.failure.Failure.TheVariants as failures;
-ghost use Rattle.brl_stream.specs.Writing.{Pushes, IsMade, WriteTells, line_fault_of as of_forward};
+ghost use Rattle.brl_stream.specs.Writing.{Pushes, IsMade, WritesOutput, line_fault_of as of_forward};
 
 use crate::{Form, LineFault, Output, StreamFault};
 use brl_cells::{Cell, to_ascii, to_unicode};
@@ -14,7 +14,7 @@ use brl_table::Table;
 use std::alloc::{AllocError, Global};
 use std::str;
 
-/// The buffers for a line's characters and its output. The next line uses them again.
+/// Buffers for the characters of a line and for its output. The next line uses them again.
 #[derive(Drop)]
 pub struct Scratch {
     text: Vec<char>,
@@ -34,7 +34,7 @@ impl Scratch {
     }
 }
 
-/// Writes the output of the line with this number, in one piece.
+/// Writes the output of the line with this number, in one write.
 pub fn write_line<W: Output>(
     alloc: Global,
     table: &Table,
@@ -45,7 +45,7 @@ pub fn write_line<W: Output>(
     writer: &mut W,
 ) -> Result<(), Failure<StreamFault>>
     requires { length line.now ≤ 65536 }
-    ensures tells { WriteTells (output_of table.now form line.now) number (W.contents writer.old) (W.contents writer.new)
+    ensures written { WritesOutput (output_of table.now form line.now) number (W.contents writer.old) (W.contents writer.new)
         result }
     ensures cause { IsErrOf result (failures.Fault (fault_at number LineFault.OutputFailed)) → W.failures writer.new ≢ W.failures writer.old }
     ensures calm { OnOk result (W.failures writer.new ≡ W.failures writer.old) }
@@ -59,7 +59,7 @@ pub fn write_line<W: Output>(
     }
 }
 
-/// The failure of a line, with the line's number.
+/// The failure of a line, with the number of the line.
 fn at_line(line: u64, failure: Failure<LineFault>) -> Failure<StreamFault>
     ensures { IsChanged (λ fault found. found ≡ fault_at line fault) failure result }
 {
@@ -69,7 +69,7 @@ fn at_line(line: u64, failure: Failure<LineFault>) -> Failure<StreamFault>
     }
 }
 
-/// A fault of translation, as one of a line.
+/// A fault of translation, as the fault of a line.
 fn line_fault_of(fault: ForwardFault) -> LineFault
     ensures { result ≡ of_forward fault }
 {
@@ -78,7 +78,7 @@ fn line_fault_of(fault: ForwardFault) -> LineFault
     }
 }
 
-/// Puts a line's output into the buffer: the marks of its translation and a line feed.
+/// Makes a line's output in the buffer: the marks of its translation and a line feed.
 fn make_output(
     alloc: Global,
     table: &Table,
@@ -92,7 +92,7 @@ fn make_output(
     let Ok(text) = str::from_utf8(line) else {
         return Err(Failure::Fault(LineFault::InputNotUtf8));
     };
-    put_chars(text, &mut scratch.text)?;
+    set_chars(text, &mut scratch.text)?;
     let cells = raise(
         translate(alloc, table, scratch.text.as_slice()),
         line_fault_of,
@@ -103,8 +103,8 @@ fn make_output(
     Ok(())
 }
 
-/// Puts the characters of a text into a buffer, in place of what it had.
-fn put_chars(text: &str, buffer: &mut Vec<char>) -> Result<(), AllocError>
+/// Replaces the contents of a buffer by the characters of a text.
+fn set_chars(text: &str, buffer: &mut Vec<char>) -> Result<(), AllocError>
     ensures { OnOk result (buffer.new.items ≡ chars text.now) }
 {
     buffer.clear();
@@ -114,7 +114,7 @@ fn put_chars(text: &str, buffer: &mut Vec<char>) -> Result<(), AllocError>
     Ok(())
 }
 
-/// Adds the marks of the cells in a form.
+/// Appends the marks of cells in a form.
 fn push_marks(form: Form, cells: &[Cell], output: &mut Vec<u8>) -> Result<(), Failure<LineFault>>
     ensures { Pushes (marks_of form cells.now) output.old.items output.new.items result }
 {
@@ -124,7 +124,7 @@ fn push_marks(form: Form, cells: &[Cell], output: &mut Vec<u8>) -> Result<(), Fa
     Ok(())
 }
 
-/// Adds the mark of a cell in a form. `NoAscii` where it has none.
+/// Appends the mark of a cell in a form. `NoAscii` where it has none.
 fn push_mark(form: Form, cell: Cell, output: &mut Vec<u8>) -> Result<(), Failure<LineFault>>
     ensures { Pushes (mark_of form cell) output.old.items output.new.items result }
 {

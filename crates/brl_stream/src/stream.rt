@@ -1,25 +1,26 @@
-//! A stream: each line of an input is translated and written before the next is translated.
+//! A stream: each line of an input is translated and written before the next one.
 ghost use Rattle.std.specs.Prelude.{◌≡◌, ◌≢◌, ℕ, List, Some, Err, OnOk};
 ghost use Rattle.std.specs.Io.KnownBytes.{IsAtEnd};
 ghost use Rattle.brl_failure.specs.declared.failure.Failure.TheVariants as failures;
 ghost use Rattle.brl_stream.specs.Output.{at_line, verdict, output_of, HasWritten, ReadsFew, DecidesBefore, EndsBy};
 
+use crate::buffer::InputBuffer;
 use crate::line::{Next, next_line};
 use crate::output::{Scratch, write_line};
-use crate::window::Window;
 use crate::{Form, Input, LineFault, Output, StreamFault};
 use brl_failure::Failure;
 use brl_table::Table;
 use std::alloc::Global;
 
-/// Translates an input line by line: for each line its marks in the form, then a line feed, in one write before the
-/// next line is translated. A line ends with a line feed, or with a carriage return and a line feed; a last line
-/// without them counts.
+/// Translates an input line by line. For each line it writes the marks in the form, then a line
+/// feed, in one write before the next line is translated. A line ends with a line feed, or with a
+/// carriage return and a line feed; a last line without them counts.
 ///
-/// The first fault ends it. At one line these decide in this order: `InputFailed`, `InputLineTooLong` (more than 65,536
-/// bytes without its end), `InputNotUtf8`, `UnknownChar`, `NoAscii`, `OutputFailed`. The lines before the fault stand
-/// written, and of the faulty one nothing, but after `OutputFailed` some first bytes may. `InputTooLong` names the
-/// line that doesn't end within the first 16,777,216 bytes of a longer input. Where memory runs out, the
+/// The first fault ends the stream. Faults of one line come in this order: `InputFailed`,
+/// `InputLineTooLong` (more than 65,536 bytes without its end), `InputNotUtf8`, `UnknownChar`,
+/// `NoAscii`, `OutputFailed`. The lines before the fault are written, and nothing of the faulty
+/// line; after `OutputFailed`, a first part of it may be. `InputTooLong` names the line that
+/// doesn't end within the first 16,777,216 bytes of a longer input. Where memory runs out, the
 /// outputs of some first lines are written.
 pub fn translate_lines<R: Input, W: Output>(
     alloc: Global,
@@ -38,13 +39,13 @@ pub fn translate_lines<R: Input, W: Output>(
     ensures read_failed { EndsBy LineFault.InputFailed result → R.failures reader.new ≢ R.failures reader.old }
     ensures write_failed { EndsBy LineFault.OutputFailed result → W.failures writer.new ≢ W.failures writer.old }
 {
-    let Ok(mut window) = Window::new(alloc) else {
+    let Ok(mut buffer) = InputBuffer::new(alloc) else {
         return Err(Failure::Memory);
     };
     let mut scratch = Scratch::new(alloc);
     let mut number = 1;
     loop {
-        match next_line(&mut window, reader) {
+        match next_line(&mut buffer, reader) {
             Err(fault) => {
                 return Err(Failure::Fault(StreamFault {
                     line: number,
@@ -53,13 +54,13 @@ pub fn translate_lines<R: Input, W: Output>(
             }
             Ok(Next::End) => return Ok(()),
             Ok(Next::Last(len)) => {
-                let line = &window.bytes()[..len];
+                let line = &buffer.bytes()[..len];
                 return write_line(alloc, table, form, line, number, &mut scratch, writer);
             }
             Ok(Next::Line { len, whole }) => {
-                let line = &window.bytes()[..len];
+                let line = &buffer.bytes()[..len];
                 write_line(alloc, table, form, line, number, &mut scratch, writer)?;
-                window.consume(whole);
+                buffer.consume(whole);
             }
         }
         number += 1;

@@ -14,7 +14,7 @@ returns-in_default c = output_of-not_utf8 c.args.table.now c.args.form c.args.li
 pub returns-in_err-cells : goal.returns-in_err-cells
 returns-in_err-cells c =
     let line = c.args.line.now in
-    let text : c.as_slice.result.now ≡ chars line = c.as_slice.ensures.value ∙ c.in_ok-put_chars.ensures ∙ ap chars c.in-Ok.ensures.cases.0 in
+    let text : c.as_slice.result.now ≡ chars line = c.as_slice.ensures.value ∙ c.in_ok-set_chars.ensures ∙ ap chars c.in-Ok.ensures.cases.0 in
     let output = output_of c.args.table.now c.args.form line in
     let buffer = c.args.scratch.now.output.items in
     let stops = translate_stops c.args.table.now c.args.form line c.as_slice.result.now c.requires c.in-Ok.ensures.cases.1 text c.translate.result c.raise.result c.in_err-cells.field-0.0 c.raise.ensures c.in_err-cells.was c.translate.ensures.fault buffer in
@@ -23,7 +23,7 @@ returns-in_err-cells c =
 pub returns-in_err-push_marks : goal.returns-in_err-push_marks
 returns-in_err-push_marks c =
     let line = c.args.line.now in
-    let text : c.as_slice.result.now ≡ chars line = c.as_slice.ensures.value ∙ c.in_ok-put_chars.ensures ∙ ap chars c.in-Ok.ensures.cases.0 in
+    let text : c.as_slice.result.now ≡ chars line = c.as_slice.ensures.value ∙ c.in_ok-set_chars.ensures ∙ ap chars c.in-Ok.ensures.cases.0 in
     let output = output_of c.args.table.now c.args.form line in
     let buffer = c.push_marks.new.output.items in
     let stops = marks_stop c.args.table.now c.args.form line c.as_slice.result.now c.requires c.in-Ok.ensures.cases.1 text c.as_slice-2.result.now (value_has _ c.translate.result c.in_ok-cells.cells (raised_is _ c.translate.result c.raise.result c.in_ok-cells.cells c.raise.ensures c.in_ok-cells.was) c.translate.ensures.text)
@@ -33,6 +33,6 @@ returns-in_err-push_marks c =
 pub returns : goal.returns
 returns c =
     let line = c.args.line.now in
-    let text : c.as_slice.result.now ≡ chars line = c.as_slice.ensures.value ∙ c.in_ok-put_chars.ensures ∙ ap chars c.in-Ok.ensures.cases.0 in
+    let text : c.as_slice.result.now ≡ chars line = c.as_slice.ensures.value ∙ c.in_ok-set_chars.ensures ∙ ap chars c.in-Ok.ensures.cases.0 in
     output_made c.args.table.now c.args.form line c.as_slice.result.now c.requires c.in-Ok.ensures.cases.1 text c.as_slice-2.result.now (value_has _ c.translate.result c.in_ok-cells.cells (raised_is _ c.translate.result c.raise.result c.in_ok-cells.cells c.raise.ensures c.in_ok-cells.was) c.translate.ensures.text)
     (c.as_slice-2.ensures.value ∙ value_has _ c.translate.result c.in_ok-cells.cells (raised_is _ c.translate.result c.raise.result c.in_ok-cells.cells c.raise.ensures c.in_ok-cells.was) c.translate.ensures.cells) c.clear.new.self.items c.push_marks.new.output.items c.push.new.self.items c.clear.ensures.items c.in_ok-push_marks.ensures c.in_ok-push.ensures.items

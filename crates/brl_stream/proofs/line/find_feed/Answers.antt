@@ -1,6 +1,6 @@
 use Rattle.std.proofs.Common.{Option, None, Some, IfNone}
-use Rattle.brl_stream.proofs.FrontLemmas.{feed_none, feed_found}
-use Rattle.brl_stream.proofs.line.feed_behind.Goals as goal
+use Rattle.brl_stream.proofs.FirstLineLemmas.{feed_none, feed_found}
+use Rattle.brl_stream.proofs.line.find_feed.Goals as goal
 
 on_none : {T P : Type 0} (r : Option T) → P → IfNone r P
 on_none (Some x) p = tt

@@ -1,7 +1,7 @@
 use Rattle.std.proofs.Common.{◌≡◌, ◌≤◌, ◌+◌, ◌∙◌, ap, arith, length, take, Result, Ok, Err, OnErr}
 use Rattle.std.specs.List.{slice_range}
-use Rattle.brl_stream.proofs.WindowLemmas.{refilled, range-front, read_behind, read_none, read_length, read_rest}
-use Rattle.brl_stream.proofs.window.Window.fill.Goals as goal
+use Rattle.brl_stream.proofs.BufferLemmas.{refilled, range-front, read_after, read_none, read_length, read_rest}
+use Rattle.brl_stream.proofs.buffer.InputBuffer.fill.Goals as goal
 
 on_err : {T E P : Type 0} (r : Result T E) → P → OnErr r P
 on_err (Ok x) p = tt
@@ -11,8 +11,8 @@ pub returns-in_err-count-clause-bytes : goal.returns-in_err-count-clause-bytes
 returns-in_err-count-clause-bytes g c =
     let inside = c.self.inside in
     let zs = inside.buffer.items in
-    let ys = c.read_behind.new.buffer in
-    let sized : length ys ≡ inside.buffer.len = c.read_behind.auto.buffer ∙ c.as_mut_slice.ensures.len in
+    let ys = c.read_after.new.buffer in
+    let sized : length ys ≡ inside.buffer.len = c.read_after.auto.buffer ∙ c.as_mut_slice.ensures.len in
     let front : take inside.end ys ≡ take inside.end zs = c.in_err-count.ensures.front ∙ ap (take inside.end) c.as_mut_slice.ensures.value in
     let is : slice_range zs inside.start inside.end ≡ c.args.self.now.bytes = ap (λ w. w.bytes) c.self.view_is ∙ c.make_room.ensures.bytes in
     let same = ap (λ l. slice_range l inside.start inside.end) (refilled inside.buffer.len ys zs sized) ∙ range-front ys zs inside.start inside.end c.self.invariant.1 front ∙ is in
@@ -22,10 +22,10 @@ pub returns-clause-read : goal.returns-clause-read
 returns-clause-read g c =
     let inside = c.self.inside in
     let zs = inside.buffer.items in
-    let ys = c.read_behind.new.buffer in
+    let ys = c.read_after.new.buffer in
     let count = c.in_ok-count.count in
     let within = c.min-within.result in
-    let sized : length ys ≡ inside.buffer.len = c.read_behind.auto.buffer ∙ c.as_mut_slice.ensures.len in
+    let sized : length ys ≡ inside.buffer.len = c.read_after.auto.buffer ∙ c.as_mut_slice.ensures.len in
     let front : take inside.end ys ≡ take inside.end zs = c.in_ok-count.ensures.front ∙ ap (take inside.end) c.as_mut_slice.ensures.value in
     let is : slice_range zs inside.start inside.end ≡ c.args.self.now.bytes = ap (λ w. w.bytes) c.self.view_is ∙ c.make_room.ensures.bytes in
     let few : within ≤ count = omega (arith, c.min-within.ensures) in
@@ -41,25 +41,25 @@ returns-clause-read g c =
           (rw c.requires.within at known);
     }
 
-pub returns-clause-behind : goal.returns-clause-behind
-returns-clause-behind g c =
+pub returns-clause-prefix : goal.returns-clause-prefix
+returns-clause-prefix g c =
     let inside = c.self.inside in
     let zs = inside.buffer.items in
-    let ys = c.read_behind.new.buffer in
-    let sized : length ys ≡ inside.buffer.len = c.read_behind.auto.buffer ∙ c.as_mut_slice.ensures.len in
+    let ys = c.read_after.new.buffer in
+    let sized : length ys ≡ inside.buffer.len = c.read_after.auto.buffer ∙ c.as_mut_slice.ensures.len in
     let front : take inside.end ys ≡ take inside.end zs = c.in_ok-count.ensures.front ∙ ap (take inside.end) c.as_mut_slice.ensures.value in
     let is : slice_range zs inside.start inside.end ≡ c.args.self.now.bytes = ap (λ w. w.bytes) c.self.view_is ∙ c.make_room.ensures.bytes in
     let few : c.min-within.result ≤ c.in_ok-count.count = omega (arith, c.min-within.ensures) in
     let most : inside.end + c.in_ok-count.count ≤ 196608 = omega (arith, c.in_ok-count.ensures.few, c.min-most.ensures, c.self.invariant.2) in
     let room : inside.end + c.in_ok-count.count ≤ inside.buffer.len = omega (arith, most, c.self.invariant.0) in
-    read_behind inside.buffer.len inside.start inside.end c.in_ok-count.count c.min-within.result c.args.self.now.bytes zs ys is c.self.invariant.1 room sized front few
+    read_after inside.buffer.len inside.start inside.end c.in_ok-count.count c.min-within.result c.args.self.now.bytes zs ys is c.self.invariant.1 room sized front few
 
 pub returns-clause-none : goal.returns-clause-none
 returns-clause-none g c =
     let inside = c.self.inside in
     let zs = inside.buffer.items in
-    let ys = c.read_behind.new.buffer in
-    let sized : length ys ≡ inside.buffer.len = c.read_behind.auto.buffer ∙ c.as_mut_slice.ensures.len in
+    let ys = c.read_after.new.buffer in
+    let sized : length ys ≡ inside.buffer.len = c.read_after.auto.buffer ∙ c.as_mut_slice.ensures.len in
     let front : take inside.end ys ≡ take inside.end zs = c.in_ok-count.ensures.front ∙ ap (take inside.end) c.as_mut_slice.ensures.value in
     let is : slice_range zs inside.start inside.end ≡ c.args.self.now.bytes = ap (λ w. w.bytes) c.self.view_is ∙ c.make_room.ensures.bytes in
     let few : c.min-within.result ≤ c.in_ok-count.count = omega (arith, c.min-within.ensures) in

@@ -1,23 +1,23 @@
--- The bytes that wait in a buffer, and a read behind them.
+-- The bytes in a buffer, and a read after them.
 use Rattle.std.proofs.Common.{◌≡◌, ℕ, suc, ◌+◌, ◌-◌, ◌<◌, ◌≤◌, true, false, nat_lt, List, [], ◌∷◌, ◌++◌, length, take, drop, refl, ap, sym, ◌∙◌, arith, Option, None, Some, length-append, append_assoc, append-nil, length-drop, length-take, ◌⊎◌, inl, inr}
 use Rattle.std.proofs.lemmas.Bool.Decides.{leb_tells}
 use Rattle.std.proofs.lemmas.List.{drop-take, drop-drop, length-take-le}
 use Rattle.std.proofs.Math.Seq.{take-append_seam, take-add}
 use Rattle.std.specs.List.{slice_range}
 use Rattle.std.specs.Io.KnownBytes.{Consumes}
-use Rattle.brl_stream.specs.Window.{IsRest}
+use Rattle.brl_stream.specs.InputBuffer.{IsRest}
 
--- ys, written over all of zs
+-- ys, written over the start of zs
 pub refilled : (len : ℕ) (ys zs : List ℕ) → length ys ≡ len → take len (ys ++ drop (length ys) zs) ≡ ys
 refilled len ys zs h = rw (← h) (take-append_seam ys (drop (length ys) zs))
 
--- a part of the front
+-- a range of a prefix
 pub range-front : (xs ys : List ℕ) (s e : ℕ) → s ≤ e → take e xs ≡ take e ys → slice_range xs s e ≡ slice_range ys s e
 range-front xs ys s e h same =
     let whole : s + (e - s) ≡ e = omega arith in
     sym (drop-take s (e - s) xs) ∙ ap (λ n. drop s (take n xs)) whole ∙ ap (drop s) same ∙ ap (λ n. drop s (take n ys)) (sym whole) ∙ drop-take s (e - s) ys
 
--- a part and n more
+-- a range and n more elements
 pub range-more : (xs : List ℕ) (s e n : ℕ) → s ≤ e → slice_range xs s (e + n) ≡ slice_range xs s e ++ slice_range xs e (e + n)
 range-more xs s e n h =
     let longer : (e + n) - s ≡ (e - s) + n = omega arith in
@@ -38,7 +38,7 @@ one_byte [] h = absurd (omega (arith, h))
 one_byte (b ∷ []) h = (b, refl)
 one_byte (b ∷ c ∷ xs) h = absurd (omega (arith, h))
 
--- n bytes came in, and each of them waits
+-- all bytes that were read are in the buffer
 all_wait : (old got rest : List ℕ) (before after : Option (List ℕ)) → Consumes before after got → before ≡ Some rest
     → (later : List ℕ) × (after ≡ Some later) × (rest ≡ got ++ later)
 all_wait old got rest None after is e = absurd (no_bytes e)
@@ -48,7 +48,7 @@ all_wait old got rest None after is e = absurd (no_bytes e)
 all_wait old got rest (Some xs) None is e = absurd is
 all_wait old got rest (Some xs) (Some ys) is e = let same : rest ≡ xs = cc in (ys, refl, same ∙ is)
 
--- A read of `count` bytes behind those from s to e, of which `within` wait then.
+-- A read of `count` bytes after those from s to e; `within` of them are within the limit.
 module _ (len s e count within : ℕ) (old zs ys : List ℕ) (is : slice_range zs s e ≡ old) (order : s ≤ e) (room : e + count ≤ len)
     (sized : length ys ≡ len) (front : take e ys ≡ take e zs) (few : within ≤ count) where
   abbrev now : List ℕ
@@ -59,8 +59,8 @@ module _ (len s e count within : ℕ) (old zs ys : List ℕ) (is : slice_range z
       ap (λ l. slice_range l s (e + within)) (refilled len ys zs sized) ∙ range-more ys s e within order
       ∙ ap (λ l. l ++ slice_range ys e (e + within)) (range-front ys zs s e order front ∙ is)
 
-  pub read_behind : take (length old) now ≡ old
-  read_behind = ap (take (length old)) now-is ∙ take-append_seam old (slice_range ys e (e + within))
+  pub read_after : take (length old) now ≡ old
+  read_after = ap (take (length old)) now-is ∙ take-append_seam old (slice_range ys e (e + within))
 
   pub read_none : count ≡ 0 → now ≡ old
   read_none h = now-is ∙ ap (λ l. old ++ l) (range-none ys e within (omega arith)) ∙ append-nil old
@@ -99,7 +99,7 @@ module _ (len s e count within : ℕ) (old zs ys : List ℕ) (is : slice_range z
     pub read_rest : (later : List ℕ) × IsRest (nat_lt within count) after later × (old ++ rest ≡ now ++ later)
     read_rest = read_rest_by (leb_tells (suc within) count)
 
--- the first n bytes went
+-- a range without its first n elements
 pub range-drop : (xs : List ℕ) (s e n : ℕ) → n ≤ length (slice_range xs s e) → slice_range xs (s + n) e ≡ drop n (slice_range xs s e)
 range-drop xs s e n h =
     let within : n ≤ e - s = omega (arith, h, length-take (e - s) (drop s xs)) in

@@ -2,7 +2,7 @@ use Rattle.std.proofs.Common.{◌∙◌, sym}
 use Rattle.std.proofs.lemmas.List.{map-id}
 use Rattle.std.proofs.lemmas.Iterator.{YieldsList-from_chars}
 use Rattle.std.proofs.lemmas.Iterator.Consumers.{YieldsList-end}
-use Rattle.brl_stream.proofs.output.put_chars.Goals as goal
+use Rattle.brl_stream.proofs.output.set_chars.Goals as goal
 
 pub returns : goal.returns
 returns c =

@@ -1,26 +1,27 @@
-//! The bytes that were read and wait to be taken as lines.
+//! The bytes of an input that were read and not yet taken as lines.
 ghost use Rattle.std.specs.Prelude.{◌≡◌, ◌≢◌, ◌+◌, ◌<◌, ◌≤◌, false, [], length, take, drop, IfOk, OnErr, OnOk, if◌then◌else◌};
 ghost use Rattle.std.specs.List.{slice_range};
 ghost use Rattle.std.specs.Io.KnownBytes.{Consumes, Keeps, IsAtEnd};
-ghost use Rattle.brl_stream.specs.Window.{IsReadOn, IsWithin};
+ghost use Rattle.brl_stream.specs.InputBuffer.{IsReadOn, IsWithin};
 
 use crate::{Failed, Input};
 use std::alloc::{AllocError, Global};
 use std::marker::Model;
 
-/// The most bytes of an input that make lines. One more is read to tell a longer input.
+/// The most bytes of an input. One more is read to detect a longer input.
 const MOST_INPUT: usize = 16_777_216;
 
-/// The room that a read has at least, but near the limit.
+/// The least room for a read, except near the limit.
 const LEAST_ROOM: usize = 65_536;
 
-/// Room for a line that may still be short enough, and for a read behind it.
+/// Room for a line that may still be short enough, and for a read after it.
 const BUFFER: usize = 196_608;
 
-/// Bytes that were read and wait: they lie in the buffer from `start` to `end`. `taken` is how many bytes were read,
-/// up to the limit, and `longer` whether one behind the limit was read too. A contract sees a `WindowView`.
+/// Bytes that were read and not yet taken: those of `buffer` from `start` to `end`. `taken` is the
+/// number of bytes that were read, up to the limit, and `longer` whether one after the limit was
+/// read too. A contract sees a `BufferView`.
 #[derive(Drop)]
-pub struct Window {
+pub struct InputBuffer {
     buffer: Vec<u8>,
     start: usize,
     end: usize,
@@ -28,12 +29,12 @@ pub struct Window {
     longer: bool,
 }
 
-impl Model for Window {
+impl Model for InputBuffer {
     ghost use Rattle.std.specs.Prelude.{◌≡◌, ◌+◌, ◌-◌, ◌≤◌, true, vec_len};
     ghost use Rattle.std.specs.List.{slice_range};
-    ghost use Rattle.brl_stream.specs.Window.{WindowView};
+    ghost use Rattle.brl_stream.specs.InputBuffer.{BufferView};
 
-    ghost Value = { WindowView };
+    ghost Value = { BufferView };
 
     ghost view = { λ w. record {
       bytes = slice_range w.buffer.items w.start w.end;
@@ -46,14 +47,14 @@ impl Model for Window {
         × (w.end ≤ w.taken + w.start) × (w.taken ≤ 16777216) × (w.longer ≡ true → w.taken ≡ 16777216) };
 }
 
-impl Window {
-    /// Nothing was read yet.
-    pub fn new(alloc: Global) -> Result<Window, AllocError>
+impl InputBuffer {
+    /// An empty buffer: nothing was read yet.
+    pub fn new(alloc: Global) -> Result<InputBuffer, AllocError>
         ensures bytes { IfOk result (λ w. w.bytes ≡ []) }
         ensures taken { IfOk result (λ w. w.taken ≡ 0) }
         ensures longer { IfOk result (λ w. w.longer ≡ false) }
     {
-        Ok(Window {
+        Ok(InputBuffer {
             buffer: vec![in alloc; 0u8; BUFFER]?,
             start: 0,
             end: 0,
@@ -62,7 +63,7 @@ impl Window {
         })
     }
 
-    /// The bytes that wait.
+    /// The bytes in the buffer.
     pub fn bytes(&self) -> &[u8]
         ensures bytes { result.now ≡ self.now.bytes }
         ensures within { IsWithin self.now }
@@ -70,14 +71,14 @@ impl Window {
         &self.buffer[self.start..self.end]
     }
 
-    /// Whether a byte behind the limit was read.
+    /// Whether a byte after the limit was read.
     pub fn is_longer(&self) -> bool
         ensures { result ≡ self.now.longer }
     {
         self.longer
     }
 
-    /// Lets the first bytes go.
+    /// Removes the first `count` bytes.
     pub fn consume(&mut self, count: usize)
         requires { count ≤ length self.old.bytes }
         ensures { self.new ≡ record self.old { bytes = drop count self.old.bytes } }
@@ -85,13 +86,13 @@ impl Window {
         self.start += count;
     }
 
-    /// Reads once, and says how many bytes came: none only at the input's end. The byte behind the limit is the last
-    /// that is ever read.
+    /// Reads once, and returns the number of bytes: 0 only at the end of the input. The byte after
+    /// the limit is the last that is ever read.
     pub fn fill<R: Input>(&mut self, reader: &mut R) -> Result<usize, Failed>
         requires few { length self.old.bytes ≤ 65537 }
         requires within { self.old.longer ≡ false }
         ensures read { IfOk result (λ _. IsReadOn self.old self.new (R.remaining reader.old) (R.remaining reader.new)) }
-        ensures behind { IfOk result (λ _. take (length self.old.bytes) self.new.bytes ≡ self.old.bytes) }
+        ensures prefix { IfOk result (λ _. take (length self.old.bytes) self.new.bytes ≡ self.old.bytes) }
         ensures none { IfOk result (λ count. (count ≡ 0 → self.new.bytes ≡ self.old.bytes)) }
         ensures counts { IfOk result (λ count. self.new.taken + (if self.new.longer then 1 else 0) ≡ self.old.taken + count) }
         ensures within { IsWithin self.new }
@@ -105,7 +106,7 @@ impl Window {
     {
         self.make_room();
         let most = (BUFFER - self.end).min(MOST_INPUT + 1 - self.taken);
-        let count = read_behind(reader, self.buffer.as_mut_slice(), self.end, most)?;
+        let count = read_after(reader, self.buffer.as_mut_slice(), self.end, most)?;
         let within = count.min(MOST_INPUT - self.taken);
         self.end += within;
         self.taken += within;
@@ -113,7 +114,7 @@ impl Window {
         Ok(count)
     }
 
-    /// Moves the bytes to the front of the buffer, unless there is room enough behind them.
+    /// Moves the bytes to the start of the buffer, unless there is enough room after them.
     fn make_room(&mut self)
         requires { length self.old.bytes ≤ 65537 }
         ensures bytes { self.new.bytes ≡ self.old.bytes }
@@ -129,8 +130,8 @@ impl Window {
     }
 }
 
-/// Reads once, at most `most` bytes, which come behind the first `end` of the buffer.
-fn read_behind<R: Input>(
+/// Reads at most `most` bytes once, into the buffer after its first `end` bytes.
+fn read_after<R: Input>(
     reader: &mut R,
     buffer: &mut [u8],
     end: usize,

@@ -1,4 +1,4 @@
--- The first line of bytes that wait, found by its line feed.
+-- The first line of the bytes in a buffer, found by its line feed.
 use Rattle.std.proofs.Common.{◌≡◌, ℕ, suc, ◌+◌, ◌-◌, ◌<◌, ◌≤◌, Bool, true, false, nat_eq, cond, List, [], ◌∷◌, ◌++◌, length, take, drop, get_or, refl, ap, sym, ◌∙◌, arith, take-append-drop, append-nil, add-one, inl, inr, length-drop, Option, Result, Ok, Err}
 use Rattle.std.proofs.lemmas.List.{length-take-le, take-take, take_rest, get_or-take, get_or-drop}
 use Rattle.std.proofs.lemmas.Bool.Decides.{eqb_tells}
@@ -6,7 +6,7 @@ use Rattle.std.proofs.lemmas.Bool.{eqb-true}
 use Rattle.std.proofs.Math.Seq.{drop-cons, take-add, take-length}
 use Rattle.std.specs.List.{list_any}
 use Rattle.brl_stream.specs.InputLines.{is_feed, without_return}
-use Rattle.brl_stream.specs.Window.{HasNoFeed, HasLine, HasLongLine, IsOpen, IsTail, NextTells, TailTells}
+use Rattle.brl_stream.specs.InputBuffer.{HasNoFeed, HasLine, HasLongLine, IsOpen, IsTail, ReadsNext, ReadsTail}
 use Rattle.brl_stream.specs.declared.fault.LineFault.TheVariants as faults
 use Rattle.brl_stream.specs.declared.fault.LineFault.{LineFault}
 use Rattle.brl_stream.specs.declared.line.Next.{Next}
@@ -14,16 +14,16 @@ use Rattle.brl_stream.specs.declared.line.Next.TheVariants as nexts
 use Rattle.brl_stream.proofs.LineLemmas.{le-without_return}
 use Rattle.std.proofs.lemmas.List.Folds.{list_any-append}
 
--- no byte is a line feed, by place
+-- no byte at any place is a line feed
 pub plain-from_places : (bs : List ℕ) → ((k : ℕ) → k < length bs → nat_eq (get_or bs k 0) 10 ≡ true → ⊥) → HasNoFeed bs
 plain-from_places [] none = refl
 plain-from_places (b ∷ bs) none =
     let others = plain-from_places bs (λ k h e. none (suc k) (omega arith) e) in
     elim (eqb_tells b 10) [ inl x ↦ absurd (none 0 (omega arith) x.0) | inr x ↦ rw x.0 others ]
 
--- the bytes behind the first `scanned`
-abbrev behind : List ℕ → ℕ → List ℕ
-behind bs scanned = take (length bs - scanned) (drop scanned bs)
+-- the bytes after the first `scanned`
+abbrev unscanned : List ℕ → ℕ → List ℕ
+unscanned bs scanned = take (length bs - scanned) (drop scanned bs)
 
 module _ (bs : List ℕ) (scanned : ℕ) (plain : HasNoFeed (take scanned bs)) (within : scanned ≤ length bs) where
   -- no line feed comes among n more bytes
@@ -34,18 +34,18 @@ module _ (bs : List ℕ) (scanned : ℕ) (plain : HasNoFeed (take scanned bs)) (
       none k below (sym (ap (λ b. nat_eq b 10) (get_or-take n (drop scanned bs) k 0 below)) ∙ e)) in
       ap (list_any is_feed) (take-add scanned n bs) ∙ list_any-append is_feed (take scanned bs) (take n (drop scanned bs)) ∙ rw (plain, others) refl
 
-  pub feed_none : ((k : ℕ) → 0 ≤ k → k < length (behind bs scanned) → nat_eq (get_or (behind bs scanned) k 0) 10 ≡ true → ⊥) → HasNoFeed bs
+  pub feed_none : ((k : ℕ) → 0 ≤ k → k < length (unscanned bs scanned) → nat_eq (get_or (unscanned bs scanned) k 0) 10 ≡ true → ⊥) → HasNoFeed bs
   feed_none none =
-      let same : behind bs scanned ≡ drop scanned bs = take_rest bs scanned in
+      let same : unscanned bs scanned ≡ drop scanned bs = take_rest bs scanned in
       let none_there : (k : ℕ) → 0 ≤ k → k < length (drop scanned bs) → nat_eq (get_or (drop scanned bs) k 0) 10 ≡ true → ⊥ = rw same at none in
       let whole : scanned + length (drop scanned bs) ≡ length bs = omega (arith, length-drop scanned bs) in
       sym (ap (list_any is_feed) (ap (λ n. take n bs) whole ∙ take-length bs)) ∙ plain_more (length (drop scanned bs)) (omega arith) (λ k h. none_there k (omega arith) h)
 
-  pub feed_found : (ahead : ℕ) → ahead < length (behind bs scanned) → nat_eq (get_or (behind bs scanned) ahead 0) 10 ≡ true
-      → ((k : ℕ) → 0 ≤ k → k < ahead → nat_eq (get_or (behind bs scanned) k 0) 10 ≡ true → ⊥)
+  pub feed_found : (ahead : ℕ) → ahead < length (unscanned bs scanned) → nat_eq (get_or (unscanned bs scanned) ahead 0) 10 ≡ true
+      → ((k : ℕ) → 0 ≤ k → k < ahead → nat_eq (get_or (unscanned bs scanned) k 0) 10 ≡ true → ⊥)
       → (scanned + ahead < length bs) × (get_or bs (scanned + ahead) 0 ≡ 10) × HasNoFeed (take (scanned + ahead) bs)
   feed_found ahead low is none =
-      let same : behind bs scanned ≡ drop scanned bs = take_rest bs scanned in
+      let same : unscanned bs scanned ≡ drop scanned bs = take_rest bs scanned in
       let there : ahead < length (drop scanned bs) = rw same at low in
       let feed : nat_eq (get_or (drop scanned bs) ahead 0) 10 ≡ true = rw same at is in
       let none_there : (k : ℕ) → 0 ≤ k → k < ahead → nat_eq (get_or (drop scanned bs) k 0) 10 ≡ true → ⊥ = rw same at none in (
@@ -54,7 +54,7 @@ module _ (bs : List ℕ) (scanned : ℕ) (plain : HasNoFeed (take scanned bs)) (
         plain_more ahead (omega (arith, there)) (λ k h. none_there k (omega arith) h),
       )
 
--- ---- what stands in front
+-- ---- the line at the start
 
 parts : (bs : List ℕ) (i : ℕ) → i < length bs → get_or bs i 0 ≡ 10 → bs ≡ take i bs ++ 10 ∷ drop (i + 1) bs
 parts bs i h e = sym (take-append-drop i bs) ∙ ap (λ l. take i bs ++ l) (drop-cons bs i 0 h ∙ rw (e, add-one i) refl)
@@ -87,14 +87,14 @@ pub not_longer : (b : Bool) (m n : ℕ) → n + cond b 1 0 ≡ m → m ≡ n →
 not_longer true m n h e = absurd (omega (arith, h, e))
 not_longer false m n h e = refl
 
-pub tail-tells : (bytes : List ℕ) (len : ℕ) (longer : Bool) (after : Option (List ℕ)) (r : Result Next LineFault) → IsTail bytes longer after → len ≡ length bytes → TailTells len r → NextTells bytes longer after r
-tail-tells bytes len longer after (Ok (nexts.Line short whole)) tail is t = absurd t
-tail-tells bytes len longer after (Ok (nexts.Last n)) tail is t = (tail, t.0 ∙ is, omega (arith, t.0, t.1), omega (arith, t.0, t.2))
-tail-tells bytes len longer after (Ok nexts.End) tail is t = (tail, sym is ∙ t)
-tail-tells bytes len longer after (Err faults.InputLineTooLong) tail is t = inr (tail, omega (arith, is, t))
-tail-tells bytes len longer after (Err (faults.UnknownChar position)) tail is t = absurd t
-tail-tells bytes len longer after (Err faults.NoAscii) tail is t = absurd t
-tail-tells bytes len longer after (Err faults.InputNotUtf8) tail is t = absurd t
-tail-tells bytes len longer after (Err faults.InputFailed) tail is t = absurd t
-tail-tells bytes len longer after (Err faults.OutputFailed) tail is t = absurd t
-tail-tells bytes len longer after (Err faults.InputTooLong) tail is t = absurd t
+pub tail-next : (bytes : List ℕ) (len : ℕ) (longer : Bool) (after : Option (List ℕ)) (r : Result Next LineFault) → IsTail bytes longer after → len ≡ length bytes → ReadsTail len r → ReadsNext bytes longer after r
+tail-next bytes len longer after (Ok (nexts.Line short whole)) tail is t = absurd t
+tail-next bytes len longer after (Ok (nexts.Last n)) tail is t = (tail, t.0 ∙ is, omega (arith, t.0, t.1), omega (arith, t.0, t.2))
+tail-next bytes len longer after (Ok nexts.End) tail is t = (tail, sym is ∙ t)
+tail-next bytes len longer after (Err faults.InputLineTooLong) tail is t = inr (tail, omega (arith, is, t))
+tail-next bytes len longer after (Err (faults.UnknownChar position)) tail is t = absurd t
+tail-next bytes len longer after (Err faults.NoAscii) tail is t = absurd t
+tail-next bytes len longer after (Err faults.InputNotUtf8) tail is t = absurd t
+tail-next bytes len longer after (Err faults.InputFailed) tail is t = absurd t
+tail-next bytes len longer after (Err faults.OutputFailed) tail is t = absurd t
+tail-next bytes len longer after (Err faults.InputTooLong) tail is t = absurd t

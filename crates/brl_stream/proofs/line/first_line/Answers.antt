@@ -1,5 +1,5 @@
-use Rattle.brl_stream.proofs.FrontLemmas.{front_line, front_long, open_long, open_short}
-use Rattle.brl_stream.proofs.line.front_of.Goals as goal
+use Rattle.brl_stream.proofs.FirstLineLemmas.{front_line, front_long, open_long, open_short}
+use Rattle.brl_stream.proofs.line.first_line.Goals as goal
 
 pub returns-then-len-gt-MOST_LINE : goal.returns-then-len-gt-MOST_LINE
 returns-then-len-gt-MOST_LINE c =
