@@ -1,4 +1,4 @@
--- The parts of an operand round its first comma.
+-- The parts of an operand around its first comma.
 use Rattle.std.proofs.Common.{ℕ, suc, ◌+◌, ◌<◌, ◌≡◌, Bool, true, false, ◌||◌, cond, List, [], ◌∷◌, length, refl, arith, Option, Some, None, lit<}
 use Rattle.std.specs.Prelude.{not}
 use Rattle.std.specs.Borrow.{Bor}
@@ -7,7 +7,7 @@ use Rattle.std.specs.List.{list_any, position_or_len}
 use Rattle.std.proofs.lemmas.Str.Pattern.{IsSplitOnceResult, split_once_first}
 use Rattle.brl_reading.specs.Items.{is_comma, parts_of}
 
--- where the first place lies behind all, there is none
+-- a search that comes to the end of the list finds nothing
 none_there : (p : ℕ → Bool) (xs : List ℕ) → position_or_len p xs ≡ length xs → list_any p xs ≡ false
 none_there p [] h = refl
 none_there p (x ∷ xs) h = cases (p x) h (none_there p xs)

@@ -1,4 +1,5 @@
--- Where a source has one answer for each path, there is at most one table at a path, and no fault where there is one.
+-- With one answer for each path there is at most one table at a path, and no fault where there is
+-- one.
 use Rattle.std.proofs.Common.{◌≡◌, ℕ, inl, inr, List, Option, length, sym, ◌∙◌, ap, subst}
 use Rattle.std.proofs.lemmas.Option.{slice_get_within}
 use Rattle.brl_failure.specs.declared.failure.Failure.{Failure}
@@ -15,7 +16,7 @@ use Rattle.brl_reading.specs.declared.no_table.NoTable.TheVariants.{Load, Table}
 use Rattle.brl_reading.specs.declared.table_fault.TableFault.{TableFault}
 use Rattle.brl_table.specs.TableView.{TableView}
 
--- a look that passes all lines finds no fault
+-- a pass that all lines pass finds no fault
 none_found : (look : ℕ → LineView → Option WordFault) (lines : List LineView) (place : ℕ) (line : LineView) (wrong : WordFault) → PassesBefore look lines (length lines) → IsFirstFound look lines place line wrong → ⊥
 none_found look lines place line wrong passes found =
     let none = passes place line (slice_get_within lines place line found.there) found.there in

@@ -1,4 +1,4 @@
--- The table that the files of a source define, and why they define none. The project's own choice.
+-- The table that the files of a source define, or why they define none. The project's own choice.
 use Rattle.std.specs.Prelude.{ℕ, ◌≡◌, List, Result, Ok, Err}
 use Rattle.brl_failure.specs.declared.failure.Failure.{Failure}
 use Rattle.brl_failure.specs.declared.failure.Failure.TheVariants as failures
@@ -11,16 +11,16 @@ use Rattle.brl_reading.specs.declared.no_table.NoTable.{NoTable}
 use Rattle.brl_reading.specs.declared.no_table.NoTable.TheVariants.{Load, Table}
 use Rattle.brl_table.specs.TableView.{TableView}
 
--- the table whose root lies at a path: none of the lines of its files has a fault, and they define it
+-- the table with its root at this path: the lines of its files have no fault, and define it
 abbrev pub IsTableOf : MayGive → List ℕ → TableView → Type 0
 IsTableOf gives root t = (lines : List LineView) × AreLinesOf gives root lines × PassesAll lines × (t ≡ table_of lines)
 
--- why there is no table at a path: its files are refused, or else one of their lines
+-- why there is no table at this path: a file can't be loaded, or a line has a fault
 abbrev pub IsFaultAt : MayGive → List ℕ → NoTable → Type 0
 IsFaultAt gives root (Load fault) = IsLoadFault gives root (failures.Fault fault)
 IsFaultAt gives root (Table fault) = (lines : List LineView) × AreLinesOf gives root lines × IsFaultOf lines fault
 
--- how the loading of the files ended
+-- how loading the files ended
 abbrev pub load_outcome : {T : Type 0} → Result T (Failure NoTable) → Result (Unit {0}) (Failure LoadFault)
 load_outcome (Err (failures.Fault (Load fault))) = Err (failures.Fault fault)
 load_outcome (Err failures.Memory) = Err failures.Memory

@@ -2,5 +2,5 @@ pub mod Opcodes
 pub mod Items
 pub mod Reading
 pub mod Files
-pub mod Good
-pub mod Said
+pub mod ItemLimits
+pub mod Building

@@ -1,17 +1,18 @@
 -- The opcodes of the profile: a table of their words, what their lines do, and the classes or the
--- places that they give. The manual has them in sections "Character-Definition Opcodes", "Translation Opcodes", "Braille Indicator Opcodes" and "Miscellaneous Opcodes".
--- That `capsign` is another name of `capsletter` is this project's own choice.
+-- places that they give. The manual has them in sections "Character-Definition Opcodes",
+-- "Translation Opcodes", "Braille Indicator Opcodes" and "Miscellaneous Opcodes". That `capsign` is
+-- another name of `capsletter` is this project's own choice.
 use Rattle.std.specs.Prelude.{ℕ, List, [], ◌∷◌, codes, Option, Some, None, if◌then◌else◌}
 use Rattle.std.specs.Option.{option_or}
 use Rattle.std.specs.Str.{bytes_eq}
 use Rattle.brl_reading.specs.declared.opcode.Opcode.{Opcode}
-use Rattle.brl_reading.specs.declared.opcode.Opcode.TheVariants.{Plain, Literary, Uplow, Placed, Noback, Nofor, Display, Indicator, Listing, Include}
-use Rattle.brl_reading.specs.declared.item.Role.TheVariants.{Mode, Nocont}
+use Rattle.brl_reading.specs.declared.opcode.Opcode.TheVariants.{Plain, Literary, Uplow, Placed, Noback, Nofor, Display, Indicator, NumericList, Include}
+use Rattle.brl_reading.specs.declared.item.NumericRole.TheVariants.{KeepsMode, NeedsNoContractSign}
 use Rattle.brl_table.specs.declared.place.Place.TheVariants.{Always, Word, Sufword, Prfword, Begword, Begmidword, Midword, Midendword, Endword, Partword, Begnum, Midnum, Endnum}
 use Rattle.brl_table.specs.declared.signs.Sign.TheVariants.{CapsLetter, NumSign, NoContractSign}
 use Rattle.brl_table.specs.Places.{space, punctuation, digit, letter, lowercase_letter, uppercase_letter, sign, math}
 
--- those that define characters
+-- the opcodes whose lines define characters
 abbrev pub character_opcodes : List (List ℕ × Opcode)
 character_opcodes =
     (codes "space", Plain space)
@@ -26,7 +27,7 @@ character_opcodes =
     ∷ (codes "uplow", Uplow)
     ∷ []
 
--- those that give a rule for a place
+-- the opcodes whose lines give a rule for a place
 abbrev pub place_opcodes : List (List ℕ × Opcode)
 place_opcodes =
     (codes "always", Placed Always)
@@ -44,7 +45,7 @@ place_opcodes =
     ∷ (codes "endnum", Placed Endnum)
     ∷ []
 
--- the others
+-- the other opcodes
 abbrev pub other_opcodes : List (List ℕ × Opcode)
 other_opcodes =
     (codes "noback", Noback)
@@ -54,15 +55,16 @@ other_opcodes =
     ∷ (codes "capsign", Indicator CapsLetter)
     ∷ (codes "numsign", Indicator NumSign)
     ∷ (codes "nocontractsign", Indicator NoContractSign)
-    ∷ (codes "numericmodechars", Listing Mode)
-    ∷ (codes "numericnocontchars", Listing Nocont)
+    ∷ (codes "numericmodechars", NumericList KeepsMode)
+    ∷ (codes "numericnocontchars", NumericList NeedsNoContractSign)
     ∷ (codes "include", Include)
     ∷ []
 
--- the entry of a word in one of the tables
+-- the opcode of a word in one of these tables
 abbrev pub entry_of : List (List ℕ × Opcode) → List ℕ → Option Opcode
 entry_of [] word = None
 entry_of (entry ∷ others) word = if bytes_eq word entry.0 then Some entry.1 else entry_of others word
 
+-- the opcode of a word, if it is one of the profile
 abbrev pub opcode_of : List ℕ → Option Opcode
 opcode_of word = option_or (entry_of character_opcodes word) (option_or (entry_of place_opcodes word) (entry_of other_opcodes word))

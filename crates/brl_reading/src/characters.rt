@@ -1,31 +1,32 @@
-//! The characters of a table that is read, and rules over them.
+//! The characters of a table that is being read, and its rules over them.
 ghost use Rattle.std.specs.Prelude.{◌≡◌, ◌+◌, ◌≤◌, ◌∷◌, ◌++◌, [], IfOk, List, OnOk, None, Some, length, map, if◌then◌else◌};
 ghost use Rattle.std.specs.List.{flat_map, list_any};
 ghost use Rattle.indexmap.specs.IndexSet.{IsEmpty};
 ghost use Rattle.brl_reading.specs.declared.item.Definition.{Definition};
-ghost use Rattle.brl_reading.specs.Reading.{Listed, entries_said, is_again as is_again_by, own_cells as own_cells_of, rule_of};
-ghost use Rattle.brl_reading.specs.Said.{flagged, info_first, joined, listed_more, nowhere, over, Stands};
+ghost use Rattle.brl_reading.specs.Reading.{Listed, defined_entries, is_repeated as is_repeated_by, own_cells as own_cells_of, rule_of};
+ghost use Rattle.brl_reading.specs.Building.{with_role, info_first, merged, listed_more, none_listed, over, CharactersRepresent};
 ghost use Rattle.brl_table.specs.Text.{fold_of, is_literary, is_text};
 
-use crate::item::{Definition, ListLine, Role, RuleLine};
+use crate::item::{Definition, ListLine, NumericRole, RuleLine};
 use bitflags::Flags;
 use brl_cells::{Cells, Chars};
 use brl_table::{Info, Notice, Rule};
 use indexmap::{IndexMap, IndexSet};
 use std::alloc::{AllocError, Global};
 
-/// What the definitions of some lines say together.
+/// The characters that lines define.
 #[derive(Drop)]
 pub struct Characters {
     /// The characters in the order of their first definitions.
     pub infos: IndexMap<char, Info>,
-    /// Those that have a plain line.
+    /// The characters with a plain line.
     pub plain: IndexSet<char>,
-    /// The lines that define one again.
+    /// The lines that define a character again.
     pub notices: Vec<Notice>,
 }
 
 impl Characters {
+    /// No characters.
     pub fn new(alloc: Global) -> Characters
         ensures infos { result.infos.entries ≡ [] }
         ensures plain { IsEmpty result.plain }
@@ -38,14 +39,14 @@ impl Characters {
         }
     }
 
-    /// One more definition of a character: it joins those that the character has, or is the first.
+    /// Adds a definition: it is merged with those of its character, or is the first one.
     pub fn define(&mut self, definition: &Definition) -> Result<(), AllocError>
         requires { length self.old.infos.entries ≤ 1025 }
-        ensures { OnOk result ((said : List Definition) →
-            Stands said self.old → Stands (said ++ definition.now ∷ []) self.new) }
+        ensures { OnOk result ((defined : List Definition) →
+            CharactersRepresent defined self.old → CharactersRepresent (defined ++ definition.now ∷ []) self.new) }
     {
-        let again = self.is_again(definition);
-        put(&mut self.infos, definition)?;
+        let again = self.is_repeated(definition);
+        update_infos(&mut self.infos, definition)?;
         if !definition.literary {
             self.plain.insert(definition.character)?;
         }
@@ -59,9 +60,9 @@ impl Characters {
         Ok(())
     }
 
-    /// Whether the character of a definition has a line of the same kind.
-    fn is_again(&self, definition: &Definition) -> bool
-        ensures { (said : List Definition) → Stands said self.now → result ≡ is_again_by said definition.now }
+    /// Whether the character has a definition of the same kind, `litdigit` or plain.
+    fn is_repeated(&self, definition: &Definition) -> bool
+        ensures { (defined : List Definition) → CharactersRepresent defined self.now → result ≡ is_repeated_by defined definition.now }
     {
         if definition.literary {
             self.is_literary(definition.character)
@@ -80,22 +81,22 @@ impl Characters {
         }
     }
 
-    /// What a line says of each of its characters. One that isn't defined is left out.
-    pub fn mark(&mut self, line: &ListLine)
-        ensures marks { (said : List Definition) (listed : Listed) →
-            self.old.infos.entries ≡ entries_said said listed →
-            self.new.infos.entries ≡ entries_said said (listed_more line.now.role line.now.chars listed) }
+    /// Gives each character of a list line its role. Undefined characters are left out.
+    pub fn apply_list(&mut self, line: &ListLine)
+        ensures roles { (defined : List Definition) (listed : Listed) →
+            self.old.infos.entries ≡ defined_entries defined listed →
+            self.new.infos.entries ≡ defined_entries defined (listed_more line.now.role line.now.chars listed) }
         ensures plain { self.new.plain ≡ self.old.plain }
         ensures notices { self.new.notices ≡ self.old.notices }
     {
         for character in line.chars.as_slice() {
             if let Some(info) = self.infos.get_mut(character) {
-                flag(info, line.role);
+                set_role(info, line.role);
             }
         }
     }
 
-    /// Whether each of these is defined.
+    /// Whether all these characters are defined.
     pub fn defines_all(&self, chars: &[char]) -> bool
         ensures { result ≡ is_text (over self.now.infos.entries) chars.now }
     {
@@ -104,14 +105,14 @@ impl Characters {
             .all(|character| self.infos.contains_key(character))
     }
 
-    /// Whether one of these has a `litdigit` line.
+    /// Whether one of these characters has a `litdigit` line.
     pub fn has_literary(&self, chars: &[char]) -> bool
         ensures { result ≡ list_any (is_literary (over self.now.infos.entries)) chars.now }
     {
         chars.iter().any(|character| self.is_literary(*character))
     }
 
-    /// The rule of a line, its characters folded: None where one of them isn't defined.
+    /// The rule of a line, with its characters folded. `None` where one of them is undefined.
     pub fn rule(&self, alloc: Global, line: &RuleLine) -> Result<Option<Rule>, AllocError>
         ensures { let t = over self.now.infos.entries in
             IfOk result (λ found. found ≡ (if is_text t line.now.chars then Some (rule_of t line.now) else None)) }
@@ -132,7 +133,7 @@ impl Characters {
         }))
     }
 
-    /// The folds of characters: None where one of them isn't defined.
+    /// The folds of characters. `None` where one of them is undefined.
     fn folded(&self, alloc: Global, chars: &[char]) -> Result<Option<Chars>, AllocError>
         ensures { let t = over self.now.infos.entries in
             IfOk result (λ found. found ≡ (if is_text t chars.now then Some (map (fold_of t) chars.now) else None)) }
@@ -147,7 +148,7 @@ impl Characters {
         Ok(Some(Chars::from_vec(folded)))
     }
 
-    /// The cells of characters, one after the other.
+    /// The cells of these characters' definitions, joined.
     fn own_cells(&self, alloc: Global, chars: &[char]) -> Result<Cells, AllocError>
         ensures { let t = over self.now.infos.entries in
             IfOk result (λ cells. cells ≡ flat_map (own_cells_of t) chars.now) }
@@ -162,14 +163,14 @@ impl Characters {
     }
 }
 
-/// What is known of a character, with one more definition of it.
-fn put(infos: &mut IndexMap<char, Info>, definition: &Definition) -> Result<(), AllocError>
+/// Updates the infos with a definition of a character.
+fn update_infos(infos: &mut IndexMap<char, Info>, definition: &Definition) -> Result<(), AllocError>
     requires { length infos.old.entries ≤ 1025 }
-    ensures { OnOk result ((said : List Definition) →
-        infos.old.entries ≡ entries_said said nowhere → infos.new.entries ≡ entries_said (said ++ definition.now ∷ []) nowhere) }
+    ensures { OnOk result ((defined : List Definition) →
+        infos.old.entries ≡ defined_entries defined none_listed → infos.new.entries ≡ defined_entries (defined ++ definition.now ∷ []) none_listed) }
 {
     match infos.get_mut(&definition.character) {
-        Some(info) => join(info, definition)?,
+        Some(info) => merge(info, definition)?,
         None => {
             let number = infos.len() as u32;
             infos.insert(definition.character, first_info(number, definition)?)?;
@@ -178,7 +179,7 @@ fn put(infos: &mut IndexMap<char, Info>, definition: &Definition) -> Result<(), 
     Ok(())
 }
 
-/// What is known of a character by its first definition.
+/// The info of a character after its first definition.
 fn first_info(number: u32, definition: &Definition) -> Result<Info, AllocError>
     ensures { IfOk result (λ info. info ≡ info_first number definition.now) }
 {
@@ -195,9 +196,10 @@ fn first_info(number: u32, definition: &Definition) -> Result<Info, AllocError>
     })
 }
 
-/// One more definition of a character: a `litdigit` line gives it its cells, if it is the first of these.
-fn join(info: &mut Info, definition: &Definition) -> Result<(), AllocError>
-    ensures { OnOk result (info.new ≡ joined definition.now info.old) }
+/// Merges one more definition into a character's info. Its first `litdigit` line gives it its
+/// cells.
+fn merge(info: &mut Info, definition: &Definition) -> Result<(), AllocError>
+    ensures { OnOk result (info.new ≡ merged definition.now info.old) }
 {
     if definition.literary && !info.literary {
         info.cells = definition.cells.copy()?;
@@ -212,12 +214,12 @@ fn join(info: &mut Info, definition: &Definition) -> Result<(), AllocError>
     Ok(())
 }
 
-/// What a list line says of a character.
-fn flag(info: &mut Info, role: Role)
-    ensures { info.new ≡ flagged role info.old }
+/// Gives a character the role of a list line.
+fn set_role(info: &mut Info, role: NumericRole)
+    ensures { info.new ≡ with_role role info.old }
 {
     match role {
-        Role::Mode => info.mode = true,
-        Role::Nocont => info.nocont = true,
+        NumericRole::KeepsMode => info.mode = true,
+        NumericRole::NeedsNoContractSign => info.nocont = true,
     }
 }

@@ -1,4 +1,4 @@
-//! The table of some files.
+//! The table that files define.
 ghost use Rattle.std.specs.Prelude.{◌≡◌, ℕ, List, IfErr, IfOk};
 ghost use Rattle.brl_failure.specs.Failure.{IfFault};
 ghost use Rattle.brl_lines.specs.Answer.{AllStay, GivesOneAnswer};
@@ -13,9 +13,9 @@ use brl_lines::{Source, load, one_answer_law};
 use brl_table::Table;
 use std::alloc::Global;
 
-/// The table whose root lies at a path: its files are loaded, and their lines are read. `Load` where
-/// a file can't be loaded, `Table` where a line is faulty; a file is named as unreadable only where the
-/// source couldn't read it.
+/// The table with its root at a path: its files are loaded, and their lines are read. `Load` where
+/// a file can't be loaded, `Table` where a line is faulty. A file is reported as unreadable only
+/// where the source couldn't read it.
 pub fn load_table<S: Source>(
     alloc: Global,
     source: &mut S,
@@ -31,7 +31,7 @@ pub fn load_table<S: Source>(
     raise(read_table(alloc, lines.as_slice()), NoTable::Table)
 }
 
-/// A source with one answer for each path has at most one table at a path; and where it has one, no
+/// A source with one answer for each path has at most one table at a path. Where it has one, no
 /// fault keeps it from being loaded.
 pub fn one_table_law<S: Source>(source: &S)
     ensures table { GivesOneAnswer (S.gives source.now) → (root : List ℕ) (one other : TableView) →

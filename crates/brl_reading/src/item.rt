@@ -1,8 +1,8 @@
-//! What one line of a table says.
+//! The item of a line: what the line defines, read by itself.
 use brl_cells::{Cells, Chars};
 use brl_table::{Class, Place, Sign};
 
-/// What a line says.
+/// What a line defines.
 #[derive(Drop)]
 pub enum Item {
     /// It defines a character.
@@ -13,14 +13,14 @@ pub enum Item {
     Rules(RuleLine),
     /// It gives an indicator its cells.
     Indicates(Sign, Cells),
-    /// It says one thing of some characters.
+    /// It gives characters a role in numbers.
     Lists(ListLine),
     /// It is checked and not used.
     Nothing,
 }
 
-/// What a line says of a character: its classes, its cells and its fold. `file` is the number of the line's file,
-/// `line` its number there, from 1.
+/// A definition of a character: its classes, its cells and its fold. `file` is the number of the
+/// line's file, `line` the line's number there, from 1.
 #[derive(Drop)]
 pub struct Definition {
     pub character: char,
@@ -28,7 +28,7 @@ pub struct Definition {
     pub literary: bool,
     pub classes: Class,
     pub cells: Cells,
-    /// The lowercase character behind an uppercase one, else the character itself.
+    /// The lowercase character of an uppercase one, else the character itself.
     pub fold: char,
     pub file: usize,
     pub line: u32,
@@ -44,29 +44,30 @@ pub struct RuleLine {
     pub head: RuleHead,
 }
 
-/// How the line of a rule begins, and where it stands: `file` and `line` are as in a `Definition`.
+/// How the line of a rule begins, and where it is: `file` and `line` are as in a `Definition`.
 #[derive(Clone, Copy)]
 pub struct RuleHead {
-    /// Whether the rule is used: one behind `nofor` isn't.
+    /// Whether the rule is used. One that follows `nofor` is not.
     pub used: bool,
-    /// Whether `noback` or `nofor` stands before the place opcode.
+    /// Whether the place opcode follows `noback` or `nofor`.
     pub prefixed: bool,
     pub file: usize,
     pub line: u32,
 }
 
-/// The characters of a line, and what it says of each.
+/// The characters of a list line, and their role.
 #[derive(Drop)]
 pub struct ListLine {
-    pub role: Role,
+    pub role: NumericRole,
     pub chars: Chars,
 }
 
-/// What a line says of each of its characters.
+/// What a character is to numbers.
 #[derive(Clone, Copy, PartialEq, Eq)]
-pub enum Role {
-    /// It keeps numeric mode.
-    Mode,
-    /// It could be read as a digit in numeric mode.
-    Nocont,
+pub enum NumericRole {
+    /// `numericmodechars`: numeric mode goes on after it.
+    KeepsMode,
+    /// `numericnocontchars`: in numeric mode it could be read as a digit, so a sign comes before
+    /// it.
+    NeedsNoContractSign,
 }

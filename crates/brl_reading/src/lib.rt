@@ -1,6 +1,9 @@
-//! Reading tables: the lines of a table's files, what each of them says, and the table that they define.
+//! Reads tables: from the lines of a table's files to the table that they define. A line is read to
+//! an `Item` by itself; a `TableBuilder` adds up the items in a first pass, and resolves the
+//! characters of rules and lists in a second one.
 #![tactic(auto)]
 
+mod builder;
 mod characters;
 mod files;
 mod item;
@@ -8,10 +11,9 @@ mod line;
 mod no_table;
 mod opcode;
 mod operand;
-mod reading;
 mod table_fault;
 
+pub use builder::read_table;
 pub use files::{load_table, one_table_law};
 pub use no_table::NoTable;
-pub use reading::read_table;
 pub use table_fault::{TableFault, TableFaultKind};

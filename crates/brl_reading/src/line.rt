@@ -1,10 +1,10 @@
-//! One line of a table, read by itself.
+//! Reads one line of a table by itself.
 ghost use Rattle.std.specs.Prelude.{ℕ, ◌≡◌, ◌+◌, IfOk, map};
 ghost use Rattle.brl_failure.specs.Failure.{Gives};
 ghost use Rattle.brl_lines.specs.Views.{line_view, token_view};
-ghost use Rattle.brl_reading.specs.Good.{IsGoodItem};
+ghost use Rattle.brl_reading.specs.ItemLimits.{IsItemWithinLimits};
 ghost use Rattle.brl_reading.specs.Items.{
-  item_of as item_said,
+  item_of as item_defined,
   defined,
   defined_both,
   displayed,
@@ -15,7 +15,7 @@ ghost use Rattle.brl_reading.specs.Items.{
 };
 
 use crate::TableFaultKind;
-use crate::item::{Definition, Item, ListLine, Role, RuleHead, RuleLine};
+use crate::item::{Definition, Item, ListLine, NumericRole, RuleHead, RuleLine};
 use crate::opcode::{Opcode, opcode_named};
 use crate::operand::{
     both_cells, cells_of, one_character, one_operand, refuse, rule_cells, some_characters,
@@ -31,15 +31,15 @@ use std::alloc::Global;
 /// The most characters of a rule.
 const MOST_RULE_CHARACTERS: usize = 32;
 
-/// What a line of the file with this number says, or the first that is wrong with it: its opcode, its operands, its
-/// characters, its dots, and then whether its rule has too many characters.
+/// The item of a line of the file with this number, or the line's first fault: of its opcode, its
+/// operands, its characters, its dots, or the number of its rule's characters.
 pub(crate) fn item_of(
     alloc: Global,
     file: usize,
     line: &Line<'_>,
 ) -> Result<Item, Failure<WordFault>>
-    ensures item { Gives (item_said file (line_view line.now)) result }
-    ensures good { IfOk result (IsGoodItem (file + 1)) }
+    ensures item { Gives (item_defined file (line_view line.now)) result }
+    ensures limits { IfOk result (IsItemWithinLimits (file + 1)) }
 {
     let opcode = line.opcode.text;
     let operands = line.operands.as_slice();
@@ -49,13 +49,13 @@ pub(crate) fn item_of(
         file,
         line: line.line,
     };
-    let behind_prefix = RuleHead {
+    let after_prefix = RuleHead {
         prefixed: true,
         ..head
     };
     let unused = RuleHead {
         used: false,
-        ..behind_prefix
+        ..after_prefix
     };
     match opcode_named(opcode) {
         Some(Opcode::Plain(classes)) => {
@@ -66,11 +66,11 @@ pub(crate) fn item_of(
         }
         Some(Opcode::Uplow) => define_both(alloc, file, line.line, opcode, operands),
         Some(Opcode::Placed(place)) => rule(alloc, place, head, opcode, operands),
-        Some(Opcode::Noback) => prefixed(alloc, behind_prefix, opcode, operands),
+        Some(Opcode::Noback) => prefixed(alloc, after_prefix, opcode, operands),
         Some(Opcode::Nofor) => prefixed(alloc, unused, opcode, operands),
         Some(Opcode::Display) => display(alloc, opcode, operands),
         Some(Opcode::Indicator(sign)) => indicate(alloc, sign, opcode, operands),
-        Some(Opcode::Listing(role)) => list(alloc, role, opcode, operands),
+        Some(Opcode::NumericList(role)) => list(alloc, role, opcode, operands),
         Some(Opcode::Include) if operands.is_empty() => {
             refuse(alloc, TableFaultKind::MissingOperand, opcode)
         }
@@ -78,7 +78,7 @@ pub(crate) fn item_of(
     }
 }
 
-/// A line that defines a character with these classes: a `litdigit` line, or a plain one.
+/// A line that defines a character with these classes, `litdigit` or plain.
 fn define(
     alloc: Global,
     classes: Class,
@@ -89,7 +89,7 @@ fn define(
     operands: &[Token<'_>],
 ) -> Result<Item, Failure<WordFault>>
     ensures item { Gives (defined classes literary file line opcode.now (map token_view operands.now)) result }
-    ensures good { IfOk result (IsGoodItem (file + 1)) }
+    ensures limits { IfOk result (IsItemWithinLimits (file + 1)) }
 {
     let (first, second) = two_operands(alloc, opcode, operands)?;
     let character = one_character(alloc, first)?;
@@ -105,7 +105,8 @@ fn define(
     }))
 }
 
-/// An `uplow` line: it defines an uppercase character and its lowercase one, the fold of both.
+/// An `uplow` line: it defines an uppercase character and its lowercase one, which is the fold of
+/// both.
 fn define_both(
     alloc: Global,
     file: usize,
@@ -114,7 +115,7 @@ fn define_both(
     operands: &[Token<'_>],
 ) -> Result<Item, Failure<WordFault>>
     ensures item { Gives (defined_both file line opcode.now (map token_view operands.now)) result }
-    ensures good { IfOk result (IsGoodItem (file + 1)) }
+    ensures limits { IfOk result (IsItemWithinLimits (file + 1)) }
 {
     let (first, second) = two_operands(alloc, opcode, operands)?;
     let (upper, lower) = two_characters(alloc, first)?;
@@ -148,29 +149,29 @@ fn indicate(
     operands: &[Token<'_>],
 ) -> Result<Item, Failure<WordFault>>
     ensures item { Gives (indicated sign opcode.now (map token_view operands.now)) result }
-    ensures good { (files : ℕ) → IfOk result (IsGoodItem files) }
+    ensures limits { (files : ℕ) → IfOk result (IsItemWithinLimits files) }
 {
     let dots = one_operand(alloc, opcode, operands)?;
     let cells = cells_of(alloc, dots)?;
     Ok(Item::Indicates(sign, cells))
 }
 
-/// A line that says this of each of its characters.
+/// A line that gives its characters a role in numbers.
 fn list(
     alloc: Global,
-    role: Role,
+    role: NumericRole,
     opcode: &str,
     operands: &[Token<'_>],
 ) -> Result<Item, Failure<WordFault>>
     ensures item { Gives (listed role opcode.now (map token_view operands.now)) result }
-    ensures good { (files : ℕ) → IfOk result (IsGoodItem files) }
+    ensures limits { (files : ℕ) → IfOk result (IsItemWithinLimits files) }
 {
     let characters = one_operand(alloc, opcode, operands)?;
     let chars = some_characters(alloc, characters)?;
     Ok(Item::Lists(ListLine { role, chars }))
 }
 
-/// A line that is checked as if it defined a character, and not used.
+/// A `display` line: it is checked as if it defined a character, and then not used.
 fn display(alloc: Global, opcode: &str, operands: &[Token<'_>]) -> Result<Item, Failure<WordFault>>
     ensures item { Gives (displayed opcode.now (map token_view operands.now)) result }
     ensures nothing { IfOk result (λ item. item ≡ Item.Nothing) }
@@ -181,7 +182,7 @@ fn display(alloc: Global, opcode: &str, operands: &[Token<'_>]) -> Result<Item, 
     Ok(Item::Nothing)
 }
 
-/// A line whose opcode is `noback` or `nofor`: its operands begin with a place opcode.
+/// A line that begins with `noback` or `nofor`, which a place opcode follows.
 fn prefixed(
     alloc: Global,
     head: RuleHead,
@@ -189,7 +190,7 @@ fn prefixed(
     operands: &[Token<'_>],
 ) -> Result<Item, Failure<WordFault>>
     ensures item { Gives (ruled_after head prefix.now (map token_view operands.now)) result }
-    ensures good { IfOk result (IsGoodItem (head.file + 1)) }
+    ensures limits { IfOk result (IsItemWithinLimits (head.file + 1)) }
 {
     let Some((next, operands)) = operands.split_first() else {
         return refuse(alloc, TableFaultKind::MissingOperand, prefix);
@@ -200,7 +201,7 @@ fn prefixed(
     rule(alloc, place, head, next.text, operands)
 }
 
-/// The rule of a place opcode with these operands.
+/// The rule of a place opcode and its operands.
 fn rule(
     alloc: Global,
     place: Place,
@@ -209,7 +210,7 @@ fn rule(
     operands: &[Token<'_>],
 ) -> Result<Item, Failure<WordFault>>
     ensures item { Gives (ruled place head opcode.now (map token_view operands.now)) result }
-    ensures good { IfOk result (IsGoodItem (head.file + 1)) }
+    ensures limits { IfOk result (IsItemWithinLimits (head.file + 1)) }
 {
     let (first, second) = two_operands(alloc, opcode, operands)?;
     let chars = some_characters(alloc, first)?;

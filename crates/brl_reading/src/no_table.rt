@@ -3,7 +3,7 @@ use crate::TableFault;
 use brl_lines::LoadFault;
 use thiserror::Error;
 
-/// The fault for which there is no table at a path.
+/// The fault because of which there is no table at a path.
 #[derive(Debug, Drop, Error)]
 pub enum NoTable {
     /// A file can't be loaded.

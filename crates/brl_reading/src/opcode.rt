@@ -1,9 +1,9 @@
-//! The opcodes of the profile. The table of them is in the definitions, in three parts; this is
-//! proved to be that table.
+//! The opcodes of the profile. specs/Opcodes.antt has the table of them, in three parts; this code
+//! is proved to follow it.
 ghost use Rattle.std.specs.Prelude.{◌≡◌};
 ghost use Rattle.brl_reading.specs.Opcodes.{character_opcodes, entry_of, opcode_of, other_opcodes, place_opcodes};
 
-use crate::item::Role;
+use crate::item::NumericRole;
 use brl_table::{Class, Place, Sign};
 
 /// What a line with an opcode does.
@@ -13,22 +13,22 @@ pub enum Opcode {
     Plain(Class),
     /// Defines a digit that begins numbers: one character, then dots.
     Literary,
-    /// Defines an uppercase character and its lowercase one: these two, then dots for both, or for each with a comma
-    /// between.
+    /// Defines an uppercase character and its lowercase one: the two characters, then dots for
+    /// both, or dots for each with a comma between them.
     Uplow,
     /// Gives a rule for this place: characters, then dots or `=`.
     Placed(Place),
-    /// Stands before a place opcode: its rule is used, since this project translates forward alone.
+    /// Comes before a place opcode, whose rule is used, since this project only translates forward.
     Noback,
-    /// Stands before a place opcode: its rule is checked and not used.
+    /// Comes before a place opcode, whose rule is checked and not used.
     Nofor,
     /// Is checked and not used: one character, then dots.
     Display,
     /// Gives an indicator its cells: dots.
     Indicator(Sign),
-    /// Says this of each of some characters.
-    Listing(Role),
-    /// Puts the lines of a file in its place: a line that is left has no operand.
+    /// Gives characters this role.
+    NumericList(NumericRole),
+    /// Is replaced by the lines of a file, so that a line that is left has no operand.
     Include,
 }
 
@@ -93,8 +93,8 @@ fn other_opcode(word: &str) -> Option<Opcode>
         "capsletter" | "capsign" => Some(Opcode::Indicator(Sign::CapsLetter)),
         "numsign" => Some(Opcode::Indicator(Sign::NumSign)),
         "nocontractsign" => Some(Opcode::Indicator(Sign::NoContractSign)),
-        "numericmodechars" => Some(Opcode::Listing(Role::Mode)),
-        "numericnocontchars" => Some(Opcode::Listing(Role::Nocont)),
+        "numericmodechars" => Some(Opcode::NumericList(NumericRole::KeepsMode)),
+        "numericnocontchars" => Some(Opcode::NumericList(NumericRole::NeedsNoContractSign)),
         "include" => Some(Opcode::Include),
         _ => None,
     }

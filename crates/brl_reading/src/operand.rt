@@ -1,4 +1,4 @@
-//! The operands of a line.
+//! Reads the operands of a line.
 ghost use Rattle.std.specs.Prelude.{◌≡◌, ◌≤◌, Err, IfOk, IfSome, length, map};
 ghost use Rattle.brl_cells.specs.Dots.{reading};
 ghost use Rattle.brl_failure.specs.Failure.{Gives, GivesAs};
@@ -14,7 +14,7 @@ ghost use Rattle.brl_reading.specs.Items.{
   named,
   one_operand as first_operand,
   two_operands as first_operands,
-  parts_of as parts_said,
+  parts_of as parts_around,
   rule_cells_of,
 };
 ghost use Rattle.brl_reading.specs.declared.table_fault.TableFaultKind.TheVariants.{BadDots as TheBadDots};
@@ -26,7 +26,7 @@ use brl_failure::Failure;
 use brl_lines::{Token, chars_of};
 use std::alloc::Global;
 
-/// The fault of this kind about a word.
+/// A fault of this kind about a word.
 pub(crate) fn refuse<T>(
     alloc: Global,
     kind: TableFaultKind,
@@ -118,7 +118,7 @@ pub(crate) fn cells_of(alloc: Global, word: &str) -> Result<Cells, Failure<WordF
     cells_in(alloc, word, word)
 }
 
-/// The cells that a part of an operand spells, at most 16. A fault names the whole operand.
+/// The cells that a part of an operand spells, at most 16. Its fault names the whole operand.
 fn cells_in(alloc: Global, part: &str, word: &str) -> Result<Cells, Failure<WordFault>>
     ensures cells { Gives (named TheBadDots word.now (reading 16 part.now)) result }
     ensures some { IfOk result (λ cells. 1 ≤ length cells) }
@@ -131,7 +131,7 @@ fn cells_in(alloc: Global, part: &str, word: &str) -> Result<Cells, Failure<Word
     }
 }
 
-/// The cells of two characters: one dots operand for both, or one for each with a comma between.
+/// The cells of two characters: the same dots for both, or two with a comma between them.
 pub(crate) fn both_cells(alloc: Global, word: &str) -> Result<(Cells, Cells), Failure<WordFault>>
     ensures cells { Gives (cells_of_both word.now) result }
     ensures some { IfOk result (λ cells. (1 ≤ length cells.0) × (1 ≤ length cells.1)) }
@@ -143,10 +143,10 @@ pub(crate) fn both_cells(alloc: Global, word: &str) -> Result<(Cells, Cells), Fa
     Ok((upper, lower))
 }
 
-/// The two parts of an operand round its first comma: where it has none, the operand itself is both.
+/// The two parts of an operand around its first comma. Without a comma both are the whole operand.
 fn parts_of(word: &str) -> (&str, &str)
-    ensures upper { result.0.now ≡ (parts_said word.now).0 }
-    ensures lower { result.1.now ≡ (parts_said word.now).1 }
+    ensures upper { result.0.now ≡ (parts_around word.now).0 }
+    ensures lower { result.1.now ≡ (parts_around word.now).1 }
 {
     match word.split_once(',') {
         Some(parts) => parts,
@@ -154,7 +154,7 @@ fn parts_of(word: &str) -> (&str, &str)
     }
 }
 
-/// The cells of a rule: None for `=`.
+/// The cells of a rule. `None` for `=`.
 pub(crate) fn rule_cells(alloc: Global, word: &str) -> Result<Option<Cells>, Failure<WordFault>>
     ensures cells { Gives (rule_cells_of word.now) result }
     ensures some { IfOk result (λ given. IfSome given (λ cells. 1 ≤ length cells)) }

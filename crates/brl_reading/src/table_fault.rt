@@ -1,33 +1,34 @@
-//! Why lines define no table.
+//! The faults of lines that define no table.
 use std::marker::Model;
 use thiserror::Error;
 
 /// The kinds of faults of a line.
 #[derive(Clone, Copy, PartialEq, Eq, Debug, Error)]
 pub enum TableFaultKind {
-    /// Its opcode isn't one of the profile.
+    /// Its opcode isn't in the profile.
     #[error("B1 OutsideProfile")]
     OutsideProfile,
     /// It has fewer operands than its opcode needs.
     #[error("B2 MissingOperand")]
     MissingOperand,
-    /// A character operand has a bad escape, or doesn't spell the characters that the opcode asks for.
+    /// A character operand has a bad escape, or doesn't spell the characters that the opcode asks
+    /// for.
     #[error("B3 BadCharacters")]
     BadCharacters,
     /// A dots operand spells no cells, or too many.
     #[error("B4 BadDots")]
     BadDots,
-    /// A character of its rule isn't one of the table's.
+    /// The table doesn't define a character of its rule.
     #[error("B5 UndefinedInRule")]
     UndefinedInRule,
-    /// A character of its list isn't one of the table's.
+    /// The table doesn't define a character of its list.
     #[error("B6 UndefinedInList")]
     UndefinedInList,
-    /// A character of its list could be read as a digit and is one: it has a `litdigit` line.
+    /// A character that it lists as one that could be read as a digit is a digit: it has a
+    /// `litdigit` line.
     #[error("B7 TwoRoles")]
     TwoRoles,
-    /// Its rule has more characters than a rule may, or with it the table has more characters or used
-    /// rules than it may.
+    /// Its rule has too many characters, or it gives the table too many characters or used rules.
     #[error("B8 TooMany")]
     TooMany,
     /// It defines an indicator again.
@@ -35,7 +36,8 @@ pub enum TableFaultKind {
     IndicatorTwice,
 }
 
-/// The first fault of a table's lines: its kind, the word of the line that it is about, and the line.
+/// The first fault of a table's lines: its kind, the word of the line that it is about, and the
+/// line.
 #[derive(Debug, Drop, Error)]
 #[error("{kind} {subject} at {file}:{line}")]
 pub struct TableFault {

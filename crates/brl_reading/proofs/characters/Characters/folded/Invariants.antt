@@ -1,6 +1,6 @@
 use Rattle.std.proofs.Common.{◌≡◌, map, take}
 use Rattle.std.specs.Prelude.{IsTrue}
-use Rattle.brl_reading.specs.Said.{over}
+use Rattle.brl_reading.specs.Building.{over}
 use Rattle.brl_table.specs.Text.{fold_of, is_text}
 use Rattle.brl_reading.proofs.characters.Characters.folded.Given as goal
 
