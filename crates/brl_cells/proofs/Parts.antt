@@ -112,8 +112,3 @@ limited_is most (Ok found) cells e =
       | inl lt ↦ absurd (let over : leb (length found) most ≡ false = grind (arith, nat_tests) in let wrong : Err TooManyCells ≡ Ok cells = rw over at e in cc)
       | inr le ↦ (let within : leb (length found) most ≡ true = grind (arith, nat_tests) in let same : Ok found ≡ Ok cells = rw within at e in let one : found ≡ cells = cc in (same, subst (λ (cs : List ℕ). length cs ≤ most) one le))
     ]
-
-pub reading_some : (most : ℕ) (bytes cells : List ℕ) → reading most bytes ≡ Ok cells → (1 ≤ length cells) × (length cells ≤ most)
-reading_some most bytes cells e =
-    let found = limited_is most (cells_reading (parts bytes)) cells e in
-    (parts_some bytes cells found.0, found.1)

@@ -63,10 +63,6 @@ more-again NeedsNoContractSign cs c listed = ap (λ xs. let l : Listed = record 
 abbrev pub AppliesRole : NumericRole → List (ℕ × Info) → List (ℕ × Info) → List ℕ → Type 0
 AppliesRole role old new cs = (defined : List Definition) (listed : Listed) → old ≡ defined_entries defined listed → new ≡ defined_entries defined (listed_more role cs listed)
 
-pub roles-nothing : (role : NumericRole) (old : List (ℕ × Info)) → AppliesRole role old old []
-roles-nothing KeepsMode old defined listed h = h ∙ ap (λ xs. defined_entries defined (record listed { mode = xs })) (sym (append-nil listed.mode))
-roles-nothing NeedsNoContractSign old defined listed h = h ∙ ap (λ xs. defined_entries defined (record listed { nocont = xs })) (sym (append-nil listed.nocont))
-
 module _ (role : NumericRole) (old before after : List (ℕ × Info)) (cs : List ℕ) (c : ℕ) (roles : AppliesRole role old before cs) where
   pub roles-known : (info new : Info) → lookup (nat_eq c) before ≡ Some info → new ≡ with_role role info → after ≡ set_value (nat_eq c) before new → AppliesRole role old after (cs ++ c ∷ [])
   roles-known info new found set_role set defined listed h =
@@ -119,9 +115,6 @@ not_listed role (Rules r) h = refl
 not_listed role (Indicates sign cells) h = refl
 not_listed role (Lists l) h = absurd (h l refl)
 not_listed role Nothing h = refl
-
-pub roles-no_items : (old : List (ℕ × Info)) → AppliesLists old old []
-roles-no_items old defined listed h = h ∙ rw (append-nil listed.mode, append-nil listed.nocont) refl
 
 module _ (old before after : List (ℕ × Info)) (items : List Item) (item : Item) (roles : AppliesLists old before items) where
   -- one more list line

@@ -1,7 +1,7 @@
 -- Known bytes of readers and writers.
-use Rattle.std.proofs.Common.{◌≡◌, ℕ, List, [], ◌++◌, Option, None, Some, refl, sym, ap, ◌∙◌, append_assoc, append-nil, take, drop, length, ◌-◌, take-append-drop}
+use Rattle.std.proofs.Common.{◌≡◌, ℕ, List, [], ◌++◌, Option, None, Some, sym, ap, ◌∙◌, append_assoc, append-nil, take, drop, length, ◌-◌, take-append-drop}
 use Rattle.std.proofs.lemmas.List.{take_rest}
-use Rattle.std.specs.Io.KnownBytes.{Appends, Consumes}
+use Rattle.std.specs.Io.KnownBytes.{Appends}
 
 pub Appends-nil : (a : Option (List ℕ)) → Appends a a []
 Appends-nil None = tt
@@ -12,16 +12,6 @@ Appends-trans None b c bs cs p q = tt
 Appends-trans (Some x) None c bs cs p q = absurd p
 Appends-trans (Some x) (Some y) None bs cs p q = absurd q
 Appends-trans (Some x) (Some y) (Some z) bs cs p q = q ∙ ap (λ l. l ++ cs) p ∙ append_assoc x bs cs
-
-pub Consumes-nil : (a : Option (List ℕ)) → Consumes a a []
-Consumes-nil None = tt
-Consumes-nil (Some x) = refl
-
-pub Consumes-trans : (a b c : Option (List ℕ)) (bs cs : List ℕ) → Consumes a b bs → Consumes b c cs → Consumes a c (bs ++ cs)
-Consumes-trans None b c bs cs p q = tt
-Consumes-trans (Some x) None c bs cs p q = absurd p
-Consumes-trans (Some x) (Some y) None bs cs p q = absurd q
-Consumes-trans (Some x) (Some y) (Some z) bs cs p q = p ∙ ap (λ l. bs ++ l) q ∙ sym (append_assoc bs cs z)
 
 -- one more write of n bytes
 pub put_more : (a b c : Option (List ℕ)) (bytes front rest : List ℕ) (n : ℕ) → bytes ≡ front ++ rest → Appends a b front → Appends b c (take n rest)

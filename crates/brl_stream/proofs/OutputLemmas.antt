@@ -1,5 +1,5 @@
 -- The output of a line, or its fault.
-use Rattle.std.proofs.Common.{◌≡◌, ℕ, ◌+◌, ◌<◌, ◌≤◌, Bool, true, false, not, ◌&&◌, cond, nat_lt, List, [], ◌∷◌, ◌++◌, length, drop, get_or, refl, ap, sym, subst, ◌∙◌, Option, None, Some, Result, Ok, Err, append_assoc, drop_of_length-le, add-one}
+use Rattle.std.proofs.Common.{◌≡◌, ℕ, ◌+◌, ◌<◌, ◌≤◌, Bool, true, false, not, ◌&&◌, cond, nat_lt, List, [], ◌∷◌, ◌++◌, length, drop, get_or, refl, ap, sym, subst, ◌∙◌, Option, None, Some, Result, Ok, Err, append_assoc, add-one}
 use Rattle.std.proofs.Math.Seq.{drop-cons}
 use Rattle.std.proofs.lemmas.Str.{is_utf8-from_IsUtf8, IsUtf8-from_is_utf8}
 use Rattle.std.proofs.lemmas.Iterator.Adapters.{position_from-zero}
@@ -49,23 +49,6 @@ pub marks_of-more : (form : Form) (cells : List ℕ) (i cell : ℕ) (now later :
 marks_of-more form cells i cell now later h e m =
     ap (λ cs. option_map (λ more. now ++ more) (marks_of form cs)) (drop-at cells i cell h e)
     ∙ more_marks now later (mark_of form cell) (marks_of form (drop (i + 1) cells)) m
-
--- a cell has no mark
-pub marks_of-none : (form : Form) (cells all : List ℕ) (i cell : ℕ) (now old : List ℕ) → i < length cells → cell ≡ get_or cells i cell → mark_of form cell ≡ None
-    → option_map (λ more. now ++ more) (marks_of form (drop i cells)) ≡ option_map (λ more. old ++ more) (marks_of form all) → marks_of form all ≡ None
-marks_of-none form cells all i cell now old h e none inv =
-    let first : marks_of form (drop i cells) ≡ option_append (mark_of form cell) (marks_of form (drop (i + 1) cells)) =
-    ap (marks_of form) (drop-at cells i cell h e) in
-    let gone : marks_of form (drop i cells) ≡ None = first ∙ rw none refl in
-    by_all (marks_of form all) (ap (option_map (λ more. now ++ more)) (sym gone) ∙ inv)
-  where
-    by_all : (marks : Option (List ℕ)) → None ≡ option_map (λ more. old ++ more) marks → marks ≡ None
-    by_all None x = refl
-    by_all (Some marks) x = cc
-
-pub marks_of-end : (form : Form) (cells : List ℕ) (i : ℕ) (now : List ℕ) (total : Option (List ℕ)) → length cells ≤ i
-    → option_map (λ more. now ++ more) (marks_of form (drop i cells)) ≡ total → total ≡ Some (now ++ [])
-marks_of-end form cells i now total h inv = let none : drop i cells ≡ [] = drop_of_length-le cells h in sym inv ∙ rw none refl
 
 -- ---- the output of a line
 

@@ -1,5 +1,5 @@
 -- What follows from the info of the first character of a rest.
-use Rattle.std.proofs.Common.{ℕ, ◌+◌, ◌<◌, ◌≤◌, ◌≡◌, false, true, List, [], ◌∷◌, length, get_or, arith, refl, sym, ◌∙◌, ap, subst, Option, Some, None, IfSome, IsSome}
+use Rattle.std.proofs.Common.{ℕ, ◌+◌, ◌<◌, ◌≤◌, ◌≡◌, false, true, List, [], ◌∷◌, length, get_or, arith, refl, ◌∙◌, ap, subst, Option, Some, None, IsSome}
 use Rattle.std.specs.Prelude.{All, slice_get}
 use Rattle.std.specs.Option.{option_map_or}
 use Rattle.std.proofs.lemmas.List.Elements.{All-get_or, All-head}
@@ -30,10 +30,6 @@ module _ (t : TableView) (info : Info) where
   pub some-characters : (rest : List ℕ) → first_info t rest ≡ Some info → 0 < length rest
   some-characters [] known = cc
   some-characters (c ∷ rest) known = omega arith
-
-  pub first-fold : (rest : List ℕ) → first_info t rest ≡ Some info → IfSome (slice_get rest 0) (λ first. info.fold ≡ fold_of t first)
-  first-fold [] known = tt
-  first-fold (c ∷ rest) known = sym (ap (λ found. option_map_or (λ (info : Info). info.fold) found c) known)
 
   pub own-known : (rest : List ℕ) → first_info t rest ≡ Some info → own t rest ≡ record { number = length t.rules + info.number; taken = 1; cells = info.cells }
   own-known [] known = cc

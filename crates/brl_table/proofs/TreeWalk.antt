@@ -72,17 +72,6 @@ numbers-none test n (r ∷ rules) h (suc k) s is = numbers-none test (n + 1) rul
 
 -- ---- rank: rules of one weight come before all that are lighter
 
-upto : (Rule → Bool) → ℕ → Rule → Bool
-upto f k r = f r && nat_le (weight r) k
-
-exactly : (Rule → Bool) → ℕ → Rule → Bool
-exactly f k r = f r && nat_eq (weight r) k
-
--- no more than k, of k + 1, and no more than k + 1, for a rule that is as heavy, lighter and
--- heavier
-light-le : (w k : ℕ) → w ≤ k → nat_le w (suc k) ≡ true
-light-le w k h = grind (arith, nat_tests)
-
 le-true : (w k : ℕ) → w ≤ k → nat_le w k ≡ true
 le-true w k h = grind (arith, nat_tests)
 
