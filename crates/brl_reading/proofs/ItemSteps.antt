@@ -1,17 +1,14 @@
 -- One more item of the first pass: what represents the items, and whether they are too many.
-use Rattle.std.proofs.Common.{ℕ, ◌+◌, ◌<◌, ◌≤◌, ◌≡◌, Bool, true, false, ◌||◌, ◌==◌, not, cond, ◌⊎◌, inl, inr, List, [], ◌∷◌, ◌++◌, length, nat_lt, refl, arith, sym, ◌∙◌, ap, subst, Some, None, Result, Ok, Err, append-nil, append_assoc, length-append}
+use Rattle.std.proofs.Common.{ℕ, ◌<◌, ◌≤◌, ◌≡◌, Bool, true, false, ◌||◌, ◌==◌, not, cond, ◌⊎◌, inl, inr, List, [], ◌∷◌, ◌++◌, length, nat_lt, refl, arith, sym, ◌∙◌, ap, subst, Some, None, Result, Ok, Err, append-nil}
 use Rattle.std.proofs.lemmas.Bool.Decides.{nat_tests}
 use Rattle.std.proofs.lemmas.Grind.{flat_map-append}
 use Rattle.brl_lines.specs.Tokens.{LineView}
 use Rattle.brl_reading.specs.declared.characters.Characters.{Characters}
-use Rattle.brl_reading.specs.declared.item.Definition.{Definition}
 use Rattle.brl_reading.specs.declared.item.Item.{Item}
 use Rattle.brl_reading.specs.declared.item.Item.TheVariants.{Defines, DefinesBoth, Rules, Indicates, Lists, Nothing}
-use Rattle.brl_reading.specs.declared.item.ListLine.{ListLine}
-use Rattle.brl_reading.specs.declared.item.RuleLine.{RuleLine}
 use Rattle.brl_table.specs.declared.signs.Sign.{Sign}
 use Rattle.brl_table.specs.Signs.{by_sign, cells_at, is_same_sign, with_cells}
-use Rattle.brl_reading.specs.declared.table_fault.TableFaultKind.TheVariants.{IndicatorTwice, TooMany}
+use Rattle.brl_reading.specs.declared.table_fault.TableFaultKind.TheVariants.{TooMany}
 use Rattle.brl_reading.specs.ItemLimits.{IsItemWithinLimits}
 use Rattle.brl_failure.specs.Failure.{Gives}
 use Rattle.brl_failure.specs.declared.failure.Failure.{Failure}
@@ -39,51 +36,7 @@ module _ (items : List Item) where
   pub used-more : (item : Item) → used_rules (items ++ item ∷ []) ≡ used_rules items ++ used_in item
   used-more item = flat_map-append used_in items (item ∷ []) ∙ ap (λ rs. used_rules items ++ rs) (append-nil (used_in item))
 
-  module _ (characters after : Characters) (signs later : List (List ℕ)) (used : ℕ) (represents : Represents items characters signs used) where
-    -- an item that gives these definitions and used rules, and no indicator
-    represents-item : (item : Item) (more : ℕ) → CharactersRepresent (definitions items ++ definition_in item) after → ((sign : Sign) → indicated_in sign item ≡ [])
-        → more ≡ used + length (used_in item) → Represents (items ++ item ∷ []) after signs more
-    represents-item item more defined none count = record {
-      defined = subst (λ ds. CharactersRepresent ds after) (sym (definitions-more item)) defined;
-      indicated = represents.indicated ∙ (λ i. by_sign (λ sign. same sign i));
-      counted = count ∙ ap (λ n. n + length (used_in item)) represents.counted ∙ sym (length-append (used_rules items) (used_in item)) ∙ ap length (sym (used-more item));
-    }
-      where
-        same : (sign : Sign) → indicator_cells items sign ≡ indicator_cells (items ++ item ∷ []) sign
-        same sign = sym (append-nil (indicator_cells items sign)) ∙ ap (λ cells. indicator_cells items sign ++ cells) (sym (none sign)) ∙ sym (sign-more item sign)
-
-    pub represents-defines : (d : Definition) → CharactersRepresent (definitions items ++ d ∷ []) after → Represents (items ++ Defines d ∷ []) after signs used
-    represents-defines d more = represents-item (Defines d) used more (λ sign. refl) (omega arith)
-
-    pub represents-defines-both : (upper lower : Definition) → CharactersRepresent ((definitions items ++ upper ∷ []) ++ lower ∷ []) after → Represents (items ++ DefinesBoth upper lower ∷ []) after signs used
-    represents-defines-both upper lower more =
-        represents-item (DefinesBoth upper lower) used (subst (λ ds. CharactersRepresent ds after) (append_assoc (definitions items) (upper ∷ []) (lower ∷ [])) more) (λ sign. refl) (omega arith)
-
   module _ (characters : Characters) (signs : List (List ℕ)) (used : ℕ) (represents : Represents items characters signs used) where
-    -- an item without definitions
-    represents-other : (item : Item) (more : ℕ) → definition_in item ≡ [] → ((sign : Sign) → indicated_in sign item ≡ []) → more ≡ used + length (used_in item)
-        → Represents (items ++ item ∷ []) characters signs more
-    represents-other item more none unsigned count =
-        let same : definitions items ≡ definitions items ++ definition_in item = sym (ap (λ ds. definitions items ++ ds) none ∙ append-nil (definitions items)) in
-        represents-item characters characters signs signs used represents item more (subst (λ ds. CharactersRepresent ds characters) same represents.defined) unsigned count
-
-    pub represents-used : (r : RuleLine) → r.head.used ≡ true → (more : ℕ) → more ≡ used + 1 → Represents (items ++ Rules r ∷ []) characters signs more
-    represents-used r h more e =
-        let one : 1 ≡ length (used_in (Rules r)) = rw h refl in
-        represents-other (Rules r) more refl (λ sign. refl) (e ∙ ap (λ n. used + n) one)
-
-    pub represents-unused : (r : RuleLine) → r.head.used ≡ false → Represents (items ++ Rules r ∷ []) characters signs used
-    represents-unused r h =
-        let none : 0 ≡ length (used_in (Rules r)) = rw h refl in
-        let same : used ≡ used + 0 = omega arith in
-        represents-other (Rules r) used refl (λ sign. refl) (same ∙ ap (λ n. used + n) none)
-
-    pub represents-lists : (l : ListLine) → Represents (items ++ Lists l ∷ []) characters signs used
-    represents-lists l = represents-other (Lists l) used refl (λ sign. refl) (omega arith)
-
-    pub represents-nothing : Represents (items ++ Nothing ∷ []) characters signs used
-    represents-nothing = represents-other Nothing used refl (λ sign. refl) (omega arith)
-
     -- an indicator that has no cells yet
     pub represents-indicates : GivesOwn → AreSame → (sign : Sign) (cells : List ℕ) (later : List (List ℕ)) → indicator_cells items sign ≡ [] → later ≡ with_cells signs sign cells
         → Represents (items ++ Indicates sign cells ∷ []) characters later used
@@ -149,9 +102,6 @@ or-second true b h = refl
 or-second false b h = h
 
 module _ (items : List Item) (line : LineView) (item : Item) where
-  pub fault-twice : repeats_indicator items item ≡ true → fault_after items line (Ok item) ≡ Some (fault IndicatorTwice (opcode_in line item))
-  fault-twice h = rw h refl
-
   module _ (once : repeats_indicator items item ≡ false) (characters : Characters) (signs : List (List ℕ)) (used : ℕ) (represents : Represents (items ++ item ∷ []) characters signs used) where
     count : length characters.infos.entries ≡ length (defined_characters (definitions (items ++ item ∷ [])))
     count = ap length represents.defined.entries_are ∙ count-entries (definitions (items ++ item ∷ [])) none_listed
