@@ -1,7 +1,7 @@
--- A body of which nothing is lost is closed, and one that is refused isn't.
+-- A body from which nothing is missing is closed, and one that is refused isn't.
 use Rattle.std.proofs.Common.{◌≡◌, ℕ, ◌<◌, inl, inr, length, min, max, Bool, true, Option, Some, None, slice_get, refl}
 use Rattle.std.proofs.lemmas.Option.{slice_get_within}
-use Rattle.brl_accept.specs.Refusals.{HasStart, HasTwoEnds, IsRefused, KeepsMoves, KeepsSplits, KeepsSteps, LosesMove, LosesSplit, LosesStep}
+use Rattle.brl_accept.specs.Refusals.{HasStart, HasTwoEnds, IsRefused, MissesNoPair, MissesNoSplit, MissesNoState, MissesPair, MissesSplit, MissesState}
 use Rattle.brl_edges.specs.Sets.{pair_at, pair_of, sets_of}
 use Rattle.brl_accept.specs.declared.accept_fault.AcceptFault.{AcceptFault}
 use Rattle.brl_accept.specs.declared.accept_fault.AcceptFault.TheVariants.{NoStart, StateMissing, SplitMissing, PairMissing, BothEnd}
@@ -16,8 +16,8 @@ use Rattle.brl_pairs.specs.Runs.{Behaviour}
 use Rattle.brl_pairs.specs.declared.step.Pair.{Pair}
 
 module _ {S : Type 0} (m : Behaviour S) (body : BodyView S) where
-  pub closed_where_kept : {eq : S → S → Bool} → ((x y : S) → eq x y ≡ true → x ≡ y) → ((x : S) → eq x x ≡ true) → HasStart m body → KeepsSteps m body → KeepsSplits m body → KeepsMoves m body → ((k : ℕ) → HasTwoEnds m body k → ⊥) → IsClosed m (sets_of body)
-  closed_where_kept same itself start steps splits moves ends = record {
+  pub closed_where_none_missing : {eq : S → S → Bool} → ((x y : S) → eq x y ≡ true → x ≡ y) → ((x : S) → eq x x ≡ true) → HasStart m body → MissesNoState m body → MissesNoSplit m body → MissesNoPair m body → ((k : ℕ) → HasTwoEnds m body k → ⊥) → IsClosed m (sets_of body)
+  closed_where_none_missing same itself start steps splits moves ends = record {
     start = start;
     steps = λ s x has listed. elim (has_state_or same itself body x.next) [
       | inl there ↦ there
@@ -31,23 +31,23 @@ module _ {S : Type 0} (m : Behaviour S) (body : BodyView S) where
       | inl there ↦ there
       | inr missing ↦ absurd (moves has.0 moved.step.rule (record { pair = p; is_pair = has.1; next = q; moves = moved; has_rule = refl; missing = missing }))
     ];
-    ends = λ p has level ahead behind. ends has.0 (record { pair = p; is_pair = has.1; level = level; ahead = ahead; behind = behind });
+    ends = λ p has no_lead ahead behind. ends has.0 (record { pair = p; is_pair = has.1; no_lead = no_lead; ahead = ahead; behind = behind });
   }
 
   pub open_where_refused : (fault : AcceptFault) → IsRefused m body fault → IsClosed m (sets_of body) → ⊥
   open_where_refused NoStart h closed = h closed.start
   open_where_refused (StateMissing k rule) h closed =
-      let lost = h.2.has in
-      lost.missing (closed.steps lost.state lost.step (k, lost.is_state) lost.listed)
+      let gap = h.2.has in
+      gap.missing (closed.steps gap.state gap.step (k, gap.is_state) gap.listed)
   open_where_refused (SplitMissing k lesser greater) h closed =
-      let lost = h.4.has in
-      lost.missing (closed.splits lost.state lost.pair (k, lost.is_state) lost.split)
+      let gap = h.4.has in
+      gap.missing (closed.splits gap.state gap.pair (k, gap.is_state) gap.split)
   open_where_refused (PairMissing k rule) h closed =
-      let lost = h.4.has in
-      lost.missing (closed.moves lost.pair lost.next (k, lost.is_pair) lost.moves)
+      let gap = h.4.has in
+      gap.missing (closed.moves gap.pair gap.next (k, gap.is_pair) gap.moves)
   open_where_refused (BothEnd k) h closed =
       let both = h.4.has in
-      closed.ends both.pair (k, both.is_pair) both.level both.ahead both.behind
+      closed.ends both.pair (k, both.is_pair) both.no_lead both.ahead both.behind
 
   pub open_where_failed : (failure : Failure AcceptFault) → IfFault (IsRefused m body) failure → IfFault (λ fault. IsClosed m (sets_of body) → ⊥) failure
   open_where_failed failure h = if_fault-weaker (IsRefused m body) (λ fault. IsClosed m (sets_of body) → ⊥) failure open_where_refused h
@@ -59,14 +59,14 @@ module _ {S : Type 0} (m : Behaviour S) (body : BodyView S) where
       by_look None is e = absurd cc
       by_look (Some pair) is e = slice_get_within body.pairs k pair is
 
-  -- what is lost has a number below the count
-  pub step_within : (k : ℕ) → (rule : ℕ) × LosesStep m body k rule → k < length body.states
+  -- what is missing is named by a number below the count
+  pub step_within : (k : ℕ) → (rule : ℕ) × MissesState m body k rule → k < length body.states
   step_within k h = slice_get_within body.states k h.1.state h.1.is_state
 
-  pub split_within : (k : ℕ) → (lesser greater : ℕ) × LosesSplit m body k lesser greater → k < length body.states
+  pub split_within : (k : ℕ) → (lesser greater : ℕ) × MissesSplit m body k lesser greater → k < length body.states
   split_within k h = slice_get_within body.states k h.2.state h.2.is_state
 
-  pub move_within : (k : ℕ) → (rule : ℕ) × LosesMove m body k rule → k < length body.pairs
+  pub move_within : (k : ℕ) → (rule : ℕ) × MissesPair m body k rule → k < length body.pairs
   move_within k h = pair_within k h.1.pair h.1.is_pair
 
   pub ends_within : (k : ℕ) → HasTwoEnds m body k → k < length body.pairs

@@ -5,10 +5,10 @@ use Rattle.std.specs.Str.{bytes_eq}
 use Rattle.brl_edges.specs.Sets.{pair_of, sets_of}
 use Rattle.std.specs.Option.{option_and_then}
 use Rattle.brl_edges.specs.Body.{BodyView}
-use Rattle.brl_pairs.specs.Pairs.{HasPair, turned}
+use Rattle.brl_pairs.specs.Pairs.{HasPair, swapped}
 use Rattle.brl_pairs.specs.declared.step.Pair.{Pair}
 
--- by a test that tells whether it holds
+-- by a test that decides it
 by_test : {P : Type 0} (test : Bool) → (test ≡ true → P) → (P → test ≡ true) → P ⊎ (P → ⊥)
 by_test true to from = inl (to refl)
 by_test false to from = inr (λ p. true≢false (sym (from p)))
@@ -79,8 +79,8 @@ module _ {S : Type 0} {eq : S → S → Bool} (same : (x y : S) → eq x y ≡ t
         | inl there ↦ inl (inl there)
         | inr missing ↦ elim (by_test (bytes_eq p.lead []) (bytes_eq-Decides p.lead []).0 (bytes_eq-Decides p.lead []).1) [
           | inr some ↦ inr (λ h. elim h [ inl there ↦ missing there | inr other ↦ some other.0 ])
-          | inl level ↦ elim (listed_or body (turned p)) [
-            | inl there ↦ inl (inr (level, there))
+          | inl no_lead ↦ elim (listed_or body (swapped p)) [
+            | inl there ↦ inl (inr (no_lead, there))
             | inr none ↦ inr (λ h. elim h [ inl there ↦ missing there | inr other ↦ none other.1 ])
           ]
         ]

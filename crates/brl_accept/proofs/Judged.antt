@@ -1,8 +1,8 @@
--- What a judge's outcome says of the table and the certificate.
+-- What follows from a judge's outcome for the table and the certificate.
 use Rattle.std.proofs.Common.{◌≡◌, ℕ, ◌⊎◌, inl, inr, List, Result, Ok, Err, IfErr, IfOk, OnOk, refl, sym, ◌∙◌, ap, subst}
 use Rattle.brl_accept.specs.Judging.{IsAccepted, IsAcceptedWith, IsNotAccepted, IsNotClosed, IsRefusedBy, IsRefusedFor, IsRefusedWith, counted}
 use Rattle.brl_accept.specs.declared.accept_fault.AcceptFault.{AcceptFault}
-use Rattle.brl_accept.specs.declared.accepted.Accepted.{Accepted}
+use Rattle.brl_accept.specs.declared.checker.Accepted.{Accepted}
 use Rattle.brl_accept.specs.declared.judge_fault.JudgeFault.{JudgeFault}
 use Rattle.brl_accept.specs.declared.judge_fault.JudgeFault.TheVariants.{NoTable, Cert, Wide, Refused}
 use Rattle.brl_accept.proofs.Closing.{open_where_refused}
@@ -95,8 +95,8 @@ module _ (gives : MayGive) (root bytes : List ℕ) where
     never_refused (Wide fault) h = later_stage (Wide fault) h
     never_refused (Refused fault) h = later_stage (Refused fault) h
 
-    accepted_alike : (other : Accepted) → (u : TableView) × IsTableOf gives root u × IsUnambiguous u × IsAccepted u bytes other → other ≡ accepted
-    accepted_alike other h =
+    same_acceptance : (other : Accepted) → (u : TableView) × IsTableOf gives root u × IsUnambiguous u × IsAccepted u bytes other → other ≡ accepted
+    same_acceptance other h =
         let here = subst (λ (u : TableView). IsAccepted u bytes other) (sym (one_table h.0 h.1)) h.3 in
         let cert : here.0 ≡ deserved.0 = one_cert bytes here.0 deserved.0 here.1 deserved.1 in
         here.2.2 ∙ ap counted cert ∙ sym deserved.2.2
@@ -104,6 +104,6 @@ module _ (gives : MayGive) (root bytes : List ℕ) where
     -- what the judge answers: acceptance, unless memory ran out
     pub decided : (result : Result Accepted (Failure JudgeFault)) → IfOk result (λ other. (u : TableView) × IsTableOf gives root u × IsUnambiguous u × IsAccepted u bytes other)
         → IfErr result (IfFault (IsRefusedBy gives root bytes)) → (result ≡ Ok accepted) ⊎ (result ≡ Err Memory)
-    decided (Ok other) h k = inl (ap Ok (accepted_alike other h))
+    decided (Ok other) h k = inl (ap Ok (same_acceptance other h))
     decided (Err (Fault fault)) h k = absurd (never_refused fault k)
     decided (Err Memory) h k = inr refl

@@ -27,9 +27,9 @@ module _ {S : Type 0} where
   }
 
   -- a step of the loop over the steps of a state
-  pub edge_turn : (m : Behaviour S) (states : List S) (number : ℕ) (s : S) → slice_get states number ≡ Some s → (n k : ℕ) (edges now : List Edge) (x : Step S) (e : Edge) → AreFirstEdges states (m.steps s) n edges
+  pub edge_step : (m : Behaviour S) (states : List S) (number : ℕ) (s : S) → slice_get states number ≡ Some s → (n k : ℕ) (edges now : List Edge) (x : Step S) (e : Edge) → AreFirstEdges states (m.steps s) n edges
       → IsListedAt (m.steps s) n x → k ≡ n + 1 → IsEdge states x e → now ≡ edges ++ e ∷ [] → (r : S) → slice_get states number ≡ Some r → AreFirstEdges states (m.steps r) k now
-  edge_turn m states number s at n k edges now x e h here more is now_is r r_at =
+  edge_step m states number s at n k edges now x e h here more is now_is r r_at =
       subst (λ (z : S). AreFirstEdges states (m.steps z) k now) (same_place states number s r at r_at)
       (subst (AreFirstEdges states (m.steps s) k) (sym now_is)
       (subst (λ (j : ℕ). AreFirstEdges states (m.steps s) j (edges ++ e ∷ [])) (sym more) (first_edges_push states (m.steps s) n edges x e h here is)))

@@ -1,11 +1,10 @@
 pub mod Lists
-pub mod Losing
 pub mod LeastLaws
-pub mod OfRule
-pub mod Splitting
+pub mod LeastRule
+pub mod LeastSplit
 pub mod Numbers
 pub mod Kept
-pub mod At
+pub mod MissingAt
 pub mod Deciding
 pub mod Closing
 pub mod Judged

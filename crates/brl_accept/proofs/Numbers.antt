@@ -1,4 +1,4 @@
--- What the numbers of a certificate stand for: its pairs, and the steps of its states.
+-- The pairs and the steps that a body's numbers name.
 use Rattle.std.proofs.Common.{◌≡◌, ℕ, ◌<◌, List, inl, inr, length, Option, Some, None, slice_get, refl, sym, ◌∙◌, ap, subst, arith}
 use Rattle.std.proofs.lemmas.Option.{slice_get_within}
 use Rattle.brl_members.specs.Members.{HaveOneNumber}
@@ -8,7 +8,7 @@ use Rattle.brl_edges.specs.Sets.{pair_at, pair_of, sets_of}
 use Rattle.brl_edges.specs.Edges.{AreEdges, IsEdge}
 use Rattle.brl_edges.specs.Pairs.{IsThere}
 use Rattle.brl_edges.specs.declared.edge.Edge.{Edge}
-use Rattle.brl_pairs.specs.Pairs.{HasPair, turned}
+use Rattle.brl_pairs.specs.Pairs.{HasPair, swapped}
 use Rattle.brl_pairs.specs.Runs.{Behaviour, IsListedAt}
 use Rattle.brl_pairs.specs.declared.step.Pair.{Pair}
 use Rattle.brl_pairs.specs.declared.step.Step.{Step}
@@ -80,7 +80,7 @@ module _ {S : Type 0} where
     -- a pair of numbers that is there names a pair that is there
     pub has_pair : (a b : ℕ) (lead : List ℕ) (p : Pair S) → slice_get body.states a ≡ Some p.ahead → slice_get body.states b ≡ Some p.behind → lead ≡ p.lead → IsThere body.pairs a b lead → HasPair (sets_of body) p
     has_pair a b lead p a_at b_at same (inl h) = inl (h.0, at_named h.0 _ p h.1 (record { ahead = a_at; behind = b_at; lead = same }))
-    has_pair a b lead p a_at b_at same (inr h) = inr (sym same ∙ h.0, (h.1.0, at_named h.1.0 _ (turned p) h.1.1 (record { ahead = b_at; behind = a_at; lead = same })))
+    has_pair a b lead p a_at b_at same (inr h) = inr (sym same ∙ h.0, (h.1.0, at_named h.1.0 _ (swapped p) h.1.1 (record { ahead = b_at; behind = a_at; lead = same })))
 
     -- and where each state has one number, the numbers of a pair that is there are there
     pub is_there : HaveOneNumber body.states → (a b : ℕ) (lead : List ℕ) (p : Pair S) → slice_get body.states a ≡ Some p.ahead → slice_get body.states b ≡ Some p.behind → lead ≡ p.lead → HasPair (sets_of body) p → IsThere body.pairs a b lead
@@ -88,7 +88,7 @@ module _ {S : Type 0} where
         let n = named_at h.0 p h.1 in
         inl (h.0, n.at ∙ ap (λ (z : NumberPair). Some z) (parts n.numbers a b lead (one n.numbers.ahead a p.ahead n.names.ahead a_at) (one n.numbers.behind b p.behind n.names.behind b_at) (n.names.lead ∙ sym same)))
     is_there one a b lead p a_at b_at same (inr h) =
-        let n = named_at h.1.0 (turned p) h.1.1 in
+        let n = named_at h.1.0 (swapped p) h.1.1 in
         inr (same ∙ h.0, (h.1.0, n.at ∙ ap (λ (z : NumberPair). Some z) (parts n.numbers b a lead (one n.numbers.ahead b p.behind n.names.ahead b_at) (one n.numbers.behind a p.ahead n.names.behind a_at) (n.names.lead ∙ sym same))))
 
   -- ---- Steps

@@ -1,9 +1,10 @@
--- What makes a judge accept a certificate for the table of some files, and why it refuses. The project's own choice.
+-- When a certificate is accepted for the table that files define, and why it is refused. The
+-- project's own choice.
 use Rattle.std.specs.Prelude.{ℕ, ◌≡◌, List, Result, Ok, Err}
 use Rattle.brl_accept.specs.Refusals.{IsRefused}
 use Rattle.brl_kinds.specs.Kinds.{HasMachine, IsClosedFor, OfMachine, pair_count, state_count}
 use Rattle.brl_accept.specs.declared.accept_fault.AcceptFault.{AcceptFault}
-use Rattle.brl_accept.specs.declared.accepted.Accepted.{Accepted}
+use Rattle.brl_accept.specs.declared.checker.Accepted.{Accepted}
 use Rattle.brl_accept.specs.declared.judge_fault.JudgeFault.{JudgeFault}
 use Rattle.brl_accept.specs.declared.judge_fault.JudgeFault.TheVariants.{NoTable, Cert, Wide, Refused}
 use Rattle.brl_edges.specs.Body.{BodyView}
@@ -17,29 +18,31 @@ use Rattle.brl_pairs.specs.Runs.{Behaviour}
 use Rattle.brl_reading.specs.Files.{IsFaultAt, IsTableOf, load_outcome as outcome_at}
 use Rattle.brl_table.specs.TableView.{TableView}
 
--- ---- Of a table and a certificate that was read
+-- ---- A table and a certificate that was read
 
--- what the acceptance of a certificate says of it: how many states and pairs it lists
+-- the numbers of states and pairs that a certificate lists
 abbrev pub counted : Certificate → Accepted
 counted cert = record { states = state_count cert; pairs = pair_count cert }
 
--- the table has the machine of the certificate's version, and the states and pairs are closed for it
+-- the table has the machine of the certificate's version, the states and pairs are closed for it,
+-- and these are their numbers
 abbrev pub IsAcceptedWith : TableView → Certificate → Accepted → Type 0
 IsAcceptedWith t cert accepted = HasMachine t cert × IsClosedFor t cert × (accepted ≡ counted cert)
 
--- the checker refuses a machine's states and pairs for this
+-- the checker refuses a machine's states and pairs with this fault
 abbrev pub IsNotClosed : AcceptFault → (S : Type 0) → Behaviour S → BodyView S → Type 0
 IsNotClosed fault S m body = IsRefused m body fault
 
--- the table is too wide for the machine of the certificate's version, or else the states and pairs aren't closed
+-- the table is too wide for the machine of the certificate's version, or else the states and pairs
+-- aren't closed
 abbrev pub IsRefusedWith : TableView → Certificate → JudgeFault → Type 0
 IsRefusedWith t cert (Wide fault) = HasMachine t cert → ⊥
 IsRefusedWith t cert (Refused fault) = HasMachine t cert × OfMachine (IsNotClosed fault) t cert
 IsRefusedWith t cert fault = ⊥
 
--- ---- Of a table and bytes
+-- ---- A table and bytes
 
--- the bytes spell a certificate that is accepted
+-- the bytes spell a certificate that is accepted, with these numbers of states and pairs
 abbrev pub IsAccepted : TableView → List ℕ → Accepted → Type 0
 IsAccepted t bytes accepted =
     (cert : Certificate) × (reading bytes ≡ Ok cert) × IsAcceptedWith t cert accepted
@@ -49,13 +52,14 @@ abbrev pub IsRefusedFor : TableView → List ℕ → JudgeFault → Type 0
 IsRefusedFor t bytes (Cert fault) = reading bytes ≡ Err fault
 IsRefusedFor t bytes fault = (cert : Certificate) × (reading bytes ≡ Ok cert) × IsRefusedWith t cert fault
 
--- ---- Of the files of a source, a path and bytes
+-- ---- The files of a source, a path and bytes
 
--- the bytes are of no certificate that is accepted for the table
+-- the bytes spell no certificate that is accepted for the table
 abbrev pub IsNotAccepted : TableView → List ℕ → Type 0
 IsNotAccepted t bytes = (accepted : Accepted) → IsAccepted t bytes accepted → ⊥
 
--- the first stage that refuses: there is no table at the path, or the table is one for which the bytes are refused
+-- the fault of the first stage that refuses: there is no table at the path, or the bytes are
+-- refused for the table that is there
 abbrev pub IsRefusedBy : MayGive → List ℕ → List ℕ → JudgeFault → Type 0
 IsRefusedBy gives root bytes (NoTable fault) = IsFaultAt gives root fault
 IsRefusedBy gives root bytes fault = (t : TableView) × IsTableOf gives root t × IsRefusedFor t bytes fault × IsNotAccepted t bytes

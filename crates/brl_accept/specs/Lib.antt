@@ -1,4 +1,4 @@
-pub mod Least
-pub mod Refusals
-pub mod Steps
 pub mod Judging
+pub mod Refusals
+pub mod Least
+pub mod Steps

@@ -1,4 +1,4 @@
--- What a pass over the edges of one state finds. The project's own choice.
+-- Internal. What a pass over the edges of one state finds.
 use Rattle.std.specs.Prelude.{ℕ, ◌≡◌, ◌<◌, List, length, Some, slice_get}
 use Rattle.std.specs.Global.{Vec}
 use Rattle.brl_edges.specs.Edges.{AreKeptEdges}

@@ -1,33 +1,33 @@
-//! Why a certificate that was read is not accepted.
+//! Why the states and pairs of a certificate are not accepted.
 use thiserror::Error;
 
-/// What is missing for the states and pairs to be closed. States and pairs have their numbers in the
-/// certificate, from 0; rules have those of the machine's steps.
+/// What keeps the states and pairs from being closed. States and pairs have their numbers in the
+/// certificate, from 0; rules have the numbers that the machine's steps give.
 #[derive(Clone, Copy, PartialEq, Eq, Debug, Error)]
 pub enum AcceptFault {
-    /// The start is none of the states.
+    /// The machine's start is not among the states.
     #[error("A1 NoStart")]
     NoStart,
-    /// A step of the state, of this rule, leads to a state that isn't there.
+    /// A step of this rule leads from the state to one that isn't listed.
     #[error("A2 StateMissing state {state} rule {rule}")]
     StateMissing {
         state: u32,
         rule: u32,
     },
-    /// Two steps of the state, of these rules, split into a pair that isn't there.
+    /// Two steps of these rules from the state split into a pair that isn't listed.
     #[error("A3 SplitMissing state {state} rules {lesser} {greater}")]
     SplitMissing {
         state: u32,
         lesser: u32,
         greater: u32,
     },
-    /// The pair moves, by a step of this rule, to a pair that isn't there.
+    /// A step of this rule leads from the pair to one that isn't listed.
     #[error("A4 PairMissing pair {pair} rule {rule}")]
     PairMissing {
         pair: u32,
         rule: u32,
     },
-    /// The pair has an empty lead, and both of its states end.
+    /// The pair has an empty lead, and both of its states are final.
     #[error("A5 BothEnd pair {pair}")]
     BothEnd {
         pair: u32,

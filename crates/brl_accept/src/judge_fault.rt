@@ -1,4 +1,4 @@
-//! Why a certificate isn't accepted for the table of some files.
+//! Why a certificate isn't accepted for the table that files define.
 use crate::AcceptFault;
 use brl_cert::CertFault;
 use brl_reading::NoTable;
@@ -14,7 +14,7 @@ pub enum JudgeFault {
     /// The bytes spell no certificate.
     #[error("{0}")]
     Cert(CertFault),
-    /// The certificate lists states of a window machine, and the table has none.
+    /// The certificate lists states of a window machine, and the table is too wide for one.
     #[error("{0}")]
     Wide(TooWide),
     /// The certificate's states and pairs aren't closed.

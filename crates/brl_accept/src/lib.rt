@@ -1,17 +1,18 @@
-//! The checker: it accepts a certificate exactly where its states and pairs are closed, so that no two different texts of
-//! the table, of whatever length, are translated alike.
+//! The checker: it accepts exactly the certificates whose states and pairs are closed. A table with
+//! an accepted certificate translates no two different texts, of any length, to the same cells.
+//!
+//! `judge` reads a table and a certificate and checks the one against the other; `accept` checks a
+//! machine's states and pairs.
 #![tactic(auto)]
 
 mod accept_fault;
-mod accepted;
-mod accepting;
+mod checker;
+mod edges;
 mod judge_fault;
-mod judging;
-mod listing;
-mod losses;
+mod judge_files;
+mod missing;
 
 pub use accept_fault::AcceptFault;
-pub use accepted::Accepted;
-pub use accepting::accept;
+pub use checker::{Accepted, accept};
 pub use judge_fault::JudgeFault;
-pub use judging::judge;
+pub use judge_files::judge;

@@ -14,15 +14,15 @@ use Rattle.brl_edges.specs.Body.{BodyView, IsPairOf, NumberPair, same_pair}
 use Rattle.brl_cert.specs.Fields.{lead}
 use Rattle.brl_cert.specs.declared.line.Line.{Line}
 use Rattle.brl_cert.specs.declared.line.Line.TheVariants.{State, Pair, End}
-use Rattle.brl_cert.specs.Lines.{States, count, fields_of, spelled_line, whole_line, spelled_body, loose_line, strict_line, line_of, may_stand, is_end, add_line, body_of}
+use Rattle.brl_cert.specs.Lines.{StateFormat, count, fields_of, spelled_line, whole_line, spelled_body, lenient_line, strict_line, line_of, may_follow, is_end, add_line, body_of}
 use Rattle.brl_cells.specs.Dots.{AreCells}
 use Rattle.std.proofs.lemmas.List.Elements.{recursion_from_All}
 use Rattle.brl_cert.specs.Valid.{IsBody}
 use Rattle.brl_cert.proofs.FieldLaws.{IsAbove, Reads, ReadsCells, above_true, lower, above_joined, apart, split_joined, number_reads, lead_reads}
 
--- a form of states whose spelling is read back
-pub record KeepsStates {S : Type 0} (form : States S) (IsState : S → Type 0) : Type 0 where
-  pub again : (s : S) → IsState s → form.loose (form.fields s) ≡ Some s
+-- a format of states whose spelling is read back
+pub record KeepsStates {S : Type 0} (form : StateFormat S) (IsState : S → Type 0) : Type 0 where
+  pub again : (s : S) → IsState s → form.lenient (form.fields s) ≡ Some s
   pub plain : (s : S) → IsState s → AllByRecursion (IsAbove 32) (form.fields s)
   pub flips : (a b : S) → form.same a b ≡ form.same b a
 
@@ -49,36 +49,36 @@ new_from_distinct {X} e flips (d ∷ front) x rest h = rw (flips x d ∙ at fron
     at [] k = k.0
     at (y ∷ ys) k = at ys k.1
 
-module _ {S : Type 0} (form : States S) where
+module _ {S : Type 0} (form : StateFormat S) where
   split_line : (line : Line S) → AllByRecursion (IsAbove 32) (fields_of form line) → slice_split (λ b. eqb b 32) (spelled_line form line) ≡ fields_of form line
   split_line (State s) h = split_joined 32 (codes "state") (form.fields s) h
   split_line (Pair p) h = split_joined 32 (codes "pair") (decimal p.ahead ∷ decimal p.behind ∷ lead.spell p.lead ∷ []) h
   split_line (End s p) h = split_joined 32 (codes "end") (decimal s ∷ decimal p ∷ []) h
 
-  line_again : (body : BodyView S) (line : Line S) → AllByRecursion (IsAbove 32) (fields_of form line) → loose_line form (fields_of form line) ≡ Some line → may_stand body line ≡ true → line_of form body (spelled_line form line) ≡ Ok line
-  line_again body line plain again stands =
-      ap (λ (fs : List (List ℕ)). strict_line form body (spelled_line form line) (loose_line form fs)) (split_line line plain)
+  line_again : (body : BodyView S) (line : Line S) → AllByRecursion (IsAbove 32) (fields_of form line) → lenient_line form (fields_of form line) ≡ Some line → may_follow body line ≡ true → line_of form body (spelled_line form line) ≡ Ok line
+  line_again body line plain again follows =
+      ap (λ (fs : List (List ℕ)). strict_line form body (spelled_line form line) (lenient_line form fs)) (split_line line plain)
       ∙ ap (λ (o : Option (Line S)). strict_line form body (spelled_line form line) o) again
-      ∙ strict (may_stand body line) (bytes_eq (spelled_line form line) (spelled_line form line)) stands ((bytes_eq-Decides (spelled_line form line) (spelled_line form line)).1 refl)
+      ∙ strict (may_follow body line) (bytes_eq (spelled_line form line) (spelled_line form line)) follows ((bytes_eq-Decides (spelled_line form line) (spelled_line form line)).1 refl)
     where
       strict : (a b : Bool) → a ≡ true → b ≡ true → (let r : Result (Line S) CertFaultKind = cond (not a) (Err Syntax) (cond b (Ok line) (Err NotCanonical)) in r) ≡ Ok line
       strict a b h k = rw (h, k) refl
 
-  -- one line is read, and the rest goes on behind it
-  turn_again : (n : ℕ) (body : BodyView S) (line : Line S) (longer out : BodyView S) (rest : List ℕ) → AllByRecursion (IsAbove 32) (fields_of form line) → loose_line form (fields_of form line) ≡ Some line → may_stand body line ≡ true → add_line form body line ≡ Ok longer → is_end line ≡ false
+  -- one line is read, and the lines after it follow
+  step_again : (n : ℕ) (body : BodyView S) (line : Line S) (longer out : BodyView S) (rest : List ℕ) → AllByRecursion (IsAbove 32) (fields_of form line) → lenient_line form (fields_of form line) ≡ Some line → may_follow body line ≡ true → add_line form body line ≡ Ok longer → is_end line ≡ false
       → body_of form (suc n) longer (slice_split (λ b. eqb b 10) rest) ≡ Ok out → body_of form n body (slice_split (λ b. eqb b 10) (whole_line form line ++ rest)) ≡ Ok out
-  turn_again n body line longer out rest plain again stands added open_ goes =
+  step_again n body line longer out rest plain again follows added open_ goes =
       let bare : IsAbove 10 (spelled_line form line) = above_joined 10 32 (omega arith) (fields_of form line) (lower_all 10 32 (omega arith) (fields_of form line) plain) in
       let first = first_part 10 rest in
       let split : slice_split (λ b. eqb b 10) (whole_line form line ++ rest) ≡ spelled_line form line ∷ first.0 ∷ first.1 =
       ap (slice_split (λ b. eqb b 10)) (append_assoc (spelled_line form line) (10 ∷ []) rest) ∙ slice_split_at (λ b. eqb b 10) (spelled_line form line) 10 rest (apart 10 (spelled_line form line) bare) refl ∙ ap (λ (ps : List (List ℕ)). spelled_line form line ∷ ps) first.2 in
-      ap (body_of form n body) split ∙ rw (line_again body line plain again stands) (rw added (rw open_ (ap (body_of form (suc n) longer) (sym first.2) ∙ goes)))
+      ap (body_of form n body) split ∙ rw (line_again body line plain again follows) (rw added (rw open_ (ap (body_of form (suc n) longer) (sym first.2) ∙ goes)))
 
-  last_again : (n : ℕ) (body : BodyView S) (line : Line S) → AllByRecursion (IsAbove 32) (fields_of form line) → loose_line form (fields_of form line) ≡ Some line → may_stand body line ≡ true → add_line form body line ≡ Ok body → is_end line ≡ true
+  last_again : (n : ℕ) (body : BodyView S) (line : Line S) → AllByRecursion (IsAbove 32) (fields_of form line) → lenient_line form (fields_of form line) ≡ Some line → may_follow body line ≡ true → add_line form body line ≡ Ok body → is_end line ≡ true
       → body_of form n body (slice_split (λ b. eqb b 10) (whole_line form line)) ≡ Ok body
-  last_again n body line plain again stands added end =
+  last_again n body line plain again follows added end =
       let bare : IsAbove 10 (spelled_line form line) = above_joined 10 32 (omega arith) (fields_of form line) (lower_all 10 32 (omega arith) (fields_of form line) plain) in
-      ap (body_of form n body) (slice_split_at (λ b. eqb b 10) (spelled_line form line) 10 [] (apart 10 (spelled_line form line) bare) refl) ∙ rw (line_again body line plain again stands) (rw added (rw end refl))
+      ap (body_of form n body) (slice_split_at (λ b. eqb b 10) (spelled_line form line) 10 [] (apart 10 (spelled_line form line) bare) refl) ∙ rw (line_again body line plain again follows) (rw added (rw end refl))
 
   word_above : IsAbove 32 (codes "state") × IsAbove 32 (codes "pair") × IsAbove 32 (codes "end")
   word_above = (above_true 32 (codes "state") refl, above_true 32 (codes "pair") refl, above_true 32 (codes "end") refl)
@@ -106,12 +106,12 @@ module _ {S : Type 0} (form : States S) where
       let l : Reads lead 44 p.lead = lead_reads law p.lead leads.0 each.0.lead in
       let plain : AllByRecursion (IsAbove 32) (fields_of form (Pair p)) = (word_above.1, (above_32 47 (decimal p.ahead) (omega arith) a.above, (above_32 47 (decimal p.behind) (omega arith) b.above, (above_32 44 (lead.spell p.lead) (omega arith) l.above, tt)))) in
       let new : list_any (same_pair p) front ≡ false = new_from_distinct same_pair flips front p ps distinct in
-      let again : loose_line form (fields_of form (Pair p)) ≡ Some (Pair p) = rw (a.again, b.again, l.again) refl in
+      let again : lenient_line form (fields_of form (Pair p)) ≡ Some (Pair p) = rw (a.again, b.again, l.again) refl in
       let added : add_line form (record { states = ss; pairs = front }) (Pair p) ≡ Ok (record { states = ss; pairs = front ++ p ∷ [] }) = rw ((Decides-ltb p.ahead (length ss)).1 each.0.ahead, (Decides-ltb p.behind (length ss)).1 each.0.behind, new) refl in
       let regroup : (front ++ p ∷ []) ++ ps ≡ front ++ p ∷ ps = append_assoc front (p ∷ []) ps in
       let others = pairs_again law flips ss few rest out (front ++ p ∷ []) ps (suc n) (rw regroup distinct) each.1 leads.1 (λ m. rw regroup (goes m)) in
       ap (λ (bs : List ℕ). body_of form n (record { states = ss; pairs = front }) (slice_split (λ b. eqb b 10) bs)) (append_assoc (whole_line form (Pair p)) (flat_map (λ q. whole_line form (Pair q)) ps) rest)
-      ∙ turn_again n (record { states = ss; pairs = front }) (Pair p) (record { states = ss; pairs = front ++ p ∷ [] }) out (flat_map (λ q. whole_line form (Pair q)) ps ++ rest) plain again refl added refl others
+      ∙ step_again n (record { states = ss; pairs = front }) (Pair p) (record { states = ss; pairs = front ++ p ∷ [] }) out (flat_map (λ q. whole_line form (Pair q)) ps ++ rest) plain again refl added refl others
 
   module _ {IsState : S → Type 0} (keeps : KeepsStates form IsState) where
     states_again : (rest : List ℕ) (out : BodyView S) (front ss : List S) (n : ℕ) → IsDistinct form.same (front ++ ss) → AllByRecursion IsState ss
@@ -121,12 +121,12 @@ module _ {S : Type 0} (form : States S) where
     states_again rest out front (s ∷ ss) n distinct each goes =
         let plain : AllByRecursion (IsAbove 32) (fields_of form (State s)) = (word_above.0, keeps.plain s each.0) in
         let new : list_any (form.same s) front ≡ false = new_from_distinct form.same keeps.flips front s ss distinct in
-        let again : loose_line form (fields_of form (State s)) ≡ Some (State s) = rw (keeps.again s each.0) refl in
+        let again : lenient_line form (fields_of form (State s)) ≡ Some (State s) = rw (keeps.again s each.0) refl in
         let added : add_line form (record { states = front; pairs = [] }) (State s) ≡ Ok (record { states = front ++ s ∷ []; pairs = [] }) = rw new refl in
         let regroup : (front ++ s ∷ []) ++ ss ≡ front ++ s ∷ ss = append_assoc front (s ∷ []) ss in
         let others = states_again rest out (front ++ s ∷ []) ss (suc n) (rw regroup distinct) each.1 (λ m. rw regroup (goes m)) in
         ap (λ (bs : List ℕ). body_of form n (record { states = front; pairs = [] }) (slice_split (λ b. eqb b 10) bs)) (append_assoc (whole_line form (State s)) (flat_map (λ q. whole_line form (State q)) ss) rest)
-        ∙ turn_again n (record { states = front; pairs = [] }) (State s) (record { states = front ++ s ∷ []; pairs = [] }) out (flat_map (λ q. whole_line form (State q)) ss ++ rest) plain again refl added refl others
+        ∙ step_again n (record { states = front; pairs = [] }) (State s) (record { states = front ++ s ∷ []; pairs = [] }) out (flat_map (λ q. whole_line form (State q)) ss ++ rest) plain again refl added refl others
 
     pub body_again : ReadsCells → ((a b : NumberPair) → same_pair a b ≡ same_pair b a) → (n : ℕ) (body : BodyView S) → IsBody form IsState body → body_of form n (record { states = []; pairs = [] }) (slice_split (λ b. eqb b 10) (spelled_body form body)) ≡ Ok body
     body_again law flips n body good =

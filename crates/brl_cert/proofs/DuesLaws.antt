@@ -16,9 +16,9 @@ use Rattle.brl_dues.specs.SameState.{same_states}
 use Rattle.brl_dues.specs.declared.due.Due.{Due}
 use Rattle.brl_dues.specs.declared.due.Due.TheVariants.{Need, Bar}
 use Rattle.brl_dues.specs.declared.state.DuesState.{DuesState}
-use Rattle.brl_cert.specs.Dues.{dues_fields, loose_any, loose_due, loose_dues, loose_head, loose_parts, loose_set, or_else, owing, spelled_cond, spelled_due}
-use Rattle.brl_cert.specs.Fields.{◌>>=◌, character, each, is_char, loose_char}
-use Rattle.brl_cert.specs.Valid.{HasSet, IsDue, IsOwing}
+use Rattle.brl_cert.specs.Dues.{dues_fields, lenient_any, lenient_due, lenient_dues, lenient_head, lenient_parts, lenient_set, or_else, dues_format, spelled_cond, spelled_due}
+use Rattle.brl_cert.specs.Fields.{◌>>=◌, character, each, is_char, lenient_char}
+use Rattle.brl_cert.specs.Valid.{HasSet, IsDue, IsDuesState}
 use Rattle.brl_cert.proofs.FieldLaws.{IsAbove, Reads, above_append, above_joined, all_above, each_again, each_char, flag_reads, lower, number_reads, split_joined}
 use Rattle.brl_cert.proofs.Again.{KeepsStates}
 use Rattle.brl_cert.proofs.Window.{decides, flag_itself, flips}
@@ -55,53 +55,53 @@ then-proper o d e h = ap (λ (p : Option Due). p >>= λ due. cond (is_proper due
 set-digits : (n mark : ℕ) → n < 256 → mark ≤ 47 → Free mark (decimal n)
 set-digits n mark h le = free-above mark 47 le (decimal n) (number_reads 255 n (omega (arith, h)) (omega (arith, h))).above
 
-set-again : (f : Class → Cond) (n : ℕ) (head : List ℕ) → n < 256 → loose_set f (head ∷ decimal n ∷ []) ≡ loose_head (f (record { 0 = n })) head
-set-again f n head h = ap (λ (o : Option ℕ). o >>= λ m. loose_head (f (record { 0 = m })) head) (number_reads 255 n (omega (arith, h)) (omega (arith, h))).again
+set-again : (f : Class → Cond) (n : ℕ) (head : List ℕ) → n < 256 → lenient_set f (head ∷ decimal n ∷ []) ≡ lenient_head (f (record { 0 = n })) head
+set-again f n head h = ap (λ (o : Option ℕ). o >>= λ m. lenient_head (f (record { 0 = m })) head) (number_reads 255 n (omega (arith, h)) (omega (arith, h))).again
 
 module _ (head : List ℕ) (plus : Free 43 head) (minus : Free 45 head) (star : Free 42 head) (d : Due) (proper : is_proper d ≡ true) where
-  meets-again : (set : Class) → set.0 < 256 → loose_head (Meets set) head ≡ Some d → loose_due (head ++ 43 ∷ decimal set.0) ≡ Some d
+  meets-again : (set : Class) → set.0 < 256 → lenient_head (Meets set) head ≡ Some d → lenient_due (head ++ 43 ∷ decimal set.0) ≡ Some d
   meets-again set h e =
       let whole = head ++ 43 ∷ decimal set.0 in
-      let first : loose_set Meets (slice_split (λ b. eqb b 43) whole) ≡ Some d =
-      ap (loose_set Meets) (one-mark 43 head (decimal set.0) plus (set-digits set.0 43 h (omega arith))) ∙ set-again Meets set.0 head h ∙ e in
-      then-proper (loose_parts whole) d
-      (ap (λ o. or_else o (or_else (loose_set Avoids (slice_split (λ b. eqb b 45) whole)) (loose_any (slice_split (λ b. eqb b 42) whole)))) first) proper
+      let first : lenient_set Meets (slice_split (λ b. eqb b 43) whole) ≡ Some d =
+      ap (lenient_set Meets) (one-mark 43 head (decimal set.0) plus (set-digits set.0 43 h (omega arith))) ∙ set-again Meets set.0 head h ∙ e in
+      then-proper (lenient_parts whole) d
+      (ap (λ o. or_else o (or_else (lenient_set Avoids (slice_split (λ b. eqb b 45) whole)) (lenient_any (slice_split (λ b. eqb b 42) whole)))) first) proper
 
-  avoids-again : (set : Class) → set.0 < 256 → loose_head (Avoids set) head ≡ Some d → loose_due (head ++ 45 ∷ decimal set.0) ≡ Some d
+  avoids-again : (set : Class) → set.0 < 256 → lenient_head (Avoids set) head ≡ Some d → lenient_due (head ++ 45 ∷ decimal set.0) ≡ Some d
   avoids-again set h e =
       let whole = head ++ 45 ∷ decimal set.0 in
-      let none : loose_set Meets (slice_split (λ b. eqb b 43) whole) ≡ None =
-      ap (loose_set Meets) (no-mark 43 whole (free-append 43 head (45 ∷ decimal set.0) plus (refl, set-digits set.0 43 h (omega arith)))) in
-      let second : loose_set Avoids (slice_split (λ b. eqb b 45) whole) ≡ Some d =
-      ap (loose_set Avoids) (one-mark 45 head (decimal set.0) minus (set-digits set.0 45 h (omega arith))) ∙ set-again Avoids set.0 head h ∙ e in
-      then-proper (loose_parts whole) d
-      (ap (λ o. or_else o (or_else (loose_set Avoids (slice_split (λ b. eqb b 45) whole)) (loose_any (slice_split (λ b. eqb b 42) whole)))) none
-      ∙ ap (λ o. or_else o (loose_any (slice_split (λ b. eqb b 42) whole))) second) proper
+      let none : lenient_set Meets (slice_split (λ b. eqb b 43) whole) ≡ None =
+      ap (lenient_set Meets) (no-mark 43 whole (free-append 43 head (45 ∷ decimal set.0) plus (refl, set-digits set.0 43 h (omega arith)))) in
+      let second : lenient_set Avoids (slice_split (λ b. eqb b 45) whole) ≡ Some d =
+      ap (lenient_set Avoids) (one-mark 45 head (decimal set.0) minus (set-digits set.0 45 h (omega arith))) ∙ set-again Avoids set.0 head h ∙ e in
+      then-proper (lenient_parts whole) d
+      (ap (λ o. or_else o (or_else (lenient_set Avoids (slice_split (λ b. eqb b 45) whole)) (lenient_any (slice_split (λ b. eqb b 42) whole)))) none
+      ∙ ap (λ o. or_else o (lenient_any (slice_split (λ b. eqb b 42) whole))) second) proper
 
-  any-again : loose_head Any head ≡ Some d → loose_due (head ++ 42 ∷ []) ≡ Some d
+  any-again : lenient_head Any head ≡ Some d → lenient_due (head ++ 42 ∷ []) ≡ Some d
   any-again e =
       let whole = head ++ 42 ∷ [] in
-      let none : loose_set Meets (slice_split (λ b. eqb b 43) whole) ≡ None = ap (loose_set Meets) (no-mark 43 whole (free-append 43 head (42 ∷ []) plus (refl, tt))) in
-      let also : loose_set Avoids (slice_split (λ b. eqb b 45) whole) ≡ None = ap (loose_set Avoids) (no-mark 45 whole (free-append 45 head (42 ∷ []) minus (refl, tt))) in
-      let third : loose_any (slice_split (λ b. eqb b 42) whole) ≡ Some d = ap loose_any (one-mark 42 head [] star tt) ∙ e in
-      then-proper (loose_parts whole) d
-      (ap (λ o. or_else o (or_else (loose_set Avoids (slice_split (λ b. eqb b 45) whole)) (loose_any (slice_split (λ b. eqb b 42) whole)))) none
-      ∙ ap (λ o. or_else o (loose_any (slice_split (λ b. eqb b 42) whole))) also ∙ third) proper
+      let none : lenient_set Meets (slice_split (λ b. eqb b 43) whole) ≡ None = ap (lenient_set Meets) (no-mark 43 whole (free-append 43 head (42 ∷ []) plus (refl, tt))) in
+      let also : lenient_set Avoids (slice_split (λ b. eqb b 45) whole) ≡ None = ap (lenient_set Avoids) (no-mark 45 whole (free-append 45 head (42 ∷ []) minus (refl, tt))) in
+      let third : lenient_any (slice_split (λ b. eqb b 42) whole) ≡ Some d = ap lenient_any (one-mark 42 head [] star tt) ∙ e in
+      then-proper (lenient_parts whole) d
+      (ap (λ o. or_else o (or_else (lenient_set Avoids (slice_split (λ b. eqb b 45) whole)) (lenient_any (slice_split (λ b. eqb b 42) whole)))) none
+      ∙ ap (λ o. or_else o (lenient_any (slice_split (λ b. eqb b 42) whole))) also ∙ third) proper
 
 above-joined : (chars : List ℕ) → AllByRecursion (Reads character 47) chars → IsAbove 45 (join_with_byte 46 (map (digits 16 false) chars))
 above-joined chars h = above_joined 45 46 (omega arith) (map (digits 16 false) chars) (all_above 45 (omega arith) chars h)
 
-bar-head : (cond : Cond) (c : ℕ) (chars : List ℕ) → AllByRecursion (Reads character 47) (c ∷ chars) → loose_head cond (98 ∷ join_with_byte 46 (map (digits 16 false) (c ∷ chars))) ≡ Some (Bar (c ∷ chars) cond)
+bar-head : (cond : Cond) (c : ℕ) (chars : List ℕ) → AllByRecursion (Reads character 47) (c ∷ chars) → lenient_head cond (98 ∷ join_with_byte 46 (map (digits 16 false) (c ∷ chars))) ≡ Some (Bar (c ∷ chars) cond)
 bar-head cond c chars h =
     let parts = split_joined 46 (digits 16 false c) (map (digits 16 false) chars) (all_above 46 (omega arith) (c ∷ chars) h) in
-    ap (λ (ps : List (List ℕ)). each loose_char ps >>= λ cs. Some (Bar cs cond)) parts
+    ap (λ (ps : List (List ℕ)). each lenient_char ps >>= λ cs. Some (Bar cs cond)) parts
     ∙ ap (λ (o : Option (List ℕ)). o >>= λ cs. Some (Bar cs cond)) (each_again (c ∷ chars) h)
 
 bar-free : (mark c : ℕ) (chars : List ℕ) → mark ≤ 45 → AllByRecursion (Reads character 47) (c ∷ chars) → Free mark (98 ∷ join_with_byte 46 (map (digits 16 false) (c ∷ chars)))
 bar-free mark c chars le h =
     free-above mark 45 le (98 ∷ join_with_byte 46 (map (digits 16 false) (c ∷ chars))) (omega arith, above-joined (c ∷ chars) h)
 
-due-again : (d : Due) → IsDue d → is_proper d ≡ true → loose_due (spelled_due d) ≡ Some d
+due-again : (d : Due) → IsDue d → is_proper d ≡ true → lenient_due (spelled_due d) ≡ Some d
 due-again (Need Any) h p = cc
 due-again (Need (Meets set)) h p = meets-again (110 ∷ []) (refl, tt) (refl, tt) (refl, tt) (Need (Meets set)) p set h refl
 due-again (Need (Avoids set)) h p = avoids-again (110 ∷ []) (refl, tt) (refl, tt) (refl, tt) (Need (Avoids set)) p set h refl
@@ -111,7 +111,7 @@ due-again (Bar (c ∷ chars) cond) h p = at cond h.1
     reads : AllByRecursion (Reads character 47) (c ∷ chars)
     reads = each_char (c ∷ chars) (recursion_from_All (λ x. is_char x ≡ true) (c ∷ chars) h.0)
 
-    at : (cond : Cond) → HasSet cond → loose_due (spelled_due (Bar (c ∷ chars) cond)) ≡ Some (Bar (c ∷ chars) cond)
+    at : (cond : Cond) → HasSet cond → lenient_due (spelled_due (Bar (c ∷ chars) cond)) ≡ Some (Bar (c ∷ chars) cond)
     at Any k =
         any-again (98 ∷ join_with_byte 46 (map (digits 16 false) (c ∷ chars))) (bar-free 43 c chars (omega arith) reads) (bar-free 45 c chars (omega arith) reads) (bar-free 42 c chars (omega arith) reads)
         (Bar (c ∷ chars) Any) refl (bar-head Any c chars reads)
@@ -133,11 +133,11 @@ each-Fine : (dues : List Due) → AllByRecursion IsDue dues → AllByRecursion (
 each-Fine [] h p = tt
 each-Fine (d ∷ dues) h p = (record { due = h.0; proper = p.0 }, each-Fine dues h.1 p.1)
 
-dues-again : (dues : List Due) → AllByRecursion Fine dues → each loose_due (map spelled_due dues) ≡ Some dues
+dues-again : (dues : List Due) → AllByRecursion Fine dues → each lenient_due (map spelled_due dues) ≡ Some dues
 dues-again [] h = refl
 dues-again (d ∷ dues) h = rw (due-again d h.0.due h.0.proper, dues-again dues h.1) refl
 
-owing-again : ((dues : List Due) → AreDues dues → in_order dues ≡ dues) → (s : DuesState) → IsOwing s → loose_dues (dues_fields s) ≡ Some s
+owing-again : ((dues : List Due) → AreDues dues → in_order dues ≡ dues) → (s : DuesState) → IsDuesState s → lenient_dues (dues_fields s) ≡ Some s
 owing-again law s h =
     let b = number_reads 255 s.before.0 (omega (arith, h.before)) (omega (arith, h.before)) in
     let fine = each-Fine s.dues (recursion_from_All IsDue s.dues h.each) (recursion_from_All (λ d. IsTrue (is_proper d)) s.dues h.kept.proper) in
@@ -158,18 +158,18 @@ dues-above : (dues : List Due) → AllByRecursion IsDue dues → AllByRecursion 
 dues-above [] h = tt
 dues-above (d ∷ dues) h = (due-above d h.0, dues-above dues h.1)
 
-owing-plain : (s : DuesState) → IsOwing s → AllByRecursion (IsAbove 32) (dues_fields s)
+owing-plain : (s : DuesState) → IsDuesState s → AllByRecursion (IsAbove 32) (dues_fields s)
 owing-plain s h =
     let b = number_reads 255 s.before.0 (omega (arith, h.before)) (omega (arith, h.before)) in
     (lower 32 47 (omega arith) _ b.above, (lower 32 47 (omega arith) _ (flag_reads s.numeric).above, dues-above s.dues (recursion_from_All IsDue s.dues h.each)))
 
 -- ---- States that are equal
 
-same-state : (s : DuesState) → owing.same s s ≡ true
+same-state : (s : DuesState) → dues_format.same s s ≡ true
 same-state s = rw ((Decides-eqb s.before.0 s.before.0).1 refl, flag_itself s.numeric) ((lists_equiv dues_equiv).refl s.dues)
 
-pub DuesState-Decides : (s t : DuesState) → Decides (owing.same s t) (s ≡ t)
-DuesState-Decides = decides owing.same same_states same-state
+pub DuesState-Decides : (s t : DuesState) → Decides (dues_format.same s t) (s ≡ t)
+DuesState-Decides = decides dues_format.same same_states same-state
 
-pub keeps_owing : ((dues : List Due) → AreDues dues → in_order dues ≡ dues) → KeepsStates owing IsOwing
-keeps_owing law = record { again = owing-again law; plain = owing-plain; flips = flips owing.same DuesState-Decides }
+pub keeps_owing : ((dues : List Due) → AreDues dues → in_order dues ≡ dues) → KeepsStates dues_format IsDuesState
+keeps_owing law = record { again = owing-again law; plain = owing-plain; flips = flips dues_format.same DuesState-Decides }

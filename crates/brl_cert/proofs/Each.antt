@@ -1,6 +1,6 @@
--- A list whose members are read one after another, and lists of a few members.
+-- A list whose members are read one by one.
 use Rattle.std.proofs.Common.{◌≡◌, ℕ, zero, suc, ◌+◌, ◌<◌, ◌≤◌, List, [], ◌∷◌, ◌++◌, length, map, take, get_or, Option, Some, None, refl, sym, ap, subst, ◌∙◌, arith}
-use Rattle.std.proofs.lemmas.List.{take_more, take_all}
+use Rattle.std.proofs.lemmas.List.{take_more}
 use Rattle.brl_cert.specs.Fields.{◌>>=◌, each}
 
 module _ {A B C : Type 0} (f : B → Option C) (g : A → B) where
@@ -27,6 +27,3 @@ module _ {A B C : Type 0} (f : B → Option C) (g : A → B) where
       by_first : (first : Option C) → each f (map g xs) ≡ None → (first >>= λ v. each f (map g xs) >>= λ zs. Some (v ∷ zs)) ≡ None
       by_first (Some v) k = rw k refl
       by_first None k = refl
-
-  pub each_all : (xs : List A) (i : ℕ) (o : Option (List C)) → length xs ≤ i → each f (map g (take i xs)) ≡ o → o ≡ each f (map g xs)
-  each_all xs i o le e = sym e ∙ ap (λ ys. each f (map g ys)) (take_all i xs le)

@@ -14,15 +14,15 @@ use Rattle.std.proofs.lemmas.List.Elements.{All-from_recursion, recursion_from_A
 use Rattle.std.proofs.lemmas.List.Splits.{slice_split_none, slice_split_at}
 use Rattle.std.proofs.lemmas.Slice.Eq.{bytes_eq-Decides}
 use Rattle.brl_cells.specs.Dots.{AreCells, dot_marks, has_dot, cell_spelling, spelling as dots_spelling, reading as dots_reading}
-use Rattle.brl_cert.specs.Fields.{Form, loose_number, number, flag, is_char, character, loose_char, each, chars, lead}
+use Rattle.brl_cert.specs.Fields.{FieldFormat, lenient_number, number, flag, is_char, character, lenient_char, each, chars, lead}
 
 -- each byte is above the given one
 abbrev pub IsAbove : ℕ → List ℕ → Type 0
 IsAbove low bytes = AllByRecursion (λ b. low < b) bytes
 
 -- what is spelled is read back; it is not empty, and its bytes are above the given one
-pub record Reads {A : Type 0} (form : Form A) (low : ℕ) (x : A) : Type 0 where
-  pub again : form.loose (form.spell x) ≡ Some x
+pub record Reads {A : Type 0} (form : FieldFormat A) (low : ℕ) (x : A) : Type 0 where
+  pub again : form.lenient (form.spell x) ≡ Some x
   pub some : 0 < length (form.spell x)
   pub above : IsAbove low (form.spell x)
 
@@ -72,7 +72,7 @@ digits_above : (radix : ℕ) (ds : List ℕ) → radix ≤ 16 → AllDigits radi
 digits_above radix [] le h = tt
 digits_above radix (c ∷ ds) le h = (digit_above radix c le h.0, digits_above radix ds le h.1)
 
-number_from_digits : (radix greatest n : ℕ) (ds : List ℕ) → IsNumeral radix ds → digits_value radix ds ≡ n → n ≤ greatest → loose_number radix greatest ds ≡ Some n
+number_from_digits : (radix greatest n : ℕ) (ds : List ℕ) → IsNumeral radix ds → digits_value radix ds ≡ n → n ≤ greatest → lenient_number radix greatest ds ≡ Some n
 number_from_digits radix greatest n ds numeral value le =
     rw ((Decides-ltb 0 (length ds)).1 numeral.0, all_digits radix ds numeral.1, value, le_true n greatest le) refl
 
@@ -105,9 +105,9 @@ pub above_true : (low : ℕ) (bytes : List ℕ) → list_all (λ b. ltb low b) b
 above_true low [] h = tt
 above_true low (b ∷ bytes) h = ((Decides-ltb low b).0 (first_so _ _ h), above_true low bytes (second_so (ltb low b) _ h))
 
--- ---- Characters, one after another
+-- ---- Characters, one by one
 
-pub each_again : (cs : List ℕ) → AllByRecursion (Reads character 47) cs → each loose_char (map (digits 16 false) cs) ≡ Some cs
+pub each_again : (cs : List ℕ) → AllByRecursion (Reads character 47) cs → each lenient_char (map (digits 16 false) cs) ≡ Some cs
 each_again [] h = refl
 each_again (c ∷ cs) h = rw (h.0.again, each_again cs h.1) refl
 

@@ -9,7 +9,6 @@ pub mod Lists
 pub mod Written
 pub mod Each
 pub mod Ascii
-pub mod Turns
-pub mod Dues
+pub mod Loops
 pub mod DuesLaws
 pub mod DuesSound

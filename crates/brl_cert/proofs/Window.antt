@@ -11,8 +11,8 @@ use Rattle.brl_window.specs.contracts.state.WindowStatePartialEq.TheImpl.{eq-val
 use Rattle.brl_members.specs.Same.{same_numbers}
 use Rattle.brl_pairs.specs.Same.{same_pairs}
 use Rattle.brl_window.specs.Same.{same_states}
-use Rattle.brl_cert.specs.Window.{window_fields, loose_window, windows}
-use Rattle.brl_cert.specs.Valid.{IsWindow}
+use Rattle.brl_cert.specs.Window.{window_fields, lenient_window, window_format}
+use Rattle.brl_cert.specs.Valid.{IsWindowState}
 use Rattle.brl_cert.proofs.FieldLaws.{IsAbove, lower, number_reads, flag_reads, chars_read}
 use Rattle.brl_cert.proofs.Again.{KeepsStates}
 
@@ -40,15 +40,15 @@ WindowState-Decides = decides window-eq.it same_states itself
 pub flips : {X : Type 0} (e : X → X → Bool) → ((x y : X) → Decides (e x y) (x ≡ y)) → (a b : X) → e a b ≡ e b a
 flips e decides a b = same_from_decides (e a b) (e b a) (decides a b) ((λ h. sym ((decides b a).0 h)), (λ h. (decides b a).1 (sym h)))
 
-window_plain : (s : WindowState) → IsWindow s → AllByRecursion (IsAbove 32) (window_fields s)
+window_plain : (s : WindowState) → IsWindowState s → AllByRecursion (IsAbove 32) (window_fields s)
 window_plain s h =
     let b = number_reads 255 s.before.0 (omega (arith, h.before)) (omega (arith, h.before)) in
     (lower 32 47 (omega arith) _ b.above, (lower 32 47 (omega arith) _ (flag_reads s.numeric).above, (lower 32 47 (omega arith) _ (flag_reads s.ended).above, (lower 32 44 (omega arith) _ (chars_read s.coming h.coming).above, tt))))
 
-window_again : (s : WindowState) → IsWindow s → loose_window (window_fields s) ≡ Some s
+window_again : (s : WindowState) → IsWindowState s → lenient_window (window_fields s) ≡ Some s
 window_again s h =
     let b = number_reads 255 s.before.0 (omega (arith, h.before)) (omega (arith, h.before)) in
     rw (b.again, (flag_reads s.numeric).again, (flag_reads s.ended).again, (chars_read s.coming h.coming).again) refl
 
-pub keeps_windows : KeepsStates windows IsWindow
+pub keeps_windows : KeepsStates window_format IsWindowState
 keeps_windows = record { again = window_again; plain = window_plain; flips = flips window-eq.it WindowState-Decides }

@@ -1,4 +1,4 @@
--- States of version 2 (the project's own choice).
+-- The states of certificates of version 2, as fields. The project's own choice.
 use Rattle.std.specs.Prelude.{ℕ, false, ◌==◌, if◌then◌else◌, List, [], ◌∷◌, ◌++◌, length, map, Option, Some, None}
 use Rattle.std.specs.Fmt.{decimal, digits}
 use Rattle.std.specs.List.{join_with_byte, slice_split}
@@ -10,64 +10,68 @@ use Rattle.brl_dues.specs.declared.due.Due.{Due}
 use Rattle.brl_dues.specs.declared.due.Due.TheVariants.{Need, Bar}
 use Rattle.brl_dues.specs.declared.state.DuesState.{DuesState}
 use Rattle.brl_dues.specs.contracts.state.DuesStatePartialEq.TheImpl.{eq-value}
-use Rattle.brl_cert.specs.Fields.{◌>>=◌, each, flag, loose_char, number}
-use Rattle.brl_cert.specs.Lines.{States}
+use Rattle.brl_cert.specs.Fields.{◌>>=◌, each, flag, lenient_char, number}
+use Rattle.brl_cert.specs.Lines.{StateFormat}
 
 -- ---- Spelling
 
--- a condition: a star, or a plus or a minus and the number of the set
+-- the spelling of a condition: a star, or a plus or a minus and the number of the set
 abbrev pub spelled_cond : Cond → List ℕ
 spelled_cond Any = 42 ∷ []
 spelled_cond (Meets set) = 43 ∷ decimal set.0
 spelled_cond (Avoids set) = 45 ∷ decimal set.0
 
--- an n and the condition; or a b, the characters, joined by points, and the condition
+-- the spelling of a due: an n and the condition; or a b, the characters, joined by points, and the
+-- condition
 abbrev pub spelled_due : Due → List ℕ
 spelled_due (Need cond) = 110 ∷ spelled_cond cond
 spelled_due (Bar chars cond) = 98 ∷ (join_with_byte 46 (map (digits 16 false) chars) ++ spelled_cond cond)
 
+-- the fields of a dues state
 abbrev pub dues_fields : DuesState → List (List ℕ)
 dues_fields s = (number 255).spell s.before.0 ∷ flag.spell s.numeric ∷ map spelled_due s.dues
 
 -- ---- Reading
 
--- what comes before a condition: an n alone, or a b and characters
-abbrev pub loose_head : Cond → List ℕ → Option Due
-loose_head cond [] = None
-loose_head cond (first ∷ rest) =
+-- the due of a condition and the part before it: an n alone, or a b and characters
+abbrev pub lenient_head : Cond → List ℕ → Option Due
+lenient_head cond [] = None
+lenient_head cond (first ∷ rest) =
     if first == 110 then (if length rest == 0 then Some (Need cond) else None)
-    else (if first == 98 then (each loose_char (slice_split (λ b. b == 46) rest) >>= λ chars. Some (Bar chars cond)) else None)
+    else (if first == 98 then (each lenient_char (slice_split (λ b. b == 46) rest) >>= λ chars. Some (Bar chars cond)) else None)
 
--- a due whose condition has this set
-abbrev pub loose_set : (Class → Cond) → List (List ℕ) → Option Due
-loose_set cond (head ∷ set ∷ []) = (number 255).loose set >>= λ n. loose_head (cond (record { 0 = n })) head
-loose_set cond parts = None
+-- the due whose condition has a set, from the parts before and after the mark
+abbrev pub lenient_set : (Class → Cond) → List (List ℕ) → Option Due
+lenient_set cond (head ∷ set ∷ []) = (number 255).lenient set >>= λ n. lenient_head (cond (record { 0 = n })) head
+lenient_set cond parts = None
 
--- a due whose condition is Any
-abbrev pub loose_any : List (List ℕ) → Option Due
-loose_any (head ∷ set ∷ []) = if length set == 0 then loose_head Any head else None
-loose_any parts = None
+-- the due whose condition is Any, from the parts before and after the star
+abbrev pub lenient_any : List (List ℕ) → Option Due
+lenient_any (head ∷ set ∷ []) = if length set == 0 then lenient_head Any head else None
+lenient_any parts = None
 
+-- the first value, or else the other
 abbrev pub or_else : {A : Type 0} → Option A → Option A → Option A
 or_else None other = other
 or_else (Some x) other = Some x
 
--- a due is cut at the mark before the set of its condition
-abbrev pub loose_parts : List ℕ → Option Due
-loose_parts field =
-    or_else (loose_set Meets (slice_split (λ b. b == 43) field))
-    (or_else (loose_set Avoids (slice_split (λ b. b == 45) field)) (loose_any (slice_split (λ b. b == 42) field)))
+-- the due of a field, which is cut at the mark of its condition
+abbrev pub lenient_parts : List ℕ → Option Due
+lenient_parts field =
+    or_else (lenient_set Meets (slice_split (λ b. b == 43) field))
+    (or_else (lenient_set Avoids (slice_split (λ b. b == 45) field)) (lenient_any (slice_split (λ b. b == 42) field)))
 
--- a due in its loose form; a need of Any is none
-abbrev pub loose_due : List ℕ → Option Due
-loose_due field = loose_parts field >>= λ due. if is_proper due then Some due else None
+-- the due of a lenient field, if it requires anything
+abbrev pub lenient_due : List ℕ → Option Due
+lenient_due field = lenient_parts field >>= λ due. if is_proper due then Some due else None
 
-abbrev pub loose_dues : List (List ℕ) → Option DuesState
-loose_dues (b ∷ n ∷ fields) = (number 255).loose b >>= λ before. flag.loose n >>= λ numeric. each loose_due fields >>= λ dues.
+-- the dues state of lenient fields
+abbrev pub lenient_dues : List (List ℕ) → Option DuesState
+lenient_dues (b ∷ n ∷ fields) = (number 255).lenient b >>= λ before. flag.lenient n >>= λ numeric. each lenient_due fields >>= λ dues.
     Some (record { before = record { 0 = before }; numeric = numeric; dues = in_order dues })
-loose_dues fields = None
+lenient_dues fields = None
 
--- the classes before as a number, numeric mode, and the dues, which in the loose form are in any
--- order
-abbrev pub owing : States DuesState
-owing = record { fields = dues_fields; loose = loose_dues; same = eq-value.it }
+-- a dues state: the classes before as a number, numeric mode, and the dues, which leniently may
+-- come in any order
+abbrev pub dues_format : StateFormat DuesState
+dues_format = record { fields = dues_fields; lenient = lenient_dues; same = eq-value.it }

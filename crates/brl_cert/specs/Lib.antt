@@ -1,6 +1,6 @@
-pub mod Fields
+pub mod Reading
 pub mod Lines
+pub mod Fields
 pub mod Window
 pub mod Dues
-pub mod Reading
 pub mod Valid

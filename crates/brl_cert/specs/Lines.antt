@@ -1,4 +1,4 @@
--- The lines of a certificate, over states of any form (the project's own choice).
+-- The lines after the header of a certificate, over states of any format. The project's own choice.
 use Rattle.std.specs.Prelude.{ℕ, suc, ◌+◌, ◌≤◌, Bool, true, false, ◌&&◌, not, nat_lt, ◌==◌, if◌then◌else◌, List, [], ◌∷◌, ◌++◌, length, Option, Some, None, Result, Ok, Err, codes}
 use Rattle.std.specs.Str.{bytes_eq}
 use Rattle.std.specs.Fmt.{decimal}
@@ -9,20 +9,20 @@ use Rattle.brl_cert.specs.declared.fault.CertFaultKind.TheVariants.{Syntax, NotC
 use Rattle.brl_edges.specs.Body.{BodyView, NumberPair, same_pair}
 use Rattle.brl_cert.specs.declared.line.Line.{Line}
 use Rattle.brl_cert.specs.declared.line.Line.TheVariants.{State, Pair, End}
-use Rattle.brl_cert.specs.Fields.{◌>>=◌, Form, number, lead}
+use Rattle.brl_cert.specs.Fields.{◌>>=◌, FieldFormat, number, lead}
 
--- how states of a version are written: the fields behind the word state, what fields of the loose form stand for, and when two
--- states are the same
-pub record States (S : Type 0) : Type 0 where
+-- how a version writes states: the fields after the word state, the state of lenient fields, and
+-- when two states are equal
+pub record StateFormat (S : Type 0) : Type 0 where
   pub fields : S → List (List ℕ)
-  pub loose : List (List ℕ) → Option S
+  pub lenient : List (List ℕ) → Option S
   pub same : S → S → Bool
 
--- numbers of states, and counts
-abbrev pub count : Form ℕ
+-- the number of a state, or a count
+abbrev pub count : FieldFormat ℕ
 count = number 4294967295
 
--- what was read goes on into the next step
+-- steps that may fail, in sequence
 infixl 10 ◌>>>◌
 abbrev pub ◌>>>◌ : {A B E : Type 0} → Result A E → (A → Result B E) → Result B E
 (Ok x) >>> f = f x
@@ -32,24 +32,25 @@ abbrev pub ◌>>>◌ : {A B E : Type 0} → Result A E → (A → Result B E) �
 abbrev pub at_line : ℕ → CertFaultKind → CertFault
 at_line n kind = record { kind = kind; line = n }
 
--- the fault of a line, with its number
+-- a line's outcome, its fault with the number of the line
 abbrev pub placed : {A : Type 0} → ℕ → Result A CertFaultKind → Result A CertFault
 placed n (Ok x) = Ok x
 placed n (Err kind) = Err (at_line n kind)
 
 module _ {S : Type 0} where
-  -- a state line stands before all pair lines
-  abbrev pub may_stand : BodyView S → Line S → Bool
-  may_stand body (State s) = length body.pairs == 0
-  may_stand body (Pair p) = true
-  may_stand body (End s p) = true
+  -- whether a line may follow the lines of this body: a state line comes before all pair lines
+  abbrev pub may_follow : BodyView S → Line S → Bool
+  may_follow body (State s) = length body.pairs == 0
+  may_follow body (Pair p) = true
+  may_follow body (End s p) = true
 
-  -- the lead of a pair line isn't too long
+  -- the lead of a pair line has at most 1,024 cells
   abbrev pub HasShortLead : Line S → Type 0
   HasShortLead (State s) = Unit {0}
   HasShortLead (Pair p) = length p.lead ≤ 1024
   HasShortLead (End s p) = Unit {0}
 
+  -- whether it is an end line
   abbrev pub is_end : Line S → Bool
   is_end (State s) = false
   is_end (Pair p) = false
@@ -57,23 +58,26 @@ module _ {S : Type 0} where
 
 -- ---- Spelling
 
--- fields, each behind a blank
-abbrev pub behind_blanks : List (List ℕ) → List ℕ
-behind_blanks fields = flat_map (λ field. 32 ∷ field) fields
+-- fields, each after a blank
+abbrev pub after_blanks : List (List ℕ) → List ℕ
+after_blanks fields = flat_map (λ field. 32 ∷ field) fields
 
+-- the fields of a pair line
 abbrev pub pair_fields : NumberPair → List (List ℕ)
 pair_fields p = codes "pair" ∷ decimal p.ahead ∷ decimal p.behind ∷ lead.spell p.lead ∷ []
 
+-- the fields of an end line
 abbrev pub end_fields : ℕ → ℕ → List (List ℕ)
 end_fields s p = codes "end" ∷ decimal s ∷ decimal p ∷ []
 
-module _ {S : Type 0} (form : States S) where
+module _ {S : Type 0} (form : StateFormat S) where
+  -- the fields of a line
   abbrev pub fields_of : Line S → List (List ℕ)
   fields_of (State s) = codes "state" ∷ form.fields s
   fields_of (Pair p) = pair_fields p
   fields_of (End s p) = end_fields s p
 
-  -- a line without its line feed: its fields, parted by one blank
+  -- a line without its line feed: its fields, separated by one blank
   abbrev pub spelled_line : Line S → List ℕ
   spelled_line line = join_with_byte 32 (fields_of line)
 
@@ -81,42 +85,45 @@ module _ {S : Type 0} (form : States S) where
   abbrev pub whole_line : Line S → List ℕ
   whole_line line = spelled_line line ++ 10 ∷ []
 
-  -- the lines behind the header: the states, the pairs, and how many there are
+  -- the lines after the header: the states, the pairs, and their numbers
   abbrev pub spelled_body : BodyView S → List ℕ
   spelled_body body = flat_map (λ s. whole_line (State s)) body.states ++ flat_map (λ p. whole_line (Pair p)) body.pairs
       ++ whole_line (End (length body.states) (length body.pairs))
 
   -- ---- Reading one line
 
-  abbrev pub loose_pair : List (List ℕ) → Option (Line S)
-  loose_pair (a ∷ b ∷ l ∷ []) = count.loose a >>= λ ahead. count.loose b >>= λ behind. lead.loose l >>= λ cells.
+  -- the pair line of lenient fields
+  abbrev pub lenient_pair : List (List ℕ) → Option (Line S)
+  lenient_pair (a ∷ b ∷ l ∷ []) = count.lenient a >>= λ ahead. count.lenient b >>= λ behind. lead.lenient l >>= λ cells.
       Some (Pair (record { ahead = ahead; behind = behind; lead = cells }))
-  loose_pair fields = None
+  lenient_pair fields = None
 
-  abbrev pub loose_end : List (List ℕ) → Option (Line S)
-  loose_end (s ∷ p ∷ []) = count.loose s >>= λ n. count.loose p >>= λ m. Some (End n m)
-  loose_end fields = None
+  -- the end line of lenient fields
+  abbrev pub lenient_end : List (List ℕ) → Option (Line S)
+  lenient_end (s ∷ p ∷ []) = count.lenient s >>= λ n. count.lenient p >>= λ m. Some (End n m)
+  lenient_end fields = None
 
-  -- what the fields of a line of the loose form stand for
-  abbrev pub loose_line : List (List ℕ) → Option (Line S)
-  loose_line [] = None
-  loose_line (word ∷ fields) =
-      if bytes_eq word (codes "state") then (form.loose fields >>= λ s. Some (State s))
-      else (if bytes_eq word (codes "pair") then loose_pair fields
-      else (if bytes_eq word (codes "end") then loose_end fields else None))
+  -- the line of lenient fields
+  abbrev pub lenient_line : List (List ℕ) → Option (Line S)
+  lenient_line [] = None
+  lenient_line (word ∷ fields) =
+      if bytes_eq word (codes "state") then (form.lenient fields >>= λ s. Some (State s))
+      else (if bytes_eq word (codes "pair") then lenient_pair fields
+      else (if bytes_eq word (codes "end") then lenient_end fields else None))
 
-  -- what a line stands for by its form alone: first whether it is of the loose form of a line that may stand here, then
-  -- whether it is spelled in the one way
+  -- the line that was read leniently from these bytes, if it may come here and they are its one
+  -- spelling
   abbrev pub strict_line : BodyView S → List ℕ → Option (Line S) → Result (Line S) CertFaultKind
   strict_line body bytes None = Err Syntax
   strict_line body bytes (Some line) =
-      if not (may_stand body line) then Err Syntax
+      if not (may_follow body line) then Err Syntax
       else (if bytes_eq (spelled_line line) bytes then Ok line else Err NotCanonical)
 
+  -- the line that bytes spell, as far as its spelling and its place decide
   abbrev pub line_of : BodyView S → List ℕ → Result (Line S) CertFaultKind
-  line_of body bytes = strict_line body bytes (loose_line (slice_split (λ b. b == 32) bytes))
+  line_of body bytes = strict_line body bytes (lenient_line (slice_split (λ b. b == 32) bytes))
 
-  -- what stands in the certificate behind this line
+  -- the body with this line added
   abbrev pub add_line : BodyView S → Line S → Result (BodyView S) CertFaultKind
   add_line body (State s) =
       if list_any (form.same s) body.states then Err DuplicateState
@@ -127,14 +134,15 @@ module _ {S : Type 0} (form : States S) where
       else Ok (record { states = body.states; pairs = body.pairs ++ p ∷ [] }))
   add_line body (End s p) = if (length body.states == s) && (length body.pairs == p) then Ok body else Err WrongCount
 
-  -- all that one line does: whether it was the end line, and what stands behind it
+  -- one line read and added: whether it is the end line, and the longer body
   abbrev pub one_line : BodyView S → List ℕ → Result (Bool × BodyView S) CertFaultKind
   one_line body bytes = line_of body bytes >>> λ line. add_line body line >>> λ longer. Ok (is_end line, longer)
 
   -- ---- Reading line by line
 
-  -- The lines from number n on, behind those that gave the body so far. A last part has no line feed behind it, and behind
-  -- the end line's line feed nothing stands.
+  -- The body of all lines, where the lines before number n gave this one and these parts are left:
+  -- the lines from number n on and, last, the bytes after the last line feed. Nothing may follow
+  -- the line feed of the end line.
   abbrev pub body_of : ℕ → BodyView S → List (List ℕ) → Result (BodyView S) CertFault
   body_of n body [] = Err (at_line n Truncated)
   body_of n body (last ∷ []) = Err (at_line n Truncated)

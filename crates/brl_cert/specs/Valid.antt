@@ -1,4 +1,4 @@
--- What has a spelling: certificates in range and without repeats.
+-- Which certificates have a spelling: those in range and without repeats. The project's own choice.
 use Rattle.std.specs.Prelude.{◌≡◌, ◌<◌, ◌≤◌, All, true, length}
 use Rattle.std.specs.List.{IsDistinct}
 use Rattle.brl_cells.specs.Dots.{AreCells}
@@ -11,19 +11,19 @@ use Rattle.brl_dues.specs.declared.state.DuesState.{DuesState}
 use Rattle.brl_window.specs.declared.state.WindowState.{WindowState}
 use Rattle.brl_edges.specs.Body.{BodyView, IsPairOf, same_pair}
 use Rattle.brl_cert.specs.Fields.{is_char}
-use Rattle.brl_cert.specs.Lines.{States}
-use Rattle.brl_cert.specs.Dues.{owing}
-use Rattle.brl_cert.specs.Window.{windows}
+use Rattle.brl_cert.specs.Lines.{StateFormat}
+use Rattle.brl_cert.specs.Dues.{dues_format}
+use Rattle.brl_cert.specs.Window.{window_format}
 use Rattle.brl_kinds.specs.declared.cert.Cert.TheVariants.{Dues, Window}
 use Rattle.brl_kinds.specs.declared.cert.Cert.{Cert as Certificate}
 
 -- a state's classes are a number of eight bits, and its characters are characters
-pub record IsWindow (s : WindowState) : Type 0 where
+pub record IsWindowState (s : WindowState) : Type 0 where
   pub before : s.before.0 < 256
   pub coming : All (λ c. is_char c ≡ true) s.coming
 
 -- states and pairs without repeats, in range, and at most 4,294,967,295 of each
-pub record IsBody {S : Type 0} (form : States S) (IsState : S → Type 0) (body : BodyView S) : Type 0 where
+pub record IsBody {S : Type 0} (form : StateFormat S) (IsState : S → Type 0) (body : BodyView S) : Type 0 where
   pub each_state : All IsState body.states
   pub each_pair : All (IsPairOf (length body.states)) body.pairs
   pub each_lead : All (λ pair. AreCells pair.lead) body.pairs
@@ -45,11 +45,12 @@ IsDue (Bar chars cond) = All (λ c. is_char c ≡ true) chars × HasSet cond
 
 -- a state's classes are a number of eight bits, and its dues are in range, in order and without
 -- repeats
-pub record IsOwing (s : DuesState) : Type 0 where
+pub record IsDuesState (s : DuesState) : Type 0 where
   pub before : s.before.0 < 256
   pub each : All IsDue s.dues
   pub kept : AreDues s.dues
 
+-- the certificate has a spelling
 abbrev pub IsCertificate : Certificate → Type 0
-IsCertificate (Window body) = IsBody windows IsWindow body
-IsCertificate (Dues body) = IsBody owing IsOwing body
+IsCertificate (Window body) = IsBody window_format IsWindowState body
+IsCertificate (Dues body) = IsBody dues_format IsDuesState body

@@ -1,18 +1,17 @@
-//! States of version 2.
+//! The states of certificates of version 2.
 ghost use Rattle.std.specs.Prelude.{◌≡◌, ◌++◌, ◌∷◌, [], map, false, true, All, IfOk, IfSome, IsTrue, OnOk, option_map, if◌then◌else◌};
 ghost use Rattle.std.specs.Fmt.{digits};
 ghost use Rattle.std.specs.List.{join_with_byte};
-ghost use Rattle.brl_cert.specs.Dues.{dues_fields, loose_any, loose_due as due_of_field, loose_dues, loose_head, loose_parts, loose_set, spelled_cond, spelled_due};
+ghost use Rattle.brl_cert.specs.Dues.{dues_fields, lenient_any, lenient_due as due_of_field, lenient_dues, lenient_head, lenient_parts, lenient_set, spelled_cond, spelled_due};
 ghost use Rattle.brl_cert.specs.Fields.{each, is_char};
-ghost use Rattle.brl_cert.specs.Lines.{behind_blanks};
-ghost use Rattle.brl_cert.specs.Valid.{HasSet, IsDue, IsOwing};
+ghost use Rattle.brl_cert.specs.Lines.{after_blanks};
+ghost use Rattle.brl_cert.specs.Valid.{HasSet, IsDue, IsDuesState};
 ghost use Rattle.brl_dues.specs.Order.{is_proper};
 ghost use Rattle.brl_table.specs.declared.place.Cond.TheVariants.{Meets, Avoids};
 
 use crate::field::{
-    parts_of, push_char, push_flag, push_more, push_number, read_flag, read_number,
+    parts_of, push_char, push_flag, push_more, push_number, read_each, read_flag, read_number,
 };
-use crate::reading_fields::read_each;
 use brl_dues::{Due, DueList, DuesState};
 use brl_table::{Class, Cond};
 use std::alloc::{AllocError, Global};
@@ -38,9 +37,9 @@ fn push_cond(alloc: Global, out: &mut Vec<u8>, cond: Cond) -> Result<(), AllocEr
     }
 }
 
-/// The due of a condition and what comes before it.
+/// The due of a condition and the part before it.
 fn read_head(alloc: Global, cond: Cond, head: &[u8]) -> Result<Option<Due>, AllocError>
-    ensures { IfOk result (λ due. due ≡ loose_head cond head.now) }
+    ensures { IfOk result (λ due. due ≡ lenient_head cond head.now) }
 {
     match head {
         [b'n'] => Ok(Some(Due::Need(cond))),
@@ -55,9 +54,9 @@ fn read_head(alloc: Global, cond: Cond, head: &[u8]) -> Result<Option<Due>, Allo
     }
 }
 
-/// The due of a condition with a set, by its parts: what comes before the mark, and the set.
+/// The due whose condition has a set, from the parts before and after the mark.
 fn read_set(alloc: Global, avoids: bool, parts: &[&[u8]]) -> Result<Option<Due>, AllocError>
-    ensures { IfOk result (λ due. due ≡ loose_set (if avoids then Avoids else Meets) (map (λ part. part.now) parts.now)) }
+    ensures { IfOk result (λ due. due ≡ lenient_set (if avoids then Avoids else Meets) (map (λ part. part.now) parts.now)) }
 {
     let [head, set] = parts else {
         return Ok(None);
@@ -74,9 +73,9 @@ fn read_set(alloc: Global, avoids: bool, parts: &[&[u8]]) -> Result<Option<Due>,
     read_head(alloc, cond, head)
 }
 
-/// The bar of the condition Any, by its parts: what comes before the star, and nothing.
+/// The due whose condition is `Any`, from the parts before and after the star; the latter is empty.
 fn read_any(alloc: Global, parts: &[&[u8]]) -> Result<Option<Due>, AllocError>
-    ensures { IfOk result (λ due. due ≡ loose_any (map (λ part. part.now) parts.now)) }
+    ensures { IfOk result (λ due. due ≡ lenient_any (map (λ part. part.now) parts.now)) }
 {
     let [head, set] = parts else {
         return Ok(None);
@@ -87,7 +86,7 @@ fn read_any(alloc: Global, parts: &[&[u8]]) -> Result<Option<Due>, AllocError>
     read_head(alloc, Cond::Any, head)
 }
 
-/// Whether a due asks for something.
+/// Whether a due requires anything.
 fn asks(due: &Due) -> bool
     ensures { result ≡ is_proper due.now }
 {
@@ -97,7 +96,7 @@ fn asks(due: &Due) -> bool
     }
 }
 
-/// The due of a field in its loose form.
+/// The due of a lenient field. One that requires nothing is none.
 fn read_due(alloc: Global, field: &[u8]) -> Result<Option<Due>, AllocError>
     ensures due { IfOk result (λ due. due ≡ due_of_field field.now) }
     ensures proper { IfOk result (λ found. IfSome found (λ due. IsTrue (is_proper due))) }
@@ -108,9 +107,9 @@ fn read_due(alloc: Global, field: &[u8]) -> Result<Option<Due>, AllocError>
     }
 }
 
-/// The due of a field by its parts.
+/// The due of a lenient field, which may require nothing.
 fn read_parts(alloc: Global, field: &[u8]) -> Result<Option<Due>, AllocError>
-    ensures { IfOk result (λ due. due ≡ loose_parts field.now) }
+    ensures { IfOk result (λ due. due ≡ lenient_parts field.now) }
 {
     let parts = parts_of(alloc, field, b'+')?;
     if let Some(due) = read_set(alloc, false, parts.as_slice())? {
@@ -124,7 +123,7 @@ fn read_parts(alloc: Global, field: &[u8]) -> Result<Option<Due>, AllocError>
     read_any(alloc, parts.as_slice())
 }
 
-/// The dues of fields in their loose form, where each field has one.
+/// The dues of lenient fields, if each field spells one.
 fn read_each_due(alloc: Global, fields: &[&[u8]]) -> Result<Option<Vec<Due>>, AllocError>
     ensures dues { IfOk result (λ found. option_map (λ dues. dues.items) found ≡ each due_of_field (map (λ field. field.now) fields.now)) }
     ensures proper { IfOk result (λ found. IfSome found (λ dues. All (λ due. IsTrue (is_proper due)) dues.items)) }
@@ -139,9 +138,9 @@ fn read_each_due(alloc: Global, fields: &[&[u8]]) -> Result<Option<Vec<Due>>, Al
     Ok(Some(dues))
 }
 
-/// The state of the fields of a line in their loose form.
+/// The state of the lenient fields of a line.
 pub fn read_dues(alloc: Global, fields: &[&[u8]]) -> Result<Option<DuesState>, AllocError>
-    ensures { IfOk result (λ state. state ≡ loose_dues (map (λ field. field.now) fields.now)) }
+    ensures { IfOk result (λ state. state ≡ lenient_dues (map (λ field. field.now) fields.now)) }
 {
     let [before, numeric, rest @ ..] = fields else {
         return Ok(None);
@@ -196,8 +195,8 @@ fn push_due(alloc: Global, out: &mut Vec<u8>, due: &Due) -> Result<(), AllocErro
 
 /// Writes the fields of a state, each after a blank.
 pub fn push_dues(alloc: Global, out: &mut Vec<u8>, state: &DuesState) -> Result<(), AllocError>
-    ensures written { OnOk result (out.new.items ≡ out.old.items ++ behind_blanks (dues_fields state.now)) }
-    ensures in_range { OnOk result (IsOwing state.now) }
+    ensures written { OnOk result (out.new.items ≡ out.old.items ++ after_blanks (dues_fields state.now)) }
+    ensures in_range { OnOk result (IsDuesState state.now) }
 {
     out.push(b' ')?;
     push_number(alloc, out, u32::from(state.before.0))?;

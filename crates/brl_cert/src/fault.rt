@@ -1,4 +1,4 @@
-//! Why bytes are no certificate.
+//! Why bytes spell no certificate.
 ghost use Rattle.std.specs.Prelude.{◌≡◌};
 ghost use Rattle.brl_cert.specs.Lines.{at_line};
 ghost use Rattle.brl_failure.specs.declared.failure.Failure.TheVariants as failures;
@@ -6,31 +6,31 @@ ghost use Rattle.brl_failure.specs.declared.failure.Failure.TheVariants as failu
 use brl_failure::Failure;
 use thiserror::Error;
 
-/// The kinds of faults of a line.
+/// The kind of a line's fault.
 #[derive(Clone, Copy, PartialEq, Eq, Debug, Error)]
 pub enum CertFaultKind {
     /// The header names a version that isn't known.
     #[error("K1 Version")]
     Version,
-    /// It isn't of the form of a line that may come here.
+    /// It isn't a line that may come here.
     #[error("K2 Syntax")]
     Syntax,
-    /// It has the form, but isn't spelled in the one way that is allowed.
+    /// It is such a line, but not in its one spelling.
     #[error("K3 NotCanonical")]
     NotCanonical,
-    /// An earlier line has its state.
+    /// It repeats the state of an earlier line.
     #[error("K4 DuplicateState")]
     DuplicateState,
-    /// An earlier line has its pair.
+    /// It repeats the pair of an earlier line.
     #[error("K5 DuplicatePair")]
     DuplicatePair,
-    /// Its pair names a state that isn't there.
+    /// Its pair names a state that doesn't exist.
     #[error("K6 NoSuchState")]
     NoSuchState,
-    /// Its counts aren't the numbers of states and pairs.
+    /// Its counts differ from the numbers of states and pairs.
     #[error("K7 WrongCount")]
     WrongCount,
-    /// The input is finished, and it has no line feed.
+    /// The input ends before its line feed.
     #[error("K8 Truncated")]
     Truncated,
 }
@@ -44,7 +44,8 @@ impl CertFaultKind {
     }
 }
 
-/// Why bytes are no certificate: the kind of the first faulty line's fault, and its number, from 1.
+/// Why bytes spell no certificate: the fault of the first faulty line, and the number of that line,
+/// from 1.
 #[derive(Clone, Copy, PartialEq, Eq, Debug, Error)]
 #[error("{kind} line {line}")]
 pub struct CertFault {

@@ -1,12 +1,13 @@
-//! Fields of a line: reading their loose form, and writing their spelling.
-ghost use Rattle.std.specs.Prelude.{◌≡◌, ◌<◌, ◌≤◌, ◌^◌, ◌++◌, ◌∷◌, ◌==◌, map, IfOk, IfSome, OnOk, All, true, false};
+//! Fields of a line: reading them leniently, and writing their one spelling.
+ghost use Rattle.std.specs.Prelude.{◌≡◌, ◌<◌, ◌≤◌, ◌^◌, ◌++◌, ◌∷◌, ◌==◌, length, map, IfOk, IfSome, OnOk, All, true, false};
 ghost use Rattle.std.specs.Char.{digit_value};
 ghost use Rattle.std.specs.Fmt.{decimal, digits};
 ghost use Rattle.std.specs.List.{flat_map, slice_split};
 ghost use Rattle.brl_cells.specs.Dots.{AreCells};
-ghost use Rattle.brl_cert.specs.Fields.{is_char, loose_number, loose_flag, loose_char, spelled_flag, spelled_chars, spelled_lead};
+ghost use Rattle.brl_cert.specs.Fields.{each, is_char, lenient_char, lenient_chars, lenient_flag, lenient_lead, lenient_number, spelled_chars, spelled_flag, spelled_lead};
 
-use brl_cells::{Cell, write_dots};
+use brl_cells::{Cell, Cells, Chars, read_dots, write_dots};
+use brl_failure::Failure;
 use std::alloc::{AllocError, Global};
 
 /// The value of a digit in any radix to 36, and 36 for any other byte.
@@ -21,12 +22,12 @@ fn digit_of(byte: u8) -> u64
     }
 }
 
-/// The number of a field in its loose form.
+/// The number that a lenient field spells in this radix, if it is at most `greatest`.
 pub fn read_number(field: &[u8], radix: u64, greatest: u64) -> Option<u64>
     requires radix_from { 1 ≤ radix }
     requires radix_to { radix ≤ 16 }
     requires greatest { greatest < 2 ^ 32 }
-    ensures number { result ≡ loose_number radix greatest field.now }
+    ensures number { result ≡ lenient_number radix greatest field.now }
     ensures limited { IfSome result (λ number. number ≤ greatest) }
 {
     if field.is_empty() {
@@ -48,7 +49,7 @@ pub fn read_number(field: &[u8], radix: u64, greatest: u64) -> Option<u64>
 
 /// The flag of a field.
 pub fn read_flag(field: &[u8]) -> Option<bool>
-    ensures { result ≡ loose_flag field.now }
+    ensures { result ≡ lenient_flag field.now }
 {
     match field {
         [b'0'] => Some(false),
@@ -57,9 +58,9 @@ pub fn read_flag(field: &[u8]) -> Option<bool>
     }
 }
 
-/// The character of a field in its loose form.
+/// The character of a lenient field.
 pub fn read_char(field: &[u8]) -> Option<char>
-    ensures { result ≡ loose_char field.now }
+    ensures { result ≡ lenient_char field.now }
 {
     match read_number(field, 16, 0x10FFFF) {
         Some(number) => char::from_u32(number as u32),
@@ -67,11 +68,54 @@ pub fn read_char(field: &[u8]) -> Option<char>
     }
 }
 
-/// The parts of bytes between a mark.
+/// The parts of bytes between marks.
 pub fn parts_of(alloc: Global, bytes: &[u8], mark: u8) -> Result<Vec<&[u8]>, AllocError>
     ensures { IfOk result (λ parts. map (λ part. part.now) parts.items ≡ slice_split (λ b. b == mark) bytes.now) }
 {
     bytes.split(|byte| *byte == mark).collect(alloc)
+}
+
+/// The characters of lenient parts, if each part spells one.
+pub fn read_each(alloc: Global, parts: &[&[u8]]) -> Result<Option<Chars>, AllocError>
+    ensures { IfOk result (λ chars. chars ≡ each lenient_char (map (λ part. part.now) parts.now)) }
+{
+    let mut characters = Vec::new(alloc);
+    for part in parts {
+        let Some(character) = read_char(part) else {
+            return Ok(None);
+        };
+        characters.push(character)?;
+    }
+    Ok(Some(Chars::from_vec(characters)))
+}
+
+/// The characters of a lenient field.
+pub fn read_chars(alloc: Global, field: &[u8]) -> Result<Option<Chars>, AllocError>
+    ensures { IfOk result (λ chars. chars ≡ lenient_chars field.now) }
+{
+    if field == b"-".as_slice() {
+        return Ok(Some(Chars::from_vec(Vec::new(alloc))));
+    }
+    let parts = parts_of(alloc, field, b'.')?;
+    read_each(alloc, parts.as_slice())
+}
+
+/// The lead of a lenient field.
+pub fn read_lead(alloc: Global, field: &[u8]) -> Result<Option<Cells>, AllocError>
+    ensures lead { IfOk result (λ cells. cells ≡ lenient_lead field.now) }
+    ensures limited { IfOk result (λ found. IfSome found (λ cells. length cells ≤ 1024)) }
+{
+    if field == b"-".as_slice() {
+        return Ok(Some(Cells::new(alloc)));
+    }
+    let Ok(text) = str::from_utf8(field) else {
+        return Ok(None);
+    };
+    match read_dots(alloc, text, 1024) {
+        Ok(cells) => Ok(Some(cells)),
+        Err(Failure::Fault(_)) => Ok(None),
+        Err(Failure::Memory) => Err(AllocError),
+    }
 }
 
 /// Writes a number.
@@ -102,7 +146,7 @@ pub fn push_char(alloc: Global, out: &mut Vec<u8>, character: char) -> Result<()
     Ok(())
 }
 
-/// Writes characters, each behind a point.
+/// Writes characters, each after a point.
 pub fn push_more(alloc: Global, out: &mut Vec<u8>, characters: &[char]) -> Result<(), AllocError>
     ensures written { OnOk result (out.new.items ≡ out.old.items ++ flat_map (λ c. 46 ∷ digits 16 false c) characters.now) }
     ensures in_range { OnOk result (All (λ c. is_char c ≡ true) characters.now) }

@@ -1,13 +1,12 @@
-//! Reading the lines of a certificate one after another.
+//! Reading the lines after the header of a certificate, one by one.
 ghost use Rattle.std.specs.Prelude.{◌≡◌, ◌≤◌, All, length, true, false, IfErr, IfOk, OnOk, Ok};
-ghost use Rattle.brl_cert.specs.Lines.{HasShortLead, add_line, is_end, line_of, may_stand, one_line, placed};
+ghost use Rattle.brl_cert.specs.Lines.{HasShortLead, add_line, is_end, line_of, may_follow, one_line, placed};
 ghost use Rattle.brl_failure.specs.Failure.{IsFaultOf};
-ghost use Rattle.brl_cert.specs.Reading.{nothing};
+ghost use Rattle.brl_cert.specs.Reading.{empty_body};
 ghost use Rattle.brl_cert.specs.declared.line.Line.TheVariants as line;
 ghost use Rattle.brl_edges.specs.Body.{BodyView, IsPairOf, listed};
 
-use crate::line::Line;
-use crate::reading_lines::read_line;
+use crate::line::{Line, read_line};
 use crate::writing::push_line;
 use crate::{CertFault, CertFaultKind, Version};
 use brl_edges::{Body, Members};
@@ -16,7 +15,7 @@ use brl_pairs::Pair;
 use std::alloc::Global;
 use std::marker::Model;
 
-/// What the lines so far gave. A contract sees the states and pairs.
+/// The states and pairs of the lines read so far, which a contract sees as a body.
 #[derive(Drop)]
 pub struct Reader<V: Version> {
     states: Members<V::State>,
@@ -32,8 +31,9 @@ impl<V: Version> Model for Reader<V> {
 }
 
 impl<V: Version> Reader<V> {
+    /// A reader before the first line.
     pub fn new(alloc: Global) -> Reader<V>
-        ensures { result ≡ nothing }
+        ensures { result ≡ empty_body }
     {
         Reader {
             states: Members::new(alloc),
@@ -41,7 +41,7 @@ impl<V: Version> Reader<V> {
         }
     }
 
-    /// What was read, as a body.
+    /// The body that was read.
     pub fn into_body(self) -> Body<V::State>
         requires few_states { length self.states ≤ 4294967295 }
         requires few_pairs { length self.pairs ≤ 4294967295 }
@@ -51,9 +51,9 @@ impl<V: Version> Reader<V> {
         Body::new(states, pairs)
     }
 
-    /// Whether a line may stand here.
-    fn may_stand(&self, line: &Line<V::State>) -> bool
-        ensures { result ≡ may_stand self.now line.now }
+    /// Whether a line may follow those that were read.
+    fn may_follow(&self, line: &Line<V::State>) -> bool
+        ensures { result ≡ may_follow self.now line.now }
     {
         match line {
             Line::State(_) => self.pairs.len() == 0,
@@ -62,7 +62,7 @@ impl<V: Version> Reader<V> {
         }
     }
 
-    /// What a line of this number stands for by its form alone.
+    /// The line that these bytes spell, as far as its spelling and its place decide.
     fn read(
         &self,
         alloc: Global,
@@ -71,13 +71,13 @@ impl<V: Version> Reader<V> {
     ) -> Result<Line<V::State>, Failure<CertFault>>
         ensures line { IfOk result (λ line. placed number (line_of V.form self.now bytes.now) ≡ Ok line) }
         ensures lead { IfOk result HasShortLead }
-        ensures stands { IfOk result (λ line. may_stand self.now line ≡ true) }
+        ensures follows { IfOk result (λ line. may_follow self.now line ≡ true) }
         ensures fault { IfErr result (IsFaultOf (placed number (line_of V.form self.now bytes.now))) }
     {
         let Some(line) = read_line::<V>(alloc, bytes)? else {
             return Err(CertFaultKind::Syntax.at(number));
         };
-        if !self.may_stand(&line) {
+        if !self.may_follow(&line) {
             return Err(CertFaultKind::Syntax.at(number));
         }
         let mut spelled = Vec::new(alloc);
@@ -119,7 +119,7 @@ impl<V: Version> Reader<V> {
         }
     }
 
-    /// Compares the counts of the end line of this number.
+    /// Checks the counts of the end line of this number.
     fn close(&self, number: u64, states: u32, pairs: u32) -> Result<(), Failure<CertFault>>
         ensures ok { OnOk result (placed number (add_line V.form self.now (line.End states pairs)) ≡ Ok self.now) }
         ensures few_states { OnOk result (length self.now.states ≤ 4294967295) }
@@ -133,10 +133,10 @@ impl<V: Version> Reader<V> {
         }
     }
 
-    /// Adds what a line of this number says, and answers whether it is the end line.
+    /// Adds the line of this number, and returns whether it is the end line.
     fn add(&mut self, number: u64, line: Line<V::State>) -> Result<bool, Failure<CertFault>>
         requires lead { HasShortLead line }
-        requires stands { may_stand self.old line ≡ true }
+        requires follows { may_follow self.old line ≡ true }
         ensures ok { OnOk result (placed number (add_line V.form self.old line) ≡ Ok self.new) }
         ensures end { IfOk result (λ last. last ≡ is_end line) }
         ensures few_states { IfOk result (λ last. last ≡ true → length self.new.states ≤ 4294967295) }
@@ -159,7 +159,7 @@ impl<V: Version> Reader<V> {
         }
     }
 
-    /// Reads the line of this number, and answers whether it is the end line.
+    /// Reads and adds the line of this number, and returns whether it is the end line.
     pub fn take_line(
         &mut self,
         alloc: Global,

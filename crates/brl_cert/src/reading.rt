@@ -1,19 +1,35 @@
-//! Reading certificates.
-ghost use Rattle.std.specs.Prelude.{◌≡◌, ◌≤◌, ◌∷◌, [], length, map, IfErr, IfOk, IfSome, Ok};
+//! Reading certificates, and the laws of their spelling.
+ghost use Rattle.std.specs.Prelude.{◌≡◌, ◌≤◌, ◌∷◌, [], ℕ, List, length, map, IfErr, IfOk, IfSome, Ok};
 ghost use Rattle.brl_cert.specs.Lines.{body_of, placed};
 ghost use Rattle.brl_failure.specs.Failure.{Gives, IsFaultOf};
-ghost use Rattle.brl_cert.specs.Reading.{header_of, loose_header, nothing, reading, spelling, version_of};
+ghost use Rattle.brl_cert.specs.Reading.{empty_body, header_of, lenient_header, reading, spelling, version_of};
+ghost use Rattle.brl_cert.specs.Valid.{IsCertificate};
+ghost use Rattle.brl_kinds.specs.declared.cert.Cert.{Cert as Certificate};
 
 use crate::field::{parts_of, push_number, read_number};
 use crate::reader::Reader;
-use crate::{Cert, CertFault, CertFaultKind, Version, Version1, Version2, certificate_laws};
+use crate::{Cert, CertFault, CertFaultKind, Version, Version1, Version2};
+use brl_cells::{cells_are_read, spelled_cells_are_read};
+use brl_dues::order_law;
 use brl_edges::Body;
 use brl_failure::Failure;
 use std::alloc::Global;
 
-/// The version of the two fields of a header in their loose form.
+/// The laws of certificates, for the crates above: each certificate is read from its spelling, and
+/// from no other bytes; and what is read is a certificate.
+pub fn certificate_laws()
+    ensures read_back { (cert : Certificate) → IsCertificate cert → reading (spelling cert) ≡ Ok cert }
+    ensures one_spelling { (bytes : List ℕ) (cert : Certificate) → reading bytes ≡ Ok cert → spelling cert ≡ bytes }
+    ensures is_certificate { (bytes : List ℕ) (cert : Certificate) → reading bytes ≡ Ok cert → IsCertificate cert }
+{
+    spelled_cells_are_read();
+    cells_are_read();
+    order_law();
+}
+
+/// The version of the two lenient fields of a header.
 fn read_version(word: &[u8], version: &[u8]) -> Option<u64>
-    ensures version { result ≡ loose_header (word.now ∷ version.now ∷ []) }
+    ensures version { result ≡ lenient_header (word.now ∷ version.now ∷ []) }
     ensures limited { IfSome result (λ n. n ≤ 4294967295) }
 {
     if word == b"BRLCERT".as_slice() {
@@ -23,9 +39,9 @@ fn read_version(word: &[u8], version: &[u8]) -> Option<u64>
     }
 }
 
-/// The version of the fields of a header in their loose form.
+/// The version of the lenient fields of a header.
 fn read_version_fields(fields: &[&[u8]]) -> Option<u64>
-    ensures version { result ≡ loose_header (map (λ field. field.now) fields.now) }
+    ensures version { result ≡ lenient_header (map (λ field. field.now) fields.now) }
     ensures limited { IfSome result (λ n. n ≤ 4294967295) }
 {
     let [word, version] = fields else {
@@ -52,14 +68,15 @@ fn read_header(alloc: Global, bytes: &[u8]) -> Result<u64, Failure<CertFault>>
     }
 }
 
-/// The body of the lines behind a header, which are the parts but for the last; this one has no line feed behind it.
+/// The body of the lines after a header. The parts are these lines and, last, the bytes after the
+/// last line feed.
 fn read_body<V: Version>(
     alloc: Global,
     parts: &[&[u8]],
 ) -> Result<Body<V::State>, Failure<CertFault>>
     requires { 1 ≤ length parts.now }
-    ensures body { IfOk result (λ body. body_of V.form 2 nothing (map (λ part. part.now) parts.now) ≡ Ok body) }
-    ensures fault { IfErr result (IsFaultOf (body_of V.form 2 nothing (map (λ part. part.now) parts.now))) }
+    ensures body { IfOk result (λ body. body_of V.form 2 empty_body (map (λ part. part.now) parts.now) ≡ Ok body) }
+    ensures fault { IfErr result (IsFaultOf (body_of V.form 2 empty_body (map (λ part. part.now) parts.now))) }
 {
     let mut reader = Reader::<V>::new(alloc);
     let last = parts.len() - 1;
@@ -78,7 +95,7 @@ fn read_body<V: Version>(
     Err(CertFaultKind::Truncated.at(parts.len() as u64 + 1))
 }
 
-/// What the lines after a header of this version stand for.
+/// The certificate of the lines after a header of this version.
 fn read_version_lines(
     alloc: Global,
     version: u64,
@@ -94,7 +111,7 @@ fn read_version_lines(
     }
 }
 
-/// What the lines of bytes stand for.
+/// The certificate of the lines of bytes.
 fn read_lines(alloc: Global, bytes: &[u8]) -> Result<Cert, Failure<CertFault>>
     ensures { Gives (reading bytes.now) result }
 {
@@ -111,10 +128,11 @@ fn read_lines(alloc: Global, bytes: &[u8]) -> Result<Cert, Failure<CertFault>>
 
 /// The certificate that bytes spell.
 ///
-/// Else the fault of the first faulty line, and its number, from 1. In a line the order is: `Truncated`
-/// where no line feed ends it; `Syntax` where it isn't of the loose form of a line that may come here;
-/// `NotCanonical` where it isn't spelled in the one way; then `Version` in the header, `DuplicateState`
-/// in a state line, `NoSuchState` and then `DuplicatePair` in a pair line, `WrongCount` in the end line.
+/// Otherwise the fault is that of the first faulty line, with its number from 1. The faults of a
+/// line are tested in this order: `Truncated` where no line feed ends it; `Syntax` where it isn't,
+/// even leniently, a line that may come here; `NotCanonical` where it isn't in its one spelling;
+/// then `Version` in the header, `DuplicateState` in a state line, `NoSuchState` and
+/// `DuplicatePair` in a pair line, `WrongCount` in the end line.
 pub fn read_cert(alloc: Global, bytes: &[u8]) -> Result<Cert, Failure<CertFault>>
     ensures cert { Gives (reading bytes.now) result }
     // The bytes are the certificate's one spelling.

@@ -1,40 +1,39 @@
-//! Versions of certificates: the states that each lists, as it writes them.
+//! The versions of certificates: which states each lists, and how it writes them.
 ghost use Rattle.std.specs.Prelude.{◌≡◌, ◌++◌, ◌∷◌, [], ℕ, Bool, map, refl, IfOk, OnOk};
-ghost use Rattle.brl_cert.specs.Lines.{States, behind_blanks};
-ghost use Rattle.brl_cert.specs.Dues.{owing};
-ghost use Rattle.brl_cert.specs.Valid.{IsOwing, IsWindow};
-ghost use Rattle.brl_cert.specs.Window.{loose_window, windows};
+ghost use Rattle.brl_cert.specs.Lines.{StateFormat, after_blanks};
+ghost use Rattle.brl_cert.specs.Dues.{dues_format};
+ghost use Rattle.brl_cert.specs.Valid.{IsDuesState, IsWindowState};
+ghost use Rattle.brl_cert.specs.Window.{lenient_window, window_format};
 
 use crate::dues_line::{push_dues, read_dues};
-use crate::field::{push_chars, push_flag, push_number, read_flag, read_number};
-use crate::reading_fields::read_chars;
+use crate::field::{push_chars, push_flag, push_number, read_chars, read_flag, read_number};
 use brl_dues::DuesState;
 use brl_members::Key;
 use brl_table::Class;
 use brl_window::WindowState;
 use std::alloc::{AllocError, Global};
 
-/// A version of certificates: which machine's states it lists, and how it writes them. Two versions may write the states of
-/// one machine in two ways.
+/// A version of certificates: which machine's states it lists, and how it writes them. Two versions
+/// may write the states of one machine differently.
 pub trait Version {
     type State: Key;
 
-    // How states are written, and when two of them are the same.
-    ghost form: { States Self.State };
+    // How states are written, and when two of them are equal.
+    ghost form: { StateFormat Self.State };
 
-    // What is in range.
+    // Which states can be written.
     ghost is_state: { Self.State → Type 0 };
 
     /// Writes the fields of a state, each after a blank.
     fn push_fields(alloc: Global, out: &mut Vec<u8>, state: &Self::State) -> Result<(), AllocError>
-        ensures written { OnOk result (out.new.items ≡ out.old.items ++ behind_blanks (form.fields state.now)) }
+        ensures written { OnOk result (out.new.items ≡ out.old.items ++ after_blanks (form.fields state.now)) }
         ensures in_range { OnOk result (is_state state.now) };
 
-    /// The state of fields in their loose form.
+    /// The state of lenient fields.
     fn read_fields(alloc: Global, fields: &[&[u8]]) -> Result<Option<Self::State>, AllocError>
-        ensures { IfOk result (λ state. state ≡ form.loose (map (λ field. field.now) fields.now)) };
+        ensures { IfOk result (λ state. state ≡ form.lenient (map (λ field. field.now) fields.now)) };
 
-    // Two states are the same exactly where they are equal.
+    // The equality of the format is that of the state type.
     ghost same: { form.same ≡ Self.State.eq };
 }
 
@@ -47,9 +46,9 @@ pub struct Version2;
 impl Version for Version1 {
     type State = WindowState;
 
-    ghost form = { windows };
+    ghost form = { window_format };
 
-    ghost is_state = { IsWindow };
+    ghost is_state = { IsWindowState };
 
     fn push_fields(
         alloc: Global,
@@ -79,9 +78,9 @@ impl Version for Version1 {
 impl Version for Version2 {
     type State = DuesState;
 
-    ghost form = { owing };
+    ghost form = { dues_format };
 
-    ghost is_state = { IsOwing };
+    ghost is_state = { IsDuesState };
 
     fn push_fields(alloc: Global, out: &mut Vec<u8>, state: &DuesState) -> Result<(), AllocError> {
         push_dues(alloc, out, state)
@@ -94,7 +93,7 @@ impl Version for Version2 {
     ghost same = { refl };
 }
 
-/// The state of four fields in their loose form.
+/// The window state of four lenient fields.
 fn read_window(
     alloc: Global,
     before: &[u8],
@@ -102,7 +101,7 @@ fn read_window(
     ended: &[u8],
     coming: &[u8],
 ) -> Result<Option<WindowState>, AllocError>
-    ensures { IfOk result (λ state. state ≡ loose_window (before.now ∷ numeric.now ∷ ended.now ∷ coming.now ∷ [])) }
+    ensures { IfOk result (λ state. state ≡ lenient_window (before.now ∷ numeric.now ∷ ended.now ∷ coming.now ∷ [])) }
 {
     let Some(before) = read_number(before, 10, 255) else {
         return Ok(None);

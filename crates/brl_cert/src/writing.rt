@@ -97,7 +97,7 @@ fn push_pairs(alloc: Global, out: &mut Vec<u8>, pairs: &[Pair<u32>]) -> Result<(
     Ok(())
 }
 
-/// Writes the lines behind the header.
+/// Writes the lines after the header.
 fn push_body<V: Version>(
     alloc: Global,
     out: &mut Vec<u8>,
@@ -138,10 +138,10 @@ fn write_dues(alloc: Global, body: &Body<DuesState>) -> Result<Vec<u8>, AllocErr
     Ok(out)
 }
 
-/// The bytes of a certificate: its one spelling. `AllocError` where they find no memory.
+/// The one spelling of a certificate. `AllocError` if memory runs out.
 pub fn write_cert(alloc: Global, cert: &Cert) -> Result<Vec<u8>, AllocError>
     ensures spelled { IfOk result (λ bytes. bytes.items ≡ spelling cert.now) }
-    // The certificate is read back from them.
+    // Reading them gives the certificate back.
     ensures read_back { IfOk result (λ bytes. reading bytes.items ≡ Ok cert.now) }
 {
     match cert {

@@ -184,8 +184,8 @@ module _ (t : TableView) (s : DuesState) where
 
   rule-at : (above : List Rule) (r : Rule) (c : ℕ) → holds (before_of r.place) s.before ≡ true
       → flat_map (steps_of t s) (cased t s.before above r r.chars c) ≡ cond (may_come t s.dues c) (rule_step t s (length above) r (letter_at t s.before above c)) []
-  rule-at above r c stands =
-      chars r.chars ∙ ap (λ h. cond (may_come t s.dues c) (cond (h && begins_with (fold_of t c) r.chars) (letter_step t s (letter_at t s.before above c) (length above) (drop 1 r.chars) (after_of r.place s.before) r.cells) []) []) (sym stands)
+  rule-at above r c before_holds =
+      chars r.chars ∙ ap (λ h. cond (may_come t s.dues c) (cond (h && begins_with (fold_of t c) r.chars) (letter_step t s (letter_at t s.before above c) (length above) (drop 1 r.chars) (after_of r.place s.before) r.cells) []) []) (sym before_holds)
     where
       none : (b : Bool) → [] ≡ cond b (let x : List (Step DuesState) = [] in x) []
       none true = refl

@@ -1,4 +1,4 @@
--- What is left by a step, found one part after another.
+-- What a step leaves, found part by part.
 use Rattle.std.proofs.Common.{◌≡◌, ℕ, Bool, true, false, ◌&&◌, List, [], ◌∷◌, ◌++◌, Some, None, map, refl, sym, ap, ap₂, ◌∙◌, subst, cond, nat_eq, append_assoc, All, IsTrue}
 use Rattle.std.proofs.lemmas.Grind.{flat_map-append}
 use Rattle.std.proofs.lemmas.List.Elements.{All-append, All-cons, All-head, All-nil, All-tail}
@@ -80,7 +80,7 @@ module _ (t : TableView) where
       (append-proper (lefts (map (carry t (l.character ∷ others)) dues)) (lefts (need after ∷ bars_of t others l.above)) (carried-proper (l.character ∷ others) dues h)
       (append-proper (left_of (need after)) (lefts (bars_of t others l.above)) (need-proper after) (bars-proper others l.above)))
 
--- ---- One part after another
+-- ---- Part by part
 
 adds-both : (xs ys : List Carried) (old mid new : List Due) (w : Bool) → Adds xs old mid true → Adds ys mid new w → Adds (xs ++ ys) old new w
 adds-both xs ys old mid new w h k = record {

@@ -95,7 +95,7 @@ pub form-chosen : (t : TableView) → Choosing t → (before : Class) (f : Form)
 form-chosen t law before f (inl h) u a n =
     let rest = f.reads ++ u in
     let fitting : fits t before rest h.rule ≡ true =
-    ap (λ l. fits t before (l ++ u) h.rule) h.reads ∙ fits-form t before h.character h.others u h.rule h.chars h.stands ∙ ap (λ c. holds c (classes_at t u 0)) (sym h.after) ∙ a in
+    ap (λ l. fits t before (l ++ u) h.rule) h.reads ∙ fits-form t before h.character h.others u h.rule h.chars h.before_holds ∙ ap (λ c. holds c (classes_at t u 0)) (sym h.after) ∙ a in
     let none = λ (earlier : ℕ) (q : Rule) (lower : earlier < f.number) (is : slice_get t.rules earlier ≡ Some q).
     not-true (fits t before rest q)
     (all-there (λ r. not (fits t before rest r)) (take f.number t.rules) earlier q (ap (none_fits t before rest) (sym h.above) ∙ n) (take-there t.rules f.number earlier q lower is)) in

@@ -1,5 +1,5 @@
 -- What is left of a due after the characters that a step reads, and what a step owes to the rules
--- that are ranked above its own.
+-- that are ranked above its own. The project's own choice.
 use Rattle.std.specs.Prelude.{ℕ, Bool, true, false, not, ◌==◌, List, [], ◌∷◌, Option, Some, None, if◌then◌else◌}
 use Rattle.std.specs.List.{flat_map, list_all}
 use Rattle.brl_table.specs.declared.class.Class.{Class}
@@ -15,29 +15,33 @@ use Rattle.brl_dues.specs.declared.due.Due.{Due}
 use Rattle.brl_dues.specs.declared.due.Due.TheVariants.{Need, Bar}
 use Rattle.brl_dues.specs.Order.{in_order}
 
--- a bar with nothing remaining: the next character doesn't meet the condition
+-- what is left of a bar whose characters were all read: the next character doesn't meet the
+-- condition
 abbrev pub opposed : Cond → Carried
 opposed Any = Broken
 opposed (Meets set) = Left (Need (Avoids set))
 opposed (Avoids set) = Left (Need (Meets set))
 
+-- settled where the condition holds, else broken
 abbrev pub settled_if : Bool → Carried
 settled_if true = Settled
 settled_if false = Broken
 
--- after the characters `past`: that the text doesn't go on with these characters, followed by one
--- that meets the condition
+-- what is left of a bar after the characters `past`: the text doesn't continue with these
+-- characters, followed by one that meets the condition
 abbrev pub carry_bar : TableView → List ℕ → List ℕ → Cond → Carried
 carry_bar t [] [] cond = opposed cond
 carry_bar t [] (a ∷ chars) cond = Left (Bar (a ∷ chars) cond)
 carry_bar t (c ∷ past) [] cond = settled_if (not (holds cond (classes_of t c)))
 carry_bar t (c ∷ past) (a ∷ chars) cond = if a == c then carry_bar t past chars cond else Settled
 
--- after the characters `past`: that the text goes on with a character that meets the condition
+-- what is left of a need after the characters `past`: the text continues with a character that
+-- meets the condition
 abbrev pub carry_need : TableView → List ℕ → Cond → Carried
 carry_need t [] cond = Left (Need cond)
 carry_need t (c ∷ past) cond = settled_if (holds cond (classes_of t c))
 
+-- what is left of a due after the characters `past`
 abbrev pub carry : TableView → List ℕ → Due → Carried
 carry t past (Need cond) = carry_need t past cond
 carry t past (Bar [] cond) = Settled
@@ -49,7 +53,8 @@ need Any = Settled
 need (Meets set) = Left (Need (Meets set))
 need (Avoids set) = Left (Need (Avoids set))
 
--- that a rule with these characters doesn't fit, after a character and those that follow it
+-- what is left of the requirement that a rule with these characters doesn't fit, after a character
+-- and those that follow it
 abbrev pub bar_after : TableView → ℕ → List ℕ → List ℕ → Cond → Carried
 bar_after t c past [] cond = Settled
 bar_after t c past (first ∷ others) cond = if fold_of t c == first then carry_bar t past others cond else Settled
@@ -60,18 +65,21 @@ bar_of t before [] r = Settled
 bar_of t before (c ∷ past) r =
     if holds (before_of r.place) before then bar_after t c past r.chars (after_of r.place before) else Settled
 
--- ---- All together
+-- ---- All dues of a step
 
+-- whether the step doesn't break it
 abbrev pub is_whole : Carried → Bool
 is_whole Broken = false
 is_whole Settled = true
 is_whole (Left due) = true
 
+-- the due that is left, if there is one
 abbrev pub left_of : Carried → List Due
 left_of Broken = []
 left_of Settled = []
 left_of (Left due) = due ∷ []
 
+-- the dues that are left
 abbrev pub lefts : List Carried → List Due
 lefts carried = flat_map left_of carried
 

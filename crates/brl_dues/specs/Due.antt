@@ -1,4 +1,4 @@
--- Dues: what a state of the dues machine still asks of the rest of a text. The notion is this
+-- Dues: what a state of the dues machine still requires of the rest of a text. The notion is this
 -- project's own choice.
 use Rattle.std.specs.Prelude.{ℕ, Bool, true, not, ◌&&◌, nat_eq, List, [], ◌∷◌, length}
 use Rattle.std.specs.List.{list_all, starts_with}
@@ -20,10 +20,11 @@ due_met t rest (Need cond) = holds cond (classes_at t rest 0)
 due_met t rest (Bar [] cond) = true
 due_met t rest (Bar (c ∷ chars) cond) = not (goes_on t rest (c ∷ chars) cond)
 
+-- a rest meets all dues
 abbrev pub dues_met : TableView → List ℕ → List Due → Bool
 dues_met t rest dues = list_all (due_met t rest) dues
 
--- the class space meets the condition of a need
+-- the end of the text meets a due: class space meets the condition of a need, and no bar applies
 abbrev pub met_by_space : Due → Bool
 met_by_space (Need cond) = holds cond space
 met_by_space (Bar chars cond) = true

@@ -37,15 +37,17 @@ lists_up_to xs (suc n) = [] ∷ flat_map (λ x. map (λ l. x ∷ l) (lists_up_to
 abbrev pub all_classes : TableView → List Class
 all_classes t = space ∷ none ∷ map (classes_of t) (letters t)
 
+-- the contexts with these classes, in and out of numeric mode
 abbrev pub both_modes : Class → List Context
 both_modes classes = record { classes = classes; numeric = false } ∷ record { classes = classes; numeric = true } ∷ []
 
+-- the contexts that a state may have
 abbrev pub all_contexts : TableView → List Context
 all_contexts t = flat_map both_modes (all_classes t)
 
 -- ---- Dues
 
--- what places ask of the character after a rule
+-- the conditions that places set for the character after a rule
 abbrev pub after_conds : List Cond
 after_conds = Any ∷ Meets gap ∷ Meets gap_or_letter ∷ Meets letter ∷ Meets digit ∷ Avoids digit ∷ []
 
@@ -53,26 +55,28 @@ after_conds = Any ∷ Meets gap ∷ Meets gap_or_letter ∷ Meets letter ∷ Mee
 abbrev pub needs_of : Cond → List Due
 needs_of cond = left_of (need cond) ++ left_of (opposed cond)
 
--- the bars with such a condition after what the characters of a rule end with
+-- the bars of such a condition and the characters that a rule ends with
 abbrev pub bars_from : Rule → List Due
 bars_from r = flat_map (λ chars. map (Bar chars) after_conds) (endings r.chars)
 
+-- the dues that a state may have
 abbrev pub all_dues : TableView → List Due
 all_dues t = flat_map needs_of after_conds ++ flat_map bars_from t.rules
 
 -- ---- States and cells
 
--- the states with any of these contexts and no more dues than there are
+-- the states with one of these contexts and no more dues than there are
 abbrev pub all_states : TableView → List DuesState
 all_states t = flat_map (λ here. map (state_in here) (lists_up_to (all_dues t) (length (all_dues t)))) (all_contexts t)
 
--- the cells of a step that takes a form
+-- the cells of a step that takes the form in a context
 abbrev pub cells_in : TableView → Context → Form → List ℕ
 cells_in t here f = indicators t here f.reads ++ f.cells
 
+-- the cells that a step may give
 abbrev pub all_cells : TableView → List (List ℕ)
 all_cells t = flat_map (λ (here : Context). map (cells_in t here) (forms t here.classes)) (all_contexts t)
 
--- what the cells of one step end with
+-- the leads that a pair may have: what the cells of one step end with
 abbrev pub all_leads : TableView → List (List ℕ)
 all_leads t = flat_map endings (all_cells t)

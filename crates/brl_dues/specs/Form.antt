@@ -1,5 +1,6 @@
 -- The case forms in which the rules of a table, in rank, may be taken after a character, and then
--- the own definitions. Each is defined by itself, and listed.
+-- the own definitions. A form is characterized by itself, and all are listed. The project's own
+-- choice.
 use Rattle.std.specs.Prelude.{ℕ, ◌≡◌, ◌==◌, IsTrue, List, [], ◌∷◌, ◌++◌, ◌⊎◌, length, map, take, slice_get, Some, if◌then◌else◌}
 use Rattle.std.specs.List.{flat_map}
 use Rattle.std.specs.Map.{keys_of}
@@ -13,7 +14,7 @@ use Rattle.brl_table.specs.TableView.{TableView}
 use Rattle.brl_table.specs.Text.{fold_of, is_defined}
 
 -- a rule, or an own definition, as a step may take it: its number, the characters that it reads,
--- what it asks of the character after these, its cells without indicators, and the rules that are
+-- its condition on the character after these, its cells without indicators, and the rules that are
 -- ranked above it
 pub record Form : Type 0 where
   pub number : ℕ
@@ -29,7 +30,7 @@ pub record Form : Type 0 where
 pub record IsRuleForm (t : TableView) (before : Class) (f : Form) : Type 0 where
   pub rule : Rule
   pub there : slice_get t.rules f.number ≡ Some rule
-  pub stands : IsTrue (holds (before_of rule.place) before)
+  pub before_holds : IsTrue (holds (before_of rule.place) before)
   pub character : ℕ
   pub others : List ℕ
   pub defined : IsTrue (is_defined t character)
@@ -49,11 +50,13 @@ pub record IsOwnForm (t : TableView) (f : Form) : Type 0 where
   pub cells : f.cells ≡ (own t (character ∷ [])).cells
   pub above : f.above ≡ t.rules
 
+-- the table has this form after a character of these classes
 abbrev pub IsForm : TableView → Class → Form → Type 0
 IsForm t before f = IsRuleForm t before f ⊎ IsOwnForm t f
 
 -- ---- Listed
 
+-- the characters of a table, in the order of their definitions
 abbrev pub letters : TableView → List ℕ
 letters t = keys_of t.characters
 
@@ -72,6 +75,7 @@ abbrev pub cased : TableView → Class → List Rule → Rule → List ℕ → �
 cased t before above r [] c = []
 cased t before above r (first ∷ others) c = if fold_of t c == first then rule_form before above r others c ∷ [] else []
 
+-- the forms of a rule, above which those others are ranked
 abbrev pub rule_forms : TableView → Class → List Rule → Rule → List Form
 rule_forms t before above r = if holds (before_of r.place) before then flat_map (cased t before above r r.chars) (letters t) else []
 
@@ -80,6 +84,7 @@ abbrev pub forms_from : TableView → Class → List Rule → List Rule → List
 forms_from t before above [] = []
 forms_from t before above (r ∷ rules) = rule_forms t before above r ++ forms_from t before (above ++ r ∷ []) rules
 
+-- the form of a character's own definition
 abbrev pub own_form : TableView → ℕ → Form
 own_form t c = record {
   number = (own t (c ∷ [])).number;
@@ -89,5 +94,6 @@ own_form t c = record {
   above = t.rules;
 }
 
+-- the forms of a table after a character of these classes
 abbrev pub forms : TableView → Class → List Form
 forms t before = forms_from t before [] t.rules ++ map (own_form t) (letters t)

@@ -2,8 +2,8 @@
 use Rattle.std.specs.Prelude.{ℕ, List}
 use Rattle.brl_table.specs.declared.place.Cond.{Cond}
 
--- the character, its fold, and of each rule ranked above that begins with it the other characters
--- and the after-condition
+-- the character, its fold, and the other characters and the after-condition of each rule ranked
+-- above that begins with it
 pub record LetterView : Type 0 where
   pub character : ℕ
   pub fold : ℕ

@@ -1,5 +1,5 @@
--- Internal. How the steps of a state are found: by the characters that may come next, each with
--- what the rules above ask after it. That these are the steps of the machine is proved.
+-- Internal. How the steps of a state are found: by the characters that may come next, each with the
+-- rules above that begin with it. That these are the steps of the machine is proved.
 use Rattle.std.specs.Prelude.{ℕ, ◌+◌, Bool, true, false, ◌&&◌, ◌==◌, List, [], ◌∷◌, ◌++◌, filter, map, drop, if◌then◌else◌}
 use Rattle.std.specs.List.{flat_map, list_all}
 use Rattle.brl_pairs.specs.declared.step.Step.{Step}
@@ -27,6 +27,7 @@ abbrev pub lets_in : TableView → ℕ → Due → Bool
 lets_in t c (Need cond) = holds cond (classes_of t c)
 lets_in t c (Bar chars cond) = true
 
+-- no due refuses the character
 abbrev pub may_come : TableView → List Due → ℕ → Bool
 may_come t dues c = list_all (lets_in t c) dues
 
@@ -34,6 +35,7 @@ may_come t dues c = list_all (lets_in t c) dues
 abbrev pub new_letter : TableView → ℕ → LetterView
 new_letter t c = record { character = c; fold = fold_of t c; above = [] }
 
+-- the characters of the table that may come, with nothing above them
 abbrev pub new_letters : TableView → List Due → List LetterView
 new_letters t dues = map (new_letter t) (filter (may_come t dues) (letters t))
 
@@ -55,17 +57,20 @@ with_rule before r l =
 
 -- ---- Steps
 
--- what a step that reads the character and these others leaves: of the old dues, and of what it
--- owes
+-- what is left of the bars of the rules above, after these other characters
 abbrev pub bars_of : TableView → List ℕ → List (List ℕ × Cond) → List Carried
 bars_of t others above = map (λ a. carry_bar t others a.0 a.1) above
 
+-- what is left after a step that reads the character and these others: of the old dues, and of what
+-- the step owes
 abbrev pub left_by : TableView → List Due → LetterView → List ℕ → Cond → List Carried
 left_by t dues l others after = map (carry t (l.character ∷ others)) dues ++ (need after ∷ bars_of t others l.above)
 
+-- the form that reads the character and these others
 abbrev pub letter_form : LetterView → ℕ → List ℕ → Cond → List ℕ → Form
 letter_form l number others after cells = record { number = number; reads = l.character ∷ others; after = after; cells = cells; above = [] }
 
+-- the step of that form, if it breaks no due
 abbrev pub letter_step : TableView → DuesState → LetterView → ℕ → List ℕ → Cond → List ℕ → List (Step DuesState)
 letter_step t s l number others after cells = step_if t s (letter_form l number others after cells) (gathered (left_by t s.dues l others after))
 

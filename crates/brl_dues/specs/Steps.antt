@@ -1,6 +1,6 @@
--- The dues machine of a table: its steps, each defined by itself and listed. The machine is this
--- project's own choice; the rule that is chosen, the indicators and the context are those of the
--- table (the manual's sections "Translation Opcodes" and "Braille Indicator Opcodes").
+-- The dues machine of a table: its steps, each characterized by itself and listed. The machine is
+-- this project's own choice; the rule that is chosen, the indicators and the context are those of
+-- the table (the manual's sections "Translation Opcodes" and "Braille Indicator Opcodes").
 use Rattle.std.specs.Prelude.{◌≡◌, Bool, List, [], ◌∷◌, ◌++◌, map, Option, Some, None}
 use Rattle.std.specs.List.{flat_map, list_all}
 use Rattle.brl_pairs.specs.Runs.{Behaviour}
@@ -59,10 +59,12 @@ pub record IsStep (t : TableView) (s : DuesState) (x : Step DuesState) : Type 0 
 
 -- ---- Listed
 
+-- the step with these dues after it, or none
 abbrev pub step_if : TableView → DuesState → Form → Option (List Due) → List (Step DuesState)
 step_if t s f None = []
 step_if t s f (Some dues) = step_of t s f dues ∷ []
 
+-- the step of a form, if it breaks no due
 abbrev pub steps_of : TableView → DuesState → Form → List (Step DuesState)
 steps_of t s f = step_if t s f (next_dues t s f)
 
@@ -73,15 +75,15 @@ dues_steps t s = flat_map (steps_of t s) (forms t s.before)
 
 -- ---- The machine
 
--- before any character: class space before, no numeric mode, and nothing is due
+-- the state before any character: class space before it, no numeric mode, and no dues
 abbrev pub first_state : DuesState
 first_state = state_in at_start []
 
--- a state ends where class space meets every need
+-- whether a state is final: class space meets every need
 abbrev pub ends : DuesState → Bool
 ends s = list_all met_by_space s.dues
 
--- the machine's texts and their translation are the table's
+-- the dues machine, whose texts and translation are the table's
 abbrev pub dues_machine : TableView → Behaviour DuesState
 dues_machine t = record {
   start = first_state;

@@ -1,4 +1,4 @@
-//! Rules that are ranked above the one that a step takes.
+//! The rules that are ranked above the one that a step takes.
 ghost use Rattle.std.specs.Prelude.{◌≡◌, IfOk};
 ghost use Rattle.brl_dues.specs.Carry.{carry_bar as bar_carried};
 
@@ -7,11 +7,11 @@ use brl_table::{Cond, Table};
 use std::alloc::{AllocError, Global};
 use std::marker::Model;
 
-/// A rule that is ranked above, without its first character: a contract sees its other characters and its
-/// after-condition.
+/// A rule that is ranked above, without its first character. A contract sees its other characters
+/// and its after-condition.
 #[derive(Drop)]
 pub struct Above<'a> {
-    /// The first of its other characters, which tells most rules apart.
+    /// The first of its other characters, which differs for most rules.
     second: Option<char>,
     others: &'a [char],
     after: Cond,
@@ -29,7 +29,7 @@ impl<'a> Model for Above<'a> {
 }
 
 impl<'a> Above<'a> {
-    /// A rule with these characters behind its first one, and this after-condition.
+    /// A rule with these characters after its first one, and this after-condition.
     pub fn new(others: &'a [char], after: Cond) -> Above<'a>
         ensures { result ≡ (others.now, after) }
     {
@@ -40,7 +40,7 @@ impl<'a> Above<'a> {
         }
     }
 
-    /// What is left of its bar after these characters.
+    /// What is left of its bar after the characters `past`.
     pub fn carry(&self, alloc: Global, table: &Table, past: &[char]) -> Result<Carried, AllocError>
         ensures { IfOk result (λ carried. carried ≡ bar_carried table.now past.now self.now.0 self.now.1) }
     {

@@ -32,7 +32,8 @@ pub fn class_of(table: &Table, character: char) -> Class
     }
 }
 
-/// A bar with nothing remaining: that the next character doesn't meet the condition.
+/// What is left of a bar whose characters were all read: the next character doesn't meet the
+/// condition.
 fn opposed_to(cond: Cond) -> Carried
     ensures { result ≡ opposed cond }
 {
@@ -43,7 +44,7 @@ fn opposed_to(cond: Cond) -> Carried
     }
 }
 
-/// The need of an after-condition.
+/// The need that an after-condition leaves.
 fn need_of(cond: Cond) -> Carried
     ensures { result ≡ need_of_cond cond }
 {
@@ -53,6 +54,7 @@ fn need_of(cond: Cond) -> Carried
     }
 }
 
+/// Settled where the condition holds, else broken.
 fn settled(holds: bool) -> Carried
     ensures { result ≡ settled_if holds }
 {
@@ -107,7 +109,7 @@ fn carry(alloc: Global, table: &Table, past: &[char], due: &Due) -> Result<Carri
     }
 }
 
-/// Appends what is left to the dues found so far. It answers whether it isn't broken.
+/// Appends what is left to the dues found so far. Returns whether nothing is broken.
 fn add(carried: Carried, found: &mut Vec<Due>) -> Result<bool, AllocError>
     ensures { IfOk result (λ whole. Adds (carried ∷ []) found.old.items found.new.items whole) }
 {
@@ -121,7 +123,7 @@ fn add(carried: Carried, found: &mut Vec<Due>) -> Result<bool, AllocError>
     }
 }
 
-/// Appends what is left of dues after the characters `past` to the dues found so far. It answers
+/// Appends what is left of dues after the characters `past` to the dues found so far. Returns
 /// whether none is broken.
 pub fn add_dues(
     alloc: Global,
@@ -147,8 +149,8 @@ pub fn add_need(cond: Cond, found: &mut Vec<Due>) -> Result<bool, AllocError>
     add(need_of(cond), found)
 }
 
-/// Appends the bars of the rules above, after a character and these others, to the dues found so
-/// far. It answers whether none is broken.
+/// Appends what is left of the bars of the rules above, after a character and these others, to the
+/// dues found so far. Returns whether none is broken.
 pub fn add_bars(
     alloc: Global,
     table: &Table,

@@ -1,4 +1,4 @@
-//! Dues: what a state asks of the characters to come.
+//! Dues: what a state requires of the characters to come.
 ghost use Rattle.std.specs.Prelude.{◌≡◌, IfOk};
 ghost use Rattle.brl_dues.specs.Order.{cond_cmp, cond_kind, cond_set, due_cmp};
 
@@ -7,7 +7,7 @@ use brl_table::Cond;
 use std::alloc::{AllocError, Global};
 use std::cmp::Ordering;
 
-/// What a state asks of the rest of a text. The end of the text counts as class space.
+/// What a state requires of the rest of a text. The end of the text counts as class space.
 #[derive(PartialEq, Eq, Hash, Debug, Drop)]
 pub enum Due {
     /// The classes of the next character meet the condition.
@@ -18,7 +18,7 @@ pub enum Due {
 }
 
 impl Due {
-    /// An equal due. `AllocError` where its characters find no memory.
+    /// An equal due. `AllocError` if memory runs out.
     pub fn copy(&self, alloc: Global) -> Result<Due, AllocError>
         ensures { IfOk result (λ due. due ≡ self.now) }
     {
@@ -51,6 +51,7 @@ fn compare_conds(a: Cond, b: Cond) -> Ordering
     kind_of(a).cmp(&kind_of(b)).then(set_of(a).cmp(&set_of(b)))
 }
 
+/// The place of a condition's kind in the order.
 fn kind_of(cond: Cond) -> u8
     ensures { result ≡ cond_kind cond }
 {
@@ -61,6 +62,7 @@ fn kind_of(cond: Cond) -> u8
     }
 }
 
+/// The set of a condition as a number.
 fn set_of(cond: Cond) -> u8
     ensures { result ≡ cond_set cond }
 {

@@ -24,8 +24,8 @@ pub fn dues_law()
 {}
 
 /// The dues after a step: none of what is carried is broken, and they are what is left, in order
-/// and without repeats. Dues in order are their own order, and proper dues put in order are dues
-/// that a state may have, with the same members.
+/// and without repeats. Putting dues in order keeps those that are in order; it makes proper dues
+/// ones that a state may have; and it keeps their members.
 pub fn order_law()
     ensures gathered { (carried : List CarriedValue) (dues : List DueValue) → gathered carried ≡ Some dues ↔ AreGathered carried dues }
     ensures kept { (dues : List DueValue) → AreDues dues → in_order dues ≡ dues }
@@ -42,8 +42,8 @@ pub fn step_law(table: &Table)
     table.law();
 }
 
-/// Each path of the dues machine that ends is the translation of a text, and each text has one
-/// path.
+/// Each path of the dues machine to a final state reads a text and gives its translation, and each
+/// text has one path.
 pub fn exact_law(table: &Table)
     ensures { IsExact (dues_machine table.now) }
 {
@@ -53,9 +53,9 @@ pub fn exact_law(table: &Table)
 }
 
 /// The states of the dues machine and the cells of its steps come from finite lists that depend on
-/// the table alone: the start is among the states, a step from one of them ends in one of them, its
-/// cells are among the cells, and what these end with is among the leads; and each due of one of
-/// them is among the dues.
+/// the table alone: the start is among the states, a step from one of them leads to one of them,
+/// its cells are among the cells, and what these end with is among the leads. Each due of one of
+/// the states is among the dues.
 pub fn finite_law()
     ensures start { (t : TableView) → Contains (all_states t) first_state }
     ensures steps { (t : TableView) (s : StateValue) (x : StepValue StateValue) → Contains (all_states t) s →

@@ -10,8 +10,8 @@ use brl_table::{Cond, Table, holds};
 use std::alloc::{AllocError, Global};
 use std::marker::Model;
 
-/// A character that may come next, and the rules that begin with it and are ranked above those that
-/// are left.
+/// A character that may come next, and the rules that begin with it among those that were passed,
+/// which are ranked above the others.
 #[derive(Drop)]
 pub struct Letter<'a> {
     character: char,
@@ -39,12 +39,14 @@ impl<'a> Letter<'a> {
         }
     }
 
+    /// The character.
     pub fn character(&self) -> char
         ensures { result ≡ self.now.character }
     {
         self.character
     }
 
+    /// Its fold.
     pub fn fold(&self) -> char
         ensures { result ≡ self.now.fold }
     {
@@ -67,7 +69,7 @@ impl<'a> Letter<'a> {
     }
 }
 
-/// The characters of a table that the dues let come, by their numbers, with no rules above.
+/// The characters of a table that no due refuses, by their numbers, with no rules above.
 pub fn new_letters_of<'a>(
     alloc: Global,
     table: &Table,
@@ -82,7 +84,7 @@ pub fn new_letters_of<'a>(
     Ok(found)
 }
 
-/// Appends a character, if the dues let it come.
+/// Appends a character, if no due refuses it.
 fn push_letter<'a>(
     alloc: Global,
     table: &Table,
@@ -99,14 +101,14 @@ fn push_letter<'a>(
     Ok(())
 }
 
-/// Whether no need refuses a character.
+/// Whether no due refuses a character.
 fn may_come(table: &Table, character: char, dues: &[Due]) -> bool
     ensures { result ≡ does_come table.now dues.now character }
 {
     dues.iter().all(|due| lets_in(table, character, due))
 }
 
-/// Whether a due lets a character come: a bar always does.
+/// Whether a due allows a character to come next: a bar always does.
 fn lets_in(table: &Table, character: char, due: &Due) -> bool
     ensures { result ≡ does_let_in table.now character due.now }
 {

@@ -1,9 +1,9 @@
-//! The dues machine of a table. A state holds no text: it holds what is still due of the characters
-//! to come, so that a rule of any length can be taken as soon as its first character comes.
+//! The dues machine of a table. A state remembers no text, only what is still due of the characters
+//! to come, so a rule of any length can be taken as soon as its first character comes.
 //!
 //! A step takes a rule, or the own definition of a character. It owes to each rule that is ranked
-//! above its own, and could still fit, that this rule does not fit: a `Due` of the next state. What
-//! the text must go on with or must not go on with is so decided one step at a time.
+//! above its own, and could still fit, that this rule does not fit: a `Due` of the next state. So
+//! what the text must or must not continue with is decided one step at a time.
 #![tactic(auto)]
 
 mod above;

@@ -1,4 +1,4 @@
-//! The dues of a state.
+//! The list of a state's dues.
 ghost use Rattle.std.specs.Prelude.{◌≡◌, [], length, All, IfOk, IsTrue};
 ghost use Rattle.std.specs.Cmp.{partial_equiv_from_equiv};
 ghost use Rattle.std.specs.Cmp.Lexicographic.{lists_equiv, pointwise};
@@ -13,7 +13,7 @@ use std::alloc::{AllocError, Global};
 use std::hash::{Hash, Hasher};
 use std::marker::Model;
 
-/// A list of dues in order, needs before bars, without repeats; no need of `Any`, and no bar
+/// A list of dues in order, needs before bars, without repeats. It has no need of `Any`, and no bar
 /// without characters. A contract sees the list.
 #[derive(Debug, Drop)]
 pub struct DueList {
@@ -33,7 +33,7 @@ impl Model for DueList {
 }
 
 impl DueList {
-    /// No dues. It takes no memory.
+    /// No dues. No memory is allocated.
     pub fn new(alloc: Global) -> DueList
         ensures { result ≡ [] }
     {
@@ -42,7 +42,7 @@ impl DueList {
         }
     }
 
-    /// The dues of a `Vec`, in order. It takes no memory.
+    /// The dues of a `Vec` that is in order. No memory is allocated.
     pub fn from_vec(items: Vec<Due>) -> DueList
         requires { AreDues items.items }
         ensures { result ≡ items.items }
@@ -50,7 +50,7 @@ impl DueList {
         DueList { items }
     }
 
-    /// Dues put in order, without repeats. It takes no memory.
+    /// Dues put in order, without repeats. No memory is allocated.
     pub fn in_order(found: Vec<Due>) -> DueList
         requires { All (λ due. IsTrue (is_proper due)) found.items }
         ensures { result ≡ in_order_of found.items }
@@ -61,7 +61,7 @@ impl DueList {
         DueList { items }
     }
 
-    /// How many dues there are.
+    /// The number of dues.
     pub fn len(&self) -> usize
         ensures { result ≡ length self.now }
     {
@@ -76,7 +76,7 @@ impl DueList {
         self.items.as_slice()
     }
 
-    /// An equal list. `AllocError` where it finds no memory.
+    /// An equal list. `AllocError` if memory runs out.
     pub fn copy(&self, alloc: Global) -> Result<DueList, AllocError>
         ensures { IfOk result (λ dues. dues ≡ self.now) }
     {

@@ -27,8 +27,8 @@ impl<'a> Model for Dues<'a> {
 }
 
 impl<'a> Dues<'a> {
-    /// The dues machine of a table, whose texts and translation are the table's. It takes no
-    /// memory.
+    /// The dues machine of a table, whose texts and translation are the table's. No memory is
+    /// allocated.
     pub fn new(alloc: Global, table: &'a Table) -> Dues<'a>
         ensures table { result ≡ table.now }
         ensures texts { (⟦<Dues<'a> as Machine>⟧.behaviour result).is_text ≡ is_text table.now }
@@ -46,7 +46,7 @@ impl<'a> Machine for Dues<'a> {
     ghost behaviour = { dues_machine };
 
     fn start(&self) -> DuesState {
-        // The machine's laws follow from those of the table.
+        // The laws of the machine follow from those of the table.
         choice_laws();
         translation_laws();
         self.table.law();
@@ -62,7 +62,7 @@ impl<'a> Machine for Dues<'a> {
     }
 }
 
-/// Whether class space meets a due: a bar it always does.
+/// Whether class space meets a due. A bar doesn't apply at the end of a text.
 fn is_met_by_space(due: &Due) -> bool
     ensures { result ≡ met_by_space due.now }
 {

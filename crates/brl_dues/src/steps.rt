@@ -16,8 +16,8 @@ use brl_pairs::Step;
 use brl_table::{Cond, Rule, Table, holds};
 use std::alloc::{AllocError, Global};
 
-/// What a step takes with a character: the number of its rule, the rule's other characters, what it
-/// asks of the character after these, and its cells without indicators.
+/// What a step takes with a character: the number of a rule, the rule's other characters, its
+/// condition on the character after these, and its cells without indicators.
 #[derive(Clone, Copy)]
 pub struct Taken<'a> {
     pub number: u32,
@@ -53,7 +53,7 @@ pub fn find_steps(
     Ok(listed)
 }
 
-/// Appends the steps of a rule, and adds it to the rules above those that are left.
+/// Appends the steps of a rule, and adds it to the rules above the remaining ones.
 fn take_rule<'a>(
     alloc: Global,
     table: &Table,
@@ -76,7 +76,8 @@ fn take_rule<'a>(
     Ok(())
 }
 
-/// The same for the steps that begin with one character.
+/// Appends the step of a rule that begins with one character, if there is one, and adds the rule to
+/// those above the character.
 fn take_letter<'a>(
     alloc: Global,
     table: &Table,
@@ -109,7 +110,7 @@ fn take_letter<'a>(
     Ok(())
 }
 
-/// Appends the step of a character's own definition, if no due refuses it.
+/// Appends the step of a character's own definition, if it breaks no due.
 fn push_own(
     alloc: Global,
     table: &Table,
@@ -123,7 +124,7 @@ fn push_own(
     push_step(alloc, table, state, letter, choice, listed)
 }
 
-/// Appends the step that takes this with a character, if no due refuses it.
+/// Appends the step that takes this with a character, if it breaks no due.
 fn push_step(
     alloc: Global,
     table: &Table,
@@ -145,7 +146,7 @@ fn push_step(
     Ok(())
 }
 
-/// The dues after the step that takes this with a character; None where one is broken.
+/// The dues after the step that takes this with a character; `None` where one is broken.
 fn next_dues(
     alloc: Global,
     table: &Table,

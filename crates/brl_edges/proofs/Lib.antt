@@ -1,4 +1,4 @@
 pub mod Lists
-pub mod Losing
+pub mod Missing
 pub mod EdgesLaws
 pub mod PlacesLaws

@@ -8,10 +8,10 @@ use Rattle.brl_edges.specs.declared.edge.Edge.{Edge}
 use Rattle.brl_edges.proofs.Lists.{push_cases, same_place}
 
 -- the place of this edge is passed: it is the last with its first cell
-pub passed_alike : (edges : List Edge) (place : ℕ) (e : Edge) → slice_get edges place ≡ Some e → IsLastBefore edges (place + 1) (first_of e.cells) (place + 1)
-passed_alike edges place e at = record {
+pub passed_same_cell : (edges : List Edge) (place : ℕ) (e : Edge) → slice_get edges place ≡ Some e → IsLastBefore edges (place + 1) (first_of e.cells) (place + 1)
+passed_same_cell edges place e at = record {
   before = omega arith;
-  alike = λ k f is f_at. (let here : k ≡ place = omega (arith, is) in ap (λ (g : Edge). first_of g.cells) (same_place edges place f e (ap (slice_get edges) (sym here) ∙ f_at) at));
+  same_cell = λ k f is f_at. (let here : k ≡ place = omega (arith, is) in ap (λ (g : Edge). first_of g.cells) (same_place edges place f e (ap (slice_get edges) (sym here) ∙ f_at) at));
   others = λ k f low high f_at. absurd (omega (arith, low, high));
 }
 
@@ -19,7 +19,7 @@ passed_alike edges place e at = record {
 pub passed_other : (edges : List Edge) (place cell n : ℕ) (e : Edge) → slice_get edges place ≡ Some e → cell ≢ first_of e.cells → IsLastBefore edges place cell n → IsLastBefore edges (place + 1) cell n
 passed_other edges place cell n e at other h = record {
   before = omega (arith, h.before);
-  alike = h.alike;
+  same_cell = h.same_cell;
   others = λ k f low high f_at. elim (cases_eq k place) [
     | inl here ↦ λ same. other (sym same ∙ ap (λ (g : Edge). first_of g.cells) (same_place edges place f e (ap (slice_get edges) (sym here) ∙ f_at) at))
     | inr there ↦ h.others k f low (omega (arith, high)) f_at
@@ -29,11 +29,11 @@ passed_other edges place cell n e at other h = record {
 pub nothing_before : (edges : List Edge) (cell n : ℕ) → n ≡ 0 → IsLastBefore edges 0 cell n
 nothing_before edges cell n none = record {
   before = omega (arith, none);
-  alike = λ k f is. absurd (omega (arith, none, is));
+  same_cell = λ k f is. absurd (omega (arith, none, is));
   others = λ k f low high. absurd (omega (arith, high));
 }
 
--- ---- A turn of the loop
+-- ---- A step of the loop
 
 pub each_push : (edges : List Edge) (before now : List ℕ) (k v : ℕ) (e : Edge) → now ≡ before ++ v ∷ [] → length before ≡ k → slice_get edges k ≡ Some e → IsLastBefore edges k (first_of e.cells) v
     → ((place n : ℕ) (f : Edge) → slice_get edges place ≡ Some f → slice_get before place ≡ Some n → IsLastBefore edges place (first_of f.cells) n)
@@ -56,8 +56,8 @@ latest_set edges latest k cell_of e is e_at within h cell small = elim (cases_eq
   | inl same ↦
       subst (λ (c : ℕ). IsLastBefore edges (k + 1) c (get_or (set latest cell_of (k + 1)) c 0)) (sym same)
       (rw (get_or-set_same latest cell_of (k + 1) 0 within)
-      (subst (λ (c : ℕ). IsLastBefore edges (k + 1) c (k + 1)) (sym is) (passed_alike edges k e e_at)))
+      (subst (λ (c : ℕ). IsLastBefore edges (k + 1) c (k + 1)) (sym is) (passed_same_cell edges k e e_at)))
   | inr other ↦
       rw (get_or-set_other latest cell_of cell (k + 1) 0 other)
-      (passed_other edges k cell (get_or latest cell 0) e e_at (λ alike. other (alike ∙ sym is)) (h cell small))
+      (passed_other edges k cell (get_or latest cell 0) e e_at (λ same_cell. other (same_cell ∙ sym is)) (h cell small))
 ]

@@ -1,22 +1,23 @@
--- States and pairs by numbers. That a lead has at most 1,024 cells is the project's own limit: every step gives fewer.
+-- States, and pairs that name them by their numbers. The limit of 1,024 cells for a lead is the
+-- project's own: no step gives more.
 use Rattle.std.specs.Prelude.{ℕ, ◌<◌, ◌≤◌, ◌==◌, ◌&&◌, All, Bool, List, length}
 use Rattle.std.specs.Str.{bytes_eq}
 use Rattle.brl_pairs.specs.declared.step.Pair.{Pair}
 
--- a pair whose states are told by their numbers, from 0
+-- a pair that names its states by their numbers, from 0
 abbrev pub NumberPair : Type 0
 NumberPair = Pair ℕ
 
--- whether two such pairs are the same
+-- whether two pairs of numbers are equal
 abbrev pub same_pair : NumberPair → NumberPair → Bool
 same_pair p q = (p.ahead == q.ahead) && ((p.behind == q.behind) && bytes_eq p.lead q.lead)
 
--- states, and pairs of them by numbers
+-- states, and pairs of their numbers
 pub record BodyView (S : Type 0) : Type 0 where
   pub states : List S
   pub pairs : List NumberPair
 
--- what these lists stand for
+-- the body of these lists
 abbrev pub listed : {S : Type 0} → List S → List NumberPair → BodyView S
 listed states pairs = record { states = states; pairs = pairs }
 

@@ -1,4 +1,5 @@
--- Steps by numbers: their rule, their cells and the number of their next state. The project's own choice.
+-- Steps by numbers: their rule, their cells and the number of their next state. The project's own
+-- choice.
 use Rattle.std.specs.Prelude.{◌≡◌, ℕ, ◌<◌, ◌≤◌, List, length, Some, slice_get}
 use Rattle.std.specs.Global.{Vec}
 use Rattle.brl_edges.specs.declared.edge.Edge.{Edge}
@@ -16,17 +17,17 @@ pub record AreFirstEdges {S : Type 0} (states : List S) (listed : List (Step S))
   pub count : length edges ≡ n
   pub each : (place : ℕ) (x : Step S) (e : Edge) → IsListedAt listed place x → slice_get edges place ≡ Some e → IsEdge states x e
 
--- the steps of the state with this number have these edges, in listed order
+-- the steps of the state with this number have these edges, in the listed order
 pub record AreEdges {S : Type 0} (m : Behaviour S) (states : List S) (number : ℕ) (edges : List Edge) : Type 0 where
   pub state : S
   pub at : slice_get states number ≡ Some state
   pub listed : AreFirstEdges states (m.steps state) (length (m.steps state)) edges
 
--- each list has the edges of the state whose number is the list's place
+-- each list has the edges of the state whose number is the place of the list
 abbrev pub AreKeptEdges : {S : Type 0} → Behaviour S → List S → List (Vec Edge) → Type 0
 AreKeptEdges m states kept = (number : ℕ) (edges : Vec Edge) → slice_get kept number ≡ Some edges → AreEdges m states number edges.items
 
--- no edge has a rule of a lower number than an edge before it
+-- the edges ascend by rule number
 abbrev pub AreInOrder : List Edge → Type 0
 AreInOrder edges = (i j : ℕ) (x y : Edge) → i < j → slice_get edges i ≡ Some x → slice_get edges j ≡ Some y → x.rule ≤ y.rule
 

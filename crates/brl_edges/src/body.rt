@@ -8,8 +8,9 @@ use brl_members::{Key, Members};
 use brl_pairs::Pair;
 use std::marker::Model;
 
-/// States and pairs without repeats, at most 4,294,967,295 of each, which are told by their numbers, from 0. Each pair names two
-/// of the states, and its lead has at most 1,024 cells. A contract sees the two lists.
+/// States and pairs without repeats, at most 4,294,967,295 of each. A state's number is its place
+/// among the states, from 0; each pair names two of these numbers, and its lead has at most 1,024
+/// cells. A contract sees the two lists.
 #[derive(Drop)]
 pub struct Body<S: Key> {
     states: Members<S>,
@@ -33,8 +34,9 @@ impl<S: Key> Body<S> {
         Body { states, pairs }
     }
 
-    /// The body of these states and pairs. None exactly where there are more than 4,294,967,295 states or pairs, a pair names
-    /// a state that isn't there, or a lead has more than 1,024 cells.
+    /// The body of these states and pairs. `None` exactly where there are more than 4,294,967,295
+    /// states or pairs, a pair names a state that doesn't exist, or a lead has more than 1,024
+    /// cells.
     pub fn from_parts(states: Members<S>, pairs: Members<Pair<u32>>) -> Option<Body<S>>
         ensures made { IsSome result ↔ IsInRange (listed states pairs) }
         ensures parts { IfSome result (λ body. body ≡ listed states pairs) }
@@ -49,14 +51,14 @@ impl<S: Key> Body<S> {
         Some(Body { states, pairs })
     }
 
-    /// How many states there are.
+    /// The number of states.
     pub fn state_count(&self) -> u32
         ensures { result ≡ length self.now.states }
     {
         self.states.len() as u32
     }
 
-    /// How many pairs there are.
+    /// The number of pairs.
     pub fn pair_count(&self) -> u32
         ensures { result ≡ length self.now.pairs }
     {
@@ -78,7 +80,7 @@ impl<S: Key> Body<S> {
         &self.pairs
     }
 
-    /// The number of a state.
+    /// The number of a state, if it is one of the states.
     pub fn number_of(&self, state: &S) -> Option<u32>
         ensures found { IfSome result (λ number. slice_get self.now.states number ≡ Some state.now) }
         ensures only { (number : ℕ) → slice_get self.now.states number ≡ Some state.now → result ≡ Some number }
@@ -89,14 +91,14 @@ impl<S: Key> Body<S> {
         }
     }
 
-    /// Whether a state is there.
+    /// Whether a state is one of the states.
     pub fn has_state(&self, state: &S) -> bool
         ensures { IsTrue result ↔ IsMember self.now.states state.now }
     {
         self.states.contains(state)
     }
 
-    /// The two states of a pair: that of the run ahead, and that of the run behind.
+    /// The two states of a pair: that of the run ahead and that of the run behind.
     pub fn states_of(&self, pair: &Pair<u32>) -> (&S, &S)
         requires { IsMember self.now.pairs pair.now }
         ensures ahead { slice_get self.now.states pair.now.ahead ≡ Some result.0.now }
@@ -106,7 +108,7 @@ impl<S: Key> Body<S> {
         (&states[pair.ahead as usize], &states[pair.behind as usize])
     }
 
-    /// A law: what every body keeps.
+    /// A law: every body is in range, and each state and each pair has one number.
     pub fn law(&self)
         ensures range { IsInRange self.now }
         ensures states { HaveOneNumber self.now.states }
@@ -124,6 +126,7 @@ fn are_in_range(states: usize, pairs: &[Pair<u32>]) -> bool
     pairs.iter().all(|pair| is_in_range(states, pair))
 }
 
+/// Whether a pair names two states below this count and has a lead of at most 1,024 cells.
 fn is_in_range(states: usize, pair: &Pair<u32>) -> bool
     ensures { IsTrue result ↔ IsPairOf states pair.now }
 {

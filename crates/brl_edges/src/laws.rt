@@ -8,7 +8,7 @@ ghost use Rattle.brl_edges.specs.declared.edge.Edge.{Edge as EdgeValue};
 
 use brl_pairs::Machine;
 
-/// The edges of a state ascend by rule, and each has a cell, as its steps do.
+/// The edges of a state ascend by rule, and each has a cell, like the state's steps.
 pub fn edges_law<M: Machine>(machine: &M)
     ensures in_order { (states : List M.State) (number : ℕ) (edges : List EdgeValue) →
         AreEdges (M.behaviour machine.now) states number edges → AreInOrder edges }
@@ -18,7 +18,7 @@ pub fn edges_law<M: Machine>(machine: &M)
     let _ = machine.start();
 }
 
-/// Two edges whose cells begin with different cells make no pair, so none of theirs is missing.
+/// Two edges with different first cells split into no pair, so no pair of theirs is missing.
 pub fn different_cells_law()
     ensures { (pairs : List NumberPair) (x y : EdgeValue) → 1 ≤ length x.cells → 1 ≤ length y.cells →
         first_of x.cells ≢ first_of y.cells → IsFollowed pairs x.next x.cells y }

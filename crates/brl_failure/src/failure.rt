@@ -1,4 +1,4 @@
-//! A fault, or no memory.
+//! A fault, or out of memory.
 ghost use Rattle.std.specs.Prelude.{◌≡◌, IfErr};
 ghost use Rattle.brl_failure.specs.Failure.{IfFault, IsChanged, IsRaised};
 ghost use Rattle.brl_failure.specs.declared.failure.Failure.TheVariants.{Fault, Memory};
@@ -7,8 +7,8 @@ use std::alloc::{AllocError, AllocFailed};
 use std::error::Error;
 use std::fmt;
 
-/// Why a call has no value: the fault that its definition gives, or an allocation failed. Memory may
-/// run out in any call, so only a fault says something of what was given.
+/// Why a call returns no value: its definition gives a fault for the input, or an allocation
+/// failed. Memory may run out in any call, so only a fault depends on the input.
 #[derive(Clone, Copy, PartialEq, Eq, Debug, Drop)]
 pub enum Failure<E> {
     Fault(E),
@@ -16,7 +16,7 @@ pub enum Failure<E> {
 }
 
 impl<E> Failure<E> {
-    /// The same failure, with its fault changed.
+    /// The same failure, with its fault converted.
     pub fn map<F, G: FnOnce(E) -> F>(self, change: G) -> Failure<F>
         requires { IfFault (G.pre change) self }
         ensures { IsChanged (G.post change) self result }
@@ -55,7 +55,8 @@ impl<E: Drop, T: Drop> From<AllocFailed<T>> for Failure<E> {
     }
 }
 
-/// The value of a step, or its failure, its fault changed to one of the steps around it.
+/// Converts the fault of a step to one of its caller; a value and running out of memory are passed
+/// on.
 pub fn raise<A, E, F, G: FnOnce(E) -> F>(
     step: Result<A, Failure<E>>,
     change: G,

@@ -1,4 +1,4 @@
-//! What a call that takes memory answers in place of a value: a fault, or that memory ran out.
+//! Why a call that allocates returns no value: a fault of its input, or memory ran out.
 #![tactic(auto)]
 
 mod failure;

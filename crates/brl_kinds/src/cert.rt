@@ -1,4 +1,4 @@
-//! Certificates.
+//! Certificates: one variant for each version.
 ghost use Rattle.std.specs.Prelude.{◌≡◌};
 ghost use Rattle.brl_kinds.specs.Kinds.{pair_count, state_count};
 
@@ -6,7 +6,7 @@ use brl_dues::DuesState;
 use brl_edges::Body;
 use brl_window::WindowState;
 
-/// A certificate, by the machine whose states it lists.
+/// A certificate: states of the machine of its version, and pairs of them.
 #[derive(Drop)]
 pub enum Cert {
     /// Version 1: states of a window machine.
@@ -16,7 +16,7 @@ pub enum Cert {
 }
 
 impl Cert {
-    /// How many states and how many pairs it lists.
+    /// The numbers of its states and of its pairs.
     pub fn counts(&self) -> (usize, usize)
         ensures states { result.0 ≡ state_count self.now }
         ensures pairs { result.1 ≡ pair_count self.now }

@@ -1,4 +1,4 @@
-//! Certificates, by the machine whose states each lists.
+//! Certificates, and the machine that each version of them is of.
 #![tactic(auto)]
 
 mod cert;

@@ -1,9 +1,9 @@
-//! Values by which members are found.
+//! Values that can be looked up by their hash.
 ghost use Rattle.std.specs.Prelude.{◌≡◌, true};
 
 use std::hash::Hash;
 
-/// Values that `==` calls equal only where they are one value, so that a member can be found by them.
+/// Values whose `==` is identity, so that a look-up by hash finds the value itself.
 pub trait Key: Eq + Hash + Drop {
     /// Values that `==` calls equal are one value.
     ghost same: { (a b : Self) → Self.eq a b ≡ true → a ≡ b };

@@ -1,4 +1,4 @@
-//! Lists without repeats, whose members are found by their hashes.
+//! Lists without repeats that find their members by hash.
 #![tactic(auto)]
 
 mod key;

@@ -1,4 +1,4 @@
-//! Lists without repeats.
+//! Lists without repeats that find their members by hash.
 ghost use Rattle.std.specs.Prelude.{◌≡◌, ◌↔◌, ℕ, List, [], ◌∷◌, ◌++◌, length, IfSome, IfOk, IsFalse, IsTrue, OnErr, Some, if◌then◌else◌, not, slice_get};
 ghost use Rattle.std.specs.List.{IsDistinct, list_any};
 ghost use Rattle.std.specs.Option.{option_copied};
@@ -9,7 +9,7 @@ use indexmap::IndexSet;
 use std::alloc::{AllocError, Global};
 use std::marker::Model;
 
-/// A list without repeats, in which members are found by their hashes. A contract sees the list.
+/// A list without repeats that finds its members by hash. A contract sees the list.
 #[derive(Drop)]
 pub struct Members<T: Key> {
     items: IndexSet<T>,
@@ -24,7 +24,7 @@ impl<T: Key> Model for Members<T> {
 }
 
 impl<T: Key> Members<T> {
-    /// No members. It takes no memory.
+    /// No members. No memory is allocated.
     pub fn new(alloc: Global) -> Members<T>
         ensures { result ≡ [] }
     {
@@ -33,7 +33,7 @@ impl<T: Key> Members<T> {
         }
     }
 
-    /// How many members there are.
+    /// The number of members.
     pub fn len(&self) -> usize
         ensures { result ≡ length self.now }
     {
@@ -54,7 +54,7 @@ impl<T: Key> Members<T> {
         self.items.get_index(index)
     }
 
-    /// The number of a member, from 0.
+    /// The number of the value, from 0, if it is a member.
     pub fn index_of(&self, value: &T) -> Option<usize>
         ensures found { IfSome result (λ number. slice_get self.now number ≡ Some value.now) }
         ensures only { (number : ℕ) → slice_get self.now number ≡ Some value.now → result ≡ Some number }
@@ -78,8 +78,8 @@ impl<T: Key> Members<T> {
         self.items.as_slice()
     }
 
-    /// Adds a value at the end, and answers whether it was added: one that is a member already is dropped. After `AllocError`
-    /// the members are as they were.
+    /// Adds a value at the end and returns true, or drops it and returns false if it is a member
+    /// already. `AllocError` leaves the members as they were.
     pub fn insert(&mut self, value: T) -> Result<bool, AllocError>
         ensures new { IfOk result (λ added. IsTrue added → IsMember self.old value → ⊥) }
         ensures known { IfOk result (λ added. IsFalse added → IsMember self.old value) }

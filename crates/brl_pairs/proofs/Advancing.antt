@@ -1,4 +1,4 @@
--- What becomes of a lead decides which pair a step of the run behind makes.
+-- What becomes of a lead decides which pair follows.
 use Rattle.std.proofs.Common.{◌≡◌, ℕ, List, [], ◌∷◌, ◌++◌, ◌⊎◌, inl, inr, length, Some, refl, sym, ◌∙◌, ap, arith}
 use Rattle.std.proofs.lemmas.List.{append_cancel_left, length-append}
 use Rattle.brl_pairs.specs.declared.lead.Advanced.{Advanced}
@@ -7,7 +7,7 @@ use Rattle.brl_pairs.specs.declared.step.Pair.{Pair}
 use Rattle.brl_pairs.specs.declared.step.Step.{Step}
 use Rattle.brl_pairs.specs.Pairs.{AdvanceDecides, GetsAhead, IsAdvanced, StaysBehind, pair_behind}
 
--- what begins what it goes on from adds nothing
+-- lists that extend a list they begin are empty
 adds_nothing : (xs ys zs : List ℕ) → xs ≡ (xs ++ ys) ++ zs → ys ≡ []
 adds_nothing xs [] zs e = refl
 adds_nothing xs (y ∷ ys) zs e =

@@ -1,4 +1,5 @@
--- Closed sets of states and pairs: two paths that end and give the same cells read the same.
+-- Closed sets of states and pairs: two paths to final states that give the same cells read the
+-- same.
 use Rattle.std.proofs.Common.{◌≡◌, ◌≢◌, ℕ, ◌+◌, ◌≤◌, IsTrue, List, [], ◌∷◌, ◌++◌, ◌⊎◌, inl, inr, length, zero, suc, Some, refl, sym, ◌∙◌, ap, subst, arith}
 use Rattle.std.specs.Prelude.{slice_get}
 use Rattle.std.proofs.lemmas.List.{append_cancel_left}
@@ -6,7 +7,7 @@ use Rattle.std.proofs.lemmas.Bool.{cases_eq}
 use Rattle.brl_pairs.specs.declared.step.Pair.{Pair}
 use Rattle.brl_pairs.specs.declared.step.Step.{Step}
 use Rattle.brl_pairs.specs.Runs.{Behaviour, IsListed, IsPath, KeepsLaws, IsUnambiguous, reads_of, cells_of}
-use Rattle.brl_pairs.specs.Pairs.{Sets, HasPair, IsClosed, turned}
+use Rattle.brl_pairs.specs.Pairs.{Sets, HasPair, IsClosed, swapped}
 
 -- of two lists that begin a list, one begins the other
 pub split_appends : {A : Type 0} (a b c d : List A) → a ++ b ≡ c ++ d
@@ -52,7 +53,7 @@ module _ {S : Type 0} (m : Behaviour S) (sets : Sets S) (laws : KeepsLaws m) (cl
   either n h p (inl has) first second a b few e = h p has first second a b few e
   either n h p (inr has) first second a b few e =
       let empty = has.0 in
-      h (turned p) has.1 second first b a (omega arith)
+      h (swapped p) has.1 second first b a (omega arith)
       (ap (λ l. l ++ cells_of second) empty ∙ sym e ∙ ap (λ l. l ++ cells_of first) empty)
 
   -- the run behind moves
@@ -134,10 +135,10 @@ module _ {S : Type 0} (m : Behaviour S) (sets : Sets S) (laws : KeepsLaws m) (cl
             ]
       ]
 
-  -- closed sets leave no two texts that are translated alike
+  -- closed sets leave no two texts with the same translation
   pub unambiguous_from_closed : IsUnambiguous m
   unambiguous_from_closed left right is_left is_right same =
-      let p = laws.covers left is_left in
-      let q = laws.covers right is_right in
+      let p = laws.accepts left is_left in
+      let q = laws.accepts right is_right in
       let alike : cells_of p.path ≡ cells_of q.path = p.cells ∙ same ∙ sym q.cells in
       sym p.reads ∙ same_reads m.start closed.start p.path q.path p.is_path q.is_path alike ∙ q.reads

@@ -80,16 +80,16 @@ pub letters_KeepsLaws : KeepsLaws letters
 letters_KeepsLaws = record {
   good_steps = λ s. good_letters;
   in_order = λ s. letters_in_order;
-  covers = λ text h. (let p = letters_read false text h in record { path = p.path; is_path = p.is_path; reads = p.reads; cells = p.cells });
+  accepts = λ text h. (let p = letters_read false text h in record { path = p.path; is_path = p.is_path; reads = p.reads; cells = p.cells });
 }
 
 -- ---- Closed sets
 
--- every step ends in the state behind a letter
+-- every step leads to the state after a letter
 ends_behind : (x : Step Bool) → IsListed letter_steps x → true ≡ x.next
 ends_behind x l = elim (one_of_two l.0 x l.1) [ inl h ↦ ap (λ (z : Step Bool). z.next) h.1 | inr h ↦ ap (λ (z : Step Bool). z.next) h.1 ]
 
--- a pair with these parts is the stored one
+-- a pair with these states and this lead is the stored one
 is_stored : (p : Pair Bool) → true ≡ p.ahead → true ≡ p.behind → 3 ∷ [] ≡ p.lead → letter_pairs 0 ≡ Some p
 is_stored p ahead behind lead = λ i. Some (record { ahead = ahead i; behind = behind i; lead = lead i })
 

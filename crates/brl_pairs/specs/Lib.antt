@@ -1,4 +1,4 @@
 pub mod Runs
 pub mod Pairs
-pub mod Same
 pub mod Examples
+pub mod Same

@@ -1,5 +1,6 @@
--- Pairs of runs, the lead of the one over the other, and closed sets of states and pairs. The notion is that of Sardinas and
--- Patterson for codes; that it is asked of a machine's runs is this project's own choice.
+-- Pairs of runs, the lead of one run over the other, and closed sets of states and pairs. A lead is
+-- what Sardinas and Patterson's test of codes calls a dangling suffix; applying the test to the
+-- runs of a machine is this project's own choice.
 use Rattle.std.specs.Prelude.{◌≡◌, ◌≢◌, ℕ, IsTrue, List, [], ◌++◌, ◌⊎◌, ◌↔◌, Option, Some, None}
 use Rattle.brl_pairs.specs.declared.lead.Advanced.{Advanced}
 use Rattle.brl_pairs.specs.declared.lead.Advanced.TheVariants.{Still, Swapped, Apart}
@@ -7,7 +8,7 @@ use Rattle.brl_pairs.specs.declared.step.Pair.{Pair}
 use Rattle.brl_pairs.specs.declared.step.Step.{Step}
 use Rattle.brl_pairs.specs.Runs.{Behaviour, IsListed, IsListedAt}
 
--- what becomes of a lead where the run behind gives these cells
+-- the lead after the run behind has given these cells
 abbrev pub IsAdvanced : List ℕ → List ℕ → Advanced → Type 0
 -- the cells begin the lead
 IsAdvanced lead cells (Still rest) = lead ≡ cells ++ rest.now
@@ -16,8 +17,8 @@ IsAdvanced lead cells (Swapped rest) = (rest.now ≢ []) × (cells ≡ lead ++ r
 -- neither begins the other
 IsAdvanced lead cells Apart = ((rest : List ℕ) → lead ≢ cells ++ rest) × ((rest : List ℕ) → cells ≢ lead ++ rest)
 
--- Two different listed steps, the cells of one of which begin those of the other, split into a pair: the step with the longer
--- cells goes ahead. Different are the places in the list.
+-- Two listed steps at different places split into a pair where the cells of one begin those of the
+-- other. The step with the longer cells goes ahead, by the rest of them.
 pub record Splits {S : Type 0} (listed : List (Step S)) (p : Pair S) : Type 0 where
   pub i : ℕ
   pub j : ℕ
@@ -36,7 +37,8 @@ pub record StaysBehind {S : Type 0} (p : Pair S) (x : Step S) (q : Pair S) : Typ
   pub behind : q.behind ≡ x.next
   pub lead : p.lead ≡ x.cells ++ q.lead
 
--- the run behind takes a step, and the lead is a shorter beginning of its cells: it gets ahead, by the rest of the cells
+-- the run behind takes a step, and the lead is a shorter beginning of its cells: it gets ahead, by
+-- the rest of the cells
 pub record GetsAhead {S : Type 0} (p : Pair S) (x : Step S) (q : Pair S) : Type 0 where
   pub ahead : q.ahead ≡ x.next
   pub behind : q.behind ≡ p.ahead
@@ -49,13 +51,14 @@ pub record Moves {S : Type 0} (m : Behaviour S) (p q : Pair S) : Type 0 where
   pub listed : IsListed (m.steps p.behind) step
   pub moved : StaysBehind p step q ⊎ GetsAhead p step q
 
--- the pair that a step of the run behind makes of a pair, by what becomes of the lead; none where the runs give different cells
+-- the pair that follows when the run behind takes a step, by what becomes of the lead; none where
+-- the runs give different cells
 abbrev pub pair_behind : {S : Type 0} → Pair S → Step S → Advanced → Option (Pair S)
 pair_behind p x (Still rest) = Some (record { ahead = p.ahead; behind = x.next; lead = rest.now })
 pair_behind p x (Swapped rest) = Some (record { ahead = x.next; behind = p.ahead; lead = rest.now })
 pair_behind p x Apart = None
 
--- `advance` decides what a step of the run behind makes of a pair
+-- `advance` decides which pair follows when the run behind takes a step
 abbrev pub AdvanceDecides : Type 0 → Type 0
 AdvanceDecides S =
     (p q : Pair S) (x : Step S) (advanced : Advanced) → IsAdvanced p.lead x.cells advanced
@@ -68,32 +71,32 @@ pub record Sets (S : Type 0) : Type 1 where
   pub has_state : S → Type 0
   pub has_pair : Pair S → Type 0
 
--- the pair in its other order
-abbrev pub turned : {S : Type 0} → Pair S → Pair S
-turned p = record { ahead = p.behind; behind = p.ahead; lead = p.lead }
+-- the pair with its runs exchanged
+abbrev pub swapped : {S : Type 0} → Pair S → Pair S
+swapped p = record { ahead = p.behind; behind = p.ahead; lead = p.lead }
 
--- a pair is there as it stands, or in its other order where its lead is empty
+-- the set has the pair as it is, or swapped where its lead is empty
 abbrev pub InEitherOrder : {S : Type 0} → (Pair S → Type 0) → Pair S → Type 0
-InEitherOrder Has p = Has p ⊎ ((p.lead ≡ []) × Has (turned p))
+InEitherOrder Has p = Has p ⊎ ((p.lead ≡ []) × Has (swapped p))
 
--- a wanted pair is there, in either order
+-- the sets have the pair, in either order
 abbrev pub HasPair : {S : Type 0} → Sets S → Pair S → Type 0
 HasPair sets p = InEitherOrder sets.has_pair p
 
 -- the sets are closed under a machine's steps
 pub record IsClosed {S : Type 0} (m : Behaviour S) (sets : Sets S) : Type 0 where
-  -- the start is among the states
+  -- the start is one of the states
   pub start : sets.has_state m.start
-  -- each step from one of the states ends in one of them
+  -- each step from one of the states leads to one of them
   pub steps : (s : S) (x : Step S) → sets.has_state s → IsListed (m.steps s) x → sets.has_state x.next
   -- each split of one of the states is among the pairs
   pub splits : (s : S) (p : Pair S) → sets.has_state s → Splits (m.steps s) p → HasPair sets p
-  -- what one of the pairs moves to, where the run that it names as behind takes a step, is among the pairs
+  -- where the run behind of one of the pairs takes a step, the pair that follows is among the pairs
   pub moves : (p q : Pair S) → sets.has_pair p → Moves m p q → HasPair sets q
-  -- none of the pairs has an empty lead and two states that end
+  -- none of the pairs has an empty lead and two final states
   pub ends : (p : Pair S) → sets.has_pair p → p.lead ≡ [] → IsTrue (m.ends p.ahead) → IsTrue (m.ends p.behind) → ⊥
 
--- sets that are given by numbers: a member is what some number gives
+-- the sets whose members are what the numbers give
 abbrev pub numbered : {S : Type 0} → (ℕ → Option S) → (ℕ → Option (Pair S)) → Sets S
 numbered states pairs = record {
   has_state = λ s. (number : ℕ) × (states number ≡ Some s);

@@ -1,11 +1,12 @@
--- Machines and their runs: steps from one state to the next. A machine, its laws and what is said of it here are this project's
--- own choice. No table is needed: a machine has texts, and a translation of each.
+-- Machines and their runs: steps from one state to the next. No table is needed: a machine has
+-- texts, and a translation of each. These definitions are this project's own choice.
 use Rattle.std.specs.Prelude.{◌≡◌, ◌≢◌, ℕ, ◌<◌, ◌≤◌, Bool, IsTrue, List, [], ◌∷◌, length, Some, slice_get}
 use Rattle.std.specs.List.{flat_map}
 use Rattle.brl_pairs.specs.declared.step.Step.{Step}
 
--- What a contract sees of a machine with these states: where it starts, the steps that it lists from each state, which states
--- end, which lists of characters are its texts, and the cells of each text.
+-- What a contract sees of a machine with these states: where it starts, the steps that it lists
+-- from each state, which states are final, which lists of characters are its texts, and the cells
+-- of each text.
 pub record Behaviour (S : Type 0) : Type 0 where
   pub start : S
   pub steps : S → List (Step S)
@@ -14,21 +15,24 @@ pub record Behaviour (S : Type 0) : Type 0 where
   pub translation : List ℕ → List ℕ
 
 module _ {S : Type 0} where
-  -- the step is listed at this place, or at some place
+  -- the step is listed at this place
   abbrev pub IsListedAt : List (Step S) → ℕ → Step S → Type 0
   IsListedAt listed place x = slice_get listed place ≡ Some x
 
+  -- the step is listed at some place
   abbrev pub IsListed : List (Step S) → Step S → Type 0
   IsListed listed x = (place : ℕ) × IsListedAt listed place x
 
-  -- the characters that steps read, joined, and their cells, joined
+  -- the characters that the steps of a path read, joined
   abbrev pub reads_of : List (Step S) → List ℕ
   reads_of path = flat_map (λ (x : Step S). x.reads) path
 
+  -- the cells that the steps of a path give, joined
   abbrev pub cells_of : List (Step S) → List ℕ
   cells_of path = flat_map (λ (x : Step S). x.cells) path
 
-  -- from the state these steps may be taken, one after another, and the state behind the last of them ends
+  -- these steps may be taken from the state, one after another, and the last of them leads to a
+  -- final state
   abbrev pub IsPath : Behaviour S → S → List (Step S) → Type 0
   IsPath m s [] = IsTrue (m.ends s)
   IsPath m s (x ∷ path) = IsListed (m.steps s) x × IsPath m x.next path
@@ -41,35 +45,37 @@ pub record IsGoodStep {S : Type 0} (x : Step S) : Type 0 where
   pub few_cells : length x.cells ≤ 1024
   pub some_reads : 1 ≤ length x.reads
 
--- of two steps in a list the later one is another step, and its rule has no lower number
-pub record StandsBefore {S : Type 0} (x y : Step S) : Type 0 where
+-- the second step differs from the first, and its rule has no lower number
+pub record Precedes {S : Type 0} (x y : Step S) : Type 0 where
   pub differ : x ≢ y
   pub ascend : x.rule ≤ y.rule
 
+-- each listed step precedes those after it: none is listed twice, and they ascend by rule number
 abbrev pub IsInOrder : {S : Type 0} → List (Step S) → Type 0
-IsInOrder {S} listed = (i j : ℕ) (x y : Step S) → i < j → IsListedAt listed i x → IsListedAt listed j y → StandsBefore x y
+IsInOrder {S} listed = (i j : ℕ) (x y : Step S) → i < j → IsListedAt listed i x → IsListedAt listed j y → Precedes x y
 
--- a path from the start to a state that ends, which reads the text and gives its translation
-pub record Covers {S : Type 0} (m : Behaviour S) (text : List ℕ) : Type 0 where
+-- a path from the start to a final state, which reads the text and gives its translation
+pub record Accepts {S : Type 0} (m : Behaviour S) (text : List ℕ) : Type 0 where
   pub path : List (Step S)
   pub is_path : IsPath m m.start path
   pub reads : reads_of path ≡ text
   pub cells : cells_of path ≡ m.translation text
 
--- what every machine keeps: its steps are good, no step is listed twice and steps ascend by rule number, for every value of the
--- state type; and each text has a path that gives its translation
+-- the laws of every machine: in every value of the state type its steps are good and in order, and
+-- each text is accepted by a path that gives its translation
 pub record KeepsLaws {S : Type 0} (m : Behaviour S) : Type 0 where
   pub good_steps : (s : S) (x : Step S) → IsListed (m.steps s) x → IsGoodStep x
   pub in_order : (s : S) → IsInOrder (m.steps s)
-  pub covers : (text : List ℕ) → IsTrue (m.is_text text) → Covers m text
+  pub accepts : (text : List ℕ) → IsTrue (m.is_text text) → Accepts m text
 
--- ---- What may be said of a machine
+-- ---- Properties that a machine may have
 
--- texts that are translated alike are one text: no two different texts clash, of whatever length
+-- two texts that are translated to the same cells are equal, whatever their length
 abbrev pub IsUnambiguous : {S : Type 0} → Behaviour S → Type 0
 IsUnambiguous m = (left right : List ℕ) → IsTrue (m.is_text left) → IsTrue (m.is_text right) → m.translation left ≡ m.translation right → left ≡ right
 
--- each path from the start to a state that ends reads a text and gives its translation, and no other path reads that text
+-- each path from the start to a final state reads a text and gives its translation, and no other
+-- path reads that text
 pub record IsExact {S : Type 0} (m : Behaviour S) : Type 0 where
   pub text : (path : List (Step S)) → IsPath m m.start path → IsTrue (m.is_text (reads_of path))
   pub translates : (path : List (Step S)) → IsPath m m.start path → cells_of path ≡ m.translation (reads_of path)

@@ -1,10 +1,12 @@
--- Equal pairs are one pair, where equal states are one state.
+-- Internal. Pairs that the derived equality calls equal are equal, where the states' equality keeps
+-- that.
 use Rattle.std.proofs.Common.{◌≡◌, ◌&&◌, Bool, true, sym}
 use Rattle.std.specs.Cmp.{first_so, second_so}
 use Rattle.std.specs.Cmp.Lexicographic.{same_text}
 use Rattle.std.specs.Str.{bytes_eq}
 use Rattle.brl_pairs.specs.declared.step.Pair.{Pair}
 
+-- two pairs with equal parts are one pair
 pub same_pairs : {S : Type 0} (equal : S → S → Bool) → ((a b : S) → equal a b ≡ true → a ≡ b) → (p q : Pair S)
     → (equal p.ahead q.ahead && (equal p.behind q.behind && bytes_eq p.lead q.lead)) ≡ true → p ≡ q
 same_pairs equal same p q h =

@@ -5,18 +5,19 @@ use brl_members::Key;
 /// A step of a machine.
 #[derive(Debug, Drop)]
 pub struct Step<S> {
-    /// The number of the rule that it takes.
+    /// The number of the rule that it applies.
     pub rule: u32,
     /// The characters that it reads.
     pub reads: Chars,
     /// The cells that it gives.
     pub cells: Cells,
-    /// The state behind it.
+    /// The state after it.
     pub next: S,
 }
 
-/// Two runs of a machine, told by the states that they have come to: that of `ahead` has given the cells `lead` more
-/// than that of `behind`. A pair by numbers is one whose states are told by their numbers in a list.
+/// Two runs of a machine with the same output, except for the lead: the run that is now in the
+/// state `ahead` has given the cells `lead` more than the run that is in the state `behind`. Where
+/// the states are the members of a list, `S` may be their numbers in it.
 #[derive(PartialEq, Eq, Hash, Debug, Drop)]
 pub struct Pair<S> {
     pub ahead: S,

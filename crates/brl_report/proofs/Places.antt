@@ -17,7 +17,7 @@ file-of_info t is c info e =
 pub found-info : (t : TableView) (c : ℕ) (result : Option (Bor Info)) (info : Bor Info) → option_copied result ≡ info_of t c → result ≡ Some info → info_of t c ≡ Some info.now
 found-info t c result info copied some = sym copied ∙ rw some refl
 
--- behind the last rule in rank stand the own definitions
+-- after the last rule in rank come the own definitions
 pub own-place : (t : TableView) (n : ℕ) (characters : List ℕ) (c : ℕ) (info : Info) → length t.rules ≤ n → slice_get characters 0 ≡ Some c → info_of t c ≡ Some info
     → place_of_rule t (slice_get t.rules n) characters ≡ place_text t info.file info.line
 own-place t n characters c info past first found = rw (slice_get_past t.rules n past, first, found) refl

@@ -1,3 +1,3 @@
-pub mod Shown
-pub mod Rows
 pub mod Report
+pub mod Steps
+pub mod Rows

@@ -5,30 +5,31 @@ use Rattle.std.specs.Str.{encode_utf8_all}
 use Rattle.brl_cells.specs.Dots.{spelling}
 use Rattle.brl_lines.specs.Spelling.{text_spelling}
 use Rattle.brl_report.specs.Rows.{row_lines, row_of}
-use Rattle.brl_report.specs.Shown.{common, shown_steps}
-use Rattle.brl_report.specs.declared.shown.Shown.{Shown}
+use Rattle.brl_report.specs.Steps.{common_prefix, report_steps}
+use Rattle.brl_report.specs.declared.steps.ReportStep.{ReportStep}
 use Rattle.brl_table.specs.TableView.{TableView}
 
--- the texts, spelled, and their cells in dots
-abbrev pub heads : List ℕ → List ℕ → List ℕ → List ℕ
-heads left right cells =
+-- the lines of the texts, spelled, and of their cells in dots
+abbrev pub header : List ℕ → List ℕ → List ℕ → List ℕ
+header left right cells =
     codes "left: " ++ encode_utf8_all (text_spelling left) ++ codes "\n"
     ++ codes "right: " ++ encode_utf8_all (text_spelling right) ++ codes "\n"
     ++ codes "cells: " ++ spelling cells ++ codes "\n"
 
--- the position of the first of some steps
-abbrev pub first_start : List Shown → ℕ
+-- the position of the first of some steps, or 0
+abbrev pub first_start : List ReportStep → ℕ
 first_start [] = 0
 first_start (x ∷ steps) = x.step.start
 
--- a side's steps, from where the two translations part
-abbrev pub block : TableView → List ℕ → List Shown → List ℕ
-block t side steps = side ++ codes " from " ++ decimal (first_start steps) ++ codes ":\n" ++ row_lines (map (row_of t) steps)
+-- a side of this name: its steps from where the two translations diverge
+abbrev pub side : TableView → List ℕ → List ReportStep → List ℕ
+side t name steps = name ++ codes " from " ++ decimal (first_start steps) ++ codes ":\n" ++ row_lines (map (row_of t) steps)
 
--- the whole report of two texts and the cells of both
-abbrev pub report_of : TableView → List ℕ → List Shown → List Shown → List ℕ
+-- both sides after a text
+abbrev pub report_of : TableView → List ℕ → List ReportStep → List ReportStep → List ℕ
 report_of t front left right =
-    front ++ block t (codes "left") (drop (common left right) left) ++ block t (codes "right") (drop (common left right) right)
+    front ++ side t (codes "left") (drop (common_prefix left right) left) ++ side t (codes "right") (drop (common_prefix left right) right)
 
+-- the whole report of two texts and their cells
 abbrev pub report_text : TableView → List ℕ → List ℕ → List ℕ → List ℕ
-report_text t left right cells = report_of t (heads left right cells) (shown_steps t left) (shown_steps t right)
+report_text t left right cells = report_of t (header left right cells) (report_steps t left) (report_steps t right)

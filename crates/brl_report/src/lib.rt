@@ -1,10 +1,10 @@
-//! The report of a clash: the two texts, their cells, and of each text the steps of its translation from the first one on that
-//! the other text hasn't.
+//! The report of a clash: the two texts, their cells, and for each text the steps of its
+//! translation from the first one that the other text doesn't have.
 #![tactic(auto)]
 
-mod block;
-mod reporting;
+mod clash_report;
 mod row;
-mod shown;
+mod side;
+mod steps;
 
-pub use reporting::report;
+pub use clash_report::report;

@@ -1,8 +1,8 @@
-//! The lines of a report that tell the steps of a text.
+//! The lines of a report that list the steps of a text.
 ghost use Rattle.std.specs.Prelude.{◌≡◌, ◌<◌, ◌++◌, IfOk, OnOk, Some, length, slice_get, string_bytes};
 ghost use Rattle.brl_report.specs.Rows.{filled, first_column, place_of_rule, place_text, row_line, row_of, second_column, widest};
 
-use crate::shown::Shown;
+use crate::steps::ReportStep;
 use brl_cells::write_dots;
 use brl_lines::spell_chars;
 use brl_table::Table;
@@ -10,7 +10,8 @@ use std::alloc::{AllocError, Global};
 use std::marker::Model;
 use unicode_width::UnicodeWidthStr;
 
-/// The columns of a line: a step's characters as they are spelled, its cells in dots, and the place of its rule.
+/// The columns of a line: a step's characters as they are spelled, its cells in dots, and the
+/// location of its rule.
 #[derive(Drop)]
 pub struct Row {
     characters: String,
@@ -27,7 +28,7 @@ impl Model for Row {
     ghost view = { λ r. record { characters = string_bytes r.characters; dots = string_bytes r.dots; place = string_bytes r.place } };
 }
 
-/// A file and a line of it.
+/// A file and one of its lines, as `FILE:LINE`.
 fn place_text(alloc: Global, table: &Table, file: usize, line: u32) -> Result<String, AllocError>
     requires { file < length table.now.files }
     ensures { IfOk result (λ text. string_bytes text ≡ place_text table.now file line) }
@@ -38,15 +39,16 @@ fn place_text(alloc: Global, table: &Table, file: usize, line: u32) -> Result<St
     Ok(text)
 }
 
-/// The place of a step's rule; of an own definition, that of the line that gave its character its cells.
-fn place_of(alloc: Global, table: &Table, shown: &Shown) -> Result<String, AllocError>
-    ensures { IfOk result (λ text. string_bytes text ≡ place_of_rule table.now (slice_get table.now.rules shown.now.step.rule) shown.now.characters) }
+/// The location of a step's rule; of an own definition, that of the line that gave its character
+/// its cells.
+fn place_of(alloc: Global, table: &Table, step: &ReportStep) -> Result<String, AllocError>
+    ensures { IfOk result (λ text. string_bytes text ≡ place_of_rule table.now (slice_get table.now.rules step.now.step.rule) step.now.characters) }
 {
     table.law();
-    if let Some(rule) = table.rules_in_rank().get(shown.step.rule as usize) {
+    if let Some(rule) = table.rules_in_rank().get(step.step.rule as usize) {
         return place_text(alloc, table, rule.file, rule.line);
     }
-    let Some(character) = shown.characters.as_slice().first() else {
+    let Some(character) = step.characters.as_slice().first() else {
         return Ok(String::new(alloc));
     };
     let Some(info) = table.info(*character) else {
@@ -57,17 +59,17 @@ fn place_of(alloc: Global, table: &Table, shown: &Shown) -> Result<String, Alloc
 
 impl Row {
     /// The columns of a step.
-    pub fn of(alloc: Global, table: &Table, shown: &Shown) -> Result<Row, AllocError>
-        ensures { IfOk result (λ row. row ≡ row_of table.now shown.now) }
+    pub fn of(alloc: Global, table: &Table, step: &ReportStep) -> Result<Row, AllocError>
+        ensures { IfOk result (λ row. row ≡ row_of table.now step.now) }
     {
         Ok(Row {
-            characters: spell_chars(alloc, shown.characters.as_slice())?,
-            dots: write_dots(alloc, shown.step.cells.as_slice())?,
-            place: place_of(alloc, table, shown)?,
+            characters: spell_chars(alloc, step.characters.as_slice())?,
+            dots: write_dots(alloc, step.step.cells.as_slice())?,
+            place: place_of(alloc, table, step)?,
         })
     }
 
-    /// Writes the line behind a text, its first two columns so wide.
+    /// Appends the line to a text, with these widths of its first two columns.
     pub fn push_line(
         &self,
         alloc: Global,
@@ -86,7 +88,7 @@ impl Row {
     }
 }
 
-/// Writes a column behind a text, filled with blanks to a width.
+/// Appends a column to a text, padded with blanks to a width.
 fn push_filled(
     alloc: Global,
     text: &mut String,
@@ -100,14 +102,14 @@ fn push_filled(
     text.push_str(blanks.as_str())
 }
 
-/// How wide the first two columns of lines are.
+/// The widths of the first two columns.
 #[derive(Clone, Copy)]
 pub struct Widths {
     pub first: usize,
     pub second: usize,
 }
 
-/// The widths of the widest first column and of the widest second column of some lines.
+/// The widths that fit the first two columns of all rows.
 pub fn widths_of(rows: &[Row]) -> Widths
     ensures first { result.first ≡ widest first_column rows.now }
     ensures second { result.second ≡ widest second_column rows.now }

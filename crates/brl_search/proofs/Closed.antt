@@ -3,7 +3,7 @@ use Rattle.std.proofs.Common.{◌≡◌, ◌≢◌, ℕ, ◌<◌, IsTrue, List, 
 use Rattle.std.proofs.lemmas.Option.{slice_get_within}
 use Rattle.brl_edges.specs.Sets.{sets_of}
 use Rattle.brl_edges.specs.Body.{NumberPair, listed}
-use Rattle.brl_pairs.specs.Pairs.{Splits, Moves, HasPair, IsClosed, turned}
+use Rattle.brl_pairs.specs.Pairs.{Splits, Moves, HasPair, IsClosed, swapped}
 use Rattle.brl_pairs.specs.Runs.{Behaviour, IsListed, IsListedAt}
 use Rattle.brl_pairs.specs.declared.step.Pair.{Pair}
 use Rattle.brl_pairs.specs.declared.step.Step.{Step}
@@ -34,7 +34,7 @@ module _ {M S : Type 0} (behaviour : M → Behaviour S) (f : Finder M S) (t : Tr
   -- a pair of numbers that is there names a pair that is there
   has_pair : (a b : ℕ) (lead : List ℕ) (p : Pair S) → slice_get t.states a ≡ Some p.ahead → slice_get t.states b ≡ Some p.behind → lead ≡ p.lead → IsThere t.pairs a b lead → HasPair (sets_of (listed t.states t.pairs)) p
   has_pair a b lead p a_at b_at same (inl h) = inl (h.0, at_named t.states t.pairs h.0 _ p h.1 (record { ahead = a_at; behind = b_at; lead = same }))
-  has_pair a b lead p a_at b_at same (inr h) = inr (sym same ∙ h.0, (h.1.0, at_named t.states t.pairs h.1.0 _ (turned p) h.1.1 (record { ahead = b_at; behind = a_at; lead = same })))
+  has_pair a b lead p a_at b_at same (inr h) = inr (sym same ∙ h.0, (h.1.0, at_named t.states t.pairs h.1.0 _ (swapped p) h.1.1 (record { ahead = b_at; behind = a_at; lead = same })))
 
   steps_there : (s : S) (x : Step S) → (k : ℕ) → slice_get t.states k ≡ Some s → IsListed ((behaviour f.machine.now).steps s) x → (n : ℕ) × (slice_get t.states n ≡ Some x.next)
   steps_there s x k at l =

@@ -3,7 +3,7 @@ use Rattle.std.proofs.Common.{◌≡◌, ℕ, ◌+◌, ◌≤◌, List, ◌++◌
 use Rattle.std.specs.List.{Contains, flat_map}
 use Rattle.brl_pairs.specs.declared.step.Pair.{Pair}
 use Rattle.brl_pairs.specs.declared.step.Step.{Step}
-use Rattle.brl_pairs.specs.Pairs.{GetsAhead, Moves, Splits, StaysBehind, turned}
+use Rattle.brl_pairs.specs.Pairs.{GetsAhead, Moves, Splits, StaysBehind, swapped}
 use Rattle.brl_pairs.specs.Runs.{Behaviour, IsListed, KeepsLaws}
 use Rattle.std.proofs.Common.{subst}
 use Rattle.brl_search.specs.Deciding.{HasLeadOfStep, HoldsSteps, all_pairs, pairs_with}
@@ -55,7 +55,7 @@ module _ {S : Type 0} (m : Behaviour S) where
     | inr swap ↦ of_swap p q h.step h.listed swap r
   ]
 
-  of_other : (p : Pair S) → HasLeadOfStep m p → HasLeadOfStep m (turned p)
+  of_other : (p : Pair S) → HasLeadOfStep m p → HasLeadOfStep m (swapped p)
   of_other p r = record {
     ahead = r.behind;
     behind = r.ahead;

@@ -2,7 +2,7 @@
 use Rattle.std.proofs.Common.{◌≡◌, ℕ, zero, suc, ◌<◌, List, [], ◌∷◌, ◌++◌, inl, inr, length, Some, slice_get, refl, sym, ◌∙◌, ap, subst, arith}
 use Rattle.brl_members.specs.Members.{HaveOneNumber}
 use Rattle.brl_edges.specs.Body.{NumberPair, listed}
-use Rattle.brl_pairs.specs.Pairs.{turned}
+use Rattle.brl_pairs.specs.Pairs.{swapped}
 use Rattle.brl_pairs.specs.Runs.{Behaviour}
 use Rattle.brl_pairs.specs.declared.step.Pair.{Pair}
 use Rattle.brl_search.specs.Answers.{AreInOrder, HasReachedPairs, HasReachedStates, HasTwoEndsReached}
@@ -188,7 +188,7 @@ module _ {S : Type 0} (m : Behaviour S) (t : Trail S) (traced : IsTraced m t) wh
     pairs_apart i j q r p o less q_at r_at q_names r_names (inl same) = (traced.differ i j q r less q_at r_at).in_this_order (same_numbers q r p o q_names r_names same)
     pairs_apart i j q r p o less q_at r_at q_names r_names (inr same) =
         (traced.differ i j q r less q_at r_at).in_other_order (q_names.lead ∙ same.0)
-        (same_numbers (turned q) r (turned p) o (record { ahead = q_names.behind; behind = q_names.ahead; lead = q_names.lead }) r_names same.1)
+        (same_numbers (swapped q) r (swapped p) o (record { ahead = q_names.behind; behind = q_names.ahead; lead = q_names.lead }) r_names same.1)
 
     pub pairs_counted : AtLeast (length t.pairs) SamePair (ReachedPair m)
     pairs_counted = record {

@@ -5,7 +5,7 @@ use Rattle.brl_edges.specs.Body.{NumberPair}
 use Rattle.brl_edges.specs.declared.edge.Edge.{Edge}
 use Rattle.brl_edges.specs.Pairs.{IsThere, IsFollowed}
 use Rattle.brl_members.specs.Members.{IsMember}
-use Rattle.brl_pairs.specs.Pairs.{turned}
+use Rattle.brl_pairs.specs.Pairs.{swapped}
 use Rattle.brl_search.specs.SearchView.{Stays}
 use Rattle.brl_search.specs.Trail.{DifferAsPairs}
 use Rattle.brl_search.proofs.Lists.{inserted}
@@ -18,10 +18,10 @@ parts p a b l ahead behind lead = λ i. record { ahead = ahead i; behind = behin
 pub absent_differ : (pairs : List NumberPair) (p : NumberPair) → (IsThere pairs p.ahead p.behind p.lead → ⊥) → (n : ℕ) (q : NumberPair) → slice_get pairs n ≡ Some q → DifferAsPairs q p
 absent_differ pairs p absent n q at = record {
   in_this_order = λ same. absent (inl (n, at ∙ ap (λ (z : NumberPair). Some z) same));
-  in_other_order = λ no_lead turned.
-      (let ahead : q.behind ≡ p.ahead = ap (λ (z : NumberPair). z.ahead) turned in
-      let behind : q.ahead ≡ p.behind = ap (λ (z : NumberPair). z.behind) turned in
-      let lead : q.lead ≡ p.lead = ap (λ (z : NumberPair). z.lead) turned in
+  in_other_order = λ no_lead swapped.
+      (let ahead : q.behind ≡ p.ahead = ap (λ (z : NumberPair). z.ahead) swapped in
+      let behind : q.ahead ≡ p.behind = ap (λ (z : NumberPair). z.behind) swapped in
+      let lead : q.lead ≡ p.lead = ap (λ (z : NumberPair). z.lead) swapped in
       absent (inr (sym lead ∙ no_lead, (n, at ∙ ap (λ (z : NumberPair). Some z) (parts q p.behind p.ahead p.lead behind ahead lead)))));
 }
 
@@ -34,7 +34,7 @@ pub nothing_inserted : (pairs new : List NumberPair) (p : NumberPair) (added : B
 nothing_inserted pairs new p added wasnt members = members ∙ ap (λ (b : Bool). if b then pairs ++ p ∷ [] else pairs) wasnt
 
 -- a pair that is added, and whose other order isn't there, was not there
-pub added_absent : (pairs : List NumberPair) (p : NumberPair) → (IsMember pairs p → ⊥) → ((p.lead ≡ []) × IsMember pairs (turned p) → ⊥) → IsThere pairs p.ahead p.behind p.lead → ⊥
+pub added_absent : (pairs : List NumberPair) (p : NumberPair) → (IsMember pairs p → ⊥) → ((p.lead ≡ []) × IsMember pairs (swapped p) → ⊥) → IsThere pairs p.ahead p.behind p.lead → ⊥
 added_absent pairs p new other (inl h) = new h
 added_absent pairs p new other (inr h) = other h
 
@@ -54,12 +54,6 @@ pub followed_swapped : (pairs : List NumberPair) (ahead : ℕ) (lead : List ℕ)
 followed_swapped pairs ahead lead e rest some shorter there = record {
   still = λ other is. absurd (some (none_left lead other rest (is ∙ ap (λ (z : List ℕ). z ++ other) shorter)));
   swapped = λ other more is. subst (IsThere pairs e.next ahead) (append_cancel_left lead rest other (sym shorter ∙ is)) there;
-}
-
-pub followed_apart : (pairs : List NumberPair) (ahead : ℕ) (lead : List ℕ) (e : Edge) → ((rest : List ℕ) → lead ≢ e.cells ++ rest) → ((rest : List ℕ) → e.cells ≢ lead ++ rest) → IsFollowed pairs ahead lead e
-followed_apart pairs ahead lead e longer shorter = record {
-  still = λ rest is. absurd (longer rest is);
-  swapped = λ rest some is. absurd (shorter rest is);
 }
 
 -- ---- Where pairs are added

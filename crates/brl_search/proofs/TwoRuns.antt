@@ -7,13 +7,13 @@ use Rattle.brl_edges.specs.Body.{BodyView}
 use Rattle.brl_edges.specs.Sets.{sets_of}
 use Rattle.brl_pairs.specs.declared.step.Pair.{Pair}
 use Rattle.brl_pairs.specs.declared.step.Step.{Step}
-use Rattle.brl_pairs.specs.Pairs.{GetsAhead, HasPair, IsClosed, Moves, Sets, Splits, StaysBehind, turned}
+use Rattle.brl_pairs.specs.Pairs.{GetsAhead, HasPair, IsClosed, Moves, Sets, Splits, StaysBehind, swapped}
 use Rattle.brl_pairs.specs.Runs.{Behaviour, IsExact, IsListed, IsPath, IsUnambiguous, KeepsLaws, cells_of, reads_of}
 use Rattle.brl_table.specs.TableView.{TableView}
 use Rattle.brl_table.specs.Text.{is_text}
 use Rattle.brl_table.specs.Translation.{IsClash, translation}
 use Rattle.brl_search.specs.Answers.{AreTwoPaths, HasTwoEndsReached, IsLimit}
-use Rattle.brl_search.specs.Deciding.{AreAlike, HasClash, HasTwoRuns, ListsJustReached, reached_sets}
+use Rattle.brl_search.specs.Deciding.{IsClashOf, HasClash, HasTwoRuns, ListsJustReached, reached_sets}
 use Rattle.brl_search.specs.Reached.{AtMost, Reached, ReachedPair, SamePair, SameState, start, step, split, move, other_order, Reaches}
 
 module _ {S : Type 0} (m : Behaviour S) where
@@ -93,7 +93,7 @@ module _ {S : Type 0} (m : Behaviour S) where
         ∙ ap (λ (l : List ℕ). l ++ q.lead) (sym r.lead);
   }
 
-  of_other : (p : Pair S) → p.lead ≡ [] → HasTwoRuns m p → HasTwoRuns m (turned p)
+  of_other : (p : Pair S) → p.lead ≡ [] → HasTwoRuns m p → HasTwoRuns m (swapped p)
   of_other p no_lead r = record {
     one = r.two;
     two = r.one;
@@ -137,8 +137,8 @@ module _ {S : Type 0} (m : Behaviour S) where
       )
 
   -- two such paths of an exact machine read a clash
-  pub alike_from_paths : IsExact m → (left right : List ℕ) → AreTwoPaths m left right → AreAlike m left right
-  alike_from_paths exact left right h = record {
+  pub same_cells_from_paths : IsExact m → (left right : List ℕ) → AreTwoPaths m left right → IsClashOf m left right
+  same_cells_from_paths exact left right h = record {
     left_text = subst (λ (l : List ℕ). IsTrue (m.is_text l)) h.left_reads (exact.text h.one h.one_path);
     right_text = subst (λ (l : List ℕ). IsTrue (m.is_text l)) h.right_reads (exact.text h.two h.two_path);
     differ = λ same. h.differ (exact.one_path h.one h.two h.one_path h.two_path (h.left_reads ∙ same ∙ sym h.right_reads));
@@ -146,10 +146,10 @@ module _ {S : Type 0} (m : Behaviour S) where
   }
 
   pub clash_from_ends : KeepsLaws m → IsExact m → HasTwoEndsReached m → HasClash m
-  clash_from_ends laws exact h = (let two = two_paths_of laws h in (two.0, two.1, alike_from_paths exact two.0 two.1 two.2))
+  clash_from_ends laws exact h = (let two = two_paths_of laws h in (two.0, two.1, same_cells_from_paths exact two.0 two.1 two.2))
 
   -- such texts are a clash of the table whose texts and translation the machine has
-  pub clash_of_table : (t : TableView) → m.is_text ≡ is_text t → m.translation ≡ translation t → (left right : List ℕ) → AreAlike m left right → IsClash t left right (translation t left)
+  pub clash_of_table : (t : TableView) → m.is_text ≡ is_text t → m.translation ≡ translation t → (left right : List ℕ) → IsClashOf m left right → IsClash t left right (translation t left)
   clash_of_table t texts translates left right h = record {
     left_text = subst (λ (is : List ℕ → _). IsTrue (is left)) texts h.left_text;
     right_text = subst (λ (is : List ℕ → _). IsTrue (is right)) texts h.right_text;

@@ -22,7 +22,7 @@ pub record HasTwoRuns {S : Type 0} (m : Behaviour S) (p : Pair S) : Type 0 where
   pub lead : cells_of one ≡ cells_of two ++ p.lead
 
 -- two different texts of a machine that are translated to the same cells
-pub record AreAlike {S : Type 0} (m : Behaviour S) (left right : List ℕ) : Type 0 where
+pub record IsClashOf {S : Type 0} (m : Behaviour S) (left right : List ℕ) : Type 0 where
   pub left_text : IsTrue (m.is_text left)
   pub right_text : IsTrue (m.is_text right)
   pub differ : left ≢ right
@@ -30,7 +30,7 @@ pub record AreAlike {S : Type 0} (m : Behaviour S) (left right : List ℕ) : Typ
 
 -- a machine has two such texts
 abbrev pub HasClash : {S : Type 0} → Behaviour S → Type 0
-HasClash m = (left : List ℕ) × (right : List ℕ) × AreAlike m left right
+HasClash m = (left : List ℕ) × (right : List ℕ) × IsClashOf m left right
 
 -- the reached states and the reached pairs
 abbrev pub reached_sets : {S : Type 0} → Behaviour S → Sets S
@@ -68,5 +68,6 @@ pub record HoldsSteps {S : Type 0} (m : Behaviour S) (states : List S) (leads : 
 abbrev pub pairs_with : {S : Type 0} → List (List ℕ) → S → S → List (Pair S)
 pairs_with leads ahead behind = map (λ lead. record { ahead = ahead; behind = behind; lead = lead }) leads
 
+-- the pairs of two of these states with one of these leads
 abbrev pub all_pairs : {S : Type 0} → List S → List (List ℕ) → List (Pair S)
 all_pairs states leads = flat_map (λ ahead. flat_map (pairs_with leads ahead) states) states

@@ -5,7 +5,7 @@ use Rattle.std.specs.Prelude.{◌≡◌, ℕ, ◌<◌, ◌≤◌, List, [], ◌�
 use Rattle.brl_pairs.specs.declared.step.Pair.{Pair}
 use Rattle.brl_pairs.specs.declared.step.Step.{Step}
 use Rattle.brl_pairs.specs.Runs.{Behaviour, IsListed}
-use Rattle.brl_pairs.specs.Pairs.{Splits, Moves, turned}
+use Rattle.brl_pairs.specs.Pairs.{Splits, Moves, swapped}
 
 -- the start is reached, and so is the state in which a step from a reached state ends
 pub data Reached {S : Type 0} (m : Behaviour S) : S → Type 0 where
@@ -22,11 +22,11 @@ Reaches m s (x ∷ path) r = IsListed (m.steps s) x × Reaches m x.next path r
 pub data ReachedPair {S : Type 0} (m : Behaviour S) : Pair S → Type 0 where
   split : {s : S} {p : Pair S} → Reached m s → Splits (m.steps s) p → ReachedPair m p
   move : {p q : Pair S} → ReachedPair m p → Moves m p q → ReachedPair m q
-  other_order : {p : Pair S} → ReachedPair m p → p.lead ≡ [] → ReachedPair m (turned p)
+  other_order : {p : Pair S} → ReachedPair m p → p.lead ≡ [] → ReachedPair m (swapped p)
 
 -- a pair and its other order, where its lead is empty, are counted as one
 abbrev pub SamePair : {S : Type 0} → Pair S → Pair S → Type 0
-SamePair p q = (p ≡ q) ⊎ ((p.lead ≡ []) × (turned p ≡ q))
+SamePair p q = (p ≡ q) ⊎ ((p.lead ≡ []) × (swapped p ≡ q))
 
 -- a state is counted as one with itself alone
 abbrev pub SameState : {S : Type 0} → S → S → Type 0

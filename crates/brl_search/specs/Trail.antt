@@ -3,7 +3,7 @@
 use Rattle.std.specs.Prelude.{◌≡◌, ◌≢◌, ℕ, ◌+◌, ◌<◌, ◌≤◌, IsTrue, List, [], ◌++◌, ◌⊎◌, length, Some, slice_get}
 use Rattle.brl_edges.specs.Body.{IsPairOf, NumberPair}
 use Rattle.brl_pairs.specs.declared.step.Step.{Step}
-use Rattle.brl_pairs.specs.Pairs.{turned}
+use Rattle.brl_pairs.specs.Pairs.{swapped}
 use Rattle.brl_pairs.specs.Runs.{Behaviour, IsListedAt, KeepsLaws}
 use Rattle.brl_search.specs.SearchView.{Stays}
 use Rattle.brl_search.specs.declared.finder.Finder.{Finder}
@@ -89,7 +89,7 @@ pub record IsFoundPair {S : Type 0} (m : Behaviour S) (states : List S) (pairs :
 -- two pairs that aren't counted as one
 pub record DifferAsPairs (p q : NumberPair) : Type 0 where
   pub in_this_order : p ≢ q
-  pub in_other_order : p.lead ≡ [] → turned p ≢ q
+  pub in_other_order : p.lead ≡ [] → swapped p ≢ q
 
 -- each state and pair is found from the start on, and no pair is there twice
 pub record IsTraced {S : Type 0} (m : Behaviour S) (t : Trail S) : Type 0 where

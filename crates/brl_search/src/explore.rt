@@ -98,7 +98,7 @@ impl<'m, M: Machine> Search<'m, M> {
     }
 
     /// Continues the search for at most this number of steps. A step expands a state or walks a
-    /// pair. After `AllocError` the search is lost.
+    /// pair. After `AllocError` the search can't be continued.
     pub fn run(self, steps: u64) -> Result<Progress<'m, M>, AllocError>
         ensures finished { IfOk result (IfFinished (IsOutcome (M.behaviour self.entry.machine) self.entry.limit)) }
         ensures unfinished { IfOk result (IfUnfinished (IsAfter steps self.entry)) }

@@ -8,7 +8,7 @@ ghost use Rattle.brl_pairs.specs.Pairs.{IsClosed};
 ghost use Rattle.brl_pairs.specs.Runs.{IsExact, IsUnambiguous};
 ghost use Rattle.brl_pairs.specs.declared.step.Pair.{Pair as PairValue};
 ghost use Rattle.brl_search.specs.Answers.{AreTwoPaths, HasTwoEndsReached, IsLimit};
-ghost use Rattle.brl_search.specs.Deciding.{AreAlike, HasClash, HasLeadOfStep, HasTwoRuns, HoldsSteps, ListsJustReached, all_pairs, reached_sets};
+ghost use Rattle.brl_search.specs.Deciding.{IsClashOf, HasClash, HasLeadOfStep, HasTwoRuns, HoldsSteps, ListsJustReached, all_pairs, reached_sets};
 ghost use Rattle.brl_search.specs.Reached.{AtMost, Reached, ReachedPair, SamePair, SameState};
 ghost use Rattle.brl_table.specs.Text.{is_text};
 ghost use Rattle.brl_table.specs.Translation.{IsClash, translation};
@@ -26,9 +26,9 @@ pub fn two_runs_law<M: Machine>(machine: &M)
 
 /// Two different paths of an exact machine that end and give the same cells read two different
 /// texts, which are translated to the same cells.
-pub fn alike_law<M: Machine>(machine: &M)
+pub fn same_cells_law<M: Machine>(machine: &M)
     ensures { IsExact (M.behaviour machine.now) → (left right : List ℕ) → AreTwoPaths (M.behaviour machine.now) left right →
-        AreAlike (M.behaviour machine.now) left right }
+        IsClashOf (M.behaviour machine.now) left right }
 {}
 
 /// The same over a machine of a table: such texts are a clash of the table, so `confirm` finds one

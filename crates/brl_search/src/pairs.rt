@@ -10,7 +10,7 @@ ghost use Rattle.brl_search.specs.Trail.{Advances, HasTwoEnds, IsActive, IsPairO
 use crate::finder::{Finder, Stop};
 use crate::trail::{Origins, PairOrigin, Trail};
 use brl_cells::{Cell, Cells};
-use brl_edges::{Edge, is_there_turned};
+use brl_edges::{Edge, is_there_swapped};
 use brl_failure::Failure;
 use brl_pairs::{Advanced, Machine, Pair, advance};
 
@@ -40,7 +40,7 @@ impl<'m, M: Machine> Finder<'m, M> {
         ensures advances { OnOk result (Advances M.behaviour self.now trail.old trail.new) }
         ensures stopped { IfErr result (IfFault (IsStopped M.behaviour self.now trail.new)) }
     {
-        if is_there_turned(self.alloc, &trail.pairs, &pair) {
+        if is_there_swapped(self.alloc, &trail.pairs, &pair) {
             return Ok(());
         }
         let two_ends = self.has_two_ends(trail.states.as_slice(), &pair);

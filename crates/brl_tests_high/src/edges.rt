@@ -1,6 +1,6 @@
 //! Steps and pairs by numbers.
 use brl_cells::{Cell, Cells};
-use brl_edges::{Edge, Members, is_there, is_there_turned, loses, places_before};
+use brl_edges::{Edge, Members, is_missing, is_there, is_there_swapped, places_before};
 use brl_pairs::Pair;
 use brl_testing::lend;
 use std::alloc::Global;
@@ -29,7 +29,7 @@ fn are_chained(alloc: Global, edges: &[Edge]) -> Result<bool, Fail> {
 }
 
 #[test]
-fn edges_that_begin_alike(rt: HostRuntime) -> Result<(), Fail> {
+fn edges_with_one_first_cell(rt: HostRuntime) -> Result<(), Fail> {
     let mut edges = Vec::new(rt.alloc());
     push_edges(rt.alloc(), &mut edges)?;
     assert!(rt; are_chained(rt.alloc(), edges.as_slice())?);
@@ -56,18 +56,18 @@ fn is_found(alloc: Global, pairs: &Members<Pair<u32>>) -> Result<bool, Fail> {
     let lead = [Cell(1), Cell(2)];
     let there = lend(
         edge(alloc, 1, &lead)?,
-        |edge| loses(alloc, pairs, 0, &lead, edge),
+        |edge| is_missing(alloc, pairs, 0, &lead, edge),
     )?;
     let missing = lend(
         edge(alloc, 2, &lead)?,
-        |edge| loses(alloc, pairs, 0, &lead, edge),
+        |edge| is_missing(alloc, pairs, 0, &lead, edge),
     )?;
     Ok(
         !there
             && missing
             && is_there(alloc, pairs, &pair(alloc, 1, 0))
-            && is_there_turned(alloc, pairs, &pair(alloc, 1, 0))
-            && !is_there_turned(alloc, pairs, &pair(alloc, 0, 1)),
+            && is_there_swapped(alloc, pairs, &pair(alloc, 1, 0))
+            && !is_there_swapped(alloc, pairs, &pair(alloc, 0, 1)),
     )
 }
 

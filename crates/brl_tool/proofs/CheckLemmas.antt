@@ -1,7 +1,7 @@
 -- What is answered for the judge's outcome, by the source as it was before the certificate's file was read.
 use Rattle.std.proofs.Common.{◌≡◌, ℕ, ◌<◌, List, [], ◌∷◌, length, ◌⊎◌, inl, inr, Result, Ok, Err, IfOk, IfErr, arith, refl, subst, sym}
 use Rattle.brl_accept.specs.Judging.{IsAccepted, IsRefusedBy}
-use Rattle.brl_accept.specs.declared.accepted.Accepted.{Accepted}
+use Rattle.brl_accept.specs.declared.checker.Accepted.{Accepted}
 use Rattle.brl_accept.specs.declared.judge_fault.JudgeFault.{JudgeFault}
 use Rattle.brl_accept.specs.declared.judge_fault.JudgeFault.TheVariants as judge
 use Rattle.brl_failure.specs.Failure.{IfFault}

@@ -1,4 +1,5 @@
--- What the machine needs of a table: from what every table keeps, and from the laws of its definitions.
+-- What the machine needs of a table: from what every table keeps, and from the laws of its
+-- definitions.
 use Rattle.std.proofs.Common.{ℕ, suc, ◌<◌, ◌≤◌, ◌≡◌, ◌≢◌, false, List, [], ◌∷◌, length, nat_eq, arith, Some, ap}
 use Rattle.std.specs.Prelude.{slice_get, slice_index_or}
 use Rattle.std.specs.Bool.{⊤}
@@ -24,7 +25,7 @@ pub record Within (m n : ℕ) : Type 0 where
   pub some : 1 ≤ m
   pub room : m ≤ n
 
--- no member stands twice
+-- no member is listed twice
 abbrev pub AreDistinct : {X : Type 0} → List X → Type 0
 AreDistinct [] = ⊤
 AreDistinct (x ∷ xs) = AllByRecursion (λ y. x ≢ y) xs × AreDistinct xs
@@ -70,7 +71,7 @@ longest-most n (r ∷ rules) some h =
     let others = longest-most n rules some (λ k d within. h (suc k) d (omega (arith, within))) in
     omega (arith, first, others)
 
--- it stands first in rank
+-- it is the first in rank
 pub longest-first : (characters : List (ℕ × Info)) (files : ℕ) (rules : List Rule) (r : Rule) → IsInRank rules
     → ((k : ℕ) (d : Rule) → k < length rules → IsRule characters files (slice_index_or rules k d)) → slice_get rules 0 ≡ Some r → length r.chars ≡ longest rules
 longest-first characters files [] r rank all e = cc

@@ -1,8 +1,8 @@
 pub mod Kept
 pub mod Longer
 pub mod Listing
-pub mod Covering
+pub mod Accepting
 pub mod Ordering
 pub mod Sorting
-pub mod Turns
+pub mod Loops
 pub mod Stepping

@@ -1,11 +1,11 @@
--- Places in lists, and where an element of a list stands after windows are joined and steps are put in order.
+-- Places in lists, and the place of an element after windows are joined and steps are sorted.
 use Rattle.std.proofs.Common.{ℕ, zero, suc, ◌≡◌, Bool, true, false, List, [], ◌∷◌, ◌++◌, refl, cond, sym, ap, subst, Some, ◌⊎◌, inl, inr, nat_le}
 use Rattle.std.specs.Prelude.{slice_get}
 use Rattle.std.specs.List.{flat_map}
 use Rattle.brl_pairs.specs.declared.step.Step.{Step}
 use Rattle.brl_window.specs.Windows.{put_in, by_rule_number}
 
--- an element stands in a list
+-- an element is in a list
 abbrev pub IsIn : {X : Type 0} → X → List X → Type 0
 IsIn x [] = ⊥
 IsIn x (y ∷ ys) = (x ≡ y) ⊎ IsIn x ys

@@ -1,4 +1,5 @@
--- Which rule is chosen depends on the next characters alone, as many as the longest rule has and one more.
+-- Which rule is chosen depends on the next characters alone, as many as the longest rule has and
+-- one more.
 use Rattle.std.proofs.Common.{ℕ, zero, suc, ◌+◌, ◌<◌, ◌≤◌, ◌≡◌, ◌&&◌, List, [], ◌∷◌, ◌++◌, length, refl, arith, cond, nat_eq, ◌∙◌, ap}
 use Rattle.std.specs.List.{starts_with, slice_get, AllByRecursion}
 use Rattle.std.specs.Option.{option_map_or}

@@ -1,4 +1,4 @@
--- The steps of a window machine are good, stand by rule number, and none stands twice.
+-- The steps of a window machine are good and in order, and none is listed twice.
 use Rattle.std.proofs.Common.{ℕ, zero, suc, ◌+◌, ◌-◌, ◌≤◌, ◌≡◌, ◌≢◌, Bool, true, false, ◌&&◌, not, List, [], ◌∷◌, ◌++◌, length, refl, arith, cond, sym, ◌∙◌, ap, subst, Some, is_some, inl, inr, nat_eq, nat_le, length-append, append_assoc, append-nil, slice_get}
 use Rattle.std.proofs.lemmas.List.{take-append-drop, length-take-le, append_cancel_left}
 use Rattle.std.proofs.lemmas.Bool.Decides.{nat_tests}
@@ -146,7 +146,7 @@ windows_on-distinct letters h (suc n) known = (
         let f : c ∷ a.0 ≡ d ∷ b.0 = append_cancel_left known (c ∷ a.0) (d ∷ b.0) e in
         cc
 
--- a step tells its window
+-- a step determines its window
 one-window : (t : TableView) (here : Context) (w : Window) (z : Step WindowState) → IsIn z (steps_at t here w) → (z.reads ++ z.next.coming ≡ w.known) × (z.next.ended ≡ w.ended)
 one-window t here w z h = at (begins_defined t w.known) h
   where

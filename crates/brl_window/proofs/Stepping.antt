@@ -14,14 +14,14 @@ use Rattle.brl_table.specs.declared.rule.Info.{Info}
 use Rattle.brl_window.specs.declared.state.WindowState.{WindowState}
 use Rattle.brl_window.specs.Steps.{IsWindow, IsStep}
 use Rattle.brl_window.specs.Windows.{Window, begins_defined, context_of, steps_at, steps_found, width, window_step, window_steps, windows, windows_on}
-use Rattle.brl_window.proofs.Covering.{defined-in}
+use Rattle.brl_window.proofs.Accepting.{defined-in}
 use Rattle.brl_window.proofs.Listing.{IsIn, at-in, from-by_rule_number, from-flat_map, in-at, in-by_rule_number, in-flat_map}
 
--- all of these stand among the letters
+-- all of these are among the letters
 abbrev AreLetters : List ℕ → List ℕ → Type 0
 AreLetters letters more = AllByRecursion (λ c. IsIn c letters) more
 
--- a window of up to n more characters goes on with so many, or ends behind fewer
+-- a window with up to n more characters has n more, or ends after fewer
 record GoesOn (letters : List ℕ) (n : ℕ) (known : List ℕ) (w : Window) : Type 0 where
   more : List ℕ
   begins : w.known ≡ known ++ more

@@ -1,4 +1,4 @@
--- Equal states are the same state.
+-- Internal. States that the derived equality calls equal are equal.
 use Rattle.std.proofs.Common.{◌≡◌, true, sym}
 use Rattle.std.proofs.Math.Bool.{beq}
 use Rattle.std.specs.Cmp.{first_so, second_so}
@@ -9,6 +9,7 @@ use Rattle.brl_members.specs.Same.{same_bools}
 use Rattle.brl_window.specs.declared.state.WindowState.{WindowState}
 use Rattle.brl_window.specs.contracts.state.WindowStatePartialEq.TheImpl.{eq-value}
 
+-- two states with equal fields are one state
 pub same_states : (a b : WindowState) → eq-value.it a b ≡ true → a ≡ b
 same_states a b h =
     let before : a.before.0 ≡ b.before.0 = (Decides-eqb a.before.0 b.before.0).0 (first_so _ _ h) in

@@ -1,6 +1,7 @@
--- The window machine of a table: a state knows some characters to come, and a step first reads on until it knows enough of them
--- to tell which rule is chosen. The machine is this project's own choice; the rule that is chosen, the indicators and what
--- stands before are those of the table (the manual's sections "Translation Opcodes" and "Braille Indicator Opcodes").
+-- The window machine of a table: a state knows some of the characters to come, and a step first
+-- reads on until enough of them are known to decide which rule is chosen. The machine is this
+-- project's own choice. The chosen rule, the indicators and the context are those of the table (the
+-- manual's sections "Translation Opcodes" and "Braille Indicator Opcodes").
 use Rattle.std.specs.Prelude.{ℕ, zero, suc, ◌+◌, ◌-◌, max, Bool, true, false, nat_le, ◌==◌, List, [], ◌∷◌, ◌++◌, length, take, drop, if◌then◌else◌}
 use Rattle.std.specs.List.{flat_map}
 use Rattle.std.specs.Map.{keys_of}
@@ -15,29 +16,31 @@ use Rattle.brl_table.specs.declared.context.Context.{Context}
 use Rattle.brl_table.specs.declared.rule.Rule.{Rule}
 use Rattle.brl_window.specs.declared.state.WindowState.{WindowState}
 
--- the length of the longest rule, and 1 where there is no rule
+-- the length of the longest rule, or 1 where there is no rule
 abbrev pub longest : List Rule → ℕ
 longest [] = 1
 longest (r ∷ rules) = max (length r.chars) (longest rules)
 
--- so many characters tell which rule is chosen: those of the longest rule and the one behind it
+-- the number of characters that decide which rule is chosen: those of the longest rule and the one
+-- after it
 abbrev pub width : TableView → ℕ
 width t = longest t.rules + 1
 
 -- ---- Windows
 
--- what is known of a text from a position on: its next characters, and whether it ends behind them
+-- what is known of a text from a position on: its next characters, and whether it ends after them
 pub record Window : Type 0 where
   pub known : List ℕ
   pub ended : Bool
 
--- the windows that up to so many more characters make of what is known: the text ends here, or each character may follow
+-- the windows that extend what is known by up to `more` characters: the text ends here, or any of
+-- the characters follows
 abbrev pub windows_on : List ℕ → ℕ → List ℕ → List Window
 windows_on letters zero known = record { known = known; ended = false } ∷ []
 windows_on letters (suc more) known =
     record { known = known; ended = true } ∷ flat_map (λ c. windows_on letters more (known ++ c ∷ [])) letters
 
--- What a state may come to know. Where the text has ended, and where enough is known, that is what it knows.
+-- the windows of a state: what it knows, extended until enough is known or the text ends
 abbrev pub windows : TableView → WindowState → List Window
 windows t s =
     if s.ended then record { known = s.coming; ended = true } ∷ []
@@ -53,7 +56,7 @@ context_of s = record { classes = s.before; numeric = s.numeric }
 abbrev pub state_in : Context → Bool → List ℕ → WindowState
 state_in here ended coming = record { before = here.classes; numeric = here.numeric; ended = ended; coming = coming }
 
--- the step of a window: it takes the chosen rule, with the indicators in front of it
+-- the step of a window: it applies the chosen rule, with the indicators before it
 abbrev pub window_step : TableView → Context → Window → Step WindowState
 window_step t here w =
     let choice = chosen t here.classes w.known in
@@ -65,12 +68,12 @@ window_step t here w =
       next = state_in behind w.ended (drop choice.taken w.known);
     }
 
--- whether the first of these is a character of the table
+-- whether the first of these characters is one of the table
 abbrev pub begins_defined : TableView → List ℕ → Bool
 begins_defined t [] = false
 begins_defined t (c ∷ rest) = is_defined t c
 
--- a window has one step, and none where it knows no character or the table doesn't define the first
+-- the step of a window; none where it knows no character, or the table doesn't define the first one
 abbrev pub steps_at : TableView → Context → Window → List (Step WindowState)
 steps_at t here w = if begins_defined t w.known then window_step t here w ∷ [] else []
 
@@ -78,11 +81,12 @@ steps_at t here w = if begins_defined t w.known then window_step t here w ∷ []
 abbrev pub steps_found : TableView → WindowState → List (Step WindowState)
 steps_found t s = flat_map (steps_at t (context_of s)) (windows t s)
 
--- steps by ascending rule number, those of one rule in the order that they have
+-- sorted steps with one more, which comes before those of the same rule
 abbrev pub put_in : {S : Type 0} → Step S → List (Step S) → List (Step S)
 put_in x [] = x ∷ []
 put_in x (y ∷ ys) = if nat_le x.rule y.rule then x ∷ y ∷ ys else y ∷ put_in x ys
 
+-- steps sorted by rule number; those of one rule keep their order
 abbrev pub by_rule_number : {S : Type 0} → List (Step S) → List (Step S)
 by_rule_number [] = []
 by_rule_number (x ∷ xs) = put_in x (by_rule_number xs)
@@ -93,15 +97,16 @@ window_steps t s = by_rule_number (steps_found t s)
 
 -- ---- The machine
 
--- before any character: class space stands before, no numeric mode, and nothing is known of the text
+-- the state before any character: class space before it, no numeric mode, and nothing known of the
+-- text
 abbrev pub first_state : WindowState
 first_state = state_in at_start false []
 
--- a state ends where it knows no character to come
+-- whether a state is final: it knows no character to come
 abbrev pub knows_none : WindowState → Bool
 knows_none s = length s.coming == 0
 
--- the machine's texts and their translation are the table's
+-- the window machine, whose texts and translation are the table's
 abbrev pub window_machine : TableView → Behaviour WindowState
 window_machine t = record {
   start = first_state;

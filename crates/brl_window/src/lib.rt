@@ -1,13 +1,10 @@
-//! The window machine of a table: it reads so many characters ahead that they tell which rule is chosen.
+//! The window machine of a table. A state knows some of the characters to come, as many as decide
+//! which rule the table chooses.
 #![tactic(auto)]
 
-mod laws;
 mod machine;
 mod state;
 mod steps;
-mod too_wide;
 
-pub use laws::window_law;
-pub use machine::Window;
+pub use machine::{TooWide, Window, window_law};
 pub use state::WindowState;
-pub use too_wide::TooWide;

@@ -1,19 +1,31 @@
 //! The window machine.
-ghost use Rattle.std.specs.Prelude.{◌≡◌, ◌<◌, ◌≤◌, IfOk, OnErr, OnOk, min};
+ghost use Rattle.std.specs.Prelude.{◌≡◌, ◌↔◌, ◌<◌, ◌≤◌, IfOk, OnErr, OnOk, min};
+ghost use Rattle.brl_pairs.specs.Runs.{IsListed};
+ghost use Rattle.brl_pairs.specs.declared.step.Step.{Step as StepValue};
+ghost use Rattle.brl_table.specs.TableView.{TableView};
 ghost use Rattle.brl_table.specs.Text.{is_text};
 ghost use Rattle.brl_table.specs.Translation.{translation};
+ghost use Rattle.brl_window.specs.Steps.{IsStep};
 ghost use Rattle.brl_window.specs.Width.{start_moves};
+ghost use Rattle.brl_window.specs.Windows.{window_steps};
+ghost use Rattle.brl_window.specs.declared.state.WindowState.{WindowState as StateValue};
 
+use crate::WindowState;
 use crate::steps::{find_steps, longest_rule, sort_steps};
-use crate::{TooWide, WindowState};
 use brl_cells::Chars;
 use brl_pairs::{Machine, Step};
 use brl_table::{Context, Table, choice_laws, translation_laws};
 use std::alloc::{AllocError, Global};
 use std::marker::Model;
+use thiserror::Error;
 
-/// The most moves that the start may have.
+/// The most steps that the start may have.
 const MOST_MOVES: u64 = 10_000;
+
+/// The start of the table's window machine would have more than 10,000 steps.
+#[derive(Clone, Copy, PartialEq, Eq, Debug, Error)]
+#[error("W1 TooWide")]
+pub struct TooWide;
 
 /// The window machine of a table. A contract sees the table.
 #[derive(Drop)]
@@ -31,10 +43,12 @@ impl<'a> Model for Window<'a> {
 }
 
 impl<'a> Window<'a> {
-    /// The window machine of a table, whose texts and translation are the table's. It takes no memory.
+    /// The window machine of a table, whose texts and translation are the table's. No memory is
+    /// allocated.
     ///
-    /// `TooWide` exactly where its start would have more than 10,000 moves: `n + n^2 + .. + n^k` for `n` characters,
-    /// where `k` is the length of the longest rule (1 where there is none) plus one.
+    /// `TooWide` exactly where its start would have more than 10,000 steps: `n + n^2 + .. + n^k`
+    /// for `n` characters, where `k` is the length of the longest rule (1 where there is none) plus
+    /// one.
     pub fn new(alloc: Global, table: &'a Table) -> Result<Window<'a>, TooWide>
         ensures table { IfOk result (λ w. w ≡ table.now) }
         ensures texts { IfOk result (λ w. (⟦<Window<'a> as Machine>⟧.behaviour w).is_text ≡ is_text table.now) }
@@ -50,13 +64,13 @@ impl<'a> Window<'a> {
     }
 }
 
-/// How many moves the start has, and 10,001 where it has more.
+/// The number of steps from the start, or 10,001 where it is more than that.
 fn count_moves(table: &Table) -> u64
     ensures { result ≡ min (start_moves table.now) 10001 }
 {
     let letters = table.char_count() as u64;
     let mut moves = 0;
-    for turn in 0..longest_rule(table) + 1 {
+    for power in 0..longest_rule(table) + 1 {
         moves = (letters + letters * moves).min(MOST_MOVES + 1);
     }
     moves
@@ -70,7 +84,7 @@ impl<'a> Machine for Window<'a> {
     ghost behaviour = { window_machine };
 
     fn start(&self) -> WindowState {
-        // The machine's laws follow from those of the table.
+        // The laws of the machine follow from those of the table.
         choice_laws();
         translation_laws();
         self.table.law();
@@ -93,3 +107,11 @@ impl<'a> Machine for Window<'a> {
         state.coming.len() == 0
     }
 }
+
+/// A law for the crates above: a window machine lists exactly the steps of a state's windows, for
+/// every value of the state type. That each is listed once, by ascending rule number, is a law of
+/// every machine.
+pub fn window_law()
+    ensures { (t : TableView) (s : StateValue) (x : StepValue StateValue) →
+        IsListed (window_steps t s) x ↔ IsStep t s x }
+{}

@@ -10,11 +10,11 @@ use std::alloc::{AllocError, Global};
 /// What a run of a window machine knows at a position of a text.
 #[derive(PartialEq, Eq, Hash, Debug, Drop)]
 pub struct WindowState {
-    /// The classes of the character before; class space at the text's start.
+    /// The classes of the character before; class space at the start of the text.
     pub before: Class,
-    /// Whether numeric mode holds.
+    /// Whether numeric mode is on.
     pub numeric: bool,
-    /// Whether the text ends behind the characters that are known.
+    /// Whether the text ends after the characters that are known.
     pub ended: bool,
     /// The next characters, as far as they are known.
     pub coming: Chars,
@@ -50,7 +50,7 @@ impl WindowState {
         }
     }
 
-    /// An equal state. `AllocError` where its characters find no memory.
+    /// An equal state. `AllocError` if memory runs out.
     pub fn copy(&self, alloc: Global) -> Result<WindowState, AllocError>
         ensures { IfOk result (λ state. state ≡ self.now) }
     {

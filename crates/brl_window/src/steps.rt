@@ -10,7 +10,7 @@ use brl_pairs::Step;
 use brl_table::{Context, Table};
 use std::alloc::{AllocError, Global};
 
-/// The length of the longest rule, which stands first in rank, and 1 where there is no rule.
+/// The length of the longest rule, which is the first in rank, or 1 where there is no rule.
 pub fn longest_rule(table: &Table) -> usize
     ensures longest { result ≡ longest table.now.rules }
     ensures short { result ≤ 32 }
@@ -43,7 +43,7 @@ pub fn find_steps(
     Ok(found)
 }
 
-/// Puts the steps of the windows at the end that up to `more` further characters make of what is known.
+/// Appends the steps of the windows that extend what is known by up to `more` characters.
 fn push_steps(
     alloc: Global,
     table: &Table,
@@ -68,7 +68,7 @@ fn push_steps(
     Ok(())
 }
 
-/// Puts the step of a window at the end, if it has one.
+/// Appends the step of a window, if it has one.
 fn push_step(
     alloc: Global,
     table: &Table,
@@ -123,7 +123,7 @@ fn chars(alloc: Global, slice: &[char]) -> Result<Chars, AllocError>
     Ok(Chars::from_vec(Vec::from_slice(alloc, slice)?))
 }
 
-/// Puts steps in the order of their rules; steps of one rule keep their order.
+/// Sorts steps by rule number; steps of one rule keep their order.
 pub fn sort_steps(steps: &mut Vec<Step<WindowState>>) -> Result<(), AllocError>
     ensures { OnOk result (steps.new.items ≡ by_rule_number steps.old.items) }
 {

@@ -1,5 +1,5 @@
 use Rattle.std.proofs.Common.{◌++◌, ◌∙◌, ap, arith}
-use Rattle.brl_cert.proofs.Dues.{some_joined}
+use Rattle.brl_cert.proofs.Written.{some_joined}
 use Rattle.brl_cert.proofs.Lists.{chars_spelled}
 use Rattle.brl_cert.proofs.dues_line.push_joined.Goals as goal
 

@@ -1,6 +1,6 @@
 use Rattle.std.proofs.Common.{◌+◌, ◌-◌, length, Ok, ap, ◌∙◌, arith}
 use Rattle.std.proofs.lemmas.Result.{err_from_is_err_and}
-use Rattle.brl_cert.proofs.Turns.{goes_on, stops, closes, lines_behind, bytes_behind, cut}
+use Rattle.brl_cert.proofs.Loops.{goes_on, stops, closes, lines_behind, bytes_behind, cut}
 use Rattle.brl_cert.proofs.reading.read_body.Goals as goal
 
 pub loop-place-preserved : goal.loop-place-preserved

@@ -1,7 +1,7 @@
 use Rattle.std.proofs.Common.{◌++◌, ap, ◌∙◌}
 use Rattle.std.specs.Fmt.{digits}
 use Rattle.brl_cert.specs.Lines.{spelled_body}
-use Rattle.brl_cert.specs.Dues.{owing}
+use Rattle.brl_cert.specs.Dues.{dues_format}
 use Rattle.brl_cert.specs.Reading.{reading}
 use Rattle.brl_kinds.specs.declared.cert.Cert.TheVariants.{Dues}
 use Rattle.brl_cert.proofs.writing.write_dues.Goals as goal
@@ -9,10 +9,10 @@ use Rattle.brl_cert.proofs.writing.write_dues.Goals as goal
 pub returns-clause-spelled : goal.returns-clause-spelled
 unfolding digits
 returns-clause-spelled c =
-    c.in_ok-push_body.ensures.written ∙ ap (λ front. front ++ spelled_body owing c.args.body.now) c.in_ok-out.ensures.items
+    c.in_ok-push_body.ensures.written ∙ ap (λ front. front ++ spelled_body dues_format c.args.body.now) c.in_ok-out.ensures.items
 
 pub returns-clause-read_back : goal.returns-clause-read_back
 unfolding digits
 returns-clause-read_back c =
-    ap reading (c.in_ok-push_body.ensures.written ∙ ap (λ front. front ++ spelled_body owing c.args.body.now) c.in_ok-out.ensures.items)
+    ap reading (c.in_ok-push_body.ensures.written ∙ ap (λ front. front ++ spelled_body dues_format c.args.body.now) c.in_ok-out.ensures.items)
     ∙ c.certificate_laws.ensures.read_back (Dues c.args.body.now) c.in_ok-push_body.ensures.in_range

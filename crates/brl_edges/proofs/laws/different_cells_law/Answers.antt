@@ -1,4 +1,4 @@
-use Rattle.brl_edges.proofs.Losing.{apart_followed}
+use Rattle.brl_edges.proofs.Missing.{apart_followed}
 use Rattle.brl_edges.proofs.laws.different_cells_law.Goals as goal
 
 pub returns : goal.returns

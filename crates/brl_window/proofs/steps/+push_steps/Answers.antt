@@ -1,7 +1,7 @@
 use Rattle.std.proofs.Common.{◌-◌, refl, arith}
 use Rattle.std.proofs.lemmas.Grind.{common_steps}
 use Rattle.std.specs.Map.{keys_of}
-use Rattle.brl_window.proofs.Turns.{letters-count, letter_found, first_found, all_found}
+use Rattle.brl_window.proofs.Loops.{letters-count, letter_found, first_found, all_found}
 use Rattle.brl_window.proofs.steps.+push_steps.Goals as goal
 
 pub returns-clause-found : goal.returns-clause-found

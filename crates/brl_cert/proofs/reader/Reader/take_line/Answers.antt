@@ -1,4 +1,4 @@
-use Rattle.brl_cert.proofs.Turns.{take_ok}
+use Rattle.brl_cert.proofs.Loops.{take_ok}
 use Rattle.brl_cert.proofs.reader.Reader.take_line.Goals as goal
 
 pub returns-clause-ok : goal.returns-clause-ok

@@ -8,8 +8,8 @@ use Rattle.brl_search.proofs.There.{absent_differ, added_absent, nothing_inserte
 use Rattle.brl_search.proofs.Additions.{advances_refl, pair_pushed, pair_active}
 use Rattle.brl_search.proofs.finder.Finder.find_pair.Goals as goal
 
-pub returns-then-is_there_turned-clause-advances : goal.returns-then-is_there_turned-clause-advances
-returns-then-is_there_turned-clause-advances g c = advances_refl g.M.Machine.behaviour c.args.self.now c.args.trail.now c.requires.active
+pub returns-then-is_there_swapped-clause-advances : goal.returns-then-is_there_swapped-clause-advances
+returns-then-is_there_swapped-clause-advances g c = advances_refl g.M.Machine.behaviour c.args.self.now c.args.trail.now c.requires.active
 
 pub returns-then-not-branch-clause-there : goal.returns-then-not-branch-clause-there
 returns-then-not-branch-clause-there g c =
@@ -26,7 +26,7 @@ returns-then-not-branch-clause-advances g c =
 pub returns-then-len-self-clause-stopped : goal.returns-then-len-self-clause-stopped
 returns-then-len-self-clause-stopped g c =
     let absent : IsThere c.args.trail.now.pairs c.args.pair.ahead c.args.pair.behind c.args.pair.lead → ⊥ = added_absent c.args.trail.now.pairs c.args.pair (c.in_ok-insert.ensures.new c.if-not-branch.false)
-    (λ turned. true≢false (sym (c.is_there_turned.ensures.1 turned) ∙ c.if-is_there_turned.false)) in
+    (λ swapped. true≢false (sym (c.is_there_swapped.ensures.1 swapped) ∙ c.if-is_there_swapped.false)) in
     let pairs : c.insert.new.self ≡ c.args.trail.now.pairs ++ c.args.pair ∷ [] = pair_inserted c.args.trail.now.pairs c.insert.new.self c.args.pair c.in_ok-insert.field-0 absent c.in_ok-insert.ensures.known c.in_ok-insert.ensures.members in (
       pair_pushed (g.M.Machine.behaviour c.args.self.now.machine.now) c.args.trail.now _ c.args.pair c.args.origin c.requires.active.traced c.requires.origin c.requires.range (absent_differ c.args.trail.now.pairs c.args.pair absent) refl refl pairs c.in_ok-push.ensures.items,
       record {
@@ -39,7 +39,7 @@ returns-then-len-self-clause-stopped g c =
 pub returns-then-two_ends-clause-stopped : goal.returns-then-two_ends-clause-stopped
 returns-then-two_ends-clause-stopped g c =
     let absent : IsThere c.args.trail.now.pairs c.args.pair.ahead c.args.pair.behind c.args.pair.lead → ⊥ = added_absent c.args.trail.now.pairs c.args.pair (c.in_ok-insert.ensures.new c.if-not-branch.false)
-    (λ turned. true≢false (sym (c.is_there_turned.ensures.1 turned) ∙ c.if-is_there_turned.false)) in
+    (λ swapped. true≢false (sym (c.is_there_swapped.ensures.1 swapped) ∙ c.if-is_there_swapped.false)) in
     let pairs : c.insert.new.self ≡ c.args.trail.now.pairs ++ c.args.pair ∷ [] = pair_inserted c.args.trail.now.pairs c.insert.new.self c.args.pair c.in_ok-insert.field-0 absent c.in_ok-insert.ensures.known c.in_ok-insert.ensures.members in (
       pair_pushed (g.M.Machine.behaviour c.args.self.now.machine.now) c.args.trail.now _ c.args.pair c.args.origin c.requires.active.traced c.requires.origin c.requires.range (absent_differ c.args.trail.now.pairs c.args.pair absent) refl refl pairs c.in_ok-push.ensures.items,
       record {
@@ -52,14 +52,14 @@ returns-then-two_ends-clause-stopped g c =
 pub returns-clause-there : goal.returns-clause-there
 returns-clause-there g c =
     let absent : IsThere c.args.trail.now.pairs c.args.pair.ahead c.args.pair.behind c.args.pair.lead → ⊥ = added_absent c.args.trail.now.pairs c.args.pair (c.in_ok-insert.ensures.new c.if-not-branch.false)
-    (λ turned. true≢false (sym (c.is_there_turned.ensures.1 turned) ∙ c.if-is_there_turned.false)) in
+    (λ swapped. true≢false (sym (c.is_there_swapped.ensures.1 swapped) ∙ c.if-is_there_swapped.false)) in
     let pairs : c.insert.new.self ≡ c.args.trail.now.pairs ++ c.args.pair ∷ [] = pair_inserted c.args.trail.now.pairs c.insert.new.self c.args.pair c.in_ok-insert.field-0 absent c.in_ok-insert.ensures.known c.in_ok-insert.ensures.members in
     inl (length c.args.trail.now.pairs, rw pairs (last_push c.args.trail.now.pairs c.args.pair))
 
 pub returns-clause-advances : goal.returns-clause-advances
 returns-clause-advances g c =
     let absent : IsThere c.args.trail.now.pairs c.args.pair.ahead c.args.pair.behind c.args.pair.lead → ⊥ = added_absent c.args.trail.now.pairs c.args.pair (c.in_ok-insert.ensures.new c.if-not-branch.false)
-    (λ turned. true≢false (sym (c.is_there_turned.ensures.1 turned) ∙ c.if-is_there_turned.false)) in
+    (λ swapped. true≢false (sym (c.is_there_swapped.ensures.1 swapped) ∙ c.if-is_there_swapped.false)) in
     let pairs : c.insert.new.self ≡ c.args.trail.now.pairs ++ c.args.pair ∷ [] = pair_inserted c.args.trail.now.pairs c.insert.new.self c.args.pair c.in_ok-insert.field-0 absent c.in_ok-insert.ensures.known c.in_ok-insert.ensures.members in (
       pair_active g.M.Machine.behaviour c.args.self.now c.args.trail.now _ c.args.pair c.args.origin c.requires.active c.requires.origin c.requires.range (absent_differ c.args.trail.now.pairs c.args.pair absent)
           (subst (λ (xs : _). HasTwoEnds (g.M.Machine.behaviour c.args.self.now.machine.now) xs c.args.pair → ⊥) c.as_slice.ensures.members (c.if-two_ends.ensures.no)) refl refl pairs c.in_ok-push.ensures.items (omega arith),

@@ -22,7 +22,7 @@ loop-place-init g c =
     record {
       advances = advances_refl g.M.Machine.behaviour c.args.self.now c.args.trail.now c.requires.active;
       low = last.before;
-      alike = last.alike;
+      same_cell = last.same_cell;
       followed = λ i x low high x_at. c.different_cells_law.ensures c.args.trail.now.pairs x y
           (some_cells_of m c.requires.active.laws c.args.trail.now.states c.args.number c.args.edges.now c.requires.edges i x x_at)
           (some_cells_of m c.requires.active.laws c.args.trail.now.states c.args.number c.args.edges.now c.requires.edges c.args.second y y_at)
@@ -62,11 +62,11 @@ loop-place-preserved g c =
     let y_at = read_at c.args.edges.now c.args.edges.now c.args.second y refl c.requires.within c.index-edges-second.is in
     let e_at = read_at c.args.edges.now c.args.edges.now first e refl (omega (arith, c.loop-place.invariant.low, c.requires.within)) c.index-edges-first.is in
     let last = c.requires.before.each first (get_or c.args.before.now first 0) e e_at (slice_get-get_or c.args.before.now first 0 (omega (arith, many, c.loop-place.invariant.low, c.requires.within))) in
-    let alike : first_of e.cells ≡ first_of y.cells = c.loop-place.invariant.alike first e (omega arith) e_at in
+    let same_cell : first_of e.cells ≡ first_of y.cells = c.loop-place.invariant.same_cell first e (omega arith) e_at in
     record {
       advances = advances_trans g.M.Machine.behaviour c.args.self.now c.args.trail.now c.loop-place.trail c.follow.new.trail c.loop-place.invariant.advances c.in_ok-follow.ensures.advances;
       low = omega (arith, last.before, c.loop-place.invariant.low);
-      alike = λ k f is f_at. last.alike k f is f_at ∙ alike;
+      same_cell = λ k f is f_at. last.same_cell k f is f_at ∙ same_cell;
       followed = λ i x low high x_at. elim (cases_eq i first) [
         | inl here ↦ (
             let same : e ≡ x = same_place c.args.edges.now first e x e_at (ap (slice_get c.args.edges.now) (sym here) ∙ x_at) in
@@ -76,7 +76,7 @@ loop-place-preserved g c =
           | inl before ↦ c.different_cells_law.ensures c.follow.new.trail.pairs x y
               (some_cells_of m c.requires.active.laws c.args.trail.now.states c.args.number c.args.edges.now c.requires.edges i x x_at)
               (some_cells_of m c.requires.active.laws c.args.trail.now.states c.args.number c.args.edges.now c.requires.edges c.args.second y y_at)
-              (λ same. last.others i x low before x_at (same ∙ sym alike))
+              (λ same. last.others i x low before x_at (same ∙ sym same_cell))
           | inr after ↦ followed_more c.loop-place.trail.pairs c.follow.new.trail.pairs c.in_ok-follow.ensures.advances.1.pairs x.next x.cells y
               (c.loop-place.invariant.followed i x (omega (arith, after)) high x_at)
         ]

@@ -9,7 +9,7 @@ abbrev pub invariant-loop-place : goal.invariant-loop-place
 invariant-loop-place g l = record {
   advances : Advances g.M.Machine.behaviour l.self l.fn.trail l.trail;
   low : l.place ≤ l.second;
-  alike : (k : ℕ) (e : Edge) → l.place ≡ k + 1 → slice_get l.edges k ≡ Some e → first_of e.cells ≡ first_of l.later.cells;
+  same_cell : (k : ℕ) (e : Edge) → l.place ≡ k + 1 → slice_get l.edges k ≡ Some e → first_of e.cells ≡ first_of l.later.cells;
   followed : (i : ℕ) (x : Edge) → l.place ≤ i → i < l.second → slice_get l.edges i ≡ Some x → IsFollowed l.trail.pairs x.next x.cells l.later;
 }
 

@@ -1,6 +1,6 @@
 use Rattle.std.proofs.Common.{subst}
 use Rattle.brl_table.specs.Limits.{IsTable}
-use Rattle.brl_window.proofs.Covering.{covers}
+use Rattle.brl_window.proofs.Accepting.{accepts}
 use Rattle.brl_window.proofs.Kept.{Choosing, Translating, keeps_of}
 use Rattle.brl_window.proofs.Ordering.{good_steps, in_order}
 use Rattle.brl_window.proofs.machine.WindowMachine.start.Goals as goal
@@ -15,4 +15,4 @@ returns-clause-laws c =
       end = c.translation_laws.ensures.end t;
       rule = c.translation_laws.ensures.rule t;
     } in
-    record { good_steps = good_steps t keeps choosing; in_order = in_order t keeps; covers = covers t choosing translating }
+    record { good_steps = good_steps t keeps choosing; in_order = in_order t keeps; accepts = accepts t choosing translating }

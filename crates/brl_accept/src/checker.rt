@@ -1,0 +1,157 @@
+//! The checker of a machine's states and pairs.
+ghost use Rattle.std.specs.Prelude.{◌≡◌, ℕ, IfErr, IfOk, OnOk, length};
+ghost use Rattle.brl_accept.specs.Refusals.{HasStart, HasTwoEnds, IsRefused, MissesNoPair, MissesNoSplit, MissesNoState};
+ghost use Rattle.brl_accept.specs.Steps.{HasAllEdges};
+ghost use Rattle.brl_failure.specs.Failure.{IfFault};
+ghost use Rattle.brl_edges.specs.Sets.{sets_of};
+ghost use Rattle.brl_pairs.specs.Pairs.{IsClosed};
+ghost use Rattle.brl_pairs.specs.Runs.{IsUnambiguous, KeepsLaws};
+
+use crate::AcceptFault;
+use crate::edges::edges_of;
+use crate::missing::{has_two_ends_at, missing_pair_at, missing_split_at};
+use brl_edges::{Body, Edge};
+use brl_failure::Failure;
+use brl_pairs::{Machine, numbered_sets_law};
+use std::alloc::Global;
+
+/// The numbers of states and pairs of a certificate that was accepted.
+#[derive(Clone, Copy, PartialEq, Eq, Debug)]
+pub struct Accepted {
+    pub states: u32,
+    pub pairs: u32,
+}
+
+/// The edges of all states, or the first step that leads to no state of the body.
+fn check_steps<M: Machine>(
+    alloc: Global,
+    machine: &M,
+    body: &Body<M::State>,
+) -> Result<Vec<Vec<Edge>>, Failure<AcceptFault>>
+    requires laws { KeepsLaws (M.behaviour machine.now) }
+    requires start { HasStart (M.behaviour machine.now) body.now }
+    ensures kept { IfOk result (λ kept. HasAllEdges (M.behaviour machine.now) body.now.states kept.items) }
+    ensures complete { OnOk result (MissesNoState (M.behaviour machine.now) body.now) }
+    ensures refused { IfErr result (IfFault (IsRefused (M.behaviour machine.now) body.now)) }
+{
+    let mut kept = Vec::new(alloc);
+    for number in 0..body.state_count() {
+        let edges = edges_of(alloc, machine, body, number as usize)?;
+        kept.push(edges)?;
+    }
+    Ok(kept)
+}
+
+/// Checks that each pair into which steps of one state split is listed.
+fn check_splits<M: Machine>(
+    alloc: Global,
+    machine: &M,
+    body: &Body<M::State>,
+    kept: &[Vec<Edge>],
+) -> Result<(), Failure<AcceptFault>>
+    requires start { HasStart (M.behaviour machine.now) body.now }
+    requires steps { MissesNoState (M.behaviour machine.now) body.now }
+    requires kept { HasAllEdges (M.behaviour machine.now) body.now.states kept.now }
+    ensures complete { OnOk result (MissesNoSplit (M.behaviour machine.now) body.now) }
+    ensures refused { IfErr result (IfFault (IsRefused (M.behaviour machine.now) body.now)) }
+{
+    for number in 0..body.state_count() {
+        let missing = missing_split_at(alloc, machine, body, kept, number as usize)?;
+        if let Some((lesser, greater)) = missing {
+            return Err(Failure::Fault(AcceptFault::SplitMissing {
+                state: number,
+                lesser,
+                greater,
+            }));
+        }
+    }
+    Ok(())
+}
+
+/// Checks that each pair to which a step leads from one of the pairs is listed.
+fn check_moves<M: Machine>(
+    alloc: Global,
+    machine: &M,
+    body: &Body<M::State>,
+    kept: &[Vec<Edge>],
+) -> Result<(), Failure<AcceptFault>>
+    requires start { HasStart (M.behaviour machine.now) body.now }
+    requires steps { MissesNoState (M.behaviour machine.now) body.now }
+    requires splits { MissesNoSplit (M.behaviour machine.now) body.now }
+    requires kept { HasAllEdges (M.behaviour machine.now) body.now.states kept.now }
+    ensures complete { OnOk result (MissesNoPair (M.behaviour machine.now) body.now) }
+    ensures refused { IfErr result (IfFault (IsRefused (M.behaviour machine.now) body.now)) }
+{
+    for number in 0..body.pair_count() {
+        let missing = missing_pair_at(alloc, machine, body, kept, number as usize)?;
+        if let Some(rule) = missing {
+            return Err(Failure::Fault(AcceptFault::PairMissing { pair: number, rule }));
+        }
+    }
+    Ok(())
+}
+
+/// Checks that none of the pairs has an empty lead and two final states.
+fn check_ends<M: Machine>(machine: &M, body: &Body<M::State>) -> Result<(), Failure<AcceptFault>>
+    requires start { HasStart (M.behaviour machine.now) body.now }
+    requires steps { MissesNoState (M.behaviour machine.now) body.now }
+    requires splits { MissesNoSplit (M.behaviour machine.now) body.now }
+    requires moves { MissesNoPair (M.behaviour machine.now) body.now }
+    ensures complete { OnOk result ((number : ℕ) → HasTwoEnds (M.behaviour machine.now) body.now number → ⊥) }
+    ensures refused { IfErr result (IfFault (IsRefused (M.behaviour machine.now) body.now)) }
+{
+    for number in 0..body.pair_count() {
+        if has_two_ends_at(machine, body, number as usize) {
+            return Err(Failure::Fault(AcceptFault::BothEnd { pair: number }));
+        }
+    }
+    Ok(())
+}
+
+/// Checks that the states and pairs are closed, condition by condition.
+fn check<M: Machine>(
+    alloc: Global,
+    machine: &M,
+    body: &Body<M::State>,
+) -> Result<(), Failure<AcceptFault>>
+    ensures closed { OnOk result (IsClosed (M.behaviour machine.now) (sets_of body.now)) }
+    ensures refused { IfErr result (IfFault (IsRefused (M.behaviour machine.now) body.now)) }
+{
+    if !body.has_state(&machine.start()) {
+        return Err(Failure::Fault(AcceptFault::NoStart));
+    }
+    let kept = check_steps(alloc, machine, body)?;
+    check_splits(alloc, machine, body, kept.as_slice())?;
+    check_moves(alloc, machine, body, kept.as_slice())?;
+    check_ends(machine, body)
+}
+
+/// Accepts states and pairs for a machine exactly where they are closed, and returns their numbers.
+/// Then the machine translates no two different texts, of any length, to the same cells.
+///
+/// Otherwise the fault is the first of `NoStart`, `StateMissing`, `SplitMissing`, `PairMissing` and
+/// `BothEnd` that applies. It names the least state or pair to which it applies, and then the least
+/// rules, of two rules the lesser one first.
+pub fn accept<M: Machine>(
+    alloc: Global,
+    machine: &M,
+    body: &Body<M::State>,
+) -> Result<Accepted, Failure<AcceptFault>>
+    // The states and pairs are closed.
+    ensures closed { OnOk result (IsClosed (M.behaviour machine.now) (sets_of body.now)) }
+    // Two texts of the machine that are translated to the same cells are equal.
+    ensures unambiguous { OnOk result (IsUnambiguous (M.behaviour machine.now)) }
+    ensures states { IfOk result (λ accepted. accepted.states ≡ length body.now.states) }
+    ensures pairs { IfOk result (λ accepted. accepted.pairs ≡ length body.now.pairs) }
+    // The fault applies, and it is the first one, with the least numbers.
+    ensures refused { IfErr result (IfFault (IsRefused (M.behaviour machine.now) body.now)) }
+    // States and pairs that are refused are not closed.
+    ensures not_closed { IfErr result (IfFault (λ _. IsClosed (M.behaviour machine.now) (sets_of body.now) → ⊥)) }
+{
+    numbered_sets_law(machine);
+    check(alloc, machine, body)?;
+    Ok(Accepted {
+        states: body.state_count(),
+        pairs: body.pair_count(),
+    })
+}

@@ -1,0 +1,100 @@
+//! The judge of a certificate for the table that files define.
+ghost use Rattle.std.specs.Prelude.{◌≡◌, ◌⊎◌, Err, IfErr, IfOk, Ok, OnOk};
+ghost use Rattle.brl_accept.specs.Judging.{IsAccepted, IsAcceptedWith, IsRefusedBy, IsRefusedFor, IsRefusedWith, load_outcome};
+ghost use Rattle.brl_accept.specs.declared.checker.Accepted.{Accepted as AcceptedValue};
+ghost use Rattle.brl_failure.specs.Failure.{IfFault};
+ghost use Rattle.brl_failure.specs.declared.failure.Failure.TheVariants as failures;
+ghost use Rattle.brl_lines.specs.Answer.{AllStay, GivesOneAnswer};
+ghost use Rattle.brl_lines.specs.Outcome.{CountsFailure};
+ghost use Rattle.brl_reading.specs.Files.{IsTableOf};
+ghost use Rattle.brl_table.specs.TableView.{TableView};
+ghost use Rattle.brl_table.specs.Translation.{IsUnambiguous};
+
+use crate::{Accepted, JudgeFault, accept};
+use brl_cert::{Cert, read_cert};
+use brl_dues::{Dues, DuesState};
+use brl_edges::Body;
+use brl_failure::{Failure, raise};
+use brl_lines::Source;
+use brl_reading::{load_table, one_table_law};
+use brl_table::Table;
+use brl_window::{TooWide, Window, WindowState};
+use std::alloc::Global;
+
+/// Judges the states and pairs of a certificate of version 1 for a table.
+fn judge_windows(
+    alloc: Global,
+    table: &Table,
+    body: &Body<WindowState>,
+) -> Result<Accepted, Failure<JudgeFault>>
+    ensures unambiguous { OnOk result (IsUnambiguous table.now) }
+    ensures accepted { IfOk result (IsAcceptedWith table.now (Cert.Window body.now)) }
+    ensures refused { IfErr result (IfFault (IsRefusedWith table.now (Cert.Window body.now))) }
+{
+    let Ok(window) = Window::new(alloc, table) else {
+        return Err(Failure::Fault(JudgeFault::Wide(TooWide)));
+    };
+    raise(accept(alloc, &window, body), JudgeFault::Refused)
+}
+
+/// Judges the states and pairs of a certificate of version 2 for a table.
+fn judge_dues(
+    alloc: Global,
+    table: &Table,
+    body: &Body<DuesState>,
+) -> Result<Accepted, Failure<JudgeFault>>
+    ensures unambiguous { OnOk result (IsUnambiguous table.now) }
+    ensures accepted { IfOk result (IsAcceptedWith table.now (Cert.Dues body.now)) }
+    ensures refused { IfErr result (IfFault (IsRefusedWith table.now (Cert.Dues body.now))) }
+{
+    let dues = Dues::new(alloc, table);
+    raise(accept(alloc, &dues, body), JudgeFault::Refused)
+}
+
+/// Judges a certificate for a table.
+fn judge_table(alloc: Global, table: &Table, cert: &[u8]) -> Result<Accepted, Failure<JudgeFault>>
+    ensures unambiguous { OnOk result (IsUnambiguous table.now) }
+    ensures accepted { IfOk result (IsAccepted table.now cert.now) }
+    ensures refused { IfErr result (IfFault (IsRefusedFor table.now cert.now)) }
+{
+    match raise(read_cert(alloc, cert), JudgeFault::Cert)? {
+        Cert::Window(body) => judge_windows(alloc, table, &body),
+        Cert::Dues(body) => judge_dues(alloc, table, &body),
+    }
+}
+
+/// Judges a certificate for the table that the file at the path `root` defines. An acceptance gives
+/// the numbers of states and pairs that the certificate lists. Then any two texts over the table's
+/// characters that the table translates to the same cells are equal, whatever their length.
+///
+/// Otherwise the fault is that of the first stage that refuses: `NoTable` where the files define no
+/// table; `Cert` where the bytes spell no certificate; `Wide` where the certificate is of version 1
+/// and the table has no window machine; `Refused` where the certificate's states and pairs aren't
+/// closed for the machine of its version.
+pub fn judge<S: Source>(
+    alloc: Global,
+    source: &mut S,
+    root: &str,
+    cert: &[u8],
+) -> Result<Accepted, Failure<JudgeFault>>
+    // The files define a table, as the source gave them. Any two texts over its characters that it
+    // translates to the same cells are equal, whatever their length. The bytes spell a certificate
+    // that proves it, with these numbers of states and pairs.
+    ensures accepted { IfOk result (λ accepted. (t : TableView) × IsTableOf (S.gives source.old) root.now t × IsUnambiguous t
+        × IsAccepted t cert.now accepted) }
+    // The fault is that of the first stage that refuses. Where the files define a table, the bytes
+    // don't deserve acceptance for it.
+    ensures refused { IfErr result (IfFault (IsRefusedBy (S.gives source.old) root.now cert.now)) }
+    // Where each file has one content, a certificate that deserves acceptance is accepted, unless
+    // memory runs out.
+    ensures decides { GivesOneAnswer (S.gives source.old) → (t : TableView) → IsTableOf (S.gives source.old) root.now t
+        → (accepted : AcceptedValue) → IsAccepted t cert.now accepted → (result ≡ Ok accepted) ⊎ (result ≡ Err failures.Memory) }
+    ensures count { CountsFailure (S.faults source.old) (S.faults source.new) (load_outcome result) }
+    ensures same { AllStay (S.gives source.old) (S.gives source.new) }
+{
+    one_table_law(&*source);
+    let table = raise(load_table(alloc, source, root), JudgeFault::NoTable)?;
+    let judged = judge_table(alloc, &table, cert);
+    drop(table);
+    judged
+}

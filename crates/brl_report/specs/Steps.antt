@@ -1,0 +1,25 @@
+-- The steps of a translation with their characters, and where two translations diverge. The
+-- project's own choice.
+use Rattle.std.specs.Prelude.{ℕ, Bool, ◌&&◌, ◌==◌, nat_eq, List, map, take, drop}
+use Rattle.std.specs.List.{common_prefix_len}
+use Rattle.std.specs.Cmp.Lexicographic.{pointwise}
+use Rattle.brl_forward.specs.Trace.{trace_of}
+use Rattle.brl_forward.specs.declared.steps.Traced.{Traced}
+use Rattle.brl_report.specs.declared.steps.ReportStep.{ReportStep}
+use Rattle.brl_table.specs.TableView.{TableView}
+
+-- a step with the characters that it reads
+abbrev pub report_step : List ℕ → Traced → ReportStep
+report_step text step = record { step = step; characters = take step.length (drop step.start text) }
+
+-- the steps of a text's translation
+abbrev pub report_steps : TableView → List ℕ → List ReportStep
+report_steps t text = map (report_step text) (trace_of t text)
+
+-- whether the rules, the characters and the cells of two steps are the same
+abbrev pub are_same : ReportStep → ReportStep → Bool
+are_same x y = (x.step.rule == y.step.rule) && pointwise nat_eq x.characters y.characters && pointwise nat_eq x.step.cells y.step.cells
+
+-- the number of steps that two translations have in common before they diverge
+abbrev pub common_prefix : List ReportStep → List ReportStep → ℕ
+common_prefix left right = common_prefix_len are_same left right

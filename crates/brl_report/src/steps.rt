@@ -1,0 +1,68 @@
+//! The steps of a translation with their characters, and where two translations diverge.
+ghost use Rattle.std.specs.Prelude.{◌≡◌, IsTrue, IfOk, take, drop};
+ghost use Rattle.brl_report.specs.Steps.{are_same, common_prefix, report_step, report_steps};
+ghost use Rattle.brl_table.specs.Text.{is_text};
+
+use brl_cells::Chars;
+use brl_failure::Failure;
+use brl_forward::{Traced, trace};
+use brl_table::Table;
+use std::alloc::{AllocError, Global};
+
+/// A step of a translation, with the characters that it reads.
+#[derive(Drop)]
+pub struct ReportStep {
+    pub step: Traced,
+    pub characters: Chars,
+}
+
+/// The characters that a step reads of its text.
+fn taken(alloc: Global, text: &[char], step: &Traced) -> Result<Chars, AllocError>
+    ensures { IfOk result (λ characters. characters ≡ take step.now.length (drop step.now.start text.now)) }
+{
+    let rest = text.get(step.start..).unwrap_or_default();
+    let front = rest.get(..step.length).unwrap_or(rest);
+    Ok(Chars::from_vec(Vec::from_slice(alloc, front)?))
+}
+
+/// The steps of a text's translation.
+pub fn report_steps(
+    alloc: Global,
+    table: &Table,
+    text: &[char],
+) -> Result<Vec<ReportStep>, AllocError>
+    requires { IsTrue (is_text table.now text.now) }
+    ensures { IfOk result (λ steps. steps.items ≡ report_steps table.now text.now) }
+{
+    let steps = match trace(alloc, table, text) {
+        Ok(steps) => steps,
+        Err(Failure::Fault(_)) => unreachable!(),
+        Err(Failure::Memory) => return Err(AllocError),
+    };
+    let mut found = Vec::new(alloc);
+    for step in steps {
+        let characters = taken(alloc, text, &step)?;
+        found.push(ReportStep { step, characters })?;
+    }
+    Ok(found)
+}
+
+/// Whether the rules, the characters and the cells of two steps are the same.
+fn are_same(one: &ReportStep, other: &ReportStep) -> bool
+    ensures { result ≡ are_same one.now other.now }
+{
+    one.step.rule == other.step.rule
+        && one.characters.as_slice() == other.characters.as_slice()
+        && one.step.cells.as_slice() == other.step.cells.as_slice()
+}
+
+/// The number of steps that two translations have in common before they diverge.
+pub fn common_prefix(left: &[ReportStep], right: &[ReportStep]) -> usize
+    ensures { result ≡ common_prefix left.now right.now }
+{
+    let mut count = 0;
+    while count < left.len() && count < right.len() && are_same(&left[count], &right[count]) {
+        count += 1;
+    }
+    count
+}
