@@ -64,7 +64,7 @@ pub record IsLimit {S : Type 0} (m : Behaviour S) (limit states pairs : ℕ) : T
 
 -- ---- Two ends
 
--- some reached pair has an empty lead and two states that end
+-- some reached pair has an empty lead and two final states
 pub record HasTwoEndsReached {S : Type 0} (m : Behaviour S) : Type 0 where
   pub pair : Pair S
   pub reached : ReachedPair m pair
@@ -72,7 +72,7 @@ pub record HasTwoEndsReached {S : Type 0} (m : Behaviour S) : Type 0 where
   pub ahead_ends : IsTrue (m.ends pair.ahead)
   pub behind_ends : IsTrue (m.ends pair.behind)
 
--- two different paths from the start to states that end, which give the same cells, read these
+-- two different paths from the start to final states, which give the same cells, read these
 -- texts
 pub record AreTwoPaths {S : Type 0} (m : Behaviour S) (left right : List ℕ) : Type 0 where
   pub one : List (Step S)

@@ -1,4 +1,4 @@
--- What a search of a machine comes to where each of the machine's paths that end is a translation.
+-- What a search decides where each of the machine's paths to a final state is a translation.
 -- These are this project's own choice.
 use Rattle.std.specs.Prelude.{◌≡◌, ◌≢◌, ℕ, IsTrue, List, ◌++◌, map}
 use Rattle.std.specs.List.{Contains, flat_map}
@@ -57,7 +57,7 @@ pub record HasLeadOfStep {S : Type 0} (m : Behaviour S) (p : Pair S) : Type 0 wh
   pub front : List ℕ
   pub ends : step.cells ≡ front ++ p.lead
 
--- The start is among these states, and each step from one of them ends in one of them. What the
+-- The start is among these states, and each step from one of them leads to one of them. What the
 -- cells of such a step end with is among these leads.
 pub record HoldsSteps {S : Type 0} (m : Behaviour S) (states : List S) (leads : List (List ℕ)) : Type 0 where
   pub start : Contains states m.start

@@ -46,7 +46,8 @@ pub record IsFound (t : TableView) (limit : ℕ) (found : Found) : Type 0 where
   pub order : IfCertified (λ body. AreInOrder (machine_of t) body.states) found
   -- a clash is one of the table, with its cells
   pub clash : IfClashing (λ clash. IsClash t clash.left clash.right clash.cells) found
-  -- the limit was passed, by no more than one, and no more states or pairs are counted than are reached
+  -- the limit was passed, by no more than one, and no more states or pairs are counted than are
+  -- reached
   pub passed : IfLimit (λ states pairs. (limit < states) ⊎ (limit < pairs)) found
   pub by_one : IfLimit (λ states pairs. (states ≤ limit + 1) × (pairs ≤ limit + 1)) found
   pub states_reached : IfLimit (λ states _. AtLeast states SameState (Reached (machine_of t))) found

@@ -20,7 +20,7 @@ pub record IsTextTo {S : Type 0} (m : Behaviour S) (states : List S) (from : S) 
   pub reaches : Reaches m from path state
   pub reads : reverse text ≡ reads_of path
 
--- From the two states of the pair with this number two paths lead to states that end, and with the
+-- From the two states of the pair with this number two paths lead to final states, and with the
 -- pair's lead they give the same cells. They read these texts, the last character first.
 pub record Continues {S : Type 0} (m : Behaviour S) (states : List S) (pairs : List NumberPair) (number : ℕ) (ahead behind : List ℕ) : Type 0 where
   pub pair : NumberPair

@@ -101,7 +101,7 @@ pub record IsTraced {S : Type 0} (m : Behaviour S) (t : Trail S) : Type 0 where
   pub in_range : (n : ℕ) (p : NumberPair) → slice_get t.pairs n ≡ Some p → IsPairOf (length t.states) p
   pub differ : (i j : ℕ) (p q : NumberPair) → i < j → slice_get t.pairs i ≡ Some p → slice_get t.pairs j ≡ Some q → DifferAsPairs p q
 
--- the pair has an empty lead and two states that end
+-- the pair has an empty lead and two final states
 pub record HasTwoEnds {S : Type 0} (m : Behaviour S) (states : List S) (p : NumberPair) : Type 0 where
   pub no_lead : p.lead ≡ []
   pub ahead : S
@@ -111,13 +111,13 @@ pub record HasTwoEnds {S : Type 0} (m : Behaviour S) (states : List S) (p : Numb
   pub ahead_ends : IsTrue (m.ends ahead)
   pub behind_ends : IsTrue (m.ends behind)
 
--- the pair with this number has an empty lead and two states that end
+-- the pair with this number has an empty lead and two final states
 pub record HasTwoEndsAt {S : Type 0} (m : Behaviour S) (states : List S) (pairs : List NumberPair) (number : ℕ) : Type 0 where
   pub pair : NumberPair
   pub at : slice_get pairs number ≡ Some pair
   pub ends : HasTwoEnds m states pair
 
--- what is found is within the limit, and no pair has an empty lead and two states that end: nothing
+-- what is found is within the limit, and no pair has an empty lead and two final states: nothing
 -- has stopped the search
 pub record IsActive {M S : Type 0} (behaviour : M → Behaviour S) (f : Finder M S) (t : Trail S) : Type 0 where
   pub laws : KeepsLaws (behaviour f.machine.now)

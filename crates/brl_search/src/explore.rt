@@ -20,7 +20,7 @@ use std::marker::Model;
 /// A search of a machine that isn't finished: states are found from its start on, breadth first,
 /// each state's steps in listed order, and with them the pairs into which they split and the
 /// successors of pairs. It ends where nothing more is found, at a pair with an empty lead and two
-/// ends, or as soon as more than `limit` states or more than `limit` pairs are found.
+/// final states, or as soon as more than `limit` states or more than `limit` pairs are found.
 ///
 /// A contract sees what is found so far, and how many steps are left at most. `search_machine` runs
 /// such a search to its end.
@@ -49,7 +49,7 @@ impl<'m, M: Machine> Model for Search<'m, M> {
     ghost invariant = { λ s. IsWorking M.behaviour s.finder s.trail s.worklist };
 }
 
-/// How far a search has come.
+/// The progress of a search.
 #[derive(Drop)]
 pub enum Progress<'m, M: Machine> {
     /// There is more to do.
@@ -80,7 +80,7 @@ impl<'m, M: Machine> Search<'m, M> {
         }))
     }
 
-    /// How many states are found so far.
+    /// The number of states found so far.
     pub fn state_count(&self) -> usize
         ensures count { result ≡ length self.now.states }
         ensures reached { AtLeast result SameState (Reached (M.behaviour self.now.machine)) }
@@ -88,7 +88,7 @@ impl<'m, M: Machine> Search<'m, M> {
         self.trail.states.as_slice().len()
     }
 
-    /// How many pairs are found so far.
+    /// The number of pairs found so far.
     pub fn pair_count(&self) -> usize
         ensures count { result ≡ length self.now.pairs }
         ensures reached { AtLeast result SamePair (ReachedPair (M.behaviour self.now.machine)) }

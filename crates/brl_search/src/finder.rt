@@ -1,4 +1,4 @@
-//! What finds the states and pairs of a machine, and how it finds states.
+//! The finder of a machine's states and pairs, and how it finds states.
 ghost use Rattle.std.specs.Prelude.{◌≡◌, ◌<◌, [], ◌∷◌, length, IfOk, IfErr, OnOk, Some, slice_get};
 ghost use Rattle.brl_edges.specs.Edges.{AreEdges};
 ghost use Rattle.brl_failure.specs.Failure.{IfFault};
@@ -25,7 +25,7 @@ pub struct Finder<'m, M: Machine> {
 pub enum Stop {
     /// More states or pairs are found than the limit allows.
     Limit,
-    /// The pair with this number has an empty lead and two states that end.
+    /// The pair with this number has an empty lead and two final states.
     BothEnd(usize),
 }
 
@@ -52,7 +52,7 @@ impl<'m, M: Machine> Finder<'m, M> {
         })
     }
 
-    /// The number of a state, from 0. It is added where it hasn't been found before.
+    /// The number of a state, from 0. A state that hasn't been found before is added.
     fn find_state(
         &self,
         trail: &mut Trail<M::State>,

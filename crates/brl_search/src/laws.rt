@@ -1,5 +1,6 @@
-//! What the search of a machine comes to where each of its paths that end is a translation and each
-//! text has one path. Each law is the contract of a function that does nothing.
+//! Laws of the search, most of them over an exact machine: each of its paths to a final state is a
+//! translation, and each text has one path. Each law is the contract of a function that does
+//! nothing.
 ghost use Rattle.std.specs.Prelude.{◌≡◌, ◌≤◌, ℕ, List, length};
 ghost use Rattle.std.specs.List.{Contains};
 ghost use Rattle.brl_edges.specs.Body.{BodyView};
@@ -24,15 +25,14 @@ pub fn two_runs_law<M: Machine>(machine: &M)
     let _ = machine.start();
 }
 
-/// Two different paths of an exact machine that end and give the same cells read two different
-/// texts, which are translated to the same cells.
+/// Two different paths of an exact machine to final states that give the same cells read two
+/// different texts, which are translated to the same cells.
 pub fn same_cells_law<M: Machine>(machine: &M)
     ensures { IsExact (M.behaviour machine.now) → (left right : List ℕ) → AreTwoPaths (M.behaviour machine.now) left right →
         IsClashOf (M.behaviour machine.now) left right }
 {}
 
-/// The same over a machine of a table: such texts are a clash of the table, so `confirm` finds one
-/// in them.
+/// Over a machine of a table such texts are a clash of the table, so `confirm` finds one in them.
 pub fn clash_law<M: Machine>(machine: &M, table: &Table)
     requires texts { (M.behaviour machine.now).is_text ≡ is_text table.now }
     requires translation { (M.behaviour machine.now).translation ≡ translation table.now }
@@ -41,7 +41,7 @@ pub fn clash_law<M: Machine>(machine: &M, table: &Table)
         IsClash table.now left right (translation table.now left) }
 {}
 
-/// A reached pair of an exact machine with an empty lead and two ends gives a clash.
+/// A reached pair of an exact machine with an empty lead and two final states gives a clash.
 pub fn two_ends_law<M: Machine>(machine: &M)
     ensures { IsExact (M.behaviour machine.now) → HasTwoEndsReached (M.behaviour machine.now) → HasClash (M.behaviour machine.now) }
 {

@@ -2,13 +2,13 @@
 //! states and pairs of states are found until they are closed, until two texts with the same cells
 //! are found, or until there are more of them than a limit allows.
 //!
-//! - `search` searches a table and answers what it `Found`; `found_of` answers that from the outcome
+//! - `search` searches a table and returns what it `Found`; `found_of` makes that from the outcome
 //!   of the machine's search.
-//! - `search_machine` searches any machine and answers an `Outcome`. A `Search` is the same in
-//!   slices: it runs for a number of steps at a time, and answers its `Progress`.
+//! - `search_machine` searches any machine and returns an `Outcome`. A `Search` does the same in
+//!   slices: it runs for a number of steps at a time, and returns its `Progress`.
 //! - Inside, a `Finder` finds the states and pairs of a machine, a `Trail` keeps them and how each
 //!   was found, and a `Worklist` has what is left to do.
-//! - The laws say what is reached, and that the search decides.
+//! - The laws state what is reached, and that the search decides.
 #![tactic(auto)]
 
 mod dues_laws;

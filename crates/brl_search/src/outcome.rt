@@ -1,4 +1,4 @@
-//! What a search of a machine comes to.
+//! The outcome of a search of a machine.
 ghost use Rattle.std.specs.Prelude.{IfOk};
 ghost use Rattle.brl_pairs.specs.Runs.{KeepsLaws};
 ghost use Rattle.brl_search.specs.Answers.{IsCertified, IsOutcome};
@@ -12,12 +12,12 @@ use brl_members::Key;
 use brl_pairs::Machine;
 use std::alloc::AllocError;
 
-/// What a search of a machine comes to.
+/// The outcome of a search of a machine.
 #[derive(Drop)]
 pub enum Outcome<S: Key> {
     /// These states and pairs are closed.
     Closed(Body<S>),
-    /// Two different paths with the same cells, both of which end, read these texts.
+    /// Two different paths to final states, with the same cells, read these texts.
     BothEnd { left: Vec<char>, right: Vec<char> },
     /// This number of states and this number of pairs were found when one of the two became more
     /// than the limit.

@@ -15,7 +15,7 @@ use brl_failure::Failure;
 use brl_pairs::{Advanced, Machine, Pair, advance};
 
 impl<'m, M: Machine> Finder<'m, M> {
-    /// Whether the pair has an empty lead and two states that end.
+    /// Whether the pair has an empty lead and two final states.
     fn has_two_ends(&self, states: &[M::State], pair: &Pair<u32>) -> bool
         requires { IsPairOf (length states.now) pair.now }
         ensures yes { OnTrue result (HasTwoEnds (M.behaviour self.now.machine.now) states.now pair.now) }
@@ -26,7 +26,7 @@ impl<'m, M: Machine> Finder<'m, M> {
             && self.machine.ends(&states[pair.behind as usize])
     }
 
-    /// Adds a pair, unless it is there in either order.
+    /// Adds a pair, unless it is listed in either order.
     fn find_pair(
         &self,
         trail: &mut Trail<M::State>,

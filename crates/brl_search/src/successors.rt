@@ -17,8 +17,7 @@ use brl_pairs::{Machine, Pair};
 use std::alloc::AllocError;
 
 impl<'m, M: Machine> Finder<'m, M> {
-    /// Adds the splits of one step of a state with each earlier one whose cells begin with the same
-    /// cell.
+    /// Adds the splits of one step of a state with each earlier one that has the same first cell.
     fn find_splits_of(
         &self,
         trail: &mut Trail<M::State>,
@@ -61,7 +60,7 @@ impl<'m, M: Machine> Finder<'m, M> {
         Ok(())
     }
 
-    /// Adds the splits of a state: of two steps each, whose cells begin with the same cell.
+    /// Adds the splits of a state: of any two of its steps with the same first cell.
     fn find_splits(
         &self,
         trail: &mut Trail<M::State>,
@@ -81,7 +80,7 @@ impl<'m, M: Machine> Finder<'m, M> {
         Ok(())
     }
 
-    /// Adds the next states of the steps of a state, and its splits. It answers the edges of these
+    /// Adds the next states of the steps of a state, and its splits. Returns the edges of these
     /// steps.
     pub fn expand(
         &self,

@@ -1,4 +1,4 @@
-//! The two texts of a pair with an empty lead and two ends.
+//! The two texts of a pair with an empty lead and two final states.
 ghost use Rattle.std.specs.Prelude.{◌≡◌, ◌<◌, [], ◌++◌, length, IfOk, OnOk, Some, reverse, slice_get};
 ghost use Rattle.brl_edges.specs.Body.{NumberPair};
 ghost use Rattle.brl_pairs.specs.Runs.{KeepsLaws};
@@ -101,8 +101,8 @@ impl<'m, M: Machine> Finder<'m, M> {
         Ok(Texts { left, right })
     }
 
-    /// The texts that two different paths read, which give the same cells and end: those by which a
-    /// pair with an empty lead and two ends was found.
+    /// The texts that two different paths with the same cells read: those by which a pair with an
+    /// empty lead and two final states was found.
     pub fn texts_of(&self, trail: &Trail<M::State>, number: usize) -> Result<Texts, AllocError>
         requires laws { KeepsLaws (M.behaviour self.now.machine.now) }
         requires traced { IsTraced (M.behaviour self.now.machine.now) trail.now }
