@@ -2,7 +2,7 @@
 use Rattle.std.specs.Prelude.{ℕ, ◌≡◌, ◌<◌, ◌≤◌, ◌⊎◌, IsTrue, List, ◌++◌, length, Option, None, Some, Result, Ok, Err, codes, string_bytes}
 use Rattle.std.specs.Fmt.{decimal}
 use Rattle.brl_accept.specs.Judging.{IsAccepted, IsRefusedBy, counted}
-use Rattle.brl_accept.specs.declared.accepted.Accepted.{Accepted}
+use Rattle.brl_accept.specs.declared.checker.Accepted.{Accepted}
 use Rattle.brl_accept.specs.declared.judge_fault.JudgeFault.{JudgeFault}
 use Rattle.brl_accept.specs.declared.judge_fault.JudgeFault.TheVariants as judge
 use Rattle.brl_cert.specs.Reading.{reading, spelling}
