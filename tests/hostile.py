@@ -1,0 +1,334 @@
+#!/usr/bin/env python3
+"""Runs the built program with requests that fail, and on files that were cut off.
+
+  tests/hostile.py PROGRAM
+
+*Refused allocations.* Each run is made once for each allocation that it makes, that one refused.
+Where that comes while the words are read, the program ends with status 2 or 3 and prints nothing to
+standard output. After that it prints `Memory` and ends with status 3, with no more on standard output
+than whole lines that it wrote before, and with no certificate written. Or it asks for less, as a list
+that grows may do, and has its full answer. The same run with nothing refused has its full answer.
+
+*Reads and writes that fail*, and the run after them, which has its full answer. *Certificates and
+tables that are cut off* at every byte. *Limits*, just kept and just passed.
+
+tests/faulty.c is what lets a request fail; `cc` compiles it. A line is printed for each case. The last
+line is 'hostile: N passed, M failed; K allocations refused'.
+"""
+
+import os
+import re
+import subprocess
+import sys
+import tempfile
+from collections.abc import Iterator
+from concurrent.futures import ThreadPoolExecutor
+from dataclasses import dataclass, field
+from pathlib import Path
+
+TESTS = Path(__file__).resolve().parent
+
+# Files of a run are in memory where the system has such a place.
+FAST = "/dev/shm" if os.access("/dev/shm", os.W_OK) else None
+
+FIRST = "space \\s 0\nletter a 1\nletter b 12\nletter c 14\n"
+TWO = "letter a 1\nletter b 12\n"
+ALIKE = TWO + "letter x 1-12\n"
+APART = ALIKE + "always ab 14\n"
+WORD = "space \\s 0\nletter b 12\nletter u 136\nletter t 2345\nword but 12\nword b 56-12\n"
+NUMBERS = "letter a 1\nlitdigit 1 1\nnumsign 3456\nnocontractsign 56\nnumericnocontchars a\n"
+EMPTY_CERT = "BRLCERT 2\nstate 1 0\nend 1 0\n"
+TWO_CERT = "BRLCERT 2\nstate 1 0\nstate 8 0\nend 2 0\n"
+APART_CERT = "BRLCERT 2\nstate 1 0\nstate 8 0\nstate 8 0 b62*\npair 1 2 12\nend 3 1\n"
+LETTER_CERT = "BRLCERT 1\nstate 1 0 0 -\nstate 8 0 0 61\nstate 8 0 1 -\npair 1 2 -\nend 3 1\n"
+REPORT = """\
+left: ab
+right: x
+cells: 1-12
+left from 0:
+  a  1   t.ctb:1
+  b  12  t.ctb:2
+right from 0:
+  x  1-12  t.ctb:3
+"""
+
+
+@dataclass(frozen=True)
+class Run:
+    """A run of the program, and its answer. Where `out` has no line feed at its end, it is how the output begins."""
+
+    name: str
+    words: list[str]
+    files: dict[str, str]
+    out: str = ""
+    status: int = 0
+    input: str = ""
+    err: str = ""
+    # the certificate in the file `o`, or how it begins
+    written: str | None = None
+
+
+@dataclass(frozen=True)
+class Ended:
+    """What came of a run, and what failed in it."""
+
+    out: str
+    err: str
+    status: int
+    written: str | None
+    allocations: int = 0
+    refused: int = 0
+    opened: int = 0
+    failed: int = 0
+
+    def answer(self) -> tuple[str, str, int, str | None]:
+        return self.out, self.err, self.status, self.written
+
+    def is_of(self, run: Run) -> bool:
+        is_exact = run.out.endswith("\n") or not run.out
+        is_out = self.out == run.out if is_exact else self.out.startswith(run.out)
+        is_written = (self.written is None) == (run.written is None) and (self.written or "").startswith(run.written or "")
+        return is_out and is_written and (self.status, self.err) == (run.status, run.err)
+
+
+@dataclass
+class Result:
+    name: str
+    refused: int = 0
+    wrong: list[str] = field(default_factory=list)
+
+
+class Machine:
+    """The program, and the library that lets its requests fail."""
+
+    def __init__(self, program: Path, library: Path) -> None:
+        self.program, self.library = program, library
+
+    def run(self, run: Run, **fails: int) -> Ended:
+        with tempfile.TemporaryDirectory(dir=FAST) as folder:
+            for name, text in run.files.items():
+                Path(folder, name).write_bytes(text if isinstance(text, bytes) else text.encode())
+            log, written = Path(folder, "log"), Path(folder, "o")
+            known = {"LD_PRELOAD": str(self.library), "FAULTY_LOG": str(log), **{name: str(it) for name, it in fails.items()}}
+            ran = subprocess.run([self.program, *run.words], cwd=folder, env=known, input=run.input, capture_output=True,
+                                 text=True, timeout=120)
+            text = written.read_text() if written.exists() else None
+            return Ended(ran.stdout, ran.stderr, ran.returncode, text, *map(int, log.read_text().split()))
+
+    def answers(self, run: Run, **fails: int) -> Result:
+        """The run has its answer."""
+        ended = self.run(run, **fails)
+        return Result(run.name, wrong=[] if ended.is_of(run) else [f"{ended.answer()}"])
+
+    def refuses_in_turn(self, run: Run) -> Result:
+        """Each allocation of the run is refused in turn."""
+        whole, ends = self.run(run), 0
+        result = Result(run.name, whole.allocations)
+        if not whole.is_of(run):
+            result.wrong.append(f"nothing refused: {whole.answer()}")
+        for number in range(1, whole.allocations + 1):
+            ended = self.run(run, FAIL_ALLOCATION=number)
+            if ended.answer() != whole.answer():
+                ends += 1
+                if not is_ended_by_memory(run, ended, whole):
+                    result.wrong.append(f"allocation {number} refused: {ended.answer()}")
+            if ended.refused != 1:
+                result.wrong.append(f"allocation {number}: {ended.refused} were refused")
+        if self.run(run, FAIL_ALLOCATION=whole.allocations + 1).answer() != whole.answer():
+            result.wrong.append("it makes more allocations than it did")
+        if ends < 0.9 * whole.allocations or not whole.allocations:
+            result.wrong.append(f"of {whole.allocations} refusals {ends} ended the run")
+        return result
+
+    def fails_once(self, run: Run, after: Run, fails: dict[str, int]) -> Result:
+        """A request fails, and the run has this answer; where none does, it has its full one."""
+        ended = self.run(run, **fails)
+        wrong = [] if ended.is_of(run) and ended.failed else [f"{ended.answer()}, {ended.failed} requests failed"]
+        again = self.run(after)
+        return Result(run.name, wrong=wrong + ([] if again.is_of(after) and not again.failed else [f"again: {again.answer()}"]))
+
+
+def is_ended_by_memory(run: Run, ended: Ended, whole: Ended) -> bool:
+    """Whether a run has ended as one does in which an allocation was refused."""
+    if ended.written is not None or not whole.out.startswith(ended.out) or (ended.out and not ended.out.endswith("\n")):
+        return False
+    if ended.opened == 0:
+        return ended.status in (2, 3) and not ended.out and bool(ended.err)
+    return ended.status == 3 and ended.err in ("Memory\n", run.err + "Memory\n") and (ended.out != whole.out or not ended.out)
+
+
+def chain(last: int) -> dict[str, str]:
+    """The files c1 to that, each of which but the last includes the next."""
+    return {f"c{n}": f"include c{n + 1}\n" for n in range(1, last)} | {f"c{last}": "letter a 1\n"}
+
+
+def translate(name: str, table: str, text: str, out: str, status: int = 0, err: str = "") -> Run:
+    return Run(name, ["translate", "t.ctb"], {"t.ctb": table}, out, status, text, err)
+
+
+def search(name: str, table: str, out: str, status: int = 0, err: str = "", written: str | None = None) -> Run:
+    return Run(name, ["search", "t.ctb", "o"], {"t.ctb": table}, out, status, err=err, written=written)
+
+
+def check(name: str, table: str, cert: str, out: str, status: int = 1, err: str = "") -> Run:
+    return Run(name, ["check", "t.ctb", "c"], {"t.ctb": table, "c": cert}, out, status, err=err)
+
+
+def refusal(name: str, cert: str, fault: str) -> Run:
+    return check(name, APART, cert, f"refused: {fault}\n")
+
+
+RUNS = [
+    translate("a text is translated", FIRST, "abc a\n", "ABC A\n"),
+    translate("three lines are translated", FIRST, "abc a\nb\nc\n", "ABC A\nB\nC\n"),
+    translate("an empty table translates nothing", "", "", ""),
+    translate("a rule is used", APART, "aab\n", "AC\n"),
+    translate("a word is translated", WORD, "b but\n", ";B B\n"),
+    translate("a number is translated", NUMBERS, "1a\n", "#A;A\n"),
+    search("an empty table is searched", "", "certified: 1 states, 0 pairs\n", written=EMPTY_CERT),
+    search("a table of two letters is searched", TWO, "certified: 2 states, 0 pairs\n", written=TWO_CERT),
+    search("a clash is found", ALIKE, "left: ", 1),
+    search("a table with a word rule is searched", WORD, "certified: ", written="BRLCERT 2\n"),
+    search("a table with numbers is searched", NUMBERS, "certified: ", written="BRLCERT 2\n"),
+    search("a table with a notice is searched", "letter a 1\nletter a 12\n", "certified: 2 states, 0 pairs\n",
+           err="notice DefinedAgain a at t.ctb:2\n", written="BRLCERT 2\n"),
+    Run("a limit is passed", ["search", "--limit", "1", "t.ctb", "o"], {"t.ctb": TWO}, "limit: 2 states, 0 pairs\n", 3),
+    check("an empty table's certificate is accepted", "", EMPTY_CERT, "accepted: 1 states, 0 pairs\n", 0),
+    check("a certificate of version 1 is accepted", "letter a 1\n", LETTER_CERT, "accepted: 3 states, 1 pairs\n", 0),
+    check("a certificate of version 2 is accepted", APART, APART_CERT, "accepted: 3 states, 1 pairs\n", 0),
+    Run("two texts clash", ["clash", "t.ctb", "ab", "x"], {"t.ctb": ALIKE}, REPORT, 1),
+    Run("one text twice is no clash", ["clash", "t.ctb", "ab", "ab"], {"t.ctb": ALIKE}, "no clash\n"),
+    Run("two files include each other", ["translate", "t.ctb"], {"t.ctb": "include u.ctb\n", "u.ctb": "include t.ctb\n"},
+        status=2, err="L4 Cycle t.ctb at u.ctb:1\n"),
+    Run("16 files, each included by the one before", ["translate", "c1"], chain(16), "A\n", input="a\n"),
+    Run("17 files", ["translate", "c1"], chain(17), status=2, err="L5 TooDeep c17 at c16:1\n"),
+    refusal("a certificate without its last line", APART_CERT[:57], "K8 Truncated line 6"),
+    refusal("a blank at its end", APART_CERT[:-1] + " \n", "K2 Syntax line 6"),
+    refusal("a leading zero", APART_CERT.replace("state 1 0", "state 01 0"), "K3 NotCanonical line 2"),
+    refusal("dots in another order", APART_CERT.replace("pair 1 2 12", "pair 1 2 21"), "K3 NotCanonical line 5"),
+    refusal("a wrong count of pairs", APART_CERT.replace("end 3 1", "end 3 2"), "K7 WrongCount line 6"),
+    refusal("an unknown version", APART_CERT.replace("BRLCERT 2", "BRLCERT 9"), "K1 Version line 1"),
+    refusal("a state that isn't there", APART_CERT.replace("pair 1 2 12", "pair 1 3 12"), "K6 NoSuchState line 5"),
+    refusal("a state twice", APART_CERT.replace("state 8 0\n", "state 8 0\nstate 8 0\n", 1), "K4 DuplicateState line 4"),
+    refusal("a pair twice", APART_CERT.replace("pair 1 2 12\n", "pair 1 2 12\npair 1 2 12\n"), "K5 DuplicatePair line 6"),
+    Run("help is printed", ["--help"], {}, "Translates text into braille"),
+    Run("the version is printed", ["--version"], {}, "brl "),
+]
+
+# The table of the file t.ctb includes a file, which includes another.
+NESTED = {"t.ctb": "include u.ctb\n", "u.ctb": "include v.ctb\n", "v.ctb": "letter a 1\n", "c": LETTER_CERT}
+CHECKED = Run("", ["check", "t.ctb", "c"], NESTED, "accepted: 3 states, 1 pairs\n")
+TWICE = translate("", FIRST, "abc a\nabc a\n", "ABC A\nABC A\n")
+FOUND = search("", TWO, "certified: 2 states, 0 pairs\n", written=TWO_CERT)
+CLASHES = Run("", ["clash", "t.ctb", "ab", "x"], {"t.ctb": ALIKE}, REPORT, 1)
+
+
+def failing(name: str, run: Run, fails: dict[str, int], err: str, out: str = "", written: str | None = None) -> tuple[Run, Run, dict[str, int]]:
+    return Run(name, run.words, run.files, out, 2, run.input, err, written), run, fails
+
+
+FAILING = [
+    failing("the certificate can't be read", CHECKED, {"FAIL_READ": 1}, "L2 ReadFailed c\n"),
+    failing("the table can't be read", CHECKED, {"FAIL_READ": 2}, "L2 ReadFailed t.ctb\n"),
+    failing("an included file can't be read", CHECKED, {"FAIL_READ": 3}, "L2 ReadFailed u.ctb at t.ctb:1\n"),
+    failing("a file that it includes can't be read", CHECKED, {"FAIL_READ": 4}, "L2 ReadFailed v.ctb at u.ctb:1\n"),
+    failing("the input fails at the start", TWICE, {"FAIL_INPUT": 0}, "U3 InputFailed at line 1\n"),
+    failing("the input fails after the first line", TWICE, {"FAIL_INPUT": 6}, "U3 InputFailed at line 2\n", "ABC A\n"),
+    failing("the input fails in the second line", TWICE, {"FAIL_INPUT": 8}, "U3 InputFailed at line 2\n", "ABC A\n"),
+    failing("the output fails at once", TWICE, {"FAIL_OUTPUT": 0}, "U4 OutputFailed at line 1\n"),
+    failing("the output fails at the second line", TWICE, {"FAIL_OUTPUT": 6}, "U4 OutputFailed at line 2\n", "ABC A\n"),
+    failing("an acceptance can't be written", CHECKED, {"FAIL_OUTPUT": 0}, "U4 OutputFailed\n"),
+    failing("a report can't be written", CLASHES, {"FAIL_OUTPUT": 0}, "U4 OutputFailed\n"),
+    failing("a verdict can't be written", FOUND, {"FAIL_OUTPUT": 0}, "U4 OutputFailed\n", written=TWO_CERT),
+    failing("a certificate can't be written", FOUND, {"FAIL_FILE": 0}, "U7 CannotWrite o\n", written=""),
+]
+
+
+def cut_certificates() -> Iterator[Run]:
+    """A certificate, cut off after each number of bytes."""
+    for size in range(len(APART_CERT)):
+        cut = APART_CERT[:size]
+        yield check(f"{size} bytes of a certificate", APART, cut, f"refused: K8 Truncated line {1 + cut.count(chr(10))}\n")
+
+
+def cut_tables() -> Iterator[Run]:
+    """The table of one letter, cut off after each number of bytes."""
+    whole = "letter b 12"
+    for size in range(len(whole) + 1):
+        cut, name = whole[:size], f"{size} bytes of a table"
+        if size in range(1, 6):
+            yield translate(name, cut, "b\n", "", 2, f"B1 OutsideProfile {cut} at t.ctb:1\n")
+        elif size in range(6, 10):
+            yield translate(name, cut, "b\n", "", 2, "B2 MissingOperand letter at t.ctb:1\n")
+        elif size == 0:
+            yield translate(name, cut, "b\n", "", 2, "F1 UnknownChar 0 at line 1\n")
+        else:
+            yield translate(name, cut, "b\n", "A\n" if size == 10 else "B\n")
+    yield translate("a table that is cut off inside a character", "letter é 12\n".encode()[:8], "b\n", "", 2, "L3 NotUtf8 t.ctb\n")
+
+
+def limits() -> Iterator[Run]:
+    most = 16_777_216
+    lead = lambda cells: f"BRLCERT 2\nstate 1 0\npair 0 0 {'-'.join(['1'] * cells)}\nend 1 1\n"
+    yield check("a state's class is at most 255", "letter a 1\n", "BRLCERT 2\nstate 256 0\nend 1 0\n", "refused: K2 Syntax line 2\n")
+    yield check("a state's number has 32 bits", "letter a 1\n", "BRLCERT 2\nstate 1 0\npair 4294967296 0 -\nend 1 1\n", "refused: K2 Syntax line 3\n")
+    yield check("a lead of 1,024 cells is read", "letter a 1\n", lead(1024), "refused: A2 StateMissing state 0 rule 0\n")
+    yield check("a lead of 1,025 cells isn't", "letter a 1\n", lead(1025), "refused: K2 Syntax line 3\n")
+    yield check("a certificate of 16,777,216 bytes is read", "letter a 1\n", "x" * most, "refused: K8 Truncated line 1\n")
+    yield check("one of 16,777,217 bytes isn't", "letter a 1\n", "x" * (most + 1), "", 2, "L9 TooLarge c\n")
+    yield translate("16,777,216 bytes of input are translated", "letter a 1\n", "a\n" * (most // 2), "A\n" * (most // 2))
+    yield translate("one more line isn't", "letter a 1\n", "a\n" * (most // 2 + 1), "A\n" * (most // 2), 2, "U6 InputTooLong at line 8388609\n")
+    yield translate("a line of 65,537 bytes isn't", "letter a 1\n", "a" * 65_537, "", 2, "U5 InputLineTooLong at line 1\n")
+
+
+def cuts_of_search(machine: Machine, table: str) -> Result:
+    """A certificate that a search wrote, cut off after each number of bytes, is never accepted."""
+    cert = machine.run(search("", table, "")).written or ""
+    result = Result(f"each cut of a certificate of {len(cert)} bytes")
+    for size in range(len(cert)):
+        ended = machine.run(check("", table, cert[:size], ""))
+        if ended.status != 1 or not re.fullmatch(r"refused: K\d \w+ line \d+\n", ended.out):
+            result.wrong.append(f"{size} bytes: {ended.answer()}")
+    if not machine.run(check("", table, cert, "")).out.startswith("accepted: "):
+        result.wrong.append("the whole of it isn't accepted")
+    return result
+
+
+def endless(machine: Machine) -> Result:
+    """An input without end: the program stops reading at its limit."""
+    run = translate("an input without an end", "letter a 1\n", "", "A\n" * 8_388_608, 2, "U6 InputTooLong at line 8388609\n")
+    with tempfile.TemporaryDirectory(dir=FAST) as folder:
+        Path(folder, "t.ctb").write_text(run.files["t.ctb"])
+        endless = subprocess.Popen(["yes", "a"], stdout=subprocess.PIPE)
+        ran = subprocess.run([machine.program, *run.words], cwd=folder, stdin=endless.stdout, capture_output=True, text=True, timeout=120)
+        endless.kill()
+        endless.wait()
+        ended = Ended(ran.stdout, ran.stderr, ran.returncode, None)
+        return Result(run.name, wrong=[] if ended.is_of(run) else [f"status {ended.status}, {ended.err!r}, {len(ended.out)} bytes"])
+
+
+def main(words: list[str]) -> int:
+    if len(words) != 1:
+        print(__doc__, file=sys.stderr)
+        return 2
+    with tempfile.TemporaryDirectory() as room, ThreadPoolExecutor(len(os.sched_getaffinity(0))) as pool:
+        library = Path(room, "faulty.so")
+        subprocess.run(["cc", "-O2", "-shared", "-fPIC", "-o", library, TESTS / "faulty.c"], check=True)
+        machine = Machine(Path(words[0]).resolve(), library)
+        tasks = [pool.submit(machine.refuses_in_turn, it) for it in RUNS]
+        tasks += [pool.submit(machine.fails_once, *it) for it in FAILING]
+        tasks += [pool.submit(machine.answers, it) for it in [*cut_certificates(), *cut_tables(), *limits()]]
+        tasks += [pool.submit(cuts_of_search, machine, it) for it in (WORD, NUMBERS)]
+        tasks += [pool.submit(endless, machine)]
+        failed = refused = 0
+        for it in (task.result() for task in tasks):
+            refused += it.refused
+            failed += bool(it.wrong)
+            said = f": {it.refused} allocations refused" if it.refused else ""
+            print(f"{'FAILED' if it.wrong else 'ok'}: {it.name}{said}", *(line[:400] for line in it.wrong[:5]), sep="\n  ", flush=True)
+    print(f"hostile: {len(tasks) - failed} passed, {failed} failed; {refused} allocations refused")
+    return 1 if failed else 0
+
+
+if __name__ == "__main__":
+    sys.exit(main(sys.argv[1:]))
