@@ -113,7 +113,9 @@ class Machine:
             ran = subprocess.run([self.program, *run.words], cwd=folder, env=known, input=run.input, capture_output=True,
                                  text=True, timeout=120)
             text = written.read_text() if written.exists() else None
-            return Ended(ran.stdout, ran.stderr, ran.returncode, text, *map(int, log.read_text().split()))
+            # a program that was killed leaves no numbers
+            numbers = map(int, log.read_text().split()) if log.exists() else ()
+            return Ended(ran.stdout, ran.stderr, ran.returncode, text, *numbers)
 
     def answers(self, run: Run, **fails: int) -> Result:
         """The run has its answer."""
