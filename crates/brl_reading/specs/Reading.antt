@@ -1,6 +1,6 @@
 -- The table that a list of lines defines. Each line is read by itself; each fact of the table is
 -- then a statement on what all the lines define. From the manual, section "Character-Definition
--- Opcodes": a character may have several definitions, of which the first gives its cells, and its
+-- Opcodes": a character may have several definitions; the first one gives its cells, and its
 -- classes add up; a `litdigit` line gives a digit of numbers its cells, whatever other lines do; an
 -- `uplow` line defines a capital and its small letter. Section "Translation Opcodes": `=` in a rule
 -- means the cells of its characters. Section "Braille Indicator Opcodes": the cells of the

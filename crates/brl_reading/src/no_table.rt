@@ -3,7 +3,7 @@ use crate::TableFault;
 use brl_lines::LoadFault;
 use thiserror::Error;
 
-/// The fault because of which there is no table at a path.
+/// The reason why a path has no table.
 #[derive(Debug, Drop, Error)]
 pub enum NoTable {
     /// A file can't be loaded.

@@ -32,7 +32,7 @@ SamePair p q = (p ≡ q) ⊎ ((p.lead ≡ []) × (swapped p ≡ q))
 abbrev pub SameState : {S : Type 0} → S → S → Type 0
 SameState a b = a ≡ b
 
--- there are at least n things of this kind: a list of n of them, no two of which count as the same
+-- there are at least n different things of this kind: some list has n of them, no two the same
 pub record AtLeast {A : Type 0} (n : ℕ) (Same : A → A → Type 0) (Kind : A → Type 0) : Type 0 where
   pub list : List A
   pub count : length list ≡ n
