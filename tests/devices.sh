@@ -374,6 +374,101 @@ expect 'a certificate is written over a longer file' 0 'certified: 2 states, 0 p
 status=$?
 expect 'it is accepted' 0 'accepted: 2 states, 0 pairs\n' ''
 
+# The file at this path has just this text.
+holds() {
+    printf "$2" | cmp -s - "$1" || fail "$3" "$1: $(head -c 300 "$1")"
+    echo "ok: $3"
+}
+two='BRLCERT 2\nstate 1 0\nstate 8 0\nend 2 0\n'
+found='certified: 2 states, 0 pairs\n'
+
+# Files of the table are refused for its certificate, whatever they are called.
+overwrites="error: the certificate would overwrite own.ctb, a file of the table\n"
+printf 'letter a 1\nletter b 12\n' >own.ctb
+ln -s own.ctb link.ctb
+ln own.ctb hard.ctb
+for name in own.ctb ./own.ctb "$work/own.ctb" link.ctb hard.ctb; do
+    search own.ctb "$name"
+    expect "the table as the certificate, by ${name##*/}" 2 '' "$overwrites"
+done
+search link.ctb own.ctb
+expect 'the file that a table links to as the certificate' 2 '' 'error: the certificate would overwrite link.ctb, a file of the table\n'
+holds own.ctb 'letter a 1\nletter b 12\n' 'the table stays'
+: >nothing.ctb
+printf 'letter a 1\ninclude own.ctb\ninclude nothing.ctb\n' >including.ctb
+search including.ctb own.ctb
+expect 'an included file as the certificate' 2 '' "$overwrites"
+search including.ctb nothing.ctb
+expect 'an included file without lines as the certificate' 2 '' 'error: the certificate would overwrite nothing.ctb, a file of the table\n'
+
+# A certificate replaces a plain file, with its permissions, and through a link.
+echo kept >kept.cert
+chmod 640 kept.cert
+ln -s kept.cert link.cert
+search ab.ctb link.cert
+expect 'a certificate through a link' 0 "$found" ''
+[ -L link.cert ] && [ ! -L kept.cert ] || fail 'a certificate through a link' 'the link was replaced'
+holds kept.cert "$two" 'the file that the link names has it'
+[ "$(ls -l kept.cert | cut -c 1-10)" = -rw-r----- ] || fail 'the permissions of a certificate' "$(ls -l kept.cert)"
+echo 'ok: it has the permissions that the file had'
+ln -s new.cert lost.cert
+search ab.ctb lost.cert
+expect 'a certificate through a link to a missing file' 0 "$found" ''
+holds new.cert "$two" 'the missing file has it'
+echo kept >closed.cert
+chmod a-w closed.cert
+if [ "$(id -u)" = 0 ]; then
+    echo 'skipped: a file that may not be written (root may write every file)'
+else
+    search ab.ctb closed.cert
+    expect 'a file that may not be written as the certificate' 2 '' 'U7 CannotWrite closed.cert\n'
+    holds closed.cert 'kept\n' 'the file stays'
+fi
+printf 'somebody else\n' >kept.cert.part1
+search ab.ctb kept.cert
+expect 'a certificate beside a file with the name of a part' 0 "$found" ''
+holds kept.cert.part1 'somebody else\n' 'that file stays'
+rm kept.cert.part1
+[ -z "$(find . -name '*.part*')" ] || fail 'a certificate' "it left $(find . -name '*.part*')"
+echo 'ok: no part of a certificate is left'
+
+# A pipe as the table, as the certificate that is checked and as the one that is written.
+mkfifo table.pipe cert.pipe
+cat ab.ctb >table.pipe &
+cat new.cert >cert.pipe &
+"$program" check table.pipe cert.pipe >out 2>err
+status=$?
+wait
+expect 'a table and a certificate from pipes' 0 'accepted: 2 states, 0 pairs\n' ''
+cat cert.pipe >piped.cert &
+search ab.ctb cert.pipe
+wait
+expect 'a certificate into a pipe' 0 "$found" ''
+holds piped.cert "$two" 'the pipe gives it'
+{ "$program" search ab.ctb /dev/stdout 2>err; echo $? >status; } | cat >out
+status=$(cat status)
+expect 'a certificate on standard output' 0 "$two$found" ''
+"$program" check ab.ctb /dev/stdin >out 2>err <new.cert
+status=$?
+expect 'a certificate on standard input' 0 'accepted: 2 states, 0 pairs\n' ''
+"$program" check ab.ctb folder >out 2>err
+status=$?
+expect 'a folder as the certificate that is checked' 2 '' 'L2 ReadFailed folder\n'
+"$program" check ab.ctb /dev/zero >out 2>err
+status=$?
+expect 'a certificate without end' 2 '' 'L9 TooLarge /dev/zero\n'
+
+# A reader that goes away.
+{ yes a | head -n 100000 | { "$program" translate ab.ctb 2>err; echo $? >status; }; } | head -n 1 >out
+status=$(cat status)
+sed -i 's/[0-9]*$/N/' err
+expect 'a reader that takes one line of many' 2 'A\n' 'U4 OutputFailed at line N\n'
+
+# A word that is not UTF-8.
+"$program" translate "$(printf 'a\377.ctb')" >out 2>err </dev/null
+status=$?
+expect 'a word that is not UTF-8' 2 '' "error: word 2 of the command line isn't UTF-8: a\357\277\275.ctb\n"
+
 printf 'letter a 1\nletter a 12\n' >again.ctb
 search again.ctb again.cert
 printf 'notice DefinedAgain a at again.ctb:2\n' | cmp -s - err || fail 'a notice' "standard error: $(cat err)"

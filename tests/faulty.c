@@ -2,10 +2,13 @@
  *
  * Where they are set, these variables say which:
  *   FAIL_ALLOCATION=N  the N-th allocation is refused, counted from 1
+ *   FAIL_MARKED=1      allocations count only between two opens of the path /brl/mark
  *   FAIL_READ=N        reads of the N-th file that the program opens fail, counted from 1
  *   FAIL_INPUT=N       standard input has N bytes, and then fails
  *   FAIL_OUTPUT=N      standard output takes N bytes, and then fails
  *   FAIL_FILE=N        other files take N bytes, and then fail
+ *   KILL_FILE=N        other files take N bytes, and then the program is killed
+ *   FAIL_RENAME=1      no file can be renamed
  *   FAULTY_LOG=PATH    the file that gets, at the end, four numbers: how many allocations there were,
  *                      how many were refused, how many files were opened before that, and how many
  *                      other requests failed
@@ -14,16 +17,18 @@
 #include <errno.h>
 #include <fcntl.h>
 #include <limits.h>
+#include <signal.h>
 #include <stdarg.h>
 #include <stdio.h>
 #include <stdlib.h>
+#include <string.h>
 #include <sys/syscall.h>
 #include <unistd.h>
 
 void *__libc_malloc(size_t);
 void *__libc_realloc(void *, size_t);
 
-static long refuse, fail_read, input_room, output_room, file_room;
+static long refuse, is_marked, is_counting = 1, fail_read, fail_rename, input_room, output_room, file_room, life;
 static long allocations, refused, opened, opened_before, failed;
 static int failing_file = -1;
 
@@ -36,15 +41,19 @@ static long number(const char *name, long otherwise)
 __attribute__((constructor)) static void begin(void)
 {
     refuse = number("FAIL_ALLOCATION", 0);
+    is_marked = number("FAIL_MARKED", 0);
+    is_counting = !is_marked;
     fail_read = number("FAIL_READ", 0);
     input_room = number("FAIL_INPUT", LONG_MAX);
     output_room = number("FAIL_OUTPUT", LONG_MAX);
     file_room = number("FAIL_FILE", LONG_MAX);
+    life = number("KILL_FILE", LONG_MAX);
+    fail_rename = number("FAIL_RENAME", 0);
 }
 
 static int is_refused(void)
 {
-    if (++allocations != refuse)
+    if (!is_counting || ++allocations != refuse)
         return 0;
     refused++;
     opened_before = opened;
@@ -66,6 +75,8 @@ int open(const char *path, int flags, ...)
 {
     int mode = 0, file;
 
+    if (is_marked && strcmp(path, "/brl/mark") == 0)
+        is_counting = !is_counting;
     if (flags & O_CREAT) {
         va_list rest;
         va_start(rest, flags);
@@ -111,14 +122,25 @@ ssize_t write(int file, const void *buffer, size_t size)
     long any = LONG_MAX, *room = file == 1 ? &output_room : file == 2 ? &any : &file_room;
     ssize_t count;
 
+    if (room == &file_room && life == 0)
+        raise(SIGKILL);
     if (*room == 0 && size > 0)
         return fail();
     if (size > (size_t)*room)
         size = (size_t)*room;
+    if (room == &file_room && size > (size_t)life)
+        size = (size_t)life;
     count = syscall(SYS_write, file, buffer, size);
     if (count > 0)
         *room -= count;
+    if (room == &file_room && count > 0)
+        life -= count;
     return count;
+}
+
+int rename(const char *old, const char *new)
+{
+    return fail_rename ? (int)fail() : (int)syscall(SYS_renameat2, AT_FDCWD, old, AT_FDCWD, new, 0);
 }
 
 ssize_t __write(int file, const void *buffer, size_t size)

@@ -1,7 +1,7 @@
 #!/usr/bin/env python3
 """Runs the built program with requests that fail, and on files that were cut off.
 
-  tests/hostile.py PROGRAM
+  tests/hostile.py PROGRAM [TESTS..]
 
 *Refused allocations.* Each run is made once for each allocation that it makes, that one refused.
 Where that comes while the words are read, the program ends with status 2 or 3 and prints nothing to
@@ -9,8 +9,13 @@ standard output. After that it prints `Memory` and ends with status 3, with no m
 than whole lines that it wrote before, and with no certificate written. Or it asks for less, as a list
 that grows may do, and has its full answer. The same run with nothing refused has its full answer.
 
-*Reads and writes that fail*, and the run after them, which has its full answer. *Certificates and
-tables that are cut off* at every byte. *Limits*, just kept and just passed.
+*Calls that are made again.* TESTS are test programs. Their tests of the module `again` make a call, in
+which memory may run out, and make it again in the same process: then it must have its answer. Each is
+run once for each allocation of the first call, that one refused.
+
+*Reads and writes that fail*, and the run after them, which has its full answer; and a search that is
+killed while it writes. *Certificates and tables that are cut off* at every byte. *Limits*, just kept
+and just passed.
 
 tests/faulty.c is what lets a request fail; `cc` compiles it. A line is printed for each case. The last
 line is 'hostile: N passed, M failed; K allocations refused'.
@@ -18,6 +23,7 @@ line is 'hostile: N passed, M failed; K allocations refused'.
 
 import os
 import re
+import signal
 import subprocess
 import sys
 import tempfile
@@ -37,6 +43,7 @@ ALIKE = TWO + "letter x 1-12\n"
 APART = ALIKE + "always ab 14\n"
 WORD = "space \\s 0\nletter b 12\nletter u 136\nletter t 2345\nword but 12\nword b 56-12\n"
 NUMBERS = "letter a 1\nlitdigit 1 1\nnumsign 3456\nnocontractsign 56\nnumericnocontchars a\n"
+LARGE = WORD + NUMBERS + "uplow Éé 123456\nletter q 1\n"
 EMPTY_CERT = "BRLCERT 2\nstate 1 0\nend 1 0\n"
 TWO_CERT = "BRLCERT 2\nstate 1 0\nstate 8 0\nend 2 0\n"
 APART_CERT = "BRLCERT 2\nstate 1 0\nstate 8 0\nstate 8 0 b62*\npair 1 2 12\nend 3 1\n"
@@ -59,7 +66,7 @@ class Run:
 
     name: str
     words: list[str]
-    files: dict[str, str]
+    files: dict[str, str | bytes]
     out: str = ""
     status: int = 0
     input: str = ""
@@ -76,6 +83,8 @@ class Ended:
     err: str
     status: int
     written: str | None
+    # other files that the run made
+    left: list[str] = field(default_factory=list)
     allocations: int = 0
     refused: int = 0
     opened: int = 0
@@ -88,7 +97,7 @@ class Ended:
         is_exact = run.out.endswith("\n") or not run.out
         is_out = self.out == run.out if is_exact else self.out.startswith(run.out)
         is_written = (self.written is None) == (run.written is None) and (self.written or "").startswith(run.written or "")
-        return is_out and is_written and (self.status, self.err) == (run.status, run.err)
+        return is_out and is_written and not self.left and (self.status, self.err) == (run.status, run.err)
 
 
 @dataclass
@@ -113,9 +122,10 @@ class Machine:
             ran = subprocess.run([self.program, *run.words], cwd=folder, env=known, input=run.input, capture_output=True,
                                  text=True, timeout=120)
             text = written.read_text() if written.exists() else None
+            left = sorted({it.name for it in Path(folder).iterdir()} - {*run.files, "log", "o"})
             # a program that was killed leaves no numbers
             numbers = map(int, log.read_text().split()) if log.exists() else ()
-            return Ended(ran.stdout, ran.stderr, ran.returncode, text, *numbers)
+            return Ended(ran.stdout, ran.stderr, ran.returncode, text, left, *numbers)
 
     def answers(self, run: Run, **fails: int) -> Result:
         """The run has its answer."""
@@ -152,7 +162,7 @@ class Machine:
 
 def is_ended_by_memory(run: Run, ended: Ended, whole: Ended) -> bool:
     """Whether a run has ended as one does in which an allocation was refused."""
-    if ended.written is not None or not whole.out.startswith(ended.out) or (ended.out and not ended.out.endswith("\n")):
+    if ended.written is not None or ended.left or not whole.out.startswith(ended.out) or (ended.out and not ended.out.endswith("\n")):
         return False
     if ended.opened == 0:
         return ended.status in (2, 3) and not ended.out and bool(ended.err)
@@ -222,6 +232,7 @@ NESTED = {"t.ctb": "include u.ctb\n", "u.ctb": "include v.ctb\n", "v.ctb": "lett
 CHECKED = Run("", ["check", "t.ctb", "c"], NESTED, "accepted: 3 states, 1 pairs\n")
 TWICE = translate("", FIRST, "abc a\nabc a\n", "ABC A\nABC A\n")
 FOUND = search("", TWO, "certified: 2 states, 0 pairs\n", written=TWO_CERT)
+KEEPING = Run("", ["search", "t.ctb", "o"], {"t.ctb": TWO, "o": "kept\n"}, FOUND.out, written=TWO_CERT)
 CLASHES = Run("", ["clash", "t.ctb", "ab", "x"], {"t.ctb": ALIKE}, REPORT, 1)
 
 
@@ -242,7 +253,11 @@ FAILING = [
     failing("an acceptance can't be written", CHECKED, {"FAIL_OUTPUT": 0}, "U4 OutputFailed\n"),
     failing("a report can't be written", CLASHES, {"FAIL_OUTPUT": 0}, "U4 OutputFailed\n"),
     failing("a verdict can't be written", FOUND, {"FAIL_OUTPUT": 0}, "U4 OutputFailed\n", written=TWO_CERT),
-    failing("a certificate can't be written", FOUND, {"FAIL_FILE": 0}, "U7 CannotWrite o\n", written=""),
+    failing("a certificate can't be written", FOUND, {"FAIL_FILE": 0}, "U7 CannotWrite o\n"),
+    failing("a part of a certificate can't be written", FOUND, {"FAIL_FILE": 20}, "U7 CannotWrite o\n"),
+    failing("a certificate can't be put in its place", FOUND, {"FAIL_RENAME": 1}, "U7 CannotWrite o\n"),
+    failing("a certificate over another can't be written", KEEPING, {"FAIL_FILE": 20}, "U7 CannotWrite o\n", written="kept\n"),
+    failing("a certificate can't be put in another's place", KEEPING, {"FAIL_RENAME": 1}, "U7 CannotWrite o\n", written="kept\n"),
 ]
 
 
@@ -296,6 +311,20 @@ def cuts_of_search(machine: Machine, table: str) -> Result:
     return result
 
 
+def cuts_of_table(machine: Machine) -> Result:
+    """A table, cut off before the letter that a text has, gives a fault and no verdict on two texts."""
+    table = LARGE.removesuffix("\n").encode()
+    result = Result(f"each cut of a table of {len(table)} bytes")
+    for size in range(len(table)):
+        ended = machine.run(Run("", ["clash", "t.ctb", "q", "b"], {"t.ctb": table[:size]}))
+        if (ended.out, ended.status) != ("", 2) or not re.fullmatch(r"[BFL]\d \w+ .*\n", ended.err):
+            result.wrong.append(f"{size} bytes: {ended.answer()}")
+    whole = machine.run(Run("", ["clash", "t.ctb", "q", "b"], {"t.ctb": table}))
+    if whole.answer() != ("no clash\n", "", 0, None):
+        result.wrong.append(f"the whole of it: {whole.answer()}")
+    return result
+
+
 def endless(machine: Machine) -> Result:
     """An input without end: the program stops reading at its limit."""
     run = translate("an input without an end", "letter a 1\n", "", "A\n" * 8_388_608, 2, "U6 InputTooLong at line 8388609\n")
@@ -309,8 +338,42 @@ def endless(machine: Machine) -> Result:
         return Result(run.name, wrong=[] if ended.is_of(run) else [f"status {ended.status}, {ended.err!r}, {len(ended.out)} bytes"])
 
 
+def made_again(machine: Machine, tests: Path, name: str) -> Result:
+    """A test that makes a call again passes, whichever allocation of the first call is refused."""
+    again = Machine(tests, machine.library)
+    run = Run(f"{tests.name}: {name}", [name], {})
+    whole = again.run(run, FAIL_MARKED=1)
+    result = Result(run.name, whole.allocations)
+    if whole.status or not whole.allocations:
+        result.wrong.append(f"nothing refused: {whole.answer()}")
+    for number in range(1, whole.allocations + 1):
+        ended = again.run(run, FAIL_MARKED=1, FAIL_ALLOCATION=number)
+        if ended.status or ended.refused != 1:
+            result.wrong.append(f"allocation {number} refused: {ended.answer()}, {ended.refused} were refused")
+    return result
+
+
+def tests_of(program: Path) -> list[str]:
+    """The names of a test program's tests that make a call again."""
+    listed = subprocess.run([program, "--list"], capture_output=True, text=True, check=True).stdout.splitlines()
+    names = [it.removesuffix(": test") for it in listed if it.startswith("again::")]
+    if not names:
+        sys.exit(f"hostile.py: {program} has no test that makes a call again")
+    return names
+
+
+def interrupted(machine: Machine) -> Result:
+    """A search that is killed while it writes a certificate leaves the file that was there as it was."""
+    result = Result("a certificate's writing is interrupted after each number of bytes")
+    for size in range(len(TWO_CERT)):
+        ended = machine.run(KEEPING, KILL_FILE=size)
+        if (ended.status, ended.out, ended.written) != (-signal.SIGKILL, "", "kept\n"):
+            result.wrong.append(f"{size} bytes: {ended.answer()}")
+    return result
+
+
 def main(words: list[str]) -> int:
-    if len(words) != 1:
+    if not words:
         print(__doc__, file=sys.stderr)
         return 2
     with tempfile.TemporaryDirectory() as room, ThreadPoolExecutor(len(os.sched_getaffinity(0))) as pool:
@@ -321,7 +384,9 @@ def main(words: list[str]) -> int:
         tasks += [pool.submit(machine.fails_once, *it) for it in FAILING]
         tasks += [pool.submit(machine.answers, it) for it in [*cut_certificates(), *cut_tables(), *limits()]]
         tasks += [pool.submit(cuts_of_search, machine, it) for it in (WORD, NUMBERS)]
-        tasks += [pool.submit(endless, machine)]
+        tasks += [pool.submit(it, machine) for it in (cuts_of_table, endless, interrupted)]
+        tests = [Path(it).resolve() for it in words[1:]]
+        tasks += [pool.submit(made_again, machine, it, name) for it in tests for name in tests_of(it)]
         failed = refused = 0
         for it in (task.result() for task in tasks):
             refused += it.refused

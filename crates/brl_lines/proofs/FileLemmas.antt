@@ -1,7 +1,7 @@
 -- The files that were read, and what the source answered for them.
 use Rattle.std.proofs.Common.{◌≡◌, ℕ, zero, suc, ◌+◌, ◌<◌, ◌≤◌, Bool, true, false, cond, List, [], ◌∷◌, ◌++◌, length, map, refl, ap, sym, ◌∙◌, subst, arith, append_assoc, append-nil, length-append, length-drop, drop, take, option_map, Option, Some, None, Ok, Err}
-use Rattle.std.proofs.lemmas.List.{map-append}
-use Rattle.std.proofs.lemmas.Option.{slice_get-map, slice_get_within}
+use Rattle.std.proofs.lemmas.List.{map-append, take_more}
+use Rattle.std.proofs.lemmas.Option.{get_or_from_slice_get, slice_get-map, slice_get_within}
 use Rattle.std.proofs.lemmas.Slice.Eq.{bytes_eq-Decides}
 use Rattle.std.specs.Global.{Global}
 use Rattle.std.specs.Map.{lookup, lookup_key, values_of}
@@ -9,7 +9,7 @@ use Rattle.std.specs.Option.{option_map_or}
 use Rattle.std.specs.Prelude.{String, slice_get, string_bytes}
 use Rattle.std.specs.Str.{IsCharBoundary, bytes_eq}
 use Rattle.brl_lines.specs.Answer.{Answer, Holds, MayGive, most_file_bytes}
-use Rattle.brl_lines.specs.Files.{Files, answer_of_file, answers_of, lines_at, path_at, span_lines, text_at}
+use Rattle.brl_lines.specs.Files.{Files, answer_of_file, answers_of, lines_at, path_at, paths_of, span_lines, text_at}
 use Rattle.brl_lines.specs.Lines.{Answers, LocationView, answer_at, text_of}
 use Rattle.brl_lines.specs.Outcome.{AreGiven}
 use Rattle.brl_lines.specs.Rows.{order_mark, piece, without_mark}
@@ -23,6 +23,18 @@ use Rattle.brl_lines.specs.declared.open_file.OpenFile.{OpenFile}
 use Rattle.brl_lines.specs.declared.span.LineSpan.{LineSpan}
 
 -- ---- answers
+
+-- the paths of one file more
+pub one-more-path : (files : Files) (i : ℕ) (file : String Global × CheckedFile) → slice_get files i ≡ Some file → paths_of (take (i + 1) files) ≡ paths_of (take i files) ++ string_bytes file.0 ∷ []
+one-more-path files i file h =
+    ap paths_of (take_more files i file (slice_get_within files i file h))
+    ∙ map-append (λ (f : String Global × CheckedFile). string_bytes f.0) (take i files) _
+    ∙ ap (λ (f : String Global × CheckedFile). paths_of (take i files) ++ string_bytes f.0 ∷ []) (get_or_from_slice_get files i file file h)
+
+-- the paths of the answers are those of the files
+pub paths-of-answers : (files : Files) → map (λ entry. entry.0) (answers_of files) ≡ paths_of files
+paths-of-answers [] = refl
+paths-of-answers (file ∷ files) = ap (λ (paths : List (List ℕ)). string_bytes file.0 ∷ paths) (paths-of-answers files)
 
 -- answers at the end change none of those before
 pub kept : (answers others : Answers) (path : List ℕ) (a : Answer) → answer_at answers path ≡ Some a → answer_at (answers ++ others) path ≡ Some a

@@ -5,6 +5,7 @@ use Rattle.std.specs.List.{flat_map}
 use Rattle.std.specs.Option.{option_map_or}
 use Rattle.brl_lines.specs.Answer.{Answer, Holds}
 use Rattle.brl_lines.specs.Lines.{Answers}
+use Rattle.brl_lines.specs.Loaded.{LoadedView}
 use Rattle.brl_lines.specs.Rows.{piece, without_mark}
 use Rattle.brl_lines.specs.Tokens.{LineView, line_of, token_of, tokens}
 use Rattle.brl_lines.specs.declared.checked_file.CheckedFile.{CheckedFile}
@@ -38,6 +39,14 @@ span_lines files span = line_of (path_at files span.file) span.line (map token_o
 -- the lines at some spans
 abbrev pub lines_at : Files → List LineSpan → List LineView
 lines_at files spans = flat_map (span_lines files) spans
+
+-- the paths of the files
+abbrev pub paths_of : Files → List (List ℕ)
+paths_of files = map (λ file. string_bytes file.0) files
+
+-- what a contract sees of files that were read, and of spans in them
+abbrev pub loaded_view : Files → List LineSpan → LoadedView
+loaded_view files spans = record { lines = lines_at files spans; paths = paths_of files }
 
 -- the paths that lead to a file, its own first
 abbrev pub chain_of : OpenFile → List (List ℕ)

@@ -3,6 +3,7 @@ pub mod Rows
 pub mod Tokens
 pub mod Includes
 pub mod Lines
+pub mod Loaded
 pub mod Outcome
 pub mod Slices
 pub mod InMemory

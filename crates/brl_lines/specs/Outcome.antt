@@ -1,5 +1,5 @@
 -- What the outcome of a load says of the definitions, and of the source. The project's own.
-use Rattle.std.specs.Prelude.{◌≡◌, ℕ, ◌⊎◌, Bool, true, false, List, Result, Ok, Err}
+use Rattle.std.specs.Prelude.{◌≡◌, ℕ, ◌⊎◌, Bool, true, false, List, map, Result, Ok, Err}
 use Rattle.std.specs.List.{AllByRecursion}
 use Rattle.brl_failure.specs.Failure.{IfFault}
 use Rattle.brl_failure.specs.declared.failure.Failure.{Failure}
@@ -21,6 +21,11 @@ AreGiven gives answers = AllByRecursion (λ entry. gives entry.0 entry.1) answer
 -- the lines of the table whose root is at a path, for answers of the source
 abbrev pub AreLinesOf : MayGive → List ℕ → List LineView → Type 0
 AreLinesOf gives root lines = (answers : Answers) × AreGiven gives answers × (lines_of answers root ≡ Ok lines)
+
+-- the same, by answers for just the files at these paths
+abbrev pub AreLinesOfFiles : MayGive → List ℕ → List (List ℕ) → List LineView → Type 0
+AreLinesOfFiles gives root paths lines =
+    (answers : Answers) × AreGiven gives answers × (map (λ entry. entry.0) answers ≡ paths) × (lines_of answers root ≡ Ok lines)
 
 -- the table whose root is at a path has no lines for answers of the source, and this is why
 abbrev pub IsRefusedAs : MayGive → List ℕ → Refusal → Type 0

@@ -1,7 +1,7 @@
 //! Loading a table: its files are read and checked whole as lines lead to them.
 ghost use Rattle.std.specs.Prelude.{◌≡◌, All, IfErr, IfOk, map};
 ghost use Rattle.brl_lines.specs.Answer.{AllStay};
-ghost use Rattle.brl_lines.specs.Outcome.{AreLinesOf, CountsFailure, IsLineOfFile, IsLoadFault};
+ghost use Rattle.brl_lines.specs.Outcome.{AreLinesOfFiles, CountsFailure, IsLineOfFile, IsLoadFault};
 ghost use Rattle.brl_lines.specs.Slices.{IsInOrder};
 ghost use Rattle.brl_lines.specs.Views.{line_view};
 
@@ -22,7 +22,8 @@ use std::marker::Model;
 /// How deep below the root a file may be.
 const MOST_DEPTH: u32 = 15;
 
-/// A table whose files were read and found good. A contract sees the list of its lines.
+/// A table whose files were read and found good. A contract sees its lines, and the paths of its
+/// files.
 #[derive(Drop)]
 pub struct Loaded {
     files: IndexMap<String, CheckedFile>,
@@ -30,14 +31,13 @@ pub struct Loaded {
 }
 
 impl Model for Loaded {
-    ghost use Rattle.std.specs.Prelude.{List};
-    ghost use Rattle.brl_lines.specs.Files.{lines_at};
+    ghost use Rattle.brl_lines.specs.Files.{loaded_view};
+    ghost use Rattle.brl_lines.specs.Loaded.{LoadedView};
     ghost use Rattle.brl_lines.specs.Steps.{AreSpans};
-    ghost use Rattle.brl_lines.specs.Tokens.{LineView};
 
-    ghost Value = { List LineView };
+    ghost Value = { LoadedView };
 
-    ghost view = { λ l. lines_at l.files.entries l.spans.items };
+    ghost view = { λ l. loaded_view l.files.entries l.spans.items };
 
     ghost invariant = { λ l. AreSpans l.files.entries l.spans.items };
 }
@@ -47,8 +47,8 @@ impl Loaded {
     /// Their tokens are slices of the texts that were read. `AllocError` where an allocation
     /// failed.
     pub fn lines(&self, alloc: Global) -> Result<Vec<Line<'_>>, AllocError>
-        ensures lines { IfOk result (λ v. map line_view v.items ≡ self.now) }
-        ensures in_order { All IsInOrder self.now }
+        ensures lines { IfOk result (λ v. map line_view v.items ≡ self.now.lines) }
+        ensures in_order { All IsInOrder self.now.lines }
     {
         let mut lines = Vec::new(alloc);
         for span in &self.spans {
@@ -60,6 +60,19 @@ impl Loaded {
             }
         }
         Ok(lines)
+    }
+
+    /// The paths of the files, each once, in the order in which they were read: the root's first.
+    /// `AllocError` where an allocation failed.
+    pub fn paths(&self, alloc: Global) -> Result<Vec<&str>, AllocError>
+        ensures { IfOk result (λ v. map (λ path. path.now) v.items ≡ self.now.paths) }
+    {
+        let mut paths = Vec::new(alloc);
+        for index in 0..self.files.len() {
+            let (path, _) = self.files.get_index(index).unwrap();
+            paths.push(path.as_str())?;
+        }
+        Ok(paths)
     }
 }
 
@@ -79,8 +92,8 @@ pub fn load<S: Source>(
     source: &mut S,
     root: &str,
 ) -> Result<Loaded, Failure<LoadFault>>
-    ensures lines { IfOk result (AreLinesOf (S.gives source.old) root.now) }
-    ensures slices { IfOk result (All (IsLineOfFile (S.gives source.old))) }
+    ensures lines { IfOk result (λ loaded. AreLinesOfFiles (S.gives source.old) root.now loaded.paths loaded.lines) }
+    ensures slices { IfOk result (λ loaded. All (IsLineOfFile (S.gives source.old)) loaded.lines) }
     ensures fault { IfErr result (IsLoadFault (S.gives source.old) root.now) }
     ensures count { CountsFailure (S.faults source.old) (S.faults source.new) result }
     ensures same { AllStay (S.gives source.old) (S.gives source.new) }

@@ -3,7 +3,7 @@ use Rattle.std.specs.Prelude.{ℕ, ◌≡◌, List, Result, Ok, Err}
 use Rattle.brl_failure.specs.declared.failure.Failure.{Failure}
 use Rattle.brl_failure.specs.declared.failure.Failure.TheVariants as failures
 use Rattle.brl_lines.specs.Answer.{MayGive}
-use Rattle.brl_lines.specs.Outcome.{AreLinesOf, IsLoadFault}
+use Rattle.brl_lines.specs.Outcome.{AreLinesOf, AreLinesOfFiles, IsLoadFault}
 use Rattle.brl_lines.specs.Tokens.{LineView}
 use Rattle.brl_lines.specs.declared.fault.LoadFault.{LoadFault}
 use Rattle.brl_reading.specs.Reading.{IsFaultOf, PassesAll, table_of}
@@ -14,6 +14,10 @@ use Rattle.brl_table.specs.TableView.{TableView}
 -- the table with its root at this path: the lines of its files have no fault, and define it
 abbrev pub IsTableOf : MayGive → List ℕ → TableView → Type 0
 IsTableOf gives root t = (lines : List LineView) × AreLinesOf gives root lines × PassesAll lines × (t ≡ table_of lines)
+
+-- the same, by just the files at these paths
+abbrev pub IsTableOfFiles : MayGive → List ℕ → List (List ℕ) → TableView → Type 0
+IsTableOfFiles gives root paths t = (lines : List LineView) × AreLinesOfFiles gives root paths lines × PassesAll lines × (t ≡ table_of lines)
 
 -- why there is no table at this path: a file can't be loaded, or a line has a fault
 abbrev pub IsFaultAt : MayGive → List ℕ → NoTable → Type 0

@@ -4,12 +4,13 @@ ghost use Rattle.brl_failure.specs.Failure.{IfFault};
 ghost use Rattle.brl_lines.specs.Answer.{AllStay, GivesOneAnswer};
 ghost use Rattle.brl_lines.specs.Outcome.{CountsFailure};
 ghost use Rattle.brl_reading.specs.Files.{IsFaultAt, IsTableOf, load_outcome};
+ghost use Rattle.brl_reading.specs.Reading.{IsFaultOf, PassesAll, table_of};
 ghost use Rattle.brl_reading.specs.declared.no_table.NoTable.{NoTable as NoTableValue};
 ghost use Rattle.brl_table.specs.TableView.{TableView};
 
-use crate::{NoTable, read_table};
+use crate::{NoTable, TableFault, read_table};
 use brl_failure::{Failure, raise};
-use brl_lines::{Source, load, one_answer_law};
+use brl_lines::{Loaded, Source, load, one_answer_law};
 use brl_table::Table;
 use std::alloc::Global;
 
@@ -27,8 +28,17 @@ pub fn load_table<S: Source>(
     ensures same { AllStay (S.gives source.old) (S.gives source.new) }
 {
     let loaded = raise(load(alloc, source, root), NoTable::Load)?;
+    raise(table_of_loaded(alloc, &loaded), NoTable::Table)
+}
+
+/// The table that the lines of loaded files define, or the fault of the first line that has one.
+pub fn table_of_loaded(alloc: Global, loaded: &Loaded) -> Result<Table, Failure<TableFault>>
+    ensures passes { IfOk result (λ _. PassesAll loaded.now.lines) }
+    ensures table { IfOk result (λ table. table ≡ table_of loaded.now.lines) }
+    ensures fault { IfErr result (IfFault (IsFaultOf loaded.now.lines)) }
+{
     let lines = loaded.lines(alloc)?;
-    raise(read_table(alloc, lines.as_slice()), NoTable::Table)
+    read_table(alloc, lines.as_slice())
 }
 
 /// A source with one answer for each path has at most one table at a path. Where it has one, no

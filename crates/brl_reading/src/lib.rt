@@ -14,6 +14,6 @@ mod operand;
 mod table_fault;
 
 pub use builder::read_table;
-pub use files::{load_table, one_table_law};
+pub use files::{load_table, one_table_law, table_of_loaded};
 pub use no_table::NoTable;
 pub use table_fault::{TableFault, TableFaultKind};

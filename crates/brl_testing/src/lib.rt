@@ -3,6 +3,7 @@
 #![tactic(auto)]
 
 mod lending;
+mod marks;
 mod readers;
 mod refusing;
 mod rows;
@@ -10,6 +11,7 @@ mod tables;
 mod writers;
 
 pub use lending::{lend, lend_mut};
+pub use marks::mark;
 pub use readers::{Broken, Slow};
 pub use refusing::Refusing;
 pub use rows::{agree, chars, cut, lines_of};

@@ -1,7 +1,7 @@
 //! Tables whose lines are the field of a row.
 use crate::{lend, lines_of};
 use brl_lines::{Loaded, MapSource, load};
-use brl_reading::read_table;
+use brl_reading::table_of_loaded;
 use brl_table::Table;
 use std::alloc::Global;
 use std::collections::BTreeMap;
@@ -27,12 +27,7 @@ pub fn loaded_of(alloc: Global, lines: &str) -> Result<Loaded, Fail> {
 /// The table that the file `t.ctb` with these lines defines.
 pub fn table_of(alloc: Global, lines: &str) -> Result<Table, Fail> {
     let loaded = loaded_of(alloc, lines)?;
-    table_of_loaded(alloc, &loaded)
-}
-
-fn table_of_loaded(alloc: Global, loaded: &Loaded) -> Result<Table, Fail> {
-    let lines = loaded.lines(alloc)?;
-    Ok(read_table(alloc, lines.as_slice())?)
+    Ok(table_of_loaded(alloc, &loaded)?)
 }
 
 /// What a function answers for the table of these lines.

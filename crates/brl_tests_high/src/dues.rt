@@ -6,17 +6,17 @@ use brl_edges::{Body, Members};
 use brl_pairs::{Machine, Step};
 use brl_table::Table;
 use brl_testing::table_of;
-use std::alloc::Global;
+use std::alloc::{AllocError, Global};
 use std::fmt::Write;
 use std::test::Fail;
 
 /// A rule for a whole word, and one for its first letter alone.
-const WORDS: &str =
+pub const WORDS: &str =
     "space \\s 0; letter b 12; letter u 136; letter t 2345; word but 12; word b 56-12";
 
 /// The steps of its start: the rule, the characters, the cells and the next state, as certificates
 /// write it.
-const STEPS_OF_WORDS: &str = "\
+pub const STEPS_OF_WORDS: &str = "\
 0|but|12|8 0 n+3
 1|b|56-12|8 0 n+3 b75.74+3
 2| |0|1 0
@@ -48,10 +48,15 @@ fn cert_of(alloc: Global, state: DuesState) -> Result<Cert, Fail> {
     }
 }
 
+/// The bytes of a certificate that lists a copy of this state alone.
+fn cert_bytes(alloc: Global, state: &DuesState) -> Result<Vec<u8>, Fail> {
+    let cert = cert_of(alloc, state.copy(alloc)?)?;
+    Ok(write_cert(alloc, &cert)?)
+}
+
 /// A state as a certificate's line of it.
 fn spelled_state(alloc: Global, state: &DuesState) -> Result<String, Fail> {
-    let cert = cert_of(alloc, state.copy(alloc)?)?;
-    line_of_state(alloc, write_cert(alloc, &cert)?.as_slice())
+    line_of_state(alloc, cert_bytes(alloc, state)?.as_slice())
 }
 
 /// What follows the word of the first state line.
@@ -84,13 +89,13 @@ fn spelled_steps(alloc: Global, steps: &[Step<DuesState>]) -> Result<String, Fai
 }
 
 /// The steps of a table's start.
-fn steps_of_start(alloc: Global, table: &Table) -> Result<Vec<Step<DuesState>>, Fail> {
+fn steps_of_start(alloc: Global, table: &Table) -> Result<Vec<Step<DuesState>>, AllocError> {
     let dues = Dues::new(alloc, table);
-    Ok(dues.moves(alloc, &dues.start())?)
+    dues.moves(alloc, &dues.start())
 }
 
 /// Whether these are the steps of a table's start.
-fn are_steps(alloc: Global, table: &Table, want: &str) -> Result<bool, Fail> {
+pub fn are_steps(alloc: Global, table: &Table, want: &str) -> Result<bool, Fail> {
     let steps = steps_of_start(alloc, table)?;
     Ok(spelled_steps(alloc, steps.as_slice())?.as_str() == want)
 }
@@ -110,18 +115,18 @@ fn steps_of_starts(rt: HostRuntime) -> Result<(), Fail> {
 }
 
 /// Whether a copy of a state is equal to it.
-fn is_copied(alloc: Global, state: &DuesState) -> Result<bool, Fail> {
+fn is_copied(alloc: Global, state: &DuesState) -> Result<bool, AllocError> {
     let copy = state.copy(alloc)?;
     Ok(copy == *state)
 }
 
 /// Whether the start and the states after its steps are copied as equal states.
-fn are_copied(alloc: Global, table: &Table) -> Result<bool, Fail> {
+pub fn are_copied(alloc: Global, table: &Table) -> Result<bool, AllocError> {
     let start = Dues::new(alloc, table).start();
     Ok(is_copied(alloc, &start)? && are_steps_copied(alloc, table)?)
 }
 
-fn are_steps_copied(alloc: Global, table: &Table) -> Result<bool, Fail> {
+fn are_steps_copied(alloc: Global, table: &Table) -> Result<bool, AllocError> {
     for step in &steps_of_start(alloc, table)? {
         if !is_copied(alloc, &step.next)? {
             return Ok(false);

@@ -4,6 +4,8 @@
 #[cfg(test)]
 mod accept;
 #[cfg(test)]
+mod again;
+#[cfg(test)]
 mod cert;
 #[cfg(test)]
 mod dues;

@@ -8,7 +8,7 @@ use brl_forward::{Clash, confirm};
 use brl_search::{Found, Outcome, Progress, Search, search};
 use brl_table::Table;
 use brl_testing::{cut, table_of};
-use std::alloc::Global;
+use std::alloc::{AllocError, Global};
 use std::test::Fail;
 
 /// What is found with the program's limit, or what that begins with, and the table's lines.
@@ -113,17 +113,23 @@ fn worked_tables(rt: HostRuntime) -> Result<(), Fail> {
     Ok(())
 }
 
-/// The bytes of the certificate of a table.
-fn certificate(alloc: Global, table: &Table) -> Result<Vec<u8>, Fail> {
-    match search(alloc, table, 1_000_000)? {
-        Found::Certified(cert) => Ok(write_cert(alloc, &cert)?),
-        _ => Err(Fail::from("no certificate")),
+/// The bytes of the certificate that was found; none where none was.
+fn certificate_of_found(alloc: Global, found: &Found) -> Result<Vec<u8>, AllocError> {
+    match found {
+        Found::Certified(cert) => write_cert(alloc, cert),
+        _ => Ok(Vec::new(alloc)),
     }
+}
+
+/// The bytes of the certificate of a table.
+fn certificate(alloc: Global, table: &Table) -> Result<Vec<u8>, AllocError> {
+    let found = search(alloc, table, 1_000_000)?;
+    certificate_of_found(alloc, &found)
 }
 
 fn certificate_of(alloc: Global, lines: &str) -> Result<Vec<u8>, Fail> {
     let table = table_of(alloc, lines)?;
-    certificate(alloc, &table)
+    Ok(certificate(alloc, &table)?)
 }
 
 /// Whether a row's first field is the certificate that is found.
@@ -148,35 +154,62 @@ fn the_start_is_more_than_none(rt: HostRuntime) -> Result<(), Fail> {
     Ok(())
 }
 
-/// How many states and pairs a search of the table has found at its start and at its end, where it
-/// runs in two slices, the first of one step.
-fn counts_of_slices(alloc: Global, table: &Table) -> Result<String, Fail> {
-    let dues = Dues::new(alloc, table);
-    let Progress::Unfinished(search) = Search::start(alloc, &dues, 1_000_000)? else {
-        return Err(Fail::from("finished at the start"));
+/// The search after so many more steps, if it isn't finished.
+fn next_slice<'m>(
+    progress: Progress<'m, Dues<'m>>,
+    steps: u64,
+) -> Result<Progress<'m, Dues<'m>>, AllocError> {
+    match progress {
+        Progress::Unfinished(search) => search.run(steps),
+        Progress::Finished(outcome) => Ok(Progress::Finished(outcome)),
+    }
+}
+
+/// How far a search is, in words.
+fn told_of_progress(alloc: Global, progress: &Progress<Dues>) -> Result<String, AllocError> {
+    let (word, states, pairs) = match progress {
+        Progress::Unfinished(search) => ("unfinished", search.state_count(), search.pair_count()),
+        Progress::Finished(Outcome::Closed(body)) => {
+            ("closed", body.state_count(), body.pair_count())
+        }
+        Progress::Finished(_) => ("not closed", 0, 0),
     };
-    let (states, pairs) = (search.state_count(), search.pair_count());
-    let Progress::Unfinished(search) = search.run(1)? else {
-        return Err(Fail::from("finished after one step"));
-    };
-    let Progress::Finished(Outcome::Closed(body)) = search.run(u64::MAX)? else {
-        return Err(Fail::from("not closed"));
-    };
-    Ok(format!(in alloc;
-        "{states} {pairs}, {} {}",
-        body.state_count(),
-        body.pair_count()
-    )?)
+    format!(in alloc; "{word}: {states} states, {pairs} pairs")
+}
+
+/// How far a search of this machine is after two slices of so many steps.
+fn told_after(alloc: Global, dues: &Dues, first: u64, second: u64) -> Result<String, AllocError> {
+    let start = Search::start(alloc, dues, 1_000_000)?;
+    let progress = next_slice(next_slice(start, first)?, second)?;
+    told_of_progress(alloc, &progress)
+}
+
+/// Whether a search of the table of these lines is as far after two slices of so many steps.
+fn is_so_far(
+    alloc: Global,
+    table: &Table,
+    first: u64,
+    second: u64,
+    want: &str,
+) -> Result<bool, AllocError> {
+    let told = told_after(alloc, &Dues::new(alloc, table), first, second)?;
+    Ok(told.as_str().starts_with(want))
+}
+
+/// Whether a search of the table runs in slices.
+fn runs_in_slices(alloc: Global, table: &Table) -> Result<bool, AllocError> {
+    Ok(
+        is_so_far(alloc, table, 0, 0, "unfinished: 1 states, 0 pairs")?
+            && is_so_far(alloc, table, 1, 0, "unfinished")?
+            && is_so_far(alloc, table, 1, u64::MAX, "closed: 3 states, 1 pairs")?,
+    )
 }
 
 #[test]
 fn a_search_runs_in_slices(rt: HostRuntime) -> Result<(), Fail> {
     let alloc = rt.alloc();
-    let table = table_of(
-        alloc,
-        "letter a 1; letter b 12; letter x 1-12; always ab 14",
-    )?;
-    let counts = counts_of_slices(alloc, &table)?;
-    assert!(rt; counts.as_str() == "1 0, 3 1");
+    let lines = "letter a 1; letter b 12; letter x 1-12; always ab 14";
+    let table = table_of(alloc, lines)?;
+    assert!(rt; runs_in_slices(alloc, &table)?);
     Ok(())
 }

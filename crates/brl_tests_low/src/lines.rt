@@ -58,7 +58,7 @@ fn load_in_memory(
     source: &mut MapSource,
     root: &str,
 ) -> Result<Loaded, Failure<LoadFault>>
-    ensures { GivesAs (λ lines. lines) load_fault_view (lines_over (λ path. Some (answer_in source.old path)) root.now) result }
+    ensures { GivesAs (λ loaded. loaded.lines) load_fault_view (lines_over (λ path. Some (answer_in source.old path)) root.now) result }
 {
     files_in_memory_law(source);
     load(alloc, source, root)

@@ -4,12 +4,12 @@ use brl_pairs::{Machine, Step};
 use brl_table::{Class, Table};
 use brl_testing::{agree, cut, with_table};
 use brl_window::{Window, WindowState};
-use std::alloc::Global;
+use std::alloc::{AllocError, Global};
 use std::fmt::Write;
 use std::test::Fail;
 
 /// The table of one letter.
-const ONE_LETTER: &str = "letter a 1";
+pub const ONE_LETTER: &str = "letter a 1";
 
 /// Whether a state stands after a letter outside of numeric mode, and knows these characters.
 fn is_after_letter(state: &WindowState, ended: bool, coming: &[char]) -> bool {
@@ -40,12 +40,16 @@ fn are_steps_of_one_letter(steps: &[Step<WindowState>]) -> bool {
 }
 
 /// Whether a copy of a state is equal to it.
-fn is_copied(alloc: Global, state: &WindowState) -> Result<bool, Fail> {
+fn is_copied(alloc: Global, state: &WindowState) -> Result<bool, AllocError> {
     Ok(state.copy(alloc)? == *state)
 }
 
 /// Whether each next state is equal to its copy, and ends as it knows.
-fn are_copied(alloc: Global, window: &Window, steps: &[Step<WindowState>]) -> Result<bool, Fail> {
+fn are_copied(
+    alloc: Global,
+    window: &Window,
+    steps: &[Step<WindowState>],
+) -> Result<bool, AllocError> {
     for step in steps {
         if !is_copied(alloc, &step.next)? || window.ends(&step.next) != step.next.ended {
             return Ok(false);
@@ -55,7 +59,7 @@ fn are_copied(alloc: Global, window: &Window, steps: &[Step<WindowState>]) -> Re
 }
 
 /// Whether the start of a window machine has the steps of the table of one letter, and copies are equal.
-fn has_steps_of_one_letter(alloc: Global, window: &Window) -> Result<bool, Fail> {
+pub fn has_steps_of_one_letter(alloc: Global, window: &Window) -> Result<bool, AllocError> {
     let start = window.start();
     let steps = window.moves(alloc, &start)?;
     Ok(
@@ -66,7 +70,7 @@ fn has_steps_of_one_letter(alloc: Global, window: &Window) -> Result<bool, Fail>
 }
 
 fn is_window_of_one_letter(alloc: Global, table: &Table) -> Result<bool, Fail> {
-    has_steps_of_one_letter(alloc, &Window::new(alloc, table)?)
+    Ok(has_steps_of_one_letter(alloc, &Window::new(alloc, table)?)?)
 }
 
 #[test]

@@ -26,6 +26,14 @@ impl<S: Source> Source for Sealed<S> {
 }
 
 impl<S: Source> Files for Sealed<S> {
+    ghost use Rattle.std.specs.Prelude.{◌≡◌};
+
+    ghost same_file = { λ one other. one ≡ other };
+
+    fn is_same_file(&self, one: &str, other: &str) -> bool {
+        one == other
+    }
+
     fn write(&mut self, _alloc: Global, _path: &str, _bytes: &[u8]) -> Result<(), Failure<Failed>> {
         Err(self.refusal)
     }

@@ -38,7 +38,7 @@ pub fn files_of(alloc: Global, field: &str) -> Result<MapSource, Fail> {
 }
 
 /// The words of a field.
-fn words_of(alloc: Global, field: &str) -> Result<Vec<String>, Fail> {
+pub fn words_of(alloc: Global, field: &str) -> Result<Vec<String>, Fail> {
     let mut words = Vec::new(alloc);
     for word in field.split(',') {
         words.push(String::from_str(alloc, word)?)?;

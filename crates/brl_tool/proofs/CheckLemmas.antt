@@ -23,7 +23,7 @@ use Rattle.brl_table.specs.Translation.{IsUnambiguous}
 use Rattle.brl_tool.specs.Answers.{AcceptsGood, Checks, IsAcceptance, IsFaultOfFile, IsRefusal, LacksBytes, Tells, UnlessMemory}
 use Rattle.brl_tool.specs.declared.answer.Answer.{Answer}
 use Rattle.brl_tool.specs.declared.run_fault.RunFault.{RunFault}
-use Rattle.brl_tool.specs.declared.run_fault.RunFault.TheVariants.{Load, Table, Stream, Confirm, Wide, OutputFailed, CannotWrite, Memory}
+use Rattle.brl_tool.specs.declared.run_fault.RunFault.TheVariants.{Load, Table, Stream, Confirm, Wide, WouldOverwrite, OutputFailed, CannotWrite, Memory}
 
 -- ---- What one source gives, another may give
 
@@ -72,6 +72,7 @@ module _ (gives after : MayGive) (same : AllStay gives after) (path cert bytes :
   unless is (Err (Stream fault)) h then = absurd h
   unless is (Err (Confirm fault)) h then = absurd h
   unless is (Err (Wide fault)) h then = absurd h
+  unless is (Err (WouldOverwrite named)) h then = absurd h
   unless is (Err OutputFailed) h then = absurd h
   unless is (Err (CannotWrite named)) h then = absurd h
 
@@ -141,6 +142,7 @@ has_bytes gives path cert fault h one bytes there short t table accepted deserve
     by_fault (Stream fault) k = absurd k
     by_fault (Confirm fault) k = absurd k
     by_fault (Wide fault) k = absurd k
+    by_fault (WouldOverwrite named) k = absurd k
     by_fault OutputFailed k = absurd k
     by_fault (CannotWrite named) k = absurd k
     by_fault Memory k = refl

@@ -1,22 +1,25 @@
 -- What the status says of what was delivered.
-use Rattle.std.proofs.Common.{◌≡◌, ◌∙◌, ℕ, List, inl, inr, Option, None, Some, Result, Ok, Err, refl, subst, sym}
+use Rattle.std.proofs.Common.{◌≡◌, ◌≢◌, ◌∙◌, ℕ, suc, List, [], ◌∷◌, All, arith, map, inl, inr, Option, None, Some, Result, Ok, Err, refl, subst, sym}
 use Rattle.std.specs.Io.KnownBytes.{Appends}
 use Rattle.std.specs.Prelude.{string_bytes}
 use Rattle.brl_cert.specs.Reading.{spelling}
 use Rattle.brl_kinds.specs.declared.cert.Cert.{Cert}
 use Rattle.brl_lines.specs.Answer.{AllStay, MayGive}
+use Rattle.brl_lines.specs.Lines.{Answers}
+use Rattle.brl_lines.specs.Outcome.{AreGiven}
+use Rattle.brl_reading.specs.Files.{IsTableOf, IsTableOfFiles}
 use Rattle.brl_search.specs.Searched.{certificate_of}
 use Rattle.brl_table.specs.TableView.{TableView}
 use Rattle.brl_tool.proofs.DeliveryLemmas.{none_changes}
 use Rattle.brl_tool.specs.Answers.{Checks, ComparesByFile, IsComparison, IsFileOf, IsJudgement, SearchesByFile}
 use Rattle.brl_tool.specs.Delivery.{Delivers}
-use Rattle.brl_tool.specs.Files.{FilesAfter, GivesAlso, OthersStay}
+use Rattle.brl_tool.specs.Files.{FilesAfter, GivesAlso, MayBeSame, OthersStay}
 use Rattle.brl_tool.specs.Running.{ReportsAcceptance, ReportsCertificate, ReportsClash, ReportsRefusal}
 use Rattle.brl_tool.specs.Status.{status_of}
 use Rattle.brl_tool.specs.declared.answer.Answer.{Answer}
 use Rattle.brl_tool.specs.declared.answer.NewFile.{NewFile}
 use Rattle.brl_tool.specs.declared.run_fault.RunFault.{RunFault}
-use Rattle.brl_tool.specs.declared.run_fault.RunFault.TheVariants.{Load, Table, Stream, Confirm, Wide, OutputFailed, CannotWrite, Memory}
+use Rattle.brl_tool.specs.declared.run_fault.RunFault.TheVariants.{Load, Table, Stream, Confirm, Wide, WouldOverwrite, OutputFailed, CannotWrite, Memory}
 use Rattle.brl_tool.specs.declared.status.Status.{Status}
 use Rattle.brl_tool.specs.declared.status.Status.TheVariants.{Done, Refuted}
 
@@ -28,6 +31,7 @@ never_done (Table fault) e = cc
 never_done (Stream fault) e = cc
 never_done (Confirm fault) e = cc
 never_done (Wide fault) e = cc
+never_done (WouldOverwrite named) e = cc
 never_done OutputFailed e = cc
 never_done (CannotWrite named) e = cc
 never_done Memory e = cc
@@ -38,9 +42,14 @@ never_refuted (Table fault) e = cc
 never_refuted (Stream fault) e = cc
 never_refuted (Confirm fault) e = cc
 never_refuted (Wide fault) e = cc
+never_refuted (WouldOverwrite named) e = cc
 never_refuted OutputFailed e = cc
 never_refuted (CannotWrite named) e = cc
 never_refuted Memory e = cc
+
+-- the table of some files is that of its root
+of_files : (gives : MayGive) (path : List ℕ) (paths : List (List ℕ)) (t : TableView) → IsTableOfFiles gives path paths t → IsTableOf gives path t
+of_files gives path paths t (lines, (answers, given, are, lines_are), passes, is) = (lines, (answers, given, lines_are), passes, is)
 
 module _ (before after : MayGive) (failed : Type 0) (old new : Option (List ℕ)) where
   -- an answer with a status that no fault has was written whole
@@ -116,30 +125,41 @@ module _ (before after : MayGive) (failed : Type 0) (old new : Option (List ℕ)
   file_written cert out (Some file) (path, bytes) (gives, others) =
       (subst (λ (p : List ℕ). GivesAlso after p (spelling cert)) path (subst (GivesAlso after (string_bytes file.path)) bytes gives), subst (OthersStay before after) path others)
 
-  certificate_said : (path out : List ℕ) (limit : ℕ) (answer : Answer) → SearchesByFile before path out limit (Ok answer) → answer.status ≡ Done → FilesAfter before after answer.file → Appends old new (string_bytes answer.text) → ReportsCertificate before after path out old new
-  certificate_said path out limit answer (t, table, is) done files appends = elim is [
+  -- answers for other files are given after a file is written
+  answers_stay : (out : List ℕ) → OthersStay before after out → (answers : Answers) → All (λ one. one ≢ out) (map (λ entry. entry.0) answers) → AreGiven before answers → AreGiven after answers
+  answers_stay out others [] apart given = tt
+  answers_stay out others (entry ∷ answers) apart given =
+      ((others entry.0 entry.1 (apart 0 [] (omega arith))).1 given.0, answers_stay out others answers (λ k d l. apart (suc k) d (omega arith)) given.1)
+
+  -- a table stays where a file is written that is none of its files
+  table_stays : (path out : List ℕ) (paths : List (List ℕ)) (t : TableView) → IsTableOfFiles before path paths t → All (λ one. one ≢ out) paths → OthersStay before after out → IsTableOf after path t
+  table_stays path out paths t (lines, (answers, given, are, lines_are), passes, is) apart others =
+      (lines, (answers, answers_stay out others answers (subst (All (λ one. one ≢ out)) (sym are) apart) given, lines_are), passes, is)
+
+  certificate_said : (same_file : MayBeSame) (path out : List ℕ) (limit : ℕ) (answer : Answer) → SearchesByFile before same_file path out limit (Ok answer) → answer.status ≡ Done → FilesAfter before after answer.file → Appends old new (string_bytes answer.text) → ReportsCertificate before after path out old new
+  certificate_said same_file path out limit answer (paths, t, table, apart, is) done files appends = elim is [
     | inl (none, (body, certified, accepted, (status, text, file, read))) ↦
         let (gives, others) = file_written (certificate_of body) out answer.file file files in
-        (t, table, none, (body, accepted, gives, others, subst (Appends old new) text appends))
+        (t, of_files before path paths t table, none, (body, accepted, gives, others, table_stays path out paths t table apart others, subst (Appends old new) text appends))
     | inr (inl (left, right, cells, clash, says)) ↦ let e = sym says.0 ∙ done in cc
     | inr (inr (states, pairs, limit_is, says)) ↦ let e = sym says.0 ∙ done in cc
   ]
 
-  clash_found : (path out : List ℕ) (limit : ℕ) (answer : Answer) → SearchesByFile before path out limit (Ok answer) → answer.status ≡ Refuted → FilesAfter before after answer.file → Appends old new (string_bytes answer.text)
+  clash_found : (same_file : MayBeSame) (path out : List ℕ) (limit : ℕ) (answer : Answer) → SearchesByFile before same_file path out limit (Ok answer) → answer.status ≡ Refuted → FilesAfter before after answer.file → Appends old new (string_bytes answer.text)
       → ReportsClash before old new × AllStay before after
-  clash_found path out limit answer (t, table, is) refuted files appends = elim is [
+  clash_found same_file path out limit answer (paths, t, table, apart, is) refuted files appends = elim is [
     | inl (none, (body, certified, accepted, (status, text, file, read))) ↦ let e = sym status ∙ refuted in cc
-    | inr (inl (left, right, cells, clash, says)) ↦ ((path, left, right, cells, t, table, clash, subst (Appends old new) says.1 appends), subst (FilesAfter before after) says.2 files)
+    | inr (inl (left, right, cells, clash, says)) ↦ ((path, left, right, cells, t, of_files before path paths t table, clash, subst (Appends old new) says.1 appends), subst (FilesAfter before after) says.2 files)
     | inr (inr (states, pairs, limit_is, says)) ↦ let e = sym says.0 ∙ refuted in cc
   ]
 
-  pub certified_at_done : (path out : List ℕ) (limit : ℕ) (outcome : Result Answer RunFault) (status : Status) → SearchesByFile before path out limit outcome → Delivers outcome before after failed old new status → status ≡ Done → ReportsCertificate before after path out old new
-  certified_at_done path out limit outcome status is delivers same =
+  pub certified_at_done : (same_file : MayBeSame) (path out : List ℕ) (limit : ℕ) (outcome : Result Answer RunFault) (status : Status) → SearchesByFile before same_file path out limit outcome → Delivers outcome before after failed old new status → status ≡ Done → ReportsCertificate before after path out old new
+  certified_at_done same_file path out limit outcome status is delivers same =
       let (answer, ok, done, files, appends) = whole Done never_done outcome status delivers same in
-      certificate_said path out limit answer (subst (SearchesByFile before path out limit) ok is) done files appends
+      certificate_said same_file path out limit answer (subst (SearchesByFile before same_file path out limit) ok is) done files appends
 
-  pub found_at_refuted : (path out : List ℕ) (limit : ℕ) (outcome : Result Answer RunFault) (status : Status) → SearchesByFile before path out limit outcome → Delivers outcome before after failed old new status → status ≡ Refuted
+  pub found_at_refuted : (same_file : MayBeSame) (path out : List ℕ) (limit : ℕ) (outcome : Result Answer RunFault) (status : Status) → SearchesByFile before same_file path out limit outcome → Delivers outcome before after failed old new status → status ≡ Refuted
       → ReportsClash before old new × AllStay before after
-  found_at_refuted path out limit outcome status is delivers same =
+  found_at_refuted same_file path out limit outcome status is delivers same =
       let (answer, ok, refuted, files, appends) = whole Refuted never_refuted outcome status delivers same in
-      clash_found path out limit answer (subst (SearchesByFile before path out limit) ok is) refuted files appends
+      clash_found same_file path out limit answer (subst (SearchesByFile before same_file path out limit) ok is) refuted files appends

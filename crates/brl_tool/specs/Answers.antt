@@ -1,5 +1,5 @@
 -- What each command answers. The project's own choice.
-use Rattle.std.specs.Prelude.{ℕ, ◌≡◌, ◌<◌, ◌≤◌, ◌⊎◌, IsTrue, List, ◌++◌, length, Option, None, Some, Result, Ok, Err, codes, string_bytes}
+use Rattle.std.specs.Prelude.{ℕ, ◌≡◌, ◌≢◌, ◌<◌, ◌≤◌, ◌⊎◌, All, Any, IsTrue, List, ◌++◌, length, Option, None, Some, Result, Ok, Err, codes, string_bytes}
 use Rattle.std.specs.Fmt.{decimal}
 use Rattle.brl_accept.specs.Judging.{IsAccepted, IsRefusedBy, counted}
 use Rattle.brl_accept.specs.declared.checker.Accepted.{Accepted}
@@ -13,10 +13,12 @@ use Rattle.brl_forward.specs.Faults.{IsFaultOfTwo}
 use Rattle.brl_kinds.specs.Kinds.{pair_count, state_count}
 use Rattle.brl_kinds.specs.declared.cert.Cert.{Cert as Certificate}
 use Rattle.brl_lines.specs.Answer.{Answer as FileAnswer, MayGive, GivesOneAnswer, Holds, Large, Missing, Unreadable, most_file_bytes}
+use Rattle.brl_lines.specs.Outcome.{AreLinesOfFiles}
+use Rattle.brl_lines.specs.Tokens.{LineView}
 use Rattle.brl_lines.specs.declared.fault.LoadFault.{LoadFault}
 use Rattle.brl_lines.specs.declared.fault.LoadFaultKind.{LoadFaultKind}
 use Rattle.brl_lines.specs.declared.fault.LoadFaultKind.TheVariants as kinds
-use Rattle.brl_reading.specs.Files.{IsFaultAt, IsTableOf}
+use Rattle.brl_reading.specs.Files.{IsFaultAt, IsTableOf, IsTableOfFiles}
 use Rattle.brl_reading.specs.declared.no_table.NoTable.TheVariants as no_table
 use Rattle.brl_report.specs.Report.{report_text}
 use Rattle.brl_search.specs.Answers.{IsCertified, IsLimit}
@@ -24,11 +26,12 @@ use Rattle.brl_search.specs.Searched.{State, certificate_of, machine_of}
 use Rattle.brl_table.specs.TableView.{TableView}
 use Rattle.brl_table.specs.Text.{is_text}
 use Rattle.brl_table.specs.Translation.{IsClash, IsUnambiguous}
+use Rattle.brl_tool.specs.Files.{MayBeSame}
 use Rattle.brl_tool.specs.Status.{of_no_table}
 use Rattle.brl_tool.specs.declared.answer.Answer.{Answer}
 use Rattle.brl_tool.specs.declared.answer.NewFile.{NewFile}
 use Rattle.brl_tool.specs.declared.run_fault.RunFault.{RunFault}
-use Rattle.brl_tool.specs.declared.run_fault.RunFault.TheVariants.{Load, Table, Confirm, Wide, Memory}
+use Rattle.brl_tool.specs.declared.run_fault.RunFault.TheVariants.{Load, Table, Confirm, Wide, WouldOverwrite, Memory}
 use Rattle.brl_tool.specs.declared.status.Status.{Status}
 use Rattle.brl_tool.specs.declared.status.Status.TheVariants.{Done, Refuted, Undecided}
 
@@ -185,6 +188,19 @@ IsVerdict t out limit answer =
     ⊎ ((left right cells : List ℕ) × IsClash t left right cells × Says Refuted (report_text t left right cells) answer)
     ⊎ ((states pairs : ℕ) × IsLimit (machine_of t) limit states pairs × Says Undecided (counts_line (codes "limit") states pairs) answer)
 
--- the table of the file at a path was searched, up to a limit, for a certificate for another file
-abbrev pub SearchesByFile : MayGive → List ℕ → List ℕ → ℕ → Result Answer RunFault → Type 0
-SearchesByFile gives path out limit outcome = ByTable gives path (λ t. UnlessMemory (IsVerdict t out limit)) outcome
+-- the fault names one of these paths, which may be the file for the certificate; or memory ran out
+abbrev pub IsOverwriting : MayBeSame → List (List ℕ) → List ℕ → RunFault → Type 0
+IsOverwriting same paths out (WouldOverwrite file) = Any (λ one. (one ≡ string_bytes file) × same one out) paths
+IsOverwriting same paths out Memory = Unit {0}
+IsOverwriting same paths out fault = ⊥
+
+-- the table of the file at a path was searched, up to a limit, for a certificate for a file that is
+-- none of the table's; `same` says which paths may name one file
+abbrev pub SearchesByFile : MayGive → MayBeSame → List ℕ → List ℕ → ℕ → Result Answer RunFault → Type 0
+SearchesByFile gives same path out limit (Ok answer) =
+    (paths : List (List ℕ)) × (t : TableView) × IsTableOfFiles gives path paths t × All (λ one. one ≢ out) paths
+    × IsVerdict t out limit answer
+SearchesByFile gives same path out limit (Err (WouldOverwrite file)) =
+    (paths : List (List ℕ)) × (lines : List LineView) × AreLinesOfFiles gives path paths lines
+    × IsOverwriting same paths out (WouldOverwrite file)
+SearchesByFile gives same path out limit (Err fault) = HasNoTable gives path fault

@@ -16,6 +16,10 @@ OthersStay old new path = (p : List ℕ) (a : Answer) → p ≢ path → new p a
 abbrev pub GivesAlso : MayGive → List ℕ → List ℕ → Type 0
 GivesAlso gives path bytes = gives path (answer_of (Some bytes))
 
+-- whether two paths may name one file
+abbrev pub MayBeSame : Type 1
+MayBeSame = List ℕ → List ℕ → Type 0
+
 -- a file was written, and no other file changed
 abbrev pub IsWritten : NewFile → MayGive → MayGive → Type 0
 IsWritten file before after =

@@ -1,5 +1,5 @@
 -- What a run of the program comes to. The project's own choice. `failed` says that the output failed
--- in that run; `before` and `after` what the files may give.
+-- in that run; `before` and `after` what the files may give, and `same` which paths may name one file.
 use Rattle.std.specs.Prelude.{ℕ, ◌≡◌, ◌<◌, ◌⊎◌, List, ◌++◌, Option, Result, Ok, Err, codes}
 use Rattle.std.specs.Io.KnownBytes.{Appends}
 use Rattle.std.specs.Str.{chars}
@@ -15,7 +15,7 @@ use Rattle.brl_table.specs.TableView.{TableView}
 use Rattle.brl_table.specs.Translation.{IsClash, IsUnambiguous}
 use Rattle.brl_tool.specs.Answers.{ComparesByFile, Judges, Says, SearchesByFile, UnlessMemory, accepted_line, certified_line}
 use Rattle.brl_tool.specs.Delivery.{IsDelivered}
-use Rattle.brl_tool.specs.Files.{GivesAlso, OthersStay}
+use Rattle.brl_tool.specs.Files.{GivesAlso, MayBeSame, OthersStay}
 use Rattle.brl_tool.specs.Status.{code_of, status_of}
 use Rattle.brl_tool.specs.Streams.{TranslatesByFile}
 use Rattle.brl_tool.specs.declared.answer.Answer.{Answer}
@@ -49,20 +49,20 @@ ChecksBy before after path cert failed old new status =
     IsDelivered (Judges before path cert) before after failed old new status
 
 -- the table of the file at one path was searched, up to a limit, for a certificate for another file
-abbrev pub SearchesBy : MayGive → MayGive → List ℕ → List ℕ → ℕ → Type 0 → Option (List ℕ) → Option (List ℕ) → Status → Type 0
-SearchesBy before after path out limit failed old new status =
-    IsDelivered (SearchesByFile before path out limit) before after failed old new status
+abbrev pub SearchesBy : MayGive → MayGive → MayBeSame → List ℕ → List ℕ → ℕ → Type 0 → Option (List ℕ) → Option (List ℕ) → Status → Type 0
+SearchesBy before after same path out limit failed old new status =
+    IsDelivered (SearchesByFile before same path out limit) before after failed old new status
 
 -- A task was done, with the paths, texts, form and limit that it has. Only a search changes a file.
-abbrev pub Performs : Task → MayGive → MayGive → Option (List ℕ) → Type 0 → Option (List ℕ) → Option (List ℕ) → Status → Type 0
-Performs (task.Translate path form) before after input failed old new status =
+abbrev pub Performs : Task → MayGive → MayGive → MayBeSame → Option (List ℕ) → Type 0 → Option (List ℕ) → Option (List ℕ) → Status → Type 0
+Performs (task.Translate path form) before after same input failed old new status =
     AllStay before after × TranslatesBy before path.now form input old new status
-Performs (task.Clash path left right) before after input failed old new status =
+Performs (task.Clash path left right) before after same input failed old new status =
     AllStay before after × ComparesBy before after path.now (chars left.now) (chars right.now) failed old new status
-Performs (task.Check path cert) before after input failed old new status =
+Performs (task.Check path cert) before after same input failed old new status =
     AllStay before after × ChecksBy before after path.now cert.now failed old new status
-Performs (task.Search path out limit) before after input failed old new status =
-    SearchesBy before after path.now out.now limit failed old new status
+Performs (task.Search path out limit) before after same input failed old new status =
+    SearchesBy before after same path.now out.now limit failed old new status
 
 -- the answer with help or the version
 abbrev pub IsHelp : Result Answer RunFault → Type 0
@@ -75,10 +75,10 @@ Replies before after failed old new status =
     ⊎ (AllStay before after × (new ≡ old) × (status ≡ Faulty))
 
 -- what a run did: the task that its words ask for, or it answered words that ask for none
-abbrev pub Runs : MayGive → MayGive → Option (List ℕ) → Type 0 → Option (List ℕ) → Option (List ℕ) → ℕ → Type 0
-Runs before after input failed old new code =
+abbrev pub Runs : MayGive → MayGive → MayBeSame → Option (List ℕ) → Type 0 → Option (List ℕ) → Option (List ℕ) → ℕ → Type 0
+Runs before after same input failed old new code =
     (status : Status) × (code ≡ code_of status)
-    × (((asked : Task) × Performs asked before after input failed old new status) ⊎ Replies before after failed old new status)
+    × (((asked : Task) × Performs asked before after same input failed old new status) ⊎ Replies before after failed old new status)
 
 -- 0, 1, 2 or 3
 abbrev pub IsStatus : ℕ → Type 0
@@ -101,10 +101,10 @@ ReportsClash gives old new =
     (path left right cells : List ℕ) × (t : TableView) × IsTableOf gives path t × IsClash t left right cells × Appends old new (report_text t left right cells)
 
 -- a certificate was written that a judge accepts for the table of the file at the path, and that
--- table is unambiguous; no other file changed
+-- table is unambiguous; no other file changed, so the files still define that table
 abbrev pub ReportsCertificate : MayGive → MayGive → List ℕ → List ℕ → Option (List ℕ) → Option (List ℕ) → Type 0
 ReportsCertificate before after path out old new =
     (t : TableView) × IsTableOf before path t × IsUnambiguous t
     × ((body : BodyView State) × IsAccepted t (spelling (certificate_of body)) (counted (certificate_of body))
-    × GivesAlso after out (spelling (certificate_of body)) × OthersStay before after out
+    × GivesAlso after out (spelling (certificate_of body)) × OthersStay before after out × IsTableOf after path t
     × Appends old new (certified_line (certificate_of body)))

@@ -10,6 +10,7 @@ mod clash;
 mod files;
 mod notices;
 mod program;
+mod replace;
 mod run_fault;
 mod search;
 mod status;

@@ -26,10 +26,11 @@ use std::io::Write;
 /// or help or the version where these are asked for. Standard error gets the notices of a table that is
 /// searched, one line for a fault, or the text of a use fault; what can't be written there is dropped
 /// and changes no status. Faults come in the order of the work: the words, the certificate's file, the
-/// table's file, its lines, the texts, the input, the certificate or the search, the file that gets a
-/// certificate, the output.
+/// table's files, a file for a new certificate that is one of these, the table's lines, the texts, the
+/// input, the certificate or the search, the file that gets a certificate, the output.
 ///
-/// A file is written only where a search found a certificate: that file and no other.
+/// A file is written only where a search found a certificate: that file and no other. A file of the
+/// searched table is refused as the file for the certificate before the search.
 pub fn run<F: Files, I: Input, O: Output, E: Write>(
     alloc: Global,
     words: &[String],
@@ -39,8 +40,8 @@ pub fn run<F: Files, I: Input, O: Output, E: Write>(
     err: &mut E,
 ) -> u8
     ensures status { IsStatus result }
-    ensures runs { Runs (F.gives files.old) (F.gives files.new) (I.remaining input.old) (O.failures out.new ≢ O.failures out.old)
-        (O.contents out.old) (O.contents out.new) result }
+    ensures runs { Runs (F.gives files.old) (F.gives files.new) F.same_file (I.remaining input.old)
+        (O.failures out.new ≢ O.failures out.old) (O.contents out.old) (O.contents out.new) result }
     ensures clash { result ≡ 1 → ReportsClash (F.gives files.old) (O.contents out.old) (O.contents out.new)
         ⊎ ReportsRefusal (O.contents out.old) (O.contents out.new) }
     ensures same { result ≡ 1 → AllStay (F.gives files.old) (F.gives files.new) }
@@ -60,8 +61,8 @@ fn perform<F: Files, I: Input, O: Output, E: Write>(
     out: &mut O,
     err: &mut E,
 ) -> Status
-    ensures performs { Performs task.entry (F.gives files.old) (F.gives files.new) (I.remaining input.old) (O.failures out.new ≢ O.failures out.old)
-        (O.contents out.old) (O.contents out.new) result }
+    ensures performs { Performs task.entry (F.gives files.old) (F.gives files.new) F.same_file (I.remaining input.old)
+        (O.failures out.new ≢ O.failures out.old) (O.contents out.old) (O.contents out.new) result }
     ensures clash { result ≡ statuses.Refuted → ReportsClash (F.gives files.old) (O.contents out.old) (O.contents out.new)
         ⊎ ReportsRefusal (O.contents out.old) (O.contents out.new) }
     ensures same { result ≡ statuses.Refuted → AllStay (F.gives files.old) (F.gives files.new) }
@@ -143,9 +144,10 @@ fn search<F: Files, O: Output, E: Write>(
     out: &mut O,
     err: &mut E,
 ) -> Status
-    ensures searches { SearchesBy (F.gives files.old) (F.gives files.new) table.now cert.now limit
+    ensures searches { SearchesBy (F.gives files.old) (F.gives files.new) F.same_file table.now cert.now limit
         (O.failures out.new ≢ O.failures out.old) (O.contents out.old) (O.contents out.new) result }
-    // Where it finds a certificate, no two texts of the table clash, and the certificate is written.
+    // Where it finds a certificate, no two texts of the table clash, the certificate is written, and
+    // the table's files stay.
     ensures certified { result ≡ statuses.Done → ReportsCertificate (F.gives files.old) (F.gives files.new) table.now cert.now
         (O.contents out.old) (O.contents out.new) }
     ensures clash { result ≡ statuses.Refuted → ReportsClash (F.gives files.old) (O.contents out.old) (O.contents out.new) }

@@ -28,6 +28,9 @@ pub enum RunFault {
     /// The certificate lists states of a window machine, and the table has none.
     #[error("{0}")]
     Wide(TooWide),
+    /// The file for the certificate is this one of the table's files.
+    #[error("error: the certificate would overwrite {0}, a file of the table")]
+    WouldOverwrite(String),
     /// The writer failed at an answer, or at help or the version; some first bytes of it may be
     /// written.
     #[error("U4 OutputFailed")]

@@ -1,17 +1,19 @@
 //! `brl search`: whether two texts of a table clash.
-ghost use Rattle.std.specs.Prelude.{◌≡◌, IfOk};
+ghost use Rattle.std.specs.Prelude.{◌≡◌, ◌≢◌, All, IfErr, IfOk, OnOk};
 ghost use Rattle.brl_lines.specs.Answer.{AllStay};
 ghost use Rattle.brl_lines.specs.Outcome.{CountsFailure};
-ghost use Rattle.brl_tool.specs.Answers.{IsCertificateAt, IsVerdict, SearchesByFile, load_outcome};
+ghost use Rattle.brl_tool.specs.Answers.{IsCertificateAt, IsOverwriting, IsVerdict, SearchesByFile, load_outcome};
 
+use crate::Files;
 use crate::answer::{Answer, NewFile, counts_text};
 use crate::notices::write_notices;
 use crate::run_fault::RunFault;
 use crate::status::Status;
 use brl_cert::write_cert;
+use brl_failure::raise;
 use brl_kinds::Cert;
-use brl_lines::Source;
-use brl_reading::load_table;
+use brl_lines::{Loaded, load};
+use brl_reading::{NoTable, table_of_loaded};
 use brl_report::report;
 use brl_search::{Found, search};
 use brl_table::Table;
@@ -21,22 +23,44 @@ use std::io::Write;
 /// Searches the table whose file is at a path, until more than `limit` states or pairs are found. The
 /// answer is a certificate for the file at `out`, with its numbers; or the report of a clash; or the
 /// numbers at which the limit was passed. Before the search standard error gets the table's notices.
-pub fn search_by_file<S: Source, E: Write>(
+/// `WouldOverwrite` where `out` names one of the table's files.
+pub fn search_by_file<F: Files, E: Write>(
     alloc: Global,
-    source: &mut S,
+    files: &mut F,
     path: &str,
     out: &str,
     limit: u32,
     err: &mut E,
 ) -> Result<Answer, RunFault>
-    ensures searches { SearchesByFile (S.gives source.old) path.now out.now limit result }
-    ensures count { CountsFailure (S.faults source.old) (S.faults source.new) (load_outcome result) }
-    ensures same { AllStay (S.gives source.old) (S.gives source.new) }
+    ensures searches { SearchesByFile (F.gives files.old) F.same_file path.now out.now limit result }
+    ensures count { CountsFailure (F.faults files.old) (F.faults files.new) (load_outcome result) }
+    ensures same { AllStay (F.gives files.old) (F.gives files.new) }
 {
-    let table = load_table(alloc, source, path)?;
+    let loaded = raise(load(alloc, files, path), NoTable::Load)?;
+    refuse_file_of_table(alloc, files, &loaded, out)?;
+    let table = raise(table_of_loaded(alloc, &loaded), NoTable::Table)?;
+    drop(loaded);
     let answer = search_table(alloc, &table, out, limit, err);
     drop(table);
     Ok(answer?)
+}
+
+/// Refuses a file for the certificate that is one of a table's files.
+fn refuse_file_of_table<F: Files>(
+    alloc: Global,
+    files: &F,
+    loaded: &Loaded,
+    out: &str,
+) -> Result<(), RunFault>
+    ensures apart { OnOk result (All (λ one. one ≢ out.now) loaded.now.paths) }
+    ensures refused { IfErr result (IsOverwriting F.same_file loaded.now.paths out.now) }
+{
+    for path in loaded.paths(alloc)? {
+        if files.is_same_file(path, out) {
+            return Err(RunFault::WouldOverwrite(String::from_str(alloc, path)?));
+        }
+    }
+    Ok(())
 }
 
 /// Writes a table's notices, and searches it.

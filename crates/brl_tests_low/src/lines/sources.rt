@@ -5,6 +5,7 @@ use brl_lines::{FileSource, Source, SourceFault, read_whole};
 use brl_testing::{Broken, Refusing, agree, cut, lend_mut, one_file};
 use std::alloc::Global;
 use std::io::{ErrorKind, Read};
+use std::path::{Path, PathBuf};
 use std::test::Fail;
 use std::{env, fs, process};
 
@@ -149,16 +150,26 @@ fn gives_bytes<S: Source>(
     Ok(read.as_slice() == bytes && source.failures() == 1)
 }
 
+/// A path of this process alone.
+fn own_path(rt: &HostRuntime) -> Result<PathBuf, Fail> {
+    let name = format!(in rt.alloc(); "brl_lines_{}.ctb", process::id(rt.process()))?;
+    Ok(env::temp_dir(rt)?.join(rt.alloc(), name.as_str())?)
+}
+
+/// Whether a file that is written to this path is read, after two paths without a file.
+fn is_file_read(rt: &HostRuntime, path: Path) -> Result<bool, Fail> {
+    let mut source = FileSource::new(rt);
+    if !are_refused(rt.alloc(), &mut source) {
+        return Ok(false);
+    }
+    fs::write(rt, path, b"letter a 1\n")?;
+    let given = gives_bytes(rt.alloc(), &mut source, path.as_str(), b"letter a 1\n");
+    fs::remove_file(rt, path)?;
+    Ok(given?)
+}
+
 #[test]
 fn files_of_a_system(rt: HostRuntime) -> Result<(), Fail> {
-    let alloc = rt.alloc();
-    let mut source = FileSource::new(&rt);
-    assert!(rt; are_refused(alloc, &mut source));
-    let name = format!(in alloc; "brl_lines_{}.ctb", process::id(rt.process()))?;
-    let path = env::temp_dir(&rt)?.join(alloc, name.as_str())?;
-    fs::write(&rt, path.as_path(), b"letter a 1\n")?;
-    let given = gives_bytes(alloc, &mut source, path.as_str(), b"letter a 1\n");
-    fs::remove_file(&rt, path.as_path())?;
-    assert!(rt; given?);
+    assert!(rt; is_file_read(&rt, own_path(&rt)?.as_path())?);
     Ok(())
 }

@@ -8,7 +8,7 @@ use Rattle.brl_lines.specs.Tokens.{LineView}
 use Rattle.brl_lines.specs.declared.expand.Expansion.{Expansion}
 use Rattle.brl_lines.specs.declared.open_file.OpenFile.{OpenFile}
 use Rattle.brl_lines.proofs.ExpandLemmas.{after-nothing, fails-later, fails-more}
-use Rattle.brl_lines.proofs.FileLemmas.{extends-older, given-stays}
+use Rattle.brl_lines.proofs.FileLemmas.{extends-older, given-stays, paths-of-answers}
 use Rattle.brl_lines.proofs.LoadLemmas.{load-fault, root-lines, root-refused}
 use Rattle.brl_lines.proofs.SpanLemmas.{slices-given}
 use Rattle.brl_lines.proofs.loaded.load.Goals as goal
@@ -68,6 +68,7 @@ returns-clause-lines g c =
     sym (after-nothing (lines_of_file root file table answer)) ∙ ap (λ (ls : List LineView). after ls (lines_of_file root file table answer)) (sym none) ∙ expands.adds answer (λ path a e. e) in (
       answers_of last,
       given-stays then gives (λ path a. (c.in_ok-index.ensures.same path a).0) (answers_of last) expands.grows.given,
+      paths-of-answers last,
       root-lines answer root (text_at files c.in_ok-index.index) (string_bytes c.in_ok-from_str.field-0) (map string_bytes c.new-3.result.items)
           (found.text_is answer (extends-older then files last expands.grows answer (λ path a e. e)) None) c.in_ok-from_str.ensures.ok (ap (map string_bytes) c.new-3.ensures.items)
           ∙ ap (λ (r : Result Expanded Refusal). r >>= λ found. Ok found.lines) lines,

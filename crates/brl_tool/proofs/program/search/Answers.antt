@@ -11,15 +11,15 @@ returns-clause-searches g c = (
 
 pub returns-clause-certified : goal.returns-clause-certified
 returns-clause-certified g c =
-    certified_at_done (g.F.Source.gives c.args.files.now) _ _ _ _ c.args.table.now c.args.cert.now c.args.limit c.search_by_file-answer.result c.deliver.result c.search_by_file-answer.ensures.searches
+    certified_at_done (g.F.Source.gives c.args.files.now) _ _ _ _ g.F.Files.same_file c.args.table.now c.args.cert.now c.args.limit c.search_by_file-answer.result c.deliver.result c.search_by_file-answer.ensures.searches
     (delivered_after (g.F.Source.gives c.args.files.now) _ _ c.search_by_file-answer.ensures.same c.search_by_file-answer.result _ _ _ c.deliver.result c.deliver.ensures)
 
 pub returns-clause-clash : goal.returns-clause-clash
 returns-clause-clash g c refuted =
-    (found_at_refuted (g.F.Source.gives c.args.files.now) _ _ _ _ c.args.table.now c.args.cert.now c.args.limit c.search_by_file-answer.result c.deliver.result c.search_by_file-answer.ensures.searches
+    (found_at_refuted (g.F.Source.gives c.args.files.now) _ _ _ _ g.F.Files.same_file c.args.table.now c.args.cert.now c.args.limit c.search_by_file-answer.result c.deliver.result c.search_by_file-answer.ensures.searches
     (delivered_after (g.F.Source.gives c.args.files.now) _ _ c.search_by_file-answer.ensures.same c.search_by_file-answer.result _ _ _ c.deliver.result c.deliver.ensures) refuted).0
 
 pub returns-clause-same : goal.returns-clause-same
 returns-clause-same g c refuted =
-    (found_at_refuted (g.F.Source.gives c.args.files.now) _ _ _ _ c.args.table.now c.args.cert.now c.args.limit c.search_by_file-answer.result c.deliver.result c.search_by_file-answer.ensures.searches
+    (found_at_refuted (g.F.Source.gives c.args.files.now) _ _ _ _ g.F.Files.same_file c.args.table.now c.args.cert.now c.args.limit c.search_by_file-answer.result c.deliver.result c.search_by_file-answer.ensures.searches
     (delivered_after (g.F.Source.gives c.args.files.now) _ _ c.search_by_file-answer.ensures.same c.search_by_file-answer.result _ _ _ c.deliver.result c.deliver.ensures) refuted).1

@@ -1,0 +1,88 @@
+//! Runs in which memory may run out, each made again in the same process.
+use crate::runs::{Outcome, files_of, is_answered, words_of};
+use brl_lines::MapSource;
+use brl_testing::{cut, lines_of, mark};
+use brl_tool::{Watched, run};
+use std::alloc::Global;
+use std::rt::Files;
+use std::test::Fail;
+
+/// Rows of the form of `cases`.
+const ROWS: &str = "\
+t.ctb: space \\s 0; letter a 1; letter b 12; letter c 14|brl,translate,t.ctb|abc a|ABC A||0
+t.ctb: #|brl,translate,t.ctb||||0
+t.ctb: letter a 1; letter b 12; letter x 1-12; always ab 14|brl,translate,t.ctb|aab|AC||0
+t.ctb: space \\s 0; letter b 12; letter u 136; letter t 2345; word but 12; word b 56-12|brl,translate,t.ctb|b but|;B B||0
+t.ctb: letter a 1; litdigit 1 1; numsign 3456; nocontractsign 56; numericnocontchars a|brl,translate,t.ctb|1a|#A;A||0
+t.ctb: include u.ctb & u.ctb: include t.ctb|brl,translate,t.ctb|||L4 Cycle t.ctb at u.ctb:1|2
+t.ctb: letter a 1; letter b 12; letter x 1-12|brl,clash,t.ctb,ab,ab||no clash||0
+t.ctb: letter a 1; letter b 12; letter x 1-12|brl,clash,t.ctb,ab,x||left: ab; right: x; cells: 1-12; left from 0:;   a  1   t.ctb:1;   b  12  t.ctb:2; right from 0:;   x  1-12  t.ctb:3||1
+t.ctb: #|brl,search,t.ctb,o||certified: 1 states, 0 pairs||0
+t.ctb: letter a 1; letter b 12|brl,search,t.ctb,o||certified: 2 states, 0 pairs||0
+t.ctb: # & c: BRLCERT 2; state 1 0; end 1 0|brl,check,t.ctb,c||accepted: 1 states, 0 pairs||0
+t.ctb: letter a 1; letter b 12; letter x 1-12; always ab 14 & c: BRLCERT 2; state 1 0; state 8 0; state 8 0 b62*; pair 1 2 12; end 3 1|brl,check,t.ctb,c||accepted: 3 states, 1 pairs||0
+t.ctb: letter a 1 & c: BRLCERT 1; state 1 0 0 -; state 8 0 0 61; state 8 0 1 -; pair 1 2 -; end 3 1|brl,check,t.ctb,c||accepted: 3 states, 1 pairs||0
+t.ctb: letter a 1 & c: BRLCERT 2; state 01 0; end 1 0|brl,check,t.ctb,c||refused: K3 NotCanonical line 2||1
+";
+
+/// Room for what a row writes.
+const ROOM: usize = 8_192;
+
+/// Makes a run between two marks.
+fn marked_outcome<R: Files>(
+    system: &R,
+    alloc: Global,
+    words: &[String],
+    files: &mut MapSource,
+    input: &[u8],
+) -> Result<Outcome, Fail> {
+    let mut reader = input;
+    let mut out = Watched::new(Vec::with_capacity(alloc, ROOM)?);
+    let mut err = Vec::with_capacity(alloc, ROOM)?;
+    mark(system);
+    let status = run(alloc, words, files, &mut reader, &mut out, &mut err);
+    mark(system);
+    Ok(Outcome {
+        out: out.device,
+        err,
+        status,
+    })
+}
+
+/// Whether a run has its answer, or memory ran out in it.
+fn may_be(alloc: Global, outcome: &Outcome, fields: &str) -> Result<bool, Fail> {
+    Ok(outcome.status == 3 || outcome.out.is_empty() || outcome.is_told(alloc, fields)?)
+}
+
+/// Whether a run over files has its answer, or memory runs out in it; and whether it has its answer
+/// when it is made again.
+fn is_answered_again<R: Files>(
+    system: &R,
+    alloc: Global,
+    files: &mut MapSource,
+    row: &str,
+) -> Result<bool, Fail> {
+    let (words, rest) = cut(row)?;
+    let (input, fields) = cut(rest)?;
+    let input = lines_of(alloc, input)?;
+    let input = input.as_bytes();
+    let first = marked_outcome(
+        system,
+        alloc,
+        words_of(alloc, words)?.as_slice(),
+        files,
+        input,
+    )?;
+    Ok(may_be(alloc, &first, fields)? && is_answered(alloc, words, files, input, fields)?)
+}
+
+#[test]
+fn runs(rt: HostRuntime) -> Result<(), Fail> {
+    let alloc = rt.alloc();
+    for row in ROWS.lines() {
+        let (files, rest) = cut(row)?;
+        let mut files = files_of(alloc, files)?;
+        assert!(rt; is_answered_again(&rt, alloc, &mut files, rest)?, "{row}");
+    }
+    Ok(())
+}
