@@ -1,7 +1,7 @@
 -- A body from which nothing is missing is closed, and one that is refused isn't.
 use Rattle.std.proofs.Common.{◌≡◌, ℕ, ◌<◌, inl, inr, length, min, max, Bool, true, Option, Some, None, slice_get, refl}
 use Rattle.std.proofs.lemmas.Option.{slice_get_within}
-use Rattle.brl_accept.specs.Refusals.{HasStart, HasTwoEnds, IsRefused, MissesNoPair, MissesNoSplit, MissesNoState, MissesPair, MissesSplit, MissesState}
+use Rattle.brl_accept.specs.Refusals.{HasStart, HasTwoEnds, IsRefused, MissesNoPair, MissesNoSplit, MissesNoState, MissesSplit, MissesState}
 use Rattle.brl_edges.specs.Sets.{pair_at, pair_of, sets_of}
 use Rattle.brl_accept.specs.declared.accept_fault.AcceptFault.{AcceptFault}
 use Rattle.brl_accept.specs.declared.accept_fault.AcceptFault.TheVariants.{NoStart, StateMissing, SplitMissing, PairMissing, BothEnd}
@@ -65,9 +65,6 @@ module _ {S : Type 0} (m : Behaviour S) (body : BodyView S) where
 
   pub split_within : (k : ℕ) → (lesser greater : ℕ) × MissesSplit m body k lesser greater → k < length body.states
   split_within k h = slice_get_within body.states k h.2.state h.2.is_state
-
-  pub move_within : (k : ℕ) → (rule : ℕ) × MissesPair m body k rule → k < length body.pairs
-  move_within k h = pair_within k h.1.pair h.1.is_pair
 
   pub ends_within : (k : ℕ) → HasTwoEnds m body k → k < length body.pairs
   ends_within k h = pair_within k h.pair h.is_pair

@@ -3,8 +3,10 @@ pub mod LeastLaws
 pub mod LeastRule
 pub mod LeastSplit
 pub mod Numbers
-pub mod Kept
+pub mod EdgeSteps
 pub mod MissingAt
 pub mod Deciding
 pub mod Closing
+pub mod Chains
+pub mod Passing
 pub mod Judged

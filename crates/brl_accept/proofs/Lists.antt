@@ -1,5 +1,5 @@
 -- Elements of a list by their places.
-use Rattle.std.proofs.Common.{◌≡◌, ℕ, zero, suc, ◌+◌, ◌<◌, List, [], ◌∷◌, ◌++◌, ◌⊎◌, inl, inr, length, Some, slice_get, refl, ap, subst, arith, length-append, get_or}
+use Rattle.std.proofs.Common.{◌≡◌, ℕ, zero, suc, ◌+◌, ◌<◌, List, [], ◌∷◌, ◌++◌, ◌⊎◌, inl, inr, length, Some, slice_get, refl, ap, subst, arith, length-append, get_or, set, replicate}
 use Rattle.std.proofs.lemmas.Option.{slice_get_read}
 
 -- a place is before another, or it is the same, or it is after it
@@ -30,3 +30,17 @@ module _ {X : Type 0} where
   -- what an index reads
   pub read_at : (xs ys : List X) (k : ℕ) (x : X) → xs ≡ ys → k < length xs → x ≡ get_or xs k x → slice_get ys k ≡ Some x
   read_at xs ys k x same lt is = subst (λ (zs : List X). slice_get zs k ≡ Some x) same (slice_get_read xs (length xs) k x refl lt is)
+
+  -- where an element was written, it is there, and the other places have what they had
+  pub set_cases : (xs : List X) (i : ℕ) (v : X) (k : ℕ) (y : X) → slice_get (set xs i v) k ≡ Some y → ((k ≡ i) × (v ≡ y)) ⊎ ((k ≡ i → ⊥) × (slice_get xs k ≡ Some y))
+  set_cases [] i v k y at = cc
+  set_cases (x ∷ xs) zero v zero y at = inl (refl, cc)
+  set_cases (x ∷ xs) zero v (suc k) y at = inr ((λ e. cc), at)
+  set_cases (x ∷ xs) (suc i) v zero y at = inr ((λ e. cc), at)
+  set_cases (x ∷ xs) (suc i) v (suc k) y at = elim (set_cases xs i v k y at) [ inl h ↦ inl (ap suc h.0, h.1) | inr h ↦ inr ((λ e. h.0 (omega (arith, e))), h.1) ]
+
+  -- all places of a list of equal elements have this one
+  pub replicate_at : (n : ℕ) (x : X) (k : ℕ) (y : X) → slice_get (replicate n x) k ≡ Some y → y ≡ x
+  replicate_at zero x k y at = cc
+  replicate_at (suc n) x zero y at = cc
+  replicate_at (suc n) x (suc k) y at = replicate_at n x k y at

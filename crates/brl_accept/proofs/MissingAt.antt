@@ -1,6 +1,5 @@
 -- What is missing at the state or the pair with a number is what is missing by its edges.
 use Rattle.std.proofs.Common.{◌≡◌, ◌≢◌, ℕ, ◌<◌, ◌≤◌, min, max, Bool, List, [], ◌∷◌, ◌++◌, ◌⊎◌, inl, inr, length, get_or, Option, Some, IsTrue, ◌↔◌, slice_get, refl, sym, ◌∙◌, ap, subst, arith}
-use Rattle.std.specs.Global.{Vec}
 use Rattle.std.proofs.lemmas.List.{append-nil}
 use Rattle.brl_accept.specs.Least.{IsLeast, IsLeastFound, IsLeastPairFound}
 use Rattle.brl_accept.specs.Refusals.{HasTwoEnds, MissesPair, MissesSplit, MissesState}
@@ -11,7 +10,7 @@ use Rattle.brl_accept.proofs.Lists.{inside, read_at, same_place, three_ways}
 use Rattle.brl_accept.proofs.Numbers.{at_named, edge_of, has_pair, is_there, names_at, runs, step_of}
 use Rattle.brl_edges.specs.Body.{BodyView, IsPairOf, NumberPair}
 use Rattle.brl_edges.specs.Sets.{pair_at, sets_of}
-use Rattle.brl_edges.specs.Edges.{AreEdges, AreFirstEdges, AreInOrder, AreKeptEdges}
+use Rattle.brl_edges.specs.Edges.{AreEdges, AreFirstEdges, AreInOrder}
 use Rattle.brl_edges.specs.Pairs.{IsFollowed, IsMissing, IsThere}
 use Rattle.brl_edges.specs.declared.edge.Edge.{Edge}
 use Rattle.brl_pairs.specs.Pairs.{HasPair}
@@ -66,10 +65,9 @@ module _ {S : Type 0} where
             (e.0.next, (h.each j y e.0 y_at e.1).next)
 
     -- the next states of a state with edges are there
-    pub no_state_missing : (kept : List (Vec Edge)) → AreKeptEdges m body.states kept → (k : ℕ) → k < length kept → (rule : ℕ) → MissesState m body k rule → ⊥
-    no_state_missing kept h k lt rule gap =
-        let e = inside kept k lt in
-        let x = edge_of m body.states k e.0.items (h k e.0 e.1) gap.state gap.is_state gap.listed.0 gap.step gap.listed.1 in
+    pub no_state_missing : (k : ℕ) (edges : List Edge) → AreEdges m body.states k edges → (rule : ℕ) → MissesState m body k rule → ⊥
+    no_state_missing k edges h rule gap =
+        let x = edge_of m body.states k edges h gap.state gap.is_state gap.listed.0 gap.step gap.listed.1 in
         gap.missing (x.edge.next, x.is_edge.next)
 
     -- ---- Moves

@@ -1,9 +1,9 @@
 -- The pairs and the steps that a body's numbers name.
-use Rattle.std.proofs.Common.{◌≡◌, ℕ, ◌<◌, List, inl, inr, length, Option, Some, None, slice_get, refl, sym, ◌∙◌, ap, subst, arith}
+use Rattle.std.proofs.Common.{◌≡◌, ℕ, All, ◌<◌, List, inl, inr, length, get_or, Option, Some, None, slice_get, refl, sym, ◌∙◌, ap, subst, arith}
 use Rattle.std.proofs.lemmas.Option.{slice_get_within}
 use Rattle.brl_members.specs.Members.{HaveOneNumber}
 use Rattle.brl_accept.proofs.Lists.{inside, same_place}
-use Rattle.brl_edges.specs.Body.{BodyView, NumberPair}
+use Rattle.brl_edges.specs.Body.{BodyView, IsPairOf, NumberPair}
 use Rattle.brl_edges.specs.Sets.{pair_at, pair_of, sets_of}
 use Rattle.brl_edges.specs.Edges.{AreEdges, IsEdge}
 use Rattle.brl_edges.specs.Pairs.{IsThere}
@@ -12,6 +12,10 @@ use Rattle.brl_pairs.specs.Pairs.{HasPair, swapped}
 use Rattle.brl_pairs.specs.Runs.{Behaviour, IsListedAt}
 use Rattle.brl_pairs.specs.declared.step.Pair.{Pair}
 use Rattle.brl_pairs.specs.declared.step.Step.{Step}
+
+-- a pair that is read is in range
+pub range_read : (states : ℕ) (pairs read : List NumberPair) → read ≡ pairs → All (IsPairOf states) pairs → (k : ℕ) → k < length pairs → (q : NumberPair) → q ≡ get_or read k q → IsPairOf states q
+range_read states pairs read same all k within q is = subst (IsPairOf states) (sym (is ∙ ap (λ (z : List NumberPair). get_or z k q) same)) (all k q within)
 
 module _ {S : Type 0} where
   -- a pair of runs: the first one is ahead of the second by the lead
@@ -53,16 +57,16 @@ module _ {S : Type 0} where
 
   module _ (body : BodyView S) where
     -- the pair with a number
-    record NamedAt (n : ℕ) (p : Pair S) : Type 0 where
-      numbers : NumberPair
-      at : slice_get body.pairs n ≡ Some numbers
-      names : Names body.states numbers p
+    pub record NamedAt (n : ℕ) (p : Pair S) : Type 0 where
+      pub numbers : NumberPair
+      pub at : slice_get body.pairs n ≡ Some numbers
+      pub names : Names body.states numbers p
 
     by_numbers : (n : ℕ) (p : Pair S) (o : Option NumberPair) → slice_get body.pairs n ≡ o → pair_at body n ≡ Some p → NamedAt n p
     by_numbers n p None is e = absurd (let none : None ≡ Some p = sym (rw is) ∙ e in cc)
     by_numbers n p (Some q) is e = record { numbers = q; at = is; names = names_of body.states q p (sym (rw is) ∙ e) }
 
-    named_at : (n : ℕ) (p : Pair S) → pair_at body n ≡ Some p → NamedAt n p
+    pub named_at : (n : ℕ) (p : Pair S) → pair_at body n ≡ Some p → NamedAt n p
     named_at n p e = by_numbers n p (slice_get body.pairs n) refl e
 
     pub at_named : (n : ℕ) (q : NumberPair) (p : Pair S) → slice_get body.pairs n ≡ Some q → Names body.states q p → pair_at body n ≡ Some p

@@ -2,3 +2,4 @@ pub mod Judging
 pub mod Refusals
 pub mod Least
 pub mod Steps
+pub mod Pass

@@ -1,14 +1,6 @@
 -- Internal. What a pass over the edges of one state finds.
-use Rattle.std.specs.Prelude.{ℕ, ◌≡◌, ◌<◌, List, length, Some, slice_get}
-use Rattle.std.specs.Global.{Vec}
-use Rattle.brl_edges.specs.Edges.{AreKeptEdges}
+use Rattle.std.specs.Prelude.{ℕ, ◌≡◌, ◌<◌, List, Some, slice_get}
 use Rattle.brl_edges.specs.declared.edge.Edge.{Edge}
-use Rattle.brl_pairs.specs.Runs.{Behaviour}
-
--- the edges of every state, in the order of the states
-pub record HasAllEdges {S : Type 0} (m : Behaviour S) (states : List S) (kept : List (Vec Edge)) : Type 0 where
-  pub count : length kept ≡ length states
-  pub each : AreKeptEdges m states kept
 
 -- an edge of this rule has the property
 pub record HasOfRule (Has : Edge → Type 0) (edges : List Edge) (rule : ℕ) : Type 0 where

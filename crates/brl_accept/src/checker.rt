@@ -1,16 +1,15 @@
 //! The checker of a machine's states and pairs.
 ghost use Rattle.std.specs.Prelude.{◌≡◌, ℕ, IfErr, IfOk, OnOk, length};
 ghost use Rattle.brl_accept.specs.Refusals.{HasStart, HasTwoEnds, IsRefused, MissesNoPair, MissesNoSplit, MissesNoState};
-ghost use Rattle.brl_accept.specs.Steps.{HasAllEdges};
 ghost use Rattle.brl_failure.specs.Failure.{IfFault};
 ghost use Rattle.brl_edges.specs.Sets.{sets_of};
 ghost use Rattle.brl_pairs.specs.Pairs.{IsClosed};
 ghost use Rattle.brl_pairs.specs.Runs.{IsUnambiguous, KeepsLaws};
 
 use crate::AcceptFault;
-use crate::edges::edges_of;
-use crate::missing::{has_two_ends_at, missing_pair_at, missing_split_at};
-use brl_edges::{Body, Edge};
+use crate::missing::has_two_ends_at;
+use crate::pass::find_missing;
+use brl_edges::Body;
 use brl_failure::Failure;
 use brl_pairs::{Machine, numbered_sets_law};
 use std::alloc::Global;
@@ -22,71 +21,32 @@ pub struct Accepted {
     pub pairs: u32,
 }
 
-/// The edges of all states, or the first step that leads to no state of the body.
-fn check_steps<M: Machine>(
+/// Checks that no state, no split and no pair is missing.
+fn check_missing<M: Machine>(
     alloc: Global,
     machine: &M,
     body: &Body<M::State>,
-) -> Result<Vec<Vec<Edge>>, Failure<AcceptFault>>
+) -> Result<(), Failure<AcceptFault>>
     requires laws { KeepsLaws (M.behaviour machine.now) }
     requires start { HasStart (M.behaviour machine.now) body.now }
-    ensures kept { IfOk result (λ kept. HasAllEdges (M.behaviour machine.now) body.now.states kept.items) }
-    ensures complete { OnOk result (MissesNoState (M.behaviour machine.now) body.now) }
+    ensures steps { OnOk result (MissesNoState (M.behaviour machine.now) body.now) }
+    ensures splits { OnOk result (MissesNoSplit (M.behaviour machine.now) body.now) }
+    ensures moves { OnOk result (MissesNoPair (M.behaviour machine.now) body.now) }
     ensures refused { IfErr result (IfFault (IsRefused (M.behaviour machine.now) body.now)) }
 {
-    let mut kept = Vec::new(alloc);
-    for number in 0..body.state_count() {
-        let edges = edges_of(alloc, machine, body, number as usize)?;
-        kept.push(edges)?;
+    let missing = find_missing(alloc, machine, body)?;
+    if let Some(split) = missing.split {
+        return Err(Failure::Fault(AcceptFault::SplitMissing {
+            state: split.state,
+            lesser: split.lesser,
+            greater: split.greater,
+        }));
     }
-    Ok(kept)
-}
-
-/// Checks that each pair into which steps of one state split is listed.
-fn check_splits<M: Machine>(
-    alloc: Global,
-    machine: &M,
-    body: &Body<M::State>,
-    kept: &[Vec<Edge>],
-) -> Result<(), Failure<AcceptFault>>
-    requires start { HasStart (M.behaviour machine.now) body.now }
-    requires steps { MissesNoState (M.behaviour machine.now) body.now }
-    requires kept { HasAllEdges (M.behaviour machine.now) body.now.states kept.now }
-    ensures complete { OnOk result (MissesNoSplit (M.behaviour machine.now) body.now) }
-    ensures refused { IfErr result (IfFault (IsRefused (M.behaviour machine.now) body.now)) }
-{
-    for number in 0..body.state_count() {
-        let missing = missing_split_at(alloc, machine, body, kept, number as usize)?;
-        if let Some((lesser, greater)) = missing {
-            return Err(Failure::Fault(AcceptFault::SplitMissing {
-                state: number,
-                lesser,
-                greater,
-            }));
-        }
-    }
-    Ok(())
-}
-
-/// Checks that each pair to which a step leads from one of the pairs is listed.
-fn check_moves<M: Machine>(
-    alloc: Global,
-    machine: &M,
-    body: &Body<M::State>,
-    kept: &[Vec<Edge>],
-) -> Result<(), Failure<AcceptFault>>
-    requires start { HasStart (M.behaviour machine.now) body.now }
-    requires steps { MissesNoState (M.behaviour machine.now) body.now }
-    requires splits { MissesNoSplit (M.behaviour machine.now) body.now }
-    requires kept { HasAllEdges (M.behaviour machine.now) body.now.states kept.now }
-    ensures complete { OnOk result (MissesNoPair (M.behaviour machine.now) body.now) }
-    ensures refused { IfErr result (IfFault (IsRefused (M.behaviour machine.now) body.now)) }
-{
-    for number in 0..body.pair_count() {
-        let missing = missing_pair_at(alloc, machine, body, kept, number as usize)?;
-        if let Some(rule) = missing {
-            return Err(Failure::Fault(AcceptFault::PairMissing { pair: number, rule }));
-        }
+    if let Some(least) = missing.pair {
+        return Err(Failure::Fault(AcceptFault::PairMissing {
+            pair: least.pair,
+            rule: least.rule,
+        }));
     }
     Ok(())
 }
@@ -108,7 +68,7 @@ fn check_ends<M: Machine>(machine: &M, body: &Body<M::State>) -> Result<(), Fail
     Ok(())
 }
 
-/// Checks that the states and pairs are closed, condition by condition.
+/// Checks that the states and pairs are closed.
 fn check<M: Machine>(
     alloc: Global,
     machine: &M,
@@ -120,9 +80,7 @@ fn check<M: Machine>(
     if !body.has_state(&machine.start()) {
         return Err(Failure::Fault(AcceptFault::NoStart));
     }
-    let kept = check_steps(alloc, machine, body)?;
-    check_splits(alloc, machine, body, kept.as_slice())?;
-    check_moves(alloc, machine, body, kept.as_slice())?;
+    check_missing(alloc, machine, body)?;
     check_ends(machine, body)
 }
 

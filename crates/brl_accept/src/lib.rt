@@ -6,11 +6,13 @@
 #![tactic(auto)]
 
 mod accept_fault;
+mod behind;
 mod checker;
 mod edges;
 mod judge_fault;
 mod judge_files;
 mod missing;
+mod pass;
 
 pub use accept_fault::AcceptFault;
 pub use checker::{Accepted, accept};

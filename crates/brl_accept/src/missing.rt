@@ -1,9 +1,10 @@
 //! The pairs that are missing from a body, found by the edges of one state at a time.
 ghost use Rattle.std.specs.Prelude.{◌≡◌, ◌<◌, ◌↔◌, [], IfOk, IsTrue, Some, length, slice_get};
 ghost use Rattle.brl_accept.specs.Least.{IsLeastFound, IsLeastPairFound, lesser_of};
-ghost use Rattle.brl_accept.specs.Refusals.{HasTwoEnds, MissesPair, MissesSplit};
-ghost use Rattle.brl_accept.specs.Steps.{HasAllEdges, HasBefore, HasOfRule, HasOfRules};
-ghost use Rattle.brl_edges.specs.Edges.{AreInOrder, HaveCells};
+ghost use Rattle.brl_accept.specs.Pass.{AreEdgesBehind, IsSplitFound};
+ghost use Rattle.brl_accept.specs.Refusals.{HasTwoEnds, MissesPair};
+ghost use Rattle.brl_accept.specs.Steps.{HasBefore, HasOfRule, HasOfRules};
+ghost use Rattle.brl_edges.specs.Edges.{AreEdges, AreInOrder, HaveCells};
 ghost use Rattle.brl_edges.specs.Pairs.{IsMissing};
 ghost use Rattle.brl_edges.specs.Places.{ArePlacesBefore};
 ghost use Rattle.brl_edges.specs.declared.edge.Edge.{Edge as EdgeValue};
@@ -12,6 +13,21 @@ use brl_cells::Cell;
 use brl_edges::{Body, Edge, Members, different_cells_law, edges_law, is_missing, places_before};
 use brl_pairs::{Machine, Pair};
 use std::alloc::{AllocError, Global};
+
+/// A state two of whose steps, of these rules, split into a pair that isn't listed.
+#[derive(Clone, Copy)]
+pub struct MissingSplit {
+    pub state: u32,
+    pub lesser: u32,
+    pub greater: u32,
+}
+
+/// A pair from which a step of this rule leads to one that isn't listed.
+#[derive(Clone, Copy)]
+pub struct MissingPair {
+    pub pair: u32,
+    pub rule: u32,
+}
 
 /// The least rule of the edges that lead the run behind to a missing pair. The other run is ahead
 /// by this lead, in the state with the number `ahead`.
@@ -103,39 +119,46 @@ fn missing_split(
     Ok(best)
 }
 
-/// The least rules of two steps from the state with this number that split into a missing pair.
+/// The least rules of two steps from the state with this number that split into a missing pair, by
+/// the edges of that state.
 pub fn missing_split_at<M: Machine>(
     alloc: Global,
     machine: &M,
     body: &Body<M::State>,
-    kept: &[Vec<Edge>],
-    number: usize,
-) -> Result<Option<(u32, u32)>, AllocError>
-    requires kept { HasAllEdges (M.behaviour machine.now) body.now.states kept.now }
-    requires number { number < length body.now.states }
-    ensures { IfOk result (IsLeastPairFound (MissesSplit (M.behaviour machine.now) body.now number)) }
+    edges: &[Edge],
+    state: u32,
+) -> Result<Option<MissingSplit>, AllocError>
+    requires edges { AreEdges (M.behaviour machine.now) body.now.states state edges.now }
+    ensures { IfOk result (IsSplitFound (M.behaviour machine.now) body.now state) }
 {
     edges_law(machine);
     body.law();
-    missing_split(alloc, body.pairs(), kept[number].as_slice())
+    let Some((lesser, greater)) = missing_split(alloc, body.pairs(), edges)? else {
+        return Ok(None);
+    };
+    Ok(Some(MissingSplit {
+        state,
+        lesser,
+        greater,
+    }))
 }
 
-/// The least rule of a step that leads from the pair with this number to a missing pair.
+/// The least rule of a step that leads from the pair with this number to a missing pair, by the
+/// edges of the state of its run behind.
 pub fn missing_pair_at<M: Machine>(
     alloc: Global,
     machine: &M,
     body: &Body<M::State>,
-    kept: &[Vec<Edge>],
+    edges: &[Edge],
     number: usize,
 ) -> Result<Option<u32>, AllocError>
-    requires kept { HasAllEdges (M.behaviour machine.now) body.now.states kept.now }
     requires number { number < length body.now.pairs }
+    requires edges { AreEdgesBehind (M.behaviour machine.now) body.now number edges.now }
     ensures { IfOk result (IsLeastFound (MissesPair (M.behaviour machine.now) body.now number)) }
 {
     edges_law(machine);
     body.law();
     let pair = &body.pairs().as_slice()[number];
-    let edges = kept[pair.behind as usize].as_slice();
     missing_pair(alloc, body.pairs(), pair.ahead, pair.lead.as_slice(), edges)
 }
 

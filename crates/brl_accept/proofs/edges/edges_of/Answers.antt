@@ -3,7 +3,7 @@ use Rattle.std.proofs.lemmas.Iterator.Consumers.{YieldsList-turn, YieldsList-end
 use Rattle.std.proofs.lemmas.Iterator.Adapters.{YieldsList-from_vec}
 use Rattle.brl_accept.specs.Refusals.{MissesState}
 use Rattle.brl_accept.proofs.MissingAt.{step_least}
-use Rattle.brl_accept.proofs.Kept.{edge_step, edges_all}
+use Rattle.brl_accept.proofs.EdgeSteps.{edge_step, edges_all}
 use Rattle.brl_accept.proofs.LeastLaws.{least_here}
 use Rattle.brl_accept.proofs.Lists.{length_push, read_at}
 use Rattle.brl_pairs.specs.Runs.{IsListedAt}

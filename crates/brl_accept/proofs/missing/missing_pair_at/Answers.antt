@@ -3,7 +3,7 @@ use Rattle.std.proofs.lemmas.Result.{IfOk-weaker}
 use Rattle.brl_accept.specs.Least.{IsLeastFound}
 use Rattle.brl_accept.specs.Steps.{HasOfRule}
 use Rattle.brl_accept.proofs.MissingAt.{move_at}
-use Rattle.brl_accept.proofs.Kept.{edges_read, range_read}
+use Rattle.brl_accept.proofs.Numbers.{range_read}
 use Rattle.brl_accept.proofs.Lists.{read_at}
 use Rattle.brl_edges.specs.Body.{NumberPair}
 use Rattle.brl_edges.specs.Pairs.{IsMissing}
@@ -13,9 +13,8 @@ pub missing_pair-requires : goal.missing_pair-requires
 missing_pair-requires g c =
     let a = c.args in
     let q = c.index-as_slice-number.result in
-    let range = range_read (length a.body.now.states) a.body.now.pairs c.as_slice.result.now (c.as_slice.ensures.members ∙ c.pairs.ensures) c.law.ensures.range.each_pair a.number c.requires.number q c.index-as_slice-number.is in
-    c.edges_law.ensures.in_order a.body.now.states q.behind c.as_slice-edges.result.now
-    (edges_read (g.M.Machine.behaviour a.machine.now) a.body.now.states a.kept.now c.requires.kept q.behind range.behind c.index-kept-pair.result c.index-kept-pair.is c.as_slice-edges.result.now c.as_slice-edges.ensures.value)
+    let q_at = read_at c.as_slice.result.now a.body.now.pairs a.number q (c.as_slice.ensures.members ∙ c.pairs.ensures) (omega (arith, c.requires.number, ap length c.as_slice.ensures.members, ap length c.pairs.ensures)) c.index-as_slice-number.is in
+    c.edges_law.ensures.in_order a.body.now.states q.behind a.edges.now (c.requires.edges q q_at)
 
 pub returns : goal.returns
 returns g c =
@@ -24,8 +23,7 @@ returns g c =
     let q = c.index-as_slice-number.result in
     let q_at = read_at c.as_slice.result.now a.body.now.pairs a.number q (c.as_slice.ensures.members ∙ c.pairs.ensures) (omega (arith, c.requires.number, ap length c.as_slice.ensures.members, ap length c.pairs.ensures)) c.index-as_slice-number.is in
     let range = range_read (length a.body.now.states) a.body.now.pairs c.as_slice.result.now (c.as_slice.ensures.members ∙ c.pairs.ensures) c.law.ensures.range.each_pair a.number c.requires.number q c.index-as_slice-number.is in
-    let edges = edges_read m a.body.now.states a.kept.now c.requires.kept q.behind range.behind c.index-kept-pair.result c.index-kept-pair.is c.as_slice-edges.result.now c.as_slice-edges.ensures.value in
     IfOk-weaker c.missing_pair.result _ _
-    (λ found least. move_at m a.body.now c.law.ensures.states a.number q q_at c.as_slice-edges.result.now edges range found
-    (subst (λ (lead : List ℕ). IsLeastFound (HasOfRule (IsMissing a.body.now.pairs q.ahead lead) c.as_slice-edges.result.now) found) c.as_slice-2.ensures least))
-    (subst (λ (pairs : List NumberPair). IfOk c.missing_pair.result (IsLeastFound (HasOfRule (IsMissing pairs q.ahead c.as_slice-2.result.now) c.as_slice-edges.result.now))) c.pairs-2.ensures c.missing_pair.ensures)
+    (λ found least. move_at m a.body.now c.law.ensures.states a.number q q_at a.edges.now (c.requires.edges q q_at) range found
+    (subst (λ (lead : List ℕ). IsLeastFound (HasOfRule (IsMissing a.body.now.pairs q.ahead lead) a.edges.now) found) c.as_slice-2.ensures least))
+    (subst (λ (pairs : List NumberPair). IfOk c.missing_pair.result (IsLeastFound (HasOfRule (IsMissing pairs q.ahead c.as_slice-2.result.now) a.edges.now))) c.pairs-2.ensures c.missing_pair.ensures)

@@ -1,30 +1,33 @@
-use Rattle.std.proofs.Common.{IfOk, List, subst}
-use Rattle.std.proofs.lemmas.Result.{IfOk-weaker}
+use Rattle.std.proofs.Common.{ℕ, List, Option, refl, subst}
 use Rattle.brl_accept.specs.Least.{IsLeastPairFound}
+use Rattle.brl_accept.specs.Refusals.{MissesSplit}
 use Rattle.brl_accept.specs.Steps.{HasOfRules}
+use Rattle.brl_accept.proofs.LeastLaws.{none_found_pair}
+use Rattle.brl_accept.proofs.MissingAt.{split_at}
 use Rattle.brl_edges.specs.Body.{NumberPair}
 use Rattle.brl_edges.specs.Pairs.{IsMissing}
-use Rattle.brl_accept.proofs.MissingAt.{split_at}
-use Rattle.brl_accept.proofs.Kept.{edges_read}
 use Rattle.brl_accept.proofs.missing.missing_split_at.Goals as goal
 
 pub missing_split-requires-clause-in_order : goal.missing_split-requires-clause-in_order
-missing_split-requires-clause-in_order g c =
-    let a = c.args in
-    c.edges_law.ensures.in_order a.body.now.states a.number c.as_slice.result.now
-    (edges_read (g.M.Machine.behaviour a.machine.now) a.body.now.states a.kept.now c.requires.kept a.number c.requires.number c.index-kept-number.result c.index-kept-number.is c.as_slice.result.now c.as_slice.ensures.value)
+missing_split-requires-clause-in_order g c = c.edges_law.ensures.in_order c.args.body.now.states c.args.state c.args.edges.now c.requires.edges
 
 pub missing_split-requires-clause-cells : goal.missing_split-requires-clause-cells
-missing_split-requires-clause-cells g c =
+missing_split-requires-clause-cells g c = c.edges_law.ensures.cells c.args.body.now.states c.args.state c.args.edges.now c.requires.edges
+
+pub returns-in_default : goal.returns-in_default
+returns-in_default g c =
     let a = c.args in
-    c.edges_law.ensures.cells a.body.now.states a.number c.as_slice.result.now
-    (edges_read (g.M.Machine.behaviour a.machine.now) a.body.now.states a.kept.now c.requires.kept a.number c.requires.number c.index-kept-number.result c.index-kept-number.is c.as_slice.result.now c.as_slice.ensures.value)
+    let m = g.M.Machine.behaviour a.machine.now in
+    let found = c.in_ok-lesser.field-0 in
+    let least = split_at m a.body.now c.law.ensures.states a.state a.edges.now c.requires.edges (c.edges_law.ensures.in_order a.body.now.states a.state a.edges.now c.requires.edges) found
+    (subst (λ (pairs : List NumberPair). IsLeastPairFound (HasOfRules (λ earlier. IsMissing pairs earlier.next earlier.cells) a.edges.now) found) c.pairs.ensures c.in_ok-lesser.ensures) in
+    none_found_pair (MissesSplit m a.body.now a.state) found c.in_default.not-Some least
 
 pub returns : goal.returns
 returns g c =
     let a = c.args in
     let m = g.M.Machine.behaviour a.machine.now in
-    let edges = edges_read m a.body.now.states a.kept.now c.requires.kept a.number c.requires.number c.index-kept-number.result c.index-kept-number.is c.as_slice.result.now c.as_slice.ensures.value in
-    IfOk-weaker c.missing_split.result _ _
-    (split_at m a.body.now c.law.ensures.states a.number c.as_slice.result.now edges (c.edges_law.ensures.in_order a.body.now.states a.number c.as_slice.result.now edges))
-    (subst (λ (pairs : List NumberPair). IfOk c.missing_split.result (IsLeastPairFound (HasOfRules (λ earlier. IsMissing pairs earlier.next earlier.cells) c.as_slice.result.now))) c.pairs.ensures c.missing_split.ensures)
+    let found = c.in_ok-lesser.field-0 in
+    let least = split_at m a.body.now c.law.ensures.states a.state a.edges.now c.requires.edges (c.edges_law.ensures.in_order a.body.now.states a.state a.edges.now c.requires.edges) found
+    (subst (λ (pairs : List NumberPair). IsLeastPairFound (HasOfRules (λ earlier. IsMissing pairs earlier.next earlier.cells) a.edges.now) found) c.pairs.ensures c.in_ok-lesser.ensures) in
+    (refl, subst (λ (o : Option (ℕ × ℕ)). IsLeastPairFound (MissesSplit m a.body.now a.state) o) c.in-Some.is least)
