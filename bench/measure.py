@@ -5,6 +5,7 @@ import subprocess
 import tempfile
 import threading
 from pathlib import Path
+from typing import NamedTuple
 
 TOP = Path(__file__).resolve().parent.parent
 
@@ -39,8 +40,19 @@ def tables(given: list[str], folder: str) -> list[tuple[str, str]]:
     return [*found, ("examples/mended.ctb", str(TOP / "examples" / "mended.ctb"))]
 
 
-def run(words: list[object]) -> tuple[float, str]:
-    """The processor seconds of a run, and the first line that it prints."""
+class Run(NamedTuple):
+    """What a run took, and the first line that it printed."""
+
+    seconds: float
+    megabytes: int
+    line: str
+
+    def __str__(self) -> str:
+        return f"{self.seconds:.3f} s, {self.megabytes} MB: {self.line}"
+
+
+def run(words: list[object]) -> Run:
+    """Runs a command, for MOST_SECONDS at most: its processor seconds, its memory, its first line."""
     with tempfile.TemporaryFile("w+") as out:
         started = subprocess.Popen([str(it) for it in words], stdout=out, stderr=subprocess.DEVNULL)
         watch = threading.Timer(MOST_SECONDS, started.kill)
@@ -50,13 +62,13 @@ def run(words: list[object]) -> tuple[float, str]:
         watch.cancel()
         out.seek(0)
         line = out.readline().rstrip("\n")
-    return used.ru_utime + used.ru_stime, line or f"no verdict, status {started.returncode}"
+    told = line or f"no verdict, status {started.returncode}"
+    return Run(used.ru_utime + used.ru_stime, used.ru_maxrss // 1024, told)
 
 
-def best(words: list[object]) -> str:
-    """The least processor seconds of three runs, with the first line of that run; a long run is not repeated."""
+def best(words: list[object]) -> Run:
+    """The run of three that took least; a long run is not repeated."""
     runs = [run(words)]
-    while len(runs) < 3 and runs[0][0] < 60:
+    while len(runs) < 3 and runs[0].seconds < 60:
         runs.append(run(words))
-    seconds, line = min(runs)
-    return f"{seconds:.3f} s: {line}"
+    return min(runs)
