@@ -57,7 +57,7 @@ before_or p q =
     below : (a b : ℕ) → b ≤ a → (a ≡ b → ⊥) → b < a
     below a b ge ne = elim (cases_eq a b) [ inl e ↦ absurd (ne e) | inr apart ↦ omega arith ]
 
-abbrev AtOrBehind : ℕ × ℕ → ℕ → ℕ → Type 0
+abbrev pub AtOrBehind : ℕ × ℕ → ℕ → ℕ → Type 0
 AtOrBehind p f s = (p.0 < f) ⊎ ((p.0 ≡ f) × (p.1 ≤ s))
 
 behind_too : (p q : ℕ × ℕ) → AtOrBehind p q.0 q.1 → (f s : ℕ) → AtOrBehind q f s → AtOrBehind p f s
@@ -66,6 +66,25 @@ behind_too p q h f s k =
       | inl lt ↦ elim k [ inl more ↦ inl (omega arith) | inr same ↦ inl (omega (arith, same.0)) ]
       | inr e ↦ elim k [ inl more ↦ inl (omega (arith, e.0)) | inr same ↦ inr (e.0 ∙ same.0, omega (arith, e.1, same.1)) ]
     ]
+
+pub at_or_behind : (p : ℕ × ℕ) (f s : ℕ) → p.0 ≤ f → p.1 ≤ s → AtOrBehind p f s
+at_or_behind p f s first second = elim (cases_eq p.0 f) [ inl same ↦ inr (same, second) | inr apart ↦ inl (omega (arith, first, apart)) ]
+
+-- each number of A is one of B, and each number of B has one of A that isn't above it: both have
+-- the same least
+pub least_of_more : (A B : ℕ → Type 0) → ((n : ℕ) → A n → B n) → ((n : ℕ) → B n → (k : ℕ) × A k × (k ≤ n)) → (found : Option ℕ) → IsLeastFound A found → IsLeastFound B found
+least_of_more A B within lesser None none = λ n h. (let k = lesser n h in none k.0 k.1)
+least_of_more A B within lesser (Some m) least = record {
+  has = within m least.has;
+  below_all = λ n h. (let k = lesser n h in omega (arith, least.below_all k.0 k.1, k.2));
+}
+
+pub least_of_more_pair : (A B : ℕ → ℕ → Type 0) → ((f s : ℕ) → A f s → B f s) → ((f s : ℕ) → B f s → (p : ℕ × ℕ) × A p.0 p.1 × AtOrBehind p f s) → (found : Option (ℕ × ℕ)) → IsLeastPairFound A found → IsLeastPairFound B found
+least_of_more_pair A B within lesser None none = λ f s h. (let p = lesser f s h in none p.0.0 p.0.1 p.1)
+least_of_more_pair A B within lesser (Some p) least = record {
+  has = within p.0 p.1 least.has;
+  before_all = λ f s h. (let q = lesser f s h in behind_too p q.0 (least.before_all q.0.0 q.0.1 q.1) f s q.2);
+}
 
 -- the least of two kinds together
 pub least_of_both : (A B : ℕ → ℕ → Type 0) (one other : Option (ℕ × ℕ)) → IsLeastPairFound A one → IsLeastPairFound B other → IsLeastPairFound (λ f s. A f s ⊎ B f s) (lesser_of one other)

@@ -2,6 +2,9 @@ pub mod Lists
 pub mod LeastLaws
 pub mod LeastRule
 pub mod LeastSplit
+pub mod MissingLaws
+pub mod FirstTwo
+pub mod KeptSteps
 pub mod Numbers
 pub mod EdgeSteps
 pub mod MissingAt

@@ -6,6 +6,10 @@ use Rattle.std.proofs.lemmas.Option.{slice_get_read}
 pub three_ways : (k l : ℕ) → (k < l) ⊎ ((k ≡ l) ⊎ (l < k))
 three_ways k l = grind arith
 
+-- of two places one is before the other
+pub either_way : (k l : ℕ) → (k ≡ l → ⊥) → (k < l) ⊎ (l < k)
+either_way k l apart = grind arith
+
 module _ {X : Type 0} where
   -- an element of the longer list is one of the list, or the last
   pub push_cases : (xs : List X) (x : X) (k : ℕ) (y : X) → slice_get (xs ++ x ∷ []) k ≡ Some y → (slice_get xs k ≡ Some y) ⊎ ((k ≡ length xs) × (x ≡ y))
@@ -16,6 +20,16 @@ module _ {X : Type 0} where
 
   pub length_push : (xs : List X) (x : X) → length (xs ++ x ∷ []) ≡ length xs + 1
   length_push xs x = length-append xs (x ∷ [])
+
+  -- the elements of the list are in the longer list at the same places, before the last
+  pub push_before : (xs : List X) (x : X) (k : ℕ) (y : X) → slice_get xs k ≡ Some y → slice_get (xs ++ x ∷ []) k ≡ Some y
+  push_before [] x k y at = cc
+  push_before (z ∷ xs) x zero y at = at
+  push_before (z ∷ xs) x (suc k) y at = push_before xs x k y at
+
+  pub push_last : (xs : List X) (x : X) → slice_get (xs ++ x ∷ []) (length xs) ≡ Some x
+  push_last [] x = refl
+  push_last (z ∷ xs) x = push_last xs x
 
   -- a place within the list has an element
   pub inside : (xs : List X) (k : ℕ) → k < length xs → (x : X) × (slice_get xs k ≡ Some x)

@@ -1,28 +1,24 @@
 -- What is missing at the state or the pair with a number is what is missing by its edges.
-use Rattle.std.proofs.Common.{◌≡◌, ◌≢◌, ℕ, ◌<◌, ◌≤◌, min, max, Bool, List, [], ◌∷◌, ◌++◌, ◌⊎◌, inl, inr, length, get_or, Option, Some, IsTrue, ◌↔◌, slice_get, refl, sym, ◌∙◌, ap, subst, arith}
-use Rattle.std.proofs.lemmas.List.{append-nil}
+use Rattle.std.proofs.Common.{◌≡◌, ℕ, ◌<◌, ◌≤◌, min, max, Bool, List, [], ◌++◌, inl, inr, length, get_or, Option, Some, IsTrue, ◌↔◌, slice_get, refl, sym, ◌∙◌, ap, subst, arith}
 use Rattle.brl_accept.specs.Least.{IsLeast, IsLeastFound, IsLeastPairFound}
 use Rattle.brl_accept.specs.Refusals.{HasTwoEnds, MissesPair, MissesSplit, MissesState}
 use Rattle.brl_accept.specs.Steps.{HasOfRule, HasOfRules}
 use Rattle.brl_members.specs.Members.{HaveOneNumber}
 use Rattle.brl_accept.proofs.LeastLaws.{same_least, same_least_pair}
-use Rattle.brl_accept.proofs.Lists.{inside, read_at, same_place, three_ways}
+use Rattle.brl_accept.proofs.Lists.{either_way, inside, read_at, same_place, three_ways}
+use Rattle.brl_accept.proofs.MissingLaws.{missing_other_order}
 use Rattle.brl_accept.proofs.Numbers.{at_named, edge_of, has_pair, is_there, names_at, runs, step_of}
 use Rattle.brl_edges.specs.Body.{BodyView, IsPairOf, NumberPair}
 use Rattle.brl_edges.specs.Sets.{pair_at, sets_of}
 use Rattle.brl_edges.specs.Edges.{AreEdges, AreFirstEdges, AreInOrder}
-use Rattle.brl_edges.specs.Pairs.{IsFollowed, IsMissing, IsThere}
+use Rattle.brl_edges.specs.Pairs.{IsFollowed, IsMissing}
 use Rattle.brl_edges.specs.declared.edge.Edge.{Edge}
-use Rattle.brl_pairs.specs.Pairs.{HasPair}
 use Rattle.brl_pairs.specs.Runs.{Behaviour, IsInOrder, IsListedAt}
 use Rattle.brl_pairs.specs.declared.step.Pair.{Pair}
 use Rattle.brl_pairs.specs.declared.step.Step.{Step}
 
 one_value : {X : Type 0} (o : Option X) (x y : X) → o ≡ Some x → o ≡ Some y → x ≡ y
 one_value o x y a b = cc
-
-either_way : (i j : ℕ) → i ≢ j → (i < j) ⊎ (j < i)
-either_way i j apart = grind arith
 
 in_order_of : (a b : ℕ) → a ≤ b → (min a b ≡ a) × (max a b ≡ b)
 in_order_of a b le = (grind arith, grind arith)
@@ -193,26 +189,6 @@ module _ {S : Type 0} where
             }
           ]
 
-      -- the longer edge is the later one: it gets ahead; where both have the same cells there is no
-      -- lead, and the pair is found in its other order
-      later_longer : (longer shorter : Edge) (p : Pair S) (lead : List ℕ) → p.lead ≡ lead → slice_get body.states longer.next ≡ Some p.ahead → slice_get body.states shorter.next ≡ Some p.behind
-          → longer.cells ≡ shorter.cells ++ lead → (HasPair (sets_of body) p → ⊥) → Missing shorter longer
-      later_longer longer shorter p [] no_lead ahead behind cells missing = inl (record {
-        rest = [];
-        longer = sym (append-nil shorter.cells) ∙ sym cells ∙ sym (append-nil longer.cells);
-        missing = λ there. missing (has_pair body longer.next shorter.next [] p ahead behind (sym no_lead) (other_order there));
-      })
-        where
-          other_order : IsThere body.pairs shorter.next longer.next [] → IsThere body.pairs longer.next shorter.next []
-          other_order (inl there) = inr (refl, there)
-          other_order (inr there) = inl there.1
-      later_longer longer shorter p (c ∷ cs) some ahead behind cells missing = inr (record {
-        rest = c ∷ cs;
-        some = (λ none. cc);
-        shorter = cells;
-        missing = λ there. missing (has_pair body longer.next shorter.next (c ∷ cs) p ahead behind (sym some) there);
-      })
-
       -- and the other way round
       from_split : (l g : ℕ) → MissesSplit m body k l g → HasOfRules Missing edges l g
       from_split l g f =
@@ -222,6 +198,11 @@ module _ {S : Type 0} where
           let ahead : slice_get body.states x.edge.next ≡ Some f.pair.ahead = x.is_edge.next ∙ ap (λ (z : S). Some z) (sym split.ahead) in
           let behind : slice_get body.states y.edge.next ≡ Some f.pair.behind = y.is_edge.next ∙ ap (λ (z : S). Some z) (sym split.behind) in
           let cells : x.edge.cells ≡ y.edge.cells ++ f.pair.lead = x.is_edge.cells ∙ split.lead ∙ ap (λ (z : List ℕ). z ++ f.pair.lead) (sym y.is_edge.cells) in
+          let gap : Missing x.edge y.edge = inl (record {
+            rest = f.pair.lead;
+            longer = cells;
+            missing = λ there. f.missing (has_pair body x.edge.next y.edge.next f.pair.lead f.pair ahead behind refl there);
+          }) in
           elim (either_way split.i split.j split.differ) [
             | inl less ↦
                 let ascend : x.edge.rule ≤ y.edge.rule = in_order split.i split.j x.edge y.edge less x.at y.at in
@@ -236,11 +217,7 @@ module _ {S : Type 0} where
                   later_at = y.at;
                   has_first = x.is_edge.rule ∙ sym (in_order_of split.longer.rule split.shorter.rule le).0 ∙ f.has_lesser;
                   has_second = y.is_edge.rule ∙ sym (in_order_of split.longer.rule split.shorter.rule le).1 ∙ f.has_greater;
-                  has = inl (record {
-                    rest = f.pair.lead;
-                    longer = cells;
-                    missing = λ there. f.missing (has_pair body x.edge.next y.edge.next f.pair.lead f.pair ahead behind refl there);
-                  });
+                  has = gap;
                 }
             | inr more ↦
                 let ascend : y.edge.rule ≤ x.edge.rule = in_order split.j split.i y.edge x.edge more y.at x.at in
@@ -255,7 +232,7 @@ module _ {S : Type 0} where
                   later_at = x.at;
                   has_first = y.is_edge.rule ∙ sym (in_other_order_of split.longer.rule split.shorter.rule le).0 ∙ f.has_lesser;
                   has_second = x.is_edge.rule ∙ sym (in_other_order_of split.longer.rule split.shorter.rule le).1 ∙ f.has_greater;
-                  has = later_longer x.edge y.edge f.pair f.pair.lead refl ahead behind cells f.missing;
+                  has = missing_other_order body.pairs x.edge y.edge gap;
                 }
           ]
 

@@ -2,4 +2,6 @@ pub mod Judging
 pub mod Refusals
 pub mod Least
 pub mod Steps
+pub mod Alike
+pub mod SameKind
 pub mod Pass

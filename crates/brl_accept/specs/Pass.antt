@@ -1,5 +1,6 @@
 -- Internal. What the pass over the states finds.
 use Rattle.std.specs.Prelude.{ℕ, ◌≡◌, ◌+◌, ◌<◌, ◌≤◌, List, length, Option, Some, MatchOption, slice_get}
+use Rattle.brl_accept.specs.Alike.{AreFirstTwoAt}
 use Rattle.brl_accept.specs.Least.{IsLeast, IsLeastFound, IsLeastPair}
 use Rattle.brl_accept.specs.Refusals.{MissesPair, MissesSplit}
 use Rattle.brl_accept.specs.declared.behind.PairsBehind.{PairsBehind}
@@ -7,7 +8,6 @@ use Rattle.brl_accept.specs.declared.missing.MissingPair.{MissingPair}
 use Rattle.brl_accept.specs.declared.missing.MissingSplit.{MissingSplit}
 use Rattle.brl_accept.specs.declared.pass.Missing.{Missing}
 use Rattle.brl_edges.specs.Body.{BodyView, NumberPair}
-use Rattle.brl_edges.specs.Edges.{AreEdges}
 use Rattle.brl_edges.specs.declared.edge.Edge.{Edge}
 use Rattle.brl_pairs.specs.Runs.{Behaviour}
 
@@ -34,9 +34,10 @@ pub record ArePairsBehind (states : ℕ) (pairs : List NumberPair) (behind : Pai
 -- ---- What is missing
 
 module _ {S : Type 0} (m : Behaviour S) (body : BodyView S) where
-  -- these are the edges of the state of the run behind of the pair with this number
-  abbrev pub AreEdgesBehind : ℕ → List Edge → Type 0
-  AreEdgesBehind number edges = (pair : NumberPair) → slice_get body.pairs number ≡ Some pair → AreEdges m body.states pair.behind edges
+  -- these are the first two of each kind, and maybe more, of the edges of the state of the run
+  -- behind of the pair with this number
+  abbrev pub AreFirstTwoBehind : ℕ → List Edge → Type 0
+  AreFirstTwoBehind number edges = (pair : NumberPair) → slice_get body.pairs number ≡ Some pair → AreFirstTwoAt m body.states pair.behind edges
 
   -- the least rules of two steps from the state with this number that split into a pair that isn't
   -- listed

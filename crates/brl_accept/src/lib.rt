@@ -6,6 +6,7 @@
 #![tactic(auto)]
 
 mod accept_fault;
+mod alike;
 mod behind;
 mod checker;
 mod edges;

@@ -1,10 +1,11 @@
 //! The pairs that are missing from a body, found by the edges of one state at a time.
 ghost use Rattle.std.specs.Prelude.{◌≡◌, ◌<◌, ◌↔◌, [], IfOk, IsTrue, Some, length, slice_get};
+ghost use Rattle.brl_accept.specs.Alike.{AreFirstTwoAt};
 ghost use Rattle.brl_accept.specs.Least.{IsLeastFound, IsLeastPairFound, lesser_of};
-ghost use Rattle.brl_accept.specs.Pass.{AreEdgesBehind, IsSplitFound};
+ghost use Rattle.brl_accept.specs.Pass.{AreFirstTwoBehind, IsSplitFound};
 ghost use Rattle.brl_accept.specs.Refusals.{HasTwoEnds, MissesPair};
 ghost use Rattle.brl_accept.specs.Steps.{HasBefore, HasOfRule, HasOfRules};
-ghost use Rattle.brl_edges.specs.Edges.{AreEdges, AreInOrder, HaveCells};
+ghost use Rattle.brl_edges.specs.Edges.{AreInOrder, HaveCells};
 ghost use Rattle.brl_edges.specs.Pairs.{IsMissing};
 ghost use Rattle.brl_edges.specs.Places.{ArePlacesBefore};
 ghost use Rattle.brl_edges.specs.declared.edge.Edge.{Edge as EdgeValue};
@@ -120,7 +121,7 @@ fn missing_split(
 }
 
 /// The least rules of two steps from the state with this number that split into a missing pair, by
-/// the edges of that state.
+/// the first two edges of each kind of that state.
 pub fn missing_split_at<M: Machine>(
     alloc: Global,
     machine: &M,
@@ -128,7 +129,7 @@ pub fn missing_split_at<M: Machine>(
     edges: &[Edge],
     state: u32,
 ) -> Result<Option<MissingSplit>, AllocError>
-    requires edges { AreEdges (M.behaviour machine.now) body.now.states state edges.now }
+    requires edges { AreFirstTwoAt (M.behaviour machine.now) body.now.states state edges.now }
     ensures { IfOk result (IsSplitFound (M.behaviour machine.now) body.now state) }
 {
     edges_law(machine);
@@ -144,7 +145,7 @@ pub fn missing_split_at<M: Machine>(
 }
 
 /// The least rule of a step that leads from the pair with this number to a missing pair, by the
-/// edges of the state of its run behind.
+/// first two edges of each kind of the state of its run behind.
 pub fn missing_pair_at<M: Machine>(
     alloc: Global,
     machine: &M,
@@ -153,7 +154,7 @@ pub fn missing_pair_at<M: Machine>(
     number: usize,
 ) -> Result<Option<u32>, AllocError>
     requires number { number < length body.now.pairs }
-    requires edges { AreEdgesBehind (M.behaviour machine.now) body.now number edges.now }
+    requires edges { AreFirstTwoBehind (M.behaviour machine.now) body.now number edges.now }
     ensures { IfOk result (IsLeastFound (MissesPair (M.behaviour machine.now) body.now number)) }
 {
     edges_law(machine);

@@ -1,12 +1,13 @@
 //! The pass over the states, with the edges of one state at a time.
 ghost use Rattle.std.specs.Prelude.{◌+◌, ◌<◌, ◌↔◌, IfErr, IfOk, IsTrue, MatchOption, OnOk, length};
+ghost use Rattle.brl_accept.specs.Alike.{AreFirstTwoAt};
 ghost use Rattle.brl_accept.specs.Pass.{ArePairsBehind, IsMissingBelow, IsPairFound};
 ghost use Rattle.brl_accept.specs.Refusals.{HasStart, IsRefused, MissesNoState};
-ghost use Rattle.brl_edges.specs.Edges.{AreEdges};
 ghost use Rattle.brl_failure.specs.Failure.{IfFault};
 ghost use Rattle.brl_pairs.specs.Runs.{KeepsLaws};
 
 use crate::AcceptFault;
+use crate::alike::first_two_alike;
 use crate::behind::{PairsBehind, pairs_behind};
 use crate::edges::edges_of;
 use crate::missing::{MissingPair, MissingSplit, missing_pair_at, missing_split_at};
@@ -46,7 +47,7 @@ fn missing_pair_after<M: Machine>(
 ) -> Result<Option<MissingPair>, AllocError>
     requires behind { ArePairsBehind (length body.now.states) body.now.pairs behind.now }
     requires within { state < length body.now.states }
-    requires edges { AreEdges (M.behaviour machine.now) body.now.states state edges.now }
+    requires edges { AreFirstTwoAt (M.behaviour machine.now) body.now.states state edges.now }
     requires least { IsPairFound (M.behaviour machine.now) body.now state least }
     ensures { IfOk result (IsPairFound (M.behaviour machine.now) body.now (state + 1)) }
 {
@@ -77,7 +78,7 @@ fn missing_after<M: Machine>(
 ) -> Result<Missing, AllocError>
     requires behind { ArePairsBehind (length body.now.states) body.now.pairs behind.now }
     requires within { state < length body.now.states }
-    requires edges { AreEdges (M.behaviour machine.now) body.now.states state edges.now }
+    requires edges { AreFirstTwoAt (M.behaviour machine.now) body.now.states state edges.now }
     requires missing { IsMissingBelow (M.behaviour machine.now) body.now state missing }
     ensures { IfOk result (IsMissingBelow (M.behaviour machine.now) body.now (state + 1)) }
 {
@@ -112,12 +113,13 @@ pub fn find_missing<M: Machine>(
     };
     for state in 0..body.state_count() {
         let edges = edges_of(alloc, machine, body, state as usize)?;
+        let kept = first_two_alike(alloc, edges)?;
         missing = missing_after(
             alloc,
             machine,
             body,
             &behind,
-            edges.as_slice(),
+            kept.as_slice(),
             state,
             missing,
         )?;
