@@ -167,14 +167,17 @@ fn next_slice<'m>(
 
 /// How far a search is, in words.
 fn told_of_progress(alloc: Global, progress: &Progress<Dues>) -> Result<String, AllocError> {
-    let (word, states, pairs) = match progress {
-        Progress::Unfinished(search) => ("unfinished", search.state_count(), search.pair_count()),
-        Progress::Finished(Outcome::Closed(body)) => {
-            ("closed", body.state_count(), body.pair_count())
+    match progress {
+        Progress::Unfinished(search) => {
+            let (states, pairs) = (search.state_count(), search.pair_count());
+            format!(in alloc; "unfinished: {states} states, {pairs} pairs")
         }
-        Progress::Finished(_) => ("not closed", 0, 0),
-    };
-    format!(in alloc; "{word}: {states} states, {pairs} pairs")
+        Progress::Finished(Outcome::Closed(body)) => {
+            let (states, pairs) = (body.state_count(), body.pair_count());
+            format!(in alloc; "closed: {states} states, {pairs} pairs")
+        }
+        Progress::Finished(_) => String::from_str(alloc, "not closed"),
+    }
 }
 
 /// How far a search of this machine is after two slices of so many steps.
