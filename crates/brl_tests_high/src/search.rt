@@ -154,7 +154,7 @@ fn the_start_is_more_than_none(rt: HostRuntime) -> Result<(), Fail> {
     Ok(())
 }
 
-/// The search after so many more steps, if it isn't finished.
+/// The search after `steps` more steps, if it isn't finished.
 fn next_slice<'m>(
     progress: Progress<'m, Dues<'m>>,
     steps: u64,
@@ -180,31 +180,37 @@ fn told_of_progress(alloc: Global, progress: &Progress<Dues>) -> Result<String, 
     }
 }
 
-/// How far a search of this machine is after two slices of so many steps.
-fn told_after(alloc: Global, dues: &Dues, first: u64, second: u64) -> Result<String, AllocError> {
+/// How far a search of this machine is after a slice of `first` steps and one of `second`.
+fn progress_after(
+    alloc: Global,
+    dues: &Dues,
+    first: u64,
+    second: u64,
+) -> Result<String, AllocError> {
     let start = Search::start(alloc, dues, 1_000_000)?;
     let progress = next_slice(next_slice(start, first)?, second)?;
     told_of_progress(alloc, &progress)
 }
 
-/// Whether a search of the table of these lines is as far after two slices of so many steps.
-fn is_so_far(
+/// Whether what is told of a search of the table after two slices, of `first` steps and of `second`,
+/// begins with `want`.
+fn comes_to(
     alloc: Global,
     table: &Table,
     first: u64,
     second: u64,
     want: &str,
 ) -> Result<bool, AllocError> {
-    let told = told_after(alloc, &Dues::new(alloc, table), first, second)?;
+    let told = progress_after(alloc, &Dues::new(alloc, table), first, second)?;
     Ok(told.as_str().starts_with(want))
 }
 
 /// Whether a search of the table runs in slices.
 fn runs_in_slices(alloc: Global, table: &Table) -> Result<bool, AllocError> {
     Ok(
-        is_so_far(alloc, table, 0, 0, "unfinished: 1 states, 0 pairs")?
-            && is_so_far(alloc, table, 1, 0, "unfinished")?
-            && is_so_far(alloc, table, 1, u64::MAX, "closed: 3 states, 1 pairs")?,
+        comes_to(alloc, table, 0, 0, "unfinished: 1 states, 0 pairs")?
+            && comes_to(alloc, table, 1, 0, "unfinished")?
+            && comes_to(alloc, table, 1, u64::MAX, "closed: 3 states, 1 pairs")?,
     )
 }
 

@@ -96,7 +96,7 @@ const MOVES: &str = "\
 0|0|0
 ";
 
-/// The lines of a table of so many characters, a blank and letters, with a rule of so many times `a`.
+/// The lines of a table of a blank and letters, `characters` in all, with a rule of `rule` times `a`.
 fn lines_of_table(alloc: Global, characters: u32, rule: usize) -> Result<String, Fail> {
     let mut lines = String::from_str(alloc, "#")?;
     for number in 0..characters {

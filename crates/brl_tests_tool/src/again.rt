@@ -49,9 +49,15 @@ fn marked_outcome<R: Files>(
     })
 }
 
+/// Whether a run says that memory ran out in it: with nothing written where it did so while the words
+/// were read, which may then be a use fault.
+fn is_out_of_memory(outcome: &Outcome) -> bool {
+    outcome.status == 3 || outcome.status == 2 && outcome.out.is_empty()
+}
+
 /// Whether a run has its answer, or memory ran out in it.
 fn may_be(alloc: Global, outcome: &Outcome, fields: &str) -> Result<bool, Fail> {
-    Ok(outcome.status == 3 || outcome.out.is_empty() || outcome.is_told(alloc, fields)?)
+    Ok(is_out_of_memory(outcome) || outcome.is_told(alloc, fields)?)
 }
 
 /// Whether a run over files has its answer, or memory runs out in it; and whether it has its answer

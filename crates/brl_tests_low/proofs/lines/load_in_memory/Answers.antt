@@ -10,15 +10,15 @@ use Rattle.brl_lines.specs.Views.{load_fault_view}
 use Rattle.brl_lines.specs.declared.fault.LoadFault.{LoadFault}
 use Rattle.brl_tests_low.proofs.lines.load_in_memory.Goals as goal
 
--- what is told of lists of lines is told of the lines of what was loaded
-told_of_loaded : (gives : MayGive) (root : List ℕ) (want : Result (List LineView) Refusal)
+-- where a loading of lines gives an answer, so does one that gives its paths too
+gives_lines_of_loaded : (gives : MayGive) (root : List ℕ) (want : Result (List LineView) Refusal)
     → ((outcome : Result (List LineView) (Failure LoadFault)) → IfOk outcome (AreLinesOf gives root) → IfErr outcome (IsLoadFault gives root)
     → GivesAs (λ lines. lines) load_fault_view want outcome)
     → (outcome : Result LoadedView (Failure LoadFault))
     → IfOk outcome (λ loaded. AreLinesOfFiles gives root loaded.paths loaded.lines) → IfErr outcome (IsLoadFault gives root)
     → GivesAs (λ loaded. loaded.lines) load_fault_view want outcome
-told_of_loaded gives root want told (Ok loaded) found fault = told (Ok loaded.lines) (found.0, found.1, found.3) tt
-told_of_loaded gives root want told (Err failure) found fault = told (Err failure) tt fault
+gives_lines_of_loaded gives root want told (Ok loaded) found fault = told (Ok loaded.lines) (found.0, found.1, found.3) tt
+gives_lines_of_loaded gives root want told (Err failure) found fault = told (Err failure) tt fault
 
 pub returns : goal.returns
-returns c = told_of_loaded _ _ _ (c.files_in_memory_law.ensures.told c.args.root.now) c.load.result c.load.ensures.lines c.load.ensures.fault
+returns c = gives_lines_of_loaded _ _ _ (c.files_in_memory_law.ensures.told c.args.root.now) c.load.result c.load.ensures.lines c.load.ensures.fault
