@@ -379,7 +379,7 @@ holds() {
     printf "$2" | cmp -s - "$1" || fail "$3" "$1: $(head -c 300 "$1")"
     echo "ok: $3"
 }
-two='BRLCERT 2\nstate 1 0\nstate 8 0\nend 2 0\n'
+two='BRLCERT 3\nstate 1 0 0\nstate 8 0 0\nend 2 0\n'
 found='certified: 2 states, 0 pairs\n'
 
 # Files of the table are refused for its certificate, whatever they are called.

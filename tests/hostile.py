@@ -44,8 +44,8 @@ APART = ALIKE + "always ab 14\n"
 WORD = "space \\s 0\nletter b 12\nletter u 136\nletter t 2345\nword but 12\nword b 56-12\n"
 NUMBERS = "letter a 1\nlitdigit 1 1\nnumsign 3456\nnocontractsign 56\nnumericnocontchars a\n"
 LARGE = WORD + NUMBERS + "uplow Éé 123456\nletter q 1\n"
-EMPTY_CERT = "BRLCERT 2\nstate 1 0\nend 1 0\n"
-TWO_CERT = "BRLCERT 2\nstate 1 0\nstate 8 0\nend 2 0\n"
+EMPTY_CERT = "BRLCERT 3\nstate 1 0 0\nend 1 0\n"
+TWO_CERT = "BRLCERT 3\nstate 1 0 0\nstate 8 0 0\nend 2 0\n"
 APART_CERT = "BRLCERT 2\nstate 1 0\nstate 8 0\nstate 8 0 b62*\npair 1 2 12\nend 3 1\n"
 LETTER_CERT = "BRLCERT 1\nstate 1 0 0 -\nstate 8 0 0 61\nstate 8 0 1 -\npair 1 2 -\nend 3 1\n"
 REPORT = """\
@@ -200,10 +200,10 @@ RUNS = [
     search("an empty table is searched", "", "certified: 1 states, 0 pairs\n", written=EMPTY_CERT),
     search("a table of two letters is searched", TWO, "certified: 2 states, 0 pairs\n", written=TWO_CERT),
     search("a clash is found", ALIKE, "left: ", 1),
-    search("a table with a word rule is searched", WORD, "certified: ", written="BRLCERT 2\n"),
-    search("a table with numbers is searched", NUMBERS, "certified: ", written="BRLCERT 2\n"),
+    search("a table with a word rule is searched", WORD, "certified: ", written="BRLCERT 3\n"),
+    search("a table with numbers is searched", NUMBERS, "certified: ", written="BRLCERT 3\n"),
     search("a table with a notice is searched", "letter a 1\nletter a 12\n", "certified: 2 states, 0 pairs\n",
-           err="notice DefinedAgain a at t.ctb:2\n", written="BRLCERT 2\n"),
+           err="notice DefinedAgain a at t.ctb:2\n", written="BRLCERT 3\n"),
     Run("a limit is passed", ["search", "--limit", "1", "t.ctb", "o"], {"t.ctb": TWO}, "limit: 2 states, 0 pairs\n", 3),
     check("an empty table's certificate is accepted", "", EMPTY_CERT, "accepted: 1 states, 0 pairs\n", 0),
     check("a certificate of version 1 is accepted", "letter a 1\n", LETTER_CERT, "accepted: 3 states, 1 pairs\n", 0),

@@ -8,7 +8,7 @@ use Rattle.brl_accept.specs.declared.judge_fault.JudgeFault.TheVariants.{NoTable
 use Rattle.brl_accept.proofs.Closing.{open_where_refused}
 use Rattle.brl_kinds.specs.Kinds.{IsClosedFor, OfMachine}
 use Rattle.brl_cert.specs.Reading.{reading}
-use Rattle.brl_kinds.specs.declared.cert.Cert.TheVariants.{Dues, Window}
+use Rattle.brl_kinds.specs.declared.cert.Cert.TheVariants.{Dues, Window, Word}
 use Rattle.brl_kinds.specs.declared.cert.Cert.{Cert as Certificate}
 use Rattle.brl_cert.specs.declared.fault.CertFault.{CertFault}
 use Rattle.brl_failure.specs.Failure.{IfFault}
@@ -38,6 +38,7 @@ no_cert bytes wrong cert e f = cc
 not_closed : (t : TableView) (cert : Certificate) (fault : AcceptFault) → OfMachine (IsNotClosed fault) t cert → IsClosedFor t cert → ⊥
 not_closed t (Window body) fault h closed = open_where_refused (window_machine t) body fault h closed
 not_closed t (Dues body) fault h closed = open_where_refused (dues_machine t) body fault h closed
+not_closed t (Word body) fault h closed = open_where_refused (dues_machine t) body fault h closed
 
 not_accepted_with : (t : TableView) (cert : Certificate) (fault : JudgeFault) → IsRefusedWith t cert fault → (accepted : Accepted) → IsAcceptedWith t cert accepted → ⊥
 not_accepted_with t cert (NoTable fault) h accepted is = h

@@ -37,15 +37,15 @@ fn judge_windows(
     raise(accept(alloc, &window, body), JudgeFault::Refused)
 }
 
-/// Judges the states and pairs of a certificate of version 2 for a table.
+/// Judges the states and pairs of a certificate of version 2 or 3 for a table.
 fn judge_dues(
     alloc: Global,
     table: &Table,
     body: &Body<DuesState>,
 ) -> Result<Accepted, Failure<JudgeFault>>
     ensures unambiguous { OnOk result (IsUnambiguous table.now) }
-    ensures accepted { IfOk result (IsAcceptedWith table.now (Cert.Dues body.now)) }
-    ensures refused { IfErr result (IfFault (IsRefusedWith table.now (Cert.Dues body.now))) }
+    ensures accepted { IfOk result (IsAcceptedWith table.now (Cert.Word body.now)) }
+    ensures refused { IfErr result (IfFault (IsRefusedWith table.now (Cert.Word body.now))) }
 {
     let dues = Dues::new(alloc, table);
     raise(accept(alloc, &dues, body), JudgeFault::Refused)
@@ -58,8 +58,9 @@ fn judge_table(alloc: Global, table: &Table, cert: &[u8]) -> Result<Accepted, Fa
     ensures refused { IfErr result (IfFault (IsRefusedFor table.now cert.now)) }
 {
     match raise(read_cert(alloc, cert), JudgeFault::Cert)? {
-        Cert::Window(body) => judge_windows(alloc, table, &body),
-        Cert::Dues(body) => judge_dues(alloc, table, &body),
+        Cert::Window(runless) => judge_windows(alloc, table, runless.body()),
+        Cert::Dues(runless) => judge_dues(alloc, table, runless.body()),
+        Cert::Word(body) => judge_dues(alloc, table, &body),
     }
 }
 

@@ -1,5 +1,5 @@
--- States of version 2 are read back from their spelling.
-use Rattle.std.proofs.Common.{◌≡◌, ℕ, ◌<◌, ◌≤◌, Bool, true, false, cond, eqb, List, [], ◌∷◌, ◌++◌, map, Option, Some, None, refl, ap, ◌∙◌, arith, IsTrue}
+-- States of versions 2 and 3 are read back from their spelling.
+use Rattle.std.proofs.Common.{◌≡◌, ℕ, ◌<◌, ◌≤◌, Bool, true, false, cond, eqb, List, [], ◌∷◌, ◌++◌, map, Option, Some, None, refl, sym, ap, ◌∙◌, arith, IsTrue}
 use Rattle.std.specs.Bool.{Decides}
 use Rattle.std.specs.Cmp.Lexicographic.{lists_equiv}
 use Rattle.std.specs.Fmt.{decimal, digits}
@@ -16,9 +16,9 @@ use Rattle.brl_dues.specs.SameState.{same_states}
 use Rattle.brl_dues.specs.declared.due.Due.{Due}
 use Rattle.brl_dues.specs.declared.due.Due.TheVariants.{Need, Bar}
 use Rattle.brl_dues.specs.declared.state.DuesState.{DuesState}
-use Rattle.brl_cert.specs.Dues.{dues_fields, lenient_any, lenient_due, lenient_dues, lenient_head, lenient_parts, lenient_set, or_else, dues_format, spelled_cond, spelled_due}
-use Rattle.brl_cert.specs.Fields.{◌>>=◌, character, each, is_char, lenient_char}
-use Rattle.brl_cert.specs.Valid.{HasSet, IsDue, IsDuesState}
+use Rattle.brl_cert.specs.Dues.{dues_fields, lenient_any, lenient_due, lenient_dues, lenient_head, lenient_parts, lenient_set, lenient_state, lenient_word, or_else, dues_format, spelled_cond, spelled_due, word_fields, word_format}
+use Rattle.brl_cert.specs.Fields.{◌>>=◌, character, each, flag, is_char, lenient_char, number}
+use Rattle.brl_cert.specs.Valid.{HasSet, IsDue, IsDuesState, IsRunless}
 use Rattle.brl_cert.proofs.FieldLaws.{IsAbove, Reads, above_append, above_joined, all_above, each_again, each_char, flag_reads, lower, number_reads, split_joined}
 use Rattle.brl_cert.proofs.Again.{KeepsStates}
 use Rattle.brl_cert.proofs.Window.{decides, flag_itself, flips}
@@ -137,11 +137,19 @@ dues-again : (dues : List Due) → AllByRecursion Fine dues → each lenient_due
 dues-again [] h = refl
 dues-again (d ∷ dues) h = rw (due-again d h.0.due h.0.proper, dues-again dues h.1) refl
 
-owing-again : ((dues : List Due) → AreDues dues → in_order dues ≡ dues) → (s : DuesState) → IsDuesState s → lenient_dues (dues_fields s) ≡ Some s
-owing-again law s h =
-    let b = number_reads 255 s.before.0 (omega (arith, h.before)) (omega (arith, h.before)) in
-    let fine = each-Fine s.dues (recursion_from_All IsDue s.dues h.each) (recursion_from_All (λ d. IsTrue (is_proper d)) s.dues h.kept.proper) in
-    rw (b.again, (flag_reads s.numeric).again, dues-again s.dues fine) (ap (λ (dues : List Due). Some (record s { dues = dues })) (law s.dues h.kept))
+module _ (law : (dues : List Due) → AreDues dues → in_order dues ≡ dues) where
+  state-again : (s : DuesState) → IsDuesState s → lenient_state ((number 255).spell s.before.0) (flag.spell s.numeric) s.run (map spelled_due s.dues) ≡ Some s
+  state-again s h =
+      let b = number_reads 255 s.before.0 (omega (arith, h.before)) (omega (arith, h.before)) in
+      let fine = each-Fine s.dues (recursion_from_All IsDue s.dues h.each) (recursion_from_All (λ d. IsTrue (is_proper d)) s.dues h.kept.proper) in
+      rw (b.again, (flag_reads s.numeric).again, dues-again s.dues fine) (ap (λ (dues : List Due). Some (record s { dues = dues })) (law s.dues h.kept))
+
+  owing-again : (s : DuesState) → IsRunless IsDuesState (λ z. z.run) s → lenient_dues (dues_fields s) ≡ Some s
+  owing-again s h =
+      ap (λ (run : Bool). lenient_state ((number 255).spell s.before.0) (flag.spell s.numeric) run (map spelled_due s.dues)) (sym h.1) ∙ state-again s h.0
+
+  word-again : (s : DuesState) → IsDuesState s → lenient_word (word_fields s) ≡ Some s
+  word-again s h = rw ((flag_reads s.run).again) (state-again s h)
 
 cond-above : (cond : Cond) → HasSet cond → IsAbove 32 (spelled_cond cond)
 cond-above Any h = (omega arith, tt)
@@ -163,13 +171,21 @@ owing-plain s h =
     let b = number_reads 255 s.before.0 (omega (arith, h.before)) (omega (arith, h.before)) in
     (lower 32 47 (omega arith) _ b.above, (lower 32 47 (omega arith) _ (flag_reads s.numeric).above, dues-above s.dues (recursion_from_All IsDue s.dues h.each)))
 
+word-plain : (s : DuesState) → IsDuesState s → AllByRecursion (IsAbove 32) (word_fields s)
+word-plain s h =
+    let rest = owing-plain s h in
+    (rest.0, (rest.1.0, (lower 32 47 (omega arith) _ (flag_reads s.run).above, rest.1.1)))
+
 -- ---- States that are equal
 
 same-state : (s : DuesState) → dues_format.same s s ≡ true
-same-state s = rw ((Decides-eqb s.before.0 s.before.0).1 refl, flag_itself s.numeric) ((lists_equiv dues_equiv).refl s.dues)
+same-state s = rw ((Decides-eqb s.before.0 s.before.0).1 refl, flag_itself s.numeric, flag_itself s.run) ((lists_equiv dues_equiv).refl s.dues)
 
 pub DuesState-Decides : (s t : DuesState) → Decides (dues_format.same s t) (s ≡ t)
 DuesState-Decides = decides dues_format.same same_states same-state
 
-pub keeps_owing : ((dues : List Due) → AreDues dues → in_order dues ≡ dues) → KeepsStates dues_format IsDuesState
-keeps_owing law = record { again = owing-again law; plain = owing-plain; flips = flips dues_format.same DuesState-Decides }
+pub keeps_owing : ((dues : List Due) → AreDues dues → in_order dues ≡ dues) → KeepsStates dues_format (IsRunless IsDuesState (λ s. s.run))
+keeps_owing law = record { again = owing-again law; plain = λ s h. owing-plain s h.0; flips = flips dues_format.same DuesState-Decides }
+
+pub keeps_word : ((dues : List Due) → AreDues dues → in_order dues ≡ dues) → KeepsStates word_format IsDuesState
+keeps_word law = record { again = word-again law; plain = word-plain; flips = flips dues_format.same DuesState-Decides }

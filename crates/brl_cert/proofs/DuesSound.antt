@@ -1,5 +1,5 @@
--- A state of version 2 that is read is in range, and its dues are in order.
-use Rattle.std.proofs.Common.{◌≡◌, ◌⊎◌, inl, inr, ℕ, ◌<◌, ◌≤◌, Bool, true, false, cond, eqb, All, List, [], ◌∷◌, length, Option, Some, None, ◌↔◌, subst, arith, IsTrue}
+-- A state of version 2 or 3 that is read is in range, and its dues are in order.
+use Rattle.std.proofs.Common.{◌≡◌, ◌⊎◌, inl, inr, ℕ, ◌<◌, ◌≤◌, Bool, true, false, cond, eqb, All, List, [], ◌∷◌, length, Option, Some, None, ◌↔◌, refl, subst, arith, IsTrue}
 use Rattle.std.specs.List.{AllByRecursion, Contains, slice_split}
 use Rattle.std.proofs.lemmas.List.Elements.{All-contains, All-contains_itself, All-from_recursion, All-weaker}
 use Rattle.brl_table.specs.declared.class.Class.{Class}
@@ -9,9 +9,9 @@ use Rattle.brl_dues.specs.Order.{AreDues, in_order, is_proper}
 use Rattle.brl_dues.specs.declared.due.Due.{Due}
 use Rattle.brl_dues.specs.declared.due.Due.TheVariants.{Need, Bar}
 use Rattle.brl_dues.specs.declared.state.DuesState.{DuesState}
-use Rattle.brl_cert.specs.Dues.{lenient_any, lenient_due, lenient_dues, lenient_head, lenient_parts, lenient_set, or_else, dues_format}
+use Rattle.brl_cert.specs.Dues.{lenient_any, lenient_due, lenient_dues, lenient_head, lenient_parts, lenient_set, lenient_state, lenient_word, or_else, dues_format, word_format}
 use Rattle.brl_cert.specs.Fields.{◌>>=◌, each, flag, lenient_char, number}
-use Rattle.brl_cert.specs.Valid.{HasSet, IsDue, IsDuesState}
+use Rattle.brl_cert.specs.Valid.{HasSet, IsDue, IsDuesState, IsRunless}
 use Rattle.brl_cert.proofs.DuesLaws.{DuesState-Decides, Fine}
 use Rattle.brl_cert.proofs.Sound.{ReadsStates, each_valid, equal_from_decides, lenient_number-small, some_if, then_some}
 
@@ -95,17 +95,32 @@ module _ (order : KeepsOrder) where
   in_order_kept : (dues : List Due) → All Fine dues → AreDues (in_order dues)
   in_order_kept dues fine = order.made dues (All-weaker Fine (λ d. IsTrue (is_proper d)) (λ d h. h.proper) dues fine)
 
-  owing_valid : (fields : List (List ℕ)) (s : DuesState) → lenient_dues fields ≡ Some s → IsDuesState s
-  owing_valid [] s e = absurd cc
-  owing_valid (b ∷ []) s e = absurd cc
-  owing_valid (b ∷ n ∷ fields) s e =
-      let x = then_some ((number 255).lenient b) (λ before. flag.lenient n >>= λ numeric. each lenient_due fields >>= λ dues. Some (record { before = record { 0 = before }; numeric = numeric; dues = in_order dues })) s e in
-      let y = then_some (flag.lenient n) (λ numeric. each lenient_due fields >>= λ dues. Some (record { before = record { 0 = x.0 }; numeric = numeric; dues = in_order dues })) s x.2 in
-      let z = then_some (each lenient_due fields) (λ dues. Some (record { before = record { 0 = x.0 }; numeric = y.0; dues = in_order dues })) s y.2 in
-      let made : DuesState = record { before = record { 0 = x.0 }; numeric = y.0; dues = in_order z.0 } in
+  state_valid : (b n : List ℕ) (run : Bool) (fields : List (List ℕ)) (s : DuesState) → lenient_state b n run fields ≡ Some s → IsDuesState s × (s.run ≡ run)
+  state_valid b n run fields s e =
+      let x = then_some ((number 255).lenient b) (λ before. flag.lenient n >>= λ numeric. each lenient_due fields >>= λ dues. Some (record { before = record { 0 = before }; numeric = numeric; run = run; dues = in_order dues })) s e in
+      let y = then_some (flag.lenient n) (λ numeric. each lenient_due fields >>= λ dues. Some (record { before = record { 0 = x.0 }; numeric = numeric; run = run; dues = in_order dues })) s x.2 in
+      let z = then_some (each lenient_due fields) (λ dues. Some (record { before = record { 0 = x.0 }; numeric = y.0; run = run; dues = in_order dues })) s y.2 in
+      let made : DuesState = record { before = record { 0 = x.0 }; numeric = y.0; run = run; dues = in_order z.0 } in
       let small : x.0 ≤ 255 = lenient_number-small 10 255 b x.0 x.1 in
       let fine : All Fine z.0 = All-from_recursion Fine z.0 (dues_valid fields z.0 z.1) in
-      subst IsDuesState (some_is made s z.2) record { before = omega (arith, small); each = each_in_order z.0 fine; kept = in_order_kept z.0 fine }
+      subst (λ (s : DuesState). IsDuesState s × (s.run ≡ run)) (some_is made s z.2)
+      (record { before = omega (arith, small); each = each_in_order z.0 fine; kept = in_order_kept z.0 fine }, refl)
 
-  pub reads_owing : ReadsStates dues_format IsDuesState
+  owing_valid : (fields : List (List ℕ)) (s : DuesState) → lenient_dues fields ≡ Some s → IsRunless IsDuesState (λ z. z.run) s
+  owing_valid [] s e = absurd cc
+  owing_valid (b ∷ []) s e = absurd cc
+  owing_valid (b ∷ n ∷ fields) s e = state_valid b n false fields s e
+
+  word_valid : (fields : List (List ℕ)) (s : DuesState) → lenient_word fields ≡ Some s → IsDuesState s
+  word_valid [] s e = absurd cc
+  word_valid (b ∷ []) s e = absurd cc
+  word_valid (b ∷ n ∷ []) s e = absurd cc
+  word_valid (b ∷ n ∷ r ∷ fields) s e =
+      let x = then_some (flag.lenient r) (λ run. lenient_state b n run fields) s e in
+      (state_valid b n x.0 fields s x.2).0
+
+  pub reads_owing : ReadsStates dues_format (IsRunless IsDuesState (λ s. s.run))
   reads_owing = record { valid = owing_valid; equal = equal_from_decides dues_format.same DuesState-Decides }
+
+  pub reads_word : ReadsStates word_format IsDuesState
+  reads_word = record { valid = word_valid; equal = equal_from_decides dues_format.same DuesState-Decides }

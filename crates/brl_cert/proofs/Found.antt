@@ -13,9 +13,9 @@ use Rattle.std.specs.Cmp.{first_so, second_so}
 use Rattle.brl_cert.specs.declared.line.Line.{Line}
 use Rattle.brl_cert.specs.declared.line.Line.TheVariants.{State, Pair, End}
 use Rattle.brl_cert.specs.Lines.{at_line, StateFormat, placed, ◌>>>◌, spelled_line, whole_line, spelled_body, strict_line, line_of, may_follow, lenient_line, is_end, add_line, one_line, body_of}
-use Rattle.brl_cert.specs.Dues.{dues_format}
-use Rattle.brl_cert.specs.Reading.{spelling, reading, certificate_of, spelled_header, strict_header, header_of, lenient_header, empty_body, version_of}
-use Rattle.brl_kinds.specs.declared.cert.Cert.TheVariants.{Dues, Window}
+use Rattle.brl_cert.specs.Dues.{dues_format, word_format}
+use Rattle.brl_cert.specs.Reading.{spelling, reading, certificate_of, spelled_header, strict_header, header_of, lenient_header, empty_body, version_of, written_so}
+use Rattle.brl_kinds.specs.declared.cert.Cert.TheVariants.{Dues, Window, Word}
 use Rattle.brl_kinds.specs.declared.cert.Cert.{Cert as Certificate}
 use Rattle.brl_cert.specs.Window.{window_format}
 
@@ -132,7 +132,7 @@ header_is bytes (Some m) n e =
 
 -- lines after a header are those of its version
 lines_found : {S : Type 0} (form : StateFormat S) (wrap : BodyView S → Certificate) (version n : ℕ) → ((body : BodyView S) → spelling (wrap body) ≡ spelled_header n ++ 10 ∷ spelled_body form body) → version ≡ n → (parts : List (List ℕ)) (c : Certificate)
-    → (body_of form 2 empty_body parts >>> λ body. Ok (wrap body)) ≡ Ok c → spelling c ≡ spelled_header version ++ (10 ∷ join_with_byte 10 parts)
+    → written_so form wrap parts ≡ Ok c → spelling c ≡ spelled_header version ++ (10 ∷ join_with_byte 10 parts)
 lines_found form wrap version n spelled is parts c e =
     let d = then_ok (body_of form 2 empty_body parts) (λ body. Ok (wrap body)) c e in
     let found : join_with_byte 10 parts ≡ spelled_body form d.0 = body_found form 2 empty_body parts d.0 d.1 in
@@ -142,11 +142,16 @@ lines_found form wrap version n spelled is parts c e =
 version_found : (version : ℕ) (parts : List (List ℕ)) (c : Certificate) → version_of version parts ≡ Ok c → spelling c ≡ spelled_header version ++ (10 ∷ join_with_byte 10 parts)
 version_found version parts c e = by_first (eqb version 1) refl e
   where
-    by_second : (b : Bool) → eqb version 2 ≡ b → cond b (body_of dues_format 2 empty_body parts >>> λ body. Ok (Dues body)) (Err (at_line 1 Version)) ≡ Ok c → spelling c ≡ spelled_header version ++ (10 ∷ join_with_byte 10 parts)
-    by_second true is e = lines_found dues_format Dues version 2 (λ body. refl) ((Decides-eqb version 2).0 is) parts c e
-    by_second false is e = absurd cc
+    by_third : (b : Bool) → eqb version 3 ≡ b → cond b (written_so word_format Word parts) (Err (at_line 1 Version)) ≡ Ok c → spelling c ≡ spelled_header version ++ (10 ∷ join_with_byte 10 parts)
+    by_third true is e = lines_found word_format Word version 3 (λ body. refl) ((Decides-eqb version 3).0 is) parts c e
+    by_third false is e = absurd cc
 
-    by_first : (b : Bool) → eqb version 1 ≡ b → cond b (body_of window_format 2 empty_body parts >>> λ body. Ok (Window body)) (cond (eqb version 2) (body_of dues_format 2 empty_body parts >>> λ body. Ok (Dues body)) (Err (at_line 1 Version))) ≡ Ok c
+    by_second : (b : Bool) → eqb version 2 ≡ b → cond b (written_so dues_format Dues parts) (cond (eqb version 3) (written_so word_format Word parts) (Err (at_line 1 Version))) ≡ Ok c
+        → spelling c ≡ spelled_header version ++ (10 ∷ join_with_byte 10 parts)
+    by_second true is e = lines_found dues_format Dues version 2 (λ body. refl) ((Decides-eqb version 2).0 is) parts c e
+    by_second false is e = by_third (eqb version 3) refl e
+
+    by_first : (b : Bool) → eqb version 1 ≡ b → cond b (written_so window_format Window parts) (cond (eqb version 2) (written_so dues_format Dues parts) (cond (eqb version 3) (written_so word_format Word parts) (Err (at_line 1 Version)))) ≡ Ok c
         → spelling c ≡ spelled_header version ++ (10 ∷ join_with_byte 10 parts)
     by_first true is e = lines_found window_format Window version 1 (λ body. refl) ((Decides-eqb version 1).0 is) parts c e
     by_first false is e = by_second (eqb version 2) refl e

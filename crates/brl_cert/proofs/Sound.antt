@@ -22,11 +22,11 @@ use Rattle.brl_cert.specs.declared.line.Line.TheVariants.{State, Pair, End}
 use Rattle.brl_cert.specs.Lines.{at_line, StateFormat, ◌>>>◌, placed, count, spelled_line, lenient_line, lenient_pair, lenient_end, strict_line, line_of, may_follow, is_end, add_line, one_line, body_of}
 use Rattle.brl_window.specs.declared.state.WindowState.{WindowState}
 use Rattle.brl_cert.specs.Window.{window_format, lenient_window}
-use Rattle.brl_cert.specs.Dues.{dues_format}
-use Rattle.brl_cert.specs.Reading.{reading, certificate_of, version_of, header_of, empty_body}
-use Rattle.brl_kinds.specs.declared.cert.Cert.TheVariants.{Dues, Window}
+use Rattle.brl_cert.specs.Dues.{dues_format, word_format}
+use Rattle.brl_cert.specs.Reading.{reading, certificate_of, version_of, header_of, empty_body, written_so}
+use Rattle.brl_kinds.specs.declared.cert.Cert.TheVariants.{Dues, Window, Word}
 use Rattle.brl_kinds.specs.declared.cert.Cert.{Cert as Certificate}
-use Rattle.brl_cert.specs.Valid.{IsBody, IsWindowState, IsDuesState, IsCertificate}
+use Rattle.brl_cert.specs.Valid.{IsBody, IsRunless, IsWindowState, IsDuesState, IsCertificate}
 use Rattle.brl_cert.proofs.Ascii.{limited}
 use Rattle.brl_cert.proofs.Found.{then_ok, placed_ok, guard_ok, need_ok, ok_is}
 use Rattle.brl_cert.proofs.Window.{NumberPair-Decides, WindowState-Decides, flips}
@@ -264,39 +264,48 @@ equal_from_decides e decides = record {
   congr = λ x y z h. ap (λ w. e w z) ((decides x y).0 h);
 }
 
-window_valid : (fields : List (List ℕ)) (s : WindowState) → lenient_window fields ≡ Some s → IsWindowState s
+window_valid : (fields : List (List ℕ)) (s : WindowState) → lenient_window fields ≡ Some s → IsRunless IsWindowState (λ z. z.run) s
 window_valid (b ∷ n ∷ f ∷ c ∷ []) s e =
-    let w = then_some ((number 255).lenient b) (λ before. flag.lenient n >>= λ numeric. flag.lenient f >>= λ ended. lenient_chars c >>= λ coming. Some (record { before = record { 0 = before }; numeric = numeric; ended = ended; coming = coming })) s e in
-    let x = then_some (flag.lenient n) (λ numeric. flag.lenient f >>= λ ended. lenient_chars c >>= λ coming. Some (record { before = record { 0 = w.0 }; numeric = numeric; ended = ended; coming = coming })) s w.2 in
-    let y = then_some (flag.lenient f) (λ ended. lenient_chars c >>= λ coming. Some (record { before = record { 0 = w.0 }; numeric = x.0; ended = ended; coming = coming })) s x.2 in
-    let z = then_some (lenient_chars c) (λ coming. Some (record { before = record { 0 = w.0 }; numeric = x.0; ended = y.0; coming = coming })) s y.2 in
-    let made : WindowState = record { before = record { 0 = w.0 }; numeric = x.0; ended = y.0; coming = z.0 } in
+    let w = then_some ((number 255).lenient b) (λ before. flag.lenient n >>= λ numeric. flag.lenient f >>= λ ended. lenient_chars c >>= λ coming. Some (record { before = record { 0 = before }; numeric = numeric; run = false; ended = ended; coming = coming })) s e in
+    let x = then_some (flag.lenient n) (λ numeric. flag.lenient f >>= λ ended. lenient_chars c >>= λ coming. Some (record { before = record { 0 = w.0 }; numeric = numeric; run = false; ended = ended; coming = coming })) s w.2 in
+    let y = then_some (flag.lenient f) (λ ended. lenient_chars c >>= λ coming. Some (record { before = record { 0 = w.0 }; numeric = x.0; run = false; ended = ended; coming = coming })) s x.2 in
+    let z = then_some (lenient_chars c) (λ coming. Some (record { before = record { 0 = w.0 }; numeric = x.0; run = false; ended = y.0; coming = coming })) s y.2 in
+    let made : WindowState = record { before = record { 0 = w.0 }; numeric = x.0; run = false; ended = y.0; coming = z.0 } in
     let same : made ≡ s = (let g = z.2 in cc) in
     let small : w.0 ≤ 255 = lenient_number-small 10 255 b w.0 w.1 in
-    subst IsWindowState same record { before = omega (arith, small); coming = chars_valid c z.0 z.1 }
+    subst (IsRunless IsWindowState (λ (s : WindowState). s.run)) same (record { before = omega (arith, small); coming = chars_valid c z.0 z.1 }, refl)
 window_valid fields s e = absurd cc
 
-reads_windows : ReadsStates window_format IsWindowState
+pub reads_windows : ReadsStates window_format (IsRunless IsWindowState (λ s. s.run))
 reads_windows = record { valid = window_valid; equal = equal_from_decides window_format.same WindowState-Decides }
 
 -- what is read by a version's form of states is a body in range
+pub whole_body : {S : Type 0} (form : StateFormat S) (IsState : S → Type 0) → ReadCells → ReadsStates form IsState → (parts : List (List ℕ)) (body : BodyView S) → body_of form 2 empty_body parts ≡ Ok body → IsBody form IsState body
+whole_body form IsState cells reads parts body e =
+    let pairs_equal = equal_from_decides same_pair NumberPair-Decides in
+    body_valid form IsState cells reads pairs_equal 2 empty_body parts body (nothing_front form IsState cells reads pairs_equal) e
+
+-- so the certificate is one
 lines_valid : {S : Type 0} (form : StateFormat S) (IsState : S → Type 0) → ReadCells → ReadsStates form IsState → (wrap : BodyView S → Certificate) → ((body : BodyView S) → IsBody form IsState body → IsCertificate (wrap body)) → (parts : List (List ℕ)) (c : Certificate)
-    → (body_of form 2 empty_body parts >>> λ body. Ok (wrap body)) ≡ Ok c → IsCertificate c
+    → written_so form wrap parts ≡ Ok c → IsCertificate c
 lines_valid form IsState cells reads wrap is parts c e =
     let d = then_ok (body_of form 2 empty_body parts) (λ body. Ok (wrap body)) c e in
-    let pairs_equal = equal_from_decides same_pair NumberPair-Decides in
-    subst IsCertificate (ok_is (wrap d.0) c d.2) (is d.0 (body_valid form IsState cells reads pairs_equal 2 empty_body parts d.0 (nothing_front form IsState cells reads pairs_equal) d.1))
+    subst IsCertificate (ok_is (wrap d.0) c d.2) (is d.0 (whole_body form IsState cells reads parts d.0 d.1))
 
-module _ (cells : ReadCells) (reads_owing : ReadsStates dues_format IsDuesState) where
+module _ (cells : ReadCells) (reads_owing : ReadsStates dues_format (IsRunless IsDuesState (λ s. s.run))) (reads_word : ReadsStates word_format IsDuesState) where
   version_valid : (version : ℕ) (parts : List (List ℕ)) (c : Certificate) → version_of version parts ≡ Ok c → IsCertificate c
   version_valid version parts c e = by_first (eqb version 1) e
     where
-      by_second : (b : Bool) → cond b (body_of dues_format 2 empty_body parts >>> λ body. Ok (Dues body)) (Err (at_line 1 Version)) ≡ Ok c → IsCertificate c
-      by_second true e = lines_valid dues_format IsDuesState cells reads_owing Dues (λ body h. h) parts c e
-      by_second false e = absurd cc
+      by_third : (b : Bool) → cond b (written_so word_format Word parts) (Err (at_line 1 Version)) ≡ Ok c → IsCertificate c
+      by_third true e = lines_valid word_format IsDuesState cells reads_word Word (λ body h. h) parts c e
+      by_third false e = absurd cc
 
-      by_first : (b : Bool) → cond b (body_of window_format 2 empty_body parts >>> λ body. Ok (Window body)) (cond (eqb version 2) (body_of dues_format 2 empty_body parts >>> λ body. Ok (Dues body)) (Err (at_line 1 Version))) ≡ Ok c → IsCertificate c
-      by_first true e = lines_valid window_format IsWindowState cells reads_windows Window (λ body h. h) parts c e
+      by_second : (b : Bool) → cond b (written_so dues_format Dues parts) (cond (eqb version 3) (written_so word_format Word parts) (Err (at_line 1 Version))) ≡ Ok c → IsCertificate c
+      by_second true e = lines_valid dues_format (IsRunless IsDuesState (λ s. s.run)) cells reads_owing Dues (λ body h. h) parts c e
+      by_second false e = by_third (eqb version 3) e
+
+      by_first : (b : Bool) → cond b (written_so window_format Window parts) (cond (eqb version 2) (written_so dues_format Dues parts) (cond (eqb version 3) (written_so word_format Word parts) (Err (at_line 1 Version)))) ≡ Ok c → IsCertificate c
+      by_first true e = lines_valid window_format (IsRunless IsWindowState (λ s. s.run)) cells reads_windows Window (λ body h. h) parts c e
       by_first false e = by_second (eqb version 2) e
 
   parts_valid : (parts : List (List ℕ)) (c : Certificate) → certificate_of parts ≡ Ok c → IsCertificate c

@@ -1,11 +1,14 @@
 -- Bytes that are written piece by piece.
-use Rattle.std.proofs.Common.{◌≡◌, false, ℕ, ◌+◌, ◌<◌, ◌≤◌, All, List, [], ◌∷◌, ◌++◌, length, map, take, get_or, refl, sym, ap, subst, ◌∙◌, append_assoc, arith}
+use Rattle.std.proofs.Common.{◌≡◌, Bool, false, ℕ, ◌+◌, ◌<◌, ◌≤◌, All, List, [], ◌∷◌, ◌++◌, length, map, take, get_or, refl, sym, ap, subst, ◌∙◌, append_assoc, arith}
 use Rattle.std.specs.Fmt.{digits}
 use Rattle.std.specs.List.{flat_map, join_with_byte}
 use Rattle.std.proofs.lemmas.List.{append-nil, flat_map_more, take_more}
 use Rattle.std.proofs.lemmas.List.Elements.{All-push}
 use Rattle.brl_cert.specs.Fields.{spelled_chars}
-use Rattle.brl_cert.specs.Lines.{after_blanks}
+use Rattle.brl_edges.specs.Body.{BodyView}
+use Rattle.brl_kinds.specs.Runless.{AreRunless}
+use Rattle.brl_cert.specs.Lines.{StateFormat, after_blanks}
+use Rattle.brl_cert.specs.Valid.{IsBody, IsRunless}
 
 taken : {X : Type 0} (xs : List X) (i : ℕ) (x : X) → i < length xs → x ≡ get_or xs i x → take (i + 1) xs ≡ take i xs ++ x ∷ []
 taken xs i x lt is = take_more xs i x lt ∙ ap (λ y. take i xs ++ y ∷ []) (sym is)
@@ -35,3 +38,15 @@ with_feed old line out new first rest = rest ∙ ap (λ bytes. bytes ++ 10 ∷ [
 pub some_joined : (chars : List ℕ) → 1 ≤ length chars → spelled_chars chars ≡ join_with_byte 46 (map (digits 16 false) chars)
 some_joined [] h = absurd (omega (arith, h))
 some_joined (c ∷ chars) h = refl
+
+-- a body in range whose states no run of capitals goes to
+pub runless : {S : Type 0} (form : StateFormat S) (IsState : S → Type 0) (run : S → Bool) (body : BodyView S) → IsBody form IsState body → AreRunless run body.states → IsBody form (IsRunless IsState run) body
+runless form IsState run body is none = record {
+  each_state = λ place d within. (is.each_state place d within, none place d within);
+  each_pair = is.each_pair;
+  each_lead = is.each_lead;
+  states_differ = is.states_differ;
+  pairs_differ = is.pairs_differ;
+  few_states = is.few_states;
+  few_pairs = is.few_pairs;
+}

@@ -1,5 +1,5 @@
--- The states of certificates of version 2, as fields. The project's own choice.
-use Rattle.std.specs.Prelude.{ℕ, false, ◌==◌, if◌then◌else◌, List, [], ◌∷◌, ◌++◌, length, map, Option, Some, None}
+-- The states of certificates of versions 2 and 3, as fields. The project's own choice.
+use Rattle.std.specs.Prelude.{ℕ, Bool, false, ◌==◌, if◌then◌else◌, List, [], ◌∷◌, ◌++◌, length, map, Option, Some, None}
 use Rattle.std.specs.Fmt.{decimal, digits}
 use Rattle.std.specs.List.{join_with_byte, slice_split}
 use Rattle.brl_table.specs.declared.class.Class.{Class}
@@ -27,9 +27,13 @@ abbrev pub spelled_due : Due → List ℕ
 spelled_due (Need cond) = 110 ∷ spelled_cond cond
 spelled_due (Bar chars cond) = 98 ∷ (join_with_byte 46 (map (digits 16 false) chars) ++ spelled_cond cond)
 
--- the fields of a dues state
+-- the fields of a dues state in version 2
 abbrev pub dues_fields : DuesState → List (List ℕ)
 dues_fields s = (number 255).spell s.before.0 ∷ flag.spell s.numeric ∷ map spelled_due s.dues
+
+-- the fields of a dues state in version 3, which has one for the run
+abbrev pub word_fields : DuesState → List (List ℕ)
+word_fields s = (number 255).spell s.before.0 ∷ flag.spell s.numeric ∷ flag.spell s.run ∷ map spelled_due s.dues
 
 -- ---- Reading
 
@@ -65,13 +69,26 @@ lenient_parts field =
 abbrev pub lenient_due : List ℕ → Option Due
 lenient_due field = lenient_parts field >>= λ due. if is_proper due then Some due else None
 
--- the dues state of lenient fields
+-- the dues state of lenient fields: of its classes, its numeric mode, this run flag, and its dues
+abbrev pub lenient_state : List ℕ → List ℕ → Bool → List (List ℕ) → Option DuesState
+lenient_state b n run fields = (number 255).lenient b >>= λ before. flag.lenient n >>= λ numeric. each lenient_due fields >>= λ dues.
+    Some (record { before = record { 0 = before }; numeric = numeric; run = run; dues = in_order dues })
+
+-- the dues state of lenient fields of version 2
 abbrev pub lenient_dues : List (List ℕ) → Option DuesState
-lenient_dues (b ∷ n ∷ fields) = (number 255).lenient b >>= λ before. flag.lenient n >>= λ numeric. each lenient_due fields >>= λ dues.
-    Some (record { before = record { 0 = before }; numeric = numeric; dues = in_order dues })
+lenient_dues (b ∷ n ∷ fields) = lenient_state b n false fields
 lenient_dues fields = None
 
--- a dues state: the classes before as a number, numeric mode, and the dues, which leniently may
--- come in any order
+-- the dues state of lenient fields of version 3
+abbrev pub lenient_word : List (List ℕ) → Option DuesState
+lenient_word (b ∷ n ∷ r ∷ fields) = flag.lenient r >>= λ run. lenient_state b n run fields
+lenient_word fields = None
+
+-- a dues state that no run of capitals goes to: the classes before as a number, numeric mode, and
+-- the dues, which leniently may come in any order
 abbrev pub dues_format : StateFormat DuesState
 dues_format = record { fields = dues_fields; lenient = lenient_dues; same = eq-value.it }
+
+-- a dues state: the same, with whether a run of capitals goes to it before the dues
+abbrev pub word_format : StateFormat DuesState
+word_format = record { fields = word_fields; lenient = lenient_word; same = eq-value.it }

@@ -7,9 +7,9 @@ use Rattle.brl_cert.specs.declared.fault.CertFault.{CertFault}
 use Rattle.brl_cert.specs.declared.fault.CertFaultKind.{CertFaultKind}
 use Rattle.brl_cert.specs.declared.fault.CertFaultKind.TheVariants.{Version, Syntax, NotCanonical, Truncated}
 use Rattle.brl_kinds.specs.declared.cert.Cert.{Cert as Certificate}
-use Rattle.brl_kinds.specs.declared.cert.Cert.TheVariants.{Dues, Window}
-use Rattle.brl_cert.specs.Dues.{dues_format}
-use Rattle.brl_cert.specs.Lines.{at_line, count, spelled_body, body_of, placed, ◌>>>◌}
+use Rattle.brl_kinds.specs.declared.cert.Cert.TheVariants.{Dues, Window, Word}
+use Rattle.brl_cert.specs.Dues.{dues_format, word_format}
+use Rattle.brl_cert.specs.Lines.{StateFormat, at_line, count, spelled_body, body_of, placed, ◌>>>◌}
 use Rattle.brl_edges.specs.Body.{BodyView}
 use Rattle.brl_cert.specs.Window.{window_format}
 
@@ -23,6 +23,7 @@ spelled_header n = join_with_byte 32 (codes "BRLCERT" ∷ decimal n ∷ [])
 abbrev pub spelling : Certificate → List ℕ
 spelling (Window body) = spelled_header 1 ++ 10 ∷ spelled_body window_format body
 spelling (Dues body) = spelled_header 2 ++ 10 ∷ spelled_body dues_format body
+spelling (Word body) = spelled_header 3 ++ 10 ∷ spelled_body word_format body
 
 -- ---- Reading
 
@@ -44,11 +45,16 @@ header_of bytes = strict_header bytes (lenient_header (slice_split (λ b. b == 3
 abbrev pub empty_body : {S : Type 0} → BodyView S
 empty_body = record { states = []; pairs = [] }
 
+-- the certificate of the parts after a header, whose states are written so
+abbrev pub written_so : {S : Type 0} → StateFormat S → (BodyView S → Certificate) → List (List ℕ) → Result Certificate CertFault
+written_so form variant parts = body_of form 2 empty_body parts >>> λ body. Ok (variant body)
+
 -- the certificate of the parts after a header of this version
 abbrev pub version_of : ℕ → List (List ℕ) → Result Certificate CertFault
 version_of version parts =
-    if version == 1 then (body_of window_format 2 empty_body parts >>> λ body. Ok (Window body))
-    else (if version == 2 then (body_of dues_format 2 empty_body parts >>> λ body. Ok (Dues body)) else Err (at_line 1 Version))
+    if version == 1 then written_so window_format Window parts
+    else (if version == 2 then written_so dues_format Dues parts
+    else (if version == 3 then written_so word_format Word parts else Err (at_line 1 Version)))
 
 -- the certificate of the parts of bytes between line feeds
 abbrev pub certificate_of : List (List ℕ) → Result Certificate CertFault

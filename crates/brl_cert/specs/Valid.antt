@@ -1,5 +1,5 @@
 -- Which certificates have a spelling: those in range and without repeats. The project's own choice.
-use Rattle.std.specs.Prelude.{◌≡◌, ◌<◌, ◌≤◌, All, true, length}
+use Rattle.std.specs.Prelude.{◌≡◌, ◌<◌, ◌≤◌, All, Bool, true, false, length}
 use Rattle.std.specs.List.{IsDistinct}
 use Rattle.brl_cells.specs.Dots.{AreCells}
 use Rattle.brl_table.specs.declared.place.Cond.{Cond}
@@ -12,9 +12,9 @@ use Rattle.brl_window.specs.declared.state.WindowState.{WindowState}
 use Rattle.brl_edges.specs.Body.{BodyView, IsPairOf, same_pair}
 use Rattle.brl_cert.specs.Fields.{is_char}
 use Rattle.brl_cert.specs.Lines.{StateFormat}
-use Rattle.brl_cert.specs.Dues.{dues_format}
+use Rattle.brl_cert.specs.Dues.{dues_format, word_format}
 use Rattle.brl_cert.specs.Window.{window_format}
-use Rattle.brl_kinds.specs.declared.cert.Cert.TheVariants.{Dues, Window}
+use Rattle.brl_kinds.specs.declared.cert.Cert.TheVariants.{Dues, Window, Word}
 use Rattle.brl_kinds.specs.declared.cert.Cert.{Cert as Certificate}
 
 -- a state's classes are a number of eight bits, and its characters are characters
@@ -50,7 +50,13 @@ pub record IsDuesState (s : DuesState) : Type 0 where
   pub each : All IsDue s.dues
   pub kept : AreDues s.dues
 
+-- the state is valid, and no run of capitals goes to it, where the second says whether one goes to a
+-- state
+abbrev pub IsRunless : {S : Type 0} → (S → Type 0) → (S → Bool) → S → Type 0
+IsRunless IsState run s = IsState s × (run s ≡ false)
+
 -- the certificate has a spelling
 abbrev pub IsCertificate : Certificate → Type 0
-IsCertificate (Window body) = IsBody window_format IsWindowState body
-IsCertificate (Dues body) = IsBody dues_format IsDuesState body
+IsCertificate (Window body) = IsBody window_format (IsRunless IsWindowState (λ s. s.run)) body
+IsCertificate (Dues body) = IsBody dues_format (IsRunless IsDuesState (λ s. s.run)) body
+IsCertificate (Word body) = IsBody word_format IsDuesState body

@@ -1,5 +1,5 @@
 -- The states of certificates of version 1, as fields. The project's own choice.
-use Rattle.std.specs.Prelude.{ℕ, List, [], ◌∷◌, Option, Some, None}
+use Rattle.std.specs.Prelude.{ℕ, false, List, [], ◌∷◌, Option, Some, None}
 use Rattle.brl_window.specs.declared.state.WindowState.{WindowState}
 use Rattle.brl_window.specs.contracts.state.WindowStatePartialEq.TheImpl.{eq-value}
 use Rattle.brl_cert.specs.Fields.{◌>>=◌, number, flag, chars}
@@ -13,10 +13,10 @@ window_fields s = (number 255).spell s.before.0 ∷ flag.spell s.numeric ∷ fla
 abbrev pub lenient_window : List (List ℕ) → Option WindowState
 lenient_window (b ∷ n ∷ e ∷ c ∷ []) = (number 255).lenient b >>= λ before. flag.lenient n >>= λ numeric.
     flag.lenient e >>= λ ended. chars.lenient c >>= λ coming.
-    Some (record { before = record { 0 = before }; numeric = numeric; ended = ended; coming = coming })
+    Some (record { before = record { 0 = before }; numeric = numeric; run = false; ended = ended; coming = coming })
 lenient_window fields = None
 
--- a window state: the classes before as a number, numeric mode, whether the text ends, and the next
--- characters
+-- a window state that no run of capitals goes to: the classes before as a number, numeric mode,
+-- whether the text ends, and the next characters
 abbrev pub window_format : StateFormat WindowState
 window_format = record { fields = window_fields; lenient = lenient_window; same = eq-value.it }

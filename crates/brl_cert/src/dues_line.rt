@@ -1,9 +1,9 @@
-//! The states of certificates of version 2.
-ghost use Rattle.std.specs.Prelude.{◌≡◌, ◌++◌, ◌∷◌, [], map, false, true, All, IfOk, IfSome, IsTrue, OnOk, option_map, if◌then◌else◌};
+//! The states of certificates of versions 2 and 3.
+ghost use Rattle.std.specs.Prelude.{◌≡◌, ◌<◌, ◌++◌, ◌∷◌, [], map, false, true, All, IfOk, IfSome, IsTrue, OnOk, option_map, if◌then◌else◌};
 ghost use Rattle.std.specs.Fmt.{digits};
 ghost use Rattle.std.specs.List.{join_with_byte};
-ghost use Rattle.brl_cert.specs.Dues.{dues_fields, lenient_any, lenient_due as due_of_field, lenient_dues, lenient_head, lenient_parts, lenient_set, spelled_cond, spelled_due};
-ghost use Rattle.brl_cert.specs.Fields.{each, is_char};
+ghost use Rattle.brl_cert.specs.Dues.{dues_fields, lenient_any, lenient_due as due_of_field, lenient_dues, lenient_head, lenient_parts, lenient_set, lenient_state, lenient_word, spelled_cond, spelled_due, word_fields};
+ghost use Rattle.brl_cert.specs.Fields.{each, flag, is_char, number};
 ghost use Rattle.brl_cert.specs.Lines.{after_blanks};
 ghost use Rattle.brl_cert.specs.Valid.{HasSet, IsDue, IsDuesState};
 ghost use Rattle.brl_dues.specs.Order.{is_proper};
@@ -138,28 +138,56 @@ fn read_each_due(alloc: Global, fields: &[&[u8]]) -> Result<Option<Vec<Due>>, Al
     Ok(Some(dues))
 }
 
-/// The state of the lenient fields of a line.
-pub fn read_dues(alloc: Global, fields: &[&[u8]]) -> Result<Option<DuesState>, AllocError>
-    ensures { IfOk result (λ state. state ≡ lenient_dues (map (λ field. field.now) fields.now)) }
+/// The state of lenient fields: of its classes and its numeric mode, with this run flag, and of its
+/// dues.
+fn read_state(
+    alloc: Global,
+    before: &[u8],
+    numeric: &[u8],
+    run: bool,
+    dues: &[&[u8]],
+) -> Result<Option<DuesState>, AllocError>
+    ensures { IfOk result (λ state. state ≡ lenient_state before.now numeric.now run (map (λ field. field.now) dues.now)) }
 {
-    let [before, numeric, rest @ ..] = fields else {
-        return Ok(None);
-    };
     let Some(before) = read_number(before, 10, 255) else {
         return Ok(None);
     };
     let Some(numeric) = read_flag(numeric) else {
         return Ok(None);
     };
-    let Some(dues) = read_each_due(alloc, rest)? else {
+    let Some(dues) = read_each_due(alloc, dues)? else {
         return Ok(None);
     };
     let before = Class(before as u8);
     Ok(Some(DuesState {
         before,
         numeric,
+        run,
         dues: DueList::in_order(dues),
     }))
+}
+
+/// The state of the lenient fields of a line of version 2.
+pub fn read_dues(alloc: Global, fields: &[&[u8]]) -> Result<Option<DuesState>, AllocError>
+    ensures { IfOk result (λ state. state ≡ lenient_dues (map (λ field. field.now) fields.now)) }
+{
+    let [before, numeric, dues @ ..] = fields else {
+        return Ok(None);
+    };
+    read_state(alloc, before, numeric, false, dues)
+}
+
+/// The state of the lenient fields of a line of version 3.
+pub fn read_word(alloc: Global, fields: &[&[u8]]) -> Result<Option<DuesState>, AllocError>
+    ensures { IfOk result (λ state. state ≡ lenient_word (map (λ field. field.now) fields.now)) }
+{
+    let [before, numeric, run, dues @ ..] = fields else {
+        return Ok(None);
+    };
+    let Some(run) = read_flag(run) else {
+        return Ok(None);
+    };
+    read_state(alloc, before, numeric, run, dues)
 }
 
 /// Writes characters, joined by points.
@@ -193,18 +221,47 @@ fn push_due(alloc: Global, out: &mut Vec<u8>, due: &Due) -> Result<(), AllocErro
     }
 }
 
-/// Writes the fields of a state, each after a blank.
-pub fn push_dues(alloc: Global, out: &mut Vec<u8>, state: &DuesState) -> Result<(), AllocError>
-    ensures written { OnOk result (out.new.items ≡ out.old.items ++ after_blanks (dues_fields state.now)) }
-    ensures in_range { OnOk result (IsDuesState state.now) }
+/// Writes the classes before a state and its numeric mode, each after a blank.
+fn push_context(alloc: Global, out: &mut Vec<u8>, state: &DuesState) -> Result<(), AllocError>
+    ensures written { OnOk result (out.new.items ≡ out.old.items ++ after_blanks ((number 255).spell state.now.before.0 ∷ flag.spell state.now.numeric ∷ [])) }
+    ensures in_range { OnOk result (state.now.before.0 < 256) }
 {
     out.push(b' ')?;
     push_number(alloc, out, u32::from(state.before.0))?;
     out.push(b' ')?;
-    push_flag(out, state.numeric)?;
-    for due in state.dues.as_slice() {
+    push_flag(out, state.numeric)
+}
+
+/// Writes dues, each after a blank.
+fn push_each_due(alloc: Global, out: &mut Vec<u8>, dues: &[Due]) -> Result<(), AllocError>
+    ensures written { OnOk result (out.new.items ≡ out.old.items ++ after_blanks (map spelled_due dues.now)) }
+    ensures in_range { OnOk result (All IsDue dues.now) }
+{
+    for due in dues {
         out.push(b' ')?;
         push_due(alloc, out, due)?;
     }
+    Ok(())
+}
+
+/// Writes the fields of a state in version 2, each after a blank.
+pub fn push_dues(alloc: Global, out: &mut Vec<u8>, state: &DuesState) -> Result<(), AllocError>
+    ensures written { OnOk result (out.new.items ≡ out.old.items ++ after_blanks (dues_fields state.now)) }
+    ensures in_range { OnOk result (IsDuesState state.now) }
+{
+    push_context(alloc, out, state)?;
+    push_each_due(alloc, out, state.dues.as_slice())?;
+    Ok(())
+}
+
+/// Writes the fields of a state in version 3, each after a blank.
+pub fn push_word(alloc: Global, out: &mut Vec<u8>, state: &DuesState) -> Result<(), AllocError>
+    ensures written { OnOk result (out.new.items ≡ out.old.items ++ after_blanks (word_fields state.now)) }
+    ensures in_range { OnOk result (IsDuesState state.now) }
+{
+    push_context(alloc, out, state)?;
+    out.push(b' ')?;
+    push_flag(out, state.run)?;
+    push_each_due(alloc, out, state.dues.as_slice())?;
     Ok(())
 }

@@ -14,5 +14,5 @@ mod writing;
 pub use brl_kinds::Cert;
 pub use fault::{CertFault, CertFaultKind};
 pub use reading::{certificate_laws, read_cert};
-pub use version::{Version, Version1, Version2};
+pub use version::{Version, Version1, Version2, Version3};
 pub use writing::write_cert;

@@ -5,14 +5,21 @@ ghost use Rattle.brl_failure.specs.Failure.{Gives, IsFaultOf};
 ghost use Rattle.brl_cert.specs.Reading.{empty_body, header_of, lenient_header, reading, spelling, version_of};
 ghost use Rattle.brl_cert.specs.Valid.{IsCertificate};
 ghost use Rattle.brl_kinds.specs.declared.cert.Cert.{Cert as Certificate};
+ghost use Rattle.brl_kinds.specs.Runless.{AreRunless};
+ghost use Rattle.brl_cert.specs.Dues.{dues_format};
+ghost use Rattle.brl_cert.specs.Window.{window_format};
+ghost use Rattle.brl_dues.specs.declared.state.DuesState.{DuesState};
+ghost use Rattle.brl_edges.specs.Body.{BodyView};
+ghost use Rattle.brl_window.specs.declared.state.WindowState.{WindowState};
 
 use crate::field::{parts_of, push_number, read_number};
 use crate::reader::Reader;
-use crate::{Cert, CertFault, CertFaultKind, Version, Version1, Version2};
+use crate::{Cert, CertFault, CertFaultKind, Version, Version1, Version2, Version3};
 use brl_cells::{cells_are_read, spelled_cells_are_read};
 use brl_dues::order_law;
 use brl_edges::Body;
 use brl_failure::Failure;
+use brl_kinds::Runless;
 use std::alloc::Global;
 
 /// The laws of certificates, for the crates above: each certificate is read from its spelling, and
@@ -23,6 +30,17 @@ pub fn certificate_laws()
     ensures is_certificate { (bytes : List ℕ) (cert : Certificate) → reading bytes ≡ Ok cert → IsCertificate cert }
 {
     spelled_cells_are_read();
+    cells_are_read();
+    order_law();
+}
+
+/// The law of versions 1 and 2: no run of capitals goes to a state that is read.
+fn runless_laws()
+    ensures windows { (parts : List (List ℕ)) (body : BodyView WindowState) → body_of window_format 2 empty_body parts ≡ Ok body →
+        AreRunless (λ (s : WindowState). s.run) body.states }
+    ensures dues { (parts : List (List ℕ)) (body : BodyView DuesState) → body_of dues_format 2 empty_body parts ≡ Ok body →
+        AreRunless (λ (s : DuesState). s.run) body.states }
+{
     cells_are_read();
     order_law();
 }
@@ -104,9 +122,17 @@ fn read_version_lines(
     requires { 1 ≤ length parts.now }
     ensures { Gives (version_of version (map (λ part. part.now) parts.now)) result }
 {
+    runless_laws();
     match version {
-        1 => Ok(Cert::Window(read_body::<Version1>(alloc, parts)?)),
-        2 => Ok(Cert::Dues(read_body::<Version2>(alloc, parts)?)),
+        1 => {
+            let body = read_body::<Version1>(alloc, parts)?;
+            Ok(Cert::Window(Runless::new(body)))
+        }
+        2 => {
+            let body = read_body::<Version2>(alloc, parts)?;
+            Ok(Cert::Dues(Runless::new(body)))
+        }
+        3 => Ok(Cert::Word(read_body::<Version3>(alloc, parts)?)),
         _ => Err(CertFaultKind::Version.at(1)),
     }
 }

@@ -1,11 +1,11 @@
 //! The versions of certificates: which states each lists, and how it writes them.
 ghost use Rattle.std.specs.Prelude.{◌≡◌, ◌++◌, ◌∷◌, [], ℕ, Bool, map, refl, IfOk, OnOk};
 ghost use Rattle.brl_cert.specs.Lines.{StateFormat, after_blanks};
-ghost use Rattle.brl_cert.specs.Dues.{dues_format};
+ghost use Rattle.brl_cert.specs.Dues.{dues_format, word_format};
 ghost use Rattle.brl_cert.specs.Valid.{IsDuesState, IsWindowState};
 ghost use Rattle.brl_cert.specs.Window.{lenient_window, window_format};
 
-use crate::dues_line::{push_dues, read_dues};
+use crate::dues_line::{push_dues, push_word, read_dues, read_word};
 use crate::field::{push_chars, push_flag, push_number, read_chars, read_flag, read_number};
 use brl_dues::DuesState;
 use brl_members::Key;
@@ -21,7 +21,8 @@ pub trait Version {
     // How states are written, and when two of them are equal.
     ghost form: { StateFormat Self.State };
 
-    // Which states can be written.
+    // Which states are in range. In versions 1 and 2 no run of capitals goes to a state: they have no
+    // field for one.
     ghost is_state: { Self.State → Type 0 };
 
     /// Writes the fields of a state, each after a blank.
@@ -42,6 +43,9 @@ pub struct Version1;
 
 /// Version 2 lists states of a machine with dues.
 pub struct Version2;
+
+/// Version 3 lists states of a machine with dues, each with whether a run of capitals goes to it.
+pub struct Version3;
 
 impl Version for Version1 {
     type State = WindowState;
@@ -93,6 +97,24 @@ impl Version for Version2 {
     ghost same = { refl };
 }
 
+impl Version for Version3 {
+    type State = DuesState;
+
+    ghost form = { word_format };
+
+    ghost is_state = { IsDuesState };
+
+    fn push_fields(alloc: Global, out: &mut Vec<u8>, state: &DuesState) -> Result<(), AllocError> {
+        push_word(alloc, out, state)
+    }
+
+    fn read_fields(alloc: Global, fields: &[&[u8]]) -> Result<Option<DuesState>, AllocError> {
+        read_word(alloc, fields)
+    }
+
+    ghost same = { refl };
+}
+
 /// The window state of four lenient fields.
 fn read_window(
     alloc: Global,
@@ -119,6 +141,7 @@ fn read_window(
     Ok(Some(WindowState {
         before,
         numeric,
+        run: false,
         ended,
         coming,
     }))

@@ -4,16 +4,17 @@ ghost use Rattle.std.specs.List.{flat_map, join_with_byte};
 ghost use Rattle.brl_cells.specs.Dots.{AreCells};
 ghost use Rattle.brl_cert.specs.Lines.{end_fields, pair_fields, spelled_body, spelled_line, whole_line};
 ghost use Rattle.brl_cert.specs.Reading.{reading, spelling};
-ghost use Rattle.brl_kinds.specs.declared.cert.Cert.TheVariants.{Dues, Window};
+ghost use Rattle.brl_kinds.specs.declared.cert.Cert.TheVariants.{Dues, Window, Word};
 ghost use Rattle.brl_cert.specs.Valid.{IsBody};
 ghost use Rattle.brl_edges.specs.Body.{listed};
 ghost use Rattle.brl_cert.specs.declared.line.Line.TheVariants.{State};
 
 use crate::field::{push_lead, push_number};
 use crate::line::Line;
-use crate::{Cert, Version, Version1, Version2, certificate_laws};
+use crate::{Cert, Version, Version1, Version2, Version3, certificate_laws};
 use brl_dues::DuesState;
 use brl_edges::Body;
+use brl_kinds::Runless;
 use brl_pairs::Pair;
 use brl_window::WindowState;
 use std::alloc::{AllocError, Global};
@@ -117,24 +118,35 @@ fn push_body<V: Version>(
 }
 
 /// The bytes of a certificate of version 1.
-fn write_windows(alloc: Global, body: &Body<WindowState>) -> Result<Vec<u8>, AllocError>
+fn write_windows(alloc: Global, body: &Runless<WindowState>) -> Result<Vec<u8>, AllocError>
     ensures spelled { IfOk result (λ bytes. bytes.items ≡ spelling (Window body.now)) }
     ensures read_back { IfOk result (λ bytes. reading bytes.items ≡ Ok (Window body.now)) }
 {
     certificate_laws();
     let mut out = Vec::from_slice(alloc, b"BRLCERT 1\n")?;
-    push_body::<Version1>(alloc, &mut out, body)?;
+    push_body::<Version1>(alloc, &mut out, body.body())?;
     Ok(out)
 }
 
 /// The bytes of a certificate of version 2.
-fn write_dues(alloc: Global, body: &Body<DuesState>) -> Result<Vec<u8>, AllocError>
+fn write_dues(alloc: Global, body: &Runless<DuesState>) -> Result<Vec<u8>, AllocError>
     ensures spelled { IfOk result (λ bytes. bytes.items ≡ spelling (Dues body.now)) }
     ensures read_back { IfOk result (λ bytes. reading bytes.items ≡ Ok (Dues body.now)) }
 {
     certificate_laws();
     let mut out = Vec::from_slice(alloc, b"BRLCERT 2\n")?;
-    push_body::<Version2>(alloc, &mut out, body)?;
+    push_body::<Version2>(alloc, &mut out, body.body())?;
+    Ok(out)
+}
+
+/// The bytes of a certificate of version 3.
+fn write_word(alloc: Global, body: &Body<DuesState>) -> Result<Vec<u8>, AllocError>
+    ensures spelled { IfOk result (λ bytes. bytes.items ≡ spelling (Word body.now)) }
+    ensures read_back { IfOk result (λ bytes. reading bytes.items ≡ Ok (Word body.now)) }
+{
+    certificate_laws();
+    let mut out = Vec::from_slice(alloc, b"BRLCERT 3\n")?;
+    push_body::<Version3>(alloc, &mut out, body)?;
     Ok(out)
 }
 
@@ -147,5 +159,6 @@ pub fn write_cert(alloc: Global, cert: &Cert) -> Result<Vec<u8>, AllocError>
     match cert {
         Cert::Window(body) => write_windows(alloc, body),
         Cert::Dues(body) => write_dues(alloc, body),
+        Cert::Word(body) => write_word(alloc, body),
     }
 }

@@ -29,7 +29,7 @@ use Rattle.brl_dues.specs.declared.due.Due.{Due}
 use Rattle.brl_dues.specs.declared.due.Due.TheVariants.{Need, Bar}
 use Rattle.brl_dues.specs.declared.state.DuesState.{DuesState}
 use Rattle.brl_dues.specs.Carry.{bar_after, bar_of, carry, carry_bar, is_whole, left_of, lefts, need, opposed, settled_if}
-use Rattle.brl_dues.specs.Finite.{after_conds, all_cells, all_classes, all_contexts, all_dues, all_leads, all_states, bars_from, both_modes, cells_in, endings, lists_up_to, needs_of}
+use Rattle.brl_dues.specs.Finite.{after_conds, all_cells, all_classes, all_contexts, all_dues, all_leads, all_states, bars_from, with_classes, cells_in, endings, lists_up_to, needs_of}
 use Rattle.brl_dues.specs.Form.{Form, IsForm, forms, letters}
 use Rattle.brl_dues.specs.Order.{due_cmp, in_order}
 use Rattle.brl_dues.specs.Steps.{IsStep, context_of, dues_steps, first_state, next_dues, owed, state_in}
@@ -282,21 +282,25 @@ module _ (t : TableView) where
   behind-in here (c ∷ cs) h = behind-in (context_behind t here c) cs (classes-in c)
 
   context-in : (here : Context) → IsIn here.classes (all_classes t) → IsIn here (all_contexts t)
-  context-in here h = in-flat_map both_modes here.classes here (all_classes t) h (mode here.numeric refl)
+  context-in here h = in-flat_map with_classes here.classes here (all_classes t) h (flags here.numeric here.run refl refl)
     where
-      mode : (b : Bool) → here.numeric ≡ b → IsIn here (both_modes here.classes)
-      mode false e = inl (λ i. record { classes = here.classes; numeric = e i })
-      mode true e = inr (inl (λ i. record { classes = here.classes; numeric = e i }))
+      flags : (numeric run : Bool) → here.numeric ≡ numeric → here.run ≡ run → IsIn here (with_classes here.classes)
+      flags false false n r = inl (λ i. record { classes = here.classes; numeric = n i; run = r i })
+      flags false true n r = inr (inl (λ i. record { classes = here.classes; numeric = n i; run = r i }))
+      flags true false n r = inr (inr (inl (λ i. record { classes = here.classes; numeric = n i; run = r i })))
+      flags true true n r = inr (inr (inr (inl (λ i. record { classes = here.classes; numeric = n i; run = r i }))))
 
   from-contexts : (here : Context) → IsIn here (all_contexts t) → IsIn here.classes (all_classes t)
   from-contexts here h =
-      let m = from-flat_map both_modes here (all_classes t) h in
-      subst (λ k. IsIn k (all_classes t)) (sym (of-modes m.0 m.2)) m.1
+      let m = from-flat_map with_classes here (all_classes t) h in
+      subst (λ k. IsIn k (all_classes t)) (sym (of-flags m.0 m.2)) m.1
     where
-      of-modes : (classes : Class) → IsIn here (both_modes classes) → here.classes ≡ classes
-      of-modes classes (inl e) = ap (λ (k : Context). k.classes) e
-      of-modes classes (inr (inl e)) = ap (λ (k : Context). k.classes) e
-      of-modes classes (inr (inr k)) = absurd k
+      of-flags : (classes : Class) → IsIn here (with_classes classes) → here.classes ≡ classes
+      of-flags classes (inl e) = ap (λ (k : Context). k.classes) e
+      of-flags classes (inr (inl e)) = ap (λ (k : Context). k.classes) e
+      of-flags classes (inr (inr (inl e))) = ap (λ (k : Context). k.classes) e
+      of-flags classes (inr (inr (inr (inl e)))) = ap (λ (k : Context). k.classes) e
+      of-flags classes (inr (inr (inr (inr k)))) = absurd k
 
   -- ---- States and cells
 

@@ -37,13 +37,15 @@ lists_up_to xs (suc n) = [] ∷ flat_map (λ x. map (λ l. x ∷ l) (lists_up_to
 abbrev pub all_classes : TableView → List Class
 all_classes t = space ∷ none ∷ map (classes_of t) (letters t)
 
--- the contexts with these classes, in and out of numeric mode
-abbrev pub both_modes : Class → List Context
-both_modes classes = record { classes = classes; numeric = false } ∷ record { classes = classes; numeric = true } ∷ []
+-- the contexts with these classes, in and out of numeric mode, and of a run of capitals
+abbrev pub with_classes : Class → List Context
+with_classes classes =
+    record { classes = classes; numeric = false; run = false } ∷ record { classes = classes; numeric = false; run = true }
+    ∷ record { classes = classes; numeric = true; run = false } ∷ record { classes = classes; numeric = true; run = true } ∷ []
 
 -- the contexts that a state may have
 abbrev pub all_contexts : TableView → List Context
-all_contexts t = flat_map both_modes (all_classes t)
+all_contexts t = flat_map with_classes (all_classes t)
 
 -- ---- Dues
 

@@ -20,11 +20,11 @@ use Rattle.brl_dues.specs.Form.{Form, IsForm, forms}
 
 -- what a state knows of the characters before
 abbrev pub context_of : DuesState → Context
-context_of s = record { classes = s.before; numeric = s.numeric }
+context_of s = record { classes = s.before; numeric = s.numeric; run = s.run }
 
 -- the state with this context that owes these dues
 abbrev pub state_in : Context → List Due → DuesState
-state_in here dues = record { before = here.classes; numeric = here.numeric; dues = dues }
+state_in here dues = record { before = here.classes; numeric = here.numeric; run = here.run; dues = dues }
 
 -- what a step of the form owes: the need of its after-condition, and a bar for each rule that is
 -- ranked above it

@@ -62,7 +62,7 @@ fn steps_of(
     while let Some(info) = infos.get(start) {
         let step = step(alloc, table, here, start, info, &text[start..])?;
         let end = start + step.length;
-        here = here.behind_all(&infos[start..end]);
+        here = table.context_behind_infos(here, &infos[start..end]);
         start = end;
         steps.push(step)?;
     }

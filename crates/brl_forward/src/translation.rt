@@ -47,7 +47,7 @@ fn cells_of(
         let choice = table.choice_of(info, here.classes, &text[start..]);
         cells.extend_from_slice(choice.cells)?;
         let end = start + choice.taken;
-        here = here.behind_all(&infos[start..end]);
+        here = table.context_behind_infos(here, &infos[start..end]);
         start = end;
     }
     Ok(cells)

@@ -1,8 +1,8 @@
 -- The machine of each version of certificates. A certificate of version 1 lists states of a table's
--- window machine, one of version 2 states of its machine with dues. The project's own choice.
+-- window machine, one of version 2 or 3 states of its machine with dues. The project's own choice.
 use Rattle.std.specs.Prelude.{ℕ, ◌≤◌, length}
 use Rattle.brl_edges.specs.Body.{BodyView}
-use Rattle.brl_kinds.specs.declared.cert.Cert.TheVariants.{Dues, Window}
+use Rattle.brl_kinds.specs.declared.cert.Cert.TheVariants.{Dues, Window, Word}
 use Rattle.brl_kinds.specs.declared.cert.Cert.{Cert as Certificate}
 use Rattle.brl_edges.specs.Sets.{sets_of}
 use Rattle.brl_dues.specs.Steps.{dues_machine}
@@ -19,11 +19,13 @@ use Rattle.brl_window.specs.declared.state.WindowState.{WindowState}
 abbrev pub OfMachine : ((S : Type 0) → Behaviour S → BodyView S → Type 0) → TableView → Certificate → Type 0
 OfMachine Holds t (Window body) = Holds WindowState (window_machine t) body
 OfMachine Holds t (Dues body) = Holds DuesState (dues_machine t) body
+OfMachine Holds t (Word body) = Holds DuesState (dues_machine t) body
 
 -- the table has the machine of the certificate's version: it may be too wide for a window machine
 abbrev pub HasMachine : TableView → Certificate → Type 0
 HasMachine t (Window body) = start_moves t ≤ 10000
 HasMachine t (Dues body) = Unit {0}
+HasMachine t (Word body) = Unit {0}
 
 -- the states and pairs that the certificate lists are closed for the machine of its version
 abbrev pub IsClosedFor : TableView → Certificate → Type 0
@@ -33,8 +35,10 @@ IsClosedFor t cert = OfMachine (λ S m body. IsClosed m (sets_of body)) t cert
 abbrev pub state_count : Certificate → ℕ
 state_count (Window body) = length body.states
 state_count (Dues body) = length body.states
+state_count (Word body) = length body.states
 
 -- the number of pairs that a certificate lists
 abbrev pub pair_count : Certificate → ℕ
 pair_count (Window body) = length body.pairs
 pair_count (Dues body) = length body.pairs
+pair_count (Word body) = length body.pairs

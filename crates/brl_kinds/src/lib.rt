@@ -2,5 +2,7 @@
 #![tactic(auto)]
 
 mod cert;
+mod runless;
 
 pub use cert::Cert;
+pub use runless::{HasRun, Runless};

@@ -1,7 +1,7 @@
 -- What a search of a table may answer. These are this project's own choice.
 use Rattle.std.specs.Prelude.{ℕ, ◌+◌, ◌<◌, ◌≤◌, ◌⊎◌}
 use Rattle.brl_edges.specs.Body.{BodyView}
-use Rattle.brl_kinds.specs.declared.cert.Cert.TheVariants.{Dues, Window}
+use Rattle.brl_kinds.specs.declared.cert.Cert.TheVariants.{Dues, Window, Word}
 use Rattle.brl_forward.specs.ClashView.{ClashView}
 use Rattle.brl_edges.specs.Sets.{sets_of}
 use Rattle.brl_pairs.specs.Pairs.{IsClosed}
@@ -13,9 +13,10 @@ use Rattle.brl_table.specs.Translation.{IsClash, IsUnambiguous}
 use Rattle.brl_search.specs.declared.table_search.Found.{Found}
 use Rattle.brl_search.specs.declared.table_search.Found.TheVariants.{Certified, Clashing, Limit}
 
--- a fact of the certificate's body, if there is a certificate; it is of version 2
+-- a fact of the certificate's body, if there is a certificate; it is of version 3
 abbrev pub IfCertified : (BodyView State → Type 0) → Found → Type 0
-IfCertified P (Certified (Dues body)) = P body
+IfCertified P (Certified (Word body)) = P body
+IfCertified P (Certified (Dues body)) = ⊥
 IfCertified P (Certified (Window body)) = ⊥
 IfCertified P found = Unit {0}
 

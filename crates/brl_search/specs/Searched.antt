@@ -1,7 +1,7 @@
 -- The machine over which tables are searched, and the certificates that a search gives. Both are
 -- named here alone. The project's own choice.
 use Rattle.brl_edges.specs.Body.{BodyView}
-use Rattle.brl_kinds.specs.declared.cert.Cert.TheVariants.{Dues}
+use Rattle.brl_kinds.specs.declared.cert.Cert.TheVariants.{Word}
 use Rattle.brl_kinds.specs.declared.cert.Cert.{Cert as Certificate}
 use Rattle.brl_dues.specs.Steps.{dues_machine}
 use Rattle.brl_dues.specs.declared.state.DuesState.{DuesState}
@@ -18,4 +18,4 @@ machine_of t = dues_machine t
 
 -- the certificate that lists these states and pairs of it
 abbrev pub certificate_of : BodyView State → Certificate
-certificate_of body = Dues body
+certificate_of body = Word body

@@ -29,7 +29,7 @@ pub enum Found {
 }
 
 /// Searches a table for a certificate or a clash, over its dues machine. The certificate is of
-/// version 2. Its states are in the order in which they are found, breadth first, the start first.
+/// version 3. Its states are in the order in which they are found, breadth first, the start first.
 ///
 /// `Limit` as soon as the states found, or the pairs found, are more than `limit`.
 pub fn search(alloc: Global, table: &Table, limit: u64) -> Result<Found, AllocError>
@@ -57,7 +57,7 @@ pub fn found_of(
     match outcome {
         Outcome::Closed(body) => {
             numbered_sets_law(&dues);
-            Ok(Found::Certified(Cert::Dues(body)))
+            Ok(Found::Certified(Cert::Word(body)))
         }
         Outcome::BothEnd { left, right } => {
             clash_law(&dues, table);

@@ -5,7 +5,7 @@ use Rattle.std.proofs.lemmas.List.{length-map}
 use Rattle.std.proofs.lemmas.Option.{slice_get-get_or, slice_get-map, slice_get_within}
 use Rattle.std.specs.Prelude.{◌↔◌, All, IsTrue, option_map, slice_get, slice_index_or}
 use Rattle.brl_table.specs.declared.signs.Sign.{Sign}
-use Rattle.brl_table.specs.declared.signs.Sign.TheVariants.{CapsLetter, NumSign, NoContractSign}
+use Rattle.brl_table.specs.declared.signs.Sign.TheVariants.{CapsLetter, NumSign, NoContractSign, BegCapsWord, EndCapsWord}
 use Rattle.brl_table.specs.Signs.{all_signs, by_sign, cells_at, is_same_sign, sign_number}
 
 -- each indicator is at its number among them all
@@ -13,13 +13,17 @@ at-number : (sign : Sign) → slice_get all_signs (sign_number sign) ≡ Some si
 at-number CapsLetter = refl
 at-number NumSign = refl
 at-number NoContractSign = refl
+at-number BegCapsWord = refl
+at-number EndCapsWord = refl
 
 -- each number is that of an indicator
 numbered : (number : ℕ) → number < length all_signs → (sign : Sign) × (sign_number sign ≡ number)
 numbered zero small = (CapsLetter, refl)
 numbered (suc zero) small = (NumSign, refl)
 numbered (suc (suc zero)) small = (NoContractSign, refl)
-numbered (suc (suc (suc n))) small = absurd (omega (arith, small))
+numbered (suc (suc (suc zero))) small = (BegCapsWord, refl)
+numbered (suc (suc (suc (suc zero)))) small = (EndCapsWord, refl)
+numbered (suc (suc (suc (suc (suc n))))) small = absurd (omega (arith, small))
 
 number-small : (sign : Sign) → sign_number sign < length all_signs
 number-small sign = slice_get_within all_signs (sign_number sign) sign (at-number sign)

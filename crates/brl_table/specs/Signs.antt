@@ -1,17 +1,19 @@
 -- The indicators by their numbers, and lists of the cells of each.
 use Rattle.std.specs.Prelude.{ℕ, Bool, ◌==◌, List, [], ◌∷◌, map, slice_index_or, if◌then◌else◌}
 use Rattle.brl_table.specs.declared.signs.Sign.{Sign}
-use Rattle.brl_table.specs.declared.signs.Sign.TheVariants.{CapsLetter, NumSign, NoContractSign}
+use Rattle.brl_table.specs.declared.signs.Sign.TheVariants.{CapsLetter, NumSign, NoContractSign, BegCapsWord, EndCapsWord}
 
 -- the number of an indicator, from 0
 abbrev pub sign_number : Sign → ℕ
 sign_number CapsLetter = 0
 sign_number NumSign = 1
 sign_number NoContractSign = 2
+sign_number BegCapsWord = 3
+sign_number EndCapsWord = 4
 
 -- the indicators, by their numbers
 abbrev pub all_signs : List Sign
-all_signs = CapsLetter ∷ NumSign ∷ NoContractSign ∷ []
+all_signs = CapsLetter ∷ NumSign ∷ NoContractSign ∷ BegCapsWord ∷ EndCapsWord ∷ []
 
 -- whether two indicators are the same
 abbrev pub is_same_sign : Sign → Sign → Bool

@@ -1,15 +1,17 @@
 -- Texts over a table's characters, and the context of a position: the classes of the character
--- before it, and numeric mode. The manual has classes and `litdigit` in section
--- "Character-Definition Opcodes", and `numericmodechars` in section "Braille Indicator Opcodes".
--- That both ends of a text count as class space, and when exactly numeric mode holds, is this
--- project's own choice: a `numericmodechars` character keeps the mode and never starts it.
-use Rattle.std.specs.Prelude.{ℕ, zero, suc, Bool, false, ◌&&◌, ◌||◌, List, [], ◌∷◌, is_some, slice_get}
+-- before it, numeric mode, and whether two capitals are before it. The manual has classes and
+-- `litdigit` in section "Character-Definition Opcodes", and `numericmodechars` and `begcapsword` in
+-- section "Braille Indicator Opcodes". That both ends of a text count as class space, and when
+-- exactly numeric mode holds, is this project's own choice: a `numericmodechars` character keeps
+-- the mode and never starts it.
+use Rattle.std.specs.Prelude.{ℕ, zero, suc, Bool, false, ◌&&◌, ◌||◌, List, [], ◌∷◌, nat_lt, length, is_some, slice_get}
 use Rattle.std.specs.List.{list_all}
 use Rattle.std.specs.Option.{option_map_or}
 use Rattle.brl_table.specs.declared.class.Class.{Class}
 use Rattle.brl_table.specs.declared.context.Context.{Context}
-use Rattle.brl_table.specs.TableView.{TableView, info_of}
-use Rattle.brl_table.specs.Places.{space, none}
+use Rattle.brl_table.specs.declared.signs.Sign.TheVariants.{BegCapsWord}
+use Rattle.brl_table.specs.TableView.{TableView, info_of, sign_cells}
+use Rattle.brl_table.specs.Places.{space, uppercase, none, share}
 
 -- the table defines the character
 abbrev pub is_defined : TableView → ℕ → Bool
@@ -57,17 +59,39 @@ abbrev pub numeric_at : TableView → List ℕ → ℕ → Bool
 numeric_at t text zero = false
 numeric_at t text (suc i) = option_map_or (λ c. numeric_behind t c (numeric_at t text i)) (slice_get text i) false
 
+-- whether a table has word capitals: it defines `begcapsword`
+abbrev pub has_word_capitals : TableView → Bool
+has_word_capitals t = nat_lt 0 (length (sign_cells t BegCapsWord))
+
+-- whether a character of these classes is a capital
+abbrev pub is_capital : Class → Bool
+is_capital classes = share classes uppercase
+
+-- whether two capitals in a row, of these classes, make a run of capitals in this table
+abbrev pub are_run : TableView → Class → Class → Bool
+are_run t first second = has_word_capitals t && is_capital first && is_capital second
+
+-- whether a run of capitals goes to position i: the two characters before it are capitals, in a
+-- table with word capitals
+abbrev pub run_at : TableView → List ℕ → ℕ → Bool
+run_at t text zero = false
+run_at t text (suc i) = are_run t (classes_before t text i) (classes_at t text i)
+
 -- the context of position i: what it knows of the text before it
 abbrev pub context_at : TableView → List ℕ → ℕ → Context
-context_at t text i = record { classes = classes_before t text i; numeric = numeric_at t text i }
+context_at t text i = record { classes = classes_before t text i; numeric = numeric_at t text i; run = run_at t text i }
 
 -- the context at the start of a text
 abbrev pub at_start : Context
-at_start = record { classes = space; numeric = false }
+at_start = record { classes = space; numeric = false; run = false }
 
 -- the context after one more character
 abbrev pub context_behind : TableView → Context → ℕ → Context
-context_behind t here c = record { classes = classes_of t c; numeric = numeric_behind t c here.numeric }
+context_behind t here c = record {
+  classes = classes_of t c;
+  numeric = numeric_behind t c here.numeric;
+  run = are_run t here.classes (classes_of t c);
+}
 
 -- the context after more characters
 abbrev pub context_behind_all : TableView → Context → List ℕ → Context

@@ -1,52 +1,70 @@
 //! What comes before a position of a text.
-use crate::{Class, Info, Table};
+use crate::{Class, Info, Sign, Table};
+use bitflags::Flags;
 
 /// What a position of a text knows of the characters before it: the classes of the last one (class
-/// space at the text's start), and whether numeric mode holds.
+/// space at the text's start), whether numeric mode holds, and whether a run of capitals goes there.
 #[derive(Clone, Copy, PartialEq, Eq, Hash, Debug)]
 pub struct Context {
     pub classes: Class,
     pub numeric: bool,
+    /// Whether the two characters before are capitals, in a table with word capitals.
+    pub run: bool,
 }
 
 impl Context {
-    ghost use Rattle.std.specs.Prelude.{◌≡◌, ℕ, List, Some};
-    ghost use Rattle.brl_table.specs.Infos.{AreInfosOf};
-    ghost use Rattle.brl_table.specs.TableView.{TableView, info_of};
-    ghost use Rattle.brl_table.specs.Text.{context_behind, context_behind_all};
-
     /// The start of a text.
     pub const START: Context = Context {
         classes: Class::SPACE,
         numeric: false,
+        run: false,
     };
+}
+
+impl Table {
+    ghost use Rattle.std.specs.Prelude.{◌≡◌, ℕ, List, Some};
+    ghost use Rattle.brl_table.specs.Infos.{AreInfosOf};
+    ghost use Rattle.brl_table.specs.TableView.{info_of};
+    ghost use Rattle.brl_table.specs.Text.{are_run, context_behind, context_behind_all, has_word_capitals};
+
+    /// Whether the table has word capitals: it defines `begcapsword`.
+    pub fn has_word_capitals(&self) -> bool
+        ensures { result ≡ has_word_capitals self.now }
+    {
+        !self.indicator(Sign::BegCapsWord).is_empty()
+    }
+
+    /// Whether two characters of these classes, in a row, make a run of capitals.
+    fn are_run(&self, first: Class, second: Class) -> bool
+        ensures { result ≡ are_run self.now first second }
+    {
+        second.intersects(Class::UPPERCASE)
+            && first.intersects(Class::UPPERCASE)
+            && self.has_word_capitals()
+    }
 
     /// The context after one more character, given its info.
-    pub fn behind(self, info: &Info) -> Context
-        ensures { (t : TableView) (c : ℕ) → info_of t c ≡ Some info.now → result ≡ context_behind t self c }
+    pub fn context_behind_info(&self, here: Context, info: &Info) -> Context
+        ensures { (c : ℕ) → info_of self.now c ≡ Some info.now → result ≡ context_behind self.now here c }
     {
         Context {
             classes: info.classes,
-            numeric: info.literary || info.mode && self.numeric,
+            numeric: info.literary || info.mode && here.numeric,
+            run: self.are_run(here.classes, info.classes),
         }
     }
 
     /// The context after more characters, given their infos.
-    pub fn behind_all(self, infos: &[&Info]) -> Context
-        ensures { (t : TableView) (chars : List ℕ) → AreInfosOf t chars infos.now →
-            result ≡ context_behind_all t self chars }
+    pub fn context_behind_infos(&self, here: Context, infos: &[&Info]) -> Context
+        ensures { (chars : List ℕ) → AreInfosOf self.now chars infos.now →
+            result ≡ context_behind_all self.now here chars }
     {
-        let mut context = self;
+        let mut context = here;
         for info in infos {
-            context = context.behind(info);
+            context = self.context_behind_info(context, info);
         }
         context
     }
-}
-
-impl Table {
-    ghost use Rattle.std.specs.Prelude.{◌≡◌};
-    ghost use Rattle.brl_table.specs.Text.{context_behind, context_behind_all};
 
     /// The context after more characters.
     pub fn context_behind(&self, here: Context, chars: &[char]) -> Context
@@ -64,10 +82,11 @@ impl Table {
         ensures { result ≡ context_behind self.now here character }
     {
         match self.info(character) {
-            Some(info) => here.behind(info),
+            Some(info) => self.context_behind_info(here, info),
             None => Context {
                 classes: Class::NONE,
                 numeric: false,
+                run: false,
             },
         }
     }

@@ -21,16 +21,20 @@ pub enum Sign {
     NumSign,
     /// In a number before a character that could be read as a digit.
     NoContractSign,
+    /// Before a run of capitals.
+    BegCapsWord,
+    /// After a run of capitals, before a letter that isn't one.
+    EndCapsWord,
 }
 
 impl Sign {
     /// The number of indicators.
-    const COUNT: usize = 3;
+    const COUNT: usize = 5;
 
     /// The number of the indicator, from 0.
     fn number(self) -> usize
         ensures number { result ≡ sign_number self }
-        ensures small { result < 3 }
+        ensures small { result < 5 }
     {
         self as usize
     }

@@ -15,7 +15,7 @@ abbrev pub lines : List (List ℕ) → List ℕ
 lines texts = flat_map (λ text. text ++ 10 ∷ []) texts
 
 abbrev pub state : ℕ → Bool → List ℕ → WindowState
-state before ended coming = record { before = record { 0 = before }; numeric = false; ended = ended; coming = coming }
+state before ended coming = record { before = record { 0 = before }; numeric = false; run = false; ended = ended; coming = coming }
 
 -- three states and a pair
 abbrev pub three_states : Certificate

@@ -41,6 +41,11 @@ L4 Cycle t.ctb at t.ctb:1|include t.ctb|
 /// What is answered for a table's lines and a certificate of version 2.
 const CERTIFICATES_OF_DUES: &str = "\
 1 states, 0 pairs||BRLCERT 2;state 1 0;end 1 0;
+1 states, 0 pairs||BRLCERT 3;state 1 0 0;end 1 0;
+2 states, 0 pairs|letter a 1;letter b 12|BRLCERT 3;state 1 0 0;state 8 0 0;end 2 0;
+A2 StateMissing state 0 rule 0|letter a 1|BRLCERT 3;state 1 0 0;state 8 0 1;end 2 0;
+A1 NoStart||BRLCERT 3;state 1 0 1;end 1 0;
+A1 NoStart||BRLCERT 3;end 0 0;
 3 states, 1 pairs|letter a 1;letter b 12;letter x 1-12;always ab 14|BRLCERT 2;state 1 0;state 8 0;state 8 0 b62*;pair 1 2 12;end 3 1;
 A3 SplitMissing state 0 rules 0 2|letter a 1;letter b 12;letter x 1-12|BRLCERT 2;state 1 0;state 8 0;state 8 0 b62*;pair 1 2 12;end 3 1;
 A1 NoStart||BRLCERT 2;end 0 0;

@@ -83,7 +83,17 @@ K6 NoSuchState line 5|BRLCERT 2;state 1 0;state 8 0;state 8 0 b62*;pair 1 3 12;e
 K4 DuplicateState line 4|BRLCERT 2;state 1 0;state 8 0;state 8 0;state 8 0 b62*;pair 1 2 12;end 3 1;
 K5 DuplicatePair line 6|BRLCERT 2;state 1 0;state 8 0;state 8 0 b62*;pair 1 2 12;pair 1 2 12;end 3 1;
 K3 NotCanonical line 1|BRLCERT 02;state 1 0;end 1 0;
-K1 Version line 1|BRLCERT 3;state 1 0;end 1 0;
+K1 Version line 1|BRLCERT 4;state 1 0 0;end 1 0;
+certificate|BRLCERT 3;state 1 0 0;end 1 0;
+certificate|BRLCERT 3;state 1 0 0;state 8 0 0;end 2 0;
+certificate|BRLCERT 3;state 40 1 1 n+8 b61.62*;state 40 1 0 n+8 b61.62*;pair 0 1 12;end 2 1;
+K2 Syntax line 2|BRLCERT 3;state 1 0;end 1 0;
+K2 Syntax line 2|BRLCERT 3;state 1 0 n+8;end 1 0;
+K2 Syntax line 2|BRLCERT 3;state 1 0 2;end 1 0;
+K2 Syntax line 2|BRLCERT 3;state 1 0 00;end 1 0;
+K2 Syntax line 2|BRLCERT 3;state 1 0 1 n*;end 1 0;
+K4 DuplicateState line 3|BRLCERT 3;state 1 0 1;state 1 0 1;end 2 0;
+K2 Syntax line 2|BRLCERT 2;state 1 0 0;end 1 0;
 K2 Syntax line 2|BRLCERT 2;state 1 0 0 -;end 1 0;
 K2 Syntax line 2|BRLCERT 2;state 256 0;end 1 0;
 K2 Syntax line 2|BRLCERT 2;state 1 00;end 1 0;

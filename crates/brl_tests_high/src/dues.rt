@@ -17,12 +17,12 @@ pub const WORDS: &str =
 /// The steps of its start: the rule, the characters, the cells and the next state, as certificates
 /// write it.
 pub const STEPS_OF_WORDS: &str = "\
-0|but|12|8 0 n+3
-1|b|56-12|8 0 n+3 b75.74+3
-2| |0|1 0
-3|b|12|8 0 n-3 b75.74+3
-4|u|136|8 0
-5|t|2345|8 0
+0|but|12|8 0 0 n+3
+1|b|56-12|8 0 0 n+3 b75.74+3
+2| |0|1 0 0
+3|b|12|8 0 0 n-3 b75.74+3
+4|u|136|8 0 0
+5|t|2345|8 0 0
 ";
 
 /// Capitals: a rule has a step for each case of its first letter.
@@ -30,12 +30,12 @@ const CAPITALS: &str = "uplow Aa 1; uplow Bb 12; capsletter 6; always ab 14";
 
 /// The steps of its start.
 const STEPS_OF_CAPITALS: &str = "\
-0|Ab|6-14|24 0
-0|ab|14|24 0
-1|A|6-1|40 0 b62*
-2|a|1|24 0 b62*
-3|B|6-12|40 0
-4|b|12|24 0
+0|Ab|6-14|24 0 0
+0|ab|14|24 0 0
+1|A|6-1|40 0 0 b62*
+2|a|1|24 0 0 b62*
+3|B|6-12|40 0 0
+4|b|12|24 0 0
 ";
 
 /// A certificate that lists this state alone.
@@ -43,7 +43,7 @@ fn cert_of(alloc: Global, state: DuesState) -> Result<Cert, Fail> {
     let mut states = Members::new(alloc);
     states.insert(state)?;
     match Body::from_parts(states, Members::new(alloc)) {
-        Some(body) => Ok(Cert::Dues(body)),
+        Some(body) => Ok(Cert::Word(body)),
         None => Err(Fail::from("one state makes no body")),
     }
 }

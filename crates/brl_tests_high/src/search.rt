@@ -48,8 +48,8 @@ fn word_of_same(same: &Clash, clash: &Clash) -> &'static str {
 
 /// The certificate that is found, and the table's lines.
 const CERTIFICATES: &str = "\
-BRLCERT 2;state 1 0;end 1 0;|
-BRLCERT 2;state 1 0;state 8 0;end 2 0;|letter a 1; letter b 12
+BRLCERT 3;state 1 0 0;end 1 0;|
+BRLCERT 3;state 1 0 0;state 8 0 0;end 2 0;|letter a 1; letter b 12
 ";
 
 /// What the checker answers for these states and pairs.
@@ -65,7 +65,8 @@ fn told_of_body(alloc: Global, table: &Table, body: &Body<DuesState>) -> Result<
 
 fn told_of_cert(alloc: Global, table: &Table, cert: &Cert) -> Result<String, Fail> {
     match cert {
-        Cert::Dues(body) => told_of_body(alloc, table, body),
+        Cert::Word(body) => told_of_body(alloc, table, body),
+        Cert::Dues(_) => Ok(String::from_str(alloc, "version 2")?),
         Cert::Window(_) => Ok(String::from_str(alloc, "version 1")?),
     }
 }

@@ -15,6 +15,7 @@ pub const ONE_LETTER: &str = "letter a 1";
 fn is_after_letter(state: &WindowState, ended: bool, coming: &[char]) -> bool {
     state.before == Class::LETTER
         && !state.numeric
+        && !state.run
         && state.ended == ended
         && state.coming.as_slice() == coming
 }
@@ -152,6 +153,7 @@ fn state_of(alloc: Global, coming: &str, ended: bool) -> Result<WindowState, Fai
     Ok(WindowState {
         before: Class::SPACE,
         numeric: false,
+        run: false,
         ended,
         coming: Chars::from_vec(coming.chars().collect(alloc)?),
     })

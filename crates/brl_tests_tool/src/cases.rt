@@ -127,6 +127,7 @@ t.ctb: letter a 1 & c: BRLCERT 1; state 1 0 0 -; state 8 0 0 61; state 8 0 1 -; 
 t.ctb: letter a 1 & c: BRLCERT 9; state 1 0 0 -; state 8 0 0 61; state 8 0 1 -; pair 1 2 -; end 3 1|brl,check,t.ctb,c||refused: K1 Version line 1||1
 t.ctb: letter a 1 & c: BRLCERT 2; state 1 0 0 -; state 8 0 0 61; state 8 0 1 -; pair 1 2 -; end 3 1|brl,check,t.ctb,c||refused: K2 Syntax line 2||1
 t.ctb: # & c: BRLCERT 2; state 1 0; end 1 0|brl,check,t.ctb,c||accepted: 1 states, 0 pairs||0
+t.ctb: # & c: BRLCERT 3; state 1 0 0; end 1 0|brl,check,t.ctb,c||accepted: 1 states, 0 pairs||0
 t.ctb: letter a 1; letter b 12; letter x 1-12; always ab 14 & c: BRLCERT 2; state 1 0; state 8 0; state 8 0 b62*; pair 1 2 12; end 3 1|brl,check,t.ctb,c||accepted: 3 states, 1 pairs||0
 t.ctb: letter a 1; letter b 12; letter x 1-12 & c: BRLCERT 2; state 1 0; state 8 0; state 8 0 b62*; pair 1 2 12; end 3 1|brl,check,t.ctb,c||refused: A3 SplitMissing state 0 rules 0 2||1
 t.ctb: # & c: BRLCERT 2; end 0 0|brl,check,t.ctb,c||refused: A1 NoStart||1

@@ -145,10 +145,10 @@ fn is_written(alloc: Global, lines: &str, fields: &str, cert: &[u8]) -> Result<b
 #[test]
 fn worked_certificates(rt: HostRuntime) -> Result<(), Fail> {
     let alloc = rt.alloc();
-    let cert = b"BRLCERT 2\nstate 1 0\nend 1 0\n";
+    let cert = b"BRLCERT 3\nstate 1 0 0\nend 1 0\n";
     assert!(rt; is_written(alloc, "#", "certified: 1 states, 0 pairs||0", cert)?);
     let lines = "letter a 1; letter b 12";
-    let cert = b"BRLCERT 2\nstate 1 0\nstate 8 0\nend 2 0\n";
+    let cert = b"BRLCERT 3\nstate 1 0 0\nstate 8 0 0\nend 2 0\n";
     assert!(rt; is_written(alloc, lines, "certified: 2 states, 0 pairs||0", cert)?);
     Ok(())
 }

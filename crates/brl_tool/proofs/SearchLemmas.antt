@@ -2,7 +2,7 @@
 use Rattle.std.proofs.Common.{◌≡◌, ◌∙◌, refl, ℕ, List, Result, Ok, Err, inl, inr, IfOk, subst}
 use Rattle.brl_forward.specs.ClashView.{ClashView}
 use Rattle.brl_kinds.specs.declared.cert.Cert.{Cert}
-use Rattle.brl_kinds.specs.declared.cert.Cert.TheVariants.{Dues, Window}
+use Rattle.brl_kinds.specs.declared.cert.Cert.TheVariants.{Dues, Window, Word}
 use Rattle.brl_report.specs.Report.{report_text}
 use Rattle.brl_search.specs.Found.{IsFound}
 use Rattle.brl_search.specs.declared.table_search.Found.{Found}
@@ -16,10 +16,11 @@ use Rattle.brl_tool.specs.declared.status.Status.TheVariants.{Refuted}
 -- the answer with a certificate that was found
 verdict_of : (t : TableView) (limit : ℕ) (out : List ℕ) (search : Found) (cert : Cert) (answer : Answer) → search ≡ found.Certified cert → IsFound t limit search
     → IsCertificateAt out cert answer → IsVerdict t out limit answer
-verdict_of t limit out (found.Certified (Dues body)) cert answer same is at =
-    let it : cert ≡ Dues body = cc in
-    let at_it : IsCertificateAt out (Dues body) answer = subst (λ (c : Cert). IsCertificateAt out c answer) it at in
-    inl (is.unambiguous, (body, record { closed = is.closed; states = is.states; pairs = is.pairs; within = is.within; order = is.order }, (Dues body, at_it.3, (tt, is.closed, refl)), at_it))
+verdict_of t limit out (found.Certified (Word body)) cert answer same is at =
+    let it : cert ≡ Word body = cc in
+    let at_it : IsCertificateAt out (Word body) answer = subst (λ (c : Cert). IsCertificateAt out c answer) it at in
+    inl (is.unambiguous, (body, record { closed = is.closed; states = is.states; pairs = is.pairs; within = is.within; order = is.order }, (Word body, at_it.3, (tt, is.closed, refl)), at_it))
+verdict_of t limit out (found.Certified (Dues body)) cert answer same is at = absurd is.unambiguous
 verdict_of t limit out (found.Certified (Window body)) cert answer same is at = absurd is.unambiguous
 verdict_of t limit out (found.Clashing clash) cert answer same is at = cc
 verdict_of t limit out (found.Limit s p) cert answer same is at = cc

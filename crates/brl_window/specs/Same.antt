@@ -15,7 +15,9 @@ same_states a b h =
     let before : a.before.0 ≡ b.before.0 = (Decides-eqb a.before.0 b.before.0).0 (first_so _ _ h) in
     let rest = second_so (eqb a.before.0 b.before.0) _ h in
     let numeric : a.numeric ≡ b.numeric = same_bools a.numeric b.numeric (first_so _ _ rest) in
-    let last = second_so (beq a.numeric b.numeric) _ rest in
+    let more = second_so (beq a.numeric b.numeric) _ rest in
+    let run : a.run ≡ b.run = same_bools a.run b.run (first_so _ _ more) in
+    let last = second_so (beq a.run b.run) _ more in
     let ended : a.ended ≡ b.ended = same_bools a.ended b.ended (first_so _ _ last) in
     let coming : a.coming ≡ b.coming = same_text a.coming b.coming (sym (second_so (beq a.ended b.ended) _ last)) in
-    λ i. record { before = record { 0 = before i }; numeric = numeric i; ended = ended i; coming = coming i }
+    λ i. record { before = record { 0 = before i }; numeric = numeric i; run = run i; ended = ended i; coming = coming i }

@@ -50,11 +50,11 @@ windows t s =
 
 -- what a state knows of the characters before
 abbrev pub context_of : WindowState → Context
-context_of s = record { classes = s.before; numeric = s.numeric }
+context_of s = record { classes = s.before; numeric = s.numeric; run = s.run }
 
 -- the state with this context that knows these next characters, and whether the text ends there
 abbrev pub state_in : Context → Bool → List ℕ → WindowState
-state_in here ended coming = record { before = here.classes; numeric = here.numeric; ended = ended; coming = coming }
+state_in here ended coming = record { before = here.classes; numeric = here.numeric; run = here.run; ended = ended; coming = coming }
 
 -- the step of a window: it applies the chosen rule, with the indicators before it
 abbrev pub window_step : TableView → Context → Window → Step WindowState

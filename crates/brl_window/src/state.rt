@@ -14,6 +14,8 @@ pub struct WindowState {
     pub before: Class,
     /// Whether numeric mode is on.
     pub numeric: bool,
+    /// Whether the two characters before are capitals, in a table with word capitals.
+    pub run: bool,
     /// Whether the text ends after the characters that are known.
     pub ended: bool,
     /// The next characters, as far as they are known.
@@ -35,6 +37,7 @@ impl WindowState {
         WindowState {
             before: here.classes,
             numeric: here.numeric,
+            run: here.run,
             ended,
             coming,
         }
@@ -47,6 +50,7 @@ impl WindowState {
         Context {
             classes: self.before,
             numeric: self.numeric,
+            run: self.run,
         }
     }
 

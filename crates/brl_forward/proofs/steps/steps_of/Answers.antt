@@ -15,8 +15,8 @@ step-requires c =
     ap (first_info c.args.table.now) (take_rest c.args.text.now c.loop-info.start)
     ∙ first_info-at c.args.table.now c.args.text.now c.args.infos.now c.loop-info.start c.in-Some.info.now c.requires c.in-Some.ensures.lookup.3.0 c.in-Some.ensures.lookup.1
 
-pub slice_bounds-behind_all-end : goal.slice_bounds-behind_all-end
-slice_bounds-behind_all-end c =
+pub slice_bounds-context_behind_infos-end : goal.slice_bounds-context_behind_infos-end
+slice_bounds-context_behind_infos-end c =
     let room : c.in_ok-step.step.length ≤ length (drop c.loop-info.start c.args.text.now) =
     omega (arith, c.in_ok-step.ensures.room, ap length (take_rest c.args.text.now c.loop-info.start)) in
     let within : c.loop-info.start + c.in_ok-step.step.length ≤ length c.args.infos.now =
@@ -38,7 +38,7 @@ loop-info-preserved c =
           (c.in_ok-step.ensures.step ∙ ap (λ here. step_before t here start (take (length text - start) rest)) c.loop-info.invariant.here ∙ ap (step_before t (context_at t text start) start) (take_rest text start))
           refl c.in_ok-push.ensures.items c.loop-info.invariant.so_far;
       here =
-          c.behind_all-here.ensures t (take n rest) (infos-taken t text c.args.infos.now start n (start + n - start) c.requires taken)
+          c.context_behind_infos-here.ensures (take n rest) (infos-taken t text c.args.infos.now start n (start + n - start) c.requires taken)
           ∙ ap (λ here. context_behind_all t here (take n rest)) c.loop-info.invariant.here
           ∙ c.translation_laws.ensures.context t text start n room;
       within = omega (arith, room, length-drop start text, c.loop-info.invariant.within);

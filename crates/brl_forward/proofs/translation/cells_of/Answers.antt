@@ -11,8 +11,8 @@ choice_of-choice-requires c =
     ap (first_info c.args.table.now) (take_rest c.args.text.now c.loop-info.start)
     ∙ first_info-at c.args.table.now c.args.text.now c.args.infos.now c.loop-info.start c.in-Some.info.now c.requires c.in-Some.ensures.lookup.3.0 c.in-Some.ensures.lookup.1
 
-pub slice_bounds-behind_all-end : goal.slice_bounds-behind_all-end
-slice_bounds-behind_all-end c =
+pub slice_bounds-context_behind_infos-end : goal.slice_bounds-context_behind_infos-end
+slice_bounds-context_behind_infos-end c =
     let room : c.choice_of-choice.result.taken ≤ length (drop c.loop-info.start c.args.text.now) =
     omega (arith, c.choice_of-choice.ensures.room, ap length (take_rest c.args.text.now c.loop-info.start)) in
     let within : c.loop-info.start + c.choice_of-choice.result.taken ≤ length c.args.infos.now =
@@ -32,11 +32,11 @@ loop-info-preserved c =
     let some : 0 < length rest = omega (arith, room, c.choice_of-choice.ensures.some) in
     let taken : start + n - start ≡ n = omega arith in
     record {
-      so_far = rule_more t c.loop-info.here c.behind_all-here.result rest (drop (start + n) text) (take n rest)
+      so_far = rule_more t c.loop-info.here c.context_behind_infos-here.result rest (drop (start + n) text) (take n rest)
           c.loop-info.cells.items c.push_signs.new.cells.items c.extend_from_slice.new.self.items c.choice_of-choice.result.cells.now _ n
           (c.translation_laws.ensures.rule t c.loop-info.here rest some) (c.in_ok-push_signs.ensures rest known) choice.cells choice.taken
           c.in_ok-extend_from_slice.ensures.items refl (sym (drop-drop n start text))
-          (c.behind_all-here.ensures t (take n rest) (infos-taken t text c.args.infos.now start n (start + n - start) c.requires taken)) c.loop-info.invariant.so_far;
+          (c.context_behind_infos-here.ensures (take n rest) (infos-taken t text c.args.infos.now start n (start + n - start) c.requires taken)) c.loop-info.invariant.so_far;
       within = omega (arith, room, length-drop start text, c.loop-info.invariant.within);
     }
 
