@@ -1,14 +1,26 @@
 #!/usr/bin/env python3
 """Plants the wrong bodies crates/NAME/must-fail/*.edit, and shows that the prover refuses each.
 
-Several are planted in one copy of a crate, each in a function of its own, and the copy is checked once:
-the prover tells of each function by itself. A wrong body counts as refused only where the function that
-its line `refused:` names has a goal that isn't proved; that it calls a function which isn't proved doesn't
-count. What isn't refused so is tried again with those that are left, and at last alone. A body that isn't
-planted inside a function, such as a constant, is always alone.
+Whether a body meets its function's contract rests on the contracts of what it calls, and on no other body. So a
+wrong body is planted in a copy of its function, which stands beside it in a copy of the crate, with its clauses and
+its proof files, under a name of its own; and in one check the prover is asked for all the copies of the crate. The
+bodies of the crate's own functions are left out there, and their theorems are taken as they stand (each is a hole),
+so nothing but the copies is proved.
 
-  tests/wrong_bodies.py [NAME..]         tries those of these crates (all), over the libraries that `rt lib` builds
-  tests/wrong_bodies.py --after-ci ROOT  tries all, over the libraries that `rt ci` has built in a copy of the sources
+A wrong body counts as refused only where its copy has a goal of its own that isn't proved. That a function it calls
+isn't proved doesn't count, nor does a proof file that names what the edit took away. That the proof files still
+prove under the copy's name what they prove of the right body is seen by controls in the same check: copies of
+functions with proof files, and of functions that call others, whose bodies are right. These must be proved, and no
+other proof file than a copy's may be wrong, or the check counts for nothing.
+
+What has no copy is planted in its own place: a method of a trait's impl, a function that calls itself, an edit of
+several functions, or one that turns another function than that of its line `refused:`. Several are in one check,
+each in functions of its own; what isn't inside of functions is alone. The function that the line names keeps its
+body and its files there. What isn't refused in its copy, or beside others, is tried again in its own place and at
+last alone, before it counts as not refused.
+
+  tests/wrong_bodies.py [NAME..]                  tries those of these crates (all), over the libraries that `rt lib` builds
+  tests/wrong_bodies.py --after-ci ROOT [NAME..]  the same, over the libraries that `rt ci` has built in a copy of the sources
 
 The last line is 'wrong bodies: N refused, M not'.
 """
@@ -18,9 +30,11 @@ import importlib.util
 import os
 import re
 import shutil
+import subprocess
 import sys
+import tempfile
 from concurrent.futures import ThreadPoolExecutor, as_completed
-from dataclasses import dataclass
+from dataclasses import dataclass, replace
 from pathlib import Path
 from types import ModuleType, SimpleNamespace
 
@@ -29,8 +43,9 @@ TOP = Path(__file__).resolve().parent.parent
 # The memory that the check of one crate may take.
 CHECK_BYTES = 4_000_000_000
 
-# What the prover prints of a function that isn't proved; of a goal that a proof file doesn't prove; and of one that nothing proves.
+# The function whose goals aren't proved, or whose proof rests on a hole alone; a goal that a proof file doesn't prove; one that nothing proves.
 TOLD = re.compile(r"fn (?P<name>\S+): (?:not proved|no proof)(?P<why>.*)")
+PROVED = re.compile(r"fn (?P<name>\S+): (?:no holes|depends on a hole)")
 REFUSED = re.compile(r"(?:\./)?proofs/(?P<path>\S+)/\w+\.antt:\d+:\d+: error: `(?P<goal>\S+)`: (?P<why>.*)")
 OPEN = re.compile(r"note: (?P<path>src/\S+):(?P<line>\d+):\d+: it is not proved .*\(`(?P<goal>\S+)`\)")
 
@@ -40,9 +55,21 @@ LEMMA = re.compile(r"(?:\./)?proofs/\w+\.antt:\d+:\d+: error: `(?P<goal>\S+)`: (
 # Why a proof file fails that names what an edit took away: that says nothing of a contract.
 NAMES = re.compile(r"has no field|is not in scope|has no `|was not admitted")
 
+# Where a proof file isn't right, of whichever kind; the proof files of a copy.
+WRONG = re.compile(r"(?:\./)?proofs/\S+\.antt:\d+:\d+: error")
+COPIED = re.compile(r"(?:\./)?proofs/(?:\w+/)*\w+_wrong_\d+/")
+
+# Where code can't be read: by the compiler, which says the kind of error, or by the prover.
+UNREAD = re.compile(r"(?:\./)?(?P<path>src/\S+?):(?P<line>\d+):\d+: error(?P<kind>\[)?")
+
+# The last line of a check that was asked for some functions.
+ENDED = re.compile(r"only=\d+ holes=\d+$")
+
+FUNCTION = re.compile(r"^( *)(?:[a-z()]+ )*fn (\w+)", re.MULTILINE)
+
 
 def kit() -> ModuleType:
-    """The kit's command `rt`, which reads edits and checks an edited copy of a crate."""
+    """The kit's command `rt`, which reads edits and knows how a crate is checked."""
     found = shutil.which("rt")
     if not found:
         sys.exit("wrong_bodies.py: this needs the command rt of the Rattle kit")
@@ -54,11 +81,102 @@ def kit() -> ModuleType:
 
 def function_at(text: str, place: int) -> int | None:
     """The place of the function around a place of formatted code, if there is one: it ends at a brace below its `fn`."""
-    for head in reversed(list(re.finditer(r"^( *)(?:[a-z()]+ )*fn \w+", text[:place], re.MULTILINE))):
+    for head in reversed(list(FUNCTION.finditer(text[:place]))):
         end = re.compile(rf"^{head[1]}\}}$", re.MULTILINE).search(text, head.end())
         if end and end.start() > place:
             return head.start()
     return None
+
+
+def function_of_line(text: str, line: int) -> str:
+    """The name of the function around a line, counted from 1."""
+    place = function_at(text, sum(len(it) for it in text.splitlines(keepends=True)[:line]))
+    return "" if place is None else re.search(r"fn (\w+)", text[place:])[1]
+
+
+@dataclass(frozen=True)
+class Function:
+    """A function, or a method of a type's own impl, of a formatted file, with the places of its parts there."""
+
+    path: str
+    # The modules and the type that it is in, and its name.
+    names: tuple[str, ...]
+    indent: str
+    # From its comment on, its `fn`, its name, the end of its name, the end of the brace before its body, the brace behind it.
+    begin: int
+    head: int
+    name: int
+    name_end: int
+    body: int
+    end: int
+
+    def label(self, name: str = "") -> str:
+        return "::".join((*self.names[:-1], name or self.names[-1]))
+
+    def folder(self, name: str = "") -> str:
+        return "/".join(("proofs", *self.names[:-1], name or self.names[-1]))
+
+    def right(self) -> str:
+        """The name of its copy whose body isn't changed."""
+        return f"{self.names[-1]}_right"
+
+    def call(self) -> str:
+        """A pattern of most of its calls."""
+        before = rf"\b(?:self\.|Self::|{self.names[-2]}::)" if self.indent else r"(?<![.\w])"
+        return rf"{before}{self.names[-1]}\("
+
+    def brace(self) -> int:
+        """The place behind its last brace."""
+        return self.end + len(self.indent) + 1
+
+
+def type_around(text: str, place: int) -> str | None:
+    """The type whose own impl has a method at this place, if it stands in one."""
+    heads = [it for it in re.finditer(r"^(?:pub(?:\(\w+\))? )?(?:impl|trait|mod)\b[^{]*", text, re.MULTILINE) if it.start() < place]
+    if not heads or not heads[-1][0].startswith("impl") or " for " in heads[-1][0]:
+        return None
+    found = re.match(r"impl(?:<[^{]*?>)? (\w+)", heads[-1][0])
+    return found and found[1]
+
+
+def begin_of(text: str, head: int) -> int:
+    """Where the comment and the attributes of the function with this head begin."""
+    begin = head
+    while begin:
+        line = text.rindex("\n", 0, begin - 1) + 1 if "\n" in text[: begin - 1] else 0
+        words = text[line:begin].strip()
+        if not words or not words.startswith("//") and words.endswith(("{", "}", ";")):
+            break
+        begin = line
+    return begin
+
+
+def modules_of(path: str) -> tuple[str, ...]:
+    inside = Path(path).with_suffix("").parts[1:]
+    return () if inside in (("lib",), ("main",)) else inside
+
+
+def homes_of(texts: dict[str, str]) -> dict[str, tuple[str, ...]]:
+    """The modules that types of these files stand in, where their methods are counted, wherever these stand."""
+    type_of = re.compile(r"^(?:pub(?:\(\w+\))? )?(?:struct|enum) (\w+)", re.MULTILINE)
+    return {it[1]: modules_of(path) for path, text in texts.items() for it in type_of.finditer(text)}
+
+
+def functions_of(path: str, text: str, homes: dict[str, tuple[str, ...]]) -> list[Function]:
+    """The functions and the methods of types' own impls in a file; not those that constants can call."""
+    found = []
+    for it in FUNCTION.finditer(text):
+        owner = type_around(text, it.start()) if it[1] else ""
+        end = re.compile(rf"^{it[1]}\}}$", re.MULTILINE).search(text, it.end())
+        if owner is None or len(it[1]) > 4 or not end or "const " in it[0]:
+            continue
+        body = re.compile(rf"^{it[1]}\{{$", re.MULTILINE).search(text, it.end(), end.start())
+        body = body or re.compile(r"\{$", re.MULTILINE).search(text, it.end(), end.start())
+        names = (*homes.get(owner, ()), owner, it[2]) if owner else (*modules_of(path), it[2])
+        if body and (not found or found[-1].end < it.start()):
+            places = (begin_of(text, it.start()), it.start(), it.start(2), it.end(2), body.end(), end.start())
+            found.append(Function(path, names, it[1], *places))
+    return found
 
 
 @dataclass(frozen=True)
@@ -67,27 +185,39 @@ class Change:
     begin: int
     end: int
     new: str
-    # The place of the function around it.
-    function: int | None
 
 
 @dataclass(frozen=True)
 class WrongBody:
     label: str
+    number: int
+    # The function that its line names, without the crate.
     refused: str
     changes: tuple[Change, ...]
+    # The places of the functions around its changes.
+    places: frozenset[tuple[str, int | None]]
+    # The function whose copy is to have it, if one does.
+    copied: Function | None = None
 
-    def functions(self) -> set[tuple[str, int | None]]:
-        return {(it.path, it.function) for it in self.changes}
+    def name(self) -> str:
+        """The name of the function that has its changes."""
+        return f"{self.copied.names[-1]}_wrong_{self.number}" if self.copied else self.refused.rpartition("::")[2]
+
+    def asked(self) -> str:
+        """The function that the prover is to refuse, where this stands beside others."""
+        return self.copied.label(self.name()) if self.copied else self.refused
+
+    def is_inside(self) -> bool:
+        return all(place is not None for _, place in self.places)
 
     def may_stand_beside(self, other: "WrongBody") -> bool:
-        are_inside = all(place is not None for _, place in self.functions() | other.functions())
-        return are_inside and not self.functions() & other.functions() and self.refused != other.refused
+        """Whether both can be in one check, each in its own place."""
+        return self.is_inside() and other.is_inside() and not self.places & other.places and self.refused != other.refused
 
 
-def read_body(label: str, edit: str, folder: str) -> WrongBody:
+def read_body(label: str, number: int, edit: str, crate: str, folder: str) -> WrongBody:
     """Reads an edit of a crate in this folder, each of whose texts stands there once."""
-    path, text, refused, changes = "", "", "", []
+    path, text, refused, changes, places = "", "", "", [], set()
     for line in edit.splitlines():
         match line.partition(": "):
             case ("file", _, path):
@@ -97,31 +227,28 @@ def read_body(label: str, edit: str, folder: str) -> WrongBody:
             case ("old", _, old):
                 begin = text.index(old)
             case ("new", _, new):
-                changes.append(Change(path, begin, begin + len(old), new, function_at(text, begin)))
-    return WrongBody(label, refused, tuple(changes))
+                changes.append(Change(path, begin, begin + len(old), new))
+                places.add((path, function_at(text, begin)))
+    return WrongBody(label, number, refused.removeprefix(f"{crate}::"), tuple(changes), frozenset(places))
 
 
-def planted(bodies: list[WrongBody], folder: str) -> dict[str, str]:
-    """The texts of the files that these change, with their changes, by their paths in the crate."""
-    texts: dict[str, str] = {}
-    # from the end on, so that the places before stay
-    for it in sorted((it for body in bodies for it in body.changes), key=lambda it: it.begin, reverse=True):
-        text = texts.setdefault(it.path, Path(folder, it.path).read_text())
-        texts[it.path] = text[: it.begin] + it.new + text[it.end :]
-    return texts
-
-
-def function_of_line(text: str, line: int) -> str:
-    """The name of the function around a line, counted from 1."""
-    place = function_at(text, sum(len(it) for it in text.splitlines(keepends=True)[:line]))
-    return "" if place is None else re.search(r"fn (\w+)", text[place:])[1]
+def copy_of(text: str, it: Function, name: str, changes: tuple[Change, ...]) -> str:
+    """The text of a function under another name, with these changes."""
+    copy = text
+    for change in sorted((*changes, Change(it.path, it.name, it.name_end, name)), key=lambda it: it.begin, reverse=True):
+        copy = copy[: change.begin] + change.new + copy[change.end :]
+    return "\n" + copy[it.begin : len(copy) - len(text) + it.brace()] + "\n"
 
 
 def refusals(said: str, folder: str, is_alone: bool) -> dict[str, list[str]]:
     """The functions of the crate in this folder with goals of their own that aren't proved, and these goals. Where one wrong body is
     planted alone, a function that isn't proved since a lemma doesn't hold is among them."""
-    told = [it for it in map(TOLD.match, said.splitlines()) if it and "it calls" not in it["why"]]
-    found = {it["name"]: re.findall(r"`([^`]*)`", it["why"].partition("did not prove ")[2]) for it in told}
+    # why a proof file fails may go on in the next line
+    said = re.sub(r"^(\S+\.antt:\d+:\d+: error: .*)\n +", r"\1 ", said, flags=re.MULTILINE)
+    told = [it for it in map(TOLD.match, said.splitlines()) if it]
+    unproved = {it["name"] for it in told}
+    told = [it for it in told if not unproved & set(re.findall(r"`([^`]*)`", it["why"].partition("it calls ")[2]))]
+    found = {it["name"]: re.findall(r"`([^`]*)`", it["why"].partition("did not prove ")[2].partition(";")[0]) for it in told}
     for line in said.splitlines():
         if (it := REFUSED.match(line)) and not NAMES.search(it["why"]):
             own = it["path"].replace("+", "").replace("/", "::")
@@ -135,56 +262,184 @@ def refusals(said: str, folder: str, is_alone: bool) -> dict[str, list[str]]:
     if is_alone:
         lemmas = [it["goal"] for it in map(LEMMA.match, said.splitlines()) if it and not NAMES.search(it["why"])]
         found = {name: goals or lemmas for name, goals in found.items()}
-    return {name: list(dict.fromkeys(goals)) for name, goals in found.items() if goals}
+    return {name.partition("::")[2]: list(dict.fromkeys(goals)) for name, goals in found.items() if goals}
+
+
+@dataclass(frozen=True)
+class Answer:
+    """What a check said of the functions that it was asked for."""
+
+    # Those that are refused, with their goals, and those that are proved.
+    refused: dict[str, list[str]]
+    proved: set[str]
+    # Those of code that can't be read, by the names that they have in their files, with why.
+    unread: dict[str, str]
+    # What is wrong in proof files that aren't those of a copy.
+    wrong: list[str]
+    # Why there are none.
+    why: str
 
 
 class Trial:
-    """The wrong bodies of one crate, tried over kept work."""
+    """The wrong bodies of one crate."""
 
     def __init__(self, rt: ModuleType, crate) -> None:
         self.rt, self.crate = rt, crate
-        self.kept = f"{crate.folder}/out/wrong-bodies"
         self.bodies: list[WrongBody] = []
         self.refused: list[str] = []
+        self.texts = {str(it.relative_to(crate.folder)): it.read_text() for it in sorted(Path(crate.folder, "src").rglob("*.rt"))}
+        homes = homes_of(self.texts)
+        self.functions = [it for path, text in self.texts.items() for it in functions_of(path, text, homes)]
         good, bad = rt.edits_of(SimpleNamespace(folder=str(TOP / "crates" / crate.name)))
         self.failed = [f"{it}: an edit stands right in must-fail/, and its name ends in .edit" for it in bad]
-        for file in map(Path, good):
+        for number, file in enumerate(map(Path, good), 1):
             label = f"{crate.name}/{file.stem}"
             _, why = rt.read_edit(str(file), crate.folder)
             if why:
                 self.failed.append(f"{label}: {why}")
             else:
-                self.bodies.append(read_body(label, file.read_text(), crate.folder))
+                self.bodies.append(self.with_copy(read_body(label, number, file.read_text(), crate.name, crate.folder)))
+
+    def with_copy(self, body: WrongBody) -> WrongBody:
+        """The wrong body with the function whose copy is to have it, where all that it changes is the body of the function that it names."""
+        for it in self.functions:
+            is_around = all(change.path == it.path and it.body <= change.begin and change.end <= it.end for change in body.changes)
+            if is_around and it.label() == body.refused and not self.is_cycle(it) and not self.has_proof_by_hand(it):
+                return replace(body, copied=it)
+        return body
+
+    def is_cycle(self, it: Function) -> bool:
+        return Path(self.crate.folder, it.folder(f"+{it.names[-1]}")).is_dir()
+
+    def has_proof_by_hand(self, it: Function) -> bool:
+        """Whether its theorem stands in its proof files, under its own name."""
+        return Path(self.crate.folder, it.folder(), "Proof.antt").exists()
 
     def work(self) -> int:
         """How much there is to do, to begin with the crate that takes longest."""
         return len(self.bodies) * self.crate.count(rb"\n")
 
-    def plant(self, bodies: list[WrongBody]) -> tuple[dict[str, list[str]], str]:
-        """Plants these in one copy and checks it; gives the functions that are refused, and why there are none."""
-        texts = planted(bodies, self.crate.folder)
-        ran = self.rt.checked(self.crate, texts, ["--jobs", "1"], self.kept)
-        lines = ran.stdout.rstrip("\n").split("\n")
-        unread = next((it for it in lines if self.rt.unread(it, texts)), "")
-        if unread or ran.returncode != 1 or not lines[-1].startswith("logic=not-proved"):
-            return {}, unread or lines[-1]
-        return refusals(ran.stdout, self.crate.folder, len(bodies) == 1), "none has a goal that isn't proved"
+    def controls(self, bodies: list[WrongBody]) -> list[Function]:
+        """Of the functions whose copies these are the shortest that has proof files, and the shortest that calls a function of the crate."""
+        copied = [it.copied for it in bodies if it.copied]
+        calls = re.compile("|".join(it.call() for it in self.functions))
+        having = {it for it in copied if Path(self.crate.folder, it.folder()).is_dir()}
+        calling = {it for it in copied if calls.search(self.texts[it.path], it.body, it.end)}
+        kinds = [having & calling] if having & calling else [it for it in (having, calling) if it] or [copied]
+        return [min(it, key=lambda it: (it.end - it.head, it.label())) for it in kinds if it]
 
-    def run(self) -> "Trial":
-        left, is_shared = list(self.bodies), True
+    def copy_proofs(self, room: str, it: Function, name: str) -> None:
+        """Gives a function's copy the proof files of the function."""
+        own = "\\.".join(it.names)
+        told = re.compile(rf"(Rattle\.{self.crate.name}\.(?:proofs|specs\.contracts)\.){own}(?![\w+-])")
+        new = ".".join((*it.names[:-1], name))
+        for file in sorted(Path(self.crate.folder, it.folder()).glob("*.antt")):
+            to = Path(room, it.folder(name), file.name)
+            to.parent.mkdir(parents=True, exist_ok=True)
+            to.write_text(told.sub(rf"\g<1>{new}", file.read_text()))
+
+    def leave_out(self, room: str, it: Function) -> Change:
+        """Takes a function's theorem as it stands, and gives the change that leaves its body out."""
+        for name in (it.names[-1], f"+{it.names[-1]}"):
+            shutil.rmtree(Path(room, it.folder(name)), ignore_errors=True)
+        file, name = Path(room, it.folder(), "Proof.antt"), it.names[-1]
+        file.parent.mkdir(parents=True)
+        statement = f"Rattle.{self.crate.name}.proofs.{'.'.join(it.names)}.Statement"
+        file.write_text(f"use {statement}.{{statement}}\n\npub {name}_spec : {{M : Type 1}} → statement M\n{name}_spec = ?\n")
+        return Change(it.path, it.body, it.end, f"\n{it.indent}    loop {{}}\n")
+
+    def plant(self, room: str, copied: list[WrongBody], placed: list[WrongBody], controls: list[Function]) -> None:
+        """Writes the crate with these copies, and these in their own places, into a folder."""
+        for part in self.rt.rtlib.PARTS:
+            if os.path.isdir(f"{self.crate.folder}/{part}"):
+                shutil.copytree(f"{self.crate.folder}/{part}", f"{room}/{part}")
+        kept = {it.refused for it in placed}
+        places = frozenset().union(*(it.places for it in placed))
+        changes = [change for it in placed for change in it.changes]
+        copies = [(it.copied, it.name(), it.changes) for it in copied]
+        for it, name, changed in copies + [(it, it.right(), ()) for it in controls]:
+            place = it.brace() + 1
+            changes.append(Change(it.path, place, place, copy_of(self.texts[it.path], it, name, changed)))
+            self.copy_proofs(room, it, name)
+        for it in self.functions:
+            if it.label() not in kept and (it.path, it.head) not in places:
+                changes.append(self.leave_out(room, it))
+        texts = dict(self.texts)
+        # from the end on, so that the places before stay
+        for it in sorted(changes, key=lambda it: it.begin, reverse=True):
+            text = texts.setdefault(it.path, Path(self.crate.folder, it.path).read_text())
+            texts[it.path] = text[: it.begin] + it.new + text[it.end :]
+        for path, text in texts.items():
+            Path(room, path).write_text(text)
+
+    def ask(self, copied: list[WrongBody], placed: list[WrongBody], controls: list[Function]) -> Answer:
+        """Plants these, and asks the prover for the functions that are to be refused and for the controls."""
+        with tempfile.TemporaryDirectory(prefix="wrong-bodies-") as room:
+            self.plant(room, copied, placed, controls)
+            asked = {it.copied.label(it.name()) for it in copied} | {it.refused for it in placed}
+            asked |= {it.label(it.right()) for it in controls}
+            flags = ["--jobs", "1", "--allow-holes", "--short-goals", *(word for it in sorted(asked) for word in ("--only", it))]
+            words = [*self.rt.rtlib.guarded(), self.rt.rtlib.RATTLE, "check", *self.crate.words(flags, keeps=False)]
+            how = {"cwd": room, "stdin": subprocess.DEVNULL, "stdout": subprocess.PIPE, "stderr": subprocess.STDOUT, "errors": "replace"}
+            ran = subprocess.run(words, **how)
+            return self.answer(ran.stdout, room, len(copied) + len(placed) == 1)
+
+    def answer(self, said: str, room: str, is_alone: bool) -> Answer:
+        lines = said.rstrip("\n").split("\n")
+        unread: dict[str, str] = {}
+        for line in lines:
+            if (it := UNREAD.match(line)) and (it["kind"] or self.rt.unread(line, {})):
+                unread.setdefault(function_of_line(Path(room, it["path"]).read_text(), int(it["line"])), line)
+        if unread or not ENDED.match(lines[-1]):
+            return Answer({}, set(), unread, [], next(iter(unread.values()), lines[-1]))
+        proved = {it["name"].partition("::")[2] for it in map(PROVED.match, lines) if it}
+        wrong = [it for it in lines if WRONG.match(it) and not COPIED.match(it)]
+        return Answer(refusals(said, room, is_alone), proved, {}, wrong, "none has a goal that isn't proved")
+
+    def count(self, it: WrongBody, goals: list[str]) -> None:
+        self.refused.append(f"{it.label}: refused by {self.crate.name}::{it.refused}: {', '.join(goals)}")
+
+    def try_copies(self) -> list[WrongBody]:
+        """Tries in one check those that have copies; gives all that aren't refused in it."""
+        tried = [it for it in self.bodies if it.copied]
+        controls = self.controls(tried)
+        while tried:
+            found = self.ask(tried, [], controls)
+            if not any(it.name() in found.unread for it in tried):
+                break
+            tried = [it for it in tried if it.name() not in found.unread]
+        if not tried:
+            return self.bodies
+        wrong = [f"{it.label(it.right())}, whose body is right, isn't proved: {found.why}" for it in controls if it.label(it.right()) not in found.proved]
+        if wrong or found.wrong:
+            self.failed.append(f"{self.crate.name}: the check of its copies counts for nothing: {(wrong + found.wrong)[0]}")
+            return self.bodies
+        refused = [it for it in tried if it.asked() in found.refused]
+        for it in refused:
+            self.count(it, found.refused[it.asked()])
+        return [it for it in self.bodies if it not in refused]
+
+    def try_in_place(self, left: list[WrongBody]) -> None:
+        """Tries these in their own places, as many at a time as may stand in one check, and at last each alone."""
+        is_shared = True
         while left:
             tried: list[WrongBody] = []
             for it in left:
                 if not tried or is_shared and all(it.may_stand_beside(other) for other in tried):
                     tried.append(it)
-            found, why = self.plant(tried)
-            refused = [it for it in tried if it.refused in found]
-            self.refused += [f"{it.label}: refused by {it.refused}: {', '.join(found[it.refused])}" for it in refused]
+            found = self.ask([], tried, [])
+            refused = [it for it in tried if it.refused in found.refused]
+            for it in refused:
+                self.count(it, found.refused[it.refused])
             if len(tried) == 1 and not refused:
-                self.failed.append(f"{tried[0].label}: NOT REFUSED by {tried[0].refused or 'a function that it names'}; refused: {', '.join(found) or why}")
+                told = ", ".join(found.refused) or found.why
+                self.failed.append(f"{tried[0].label}: NOT REFUSED by {tried[0].refused or 'a function that it names'}; refused: {told}")
                 left = left[1:]
             left = [it for it in left if it not in refused]
             is_shared = is_shared and (bool(refused) or len(tried) == 1)
+
+    def run(self) -> "Trial":
+        self.try_in_place(self.try_copies())
         return self
 
 
@@ -198,7 +453,7 @@ def main(words: list[str]) -> int:
     rt.rtlib.guarded()
     is_after_ci = words[:1] == ["--after-ci"]
     root = Path(words[1]).resolve() if is_after_ci else TOP
-    names = [] if is_after_ci else words
+    names = words[2:] if is_after_ci else words
     crates = [it for it in rt.rtlib.crates_below(str(root)) if not names or it.name in names]
     trials = [it for it in (Trial(rt, it) for it in crates) if it.bodies or it.failed]
     held = rt.rtlib.lock(crates)
