@@ -63,7 +63,7 @@ module _ {S : Type 0} (m : Behaviour S) (body : BodyView S) where
   abbrev pub MissesNoSplitBelow : ℕ → Type 0
   MissesNoSplitBelow end = (number lesser greater : ℕ) → number < end → MissesSplit m body number lesser greater → ⊥
 
-  -- a split that is missing: the least state where one is, and the least two of its rules there
+  -- the first missing split: the least state that misses one, and the least two rules of one there
   pub record IsLeastSplit (split : MissingSplit) : Type 0 where
     pub state : IsLeast (λ number. (l g : ℕ) × MissesSplit m body number l g) split.state
     pub lesser : IsLeast (λ l. (g : ℕ) × MissesSplit m body split.state l g) split.lesser

@@ -193,7 +193,7 @@ fn progress_after(
     told_of_progress(alloc, &progress)
 }
 
-/// Whether what is told of a search of the table after two slices, of `first` steps and of `second`,
+/// Whether the text for a search of the table, after a slice of `first` steps and one of `second`,
 /// begins with `want`.
 fn comes_to(
     alloc: Global,
