@@ -1,12 +1,12 @@
 -- What follows from a judge's outcome for the table and the certificate.
 use Rattle.std.proofs.Common.{◌≡◌, ℕ, ◌⊎◌, inl, inr, List, Result, Ok, Err, IfErr, IfOk, OnOk, refl, sym, ◌∙◌, ap, subst}
-use Rattle.brl_accept.specs.Judging.{IsAccepted, IsAcceptedWith, IsNotAccepted, IsNotClosed, IsRefusedBy, IsRefusedFor, IsRefusedWith, counted}
+use Rattle.brl_accept.specs.Judging.{IsAccepted, IsAcceptedWith, IsNotAccepted, IsNotClosed, IsNotProvedWith, IsProvedWith, IsRefusedBy, IsRefusedFor, IsRefusedWith, counted}
 use Rattle.brl_accept.specs.declared.accept_fault.AcceptFault.{AcceptFault}
 use Rattle.brl_accept.specs.declared.checker.Accepted.{Accepted}
 use Rattle.brl_accept.specs.declared.judge_fault.JudgeFault.{JudgeFault}
-use Rattle.brl_accept.specs.declared.judge_fault.JudgeFault.TheVariants.{NoTable, Cert, Wide, Refused}
+use Rattle.brl_accept.specs.declared.judge_fault.JudgeFault.TheVariants.{NoTable, Cert, OldVersion, Wide, Refused}
 use Rattle.brl_accept.proofs.Closing.{open_where_refused}
-use Rattle.brl_kinds.specs.Kinds.{IsClosedFor, OfMachine}
+use Rattle.brl_kinds.specs.Kinds.{HasVersion, IsClosedFor, OfMachine}
 use Rattle.brl_cert.specs.Reading.{reading}
 use Rattle.brl_kinds.specs.declared.cert.Cert.TheVariants.{Dues, Window, Word}
 use Rattle.brl_kinds.specs.declared.cert.Cert.{Cert as Certificate}
@@ -41,10 +41,11 @@ not_closed t (Dues body) fault h closed = open_where_refused (dues_machine t) bo
 not_closed t (Word body) fault h closed = open_where_refused (dues_machine t) body fault h closed
 
 not_accepted_with : (t : TableView) (cert : Certificate) (fault : JudgeFault) → IsRefusedWith t cert fault → (accepted : Accepted) → IsAcceptedWith t cert accepted → ⊥
-not_accepted_with t cert (NoTable fault) h accepted is = h
-not_accepted_with t cert (Cert fault) h accepted is = h
-not_accepted_with t cert (Wide fault) h accepted is = h is.0
-not_accepted_with t cert (Refused fault) h accepted is = not_closed t cert fault h.1 is.1
+not_accepted_with t cert (NoTable fault) h accepted is = h.1
+not_accepted_with t cert (Cert fault) h accepted is = h.1
+not_accepted_with t cert OldVersion h accepted is = h is.0
+not_accepted_with t cert (Wide fault) h accepted is = h.1 is.1.0
+not_accepted_with t cert (Refused fault) h accepted is = not_closed t cert fault h.1.1 is.1.1
 
 module _ (t : TableView) (bytes : List ℕ) where
   by_cert : (fault : JudgeFault) → (cert : Certificate) × (reading bytes ≡ Ok cert) × IsRefusedWith t cert fault → (accepted : Accepted) → IsAccepted t bytes accepted → ⊥
@@ -54,13 +55,23 @@ module _ (t : TableView) (bytes : List ℕ) where
   not_accepted_for : (fault : JudgeFault) → IsRefusedFor t bytes fault → (accepted : Accepted) → IsAccepted t bytes accepted → ⊥
   not_accepted_for (NoTable fault) h accepted is = by_cert (NoTable fault) h accepted is
   not_accepted_for (Cert fault) h accepted is = no_cert bytes fault is.0 h is.1
+  not_accepted_for OldVersion h accepted is = by_cert OldVersion h accepted is
   not_accepted_for (Wide fault) h accepted is = by_cert (Wide fault) h accepted is
   not_accepted_for (Refused fault) h accepted is = by_cert (Refused fault) h accepted is
 
+-- a certificate of a version for the table, that isn't proved
+pub refused_with : (t : TableView) (cert : Certificate) → HasVersion t cert → (fault : JudgeFault) → IsNotProvedWith t cert fault → IsRefusedWith t cert fault
+refused_with t cert version (NoTable fault) h = absurd h
+refused_with t cert version (Cert fault) h = absurd h
+refused_with t cert version OldVersion h = absurd h
+refused_with t cert version (Wide fault) h = (version, h)
+refused_with t cert version (Refused fault) h = (version, h)
+
 -- a refusal of a certificate that was read
 pub refused_as : (t : TableView) (bytes : List ℕ) (cert : Certificate) → reading bytes ≡ Ok cert → (fault : JudgeFault) → IsRefusedWith t cert fault → IsRefusedFor t bytes fault
-refused_as t bytes cert e (NoTable fault) h = absurd h
-refused_as t bytes cert e (Cert fault) h = absurd h
+refused_as t bytes cert e (NoTable fault) h = absurd h.1
+refused_as t bytes cert e (Cert fault) h = absurd h.1
+refused_as t bytes cert e OldVersion h = (cert, e, h)
 refused_as t bytes cert e (Wide fault) h = (cert, e, h)
 refused_as t bytes cert e (Refused fault) h = (cert, e, h)
 
@@ -69,8 +80,9 @@ refused_as t bytes cert e (Refused fault) h = (cert, e, h)
 module _ (gives : MayGive) (root bytes : List ℕ) where
   -- a refusal of the table is one of the last stages
   refused_after : (t : TableView) (fault : JudgeFault) → IsTableOf gives root t → IsRefusedFor t bytes fault → IsRefusedBy gives root bytes fault
-  refused_after t (NoTable fault) is h = absurd h.2
+  refused_after t (NoTable fault) is h = absurd h.2.1
   refused_after t (Cert fault) is h = (t, is, h, not_accepted_for t bytes (Cert fault) h)
+  refused_after t OldVersion is h = (t, is, h, not_accepted_for t bytes OldVersion h)
   refused_after t (Wide fault) is h = (t, is, h, not_accepted_for t bytes (Wide fault) h)
   refused_after t (Refused fault) is h = (t, is, h, not_accepted_for t bytes (Refused fault) h)
 
@@ -93,6 +105,7 @@ module _ (gives : MayGive) (root bytes : List ℕ) where
     never_refused : (fault : JudgeFault) → IsRefusedBy gives root bytes fault → ⊥
     never_refused (NoTable fault) h = no_fault fault h
     never_refused (Cert fault) h = later_stage (Cert fault) h
+    never_refused OldVersion h = later_stage OldVersion h
     never_refused (Wide fault) h = later_stage (Wide fault) h
     never_refused (Refused fault) h = later_stage (Refused fault) h
 
@@ -100,7 +113,7 @@ module _ (gives : MayGive) (root bytes : List ℕ) where
     same_acceptance other h =
         let here = subst (λ (u : TableView). IsAccepted u bytes other) (sym (one_table h.0 h.1)) h.3 in
         let cert : here.0 ≡ deserved.0 = one_cert bytes here.0 deserved.0 here.1 deserved.1 in
-        here.2.2 ∙ ap counted cert ∙ sym deserved.2.2
+        here.2.1.2 ∙ ap counted cert ∙ sym deserved.2.1.2
 
     -- what the judge answers: acceptance, unless memory ran out
     pub decided : (result : Result Accepted (Failure JudgeFault)) → IfOk result (λ other. (u : TableView) × IsTableOf gives root u × IsUnambiguous u × IsAccepted u bytes other)

@@ -2,11 +2,11 @@
 -- project's own choice.
 use Rattle.std.specs.Prelude.{ℕ, ◌≡◌, List, Result, Ok, Err}
 use Rattle.brl_accept.specs.Refusals.{IsRefused}
-use Rattle.brl_kinds.specs.Kinds.{HasMachine, IsClosedFor, OfMachine, pair_count, state_count}
+use Rattle.brl_kinds.specs.Kinds.{HasMachine, HasVersion, IsClosedFor, OfMachine, pair_count, state_count}
 use Rattle.brl_accept.specs.declared.accept_fault.AcceptFault.{AcceptFault}
 use Rattle.brl_accept.specs.declared.checker.Accepted.{Accepted}
 use Rattle.brl_accept.specs.declared.judge_fault.JudgeFault.{JudgeFault}
-use Rattle.brl_accept.specs.declared.judge_fault.JudgeFault.TheVariants.{NoTable, Cert, Wide, Refused}
+use Rattle.brl_accept.specs.declared.judge_fault.JudgeFault.TheVariants.{NoTable, Cert, OldVersion, Wide, Refused}
 use Rattle.brl_edges.specs.Body.{BodyView}
 use Rattle.brl_cert.specs.Reading.{reading}
 use Rattle.brl_kinds.specs.declared.cert.Cert.{Cert as Certificate}
@@ -26,8 +26,12 @@ counted cert = record { states = state_count cert; pairs = pair_count cert }
 
 -- the table has the machine of the certificate's version, the states and pairs are closed for it,
 -- and these are their numbers
+abbrev pub IsProvedWith : TableView → Certificate → Accepted → Type 0
+IsProvedWith t cert accepted = HasMachine t cert × IsClosedFor t cert × (accepted ≡ counted cert)
+
+-- the same, and certificates of its version are for the table
 abbrev pub IsAcceptedWith : TableView → Certificate → Accepted → Type 0
-IsAcceptedWith t cert accepted = HasMachine t cert × IsClosedFor t cert × (accepted ≡ counted cert)
+IsAcceptedWith t cert accepted = HasVersion t cert × IsProvedWith t cert accepted
 
 -- the checker refuses a machine's states and pairs with this fault
 abbrev pub IsNotClosed : AcceptFault → (S : Type 0) → Behaviour S → BodyView S → Type 0
@@ -35,10 +39,15 @@ IsNotClosed fault S m body = IsRefused m body fault
 
 -- the table is too wide for the machine of the certificate's version, or else the states and pairs
 -- aren't closed
+abbrev pub IsNotProvedWith : TableView → Certificate → JudgeFault → Type 0
+IsNotProvedWith t cert (Wide fault) = HasMachine t cert → ⊥
+IsNotProvedWith t cert (Refused fault) = HasMachine t cert × OfMachine (IsNotClosed fault) t cert
+IsNotProvedWith t cert fault = ⊥
+
+-- certificates of its version aren't for the table, or else one of these two holds
 abbrev pub IsRefusedWith : TableView → Certificate → JudgeFault → Type 0
-IsRefusedWith t cert (Wide fault) = HasMachine t cert → ⊥
-IsRefusedWith t cert (Refused fault) = HasMachine t cert × OfMachine (IsNotClosed fault) t cert
-IsRefusedWith t cert fault = ⊥
+IsRefusedWith t cert OldVersion = HasVersion t cert → ⊥
+IsRefusedWith t cert fault = HasVersion t cert × IsNotProvedWith t cert fault
 
 -- ---- A table and bytes
 

@@ -1,9 +1,10 @@
 //! The judge of a certificate for the table that files define.
-ghost use Rattle.std.specs.Prelude.{◌≡◌, ◌⊎◌, Err, IfErr, IfOk, Ok, OnOk};
-ghost use Rattle.brl_accept.specs.Judging.{IsAccepted, IsAcceptedWith, IsRefusedBy, IsRefusedFor, IsRefusedWith, load_outcome};
+ghost use Rattle.std.specs.Prelude.{◌≡◌, ◌⊎◌, ◌↔◌, Err, IfErr, IfOk, IsTrue, Ok, OnOk};
+ghost use Rattle.brl_accept.specs.Judging.{IsAccepted, IsNotProvedWith, IsProvedWith, IsRefusedBy, IsRefusedFor, load_outcome};
 ghost use Rattle.brl_accept.specs.declared.checker.Accepted.{Accepted as AcceptedValue};
 ghost use Rattle.brl_failure.specs.Failure.{IfFault};
 ghost use Rattle.brl_failure.specs.declared.failure.Failure.TheVariants as failures;
+ghost use Rattle.brl_kinds.specs.Kinds.{HasVersion};
 ghost use Rattle.brl_lines.specs.Answer.{AllStay, GivesOneAnswer};
 ghost use Rattle.brl_lines.specs.Outcome.{CountsFailure};
 ghost use Rattle.brl_reading.specs.Files.{IsTableOf};
@@ -28,8 +29,8 @@ fn judge_windows(
     body: &Body<WindowState>,
 ) -> Result<Accepted, Failure<JudgeFault>>
     ensures unambiguous { OnOk result (IsUnambiguous table.now) }
-    ensures accepted { IfOk result (IsAcceptedWith table.now (Cert.Window body.now)) }
-    ensures refused { IfErr result (IfFault (IsRefusedWith table.now (Cert.Window body.now))) }
+    ensures accepted { IfOk result (IsProvedWith table.now (Cert.Window body.now)) }
+    ensures refused { IfErr result (IfFault (IsNotProvedWith table.now (Cert.Window body.now))) }
 {
     let Ok(window) = Window::new(alloc, table) else {
         return Err(Failure::Fault(JudgeFault::Wide(TooWide)));
@@ -44,11 +45,22 @@ fn judge_dues(
     body: &Body<DuesState>,
 ) -> Result<Accepted, Failure<JudgeFault>>
     ensures unambiguous { OnOk result (IsUnambiguous table.now) }
-    ensures accepted { IfOk result (IsAcceptedWith table.now (Cert.Word body.now)) }
-    ensures refused { IfErr result (IfFault (IsRefusedWith table.now (Cert.Word body.now))) }
+    ensures accepted { IfOk result (IsProvedWith table.now (Cert.Word body.now)) }
+    ensures refused { IfErr result (IfFault (IsNotProvedWith table.now (Cert.Word body.now))) }
 {
     let dues = Dues::new(alloc, table);
     raise(accept(alloc, &dues, body), JudgeFault::Refused)
+}
+
+/// Whether certificates of this one's version are for the table: all where it has no word capitals,
+/// else those of version 3.
+fn has_version(table: &Table, cert: &Cert) -> bool
+    ensures { IsTrue result ↔ HasVersion table.now cert.now }
+{
+    match cert {
+        Cert::Window(_) | Cert::Dues(_) => !table.has_word_capitals(),
+        Cert::Word(_) => true,
+    }
 }
 
 /// Judges a certificate for a table.
@@ -57,7 +69,11 @@ fn judge_table(alloc: Global, table: &Table, cert: &[u8]) -> Result<Accepted, Fa
     ensures accepted { IfOk result (IsAccepted table.now cert.now) }
     ensures refused { IfErr result (IfFault (IsRefusedFor table.now cert.now)) }
 {
-    match raise(read_cert(alloc, cert), JudgeFault::Cert)? {
+    let cert = raise(read_cert(alloc, cert), JudgeFault::Cert)?;
+    if !has_version(table, &cert) {
+        return Err(Failure::Fault(JudgeFault::OldVersion));
+    }
+    match cert {
         Cert::Window(runless) => judge_windows(alloc, table, runless.body()),
         Cert::Dues(runless) => judge_dues(alloc, table, runless.body()),
         Cert::Word(body) => judge_dues(alloc, table, &body),
@@ -69,7 +85,8 @@ fn judge_table(alloc: Global, table: &Table, cert: &[u8]) -> Result<Accepted, Fa
 /// characters that the table translates to the same cells are equal, whatever their length.
 ///
 /// Otherwise the fault is that of the first stage that refuses: `NoTable` where the files define no
-/// table; `Cert` where the bytes spell no certificate; `Wide` where the certificate is of version 1
+/// table; `Cert` where the bytes spell no certificate; `OldVersion` where the certificate is of
+/// version 1 or 2 and the table has word capitals; `Wide` where the certificate is of version 1
 /// and the table has no window machine; `Refused` where the certificate's states and pairs aren't
 /// closed for the machine of its version.
 pub fn judge<S: Source>(

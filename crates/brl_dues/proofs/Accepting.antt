@@ -1,26 +1,30 @@
 -- A text that meets the dues of a state has a path from it that reads the text.
-use Rattle.std.proofs.Common.{◌≡◌, ℕ, zero, suc, ◌+◌, ◌≤◌, Bool, true, false, not, ◌&&◌, List, [], ◌∷◌, ◌++◌, Option, Some, None, length, take, refl, sym, ap, ap₂, ◌∙◌, inl, inr, arith, nat_eq, append_assoc, append-nil, length-append}
+use Rattle.std.proofs.Common.{◌≡◌, ℕ, zero, suc, ◌+◌, ◌≤◌, Bool, true, false, not, ◌&&◌, List, [], ◌∷◌, ◌++◌, Option, Some, None, length, take, refl, sym, ap, ap₂, ◌∙◌, inl, inr, arith, map, nat_eq, append_assoc, append-nil, length-append}
 use Rattle.std.specs.Prelude.{slice_get}
-use Rattle.std.specs.List.{starts_with}
+use Rattle.std.specs.List.{list_all, starts_with}
 use Rattle.std.specs.Cmp.{first_so, second_so}
 use Rattle.std.proofs.lemmas.Bool.{eqb-true}
 use Rattle.brl_pairs.specs.declared.step.Step.{Step}
 use Rattle.brl_pairs.specs.Runs.{Accepts, IsPath, reads_of}
 use Rattle.brl_table.specs.declared.class.Class.{Class}
 use Rattle.brl_table.specs.declared.rule.Rule.{Rule}
-use Rattle.brl_table.specs.Choice.{fits, matches}
+use Rattle.brl_table.specs.Choice.{fits, folds_of_capitals, matches}
+use Rattle.brl_table.specs.declared.place.Cond.{Cond}
 use Rattle.brl_table.specs.Places.{after_of, before_of, holds}
 use Rattle.brl_table.specs.TableView.{TableView}
-use Rattle.brl_table.specs.Text.{classes_at, fold_of, is_defined, is_text}
+use Rattle.brl_table.specs.Text.{classes_at, fold_of, is_defined, is_in_run, is_text}
 use Rattle.brl_dues.specs.declared.due.Due.{Due}
 use Rattle.brl_dues.specs.declared.state.DuesState.{DuesState}
 use Rattle.brl_dues.specs.Due.{dues_met}
-use Rattle.brl_dues.specs.Form.{Form, IsForm, own_form, rule_form}
+use Rattle.brl_dues.specs.Capitals.{alike, further, is_upper}
+use Rattle.brl_dues.specs.Form.{Form, IsForm, folded, may_read, own_form, rule_form}
 use Rattle.brl_dues.specs.Steps.{dues_machine, next_dues, step_of}
+use Rattle.brl_dues.proofs.Carrying.{fits_in}
 use Rattle.brl_dues.proofs.Exact.{AreKnown, ends-met, path-Gives}
 use Rattle.brl_dues.proofs.Forms.{IsStep-listed}
+use Rattle.brl_dues.proofs.InRun.{alike-itself, folds-more, folds-none, further-met, some-met}
 use Rattle.brl_dues.proofs.StepLaw.{none_fits, option_met, step-met}
-use Rattle.brl_dues.proofs.Taking.{Choosing, Translating, fits-form, form-ReadsSome}
+use Rattle.brl_dues.proofs.Taking.{Choosing, Translating, fits-form, form-ReadsSome, form-agrees}
 
 -- ---- What fits
 
@@ -32,12 +36,51 @@ starts-rest (b ∷ rest) (a ∷ others) h =
     let same : a ≡ b = eqb-true a b (first_so (nat_eq a b) (starts_with nat_eq rest others) h) in
     (more.0, ap (λ l. b ∷ l) more.1 ∙ ap (λ x. x ∷ (others ++ more.0)) (sym same))
 
-matches-form : (t : TableView) (c : ℕ) (rest chars : List ℕ) → matches t (c ∷ rest) chars ≡ true
-    → (others : List ℕ) × (u : List ℕ) × (chars ≡ fold_of t c ∷ others) × (rest ≡ others ++ u)
-matches-form t c rest [] h = cc
-matches-form t c rest (first ∷ others) h =
-    let more = starts-rest rest others (second_so (nat_eq (fold_of t c) first) (starts_with nat_eq rest others) h) in
-    (others, more.0, ap (λ x. x ∷ others) (sym (eqb-true (fold_of t c) first (first_so (nat_eq (fold_of t c) first) (starts_with nat_eq rest others) h))), more.1)
+-- capitals that a rest begins with, and what comes after them
+pub record Capitals (t : TableView) (rest chars : List ℕ) : Type 0 where
+  pub others : List ℕ
+  pub left : List ℕ
+  pub uppers : list_all (is_upper t) others ≡ true
+  pub folds : chars ≡ map (fold_of t) others
+  pub begins : rest ≡ others ++ left
+
+starts-folds : (t : TableView) (rest chars : List ℕ) → starts_with nat_eq (folds_of_capitals t rest) chars ≡ true → Capitals t rest chars
+starts-folds t rest [] h = record { others = []; left = rest; uppers = refl; folds = refl; begins = refl }
+starts-folds t [] (a ∷ chars) h = cc
+starts-folds t (b ∷ rest) (a ∷ chars) h = at (is_upper t b) refl (starts-folds t rest chars)
+  where
+    at : (k : Bool) → is_upper t b ≡ k → (starts_with nat_eq (folds_of_capitals t rest) chars ≡ true → Capitals t rest chars) → Capitals t (b ∷ rest) (a ∷ chars)
+    at false e more = (let no : false ≡ true = ap (λ w. starts_with nat_eq w (a ∷ chars)) (sym (folds-none t b rest e)) ∙ h in cc)
+    at true e more =
+        let both : (nat_eq a (fold_of t b) && starts_with nat_eq (folds_of_capitals t rest) chars) ≡ true = ap (λ w. starts_with nat_eq w (a ∷ chars)) (sym (folds-more t b rest e)) ∙ h in
+        let m = more (second_so (nat_eq a (fold_of t b)) (starts_with nat_eq (folds_of_capitals t rest) chars) both) in
+        let first : a ≡ fold_of t b = eqb-true a (fold_of t b) (first_so (nat_eq a (fold_of t b)) (starts_with nat_eq (folds_of_capitals t rest) chars) both) in
+        record {
+          others = b ∷ m.others;
+          left = m.left;
+          uppers = ap₂ (λ x y. x && y) e m.uppers;
+          folds = ap₂ (λ x l. x ∷ l) first m.folds;
+          begins = ap (λ l. b ∷ l) m.begins;
+        }
+
+-- what a rule reads of a rest that begins with its characters, and what comes after it
+pub record Matching (t : TableView) (run : Bool) (c : ℕ) (rest chars : List ℕ) : Type 0 where
+  pub others : List ℕ
+  pub left : List ℕ
+  pub may : may_read t run others ≡ true
+  pub folds : chars ≡ folded t run c others
+  pub begins : rest ≡ others ++ left
+
+matches-form : (t : TableView) (run : Bool) (c : ℕ) (rest chars : List ℕ) → matches t run (c ∷ rest) chars ≡ true → Matching t run c rest chars
+matches-form t run c rest [] h = cc
+matches-form t true c rest (first ∷ others) h =
+    let m = starts-folds t rest others (second_so (nat_eq first (fold_of t c)) (starts_with nat_eq (folds_of_capitals t rest) others) h) in
+    let same : first ≡ fold_of t c = eqb-true first (fold_of t c) (first_so (nat_eq first (fold_of t c)) (starts_with nat_eq (folds_of_capitals t rest) others) h) in
+    record { others = m.others; left = m.left; may = m.uppers; folds = ap₂ (λ x l. x ∷ l) same m.folds; begins = m.begins }
+matches-form t false c rest (first ∷ others) h =
+    let more = starts-rest rest others (second_so (nat_eq first (fold_of t c)) (starts_with nat_eq rest others) h) in
+    let same : first ≡ fold_of t c = eqb-true first (fold_of t c) (first_so (nat_eq first (fold_of t c)) (starts_with nat_eq rest others) h) in
+    record { others = others; left = more.0; may = refl; folds = ap (λ x. x ∷ others) same; begins = more.1 }
 
 -- ---- The form that is taken
 
@@ -48,6 +91,7 @@ pub record Found (t : TableView) (before : Class) (rest : List ℕ) : Type 0 whe
   pub left : List ℕ
   pub begins : rest ≡ form.reads ++ left
   pub after : holds form.after (classes_at t left 0) ≡ true
+  pub next : holds form.next (classes_at t left 0) ≡ true
   pub none : none_fits t before rest form.above ≡ true
 
 slice_get-middle : (xs : List Rule) (r : Rule) (ys : List Rule) → slice_get (xs ++ r ∷ ys) (length xs) ≡ Some r
@@ -67,42 +111,61 @@ none-more t before rest (q ∷ above) r h e =
     ∙ none-more t before rest above r (second_so (not (fits t before rest q)) (none_fits t before rest above) h) e
 
 module _ (t : TableView) (before : Class) (c : ℕ) (rest : List ℕ) (defined : is_defined t c ≡ true) where
+  -- whether the rest begins in a run of capitals
+  abbrev run : Bool
+  run = is_in_run t before (c ∷ rest)
+
+  -- what must follow what is read, does follow
+  further-found : (others left : List ℕ) → rest ≡ others ++ left → (next : Cond) × (further t before run (c ∷ others) ≡ Some next) × (holds next (classes_at t left 0) ≡ true)
+  further-found others left e =
+      some-met (further t before run (c ∷ others)) (classes_at t left 0)
+      (further-met t left before run c others ∙ ap (λ l. alike run (is_in_run t before (c ∷ l))) (sym e) ∙ alike-itself run)
+
   found-own : none_fits t before (c ∷ rest) t.rules ≡ true → Found t before (c ∷ rest)
-  found-own none = record {
-    form = own_form t c;
-    is_form = inr (record { character = c; defined = defined; number = refl; reads = refl; after = refl; cells = refl; above = refl });
-    left = rest;
-    begins = refl;
-    after = refl;
-    none = none;
-  }
+  found-own none =
+      let n = further-found [] rest refl in
+      record {
+        form = own_form t c run n.0;
+        is_form = inr (record { character = c; defined = defined; number = refl; reads = refl; next = n.1; after = refl; cells = refl; above = refl });
+        left = rest;
+        begins = refl;
+        after = refl;
+        next = n.2;
+        none = none;
+      }
 
   found-rule : (above : List Rule) (r : Rule) (rules : List Rule) → above ++ r ∷ rules ≡ t.rules → none_fits t before (c ∷ rest) above ≡ true → fits t before (c ∷ rest) r ≡ true
       → Found t before (c ∷ rest)
   found-rule above r rules whole none h =
-      let front = first_so (matches t (c ∷ rest) r.chars && holds (before_of r.place) before) (holds (after_of r.place before) (classes_at t (c ∷ rest) (length r.chars))) h in
-      let before_holds = second_so (matches t (c ∷ rest) r.chars) (holds (before_of r.place) before) front in
-      let m = matches-form t c rest r.chars (first_so (matches t (c ∷ rest) r.chars) (holds (before_of r.place) before) front) in
+      let front = first_so (matches t run (c ∷ rest) r.chars && holds (before_of r.place) before) (holds (after_of r.place before) (classes_at t (c ∷ rest) (length r.chars))) h in
+      let before_holds = second_so (matches t run (c ∷ rest) r.chars) (holds (before_of r.place) before) front in
+      let m = matches-form t run c rest r.chars (first_so (matches t run (c ∷ rest) r.chars) (holds (before_of r.place) before) front) in
+      let n = further-found m.others m.left m.begins in
       let there : slice_get t.rules (length above) ≡ Some r = ap (λ l. slice_get l (length above)) (sym whole) ∙ slice_get-middle above r rules in
       let taken : above ≡ take (length above) t.rules = sym (take-middle above (r ∷ rules)) ∙ ap (take (length above)) whole in
       record {
-        form = rule_form before above r m.0 c;
+        form = rule_form before above r run (c ∷ m.others) n.0;
         is_form = inl (record {
           rule = r;
           there = there;
           before_holds = before_holds;
           character = c;
-          others = m.0;
+          others = m.others;
           defined = defined;
-          chars = m.2;
+          may = m.may;
+          chars = m.folds;
           reads = refl;
+          next = n.1;
           after = refl;
           cells = refl;
           above = taken;
         });
-        left = m.1;
-        begins = ap (λ l. c ∷ l) m.3;
-        after = sym (fits-form t before c m.0 m.1 r m.2 before_holds) ∙ ap (λ l. fits t before (c ∷ l) r) (sym m.3) ∙ h;
+        left = m.left;
+        begins = ap (λ l. c ∷ l) m.begins;
+        after =
+            sym (fits-form t before run c m.others m.left r m.may m.folds before_holds)
+            ∙ ap (λ l. fits_in t before run (c ∷ l) r) (sym m.begins) ∙ h;
+        next = n.2;
         none = none;
       }
 
@@ -134,8 +197,9 @@ pub step-on : (t : TableView) (s : DuesState) (rest : List ℕ) → Found t s.be
 step-on t s rest f met =
     let r = form-ReadsSome t s.before f.form f.is_form in
     let all : option_met t f.left (next_dues t s f.form) ≡ true =
-    step-met t f.left s f.form r.character r.others r.reads
-    ∙ ap₂ (λ a l. dues_met t l s.dues && (a && none_fits t s.before l f.form.above)) f.after (sym f.begins)
+    step-met t f.left s f.form r.character r.others r.reads (form-agrees t s.before f.form f.is_form f.left)
+    ∙ ap₂ (λ a l. dues_met t l s.dues && (a && (holds f.form.next (classes_at t f.left 0) && none_fits t s.before l f.form.above))) f.after (sym f.begins)
+    ∙ ap (λ x. dues_met t rest s.dues && (x && none_fits t s.before rest f.form.above)) f.next
     ∙ ap₂ (λ a b. a && b) met f.none in
     at (next_dues t s f.form) refl all
   where

@@ -1,12 +1,12 @@
 -- What is carried past a step's characters holds of a rest exactly where the due holds of the
 -- characters and the rest.
-use Rattle.std.proofs.Common.{◌≡◌, ℕ, Bool, true, false, not, ◌&&◌, List, [], ◌∷◌, ◌++◌, length, refl, sym, ◌∙◌, nat_eq, cond}
-use Rattle.std.specs.List.{starts_with}
+use Rattle.std.proofs.Common.{◌≡◌, ℕ, Bool, true, false, not, ◌&&◌, List, [], ◌∷◌, ◌++◌, length, map, refl, sym, ap, ◌∙◌, nat_eq, cond}
+use Rattle.std.specs.List.{list_all, starts_with}
 use Rattle.brl_table.specs.declared.class.Class.{Class}
 use Rattle.brl_table.specs.declared.place.Cond.{Cond}
 use Rattle.brl_table.specs.declared.place.Cond.TheVariants.{Any, Meets, Avoids}
 use Rattle.brl_table.specs.declared.rule.Rule.{Rule}
-use Rattle.brl_table.specs.Choice.{fits, matches}
+use Rattle.brl_table.specs.Choice.{folds_of_capitals, matches}
 use Rattle.brl_table.specs.Places.{holds, before_of, after_of, share}
 use Rattle.brl_table.specs.TableView.{TableView}
 use Rattle.brl_table.specs.Text.{classes_at, classes_of, fold_of}
@@ -14,14 +14,25 @@ use Rattle.brl_dues.specs.declared.carry.Carried.{Carried}
 use Rattle.brl_dues.specs.declared.carry.Carried.TheVariants.{Broken, Settled, Left}
 use Rattle.brl_dues.specs.declared.due.Due.{Due}
 use Rattle.brl_dues.specs.declared.due.Due.TheVariants.{Need, Bar}
-use Rattle.brl_dues.specs.Carry.{opposed, settled_if, carry_bar, carry_need, carry, need, bar_after, bar_of}
+use Rattle.brl_dues.specs.Capitals.{choices, is_upper}
+use Rattle.brl_dues.specs.Carry.{opposed, settled_if, carry_bar, carry_capitals, carry_need, carry, need, bars_after, bars_past, bars_to}
 use Rattle.brl_dues.specs.Due.{goes_on, due_met}
+use Rattle.brl_dues.proofs.Choices.{and-true, choices-met, choices-on, list_all-map, run_goes_on}
+use Rattle.brl_dues.proofs.InRun.{folds-more, folds-none}
 
 -- a rest meets what is left
 abbrev pub carried_met : TableView → List ℕ → Carried → Bool
 carried_met t rest Broken = false
 carried_met t rest Settled = true
 carried_met t rest (Left due) = due_met t rest due
+
+-- a rest goes on with the characters of a rule, in a run of capitals or out of one
+abbrev goes_on_in : TableView → Bool → List ℕ → List ℕ → Cond → Bool
+goes_on_in t run rest chars c = cond run (run_goes_on t c rest chars) (goes_on t rest chars c)
+
+-- a rule fits, in a run of capitals or out of one
+abbrev pub fits_in : TableView → Class → Bool → List ℕ → Rule → Bool
+fits_in t before run rest r = matches t run rest r.chars && holds (before_of r.place) before && holds (after_of r.place before) (classes_at t rest (length r.chars))
 
 not_not : (b : Bool) → not (not b) ≡ b
 not_not true = refl
@@ -67,27 +78,71 @@ module _ (t : TableView) (u : List ℕ) where
   need-met (Meets s) = refl
   need-met (Avoids s) = refl
 
-  -- a rule that is ranked above
-  apart : (h m s a : Bool) (r : Carried) → carried_met t u r ≡ not (s && a) → carried_met t u (cond h (cond m r Settled) Settled) ≡ not (((m && s) && h) && a)
-  apart true true true a r e = e
-  apart true true false a r e = e
-  apart true false s a r e = refl
-  apart false true true a r e = refl
-  apart false true false a r e = refl
-  apart false false true a r e = refl
-  apart false false false a r e = refl
+  -- ---- The bars of a rule that is ranked above
 
-  none : (h a : Bool) → carried_met t u (cond h Settled Settled) ≡ not ((false && h) && a)
+  -- the bars of choices of capitals
+  barred-choices : (a : ℕ) (chars : List ℕ) (c : Cond) → list_all (carried_met t u) (map (λ text. Left (Bar text c)) (choices t (a ∷ chars))) ≡ not (run_goes_on t c u (a ∷ chars))
+  barred-choices a chars c =
+      list_all-map (carried_met t u) (λ text. due_met t u (Bar text c)) (λ text. Left (Bar text c)) (λ text. refl) (choices t (a ∷ chars))
+      ∙ choices-on t c a chars (choices-met t c chars) u (λ text. due_met t u (Bar text c)) (λ b text. refl)
+
+  pub carry_capitals-met : (past chars : List ℕ) (c : Cond) → list_all (carried_met t u) (carry_capitals t past chars c) ≡ not (run_goes_on t c (past ++ u) chars)
+  carry_capitals-met [] [] c = and-true (carried_met t u (opposed c)) ∙ opposed-met c
+  carry_capitals-met [] (a ∷ chars) c = barred-choices a chars c
+  carry_capitals-met (b ∷ past) [] c = and-true (carried_met t u (settled_if (not (holds c (classes_of t b))))) ∙ settled-met (not (holds c (classes_of t b)))
+  carry_capitals-met (b ∷ past) (a ∷ chars) c = at (is_upper t b) refl (carry_capitals-met past chars c)
+    where
+      goes : Bool
+      goes = holds c (classes_at t (past ++ u) (length chars))
+
+      by-fold : (f : Bool) → list_all (carried_met t u) (carry_capitals t past chars c) ≡ not (run_goes_on t c (past ++ u) chars)
+          → list_all (carried_met t u) (cond (true && f) (carry_capitals t past chars c) []) ≡ not ((f && starts_with nat_eq (folds_of_capitals t (past ++ u)) chars) && goes)
+      by-fold true h = h
+      by-fold false h = refl
+
+      at : (k : Bool) → is_upper t b ≡ k → list_all (carried_met t u) (carry_capitals t past chars c) ≡ not (run_goes_on t c (past ++ u) chars)
+          → list_all (carried_met t u) (cond (is_upper t b && nat_eq a (fold_of t b)) (carry_capitals t past chars c) []) ≡ not (run_goes_on t c (b ∷ (past ++ u)) (a ∷ chars))
+      at true e h =
+          ap (λ k. list_all (carried_met t u) (cond (k && nat_eq a (fold_of t b)) (carry_capitals t past chars c) [])) e ∙ by-fold (nat_eq a (fold_of t b)) h
+          ∙ ap (λ w. not (starts_with nat_eq w (a ∷ chars) && goes)) (sym (folds-more t b (past ++ u) e))
+      at false e h =
+          ap (λ k. list_all (carried_met t u) (cond (k && nat_eq a (fold_of t b)) (carry_capitals t past chars c) [])) e
+          ∙ ap (λ w. not (starts_with nat_eq w (a ∷ chars) && goes)) (sym (folds-none t b (past ++ u) e))
+
+  bars_past-met : (run : Bool) (past chars : List ℕ) (c : Cond) → list_all (carried_met t u) (bars_past t run past chars c) ≡ not (goes_on_in t run (past ++ u) chars c)
+  bars_past-met true past chars c = carry_capitals-met past chars c
+  bars_past-met false past chars c = and-true (carried_met t u (carry_bar t past chars c)) ∙ carry_bar-met past chars c
+
+  first-met : (run h f : Bool) (past others : List ℕ) (after : Cond) → list_all (carried_met t u) (cond h (cond f (bars_past t run past others after) []) []) ≡ not (h && (f && goes_on_in t run (past ++ u) others after))
+  first-met run true true past others after = bars_past-met run past others after
+  first-met run true false past others after = refl
+  first-met run false f past others after = refl
+
+  -- how the parts of fitting are joined
+  joined : (m h s a : Bool) → (h && (m && (s && a))) ≡ (((m && s) && h) && a)
+  joined true true true a = refl
+  joined true true false a = refl
+  joined true false true a = refl
+  joined true false false a = refl
+  joined false true s a = refl
+  joined false false s a = refl
+
+  -- no rule without characters fits
+  none : (h a : Bool) → list_all (carried_met t u) (cond h [] []) ≡ not ((false && h) && a)
   none true a = refl
   none false a = refl
 
-  at-chars : (c : ℕ) (past chars : List ℕ) (h : Bool) (after : Cond) →
-      carried_met t u (cond h (bar_after t c past chars after) Settled)
-      ≡ not ((matches t (c ∷ (past ++ u)) chars && h) && holds after (classes_at t (c ∷ (past ++ u)) (length chars)))
-  at-chars c past [] h after = none h (holds after (classes_at t (c ∷ (past ++ u)) 0))
-  at-chars c past (first ∷ others) h after =
-      apart h (nat_eq (fold_of t c) first) (starts_with nat_eq (past ++ u) others) (holds after (classes_at t (past ++ u) (length others))) (carry_bar t past others after)
-      (carry_bar-met past others after)
+  at-chars : (run : Bool) (c : ℕ) (past chars : List ℕ) (h : Bool) (after : Cond)
+      → list_all (carried_met t u) (cond h (bars_after t run c past chars after) [])
+      ≡ not ((matches t run (c ∷ (past ++ u)) chars && h) && holds after (classes_at t (c ∷ (past ++ u)) (length chars)))
+  at-chars run c past [] h after = none h (holds after (classes_at t (c ∷ (past ++ u)) 0))
+  at-chars true c past (first ∷ others) h after =
+      first-met true h (nat_eq first (fold_of t c)) past others after
+      ∙ ap not (joined (nat_eq first (fold_of t c)) h (starts_with nat_eq (folds_of_capitals t (past ++ u)) others) (holds after (classes_at t (past ++ u) (length others))))
+  at-chars false c past (first ∷ others) h after =
+      first-met false h (nat_eq first (fold_of t c)) past others after
+      ∙ ap not (joined (nat_eq first (fold_of t c)) h (starts_with nat_eq (past ++ u) others) (holds after (classes_at t (past ++ u) (length others))))
 
-  pub bar_of-met : (before : Class) (c : ℕ) (past : List ℕ) (r : Rule) → carried_met t u (bar_of t before (c ∷ past) r) ≡ not (fits t before (c ∷ (past ++ u)) r)
-  bar_of-met before c past r = at-chars c past r.chars (holds (before_of r.place) before) (after_of r.place before)
+  pub bars_to-met : (before : Class) (run : Bool) (c : ℕ) (past : List ℕ) (r : Rule)
+      → list_all (carried_met t u) (bars_to t before run (c ∷ past) r) ≡ not (fits_in t before run (c ∷ (past ++ u)) r)
+  bars_to-met before run c past r = at-chars run c past r.chars (holds (before_of r.place) before) (after_of r.place before)

@@ -1,5 +1,5 @@
 -- Each path that ends reads a text and gives its translation, and no other path reads that text.
-use Rattle.std.proofs.Common.{◌≡◌, ℕ, zero, suc, true, ◌&&◌, List, [], ◌∷◌, ◌++◌, Some, length, take, refl, sym, ap, ap₂, ◌∙◌, subst, inl, inr, arith}
+use Rattle.std.proofs.Common.{◌≡◌, ℕ, zero, suc, Bool, true, false, ◌&&◌, List, [], ◌∷◌, ◌++◌, Some, length, take, refl, sym, ap, ap₂, ◌∙◌, subst, inl, inr, arith}
 use Rattle.std.specs.Prelude.{slice_get}
 use Rattle.std.specs.List.{list_all, AllByRecursion}
 use Rattle.std.specs.Cmp.{first_so, second_so}
@@ -11,16 +11,18 @@ use Rattle.brl_table.specs.Choice.{Choice, chosen, own}
 use Rattle.brl_table.specs.Places.{after_of, holds}
 use Rattle.brl_table.specs.Rest.{translation_of_rest}
 use Rattle.brl_table.specs.TableView.{TableView}
-use Rattle.brl_table.specs.Text.{classes_at, context_behind_all, fold_of, is_defined, is_text}
+use Rattle.brl_table.specs.Text.{classes_at, context_behind_all, fold_of, is_defined, is_in_run, is_text}
 use Rattle.brl_dues.specs.declared.due.Due.{Due}
 use Rattle.brl_dues.specs.declared.due.Due.TheVariants.{Need, Bar}
 use Rattle.brl_dues.specs.declared.state.DuesState.{DuesState}
 use Rattle.brl_dues.specs.Due.{due_met, dues_met, met_by_space}
-use Rattle.brl_dues.specs.Form.{Form, IsForm}
+use Rattle.brl_dues.specs.Capitals.{further, is_upper}
+use Rattle.brl_dues.specs.Form.{Form, IsForm, folded, may_read}
 use Rattle.brl_dues.specs.Steps.{context_of, dues_machine, next_dues, step_of}
 use Rattle.brl_dues.proofs.Forms.{listed-IsStep, there-lt}
+use Rattle.brl_dues.proofs.InRun.{upper-defined}
 use Rattle.brl_dues.proofs.StepLaw.{none_fits, option_met, step-met}
-use Rattle.brl_dues.proofs.Taking.{Choosing, Translating, as_choice, form-ReadsSome, form-chosen, form-translation}
+use Rattle.brl_dues.proofs.Taking.{Choosing, Translating, as_choice, form-ReadsSome, form-agrees, form-chosen, form-in_run, form-translation}
 
 -- the end of a text meets the dues exactly where class space meets every need
 space-met : (t : TableView) (d : Due) → due_met t [] d ≡ met_by_space d
@@ -38,6 +40,7 @@ ends-met t (d ∷ dues) = ap₂ (λ a b. a && b) (space-met t d) (ends-met t due
 -- and the rest meet the dues
 pub record Takes (t : TableView) (s : DuesState) (f : Form) (u : List ℕ) : Type 0 where
   pub after : holds f.after (classes_at t u 0) ≡ true
+  pub next : holds f.next (classes_at t u 0) ≡ true
   pub none : none_fits t s.before (f.reads ++ u) f.above ≡ true
   pub met : dues_met t (f.reads ++ u) s.dues ≡ true
 
@@ -45,12 +48,17 @@ pub step-back : (t : TableView) (s : DuesState) (f : Form) → IsForm t s.before
     → dues_met t u dues ≡ true → Takes t s f u
 step-back t s f is dues left u h =
     let r = form-ReadsSome t s.before f is in
-    let all = sym (step-met t u s f r.character r.others r.reads) ∙ ap (option_met t u) left ∙ h in
-    let both = second_so (dues_met t (f.reads ++ u) s.dues) (holds f.after (classes_at t u 0) && none_fits t s.before (f.reads ++ u) f.above) all in
+    let after = holds f.after (classes_at t u 0) in
+    let next = holds f.next (classes_at t u 0) in
+    let none = none_fits t s.before (f.reads ++ u) f.above in
+    let all = sym (step-met t u s f r.character r.others r.reads (form-agrees t s.before f is u)) ∙ ap (option_met t u) left ∙ h in
+    let both = second_so (dues_met t (f.reads ++ u) s.dues) (after && (next && none)) all in
+    let last = second_so after (next && none) both in
     record {
-      after = first_so (holds f.after (classes_at t u 0)) (none_fits t s.before (f.reads ++ u) f.above) both;
-      none = second_so (holds f.after (classes_at t u 0)) (none_fits t s.before (f.reads ++ u) f.above) both;
-      met = first_so (dues_met t (f.reads ++ u) s.dues) (holds f.after (classes_at t u 0) && none_fits t s.before (f.reads ++ u) f.above) all;
+      after = first_so after (next && none) both;
+      next = first_so next none last;
+      none = second_so next none last;
+      met = first_so (dues_met t (f.reads ++ u) s.dues) (after && (next && none)) all;
     }
 
 -- ---- Texts
@@ -67,10 +75,19 @@ known-there t (q ∷ rules) (suc k) r h e = known-there t rules k r h.1 e
 text-first : (t : TableView) (c : ℕ) (cs ds : List ℕ) → is_defined t c ≡ true → is_text t cs ≡ true → is_text t (c ∷ cs) ≡ true
 text-first t c cs ds h k = ap (λ b. b && is_text t cs) h ∙ k
 
+uppers-text : (t : TableView) (cs : List ℕ) → list_all (is_upper t) cs ≡ true → is_text t cs ≡ true
+uppers-text t [] h = refl
+uppers-text t (c ∷ cs) h =
+    text-first t c cs [] (upper-defined t c (first_so (is_upper t c) (list_all (is_upper t) cs) h)) (uppers-text t cs (second_so (is_upper t c) (list_all (is_upper t) cs) h))
+
+others-text : (t : TableView) (run : Bool) (c : ℕ) (others : List ℕ) → may_read t run others ≡ true → is_text t (folded t run c others) ≡ true → is_text t others ≡ true
+others-text t true c others may h = uppers-text t others may
+others-text t false c others may h = second_so (is_defined t (fold_of t c)) (is_text t others) h
+
 pub form-text : (t : TableView) → AreKnown t → (before : Class) (f : Form) → IsForm t before f → is_text t f.reads ≡ true
 form-text t known before f (inl h) =
     let all = ap (is_text t) (sym h.chars) ∙ known-there t t.rules f.number h.rule known h.there in
-    ap (is_text t) h.reads ∙ text-first t h.character h.others [] h.defined (second_so (is_defined t (fold_of t h.character)) (is_text t h.others) all)
+    ap (is_text t) h.reads ∙ text-first t h.character h.others [] h.defined (others-text t f.run h.character h.others h.may all)
 form-text t known before f (inr h) = ap (is_text t) h.reads ∙ text-first t h.character [] [] h.defined refl
 
 pub text-join : (t : TableView) (cs ds : List ℕ) → is_text t cs ≡ true → is_text t ds ≡ true → is_text t (cs ++ ds) ≡ true
@@ -94,6 +111,7 @@ pub record Stepped (t : TableView) (s : DuesState) (x : Step DuesState) (u : Lis
   pub left : next_dues t s form ≡ Some dues
   pub step : x ≡ step_of t s form dues
   pub takes : Takes t s form u
+  pub in_run : is_in_run t s.before (form.reads ++ u) ≡ form.run
   pub choice : chosen t s.before (form.reads ++ u) ≡ as_choice form
 
 pub stepped : (t : TableView) → Choosing t → (s : DuesState) (x : Step DuesState) → IsListed ((dues_machine t).steps s) x → (u : List ℕ) → dues_met t u x.next.dues ≡ true → Stepped t s x u
@@ -107,7 +125,8 @@ stepped t law s x listed u met =
       left = h.left;
       step = h.step;
       takes = takes;
-      choice = form-chosen t law s.before h.form h.is_form u takes.after takes.none;
+      in_run = form-in_run t s.before h.form h.is_form u takes.next;
+      choice = form-chosen t law s.before h.form h.is_form u takes.after takes.next takes.none;
     }
 
 pub path-Gives : (t : TableView) → Choosing t → Translating t → AreKnown t → (s : DuesState) (path : List (Step DuesState)) → IsPath (dues_machine t) s path → Gives t s path
@@ -117,7 +136,7 @@ path-Gives t choosing translating known s (x ∷ path) p =
     let u = reads_of path in
     let h = stepped t choosing s x p.0 u more.met in
     let reads : x.reads ≡ h.form.reads = ap (λ (y : Step DuesState). y.reads) h.step in
-    let cells = form-translation t translating (context_of s) h.form u (form-ReadsSome t s.before h.form h.is_form) h.choice in
+    let cells = form-translation t translating (context_of s) h.form u (form-ReadsSome t s.before h.form h.is_form) h.in_run h.choice in
     let next : context_of x.next ≡ context_behind_all t (context_of s) h.form.reads = ap (λ (y : Step DuesState). context_of y.next) h.step in
     record {
       met = ap (λ l. dues_met t (l ++ u) s.dues) reads ∙ h.takes.met;
@@ -129,20 +148,35 @@ path-Gives t choosing translating known s (x ∷ path) p =
 
 -- ---- One path
 
--- forms with one number that read the same are one form
-pub one-form : (t : TableView) (before : Class) (f g : Form) → IsForm t before f → IsForm t before g → f.number ≡ g.number → f.reads ≡ g.reads → f ≡ g
-one-form t before f g (inl h) (inl k) n r =
+same-next : (t : TableView) (before : Class) (f g : Form) (cs ds : List ℕ) → f.reads ≡ cs → g.reads ≡ ds → further t before f.run cs ≡ Some f.next → further t before g.run ds ≡ Some g.next
+    → f.reads ≡ g.reads → f.run ≡ g.run → f.next ≡ g.next
+same-next t before f g cs ds a b h k r e =
+    let some : Some f.next ≡ Some g.next = sym h ∙ ap₂ (further t before) e (sym a ∙ r ∙ b) ∙ k in
+    cc
+
+-- forms with one number that read the same, both in a run of capitals or both out of one, are one
+-- form
+pub one-form : (t : TableView) (before : Class) (f g : Form) → IsForm t before f → IsForm t before g → f.number ≡ g.number → f.reads ≡ g.reads → f.run ≡ g.run → f ≡ g
+one-form t before f g (inl h) (inl k) n r e =
     let some : Some h.rule ≡ Some k.rule = sym h.there ∙ ap (slice_get t.rules) n ∙ k.there in
     let rule : h.rule ≡ k.rule = cc in
     let after : f.after ≡ g.after = h.after ∙ ap (λ (q : Rule). after_of q.place before) rule ∙ sym k.after in
-    λ i. record { number = n i; reads = r i; after = after i; cells = (h.cells ∙ ap (λ (q : Rule). q.cells) rule ∙ sym k.cells) i; above = (h.above ∙ ap (λ m. take m t.rules) n ∙ sym k.above) i }
-one-form t before f g (inl h) (inr k) n r = (let low = there-lt t.rules f.number h.rule h.there in let high = k.number in absurd (omega (arith, low, high, n)))
-one-form t before f g (inr h) (inl k) n r = (let low = there-lt t.rules g.number k.rule k.there in let high = h.number in absurd (omega (arith, low, high, n)))
-one-form t before f g (inr h) (inr k) n r =
+    let next : f.next ≡ g.next = same-next t before f g (h.character ∷ h.others) (k.character ∷ k.others) h.reads k.reads h.next k.next r e in
+    λ i. record { number = n i; reads = r i; run = e i; next = next i; after = after i; cells = (h.cells ∙ ap (λ (q : Rule). q.cells) rule ∙ sym k.cells) i; above = (h.above ∙ ap (λ m. take m t.rules) n ∙ sym k.above) i }
+one-form t before f g (inl h) (inr k) n r e = (let low = there-lt t.rules f.number h.rule h.there in let high = k.number in absurd (omega (arith, low, high, n)))
+one-form t before f g (inr h) (inl k) n r e = (let low = there-lt t.rules g.number k.rule k.there in let high = h.number in absurd (omega (arith, low, high, n)))
+one-form t before f g (inr h) (inr k) n r e =
     let both : h.character ∷ [] ≡ k.character ∷ [] = sym h.reads ∙ r ∙ k.reads in
     let same : h.character ≡ k.character = cc in
     let after : f.after ≡ g.after = h.after ∙ sym k.after in
-    λ i. record { number = n i; reads = r i; after = after i; cells = (h.cells ∙ ap (λ c. (own t (c ∷ [])).cells) same ∙ sym k.cells) i; above = (h.above ∙ sym k.above) i }
+    let next : f.next ≡ g.next = same-next t before f g (h.character ∷ []) (k.character ∷ []) h.reads k.reads h.next k.next r e in
+    λ i. record { number = n i; reads = r i; run = e i; next = next i; after = after i; cells = (h.cells ∙ ap (λ c. (own t (c ∷ [])).cells) same ∙ sym k.cells) i; above = (h.above ∙ sym k.above) i }
+
+-- what two steps take is one form, where they are chosen at the same place
+pub chosen-form : (t : TableView) (before : Class) (f g : Form) → IsForm t before f → IsForm t before g → (u v : List ℕ) → f.reads ++ u ≡ g.reads ++ v → as_choice f ≡ as_choice g → f.reads ≡ g.reads
+    → is_in_run t before (f.reads ++ u) ≡ f.run → is_in_run t before (g.reads ++ v) ≡ g.run → f ≡ g
+chosen-form t before f g is also u v rest choice reads in_run in_run' =
+    one-form t before f g is also (ap (λ (c : Choice). c.number) choice) reads (sym in_run ∙ ap (is_in_run t before) rest ∙ in_run')
 
 pub same-front : (xs ys u v : List ℕ) → length xs ≡ length ys → xs ++ u ≡ ys ++ v → (xs ≡ ys) × (u ≡ v)
 same-front [] [] u v n e = (refl, e)
@@ -184,7 +218,7 @@ one-path t choosing translating known s s' same (x ∷ path) (y ∷ other) p q e
     let rest : h.form.reads ++ u ≡ k.form.reads ++ v = ap (λ l. l ++ u) (sym x_reads) ∙ e ∙ ap (λ l. l ++ v) y_reads in
     let choice : as_choice h.form ≡ as_choice k.form = sym h.choice ∙ ap (chosen t s.before) rest ∙ k.choice in
     let fronts = same-front h.form.reads k.form.reads u v (ap (λ (c : Choice). c.taken) choice) rest in
-    let form = one-form t s.before h.form k.form h.is_form k.is_form (ap (λ (c : Choice). c.number) choice) fronts.0 in
+    let form = chosen-form t s.before h.form k.form h.is_form k.is_form u v rest choice fronts.0 h.in_run k.in_run in
     let step = one-step t s x y h.form k.form h.dues k.dues form h.left k.left h.step k.step in
     let more = one-path t choosing translating known x.next y.next (ap (λ (z : Step DuesState). z.next) step) path other p.1 q.1 fronts.1 in
     ap (λ z. z ∷ path) step ∙ ap (λ l. y ∷ l) more

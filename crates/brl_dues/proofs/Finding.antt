@@ -1,5 +1,5 @@
 -- The steps that are found by the characters that may come are those that the machine lists.
-use Rattle.std.proofs.Common.{◌≡◌, ℕ, zero, suc, ◌+◌, ◌≤◌, take, Bool, true, false, ◌&&◌, List, [], ◌∷◌, ◌++◌, Option, Some, None, length, map, filter, drop, refl, sym, ap, ap₂, ◌∙◌, subst, cond, nat_eq, arith, append_assoc, append-nil, length-append}
+use Rattle.std.proofs.Common.{◌≡◌, ℕ, zero, suc, ◌+◌, ◌≤◌, take, Bool, true, false, ◌&&◌, List, [], ◌∷◌, ◌++◌, Option, Some, None, length, map, filter, drop, refl, sym, ap, ap₂, ◌∙◌, cond, nat_eq, arith, append_assoc, append-nil, length-append}
 use Rattle.std.specs.Prelude.{slice_get}
 use Rattle.std.proofs.lemmas.Grind.{flat_map-append}
 use Rattle.std.proofs.lemmas.List.{take_all}
@@ -7,25 +7,28 @@ use Rattle.brl_table.specs.declared.rule.Info.{Info}
 use Rattle.std.proofs.lemmas.List.Folds.{list_all-append}
 use Rattle.std.specs.List.{flat_map, list_all}
 use Rattle.std.specs.Map.{keys_of}
+use Rattle.std.specs.Option.{option_map_or}
 use Rattle.brl_pairs.specs.declared.step.Step.{Step}
 use Rattle.brl_table.specs.declared.class.Class.{Class}
 use Rattle.brl_table.specs.declared.place.Cond.{Cond}
 use Rattle.brl_table.specs.declared.rule.Rule.{Rule}
+use Rattle.brl_table.specs.declared.place.Cond.TheVariants.{Any}
+use Rattle.brl_table.specs.Choice.{own}
 use Rattle.brl_table.specs.Places.{after_of, before_of, holds}
 use Rattle.brl_table.specs.TableView.{TableView}
 use Rattle.brl_table.specs.Text.{classes_of, fold_of}
 use Rattle.brl_dues.specs.declared.carry.Carried.{Carried}
-use Rattle.brl_dues.specs.declared.carry.Carried.TheVariants.{Settled}
 use Rattle.brl_dues.specs.declared.due.Due.{Due}
 use Rattle.brl_dues.specs.declared.due.Due.TheVariants.{Need, Bar}
 use Rattle.brl_dues.specs.declared.state.DuesState.{DuesState}
-use Rattle.brl_dues.specs.Carry.{bar_after, bar_of, carry, carry_bar, gathered, is_whole, left_of, lefts, need, settled_if}
-use Rattle.brl_dues.specs.Form.{Form, cased, forms_from, letters, own_form, rule_form, rule_forms}
+use Rattle.brl_dues.specs.Capitals.{choices, further, letters}
+use Rattle.brl_dues.specs.Carry.{bars_after, bars_past, bars_to, carry, gathered, is_whole, lefts, need, settled_if}
+use Rattle.brl_dues.specs.Form.{Form, cased, cased_if, form_if, groups_from, groups_of, own_form, own_forms, rule_form, rule_forms}
 use Rattle.brl_dues.specs.LetterView.{LetterView}
-use Rattle.brl_dues.specs.Letters.{bars_of, begins_with, left_by, letter_step, may_come, new_letter, new_letters, own_step, rule_step, steps_found, with_rule}
+use Rattle.brl_dues.specs.Letters.{bars_of, begins_with, cased_steps, left_by, letter_form, letter_step, may_come, new_letter, new_letters, next_step, own_step, rule_step, run_step, steps_found, with_rule}
 use Rattle.brl_dues.specs.Order.{in_order}
-use Rattle.brl_dues.specs.Steps.{dues_steps, step_if, step_of, steps_of}
-use Rattle.brl_dues.proofs.StepLaw.{and-false}
+use Rattle.brl_dues.specs.Steps.{dues_steps, group_steps, step_if, step_of, steps_of, with_steps}
+use Rattle.brl_dues.proofs.Choices.{and-false}
 
 -- ---- What the rules above ask
 
@@ -73,49 +76,33 @@ letters-more t before above r cs =
 
 -- ---- The bars of the rules above
 
--- what decides what is gathered
-record Alike (xs ys : List Carried) : Type 0 where
-  whole : list_all is_whole xs ≡ list_all is_whole ys
-  left : lefts xs ≡ lefts ys
-
-cons-Alike : (c : Carried) (xs ys : List Carried) → Alike xs ys → Alike (c ∷ xs) (c ∷ ys)
-cons-Alike c xs ys h = record { whole = ap (λ b. is_whole c && b) h.whole; left = ap (λ l. left_of c ++ l) h.left }
-
-settled-Alike : (xs ys : List Carried) → Alike xs ys → Alike (Settled ∷ xs) ys
-settled-Alike xs ys h = record { whole = h.whole; left = h.left }
-
-append-Alike : (zs xs ys : List Carried) → Alike xs ys → Alike (zs ++ xs) (zs ++ ys)
-append-Alike [] xs ys h = h
-append-Alike (z ∷ zs) xs ys h = cons-Alike z (zs ++ xs) (zs ++ ys) (append-Alike zs xs ys h)
-
-gathered-Alike : (xs ys : List Carried) → Alike xs ys → gathered xs ≡ gathered ys
-gathered-Alike xs ys h = ap₂ (λ b (l : List Due). cond b (Some (in_order l)) None) h.whole h.left
-
-module _ (t : TableView) (before : Class) (c : ℕ) (others : List ℕ) where
-  bars-Alike : (above : List Rule) → Alike (map (bar_of t before (c ∷ others)) above) (bars_of t others (asked before (fold_of t c) above))
-  bars-Alike [] = record { whole = refl; left = refl }
-  bars-Alike (r ∷ above) = at (holds (before_of r.place) before) r.chars (bars-Alike above)
+module _ (t : TableView) (before : Class) (run : Bool) (c : ℕ) (others : List ℕ) where
+  bars-one : (r : Rule) → bars_to t before run (c ∷ others) r ≡ bars_of t run others (asked_one before (fold_of t c) r)
+  bars-one r = at (holds (before_of r.place) before) r.chars
     where
-      begun : (b : Bool) (rest : List ℕ) (bar : Carried) → bar ≡ carry_bar t others rest (after_of r.place before) → Alike (map (bar_of t before (c ∷ others)) above) (bars_of t others (asked before (fold_of t c) above))
-          → Alike (cond b bar Settled ∷ map (bar_of t before (c ∷ others)) above)
-          (bars_of t others (cond b ((rest, after_of r.place before) ∷ []) [] ++ asked before (fold_of t c) above))
-      begun true rest bar e more = subst (λ x. Alike (bar ∷ map (bar_of t before (c ∷ others)) above) (x ∷ bars_of t others (asked before (fold_of t c) above))) e (cons-Alike bar _ _ more)
-      begun false rest bar e more = settled-Alike _ _ more
+      begun : (b : Bool) (rest : List ℕ) → cond b (bars_past t run others rest (after_of r.place before)) [] ≡ bars_of t run others (cond b ((rest, after_of r.place before) ∷ []) [])
+      begun true rest = sym (append-nil (bars_past t run others rest (after_of r.place before)))
+      begun false rest = refl
 
-      at : (h : Bool) (chars : List ℕ) → Alike (map (bar_of t before (c ∷ others)) above) (bars_of t others (asked before (fold_of t c) above))
-          → Alike (cond h (bar_after t c others chars (after_of r.place before)) Settled ∷ map (bar_of t before (c ∷ others)) above)
-          (bars_of t others (cond (h && begins_with (fold_of t c) chars) ((drop 1 chars, after_of r.place before) ∷ []) [] ++ asked before (fold_of t c) above))
-      at false chars more = settled-Alike _ _ more
-      at true [] more = settled-Alike _ _ more
-      at true (first ∷ rest) more = begun (nat_eq (fold_of t c) first) rest (carry_bar t others rest (after_of r.place before)) refl more
+      at : (h : Bool) (chars : List ℕ) → cond h (bars_after t run c others chars (after_of r.place before)) []
+          ≡ bars_of t run others (cond (h && begins_with (fold_of t c) chars) ((drop 1 chars, after_of r.place before) ∷ []) [])
+      at false chars = refl
+      at true [] = refl
+      at true (first ∷ rest) = begun (nat_eq first (fold_of t c)) rest
+
+  bars-same : (above : List Rule) → flat_map (bars_to t before run (c ∷ others)) above ≡ bars_of t run others (asked before (fold_of t c) above)
+  bars-same [] = refl
+  bars-same (r ∷ above) =
+      ap₂ (λ a b. a ++ b) (bars-one r) (bars-same above)
+      ∙ sym (flat_map-append (λ (a : List ℕ × Cond). bars_past t run others a.0 a.1) (asked_one before (fold_of t c) r) (asked before (fold_of t c) above))
 
   -- ---- One step
 
-  same-dues : (dues : List Due) (after : Cond) (above : List Rule)
-      → gathered (map (carry t (c ∷ others)) dues ++ (need after ∷ map (bar_of t before (c ∷ others)) above)) ≡ gathered (left_by t dues (letter_at t before above c) others after)
-  same-dues dues after above =
-      gathered-Alike _ _ (append-Alike (map (carry t (c ∷ others)) dues) _ _ (cons-Alike (need after) _ _ (bars-Alike above)))
+  same-dues : (dues : List Due) (next after : Cond) (above : List Rule)
+      → gathered (map (carry t (c ∷ others)) dues ++ (need after ∷ need next ∷ flat_map (bars_to t before run (c ∷ others)) above)) ≡ gathered (left_by t dues (letter_at t before above c) run next others after)
+  same-dues dues next after above = ap (λ l. gathered (map (carry t (c ∷ others)) dues ++ (need after ∷ need next ∷ l))) (bars-same above)
 
+module _ (t : TableView) (c : ℕ) (others : List ℕ) where
   -- a character that a need refuses
   refused : (dues : List Due) → may_come t dues c ≡ false → list_all is_whole (map (carry t (c ∷ others)) dues) ≡ false
   refused [] h = cc
@@ -137,7 +124,7 @@ flat_map-same : {X Y : Type 0} (f g : X → List Y) → ((x : X) → f x ≡ g x
 flat_map-same f g h [] = refl
 flat_map-same f g h (x ∷ xs) = ap₂ (λ a b. a ++ b) (h x) (flat_map-same f g h xs)
 
-flat_map-none : {X Y : Type 0} (f : X → List Y) → ((x : X) → f x ≡ []) → (xs : List X) → flat_map f xs ≡ []
+pub flat_map-none : {X Y : Type 0} (f : X → List Y) → ((x : X) → f x ≡ []) → (xs : List X) → flat_map f xs ≡ []
 flat_map-none f h [] = refl
 flat_map-none f h (x ∷ xs) = ap₂ (λ a b. a ++ b) (h x) (flat_map-none f h xs)
 
@@ -165,72 +152,136 @@ module _ (t : TableView) (s : DuesState) where
 
   -- the steps of a form that begins with a character
   steps-at : (f : Form) (c : ℕ) (others : List ℕ) (above : List Rule) → f.reads ≡ c ∷ others → f.above ≡ above
-      → steps_of t s f ≡ cond (may_come t s.dues c) (letter_step t s (letter_at t s.before above c) f.number others f.after f.cells) []
+      → steps_of t s f ≡ cond (may_come t s.dues c) (next_step t s (letter_at t s.before above c) f.number f.run others f.after f.cells f.next) []
   steps-at f c others above reads is =
-      ap₂ (λ x a. step_if t s f (gathered (map (carry t x) s.dues ++ (need f.after ∷ map (bar_of t s.before x) a)))) reads is
+      ap₂ (λ x a. step_if t s f (gathered (map (carry t x) s.dues ++ (need f.after ∷ need f.next ∷ flat_map (bars_to t s.before f.run x) a)))) reads is
       ∙ at (may_come t s.dues c) refl
     where
-      same-step : (o : Option (List Due)) → step_if t s f o ≡ step_if t s (record { number = f.number; reads = c ∷ others; after = f.after; cells = f.cells; above = [] }) o
+      same-step : (o : Option (List Due)) → step_if t s f o ≡ step_if t s (letter_form (letter_at t s.before above c) f.number f.run f.next others f.after f.cells) o
       same-step None = refl
-      same-step (Some dues) = ap (λ x. step_of t s (record { number = f.number; reads = x; after = f.after; cells = f.cells; above = f.above }) dues ∷ []) reads
+      same-step (Some dues) =
+          ap (λ x. step_of t s (record { number = f.number; reads = x; run = f.run; next = f.next; after = f.after; cells = f.cells; above = f.above }) dues ∷ []) reads
 
       at : (b : Bool) → may_come t s.dues c ≡ b
-          → step_if t s f (gathered (map (carry t (c ∷ others)) s.dues ++ (need f.after ∷ map (bar_of t s.before (c ∷ others)) above)))
-          ≡ cond b (letter_step t s (letter_at t s.before above c) f.number others f.after f.cells) []
-      at true e = ap (step_if t s f) (same-dues t s.before c others s.dues f.after above) ∙ same-step (gathered (left_by t s.dues (letter_at t s.before above c) others f.after))
-      at false e = ap (step_if t s f) (none-gathered t s.before c others s.dues (need f.after ∷ map (bar_of t s.before (c ∷ others)) above) e)
+          → step_if t s f (gathered (map (carry t (c ∷ others)) s.dues ++ (need f.after ∷ need f.next ∷ flat_map (bars_to t s.before f.run (c ∷ others)) above)))
+          ≡ cond b (next_step t s (letter_at t s.before above c) f.number f.run others f.after f.cells f.next) []
+      at true e = ap (step_if t s f) (same-dues t s.before f.run c others s.dues f.next f.after above) ∙ same-step (gathered (left_by t s.dues (letter_at t s.before above c) f.run f.next others f.after))
+      at false e = ap (step_if t s f) (none-gathered t c others s.dues (need f.after ∷ need f.next ∷ flat_map (bars_to t s.before f.run (c ∷ others)) above) e)
+
+  empty : (b : Bool) → [] ≡ cond b (let x : List (Step DuesState) = [] in x) []
+  empty true = refl
+  empty false = refl
+
+  -- the steps of a form with what must follow it, if it can be
+  form_if-at : (form : Cond → Form) (b : Bool) (g : Cond → List (Step DuesState)) → ((next : Cond) → steps_of t s (form next) ≡ cond b (g next) []) → (o : Option Cond)
+      → flat_map (steps_of t s) (form_if form o) ≡ cond b (option_map_or g o []) []
+  form_if-at form b g each None = empty b
+  form_if-at form b g each (Some next) = append-nil (steps_of t s (form next)) ∙ each next
 
   -- ---- The steps of one rule
 
-  rule-at : (above : List Rule) (r : Rule) (c : ℕ) → holds (before_of r.place) s.before ≡ true
-      → flat_map (steps_of t s) (cased t s.before above r r.chars c) ≡ cond (may_come t s.dues c) (rule_step t s (length above) r (letter_at t s.before above c)) []
-  rule-at above r c before_holds =
-      chars r.chars ∙ ap (λ h. cond (may_come t s.dues c) (cond (h && begins_with (fold_of t c) r.chars) (letter_step t s (letter_at t s.before above c) (length above) (drop 1 r.chars) (after_of r.place s.before) r.cells) []) []) (sym before_holds)
+  forms-at : (above : List Rule) (r : Rule) (run : Bool) (c : ℕ) (others : List ℕ)
+      → flat_map (steps_of t s) (rule_forms t s.before above r run (c ∷ others))
+      ≡ cond (may_come t s.dues c) (letter_step t s (letter_at t s.before above c) (length above) run others (after_of r.place s.before) r.cells) []
+  forms-at above r run c others =
+      form_if-at (rule_form s.before above r run (c ∷ others)) (may_come t s.dues c)
+      (next_step t s (letter_at t s.before above c) (length above) run others (after_of r.place s.before) r.cells)
+      (λ next. steps-at (rule_form s.before above r run (c ∷ others) next) c others above refl refl) (further t s.before run (c ∷ others))
+
+  cased-at : (above : List Rule) (r : Rule) (others : List ℕ) (c : ℕ)
+      → flat_map (steps_of t s) (cased t s.before above r others c)
+      ≡ cond (may_come t s.dues c) (cased_steps t s (letter_at t s.before above c) (length above) others (after_of r.place s.before) r.cells) []
+  cased-at above r others c =
+      flat_map-append (steps_of t s) (flat_map (λ chosen. rule_forms t s.before above r true (c ∷ chosen)) (choices t others)) (rule_forms t s.before above r false (c ∷ others))
+      ∙ ap₂ (λ a b. a ++ b)
+      (flat_map-flat_map (steps_of t s) (λ chosen. rule_forms t s.before above r true (c ∷ chosen)) (choices t others)
+      ∙ flat_map-same (λ chosen. flat_map (steps_of t s) (rule_forms t s.before above r true (c ∷ chosen)))
+      (λ chosen. cond (may_come t s.dues c) (run_step t s (letter_at t s.before above c) (length above) (after_of r.place s.before) r.cells chosen) [])
+      (λ chosen. forms-at above r true c chosen) (choices t others))
+      (forms-at above r false c others)
+      ∙ at (may_come t s.dues c)
     where
-      none : (b : Bool) → [] ≡ cond b (let x : List (Step DuesState) = [] in x) []
-      none true = refl
-      none false = refl
+      at : (b : Bool) → flat_map (λ chosen. cond b (run_step t s (letter_at t s.before above c) (length above) (after_of r.place s.before) r.cells chosen) []) (choices t others)
+          ++ cond b (letter_step t s (letter_at t s.before above c) (length above) false others (after_of r.place s.before) r.cells) []
+          ≡ cond b (cased_steps t s (letter_at t s.before above c) (length above) others (after_of r.place s.before) r.cells) []
+      at true = refl
+      at false = append-nil (flat_map (λ (chosen : List ℕ). let x : List (Step DuesState) = [] in x) (choices t others)) ∙ flat_map-none (λ (chosen : List ℕ). let x : List (Step DuesState) = [] in x) (λ chosen. refl) (choices t others)
 
-      first_is : (first : ℕ) (others : List ℕ) (b : Bool)
-          → flat_map (steps_of t s) (cond b (rule_form s.before above r others c ∷ []) [])
-          ≡ cond (may_come t s.dues c) (cond b (letter_step t s (letter_at t s.before above c) (length above) others (after_of r.place s.before) r.cells) []) []
-      first_is first others true = append-nil (steps_of t s (rule_form s.before above r others c)) ∙ steps-at (rule_form s.before above r others c) c others above refl refl
-      first_is first others false = none (may_come t s.dues c)
+  -- each once
+  once-if : (b : Bool) (steps : List (Step DuesState)) → with_steps [] (cond b steps []) ≡ cond b (with_steps [] steps) []
+  once-if true steps = refl
+  once-if false steps = refl
 
-      chars : (l : List ℕ) → flat_map (steps_of t s) (cased t s.before above r l c)
-          ≡ cond (may_come t s.dues c) (cond (begins_with (fold_of t c) l) (letter_step t s (letter_at t s.before above c) (length above) (drop 1 l) (after_of r.place s.before) r.cells) []) []
-      chars [] = none (may_come t s.dues c)
-      chars (first ∷ others) = first_is first others (nat_eq (fold_of t c) first)
+  rule-at : (above : List Rule) (r : Rule) (c : ℕ) → holds (before_of r.place) s.before ≡ true
+      → group_steps t s (cased_if t s.before above r r.chars c) ≡ cond (may_come t s.dues c) (rule_step t s (length above) r (letter_at t s.before above c)) []
+  rule-at above r c before_holds =
+      chars r.chars
+      ∙ ap (λ h. cond (may_come t s.dues c) (cond (h && begins_with (fold_of t c) r.chars) (with_steps [] (cased_steps t s (letter_at t s.before above c) (length above) (drop 1 r.chars) (after_of r.place s.before) r.cells)) []) []) (sym before_holds)
+    where
+      first_is : (others : List ℕ) (b : Bool)
+          → group_steps t s (cond b (cased t s.before above r others c) [])
+          ≡ cond (may_come t s.dues c) (cond b (with_steps [] (cased_steps t s (letter_at t s.before above c) (length above) others (after_of r.place s.before) r.cells)) []) []
+      first_is others true =
+          ap (with_steps []) (cased-at above r others c)
+          ∙ once-if (may_come t s.dues c) (cased_steps t s (letter_at t s.before above c) (length above) others (after_of r.place s.before) r.cells)
+      first_is others false = empty (may_come t s.dues c)
 
-  rule-found : (above : List Rule) (r : Rule) → flat_map (steps_of t s) (rule_forms t s.before above r) ≡ flat_map (rule_step t s (length above) r) (map (letter_at t s.before above) coming)
+      chars : (l : List ℕ) → group_steps t s (cased_if t s.before above r l c)
+          ≡ cond (may_come t s.dues c) (cond (begins_with (fold_of t c) l) (with_steps [] (cased_steps t s (letter_at t s.before above c) (length above) (drop 1 l) (after_of r.place s.before) r.cells)) []) []
+      chars [] = empty (may_come t s.dues c)
+      chars (first ∷ others) = first_is others (nat_eq first (fold_of t c))
+
+  rule-found : (above : List Rule) (r : Rule) → flat_map (group_steps t s) (groups_of t s.before above r) ≡ flat_map (rule_step t s (length above) r) (map (letter_at t s.before above) coming)
   rule-found above r = at (holds (before_of r.place) s.before) refl ∙ sym (flat_map-of_map (rule_step t s (length above) r) (letter_at t s.before above) coming)
     where
       at : (b : Bool) → holds (before_of r.place) s.before ≡ b
-          → flat_map (steps_of t s) (cond b (flat_map (cased t s.before above r r.chars) (letters t)) []) ≡ flat_map (λ c. rule_step t s (length above) r (letter_at t s.before above c)) coming
+          → flat_map (group_steps t s) (cond b (map (cased_if t s.before above r r.chars) (letters t)) []) ≡ flat_map (λ c. rule_step t s (length above) r (letter_at t s.before above c)) coming
       at true e =
-          flat_map-flat_map (steps_of t s) (cased t s.before above r r.chars) (letters t)
-          ∙ flat_map-filter (λ c. flat_map (steps_of t s) (cased t s.before above r r.chars c)) (λ c. rule_step t s (length above) r (letter_at t s.before above c)) (may_come t s.dues) (λ c. rule-at above r c e) (letters t)
+          flat_map-of_map (group_steps t s) (cased_if t s.before above r r.chars) (letters t)
+          ∙ flat_map-filter (λ c. group_steps t s (cased_if t s.before above r r.chars c)) (λ c. rule_step t s (length above) r (letter_at t s.before above c)) (may_come t s.dues) (λ c. rule-at above r c e) (letters t)
       at false e =
           sym (flat_map-none (λ c. rule_step t s (length above) r (letter_at t s.before above c))
-          (λ c. ap (λ h. cond (h && begins_with (fold_of t c) r.chars) (letter_step t s (letter_at t s.before above c) (length above) (drop 1 r.chars) (after_of r.place s.before) r.cells) []) e) coming)
+          (λ c. ap (λ h. cond (h && begins_with (fold_of t c) r.chars) (with_steps [] (cased_steps t s (letter_at t s.before above c) (length above) (drop 1 r.chars) (after_of r.place s.before) r.cells)) []) e) coming)
 
   -- ---- All steps
 
-  own-found : flat_map (steps_of t s) (map (own_form t) (letters t)) ≡ flat_map (own_step t s) (map (letter_at t s.before t.rules) coming)
+  own-forms-at : (c : ℕ) (run : Bool)
+      → flat_map (steps_of t s) (form_if (own_form t c run) (further t s.before run (c ∷ [])))
+      ≡ cond (may_come t s.dues c) (letter_step t s (letter_at t s.before t.rules c) (own t (c ∷ [])).number run [] Any (own t (c ∷ [])).cells) []
+  own-forms-at c run =
+      form_if-at (own_form t c run) (may_come t s.dues c) (next_step t s (letter_at t s.before t.rules c) (own t (c ∷ [])).number run [] Any (own t (c ∷ [])).cells)
+      (λ next. steps-at (own_form t c run next) c [] t.rules refl refl) (further t s.before run (c ∷ []))
+
+  own-at : (c : ℕ) → group_steps t s (own_forms t s.before c) ≡ cond (may_come t s.dues c) (own_step t s (letter_at t s.before t.rules c)) []
+  own-at c =
+      ap (with_steps [])
+      (flat_map-append (steps_of t s) (form_if (own_form t c true) (further t s.before true (c ∷ []))) (form_if (own_form t c false) (further t s.before false (c ∷ [])))
+      ∙ ap₂ (λ a b. a ++ b) (own-forms-at c true) (own-forms-at c false)
+      ∙ both (may_come t s.dues c) (step-for true) (step-for false))
+      ∙ once-if (may_come t s.dues c) (cased_steps t s (letter_at t s.before t.rules c) (own t (c ∷ [])).number [] Any (own t (c ∷ [])).cells)
+    where
+      step-for : Bool → List (Step DuesState)
+      step-for run = letter_step t s (letter_at t s.before t.rules c) (own t (c ∷ [])).number run [] Any (own t (c ∷ [])).cells
+
+      both : (b : Bool) (xs ys : List (Step DuesState)) → cond b xs [] ++ cond b ys [] ≡ cond b ((xs ++ []) ++ ys) []
+      both true xs ys = ap (λ l. l ++ ys) (sym (append-nil xs))
+      both false xs ys = refl
+
+  own-found : flat_map (group_steps t s) (map (own_forms t s.before) (letters t)) ≡ flat_map (own_step t s) (map (letter_at t s.before t.rules) coming)
   own-found =
-      flat_map-of_map (steps_of t s) (own_form t) (letters t)
-      ∙ flat_map-filter (λ c. steps_of t s (own_form t c)) (λ c. own_step t s (letter_at t s.before t.rules c)) (may_come t s.dues) (λ c. steps-at (own_form t c) c [] t.rules refl refl) (letters t)
+      flat_map-of_map (group_steps t s) (own_forms t s.before) (letters t)
+      ∙ flat_map-filter (λ c. group_steps t s (own_forms t s.before c)) (λ c. own_step t s (letter_at t s.before t.rules c)) (may_come t s.dues) own-at (letters t)
       ∙ sym (flat_map-of_map (own_step t s) (letter_at t s.before t.rules) coming)
 
   found-from : (above rules : List Rule)
-      → flat_map (steps_of t s) (forms_from t s.before above rules) ++ flat_map (own_step t s) (map (letter_at t s.before (above ++ rules)) coming)
+      → flat_map (group_steps t s) (groups_from t s.before above rules) ++ flat_map (own_step t s) (map (letter_at t s.before (above ++ rules)) coming)
       ≡ steps_found t s (length above) rules (map (letter_at t s.before above) coming)
   found-from above [] = ap (λ a. flat_map (own_step t s) (map (letter_at t s.before a) coming)) (append-nil above)
   found-from above (r ∷ rules) =
       let own = flat_map (own_step t s) (map (letter_at t s.before (above ++ r ∷ rules)) coming) in
-      let last = flat_map (steps_of t s) (forms_from t s.before (above ++ r ∷ []) rules) in
-      ap (λ l. l ++ own) (flat_map-append (steps_of t s) (rule_forms t s.before above r) (forms_from t s.before (above ++ r ∷ []) rules))
-      ∙ append_assoc (flat_map (steps_of t s) (rule_forms t s.before above r)) last own
+      let last = flat_map (group_steps t s) (groups_from t s.before (above ++ r ∷ []) rules) in
+      ap (λ l. l ++ own) (flat_map-append (group_steps t s) (groups_of t s.before above r) (groups_from t s.before (above ++ r ∷ []) rules))
+      ∙ append_assoc (flat_map (group_steps t s) (groups_of t s.before above r)) last own
       ∙ ap (λ l. l ++ (last ++ own)) (rule-found above r)
       ∙ ap (λ l. flat_map (rule_step t s (length above) r) (map (letter_at t s.before above) coming) ++ l)
       (ap (λ a. last ++ flat_map (own_step t s) (map (letter_at t s.before a) coming)) (sym (append_assoc above (r ∷ []) rules))
@@ -240,8 +291,8 @@ module _ (t : TableView) (s : DuesState) where
   pub all-found : dues_steps t s ≡ steps_found t s 0 t.rules (new_letters t s.dues)
   unfolding dues_steps
   all-found =
-      flat_map-append (steps_of t s) (forms_from t s.before [] t.rules) (map (own_form t) (letters t))
-      ∙ ap (λ l. flat_map (steps_of t s) (forms_from t s.before [] t.rules) ++ l) own-found
+      flat_map-append (group_steps t s) (groups_from t s.before [] t.rules) (map (own_forms t s.before) (letters t))
+      ∙ ap (λ l. flat_map (group_steps t s) (groups_from t s.before [] t.rules) ++ l) own-found
       ∙ found-from [] t.rules
 
 -- ---- The characters that may come
@@ -274,7 +325,7 @@ letters-count : (es : List (ℕ × Info)) → length (keys_of es) ≡ length es
 letters-count [] = refl
 letters-count (e ∷ es) = ap suc (letters-count es)
 
-letters-all : (t : TableView) (n : ℕ) → length t.characters ≤ n → take n (letters t) ≡ letters t
+pub letters-all : (t : TableView) (n : ℕ) → length t.characters ≤ n → take n (letters t) ≡ letters t
 letters-all t n h = take_all n (letters t) (let e = letters-count t.characters in omega (arith, e, h))
 
 pub passing-all : (t : TableView) (dues : List Due) (n : ℕ) → length t.characters ≤ n → map (new_letter t) (filter (may_come t dues) (take n (letters t))) ≡ new_letters t dues

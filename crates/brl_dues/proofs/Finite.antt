@@ -1,5 +1,5 @@
 -- The states of the dues machine and the cells of its steps are in finite lists.
-use Rattle.std.proofs.Common.{◌≡◌, ℕ, zero, suc, ◌≤◌, Bool, true, false, ◌||◌, List, [], ◌∷◌, ◌++◌, ◌⊎◌, inl, inr, Option, Some, None, length, map, take, refl, sym, ap, ◌∙◌, subst, cond, nat_eq, arith, is_some, append_assoc}
+use Rattle.std.proofs.Common.{◌≡◌, ℕ, zero, suc, ◌≤◌, Bool, true, false, not, ◌&&◌, ◌||◌, List, [], ◌∷◌, ◌++◌, ◌⊎◌, inl, inr, Option, Some, None, length, map, take, refl, sym, ap, ◌∙◌, subst, cond, nat_eq, arith, is_some, append_assoc}
 use Rattle.std.specs.List.{flat_map, list_all, Contains}
 use Rattle.std.specs.List.Sorted.{IsStrictlySortedBy}
 use Rattle.std.specs.Ordering.{eq_by_cmp, is_eq}
@@ -20,21 +20,22 @@ use Rattle.brl_table.specs.declared.place.Place.{Place}
 use Rattle.brl_table.specs.declared.place.Place.TheVariants.{Always, Word, Sufword, Prfword, Begword, Begmidword, Midword, Midendword, Endword, Partword, Begnum, Midnum, Endnum}
 use Rattle.brl_table.specs.declared.rule.Info.{Info}
 use Rattle.brl_table.specs.declared.rule.Rule.{Rule}
-use Rattle.brl_table.specs.Places.{after_of, before_of, holds, letter, none, share}
+use Rattle.brl_table.specs.Places.{after_of, before_of, holds, letter, none, share, uppercase}
 use Rattle.brl_table.specs.TableView.{TableView, info_of}
-use Rattle.brl_table.specs.Text.{classes_of, context_behind, context_behind_all, fold_of}
+use Rattle.brl_table.specs.Text.{classes_of, context_behind, context_behind_all, fold_of, has_word_capitals, is_capital}
 use Rattle.brl_dues.specs.declared.carry.Carried.{Carried}
-use Rattle.brl_dues.specs.declared.carry.Carried.TheVariants.{Settled}
+use Rattle.brl_dues.specs.declared.carry.Carried.TheVariants.{Left, Settled}
 use Rattle.brl_dues.specs.declared.due.Due.{Due}
 use Rattle.brl_dues.specs.declared.due.Due.TheVariants.{Need, Bar}
 use Rattle.brl_dues.specs.declared.state.DuesState.{DuesState}
-use Rattle.brl_dues.specs.Carry.{bar_after, bar_of, carry, carry_bar, is_whole, left_of, lefts, need, opposed, settled_if}
-use Rattle.brl_dues.specs.Finite.{after_conds, all_cells, all_classes, all_contexts, all_dues, all_leads, all_states, bars_from, with_classes, cells_in, endings, lists_up_to, needs_of}
-use Rattle.brl_dues.specs.Form.{Form, IsForm, forms, letters}
+use Rattle.brl_dues.specs.Capitals.{any_if, capitals, choices, further, further_by, is_upper, letters, put_capital}
+use Rattle.brl_dues.specs.Carry.{bars_after, bars_past, bars_to, carry, carry_bar, carry_capitals, is_whole, left_of, lefts, need, opposed, settled_if}
+use Rattle.brl_dues.specs.Finite.{after_conds, all_cells, all_classes, all_contexts, all_dues, all_leads, all_states, bars_from, bars_with, with_classes, cells_in, endings, lists_up_to, need_conds, needs_of, texts_of}
+use Rattle.brl_dues.specs.Form.{Form, IsForm, forms, groups}
 use Rattle.brl_dues.specs.Order.{due_cmp, in_order}
 use Rattle.brl_dues.specs.Steps.{IsStep, context_of, dues_steps, first_state, next_dues, owed, state_in}
 use Rattle.brl_dues.proofs.DueOrder.{due_tied, due_total, from-in_order, in_order-sorted}
-use Rattle.brl_dues.proofs.Forms.{IsForm-forms, defined-in, listed-IsStep}
+use Rattle.brl_dues.proofs.Forms.{IsForm-forms, defined-in, from-put, listed-IsStep}
 use Rattle.brl_dues.proofs.Listing.{IsIn, from-flat_map, in-append, in-flat_map, in-left, in-right}
 use Rattle.brl_dues.proofs.Sorting.{Contains-in, in-Contains}
 
@@ -136,6 +137,29 @@ after-in Begnum before = inr (inr (inr (inr (inl refl))))
 after-in Midnum before = inr (inr (inr (inr (inl refl))))
 after-in Endnum before = inr (inr (inr (inr (inr (inl refl)))))
 
+-- what must follow so that a form is in a run of capitals, or out of one
+any-in : (b : Bool) (next : Cond) → any_if b ≡ Some next → IsIn next need_conds
+any-in true next e = inr (inr (inl (let same : Any ≡ next = cc in sym same)))
+any-in false next e = cc
+
+by-in : (t : TableView) (run : Bool) (others : List ℕ) (next : Cond) → further_by t run others ≡ Some next → IsIn next need_conds
+by-in t true [] next e = inl (let same : Meets uppercase ≡ next = cc in sym same)
+by-in t false [] next e = inr (inl (let same : Avoids uppercase ≡ next = cc in sym same))
+by-in t true (d ∷ others) next e = any-in (is_upper t d) next e
+by-in t false (d ∷ others) next e = any-in (not (is_upper t d)) next e
+
+further-in : (t : TableView) (before : Class) (run : Bool) (reads : List ℕ) (next : Cond) → further t before run reads ≡ Some next → IsIn next need_conds
+further-in t before run [] next e = cc
+further-in t before run (c ∷ others) next e = at (has_word_capitals t && is_upper t c) (is_capital before) e
+  where
+    at : (w b : Bool) → cond w (cond b (any_if run) (further_by t run others)) (any_if (not run)) ≡ Some next → IsIn next need_conds
+    at true true k = any-in run next k
+    at true false k = by-in t run others next k
+    at false b k = any-in (not run) next k
+
+after-needed : (c : Cond) → IsIn c after_conds → IsIn c need_conds
+after-needed c h = inr (inr h)
+
 -- ---- Dues
 
 none-settled : (d : Due) (b : Bool) → IsIn d (left_of (settled_if b)) → ⊥
@@ -143,28 +167,41 @@ none-settled d true h = h
 none-settled d false h = h
 
 module _ (t : TableView) where
-  into-needs : (d : Due) (c : Cond) → IsIn c after_conds → IsIn d (needs_of c) → IsIn d (all_dues t)
-  into-needs d c i h = in-left d (flat_map needs_of after_conds) (flat_map bars_from t.rules) (in-flat_map needs_of c d after_conds i h)
+  into-needs : (d : Due) (c : Cond) → IsIn c need_conds → IsIn d (needs_of c) → IsIn d (all_dues t)
+  into-needs d c i h = in-left d (flat_map needs_of need_conds) (flat_map (bars_from t) t.rules) (in-flat_map needs_of c d need_conds i h)
 
-  need-in : (d : Due) (c : Cond) → IsIn c after_conds → IsIn d (left_of (need c)) → IsIn d (all_dues t)
+  need-in : (d : Due) (c : Cond) → IsIn c need_conds → IsIn d (left_of (need c)) → IsIn d (all_dues t)
   need-in d c i h = into-needs d c i (in-left d (left_of (need c)) (left_of (opposed c)) h)
 
   opposed-in : (d : Due) (c : Cond) → IsIn c after_conds → IsIn d (left_of (opposed c)) → IsIn d (all_dues t)
-  opposed-in d c i h = into-needs d c i (in-right d (left_of (need c)) (left_of (opposed c)) h)
+  opposed-in d c i h = into-needs d c (after-needed c i) (in-right d (left_of (need c)) (left_of (opposed c)) h)
 
-  -- a bar of the list is what the characters of a rule end with
-  pub record IsBar (chars : List ℕ) (c : Cond) : Type 0 where
-    pub rule : Rule
-    pub there : IsIn rule t.rules
-    pub front : List ℕ
-    pub ends : rule.chars ≡ front ++ chars
-    pub asks : IsIn c after_conds
+  -- what the characters of a rule end with, and a condition
+  record IsEnding (chars : List ℕ) (c : Cond) : Type 0 where
+    rule : Rule
+    there : IsIn rule t.rules
+    front : List ℕ
+    ends : rule.chars ≡ front ++ chars
+    asks : IsIn c after_conds
 
-  bar-in : (chars : List ℕ) (c : Cond) → IsBar chars c → IsIn (Bar chars c) (all_dues t)
-  bar-in chars c h =
-      in-right (Bar chars c) (flat_map needs_of after_conds) (flat_map bars_from t.rules)
-      (in-flat_map bars_from h.rule (Bar chars c) t.rules h.there
-      (in-flat_map (λ y. map (Bar y) after_conds) chars (Bar chars c) (endings h.rule.chars) (into-endings h.front h.rule.chars chars h.ends) (into-map (Bar chars) c after_conds h.asks)))
+  -- one character later
+  next-ending : (a : ℕ) (chars : List ℕ) (c : Cond) → IsEnding (a ∷ chars) c → IsEnding chars c
+  next-ending a chars c h = record { rule = h.rule; there = h.there; front = h.front ++ a ∷ []; ends = h.ends ∙ sym (append_assoc h.front (a ∷ []) chars); asks = h.asks }
+
+  -- a bar of the list is of a text for what the characters of a rule end with
+  record IsBar (text : List ℕ) (c : Cond) : Type 0 where
+    chars : List ℕ
+    ending : IsEnding chars c
+    is_text : IsIn text (texts_of t chars)
+
+  bar-in : (text : List ℕ) (c : Cond) → IsBar text c → IsIn (Bar text c) (all_dues t)
+  bar-in text c h =
+      let r = h.ending.rule in
+      in-right (Bar text c) (flat_map needs_of need_conds) (flat_map (bars_from t) t.rules)
+      (in-flat_map (bars_from t) r (Bar text c) t.rules h.ending.there
+      (in-flat_map bars_with text (Bar text c) (flat_map (texts_of t) (endings r.chars))
+      (in-flat_map (texts_of t) h.chars text (endings r.chars) (into-endings h.ending.front r.chars h.chars h.ending.ends) h.is_text)
+      (into-map (Bar text) c after_conds h.ending.asks)))
 
   no-bar : (chars : List ℕ) (c k : Cond) → IsIn (Bar chars c) (needs_of k) → ⊥
   no-bar chars c Any h = h
@@ -178,36 +215,48 @@ module _ (t : TableView) where
   same-chars : (x y : List ℕ) (c d : Cond) → Bar x c ≡ Bar y d → (x ≡ y) × (c ≡ d)
   same-chars x y c d e = (cc, cc)
 
-  from-bar : (chars : List ℕ) (c : Cond) → IsIn (Bar chars c) (all_dues t) → IsBar chars c
-  from-bar chars c h = elim (in-append (Bar chars c) (flat_map needs_of after_conds) (flat_map bars_from t.rules) h) [
-    | inl k ↦ (let m = from-flat_map needs_of (Bar chars c) after_conds k in absurd (no-bar chars c m.0 m.2))
+  from-bar : (text : List ℕ) (c : Cond) → IsIn (Bar text c) (all_dues t) → IsBar text c
+  from-bar text c h = elim (in-append (Bar text c) (flat_map needs_of need_conds) (flat_map (bars_from t) t.rules) h) [
+    | inl k ↦ (let m = from-flat_map needs_of (Bar text c) need_conds k in absurd (no-bar text c m.0 m.2))
     | inr k ↦ (
-        let m = from-flat_map bars_from (Bar chars c) t.rules k in
-        let y = from-flat_map (λ y. map (Bar y) after_conds) (Bar chars c) (endings m.0.chars) m.2 in
-        let w = from-map (Bar y.0) (Bar chars c) after_conds y.2 in
-        let same = same-chars chars y.0 c w.0 w.2 in
-        let front = from-endings m.0.chars y.0 y.1 in
+        let m = from-flat_map (bars_from t) (Bar text c) t.rules k in
+        let y = from-flat_map bars_with (Bar text c) (flat_map (texts_of t) (endings m.0.chars)) m.2 in
+        let z = from-flat_map (texts_of t) y.0 (endings m.0.chars) y.1 in
+        let w = from-map (Bar y.0) (Bar text c) after_conds y.2 in
+        let same = same-chars text y.0 c w.0 w.2 in
+        let front = from-endings m.0.chars z.0 z.1 in
         record {
-          rule = m.0;
-          there = m.1;
-          front = front.0;
-          ends = front.1 ∙ ap (λ l. front.0 ++ l) (sym same.0);
-          asks = subst (λ z. IsIn z after_conds) (sym same.1) w.1;
+          chars = z.0;
+          ending = record { rule = m.0; there = m.1; front = front.0; ends = front.1; asks = subst (λ z. IsIn z after_conds) (sym same.1) w.1 };
+          is_text = subst (λ l. IsIn l (texts_of t z.0)) (sym same.0) z.2;
         })
   ]
+
+  -- a bar of one character fewer
+  next-bar : (a : ℕ) (text : List ℕ) (c : Cond) → IsBar (a ∷ text) c → IsBar text c
+  next-bar a text c h = at h.chars h.ending h.is_text
+    where
+      at : (chars : List ℕ) → IsEnding chars c → IsIn (a ∷ text) (texts_of t chars) → IsBar text c
+      at chars ending (inl e) = record { chars = text; ending = next-ending a text c (subst (λ l. IsEnding l c) (sym e) ending); is_text = inl refl }
+      at [] ending (inr (inl e)) = cc
+      at [] ending (inr (inr k)) = absurd k
+      at (b ∷ chars) ending (inr k) =
+          let m = from-flat_map (put_capital t b (choices t chars)) (a ∷ text) (capitals t) k in
+          let w = from-put t b (choices t chars) m.0 (a ∷ text) m.2 in
+          let pair : a ∷ text ≡ m.0 ∷ w.1.0 = w.1.2 in
+          let rest : text ≡ w.1.0 = cc in
+          record { chars = chars; ending = next-ending b chars c ending; is_text = inr (subst (λ l. IsIn l (choices t chars)) (sym rest) w.1.1) }
 
   either-in : (d : Due) (b : Bool) (r : Carried) → (IsIn d (left_of r) → IsIn d (all_dues t)) → IsIn d (left_of (cond b r Settled)) → IsIn d (all_dues t)
   either-in d true r f h = f h
   either-in d false r f h = absurd h
 
-  carry_bar-in : (past chars : List ℕ) (c : Cond) → IsBar chars c → (d : Due) → IsIn d (left_of (carry_bar t past chars c)) → IsIn d (all_dues t)
-  carry_bar-in [] [] c is d h = opposed-in d c is.asks h
-  carry_bar-in [] (a ∷ chars) c is d (inl e) = subst (λ x. IsIn x (all_dues t)) (sym e) (bar-in (a ∷ chars) c is)
-  carry_bar-in [] (a ∷ chars) c is d (inr h) = absurd h
+  carry_bar-in : (past text : List ℕ) (c : Cond) → IsBar text c → (d : Due) → IsIn d (left_of (carry_bar t past text c)) → IsIn d (all_dues t)
+  carry_bar-in [] [] c is d h = opposed-in d c is.ending.asks h
+  carry_bar-in [] (a ∷ text) c is d (inl e) = subst (λ x. IsIn x (all_dues t)) (sym e) (bar-in (a ∷ text) c is)
+  carry_bar-in [] (a ∷ text) c is d (inr h) = absurd h
   carry_bar-in (b ∷ past) [] c is d h = absurd (none-settled d _ h)
-  carry_bar-in (b ∷ past) (a ∷ chars) c is d h =
-      either-in d (nat_eq a b) (carry_bar t past chars c)
-      (carry_bar-in past chars c (record { rule = is.rule; there = is.there; front = is.front ++ a ∷ []; ends = is.ends ∙ sym (append_assoc is.front (a ∷ []) chars); asks = is.asks }) d) h
+  carry_bar-in (b ∷ past) (a ∷ text) c is d h = either-in d (nat_eq a b) (carry_bar t past text c) (carry_bar-in past text c (next-bar a text c is) d) h
 
   carry-in : (past : List ℕ) (old : Due) → IsIn old (all_dues t) → (d : Due) → IsIn d (left_of (carry t past old)) → IsIn d (all_dues t)
   carry-in [] (Need c) i d (inl e) = subst (λ x. IsIn x (all_dues t)) (sym e) i
@@ -216,24 +265,57 @@ module _ (t : TableView) where
   carry-in past (Bar [] c) i d h = absurd h
   carry-in past (Bar (a ∷ chars) c) i d h = carry_bar-in past (a ∷ chars) c (from-bar (a ∷ chars) c i) d h
 
-  bar_after-in : (r : Rule) (c : ℕ) (past chars : List ℕ) (after : Cond) → IsIn r t.rules → IsIn after after_conds → r.chars ≡ chars → (d : Due)
-      → IsIn d (left_of (bar_after t c past chars after)) → IsIn d (all_dues t)
-  bar_after-in r c past [] after i asks e d h = absurd h
-  bar_after-in r c past (first ∷ others) after i asks e d h =
-      either-in d (nat_eq (fold_of t c) first) (carry_bar t past others after)
-      (carry_bar-in past others after (record { rule = r; there = i; front = first ∷ []; ends = e; asks = asks }) d) h
+  -- ---- The bars of a rule
 
-  bar_of-in : (before : Class) (reads : List ℕ) (r : Rule) → IsIn r t.rules → (d : Due) → IsIn d (left_of (bar_of t before reads r)) → IsIn d (all_dues t)
-  bar_of-in before [] r i d h = absurd h
-  bar_of-in before (c ∷ past) r i d h =
-      either-in d (holds (before_of r.place) before) (bar_after t c past r.chars (after_of r.place before))
-      (bar_after-in r c past r.chars (after_of r.place before) i (after-in r.place before) refl d) h
+  -- what is left of each of these is among the dues
+  abbrev AllIn : List Carried → Type 0
+  AllIn carried = (k : Carried) (d : Due) → IsIn k carried → IsIn d (left_of k) → IsIn d (all_dues t)
+
+  if-in : (b : Bool) (carried : List Carried) → AllIn carried → AllIn (cond b carried [])
+  if-in true carried f k d i h = f k d i h
+  if-in false carried f k d i h = absurd i
+
+  one-in : (carried : Carried) → ((d : Due) → IsIn d (left_of carried) → IsIn d (all_dues t)) → AllIn (carried ∷ [])
+  one-in carried f k d (inl e) h = f d (subst (λ x. IsIn d (left_of x)) e h)
+  one-in carried f k d (inr i) h = absurd i
+
+  carry_capitals-in : (past chars : List ℕ) (c : Cond) → IsEnding chars c → AllIn (carry_capitals t past chars c)
+  carry_capitals-in [] [] c is = one-in (opposed c) (λ d h. opposed-in d c is.asks h)
+  carry_capitals-in [] (a ∷ chars) c is = λ k d i h. (
+      let m = from-map (λ text. Left (Bar text c)) k (choices t (a ∷ chars)) i in
+      elim (subst (λ x. IsIn d (left_of x)) m.2 h) [
+        | inl e ↦ subst (λ x. IsIn x (all_dues t)) (sym e) (bar-in m.0 c (record { chars = a ∷ chars; ending = is; is_text = inr m.1 }))
+        | inr more ↦ absurd more
+      ])
+  carry_capitals-in (b ∷ past) [] c is = one-in (settled_if (not (holds c (classes_of t b)))) (λ d h. absurd (none-settled d _ h))
+  carry_capitals-in (b ∷ past) (a ∷ chars) c is =
+      if-in (is_upper t b && nat_eq a (fold_of t b)) (carry_capitals t past chars c) (carry_capitals-in past chars c (next-ending a chars c is))
+
+  bars_past-in : (run : Bool) (past chars : List ℕ) (c : Cond) → IsEnding chars c → AllIn (bars_past t run past chars c)
+  bars_past-in true past chars c is = carry_capitals-in past chars c is
+  bars_past-in false past chars c is = one-in (carry_bar t past chars c) (λ d h. carry_bar-in past chars c (record { chars = chars; ending = is; is_text = inl refl }) d h)
+
+  bars_after-in : (r : Rule) (run : Bool) (c : ℕ) (past chars : List ℕ) (after : Cond) → IsIn r t.rules → IsIn after after_conds → r.chars ≡ chars → AllIn (bars_after t run c past chars after)
+  bars_after-in r run c past [] after i asks e = λ k d j h. absurd j
+  bars_after-in r run c past (first ∷ others) after i asks e =
+      if-in (nat_eq first (fold_of t c)) (bars_past t run past others after)
+      (bars_past-in run past others after (record { rule = r; there = i; front = first ∷ []; ends = e; asks = asks }))
+
+  bars_to-in : (before : Class) (run : Bool) (reads : List ℕ) (r : Rule) → IsIn r t.rules → AllIn (bars_to t before run reads r)
+  bars_to-in before run [] r i = λ k d j h. absurd j
+  bars_to-in before run (c ∷ past) r i =
+      if-in (holds (before_of r.place) before) (bars_after t run c past r.chars (after_of r.place before))
+      (bars_after-in r run c past r.chars (after_of r.place before) i (after-in r.place before) refl)
 
   -- ---- Forms
 
-  form-after : (before : Class) (f : Form) → IsForm t before f → IsIn f.after after_conds
-  form-after before f (inl h) = subst (λ z. IsIn z after_conds) (sym h.after) (after-in h.rule.place before)
-  form-after before f (inr h) = subst (λ z. IsIn z after_conds) (sym h.after) (inl refl)
+  form-after : (before : Class) (f : Form) → IsForm t before f → IsIn f.after need_conds
+  form-after before f (inl h) = subst (λ z. IsIn z need_conds) (sym h.after) (after-needed (after_of h.rule.place before) (after-in h.rule.place before))
+  form-after before f (inr h) = subst (λ z. IsIn z need_conds) (sym h.after) (after-needed Any (inl refl))
+
+  form-next : (before : Class) (f : Form) → IsForm t before f → IsIn f.next need_conds
+  form-next before f (inl h) = further-in t before f.run (h.character ∷ h.others) f.next h.next
+  form-next before f (inr h) = further-in t before f.run (h.character ∷ []) f.next h.next
 
   form-above : (before : Class) (f : Form) → IsForm t before f → (r : Rule) → IsIn r f.above → IsIn r t.rules
   form-above before f (inl h) r i = from-take r f.number t.rules (subst (IsIn r) h.above i)
@@ -254,9 +336,10 @@ module _ (t : TableView) where
             let w = from-map (carry t f.reads) m.0 s.dues i in
             carry-in f.reads w.0 (old w.0 w.1) d (subst (λ c. IsIn d (left_of c)) w.2 m.2))
         | inr (inl e) ↦ need-in d f.after (form-after s.before f is) (subst (λ c. IsIn d (left_of c)) e m.2)
-        | inr (inr i) ↦ (
-            let w = from-map (bar_of t s.before f.reads) m.0 f.above i in
-            bar_of-in s.before f.reads w.0 (form-above s.before f is w.0 w.1) d (subst (λ c. IsIn d (left_of c)) w.2 m.2))
+        | inr (inr (inl e)) ↦ need-in d f.next (form-next s.before f is) (subst (λ c. IsIn d (left_of c)) e m.2)
+        | inr (inr (inr i)) ↦ (
+            let w = from-flat_map (bars_to t s.before f.run f.reads) m.0 f.above i in
+            bars_to-in s.before f.run f.reads w.0 (form-above s.before f is w.0 w.1) m.0 d w.2 m.2)
       ]
 
   next-listed : (s : DuesState) (f : Form) (dues : List Due) → IsForm t s.before f → ((d : Due) → IsIn d s.dues → IsIn d (all_dues t)) → next_dues t s f ≡ Some dues
@@ -336,9 +419,10 @@ module _ (t : TableView) where
   cells-in : (s : DuesState) (x : Step DuesState) → IsIn s (all_states t) → IsStep t s x → IsIn x.cells (all_cells t)
   cells-in s x h is =
       let p = from-states s h in
+      let some = IsForm-forms t s.before is.form is.is_form in
       subst (λ (y : Step DuesState). IsIn y.cells (all_cells t)) (sym is.step)
       (in-flat_map (λ (here : Context). map (cells_in t here) (forms t here.classes)) (context_of s) (cells_in t (context_of s) is.form) (all_contexts t) p.context
-      (into-map (cells_in t (context_of s)) is.form (forms t s.before) (IsForm-forms t s.before is.form is.is_form)))
+      (into-map (cells_in t (context_of s)) is.form (forms t s.before) (in-flat_map (λ group. group) some.group is.form (groups t s.before) some.there some.inside)))
 
   pub first-Contains : Contains (all_states t) first_state
   first-Contains = in-Contains first_state (all_states t) first-in

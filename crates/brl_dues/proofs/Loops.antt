@@ -9,7 +9,8 @@ use Rattle.brl_table.specs.Places.{after_of, before_of, holds}
 use Rattle.brl_table.specs.TableView.{TableView}
 use Rattle.brl_dues.specs.declared.state.DuesState.{DuesState}
 use Rattle.brl_dues.specs.LetterView.{LetterView}
-use Rattle.brl_dues.specs.Letters.{begins_with, letter_step, own_step, rule_step, steps_found, with_rule}
+use Rattle.brl_dues.specs.Letters.{begins_with, cased_steps, own_step, rule_step, steps_found, with_rule}
+use Rattle.brl_dues.specs.Steps.{with_steps}
 
 -- each of the first elements, up to this place, is changed, and has given what it gives
 pub record Updated {X Y : Type 0} (f : X → X) (g : X → List Y) (xs : List X) (i : ℕ) (now : List X) (old new : List Y) : Type 0 where
@@ -84,7 +85,7 @@ module _ (t : TableView) (s : DuesState) (number : ℕ) (r : Rule) (none : holds
   no-steps : (ls : List LetterView) → flat_map (rule_step t s number r) ls ≡ []
   no-steps [] = refl
   no-steps (l ∷ ls) =
-      ap₂ (λ a b. a ++ b) (ap (λ h. cond (h && begins_with l.fold r.chars) (letter_step t s l number (drop 1 r.chars) (after_of r.place s.before) r.cells) []) none) (no-steps ls)
+      ap₂ (λ a b. a ++ b) (ap (λ h. cond (h && begins_with l.fold r.chars) (with_steps [] (cased_steps t s l number (drop 1 r.chars) (after_of r.place s.before) r.cells)) []) none) (no-steps ls)
 
   pub none-listed : (listed : List (Step DuesState)) (ls : List LetterView) → listed ≡ listed ++ flat_map (rule_step t s number r) ls
   none-listed listed ls = sym (append-nil listed) ∙ ap (λ l. listed ++ l) (sym (no-steps ls))

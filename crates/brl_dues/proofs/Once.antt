@@ -1,5 +1,5 @@
 -- Steps are good, each is listed once, and they ascend by rule number.
-use Rattle.std.proofs.Common.{◌≡◌, ◌≢◌, ℕ, zero, suc, ◌+◌, ◌<◌, ◌≤◌, Bool, true, false, not, ◌&&◌, List, [], ◌∷◌, ◌++◌, Option, Some, None, length, map, take, refl, sym, ap, ◌∙◌, subst, cond, nat_eq, inl, inr, arith, is_some, length-append}
+use Rattle.std.proofs.Common.{◌≡◌, ◌≢◌, ℕ, zero, suc, ◌+◌, ◌*◌, ◌<◌, ◌≤◌, Bool, true, false, List, [], ◌∷◌, ◌++◌, Option, Some, None, length, map, take, refl, sym, ap, ◌∙◌, subst, cond, nat_eq, inl, inr, arith, is_some, length-append}
 use Rattle.std.specs.Prelude.{slice_get}
 use Rattle.std.specs.Option.{option_map_or}
 use Rattle.std.specs.List.{AllByRecursion, flat_map}
@@ -12,19 +12,21 @@ use Rattle.brl_table.specs.declared.context.Context.{Context}
 use Rattle.brl_table.specs.declared.rule.Info.{Info}
 use Rattle.brl_table.specs.declared.rule.Rule.{Rule}
 use Rattle.brl_table.specs.Choice.{own}
-use Rattle.brl_table.specs.Indicators.{indicators, when}
-use Rattle.brl_table.specs.Places.{before_of, holds, share, uppercase}
-use Rattle.brl_table.specs.declared.signs.Sign.TheVariants.{CapsLetter, NumSign, NoContractSign}
+use Rattle.brl_table.specs.Indicators.{is_used, sign_order, signs_before, signs_of, used_cells}
+use Rattle.brl_table.specs.Infos.{first_info}
+use Rattle.brl_table.specs.Places.{before_of, holds}
+use Rattle.brl_table.specs.declared.signs.Sign.{Sign}
 use Rattle.brl_table.specs.TableView.{TableView, sign_cells}
-use Rattle.brl_table.specs.Text.{classes_of, is_literary, is_nocont}
 use Rattle.brl_dues.specs.declared.due.Due.{Due}
 use Rattle.brl_dues.specs.declared.state.DuesState.{DuesState}
-use Rattle.brl_dues.specs.Form.{Form, IsForm, cased, forms, forms_from, letters, own_form, rule_form, rule_forms}
-use Rattle.brl_dues.specs.Steps.{context_of, dues_steps, next_dues, step_if, step_of, steps_of}
-use Rattle.brl_dues.proofs.Forms.{from-rule_forms, from-forms_from, from-cased, from-step_if, in-map, listed-IsStep}
+use Rattle.brl_dues.specs.Capitals.{letters}
+use Rattle.brl_dues.specs.Form.{Form, IsForm, cased_if, groups, groups_from, groups_of, own_forms}
+use Rattle.brl_dues.specs.Steps.{context_of, dues_steps, group_steps, next_dues, step_of, steps_of}
+use Rattle.brl_dues.proofs.Forms.{from-cased_if, from-group, from-groups_from, from-groups_of, from-own_forms, from-step_if, in-map, listed-IsStep}
 use Rattle.brl_dues.proofs.Kept.{Keeps, Within}
-use Rattle.brl_dues.proofs.Listing.{IsIn}
-use Rattle.brl_dues.proofs.Pairwise.{Pairwise, append-Pairwise, at-Pairwise, flat_map-Pairwise, map-Pairwise, Pairwise-at}
+use Rattle.brl_dues.proofs.Listing.{IsIn, in-append}
+use Rattle.brl_dues.proofs.Pairwise.{Pairwise, append-Pairwise, at-Pairwise, flat_map-Pairwise, map-Pairwise, Pairwise-at, weaken-Pairwise}
+use Rattle.brl_dues.proofs.Repeats.{with_steps-differ}
 use Rattle.brl_dues.proofs.Taking.{ReadsSome, form-ReadsSome}
 
 -- ---- Once
@@ -38,67 +40,63 @@ pub record Later (f g : Form) : Type 0 where
 lower-Later : (f g : Form) → f.number < g.number → Later f g
 lower-Later f g h = record { ascend = omega (arith, h); differ = λ e _. absurd (omega (arith, h, e)) }
 
+-- the same of any two forms of two groups
+abbrev LaterGroup : List Form → List Form → Type 0
+LaterGroup group later = (f g : Form) → IsIn f group → IsIn g later → Later f g
+
+-- all forms of a group have one number
+abbrev HasNumber : ℕ → List Form → Type 0
+HasNumber number group = (f : Form) → IsIn f group → f.number ≡ number
+
 module _ (t : TableView) (before : Class) where
-  cased-Later : (above : List Rule) (r : Rule) (chars : List ℕ) (c d : ℕ) (f g : Form) → c ≢ d → IsIn f (cased t before above r chars c) → IsIn g (cased t before above r chars d) → Later f g
-  cased-Later above r chars c d f g other i j =
-      let v = from-cased t before above r chars c f i in
-      let w = from-cased t before above r chars d g j in
-      let same : f.number ≡ g.number = ap (λ (x : Form). x.number) v.2 ∙ sym (ap (λ (x : Form). x.number) w.2) in
+  cased-Later : (above : List Rule) (r : Rule) (chars : List ℕ) (c d : ℕ) → c ≢ d → LaterGroup (cased_if t before above r chars c) (cased_if t before above r chars d)
+  cased-Later above r chars c d other f g i j =
+      let v = from-cased_if t before above r chars c f i in
+      let w = from-cased_if t before above r chars d g j in
+      let same : f.number ≡ g.number = ap (λ (x : Form). x.number) v.is ∙ sym (ap (λ (x : Form). x.number) w.is) in
       record {
         ascend = omega (arith, same);
         differ = λ _ e. (
-            let both : c ∷ v.0 ≡ d ∷ w.0 = sym (ap (λ (x : Form). x.reads) v.2) ∙ e ∙ ap (λ (x : Form). x.reads) w.2 in
+            let both : c ∷ v.others ≡ d ∷ w.others = sym (ap (λ (x : Form). x.reads) v.is) ∙ e ∙ ap (λ (x : Form). x.reads) w.is in
             let first : c ≡ d = cc in
             other first);
       }
 
-  cased-once : (above : List Rule) (r : Rule) (chars : List ℕ) (c : ℕ) → Pairwise Later (cased t before above r chars c)
-  cased-once above r [] c = tt
-  cased-once above r (first ∷ others) c = at (nat_eq _ first)
+  groups_of-once : Pairwise (λ a b. a ≢ b) (letters t) → (above : List Rule) (r : Rule) → Pairwise LaterGroup (groups_of t before above r)
+  groups_of-once single above r = at (holds (before_of r.place) before)
     where
-      at : (b : Bool) → Pairwise Later (cond b (rule_form before above r others c ∷ []) [])
-      at true = (tt, tt)
+      at : (b : Bool) → Pairwise LaterGroup (cond b (map (cased_if t before above r r.chars) (letters t)) [])
+      at true = map-Pairwise (λ a b. a ≢ b) LaterGroup (cased_if t before above r r.chars) (letters t) single (λ c d other. cased-Later above r r.chars c d other)
       at false = tt
 
-  rule_forms-once : Pairwise (λ a b. a ≢ b) (letters t) → (above : List Rule) (r : Rule) → Pairwise Later (rule_forms t before above r)
-  rule_forms-once single above r = at (holds (before_of r.place) before)
-    where
-      at : (b : Bool) → Pairwise Later (cond b (flat_map (cased t before above r r.chars) (letters t)) [])
-      at true =
-          flat_map-Pairwise (λ a b. a ≢ b) Later (cased t before above r r.chars) (letters t) single (cased-once above r r.chars)
-          (λ c d f g other i j. cased-Later above r r.chars c d f g other i j)
-      at false = tt
+  number-above : (above : List Rule) (r : Rule) (g : List Form) → IsIn g (groups_of t before above r) → HasNumber (length above) g
+  number-above above r g h f i = ap (λ (x : Form). x.number) (from-groups_of t before above r g f h i).case.is
 
-  number-above : (above : List Rule) (r : Rule) (f : Form) → IsIn f (rule_forms t before above r) → f.number ≡ length above
-  number-above above r f h = ap (λ (x : Form). x.number) (from-rule_forms t before above r f h).is
-
-  number-from : (above rules : List Rule) (f : Form) → IsIn f (forms_from t before above rules) → length above ≤ f.number
-  number-from above rules f h =
-      let m = from-forms_from t before above rules f h in
-      let n = number-above (above ++ take m.place rules) m.rule f m.one in
-      omega (arith, n, length-append above (take m.place rules))
-
-  number-below : (above rules : List Rule) (f : Form) → IsIn f (forms_from t before above rules) → f.number < length above + length rules
-  number-below above [] f h = absurd h
-  number-below above (r ∷ rules) f h =
-      let m = from-forms_from t before above (r ∷ rules) f h in
-      let n = number-above (above ++ take m.place (r ∷ rules)) m.rule f m.one in
+  -- the number of the forms of a group of the rules
+  group-number : (above rules : List Rule) (g : List Form) → IsIn g (groups_from t before above rules) → (n : ℕ) × HasNumber n g × (length above ≤ n) × (n < length above + length rules)
+  group-number above [] g h = absurd h
+  group-number above (r ∷ rules) g h =
+      let m = from-groups_from t before above (r ∷ rules) g h in
+      let front = above ++ take m.place (r ∷ rules) in
+      let n = length-append above (take m.place (r ∷ rules)) in
       let less = fewer (r ∷ rules) m.place m.rule m.there in
-      omega (arith, n, length-append above (take m.place (r ∷ rules)), less)
+      (length front, number-above front m.rule g m.one, omega (arith, n), omega (arith, n, less))
     where
       fewer : (rs : List Rule) (k : ℕ) (q : Rule) → slice_get rs k ≡ Some q → length (take k rs) < length rs
       fewer [] k q e = cc
       fewer (x ∷ rs) zero q e = omega arith
       fewer (x ∷ rs) (suc k) q e = (let more = fewer rs k q e in omega (arith, more))
 
-  forms_from-once : Pairwise (λ a b. a ≢ b) (letters t) → (above rules : List Rule) → Pairwise Later (forms_from t before above rules)
-  forms_from-once single above [] = tt
-  forms_from-once single above (r ∷ rules) =
-      append-Pairwise Later (rule_forms t before above r) (forms_from t before (above ++ r ∷ []) rules) (rule_forms-once single above r) (forms_from-once single (above ++ r ∷ []) rules)
-      (λ f g i j. (
-      let n = number-above above r f i in
-      let m = number-from (above ++ r ∷ []) rules g j in
-      lower-Later f g (omega (arith, n, m, length-append above (r ∷ [])))))
+  groups_from-once : Pairwise (λ a b. a ≢ b) (letters t) → (above rules : List Rule) → Pairwise LaterGroup (groups_from t before above rules)
+  groups_from-once single above [] = tt
+  groups_from-once single above (r ∷ rules) =
+      append-Pairwise LaterGroup (groups_of t before above r) (groups_from t before (above ++ r ∷ []) rules) (groups_of-once single above r) (groups_from-once single (above ++ r ∷ []) rules)
+      (λ group later i j f g k l. (
+      let n = number-above above r group i f k in
+      let m = group-number (above ++ r ∷ []) rules later j in
+      let e = m.1 g l in
+      let high = m.2 in
+      lower-Later f g (omega (arith, n, e, high, length-append above (r ∷ [])))))
 
 -- ---- Own definitions
 
@@ -134,68 +132,110 @@ own-number t keeps i c h =
     ∙ ap (λ o. length t.rules + option_map_or (λ (info : Info). info.number) o 0) (lookup-there t.characters keeps.single i w.0 w.1)
     ∙ ap (λ n. length t.rules + n) (keeps.numbered i w.0 w.1)
 
-own-once : (t : TableView) → Keeps t → Pairwise Later (map (own_form t) (letters t))
-own-once t keeps =
-    map-Pairwise (λ c d. (own t (c ∷ [])).number < (own t (d ∷ [])).number) Later (own_form t) (letters t)
+own-has-number : (t : TableView) (before : Class) (c : ℕ) → HasNumber (own t (c ∷ [])).number (own_forms t before c)
+own-has-number t before c f i = ap (λ (x : Form). x.number) (from-own_forms t before c f i).3
+
+own-once : (t : TableView) → Keeps t → (before : Class) → Pairwise LaterGroup (map (own_forms t before) (letters t))
+own-once t keeps before =
+    map-Pairwise (λ c d. (own t (c ∷ [])).number < (own t (d ∷ [])).number) LaterGroup (own_forms t before) (letters t)
     (at-Pairwise (λ c d. (own t (c ∷ [])).number < (own t (d ∷ [])).number) (letters t)
     (λ i j c d less p q. (let n = own-number t keeps i c p in let m = own-number t keeps j d q in omega (arith, n, m, less))))
-    (λ c d h. lower-Later (own_form t c) (own_form t d) h)
+    (λ c d h f g i j. (let n = own-has-number t before c f i in let m = own-has-number t before d g j in lower-Later f g (omega (arith, n, m, h))))
 
-forms-once : (t : TableView) → Keeps t → (before : Class) → Pairwise Later (forms t before)
-forms-once t keeps before =
-    append-Pairwise Later (forms_from t before [] t.rules) (map (own_form t) (letters t)) (forms_from-once t before keeps.single [] t.rules) (own-once t keeps)
-    (λ f g i j. (
-    let low = number-below t before [] t.rules f i in
-    let m = in-map t before (own_form t) g (letters t) j in
-    let high : g.number ≡ (own t (m.0 ∷ [])).number = ap (λ (x : Form). x.number) m.2 in
-    lower-Later f g (omega (arith, low, high))))
+groups-once : (t : TableView) → Keeps t → (before : Class) → Pairwise LaterGroup (groups t before)
+groups-once t keeps before =
+    append-Pairwise LaterGroup (groups_from t before [] t.rules) (map (own_forms t before) (letters t)) (groups_from-once t before keeps.single [] t.rules) (own-once t keeps before)
+    (λ group later i j f g k l. (
+    let low = group-number t before [] t.rules group i in
+    let n = low.1 f k in
+    let under = low.3 in
+    let m = in-map (own_forms t before) later (letters t) j in
+    let high = own-has-number t before m.0 g (subst (IsIn g) m.2 l) in
+    lower-Later f g (omega (arith, n, under, high))))
+
+-- the forms of each group have one number
+one-number : (t : TableView) (before : Class) (group : List Form) → IsIn group (groups t before) → (n : ℕ) × HasNumber n group
+one-number t before group h = elim (in-append group (groups_from t before [] t.rules) (map (own_forms t before) (letters t)) h) [
+  | inl k ↦ (let m = group-number t before [] t.rules group k in (m.0, m.1))
+  | inr k ↦ (
+      let m = in-map (own_forms t before) group (letters t) k in
+      ((own t (m.0 ∷ [])).number, subst (HasNumber (own t (m.0 ∷ [])).number) (sym m.2) (own-has-number t before m.0)))
+]
 
 -- ---- Steps
 
 record LaterStep (x y : Step DuesState) : Type 0 where
   ascend : x.rule ≤ y.rule
-  differ : x.rule ≡ y.rule → x.reads ≢ y.reads
+  differ : x ≢ y
 
-steps-once : (t : TableView) (s : DuesState) (f : Form) → Pairwise LaterStep (steps_of t s f)
-steps-once t s f = at (next_dues t s f)
-  where
-    at : (o : Option (List Due)) → Pairwise LaterStep (step_if t s f o)
-    at None = tt
-    at (Some dues) = (tt, tt)
+-- the rule and the characters of a step of a group
+record OfForm (group : List Form) (x : Step DuesState) : Type 0 where
+  form : Form
+  inside : IsIn form group
+  rule : x.rule ≡ form.number
+  reads : x.reads ≡ form.reads
 
-steps-Later : (t : TableView) (s : DuesState) (f g : Form) (x y : Step DuesState) → Later f g → IsIn x (steps_of t s f) → IsIn y (steps_of t s g) → LaterStep x y
-steps-Later t s f g x y h i j =
-    let v = from-step_if t s f (next_dues t s f) x i in
-    let w = from-step_if t s g (next_dues t s g) y j in
-    let a : x.rule ≡ f.number = ap (λ (z : Step DuesState). z.rule) v.2 in
-    let b : y.rule ≡ g.number = ap (λ (z : Step DuesState). z.rule) w.2 in
-    let c : x.reads ≡ f.reads = ap (λ (z : Step DuesState). z.reads) v.2 in
-    let d : y.reads ≡ g.reads = ap (λ (z : Step DuesState). z.reads) w.2 in
-    record { ascend = (let up = h.ascend in omega (arith, up, a, b)); differ = λ e r. h.differ (sym a ∙ e ∙ b) (sym c ∙ r ∙ d) }
+of-form : (t : TableView) (s : DuesState) (group : List Form) (x : Step DuesState) → IsIn x (group_steps t s group) → OfForm group x
+of-form t s group x h =
+    let k = from-group t s group x h in
+    let w = from-step_if t s k.0 (next_dues t s k.0) x k.2 in
+    record { form = k.0; inside = k.1; rule = ap (λ (z : Step DuesState). z.rule) w.2; reads = ap (λ (z : Step DuesState). z.reads) w.2 }
+
+group-once : (t : TableView) (s : DuesState) (group : List Form) → IsIn group (groups t s.before) → Pairwise LaterStep (group_steps t s group)
+group-once t s group h =
+    let n = one-number t s.before group h in
+    weaken-Pairwise (λ a b. a ≢ b) LaterStep (group_steps t s group) (with_steps-differ [] (flat_map (steps_of t s) group) tt)
+    (λ x y i j other. (
+    let v = of-form t s group x i in
+    let w = of-form t s group y j in
+    let a = v.rule ∙ n.1 v.form v.inside in
+    let b = w.rule ∙ n.1 w.form w.inside in
+    record { ascend = omega (arith, a, b); differ = other }))
+
+groups-Later : (t : TableView) (s : DuesState) (group later : List Form) (x y : Step DuesState) → LaterGroup group later → IsIn x (group_steps t s group) → IsIn y (group_steps t s later) → LaterStep x y
+groups-Later t s group later x y h i j =
+    let v = of-form t s group x i in
+    let w = of-form t s later y j in
+    let k = h v.form w.form v.inside w.inside in
+    let up = k.ascend in
+    let a = v.rule in
+    let b = w.rule in
+    record {
+      ascend = omega (arith, up, a, b);
+      differ = λ e. k.differ (sym a ∙ ap (λ (z : Step DuesState). z.rule) e ∙ b) (sym v.reads ∙ ap (λ (z : Step DuesState). z.reads) e ∙ w.reads);
+    }
 
 pub in_order : (t : TableView) → Keeps t → (s : DuesState) → IsInOrder (dues_steps t s)
 unfolding dues_steps
 in_order t keeps s i j x y less p q =
-    let all = flat_map-Pairwise Later LaterStep (steps_of t s) (forms t s.before) (forms-once t keeps s.before) (steps-once t s) (steps-Later t s) in
+    let all = flat_map-Pairwise LaterGroup LaterStep (group_steps t s) (groups t s.before) (groups-once t keeps s.before) (group-once t s) (groups-Later t s) in
     let k = Pairwise-at LaterStep (dues_steps t s) all i j x y less p q in
-    record { differ = λ e. k.differ (ap (λ (z : Step DuesState). z.rule) e) (ap (λ (z : Step DuesState). z.reads) e); ascend = k.ascend }
+    record { differ = k.differ; ascend = k.ascend }
 
 -- ---- Good steps
 
-when-most : (b : Bool) (cells : List ℕ) → length cells ≤ 16 → length (when b cells) ≤ 16
-when-most true cells h = h
-when-most false cells h = omega arith
-
-signs-most : (t : TableView) (here : Context) (c : ℕ) (rest : List ℕ) → Keeps t → length (indicators t here (c ∷ rest)) ≤ 48
-signs-most t here c rest valid = three
-    (when (here.numeric && is_nocont t c) (sign_cells t NoContractSign)) (when (is_literary t c && not here.numeric) (sign_cells t NumSign))
-    (when (share (classes_of t c) uppercase) (sign_cells t CapsLetter))
-    (when-most (here.numeric && is_nocont t c) (sign_cells t NoContractSign) (valid.signs_cells NoContractSign))
-    (when-most (is_literary t c && not here.numeric) (sign_cells t NumSign) (valid.signs_cells NumSign))
-    (when-most (share (classes_of t c) uppercase) (sign_cells t CapsLetter) (valid.signs_cells CapsLetter))
+used-most : (t : TableView) (here : Context) (run : Bool) (info : Info) (sign : Sign) → Keeps t → length (used_cells t here run info sign) ≤ 16
+used-most t here run info sign keeps = at (is_used here run info sign) (keeps.signs_cells sign)
   where
-    three : (xs ys zs : List ℕ) → length xs ≤ 16 → length ys ≤ 16 → length zs ≤ 16 → length (xs ++ ys ++ zs) ≤ 48
-    three xs ys zs a b c = grind (arith, length-append)
+    at : (b : Bool) → length (sign_cells t sign) ≤ 16 → length (cond b (sign_cells t sign) []) ≤ 16
+    at true h = h
+    at false h = omega arith
+
+-- several indicators
+many-most : (t : TableView) (here : Context) (run : Bool) (info : Info) (signs : List Sign) → Keeps t → length (flat_map (used_cells t here run info) signs) ≤ 16 * length signs
+many-most t here run info [] keeps = omega arith
+many-most t here run info (sign ∷ signs) keeps =
+    let one = used-most t here run info sign keeps in
+    let more = many-most t here run info signs keeps in
+    let long = length-append (used_cells t here run info sign) (flat_map (used_cells t here run info) signs) in
+    omega (arith, one, more, long)
+
+signs-most : (t : TableView) (here : Context) (run : Bool) (rest : List ℕ) → Keeps t → length (signs_before t here run rest) ≤ 80
+signs-most t here run rest keeps = at (first_info t rest)
+  where
+    at : (o : Option Info) → length (option_map_or (signs_of t here run) o []) ≤ 80
+    at None = omega arith
+    at (Some info) = (let most = many-most t here run info sign_order keeps in omega (arith, most))
 
 found-cells : (entries : List (ℕ × Info)) (c : ℕ) → AllByRecursion (λ e. Within (length e.1.cells) 16) entries → is_some (lookup (nat_eq c) entries) ≡ true
     → Within (length (option_map_or (λ i. i.cells) (lookup (nat_eq c) entries) [])) 512
@@ -219,8 +259,8 @@ form-cells t keeps before f (inr h) = subst (λ l. Within (length l) 512) (sym h
 
 good-form : (t : TableView) → Keeps t → (s : DuesState) (f : Form) (dues : List Due) → ReadsSome t f → Within (length f.cells) 512 → IsGoodStep (step_of t s f dues)
 good-form t keeps s f dues r cells =
-    let signs : length (indicators t (context_of s) f.reads) ≤ 48 = subst (λ l. length (indicators t (context_of s) l) ≤ 48) (sym r.reads) (signs-most t (context_of s) r.character r.others keeps) in
-    let long = length-append (indicators t (context_of s) f.reads) f.cells in
+    let signs = signs-most t (context_of s) f.run f.reads keeps in
+    let long = length-append (signs_before t (context_of s) f.run f.reads) f.cells in
     let read : length f.reads ≡ length (r.character ∷ r.others) = ap length r.reads in
     record {
       some_cells = omega (arith, long, cells.some);

@@ -25,11 +25,11 @@ append-Pairwise R (x ∷ xs) ys h k between = (
   append-Pairwise R xs ys h.1 k (λ a b i j. between a b (inr i) j),
 )
 
-pub flat_map-Pairwise : {X Y : Type 0} (R : X → X → Type 0) (S : Y → Y → Type 0) (f : X → List Y) (xs : List X) → Pairwise R xs → ((x : X) → Pairwise S (f x))
+pub flat_map-Pairwise : {X Y : Type 0} (R : X → X → Type 0) (S : Y → Y → Type 0) (f : X → List Y) (xs : List X) → Pairwise R xs → ((x : X) → IsIn x xs → Pairwise S (f x))
     → ((x x' : X) (y y' : Y) → R x x' → IsIn y (f x) → IsIn y' (f x') → S y y') → Pairwise S (flat_map f xs)
 flat_map-Pairwise R S f [] h each between = tt
 flat_map-Pairwise R S f (x ∷ xs) h each between =
-    append-Pairwise S (f x) (flat_map f xs) (each x) (flat_map-Pairwise R S f xs h.1 each between)
+    append-Pairwise S (f x) (flat_map f xs) (each x (inl refl)) (flat_map-Pairwise R S f xs h.1 (λ y i. each y (inr i)) between)
     (λ y z i j. (let m = from-flat_map f z xs j in between x m.0 y z (in-all (R x) xs m.0 h.0 m.1) i m.2))
 
 pub map-Pairwise : {X Y : Type 0} (R : X → X → Type 0) (S : Y → Y → Type 0) (f : X → Y) (xs : List X) → Pairwise R xs → ((x x' : X) → R x x' → S (f x) (f x')) → Pairwise S (map f xs)
@@ -39,6 +39,14 @@ map-Pairwise R S f (x ∷ xs) h between = (mapped (R x) (S (f x)) f xs h.0 (λ z
     mapped : {X Y : Type 0} (P : X → Type 0) (Q : Y → Type 0) (f : X → Y) (xs : List X) → AllByRecursion P xs → ((x : X) → P x → Q (f x)) → AllByRecursion Q (map f xs)
     mapped P Q f [] h k = tt
     mapped P Q f (x ∷ xs) h k = (k x h.0, mapped P Q f xs h.1 k)
+
+-- a relation that follows for members
+pub weaken-Pairwise : {X : Type 0} (R S : X → X → Type 0) (xs : List X) → Pairwise R xs → ((x y : X) → IsIn x xs → IsIn y xs → R x y → S x y) → Pairwise S xs
+weaken-Pairwise R S [] h k = tt
+weaken-Pairwise R S (x ∷ xs) h k = (
+  all-in (S x) xs (λ y i. k x y (inl refl) (inr i) (in-all (R x) xs y h.0 i)),
+  weaken-Pairwise R S xs h.1 (λ y z i j r. k y z (inr i) (inr j) r),
+)
 
 -- members by their places
 pub at-Pairwise : {X : Type 0} (R : X → X → Type 0) (xs : List X) → ((i j : ℕ) (x y : X) → i < j → slice_get xs i ≡ Some x → slice_get xs j ≡ Some y → R x y) → Pairwise R xs

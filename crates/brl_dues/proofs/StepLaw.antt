@@ -2,7 +2,7 @@
 -- asks for, no rule ranked above fits at the start of what the form reads and the rest, and these
 -- meet the state's dues.
 use Rattle.std.proofs.Common.{◌≡◌, ℕ, Bool, true, false, not, ◌&&◌, List, [], ◌∷◌, ◌++◌, Option, Some, None, refl, sym, ap, ap₂, ◌∙◌, cond, map}
-use Rattle.std.specs.List.{list_all}
+use Rattle.std.specs.List.{flat_map, list_all}
 use Rattle.std.specs.declared.cmp.Ordering.{Ordering}
 use Rattle.std.specs.declared.cmp.Ordering.TheVariants.{Less, Equal, Greater}
 use Rattle.brl_table.specs.declared.class.Class.{Class}
@@ -10,26 +10,21 @@ use Rattle.brl_table.specs.declared.rule.Rule.{Rule}
 use Rattle.brl_table.specs.Choice.{fits}
 use Rattle.brl_table.specs.Places.{holds}
 use Rattle.brl_table.specs.TableView.{TableView}
-use Rattle.brl_table.specs.Text.{classes_at}
+use Rattle.brl_table.specs.Text.{classes_at, is_in_run}
 use Rattle.brl_dues.specs.declared.carry.Carried.{Carried}
 use Rattle.brl_dues.specs.declared.carry.Carried.TheVariants.{Broken, Settled, Left}
 use Rattle.brl_dues.specs.declared.due.Due.{Due}
 use Rattle.brl_dues.specs.declared.state.DuesState.{DuesState}
-use Rattle.brl_dues.specs.Carry.{bar_of, carry, gathered, is_whole, lefts}
+use Rattle.brl_dues.specs.Capitals.{alike}
+use Rattle.brl_dues.specs.Carry.{bars_to, carry, gathered, is_whole, lefts}
 use Rattle.brl_dues.specs.Due.{due_met, dues_met}
 use Rattle.brl_dues.specs.Form.{Form}
 use Rattle.brl_dues.specs.Order.{due_cmp, place, insert_due, in_order}
 use Rattle.brl_dues.specs.Steps.{next_dues, owed}
-use Rattle.brl_dues.proofs.Carrying.{carried_met, carry-met, need-met, bar_of-met}
+use Rattle.brl_dues.proofs.Carrying.{bars_to-met, carried_met, carry-met, fits_in, need-met}
+use Rattle.brl_dues.proofs.Choices.{list_all-append, list_all-flat_map, list_all-map}
+use Rattle.brl_dues.proofs.InRun.{alike-true}
 use Rattle.brl_dues.proofs.DueOrder.{due_tied}
-
-pub and-false : (a : Bool) → (a && false) ≡ false
-and-false true = refl
-and-false false = refl
-
-pub and-assoc : (a b c : Bool) → ((a && b) && c) ≡ (a && (b && c))
-and-assoc true b c = refl
-and-assoc false b c = refl
 
 and-swap : (a b c : Bool) → (a && (b && c)) ≡ (b && (a && c))
 and-swap true b c = refl
@@ -44,17 +39,13 @@ and-twice false b = refl
 abbrev pub none_fits : TableView → Class → List ℕ → List Rule → Bool
 none_fits t before rest rules = list_all (λ r. not (fits t before rest r)) rules
 
+-- the same, in a run of capitals or out of one
+abbrev none_fits_in : TableView → Class → Bool → List ℕ → List Rule → Bool
+none_fits_in t before run rest rules = list_all (λ r. not (fits_in t before run rest r)) rules
+
 abbrev pub option_met : TableView → List ℕ → Option (List Due) → Bool
 option_met t rest None = false
 option_met t rest (Some dues) = dues_met t rest dues
-
-list_all-append : {X : Type 0} (p : X → Bool) (xs ys : List X) → list_all p (xs ++ ys) ≡ (list_all p xs && list_all p ys)
-list_all-append p [] ys = refl
-list_all-append p (x ∷ xs) ys = ap (λ b. p x && b) (list_all-append p xs ys) ∙ sym (and-assoc (p x) (list_all p xs) (list_all p ys))
-
-list_all-map : {X Y : Type 0} (p : Y → Bool) (q : X → Bool) (f : X → Y) → ((x : X) → p (f x) ≡ q x) → (xs : List X) → list_all p (map f xs) ≡ list_all q xs
-list_all-map p q f h [] = refl
-list_all-map p q f h (x ∷ xs) = ap₂ (λ a b. a && b) (h x) (list_all-map p q f h xs)
 
 module _ (t : TableView) (u : List ℕ) where
   met : Due → Bool
@@ -90,15 +81,29 @@ module _ (t : TableView) (u : List ℕ) where
       at true ds m e = e
       at false ds m e = refl
 
-  bars-met : (before : Class) (c : ℕ) (past : List ℕ) (above : List Rule) → list_all (carried_met t u) (map (bar_of t before (c ∷ past)) above) ≡ none_fits t before (c ∷ (past ++ u)) above
-  bars-met before c past above = list_all-map (carried_met t u) (λ r. not (fits t before (c ∷ (past ++ u)) r)) (bar_of t before (c ∷ past)) (bar_of-met t u before c past) above
+  bars-met : (before : Class) (run : Bool) (c : ℕ) (past : List ℕ) (above : List Rule)
+      → list_all (carried_met t u) (flat_map (bars_to t before run (c ∷ past)) above) ≡ none_fits_in t before run (c ∷ (past ++ u)) above
+  bars-met before run c past above =
+      list_all-flat_map (carried_met t u) (λ r. not (fits_in t before run (c ∷ (past ++ u)) r)) (bars_to t before run (c ∷ past)) (bars_to-met t u before run c past) above
 
-  pub step-met : (s : DuesState) (f : Form) (c : ℕ) (past : List ℕ) → f.reads ≡ c ∷ past
-      → option_met t u (next_dues t s f) ≡ (dues_met t (f.reads ++ u) s.dues && (holds f.after (classes_at t u 0) && none_fits t s.before (f.reads ++ u) f.above))
-  step-met s f c past e =
+  -- what must follow, and the bars of the rules above
+  next-met : (before : Class) (run : Bool) (c : ℕ) (past : List ℕ) (n : Bool) → n ≡ alike run (is_in_run t before (c ∷ (past ++ u))) → (above : List Rule)
+      → (n && list_all (carried_met t u) (flat_map (bars_to t before run (c ∷ past)) above)) ≡ (n && none_fits t before (c ∷ (past ++ u)) above)
+  next-met before run c past false e above = refl
+  next-met before run c past true e above =
+      let same : is_in_run t before (c ∷ (past ++ u)) ≡ run = alike-true run (is_in_run t before (c ∷ (past ++ u))) (sym e) in
+      bars-met before run c past above ∙ ap (λ b. none_fits_in t before b (c ∷ (past ++ u)) above) (sym same)
+
+  pub step-met : (s : DuesState) (f : Form) (c : ℕ) (past : List ℕ) → f.reads ≡ c ∷ past → holds f.next (classes_at t u 0) ≡ alike f.run (is_in_run t s.before (f.reads ++ u))
+      → option_met t u (next_dues t s f)
+      ≡ (dues_met t (f.reads ++ u) s.dues && (holds f.after (classes_at t u 0) && (holds f.next (classes_at t u 0) && none_fits t s.before (f.reads ++ u) f.above)))
+  step-met s f c past e agrees =
       gathered-met (map (carry t f.reads) s.dues ++ owed t s.before f)
       ∙ list_all-append (carried_met t u) (map (carry t f.reads) s.dues) (owed t s.before f)
       ∙ ap₂ (λ a b. a && b)
       (list_all-map (carried_met t u) (due_met t (f.reads ++ u)) (carry t f.reads) (carry-met t u f.reads) s.dues)
       (ap₂ (λ a b. a && b) (need-met t u f.after)
-      (ap (λ x. list_all (carried_met t u) (map (bar_of t s.before x) f.above)) e ∙ bars-met s.before c past f.above ∙ ap (λ x. none_fits t s.before (x ++ u) f.above) (sym e)))
+      (ap (λ b. b && list_all (carried_met t u) (flat_map (bars_to t s.before f.run f.reads) f.above)) (need-met t u f.next)
+      ∙ ap (λ x. holds f.next (classes_at t u 0) && list_all (carried_met t u) (flat_map (bars_to t s.before f.run x) f.above)) e
+      ∙ next-met s.before f.run c past (holds f.next (classes_at t u 0)) (agrees ∙ ap (λ x. alike f.run (is_in_run t s.before (x ++ u))) e) f.above
+      ∙ ap (λ x. holds f.next (classes_at t u 0) && none_fits t s.before (x ++ u) f.above) (sym e)))

@@ -1,21 +1,25 @@
 -- A form that is taken where the rest meets what it asks for, and no rule ranked above fits, is the
 -- table's choice there.
-use Rattle.std.proofs.Common.{◌≡◌, ℕ, zero, suc, ◌<◌, Bool, true, false, not, ◌&&◌, List, [], ◌∷◌, ◌++◌, Some, length, take, drop, refl, sym, ap, ◌∙◌, subst, nat_eq, inl, inr, arith, eq-eqb}
+use Rattle.std.proofs.Common.{◌≡◌, ℕ, zero, suc, ◌<◌, Bool, true, false, not, ◌&&◌, List, [], ◌∷◌, ◌++◌, Some, length, map, take, drop, refl, sym, ap, ◌∙◌, subst, nat_eq, inl, inr, arith, eq-eqb}
+use Rattle.std.proofs.lemmas.List.{length-map}
 use Rattle.std.specs.Prelude.{slice_get}
 use Rattle.std.specs.List.{list_all, starts_with}
 use Rattle.std.specs.Cmp.{first_so, second_so}
 use Rattle.brl_table.specs.declared.class.Class.{Class}
 use Rattle.brl_table.specs.declared.context.Context.{Context}
 use Rattle.brl_table.specs.declared.rule.Rule.{Rule}
-use Rattle.brl_table.specs.Choice.{Choice, by_rule, chosen, fits, matches, own}
-use Rattle.brl_table.specs.Indicators.{indicators}
+use Rattle.brl_table.specs.Choice.{Choice, by_rule, chosen, fits, folds_of_capitals, matches, own}
+use Rattle.brl_table.specs.Indicators.{indicators, signs_before}
 use Rattle.brl_table.specs.Places.{holds, before_of, after_of}
 use Rattle.brl_table.specs.Position.{IsFirstThatFits}
 use Rattle.brl_table.specs.Rest.{translation_of_rest, TakesOneRule}
 use Rattle.brl_table.specs.TableView.{TableView}
-use Rattle.brl_table.specs.Text.{at_start, classes_at, context_behind_all, fold_of, is_defined}
+use Rattle.brl_table.specs.Text.{at_start, classes_at, context_behind_all, fold_of, is_defined, is_in_run}
 use Rattle.brl_table.specs.Translation.{translation}
-use Rattle.brl_dues.specs.Form.{Form, IsForm}
+use Rattle.brl_dues.specs.Capitals.{alike, is_upper}
+use Rattle.brl_dues.specs.Form.{Form, IsForm, folded, may_read}
+use Rattle.brl_dues.proofs.Carrying.{fits_in}
+use Rattle.brl_dues.proofs.InRun.{alike-true, folds-more, further-met, met_by}
 use Rattle.brl_dues.proofs.StepLaw.{none_fits}
 
 -- ---- The laws of a table's definitions
@@ -63,16 +67,32 @@ three true true a b e f g = g
 three true false a b e f g = cc
 three false h a b e f g = cc
 
-matches-itself : (t : TableView) (c : ℕ) (others u : List ℕ) → matches t (c ∷ (others ++ u)) (fold_of t c ∷ others) ≡ true
-matches-itself t c others u = ap (λ b. b && starts_with nat_eq (others ++ u) others) (eq-eqb (fold_of t c) (fold_of t c) refl) ∙ starts-itself others u
+-- capitals begin with their own folds
+folds-start : (t : TableView) (cs u : List ℕ) → list_all (is_upper t) cs ≡ true → starts_with nat_eq (folds_of_capitals t (cs ++ u)) (map (fold_of t) cs) ≡ true
+folds-start t [] u h = refl
+folds-start t (c ∷ cs) u h =
+    ap (λ w. starts_with nat_eq w (fold_of t c ∷ map (fold_of t) cs)) (folds-more t c (cs ++ u) (first_so (is_upper t c) (list_all (is_upper t) cs) h))
+    ∙ ap (λ b. b && starts_with nat_eq (folds_of_capitals t (cs ++ u)) (map (fold_of t) cs)) (eq-eqb (fold_of t c) (fold_of t c) refl)
+    ∙ folds-start t cs u (second_so (is_upper t c) (list_all (is_upper t) cs) h)
 
-pub fits-form : (t : TableView) (before : Class) (c : ℕ) (others u : List ℕ) (r : Rule) → r.chars ≡ fold_of t c ∷ others → holds (before_of r.place) before ≡ true
-    → fits t before (c ∷ (others ++ u)) r ≡ holds (after_of r.place before) (classes_at t u 0)
-fits-form t before c others u r e h =
-    three (matches t (c ∷ (others ++ u)) r.chars) (holds (before_of r.place) before) (holds (after_of r.place before) (classes_at t (c ∷ (others ++ u)) (length r.chars)))
+matches-itself : (t : TableView) (run : Bool) (c : ℕ) (others u : List ℕ) → may_read t run others ≡ true → matches t run (c ∷ (others ++ u)) (folded t run c others) ≡ true
+matches-itself t true c others u may =
+    ap (λ b. b && starts_with nat_eq (folds_of_capitals t (others ++ u)) (map (fold_of t) others)) (eq-eqb (fold_of t c) (fold_of t c) refl)
+    ∙ folds-start t others u may
+matches-itself t false c others u may = ap (λ b. b && starts_with nat_eq (others ++ u) others) (eq-eqb (fold_of t c) (fold_of t c) refl) ∙ starts-itself others u
+
+folded-length : (t : TableView) (run : Bool) (c : ℕ) (others : List ℕ) → length (folded t run c others) ≡ length (c ∷ others)
+folded-length t true c others = ap suc (length-map others (fold_of t))
+folded-length t false c others = refl
+
+pub fits-form : (t : TableView) (before : Class) (run : Bool) (c : ℕ) (others u : List ℕ) (r : Rule) → may_read t run others ≡ true
+    → r.chars ≡ folded t run c others → holds (before_of r.place) before ≡ true → fits_in t before run (c ∷ (others ++ u)) r ≡ holds (after_of r.place before) (classes_at t u 0)
+fits-form t before run c others u r may e h =
+    three (matches t run (c ∷ (others ++ u)) r.chars) (holds (before_of r.place) before) (holds (after_of r.place before) (classes_at t (c ∷ (others ++ u)) (length r.chars)))
     (holds (after_of r.place before) (classes_at t u 0))
-    (ap (matches t (c ∷ (others ++ u))) e ∙ matches-itself t c others u) h
-    (ap (λ l. holds (after_of r.place before) (classes_at t (c ∷ (others ++ u)) (length l))) e ∙ ap (holds (after_of r.place before)) (classes-behind t others u))
+    (ap (matches t run (c ∷ (others ++ u))) e ∙ matches-itself t run c others u may) h
+    (ap (λ n. holds (after_of r.place before) (classes_at t (c ∷ (others ++ u)) n)) (ap length e ∙ folded-length t run c others)
+    ∙ ap (holds (after_of r.place before)) (classes-behind t others u))
 
 -- ---- The choice
 
@@ -87,22 +107,34 @@ pub form-ReadsSome : (t : TableView) (before : Class) (f : Form) → IsForm t be
 form-ReadsSome t before f (inl h) = record { character = h.character; others = h.others; reads = h.reads; defined = h.defined }
 form-ReadsSome t before f (inr h) = record { character = h.character; others = []; reads = h.reads; defined = h.defined }
 
+-- what a form asks to follow holds exactly where it is in a run of capitals, or out of one
+pub form-agrees : (t : TableView) (before : Class) (f : Form) → IsForm t before f → (u : List ℕ) → holds f.next (classes_at t u 0) ≡ alike f.run (is_in_run t before (f.reads ++ u))
+form-agrees t before f (inl h) u =
+    ap (λ o. met_by o (classes_at t u 0)) (sym h.next) ∙ further-met t u before f.run h.character h.others ∙ ap (λ l. alike f.run (is_in_run t before (l ++ u))) (sym h.reads)
+form-agrees t before f (inr h) u =
+    ap (λ o. met_by o (classes_at t u 0)) (sym h.next) ∙ further-met t u before f.run h.character [] ∙ ap (λ l. alike f.run (is_in_run t before (l ++ u))) (sym h.reads)
+
+pub form-in_run : (t : TableView) (before : Class) (f : Form) → IsForm t before f → (u : List ℕ) → holds f.next (classes_at t u 0) ≡ true → is_in_run t before (f.reads ++ u) ≡ f.run
+form-in_run t before f is u h = alike-true f.run (is_in_run t before (f.reads ++ u)) (sym (form-agrees t before f is u) ∙ h)
+
 abbrev pub as_choice : Form → Choice
 as_choice f = record { number = f.number; taken = length f.reads; cells = f.cells }
 
 pub form-chosen : (t : TableView) → Choosing t → (before : Class) (f : Form) → IsForm t before f → (u : List ℕ) → holds f.after (classes_at t u 0) ≡ true
-    → none_fits t before (f.reads ++ u) f.above ≡ true → chosen t before (f.reads ++ u) ≡ as_choice f
-form-chosen t law before f (inl h) u a n =
+    → holds f.next (classes_at t u 0) ≡ true → none_fits t before (f.reads ++ u) f.above ≡ true → chosen t before (f.reads ++ u) ≡ as_choice f
+form-chosen t law before f (inl h) u a x n =
     let rest = f.reads ++ u in
     let fitting : fits t before rest h.rule ≡ true =
-    ap (λ l. fits t before (l ++ u) h.rule) h.reads ∙ fits-form t before h.character h.others u h.rule h.chars h.before_holds ∙ ap (λ c. holds c (classes_at t u 0)) (sym h.after) ∙ a in
+    ap (λ run. fits_in t before run rest h.rule) (form-in_run t before f (inl h) u x)
+    ∙ ap (λ l. fits_in t before f.run (l ++ u) h.rule) h.reads
+    ∙ fits-form t before f.run h.character h.others u h.rule h.may h.chars h.before_holds ∙ ap (λ c. holds c (classes_at t u 0)) (sym h.after) ∙ a in
     let none = λ (earlier : ℕ) (q : Rule) (lower : earlier < f.number) (is : slice_get t.rules earlier ≡ Some q).
     not-true (fits t before rest q)
     (all-there (λ r. not (fits t before rest r)) (take f.number t.rules) earlier q (ap (none_fits t before rest) (sym h.above) ∙ n) (take-there t.rules f.number earlier q lower is)) in
-    let size : length h.rule.chars ≡ length f.reads = ap length h.chars ∙ sym (ap length h.reads) in
+    let size : length h.rule.chars ≡ length f.reads = ap length h.chars ∙ folded-length t f.run h.character h.others ∙ sym (ap length h.reads) in
     law.first before rest f.number h.rule (record { there = h.there; fitting = fitting; none_earlier = none })
     ∙ (λ i. record { number = f.number; taken = size i; cells = sym h.cells i })
-form-chosen t law before f (inr h) u a n =
+form-chosen t law before f (inr h) u a x n =
     let rest = f.reads ++ u in
     let none = λ (place : ℕ) (q : Rule) (is : slice_get t.rules place ≡ Some q).
     not-true (fits t before rest q) (all-there (λ r. not (fits t before rest r)) t.rules place q (ap (none_fits t before rest) (sym h.above) ∙ n) is) in
@@ -119,21 +151,26 @@ drop-front : (xs ys : List ℕ) → drop (length xs) (xs ++ ys) ≡ ys
 drop-front [] ys = refl
 drop-front (x ∷ xs) ys = drop-front xs ys
 
-signs-front : (t : TableView) (here : Context) (f : Form) (u : List ℕ) → ReadsSome t f → indicators t here (f.reads ++ u) ≡ indicators t here f.reads
-signs-front t here f u r = ap (λ l. indicators t here (l ++ u)) r.reads ∙ ap (indicators t here) (sym r.reads)
+signs-front : (t : TableView) (here : Context) (f : Form) (u : List ℕ) → ReadsSome t f → is_in_run t here.classes (f.reads ++ u) ≡ f.run
+    → indicators t here (f.reads ++ u) ≡ signs_before t here f.run f.reads
+signs-front t here f u r e =
+    ap (λ l. indicators t here (l ++ u)) r.reads
+    ∙ ap (λ run. signs_before t here run (r.character ∷ r.others)) (ap (λ l. is_in_run t here.classes (l ++ u)) (sym r.reads) ∙ e)
+    ∙ ap (signs_before t here f.run) (sym r.reads)
 
 some-rest : (t : TableView) (f : Form) (u : List ℕ) → ReadsSome t f → 0 < length (f.reads ++ u)
 some-rest t f u r = subst (λ l. 0 < length (l ++ u)) (sym r.reads) (omega arith)
 
 -- the translation of what a form reads and a rest: the form's cells, and the translation of the
 -- rest
-pub form-translation : (t : TableView) → Translating t → (here : Context) (f : Form) (u : List ℕ) → ReadsSome t f → chosen t here.classes (f.reads ++ u) ≡ as_choice f
-    → translation_of_rest t here (f.reads ++ u) ≡ (indicators t here f.reads ++ f.cells) ++ translation_of_rest t (context_behind_all t here f.reads) u
-form-translation t law here f u r e =
+pub form-translation : (t : TableView) → Translating t → (here : Context) (f : Form) (u : List ℕ) → ReadsSome t f → is_in_run t here.classes (f.reads ++ u) ≡ f.run
+    → chosen t here.classes (f.reads ++ u) ≡ as_choice f
+    → translation_of_rest t here (f.reads ++ u) ≡ (signs_before t here f.run f.reads ++ f.cells) ++ translation_of_rest t (context_behind_all t here f.reads) u
+form-translation t law here f u r run e =
     let rest = f.reads ++ u in
     let behind = translation_of_rest t (context_behind_all t here f.reads) u in
     law.rule here rest (some-rest t f u r)
     ∙ ap (λ (c : Choice). indicators t here rest ++ c.cells ++ translation_of_rest t (context_behind_all t here (take c.taken rest)) (drop c.taken rest)) e
     ∙ ap (λ l. indicators t here rest ++ f.cells ++ translation_of_rest t (context_behind_all t here l) (drop (length f.reads) rest)) (take-front f.reads u)
     ∙ ap (λ l. indicators t here rest ++ f.cells ++ translation_of_rest t (context_behind_all t here f.reads) l) (drop-front f.reads u)
-    ∙ ap (λ l. l ++ f.cells ++ behind) (signs-front t here f u r)
+    ∙ ap (λ l. l ++ f.cells ++ behind) (signs-front t here f u r run)

@@ -1,6 +1,6 @@
 -- What is left of a due after the characters that a step reads, and what a step owes to the rules
 -- that are ranked above its own. The project's own choice.
-use Rattle.std.specs.Prelude.{ℕ, Bool, true, false, not, ◌==◌, List, [], ◌∷◌, Option, Some, None, if◌then◌else◌}
+use Rattle.std.specs.Prelude.{ℕ, Bool, true, false, not, ◌&&◌, ◌==◌, List, [], ◌∷◌, Option, Some, None, map, if◌then◌else◌}
 use Rattle.std.specs.List.{flat_map, list_all}
 use Rattle.brl_table.specs.declared.class.Class.{Class}
 use Rattle.brl_table.specs.declared.place.Cond.{Cond}
@@ -13,6 +13,7 @@ use Rattle.brl_dues.specs.declared.carry.Carried.{Carried}
 use Rattle.brl_dues.specs.declared.carry.Carried.TheVariants.{Broken, Settled, Left}
 use Rattle.brl_dues.specs.declared.due.Due.{Due}
 use Rattle.brl_dues.specs.declared.due.Due.TheVariants.{Need, Bar}
+use Rattle.brl_dues.specs.Capitals.{choices, is_upper}
 use Rattle.brl_dues.specs.Order.{in_order}
 
 -- what is left of a bar whose characters were all read: the next character doesn't meet the
@@ -53,17 +54,31 @@ need Any = Settled
 need (Meets set) = Left (Need (Meets set))
 need (Avoids set) = Left (Need (Avoids set))
 
--- what is left of the requirement that a rule with these characters doesn't fit, after a character
--- and those that follow it
-abbrev pub bar_after : TableView → ℕ → List ℕ → List ℕ → Cond → Carried
-bar_after t c past [] cond = Settled
-bar_after t c past (first ∷ others) cond = if fold_of t c == first then carry_bar t past others cond else Settled
+-- what is left of the bars of a rule in a run of capitals, after the characters `past`: the text
+-- doesn't continue with capitals whose folds are these characters, followed by one that meets the
+-- condition
+abbrev pub carry_capitals : TableView → List ℕ → List ℕ → Cond → List Carried
+carry_capitals t [] [] cond = opposed cond ∷ []
+carry_capitals t [] (a ∷ chars) cond = map (λ text. Left (Bar text cond)) (choices t (a ∷ chars))
+carry_capitals t (c ∷ past) [] cond = settled_if (not (holds cond (classes_of t c))) ∷ []
+carry_capitals t (c ∷ past) (a ∷ chars) cond = if is_upper t c && (a == fold_of t c) then carry_capitals t past chars cond else []
 
--- what a step that reads these characters owes to a rule that is ranked above its own
-abbrev pub bar_of : TableView → Class → List ℕ → Rule → Carried
-bar_of t before [] r = Settled
-bar_of t before (c ∷ past) r =
-    if holds (before_of r.place) before then bar_after t c past r.chars (after_of r.place before) else Settled
+-- the same of a rule in a run of capitals or out of one
+abbrev pub bars_past : TableView → Bool → List ℕ → List ℕ → Cond → List Carried
+bars_past t run past chars cond = if run then carry_capitals t past chars cond else carry_bar t past chars cond ∷ []
+
+-- what is left of the requirement that a rule with these characters doesn't fit, in a run of
+-- capitals or out of one, after a character and those that follow it
+abbrev pub bars_after : TableView → Bool → ℕ → List ℕ → List ℕ → Cond → List Carried
+bars_after t run c past [] cond = []
+bars_after t run c past (first ∷ others) cond = if first == fold_of t c then bars_past t run past others cond else []
+
+-- what a step that reads these characters, in a run of capitals or out of one, owes to a rule that
+-- is ranked above its own
+abbrev pub bars_to : TableView → Class → Bool → List ℕ → Rule → List Carried
+bars_to t before run [] r = []
+bars_to t before run (c ∷ past) r =
+    if holds (before_of r.place) before then bars_after t run c past r.chars (after_of r.place before) else []
 
 -- ---- All dues of a step
 

@@ -7,15 +7,16 @@ use Rattle.brl_table.specs.declared.context.Context.{Context}
 use Rattle.brl_table.specs.declared.place.Cond.{Cond}
 use Rattle.brl_table.specs.declared.place.Cond.TheVariants.{Any, Meets, Avoids}
 use Rattle.brl_table.specs.declared.rule.Rule.{Rule}
-use Rattle.brl_table.specs.Indicators.{indicators}
-use Rattle.brl_table.specs.Places.{digit, gap, gap_or_letter, letter, none, space}
+use Rattle.brl_table.specs.Indicators.{signs_before}
+use Rattle.brl_table.specs.Places.{digit, gap, gap_or_letter, letter, none, space, uppercase}
 use Rattle.brl_table.specs.TableView.{TableView}
 use Rattle.brl_table.specs.Text.{classes_of}
 use Rattle.brl_dues.specs.declared.due.Due.{Due}
 use Rattle.brl_dues.specs.declared.due.Due.TheVariants.{Bar}
 use Rattle.brl_dues.specs.declared.state.DuesState.{DuesState}
+use Rattle.brl_dues.specs.Capitals.{choices, letters}
 use Rattle.brl_dues.specs.Carry.{left_of, need, opposed}
-use Rattle.brl_dues.specs.Form.{Form, forms, letters}
+use Rattle.brl_dues.specs.Form.{Form, forms}
 use Rattle.brl_dues.specs.Steps.{state_in}
 
 -- ---- Lists
@@ -53,17 +54,29 @@ all_contexts t = flat_map with_classes (all_classes t)
 abbrev pub after_conds : List Cond
 after_conds = Any ∷ Meets gap ∷ Meets gap_or_letter ∷ Meets letter ∷ Meets digit ∷ Avoids digit ∷ []
 
+-- these, and that the next character is a capital or isn't one
+abbrev pub need_conds : List Cond
+need_conds = Meets uppercase ∷ Avoids uppercase ∷ after_conds
+
 -- the need of such a condition, and of its opposite
 abbrev pub needs_of : Cond → List Due
 needs_of cond = left_of (need cond) ++ left_of (opposed cond)
 
--- the bars of such a condition and the characters that a rule ends with
-abbrev pub bars_from : Rule → List Due
-bars_from r = flat_map (λ chars. map (Bar chars) after_conds) (endings r.chars)
+-- the texts that a rule may still take with these characters, out of a run of capitals and in one
+abbrev pub texts_of : TableView → List ℕ → List (List ℕ)
+texts_of t chars = chars ∷ choices t chars
+
+-- the bars of these texts
+abbrev pub bars_with : List ℕ → List Due
+bars_with text = map (Bar text) after_conds
+
+-- the bars of what the rule ends with
+abbrev pub bars_from : TableView → Rule → List Due
+bars_from t r = flat_map bars_with (flat_map (texts_of t) (endings r.chars))
 
 -- the dues that a state may have
 abbrev pub all_dues : TableView → List Due
-all_dues t = flat_map needs_of after_conds ++ flat_map bars_from t.rules
+all_dues t = flat_map needs_of need_conds ++ flat_map (bars_from t) t.rules
 
 -- ---- States and cells
 
@@ -73,7 +86,7 @@ all_states t = flat_map (λ here. map (state_in here) (lists_up_to (all_dues t) 
 
 -- the cells of a step that takes the form in a context
 abbrev pub cells_in : TableView → Context → Form → List ℕ
-cells_in t here f = indicators t here f.reads ++ f.cells
+cells_in t here f = signs_before t here f.run f.reads ++ f.cells
 
 -- the cells that a step may give
 abbrev pub all_cells : TableView → List (List ℕ)

@@ -2,6 +2,7 @@
 -- rules above that begin with it. That these are the steps of the machine is proved.
 use Rattle.std.specs.Prelude.{ℕ, ◌+◌, Bool, true, false, ◌&&◌, ◌==◌, List, [], ◌∷◌, ◌++◌, filter, map, drop, if◌then◌else◌}
 use Rattle.std.specs.List.{flat_map, list_all}
+use Rattle.std.specs.Option.{option_map_or}
 use Rattle.brl_pairs.specs.declared.step.Step.{Step}
 use Rattle.brl_table.specs.declared.class.Class.{Class}
 use Rattle.brl_table.specs.declared.place.Cond.{Cond}
@@ -15,9 +16,10 @@ use Rattle.brl_dues.specs.declared.carry.Carried.{Carried}
 use Rattle.brl_dues.specs.declared.due.Due.{Due}
 use Rattle.brl_dues.specs.declared.due.Due.TheVariants.{Need, Bar}
 use Rattle.brl_dues.specs.declared.state.DuesState.{DuesState}
-use Rattle.brl_dues.specs.Carry.{carry, carry_bar, gathered, need}
-use Rattle.brl_dues.specs.Form.{Form, letters}
-use Rattle.brl_dues.specs.Steps.{step_if}
+use Rattle.brl_dues.specs.Capitals.{choices, further, letters}
+use Rattle.brl_dues.specs.Carry.{bars_past, carry, gathered, need}
+use Rattle.brl_dues.specs.Form.{Form}
+use Rattle.brl_dues.specs.Steps.{step_if, with_steps}
 use Rattle.brl_dues.specs.LetterView.{LetterView}
 
 -- ---- Characters that may come
@@ -44,7 +46,7 @@ new_letters t dues = map (new_letter t) (filter (may_come t dues) (letters t))
 -- these characters begin with this one
 abbrev pub begins_with : ℕ → List ℕ → Bool
 begins_with a [] = false
-begins_with a (first ∷ others) = a == first
+begins_with a (first ∷ others) = first == a
 
 -- the rule may be taken after a character of these classes where this character comes
 abbrev pub is_taken : Class → Rule → LetterView → Bool
@@ -58,29 +60,55 @@ with_rule before r l =
 -- ---- Steps
 
 -- what is left of the bars of the rules above, after these other characters
-abbrev pub bars_of : TableView → List ℕ → List (List ℕ × Cond) → List Carried
-bars_of t others above = map (λ a. carry_bar t others a.0 a.1) above
+abbrev pub bars_of : TableView → Bool → List ℕ → List (List ℕ × Cond) → List Carried
+bars_of t run others above = flat_map (λ a. bars_past t run others a.0 a.1) above
 
 -- what is left after a step that reads the character and these others: of the old dues, and of what
 -- the step owes
-abbrev pub left_by : TableView → List Due → LetterView → List ℕ → Cond → List Carried
-left_by t dues l others after = map (carry t (l.character ∷ others)) dues ++ (need after ∷ bars_of t others l.above)
+abbrev pub left_by : TableView → List Due → LetterView → Bool → Cond → List ℕ → Cond → List Carried
+left_by t dues l run next others after =
+    map (carry t (l.character ∷ others)) dues ++ (need after ∷ need next ∷ bars_of t run others l.above)
 
 -- the form that reads the character and these others
-abbrev pub letter_form : LetterView → ℕ → List ℕ → Cond → List ℕ → Form
-letter_form l number others after cells = record { number = number; reads = l.character ∷ others; after = after; cells = cells; above = [] }
+abbrev pub letter_form : LetterView → ℕ → Bool → Cond → List ℕ → Cond → List ℕ → Form
+letter_form l number run next others after cells = record {
+  number = number;
+  reads = l.character ∷ others;
+  run = run;
+  next = next;
+  after = after;
+  cells = cells;
+  above = [];
+}
 
--- the step of that form, if it breaks no due
-abbrev pub letter_step : TableView → DuesState → LetterView → ℕ → List ℕ → Cond → List ℕ → List (Step DuesState)
-letter_step t s l number others after cells = step_if t s (letter_form l number others after cells) (gathered (left_by t s.dues l others after))
+-- the step of that form with what must follow it, if it breaks no due
+abbrev pub next_step : TableView → DuesState → LetterView → ℕ → Bool → List ℕ → Cond → List ℕ → Cond → List (Step DuesState)
+next_step t s l number run others after cells next =
+    step_if t s (letter_form l number run next others after cells) (gathered (left_by t s.dues l run next others after))
+
+-- the step of that form, if the characters can begin in a run of capitals, or out of one
+abbrev pub letter_step : TableView → DuesState → LetterView → ℕ → Bool → List ℕ → Cond → List ℕ → List (Step DuesState)
+letter_step t s l number run others after cells =
+    option_map_or (next_step t s l number run others after cells) (further t s.before run (l.character ∷ others)) []
+
+-- the same in a run of capitals
+abbrev pub run_step : TableView → DuesState → LetterView → ℕ → Cond → List ℕ → List ℕ → List (Step DuesState)
+run_step t s l number after cells others = letter_step t s l number true others after cells
+
+-- the steps of a rule with these other characters: in a run of capitals, one for each choice of
+-- capitals, and then the one out of a run
+abbrev pub cased_steps : TableView → DuesState → LetterView → ℕ → List ℕ → Cond → List ℕ → List (Step DuesState)
+cased_steps t s l number others after cells =
+    flat_map (run_step t s l number after cells) (choices t others) ++ letter_step t s l number false others after cells
 
 -- the steps of a rule with this number that begin with the character
 abbrev pub rule_step : TableView → DuesState → ℕ → Rule → LetterView → List (Step DuesState)
-rule_step t s number r l = if is_taken s.before r l then letter_step t s l number (drop 1 r.chars) (after_of r.place s.before) r.cells else []
+rule_step t s number r l =
+    if is_taken s.before r l then with_steps [] (cased_steps t s l number (drop 1 r.chars) (after_of r.place s.before) r.cells) else []
 
--- the step of the character's own definition
+-- the steps of the character's own definition
 abbrev pub own_step : TableView → DuesState → LetterView → List (Step DuesState)
-own_step t s l = letter_step t s l (own t (l.character ∷ [])).number [] Any (own t (l.character ∷ [])).cells
+own_step t s l = with_steps [] (cased_steps t s l (own t (l.character ∷ [])).number [] Any (own t (l.character ∷ [])).cells)
 
 -- the steps of these rules in rank, from this number on, and of the own definitions
 abbrev pub steps_found : TableView → DuesState → ℕ → List Rule → List LetterView → List (Step DuesState)

@@ -1,22 +1,24 @@
 -- The dues machine of a table: its steps, each characterized by itself and listed. The machine is
 -- this project's own choice; the rule that is chosen, the indicators and the context are those of
 -- the table (the manual's sections "Translation Opcodes" and "Braille Indicator Opcodes").
-use Rattle.std.specs.Prelude.{◌≡◌, Bool, List, [], ◌∷◌, ◌++◌, map, Option, Some, None}
-use Rattle.std.specs.List.{flat_map, list_all}
+use Rattle.std.specs.Prelude.{◌≡◌, Bool, ◌&&◌, ◌==◌, nat_eq, List, [], ◌∷◌, ◌++◌, map, Option, Some, None, if◌then◌else◌}
+use Rattle.std.specs.Cmp.Lexicographic.{pointwise}
+use Rattle.std.specs.List.{flat_map, list_all, list_any}
 use Rattle.brl_pairs.specs.Runs.{Behaviour}
 use Rattle.brl_pairs.specs.declared.step.Step.{Step}
 use Rattle.brl_table.specs.declared.class.Class.{Class}
 use Rattle.brl_table.specs.declared.context.Context.{Context}
-use Rattle.brl_table.specs.Indicators.{indicators}
+use Rattle.brl_table.specs.Indicators.{signs_before}
 use Rattle.brl_table.specs.TableView.{TableView}
 use Rattle.brl_table.specs.Text.{at_start, context_behind_all, is_text}
 use Rattle.brl_table.specs.Translation.{translation}
 use Rattle.brl_dues.specs.declared.carry.Carried.{Carried}
 use Rattle.brl_dues.specs.declared.due.Due.{Due}
 use Rattle.brl_dues.specs.declared.state.DuesState.{DuesState}
-use Rattle.brl_dues.specs.Carry.{bar_of, carry, gathered, need}
+use Rattle.brl_dues.specs.Carry.{bars_to, carry, gathered, need}
 use Rattle.brl_dues.specs.Due.{met_by_space}
-use Rattle.brl_dues.specs.Form.{Form, IsForm, forms}
+use Rattle.brl_dues.specs.Form.{Form, IsForm, groups}
+use Rattle.brl_dues.specs.contracts.state.DuesStatePartialEq.TheImpl.{eq-value}
 
 -- what a state knows of the characters before
 abbrev pub context_of : DuesState → Context
@@ -26,10 +28,10 @@ context_of s = record { classes = s.before; numeric = s.numeric; run = s.run }
 abbrev pub state_in : Context → List Due → DuesState
 state_in here dues = record { before = here.classes; numeric = here.numeric; run = here.run; dues = dues }
 
--- what a step of the form owes: the need of its after-condition, and a bar for each rule that is
--- ranked above it
+-- what a step of the form owes: the needs of its after-condition and of what must follow so that it
+-- begins in a run of capitals, or out of one, and the bars of each rule that is ranked above it
 abbrev pub owed : TableView → Class → Form → List Carried
-owed t before f = need f.after ∷ map (bar_of t before f.reads) f.above
+owed t before f = need f.after ∷ need f.next ∷ flat_map (bars_to t before f.run f.reads) f.above
 
 -- the dues after the step: what is left of the old dues after what it reads, and what it owes; none
 -- where one of these is broken
@@ -43,7 +45,7 @@ step_of t s f dues =
     record {
       rule = f.number;
       reads = f.reads;
-      cells = indicators t (context_of s) f.reads ++ f.cells;
+      cells = signs_before t (context_of s) f.run f.reads ++ f.cells;
       next = state_in behind dues;
     }
 
@@ -68,10 +70,29 @@ step_if t s f (Some dues) = step_of t s f dues ∷ []
 abbrev pub steps_of : TableView → DuesState → Form → List (Step DuesState)
 steps_of t s f = step_if t s f (next_dues t s f)
 
+-- whether two steps are the same
+abbrev pub is_same_step : Step DuesState → Step DuesState → Bool
+is_same_step x y =
+    (x.rule == y.rule) && pointwise nat_eq x.reads y.reads && pointwise nat_eq x.cells y.cells && eq-value.it x.next y.next
+
+-- steps with one more, unless it is one of them
+abbrev pub with_step : List (Step DuesState) → Step DuesState → List (Step DuesState)
+with_step steps x = if list_any (is_same_step x) steps then steps else steps ++ x ∷ []
+
+-- steps with more of them, each once
+abbrev pub with_steps : List (Step DuesState) → List (Step DuesState) → List (Step DuesState)
+with_steps steps [] = steps
+with_steps steps (x ∷ more) = with_steps (with_step steps x) more
+
+-- the steps of a group of forms, each once: two forms that differ by the run of capitals alone may
+-- have the same step
+abbrev pub group_steps : TableView → DuesState → List Form → List (Step DuesState)
+group_steps t s group = with_steps [] (flat_map (steps_of t s) group)
+
 -- the steps that the machine lists from a state: the forms by rank, those of one rule by the
--- numbers of their characters
+-- numbers of their first characters
 unfoldable pub dues_steps : TableView → DuesState → List (Step DuesState)
-dues_steps t s = flat_map (steps_of t s) (forms t s.before)
+dues_steps t s = flat_map (group_steps t s) (groups t s.before)
 
 -- ---- The machine
 

@@ -1,8 +1,13 @@
 //! The rules that are ranked above the one that a step takes.
-ghost use Rattle.std.specs.Prelude.{◌≡◌, IfOk};
-ghost use Rattle.brl_dues.specs.Carry.{carry_bar as bar_carried};
+ghost use Rattle.std.specs.Prelude.{◌≡◌, true, IfOk, IsTrue};
+ghost use Rattle.brl_table.specs.Text.{has_word_capitals};
+ghost use Rattle.brl_dues.specs.Adding.{Adds};
+ghost use Rattle.brl_dues.specs.Carry.{bars_past, carry_bar as bar_carried};
 
-use crate::carry::{Carried, carry_bar};
+use crate::Due;
+use crate::carry::{Carried, add, carry_bar};
+use crate::cased::CasedTable;
+use crate::runs::add_run_bars;
 use brl_table::{Cond, Table};
 use std::alloc::{AllocError, Global};
 use std::marker::Model;
@@ -40,8 +45,27 @@ impl<'a> Above<'a> {
         }
     }
 
-    /// What is left of its bar after the characters `past`.
-    pub fn carry(&self, alloc: Global, table: &Table, past: &[char]) -> Result<Carried, AllocError>
+    /// Appends what is left of its bars, in a run of capitals or out of one, after the characters
+    /// `past` to the dues found so far. Returns whether none is broken.
+    pub fn add_bars(
+        &self,
+        alloc: Global,
+        table: &CasedTable<'_>,
+        run: bool,
+        past: &[char],
+        found: &mut Vec<Due>,
+    ) -> Result<bool, AllocError>
+        requires { run ≡ true → IsTrue (has_word_capitals table.now) }
+        ensures { IfOk result (λ whole. Adds (bars_past table.now run past.now self.now.0 self.now.1) found.old.items found.new.items whole) }
+    {
+        if run {
+            return add_run_bars(alloc, table, past, self.others, self.after, found);
+        }
+        add(self.carry(alloc, table.table(), past)?, found)
+    }
+
+    /// What is left of its bar out of a run of capitals after the characters `past`.
+    fn carry(&self, alloc: Global, table: &Table, past: &[char]) -> Result<Carried, AllocError>
         ensures { IfOk result (λ carried. carried ≡ bar_carried table.now past.now self.now.0 self.now.1) }
     {
         if let (Some(here), Some(there)) = (past.first(), self.second) {

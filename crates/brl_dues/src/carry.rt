@@ -1,12 +1,13 @@
 //! Dues carried past the characters that a step reads.
-ghost use Rattle.std.specs.Prelude.{◌≡◌, [], ◌∷◌, map, IfOk};
-ghost use Rattle.brl_table.specs.Text.{classes_of};
+ghost use Rattle.std.specs.Prelude.{◌≡◌, [], ◌∷◌, map, true, IfOk, IsTrue, OnOk};
+ghost use Rattle.brl_table.specs.Text.{classes_of, has_word_capitals};
 ghost use Rattle.brl_dues.specs.Adding.{Adds};
 ghost use Rattle.brl_dues.specs.Carry.{carry as carried_past, carry_bar as bar_carried, need as need_of_cond, opposed, settled_if};
 ghost use Rattle.brl_dues.specs.Letters.{bars_of};
 
 use crate::Due;
 use crate::above::Above;
+use crate::cased::CasedTable;
 use brl_cells::Chars;
 use brl_table::{Class, Cond, Table, holds};
 use std::alloc::{AllocError, Global};
@@ -34,23 +35,13 @@ pub fn class_of(table: &Table, character: char) -> Class
 
 /// What is left of a bar whose characters were all read: the next character doesn't meet the
 /// condition.
-fn opposed_to(cond: Cond) -> Carried
+pub fn opposed_to(cond: Cond) -> Carried
     ensures { result ≡ opposed cond }
 {
     match cond {
         Cond::Any => Carried::Broken,
         Cond::Meets(set) => Carried::Left(Due::Need(Cond::Avoids(set))),
         Cond::Avoids(set) => Carried::Left(Due::Need(Cond::Meets(set))),
-    }
-}
-
-/// The need that an after-condition leaves.
-fn need_of(cond: Cond) -> Carried
-    ensures { result ≡ need_of_cond cond }
-{
-    match cond {
-        Cond::Any => Carried::Settled,
-        _ => Carried::Left(Due::Need(cond)),
     }
 }
 
@@ -110,7 +101,7 @@ fn carry(alloc: Global, table: &Table, past: &[char], due: &Due) -> Result<Carri
 }
 
 /// Appends what is left to the dues found so far. Returns whether nothing is broken.
-fn add(carried: Carried, found: &mut Vec<Due>) -> Result<bool, AllocError>
+pub fn add(carried: Carried, found: &mut Vec<Due>) -> Result<bool, AllocError>
     ensures { IfOk result (λ whole. Adds (carried ∷ []) found.old.items found.new.items whole) }
 {
     match carried {
@@ -142,26 +133,32 @@ pub fn add_dues(
     Ok(true)
 }
 
-/// Appends the need of an after-condition to the dues found so far.
-pub fn add_need(cond: Cond, found: &mut Vec<Due>) -> Result<bool, AllocError>
-    ensures { IfOk result (λ whole. Adds (need_of_cond cond ∷ []) found.old.items found.new.items whole) }
+/// Appends the need of a condition on the next character, if it has one, to the dues found so far.
+pub fn add_need(cond: Cond, found: &mut Vec<Due>) -> Result<(), AllocError>
+    ensures { OnOk result (Adds (need_of_cond cond ∷ []) found.old.items found.new.items true) }
 {
-    add(need_of(cond), found)
+    match cond {
+        Cond::Any => {}
+        _ => found.push(Due::Need(cond))?,
+    }
+    Ok(())
 }
 
-/// Appends what is left of the bars of the rules above, after a character and these others, to the
-/// dues found so far. Returns whether none is broken.
+/// Appends what is left of the bars of the rules above, in a run of capitals or out of one, after a
+/// character and these others, to the dues found so far. Returns whether none is broken.
 pub fn add_bars(
     alloc: Global,
-    table: &Table,
+    table: &CasedTable<'_>,
+    run: bool,
     others: &[char],
     above: &[Above<'_>],
     found: &mut Vec<Due>,
 ) -> Result<bool, AllocError>
-    ensures { IfOk result (λ whole. Adds (bars_of table.now others.now above.now) found.old.items found.new.items whole) }
+    requires { run ≡ true → IsTrue (has_word_capitals table.now) }
+    ensures { IfOk result (λ whole. Adds (bars_of table.now run others.now above.now) found.old.items found.new.items whole) }
 {
     for rule in above {
-        if !add(rule.carry(alloc, table, others)?, found)? {
+        if !rule.add_bars(alloc, table, run, others, found)? {
             return Ok(false);
         }
     }

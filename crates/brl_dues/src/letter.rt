@@ -119,7 +119,7 @@ fn lets_in(table: &Table, character: char, due: &Due) -> bool
 }
 
 /// The fold of a character: itself where the table doesn't define it.
-fn fold_of(table: &Table, character: char) -> char
+pub fn fold_of(table: &Table, character: char) -> char
     ensures { result ≡ fold table.now character }
 {
     match table.info(character) {

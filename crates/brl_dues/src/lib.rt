@@ -4,15 +4,21 @@
 //! A step takes a rule, or the own definition of a character. It owes to each rule that is ranked
 //! above its own, and could still fit, that this rule does not fit: a `Due` of the next state. So
 //! what the text must or must not continue with is decided one step at a time.
+//!
+//! In a table with word capitals, a step also knows whether what it reads begins in a run of
+//! capitals. Where one capital alone doesn't decide that, there is a step for each of both, and it
+//! owes that a capital follows, or that none does.
 #![tactic(auto)]
 
 mod above;
 mod carry;
+mod cased;
 mod due;
 mod laws;
 mod letter;
 mod list;
 mod machine;
+mod runs;
 mod state;
 mod steps;
 

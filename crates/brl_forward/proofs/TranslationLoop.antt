@@ -1,11 +1,20 @@
 -- One iteration of the loop over the rules of a text, over plain lists.
-use Rattle.std.proofs.Common.{ℕ, ◌≡◌, List, [], ◌++◌, take, drop, append_assoc, append-nil}
+use Rattle.std.proofs.Common.{ℕ, ◌≡◌, Bool, Some, List, [], ◌++◌, take, drop, ap, sym, ◌∙◌, append_assoc, append-nil}
+use Rattle.std.specs.Option.{option_map_or}
 use Rattle.brl_table.specs.declared.context.Context.{Context}
 use Rattle.brl_table.specs.TableView.{TableView}
-use Rattle.brl_table.specs.Text.{context_behind_all}
+use Rattle.brl_table.specs.declared.rule.Info.{Info}
+use Rattle.brl_table.specs.Infos.{first_info}
+use Rattle.brl_table.specs.Text.{context_behind_all, is_in_run}
 use Rattle.brl_table.specs.Choice.{chosen}
-use Rattle.brl_table.specs.Indicators.{indicators}
+use Rattle.brl_table.specs.Indicators.{indicators, signs_before, signs_of}
 use Rattle.brl_table.specs.Rest.{translation_of_rest, TakesOneRule}
+
+-- the indicators before a rest, given the info of its first character
+pub signs-known : (t : TableView) (here : Context) (run : Bool) (rest : List ℕ) (info : Info) → first_info t rest ≡ Some info → run ≡ is_in_run t here.classes rest
+    → signs_of t here run info ≡ indicators t here rest
+signs-known t here run rest info known is =
+    ap (λ found. option_map_or (signs_of t here run) found []) (sym known) ∙ ap (λ run. signs_before t here run rest) is
 
 module _ (t : TableView) (here next : Context) (rest left taken out out1 out2 cells total : List ℕ) (n : ℕ) where
   pub rule_more : TakesOneRule t here rest → out1 ≡ out ++ indicators t here rest → cells ≡ (chosen t here.classes rest).cells → n ≡ (chosen t here.classes rest).taken

@@ -84,9 +84,10 @@ fn step(
     ensures room { IfOk result (λ step. step.length ≤ length rest.now) }
 {
     let mut cells = Vec::new(alloc);
-    table.push_signs(here, info, &mut cells)?;
+    let run = table.is_in_run(here.classes, rest);
+    table.push_signs(here, run, info, &mut cells)?;
     let indicators = cells.len();
-    let choice = table.choice_of(info, here.classes, rest);
+    let choice = table.choice_of(info, run, here.classes, rest);
     cells.extend_from_slice(choice.cells)?;
     Ok(Traced {
         start,

@@ -43,8 +43,10 @@ fn cells_of(
     let mut here = Context::START;
     let mut start = 0;
     while let Some(info) = infos.get(start) {
-        table.push_signs(here, info, &mut cells)?;
-        let choice = table.choice_of(info, here.classes, &text[start..]);
+        let rest = &text[start..];
+        let run = table.is_in_run(here.classes, rest);
+        table.push_signs(here, run, info, &mut cells)?;
+        let choice = table.choice_of(info, run, here.classes, rest);
         cells.extend_from_slice(choice.cells)?;
         let end = start + choice.taken;
         here = table.context_behind_infos(here, &infos[start..end]);

@@ -9,7 +9,7 @@ use Rattle.brl_reading.specs.declared.opcode.Opcode.{Opcode}
 use Rattle.brl_reading.specs.declared.opcode.Opcode.TheVariants.{Plain, Literary, Uplow, Placed, Noback, Nofor, Display, Indicator, NumericList, Include}
 use Rattle.brl_reading.specs.declared.item.NumericRole.TheVariants.{KeepsMode, NeedsNoContractSign}
 use Rattle.brl_table.specs.declared.place.Place.TheVariants.{Always, Word, Sufword, Prfword, Begword, Begmidword, Midword, Midendword, Endword, Partword, Begnum, Midnum, Endnum}
-use Rattle.brl_table.specs.declared.signs.Sign.TheVariants.{CapsLetter, NumSign, NoContractSign}
+use Rattle.brl_table.specs.declared.signs.Sign.TheVariants.{CapsLetter, NumSign, NoContractSign, BegCapsWord, EndCapsWord}
 use Rattle.brl_table.specs.Places.{space, punctuation, digit, letter, lowercase_letter, uppercase_letter, sign, math}
 
 -- the opcodes whose lines define characters
@@ -55,6 +55,8 @@ other_opcodes =
     ∷ (codes "capsign", Indicator CapsLetter)
     ∷ (codes "numsign", Indicator NumSign)
     ∷ (codes "nocontractsign", Indicator NoContractSign)
+    ∷ (codes "begcapsword", Indicator BegCapsWord)
+    ∷ (codes "endcapsword", Indicator EndCapsWord)
     ∷ (codes "numericmodechars", NumericList KeepsMode)
     ∷ (codes "numericnocontchars", NumericList NeedsNoContractSign)
     ∷ (codes "include", Include)

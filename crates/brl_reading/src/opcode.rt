@@ -93,6 +93,8 @@ fn other_opcode(word: &str) -> Option<Opcode>
         "capsletter" | "capsign" => Some(Opcode::Indicator(Sign::CapsLetter)),
         "numsign" => Some(Opcode::Indicator(Sign::NumSign)),
         "nocontractsign" => Some(Opcode::Indicator(Sign::NoContractSign)),
+        "begcapsword" => Some(Opcode::Indicator(Sign::BegCapsWord)),
+        "endcapsword" => Some(Opcode::Indicator(Sign::EndCapsWord)),
         "numericmodechars" => Some(Opcode::NumericList(NumericRole::KeepsMode)),
         "numericnocontchars" => Some(Opcode::NumericList(NumericRole::NeedsNoContractSign)),
         "include" => Some(Opcode::Include),

@@ -10,8 +10,9 @@ use Rattle.brl_table.specs.declared.rule.Rule.{Rule}
 use Rattle.brl_table.specs.TableView.{TableView, info_of}
 use Rattle.brl_table.specs.Infos.{first_info}
 use Rattle.brl_table.specs.Limits.{AreNumbered, IsAmong, IsRule, IsTable}
-use Rattle.brl_table.specs.Text.{fold_of}
+use Rattle.brl_table.specs.Text.{fold_of, is_in_run}
 use Rattle.brl_table.specs.Choice.{Choice, fits, own, chosen}
+use Rattle.brl_table.proofs.Compared.{behind_first}
 use Rattle.brl_table.proofs.EntryNumbers.{number_small}
 use Rattle.brl_table.proofs.TreeWalk.{position-none, not_true, fits-matches, front, chosen-none}
 
@@ -62,7 +63,8 @@ own-undefined t c rest undefined =
 no_rule : (t : TableView) → IsTable t → (before : Class) (c : ℕ) (rest : List ℕ) → info_of t c ≡ None
     → (j : ℕ) (r : Rule) → slice_get t.rules j ≡ Some r → fits t before (c ∷ rest) r ≡ true → ⊥
 no_rule t law before c rest undefined j r there does =
-    let begins = front t before c (fold_of t c) rest refl r.chars (fits-matches t before c (fold_of t c) rest refl r does) in
+    let behind = behind_first t (is_in_run t before (c ∷ rest)) rest in
+    let begins = front t before (c ∷ rest) (fold_of t c) behind refl r.chars (fits-matches t before (c ∷ rest) (fold_of t c) behind refl r does) in
     let is-rule = All-get_or (IsRule t.characters (length t.files)) t.rules j r (slice_get_within t.rules j r there) law.parts.rules in
     let is = get_or_from_slice_get t.rules j r r there in
     let defined = subst (λ (s : Rule). All (IsAmong t.characters) s.chars) is is-rule.characters_defined in

@@ -1,6 +1,7 @@
 pub mod SignLists
 pub mod SortedRanking
 pub mod EntryNumbers
+pub mod Compared
 pub mod TakenLengths
 pub mod PositionAndRest
 pub mod FitsAtPosition

@@ -6,8 +6,9 @@ use Rattle.brl_table.specs.declared.rule.Rule.{Rule}
 use Rattle.brl_table.specs.declared.class.Class.{Class}
 use Rattle.brl_table.specs.TableView.{TableView}
 use Rattle.brl_table.specs.Places.{holds, before_of, after_of}
-use Rattle.brl_table.specs.Text.{fold_of, classes_at}
-use Rattle.brl_table.specs.Choice.{Choice, matches, fits, first_fitting, by_rule, chosen}
+use Rattle.brl_table.specs.Text.{classes_at, is_in_run}
+use Rattle.brl_table.specs.Choice.{Choice, compared, matches, fits, first_fitting, by_rule, chosen}
+use Rattle.brl_table.proofs.Compared.{compared-length}
 
 pub starts_with-length : (rest xs : List ℕ) → starts_with nat_eq rest xs ≡ true → length xs ≤ length rest
 starts_with-length rest [] h = omega arith
@@ -20,18 +21,18 @@ pub record Takes (n : ℕ) (rest : List ℕ) : Type 0 where
   pub some : 1 ≤ n
   pub room : n ≤ length rest
 
-pub matches-Takes : (t : TableView) (rest chars : List ℕ) → matches t rest chars ≡ true → Takes (length chars) rest
-matches-Takes t [] chars h = cc
-matches-Takes t (c ∷ rest) [] h = cc
-matches-Takes t (c ∷ rest) (x ∷ xs) h =
-    let k : length xs ≤ length rest = starts_with-length rest xs (second_so (nat_eq (fold_of t c) x) (starts_with nat_eq rest xs) h) in
-    record { some = omega arith; room = omega (arith, k) }
+pub matches-Takes : (t : TableView) (run : Bool) (rest chars : List ℕ) → matches t run rest chars ≡ true → Takes (length chars) rest
+matches-Takes t run rest [] h = cc
+matches-Takes t run rest (x ∷ xs) h =
+    let k : length (x ∷ xs) ≤ length (compared t run rest) = starts_with-length (compared t run rest) (x ∷ xs) h in
+    record { some = omega arith; room = omega (arith, k, compared-length t run rest) }
 
 pub fits-Takes : (t : TableView) (before : Class) (rest : List ℕ) (r : Rule) → fits t before rest r ≡ true → Takes (length r.chars) rest
 fits-Takes t before rest r h =
-    matches-Takes t rest r.chars
-    (first_so (matches t rest r.chars) (holds (before_of r.place) before)
-    (first_so (matches t rest r.chars && holds (before_of r.place) before)
+    let run = is_in_run t before rest in
+    matches-Takes t run rest r.chars
+    (first_so (matches t run rest r.chars) (holds (before_of r.place) before)
+    (first_so (matches t run rest r.chars && holds (before_of r.place) before)
     (holds (after_of r.place before) (classes_at t rest (length r.chars))) h))
 
 -- the same of the choice that a test picks

@@ -13,11 +13,11 @@ use Rattle.brl_table.specs.declared.rule.Info.{Info}
 use Rattle.brl_table.specs.declared.rule.Rule.{Rule}
 use Rattle.brl_table.specs.TableView.{TableView, info_of}
 use Rattle.brl_table.specs.Places.{holds, before_of, after_of}
-use Rattle.brl_table.specs.Text.{fold_of, classes_at}
-use Rattle.brl_table.specs.Choice.{matches, fits, place_allows, place_allows_number, by_rule, own, first_fitting, chosen, chosen_number}
+use Rattle.brl_table.specs.Text.{classes_at, is_in_run}
+use Rattle.brl_table.specs.Choice.{compared, matches, fits, place_allows, place_allows_number, by_rule, own, first_fitting, chosen, chosen_number}
 use Rattle.brl_table.specs.Rank.{weight, IsInRank}
 use Rattle.brl_table.specs.Tree.{is_just, numbers, ends_of}
-use Rattle.brl_table.proofs.TakenLengths.{fits-Takes}
+use Rattle.brl_table.proofs.TakenLengths.{fits-Takes, starts_with-length}
 
 -- ---- the first place at which a test holds
 
@@ -228,80 +228,105 @@ longer-front (suc k) (b ∷ behind) (o ∷ others) d h more =
     ap (λ e. e && is_just others (take k behind ++ get_or behind k d ∷ drop (suc k) others)) (first_so (nat_eq o b) (starts_with nat_eq behind others) h)
     ∙ longer-front k behind others d (second_so (nat_eq o b) (starts_with nat_eq behind others) h) (omega arith)
 
-module _ (t : TableView) (before : Class) (c first : ℕ) (behind : List ℕ) (fold : fold_of t c ≡ first) where
+-- the rest begins with these characters, as rules are compared with it
+module _ (t : TableView) (before : Class) (rest : List ℕ) (first : ℕ) (behind : List ℕ) (is : compared t (is_in_run t before rest) rest ≡ first ∷ behind) where
+  -- a rule matches where those begin with its characters
+  begins : (x : ℕ) (others : List ℕ) → matches t (is_in_run t before rest) rest (x ∷ others) ≡ nat_eq x first && starts_with nat_eq behind others
+  begins x others = ap (λ l. starts_with nat_eq l (x ∷ others)) is
+
   just-matches : (chars : List ℕ) (k : ℕ) → k ≤ length behind
-      → is_just chars (first ∷ take k behind) ≡ matches t (c ∷ behind) chars && nat_eq (length chars) (k + 1)
+      → is_just chars (first ∷ take k behind) ≡ matches t (is_in_run t before rest) rest chars && nat_eq (length chars) (k + 1)
   just-matches [] k h = refl
   just-matches (x ∷ others) k h =
       let plus : k + 1 ≡ suc k = omega arith in
       ap (λ e. nat_eq x first && e) (just-front others behind k h)
       ∙ and-assoc (nat_eq x first) (starts_with nat_eq behind others) (nat_eq (length others) k)
-      ∙ ap (λ e. (e && starts_with nat_eq behind others) && nat_eq (length others) k) (eq-flip x first ∙ ap (λ y. nat_eq y x) (sym fold))
-      ∙ ap (λ e. (nat_eq (fold_of t c) x && starts_with nat_eq behind others) && e) (sym (suc-eq (length others) k) ∙ ap (nat_eq (suc (length others))) (sym plus))
+      ∙ ap (λ e. e && nat_eq (length others) k) (sym (begins x others))
+      ∙ ap (λ e. matches t (is_in_run t before rest) rest (x ∷ others) && e) (sym (suc-eq (length others) k) ∙ ap (nat_eq (suc (length others))) (sym plus))
 
-  pub just-fits : (k : ℕ) → k ≤ length behind → (r : Rule)
-      → is_just r.chars (first ∷ take k behind) && place_allows t before (c ∷ behind) r ≡ fits t before (c ∷ behind) r && nat_eq (weight r) (k + 1)
+  just-fits : (k : ℕ) → k ≤ length behind → (r : Rule)
+      → is_just r.chars (first ∷ take k behind) && place_allows t before rest r ≡ fits t before rest r && nat_eq (weight r) (k + 1)
   just-fits k h r =
-      ap (λ e. e && place_allows t before (c ∷ behind) r) (just-matches r.chars k h)
-      ∙ four (matches t (c ∷ behind) r.chars) (nat_eq (weight r) (k + 1)) (holds (before_of r.place) before)
-      (holds (after_of r.place before) (classes_at t (c ∷ behind) (length r.chars)))
+      ap (λ e. e && place_allows t before rest r) (just-matches r.chars k h)
+      ∙ four (matches t (is_in_run t before rest) rest r.chars) (nat_eq (weight r) (k + 1)) (holds (before_of r.place) before)
+      (holds (after_of r.place before) (classes_at t rest (length r.chars)))
 
   -- the first rule at a node whose place allows it is the first in rank of this length that fits
-  pub at_node : (k : ℕ) → k ≤ length behind
-      → find (place_allows_number t before (c ∷ behind)) (numbers (λ r. is_just r.chars (first ∷ take k behind)) 0 t.rules)
-      ≡ position_from (λ r. fits t before (c ∷ behind) r && nat_eq (weight r) (k + 1)) 0 t.rules
+  at_node : (k : ℕ) → k ≤ length behind
+      → find (place_allows_number t before rest) (numbers (λ r. is_just r.chars (first ∷ take k behind)) 0 t.rules)
+      ≡ position_from (λ r. fits t before rest r && nat_eq (weight r) (k + 1)) 0 t.rules
   at_node k h =
-      find-numbers t.rules (λ r. is_just r.chars (first ∷ take k behind)) (place_allows t before (c ∷ behind)) 0 t.rules (λ j. let e : 0 + j ≡ j = omega arith in ap (slice_get t.rules) e)
-      ∙ position-agree (λ r. is_just r.chars (first ∷ take k behind) && place_allows t before (c ∷ behind) r) (λ r. fits t before (c ∷ behind) r && nat_eq (weight r) (k + 1)) 0 t.rules
-      (λ j r is. just-fits k h r)
+      find-numbers t.rules (λ r. is_just r.chars (first ∷ take k behind)) (place_allows t before rest) 0 t.rules (λ j. let e : 0 + j ≡ j = omega arith in ap (slice_get t.rules) e)
+      ∙ position-agree (λ r. is_just r.chars (first ∷ take k behind) && place_allows t before rest r) (λ r. fits t before rest r && nat_eq (weight r) (k + 1)) 0 t.rules
+      (λ j r there. just-fits k h r)
 
-  pub fits-matches : (r : Rule) → fits t before (c ∷ behind) r ≡ true → matches t (c ∷ behind) r.chars ≡ true
+  pub fits-matches : (r : Rule) → fits t before rest r ≡ true → matches t (is_in_run t before rest) rest r.chars ≡ true
   fits-matches r h =
-      first_so (matches t (c ∷ behind) r.chars) (holds (before_of r.place) before)
-      (first_so (matches t (c ∷ behind) r.chars && holds (before_of r.place) before) (holds (after_of r.place before) (classes_at t (c ∷ behind) (length r.chars))) h)
+      first_so (matches t (is_in_run t before rest) rest r.chars) (holds (before_of r.place) before)
+      (first_so (matches t (is_in_run t before rest) rest r.chars && holds (before_of r.place) before) (holds (after_of r.place before) (classes_at t rest (length r.chars))) h)
 
   -- the characters of a rule with which the rest begins
-  pub front : (chars : List ℕ) → matches t (c ∷ behind) chars ≡ true → (others : List ℕ) × (chars ≡ first ∷ others) × (starts_with nat_eq behind others ≡ true)
+  pub front : (chars : List ℕ) → matches t (is_in_run t before rest) rest chars ≡ true → (others : List ℕ) × (chars ≡ first ∷ others) × (starts_with nat_eq behind others ≡ true)
   front [] h = cc
   front (x ∷ others) h =
-      let x-is : first ≡ x = sym fold ∙ same-number (fold_of t c) x (first_so (nat_eq (fold_of t c) x) (starts_with nat_eq behind others) h) in
-      (others, ap (λ y. y ∷ others) (sym x-is), second_so (nat_eq (fold_of t c) x) (starts_with nat_eq behind others) h)
+      let both : nat_eq x first && starts_with nat_eq behind others ≡ true = sym (begins x others) ∙ h in
+      let x-is : x ≡ first = same-number x first (first_so (nat_eq x first) (starts_with nat_eq behind others) both) in
+      (others, ap (λ y. y ∷ others) x-is, second_so (nat_eq x first) (starts_with nat_eq behind others) both)
 
   -- the rules of one character are at the first node
-  pub at_first : position_from (λ r. fits t before (c ∷ behind) r && nat_eq (weight r) (0 + 1)) 0 t.rules
-      ≡ position_from (λ r. fits t before (c ∷ behind) r && nat_le (weight r) (0 + 1)) 0 t.rules
+  at_first : position_from (λ r. fits t before rest r && nat_eq (weight r) (0 + 1)) 0 t.rules
+      ≡ position_from (λ r. fits t before rest r && nat_le (weight r) (0 + 1)) 0 t.rules
   at_first =
-      position-agree (λ r. fits t before (c ∷ behind) r && nat_eq (weight r) (0 + 1)) (λ r. fits t before (c ∷ behind) r && nat_le (weight r) (0 + 1)) 0 t.rules
-      (λ j r is. under (fits t before (c ∷ behind) r) (nat_eq (weight r) (0 + 1)) (nat_le (weight r) (0 + 1)) (λ does. one-le (weight r) (fits-Takes t before (c ∷ behind) r does).some))
+      position-agree (λ r. fits t before rest r && nat_eq (weight r) (0 + 1)) (λ r. fits t before rest r && nat_le (weight r) (0 + 1)) 0 t.rules
+      (λ j r there. under (fits t before rest r) (nat_eq (weight r) (0 + 1)) (nat_le (weight r) (0 + 1)) (λ does. one-le (weight r) (fits-Takes t before rest r does).some))
 
   -- where no rule that fits has more characters, the longest so far is the first in rank
-  no_more : (k : ℕ) → ((j : ℕ) (r : Rule) → slice_get t.rules j ≡ Some r → fits t before (c ∷ behind) r ≡ true → weight r ≤ k)
-      → position_from (λ r. fits t before (c ∷ behind) r && nat_le (weight r) k) 0 t.rules ≡ position_from (fits t before (c ∷ behind)) 0 t.rules
+  no_more : (k : ℕ) → ((j : ℕ) (r : Rule) → slice_get t.rules j ≡ Some r → fits t before rest r ≡ true → weight r ≤ k)
+      → position_from (λ r. fits t before rest r && nat_le (weight r) k) 0 t.rules ≡ position_from (fits t before rest) 0 t.rules
   no_more k h =
-      position-agree (λ r. fits t before (c ∷ behind) r && nat_le (weight r) k) (fits t before (c ∷ behind)) 0 t.rules
-      (λ j r is. under-true (fits t before (c ∷ behind) r) (nat_le (weight r) k) (λ does. le-true (weight r) k (h j r is does)))
+      position-agree (λ r. fits t before rest r && nat_le (weight r) k) (fits t before rest) 0 t.rules
+      (λ j r there. under-true (fits t before rest r) (nat_le (weight r) k) (λ does. le-true (weight r) k (h j r there does)))
 
-  pub at_end : (k : ℕ) → length behind ≤ k
-      → position_from (λ r. fits t before (c ∷ behind) r && nat_le (weight r) (k + 1)) 0 t.rules ≡ position_from (fits t before (c ∷ behind)) 0 t.rules
-  at_end k h = no_more (k + 1) (λ j r is does. omega (arith, h, (fits-Takes t before (c ∷ behind) r does).room))
+  pub rest-first : find (place_allows_number t before rest) (ends_of t.rules (first ∷ []))
+      ≡ position_from (λ r. fits t before rest r && nat_le (weight r) (0 + 1)) 0 t.rules
+  rest-first = at_node 0 (omega arith) ∙ at_first
+
+  pub rest-next : (k : ℕ) (best : Option ℕ) → k < length behind → IsInRank t.rules
+      → best ≡ position_from (λ r. fits t before rest r && nat_le (weight r) (k + 1)) 0 t.rules
+      → option_or (find (place_allows_number t before rest) (ends_of t.rules (first ∷ take (k + 1) behind))) best
+      ≡ position_from (λ r. fits t before rest r && nat_le (weight r) (k + 1 + 1)) 0 t.rules
+  rest-next k best within rank e =
+      ap (option_or (find (place_allows_number t before rest) (ends_of t.rules (first ∷ take (k + 1) behind)))) e
+      ∙ ap (λ found. option_or found (position_from (λ r. fits t before rest r && nat_le (weight r) (k + 1)) 0 t.rules)) (at_node (k + 1) (omega (arith, within)))
+      ∙ sym (rank-step (fits t before rest) (k + 1) 0 t.rules rank)
+
+  -- the rest has no more characters that rules are compared with
+  pub rest-end : (k : ℕ) → length behind ≤ k
+      → position_from (λ r. fits t before rest r && nat_le (weight r) (k + 1)) 0 t.rules ≡ position_from (fits t before rest) 0 t.rules
+  rest-end k h = no_more (k + 1) (λ j r there does. short r (front r.chars (fits-matches r does)))
+    where
+      short : (r : Rule) → (others : List ℕ) × (r.chars ≡ first ∷ others) × (starts_with nat_eq behind others ≡ true) → weight r ≤ k + 1
+      short r f =
+          let long : weight r ≡ suc (length f.0) = ap length f.1 in
+          omega (arith, long, starts_with-length behind f.0 f.2, h)
 
   -- where a character leads to no rules, no rule that fits has it
-  pub no_root : ((at : List ℕ) → [] ≡ ends_of t.rules (first ∷ at)) → position_from (fits t before (c ∷ behind)) 0 t.rules ≡ None
-  no_root none =
-      position-none (fits t before (c ∷ behind)) 0 t.rules
-      (λ j r is. not_true (fits t before (c ∷ behind) r)
+  pub rest-no_root : ((at : List ℕ) → [] ≡ ends_of t.rules (first ∷ at)) → position_from (fits t before rest) 0 t.rules ≡ None
+  rest-no_root none =
+      position-none (fits t before rest) 0 t.rules
+      (λ j r there. not_true (fits t before rest r)
       (λ does.
       let f = front r.chars (fits-matches r does) in
       let just : is_just r.chars (first ∷ f.0) ≡ true = ap (λ chars. is_just chars (first ∷ f.0)) f.1 ∙ just-itself (first ∷ f.0) in
-      let not : is_just r.chars (first ∷ f.0) ≡ false = numbers-none (λ r. is_just r.chars (first ∷ f.0)) 0 t.rules (sym (none f.0)) j r is in
+      let not : is_just r.chars (first ∷ f.0) ≡ false = numbers-none (λ r. is_just r.chars (first ∷ f.0)) 0 t.rules (sym (none f.0)) j r there in
       not_both (is_just r.chars (first ∷ f.0)) just not))
 
-  pub no_branch : (k d : ℕ) → k < length behind → ((at : List ℕ) → [] ≡ ends_of t.rules (first ∷ (take k behind ++ get_or behind k d ∷ at)))
-      → position_from (λ r. fits t before (c ∷ behind) r && nat_le (weight r) (k + 1)) 0 t.rules ≡ position_from (fits t before (c ∷ behind)) 0 t.rules
-  no_branch k d within none = no_more (k + 1) (λ j r is does. short j r is (front r.chars (fits-matches r does)))
+  pub rest-no_branch : (k d : ℕ) → k < length behind → ((at : List ℕ) → [] ≡ ends_of t.rules (first ∷ (take k behind ++ get_or behind k d ∷ at)))
+      → position_from (λ r. fits t before rest r && nat_le (weight r) (k + 1)) 0 t.rules ≡ position_from (fits t before rest) 0 t.rules
+  rest-no_branch k d within none = no_more (k + 1) (λ j r there does. short j r there (front r.chars (fits-matches r does)))
     where
       short : (j : ℕ) (r : Rule) → slice_get t.rules j ≡ Some r → (others : List ℕ) × (r.chars ≡ first ∷ others) × (starts_with nat_eq behind others ≡ true) → weight r ≤ k + 1
-      short j r is f = by_order (cases_order (length f.0) k)
+      short j r there f = by_order (cases_order (length f.0) k)
         where
           count : weight r ≡ suc (length f.0)
           count = ap length f.1
@@ -314,43 +339,17 @@ module _ (t : TableView) (before : Class) (c first : ℕ) (behind : List ℕ) (f
               let just : is_just r.chars (first ∷ at) ≡ true =
               ap (λ chars. is_just chars (first ∷ at)) f.1 ∙ ap (λ b. b && is_just f.0 at) (same-itself first) ∙ longer-front k behind f.0 d f.2 more in
               let not : is_just r.chars (first ∷ at) ≡ false =
-              numbers-none (λ r. is_just r.chars (first ∷ at)) 0 t.rules (sym (none (drop (suc k) f.0))) j r is in
+              numbers-none (λ r. is_just r.chars (first ∷ at)) 0 t.rules (sym (none (drop (suc k) f.0))) j r there in
               absurd (not_both (is_just r.chars (first ∷ at)) just not)
 
--- ---- the same at a rest that begins with c
-
-module _ (t : TableView) (before : Class) (rest : List ℕ) (c first : ℕ) (behind : List ℕ) (rest-is : rest ≡ c ∷ behind) (fold : fold_of t c ≡ first) where
-  pub rest-no_root : ((at : List ℕ) → [] ≡ ends_of t.rules (first ∷ at)) → position_from (fits t before rest) 0 t.rules ≡ None
-  rest-no_root none = rw rest-is (no_root t before c first behind fold none)
-
-  pub rest-first : find (place_allows_number t before rest) (ends_of t.rules (first ∷ []))
-      ≡ position_from (λ r. fits t before rest r && nat_le (weight r) (0 + 1)) 0 t.rules
-  rest-first = rw rest-is (at_node t before c first behind fold 0 (omega arith) ∙ at_first t before c first behind fold)
-
-  pub rest-next : (k : ℕ) (best : Option ℕ) → k < length behind → IsInRank t.rules
-      → best ≡ position_from (λ r. fits t before rest r && nat_le (weight r) (k + 1)) 0 t.rules
-      → option_or (find (place_allows_number t before rest) (ends_of t.rules (first ∷ take (k + 1) behind))) best
-      ≡ position_from (λ r. fits t before rest r && nat_le (weight r) (k + 1 + 1)) 0 t.rules
-  rest-next k best within rank e =
-      let here = at_node t before c first behind fold (k + 1) (omega (arith, within)) in
-      let back = ap (λ (rest : List ℕ). position_from (λ r. fits t before rest r && nat_le (weight r) (k + 1 + 1)) 0 t.rules) (sym rest-is) in
-      ap (option_or (find (place_allows_number t before rest) (ends_of t.rules (first ∷ take (k + 1) behind))))
-      (e ∙ ap (λ (rest : List ℕ). position_from (λ r. fits t before rest r && nat_le (weight r) (k + 1)) 0 t.rules) rest-is)
-      ∙ ap (λ (rest : List ℕ). option_or (find (place_allows_number t before rest) (ends_of t.rules (first ∷ take (k + 1) behind)))
-      (position_from (λ r. fits t before (c ∷ behind) r && nat_le (weight r) (k + 1)) 0 t.rules)) rest-is
-      ∙ ap (λ found. option_or found (position_from (λ r. fits t before (c ∷ behind) r && nat_le (weight r) (k + 1)) 0 t.rules)) here
-      ∙ sym (rank-step (fits t before (c ∷ behind)) (k + 1) 0 t.rules rank) ∙ back
-
-  pub rest-no_branch : (k d : ℕ) → k < length behind → ((at : List ℕ) → [] ≡ ends_of t.rules (first ∷ (take k behind ++ get_or behind k d ∷ at)))
-      → position_from (λ r. fits t before rest r && nat_le (weight r) (k + 1)) 0 t.rules ≡ position_from (fits t before rest) 0 t.rules
-  rest-no_branch k d within none = rw rest-is (no_branch t before c first behind fold k d within none)
-
-  pub rest-end : (k : ℕ) → length behind ≤ k
-      → position_from (λ r. fits t before rest r && nat_le (weight r) (k + 1)) 0 t.rules ≡ position_from (fits t before rest) 0 t.rules
-  rest-end k h = rw rest-is (at_end t before c first behind fold k h)
+no-match : (t : TableView) (run : Bool) (chars : List ℕ) → matches t run [] chars ≡ false
+no-match t run [] = refl
+no-match t run (x ∷ chars) = refl
 
 pub rest-none : (t : TableView) (before : Class) (rest : List ℕ) → length rest ≡ 0 → position_from (fits t before rest) 0 t.rules ≡ None
-rest-none t before [] h = position-none (fits t before []) 0 t.rules (λ j r is. refl)
+rest-none t before [] h =
+    position-none (fits t before []) 0 t.rules
+    (λ j r is. ap (λ b. b && holds (before_of r.place) before && holds (after_of r.place before) (classes_at t [] (length r.chars))) (no-match t (is_in_run t before []) r.chars))
 rest-none t before (c ∷ rest) h = absurd (omega arith)
 
 pub one_more : (k d : ℕ) (behind at : List ℕ) → k < length behind → take k behind ++ get_or behind k d ∷ at ≡ take (k + 1) behind ++ at

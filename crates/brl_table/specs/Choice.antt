@@ -1,28 +1,37 @@
 -- Which rule is chosen at the start of a rest of a text. The manual, section "Translation Opcodes":
 -- at each position the most eligible entry is used. That only the first character of a rule is
--- compared without case is this project's own choice.
-use Rattle.std.specs.Prelude.{ℕ, ◌≡◌, ◌+◌, Bool, false, ◌&&◌, ◌==◌, nat_eq, Option, Some, None, List, [], ◌∷◌, length, if◌then◌else◌, slice_get}
-use Rattle.std.specs.List.{starts_with}
+-- compared without case, and in a run of capitals each, is this project's own choice.
+use Rattle.std.specs.Prelude.{ℕ, ◌≡◌, ◌+◌, Bool, false, ◌&&◌, nat_eq, Option, Some, None, List, [], ◌∷◌, length, map, if◌then◌else◌, slice_get}
+use Rattle.std.specs.List.{starts_with, take_while}
 use Rattle.std.specs.Option.{option_map_or}
 use Rattle.brl_table.specs.declared.choice.Choice.{Choice as Lent}
 use Rattle.brl_table.specs.declared.class.Class.{Class}
 use Rattle.brl_table.specs.declared.rule.Rule.{Rule}
 use Rattle.brl_table.specs.TableView.{TableView, info_of}
 use Rattle.brl_table.specs.Places.{holds, before_of, after_of}
-use Rattle.brl_table.specs.Text.{fold_of, classes_at, is_defined}
+use Rattle.brl_table.specs.Text.{fold_of, classes_at, classes_of, is_capital, is_defined, is_in_run}
 
--- the rest begins with a rule's characters: the first is the fold of the rest's first, the others
--- are the rest's own
-abbrev pub matches : TableView → List ℕ → List ℕ → Bool
-matches t [] chars = false
-matches t (c ∷ rest) [] = false
-matches t (c ∷ rest) (first ∷ others) = (fold_of t c == first) && starts_with nat_eq rest others
+-- the folds of the capitals with which a rest begins, up to the first character that isn't one
+abbrev pub folds_of_capitals : TableView → List ℕ → List ℕ
+folds_of_capitals t rest = map (fold_of t) (take_while (λ c. is_capital (classes_of t c)) rest)
+
+-- what the characters of a rule are compared with at the start of a rest: the fold of its first
+-- character, and after it in a run of capitals the folds of the capitals that follow, else the
+-- rest's own characters
+abbrev pub compared : TableView → Bool → List ℕ → List ℕ
+compared t run [] = []
+compared t run (c ∷ rest) = fold_of t c ∷ (if run then folds_of_capitals t rest else rest)
+
+-- the rest, in a run of capitals or not, begins with a rule's characters
+abbrev pub matches : TableView → Bool → List ℕ → List ℕ → Bool
+matches t run rest [] = false
+matches t run rest (first ∷ others) = starts_with nat_eq (compared t run rest) (first ∷ others)
 
 -- a rule fits: the rest begins with its characters, and the neighbours meet the conditions of its
 -- place
 abbrev pub fits : TableView → Class → List ℕ → Rule → Bool
 fits t before rest r =
-    matches t rest r.chars
+    matches t (is_in_run t before rest) rest r.chars
     && holds (before_of r.place) before
     && holds (after_of r.place before) (classes_at t rest (length r.chars))
 

@@ -1,21 +1,45 @@
 -- The indicators before a rest of a text. The manual has their opcodes in section "Braille
 -- Indicator Opcodes"; when exactly each is used, and in which order, is this project's own choice.
-use Rattle.std.specs.Prelude.{ℕ, Bool, ◌&&◌, not, List, [], ◌∷◌, ◌++◌, if◌then◌else◌}
+use Rattle.std.specs.Prelude.{ℕ, Bool, ◌&&◌, not, List, [], ◌∷◌, if◌then◌else◌}
+use Rattle.std.specs.List.{flat_map}
+use Rattle.std.specs.Option.{option_map_or}
 use Rattle.brl_table.specs.declared.context.Context.{Context}
-use Rattle.brl_table.specs.declared.signs.Sign.TheVariants.{CapsLetter, NumSign, NoContractSign}
+use Rattle.brl_table.specs.declared.rule.Info.{Info}
+use Rattle.brl_table.specs.declared.signs.Sign.{Sign}
+use Rattle.brl_table.specs.declared.signs.Sign.TheVariants.{CapsLetter, NumSign, NoContractSign, BegCapsWord, EndCapsWord}
 use Rattle.brl_table.specs.TableView.{TableView, sign_cells}
-use Rattle.brl_table.specs.Places.{uppercase, share}
-use Rattle.brl_table.specs.Text.{classes_of, is_literary, is_nocont}
+use Rattle.brl_table.specs.Infos.{first_info}
+use Rattle.brl_table.specs.Places.{letter, share}
+use Rattle.brl_table.specs.Text.{is_capital, is_in_run}
 
--- these cells where a condition holds, else none
-abbrev pub when : Bool → List ℕ → List ℕ
-when condition cells = if condition then cells else []
+-- whether an indicator is used before a character that is in a run of capitals, or isn't: the one
+-- after a run before a letter that isn't a capital; the no-contract sign in numeric mode before a
+-- character that could be read as a digit; the number sign outside numeric mode before a literary
+-- digit; the one before a run at its first capital; and the capital sign before a capital that is
+-- in no run
+abbrev pub is_used : Context → Bool → Info → Sign → Bool
+is_used here run info EndCapsWord = here.run && share info.classes letter && not (is_capital info.classes)
+is_used here run info NoContractSign = here.numeric && info.nocont
+is_used here run info NumSign = info.literary && not here.numeric
+is_used here run info BegCapsWord = is_capital info.classes && run && not (is_capital here.classes)
+is_used here run info CapsLetter = is_capital info.classes && not run
 
--- in numeric mode the no-contract sign before a character that could be read as a digit; outside
--- numeric mode the number sign before a literary digit; and the capital sign before a capital
+-- the order of the indicators
+abbrev pub sign_order : List Sign
+sign_order = EndCapsWord ∷ NoContractSign ∷ NumSign ∷ BegCapsWord ∷ CapsLetter ∷ []
+
+-- the cells of an indicator where it is used, else none
+abbrev pub used_cells : TableView → Context → Bool → Info → Sign → List ℕ
+used_cells t here run info sign = if is_used here run info sign then sign_cells t sign else []
+
+-- the indicators before a character
+abbrev pub signs_of : TableView → Context → Bool → Info → List ℕ
+signs_of t here run info = flat_map (used_cells t here run info) sign_order
+
+-- the indicators before a rest that begins in a run of capitals, or doesn't
+abbrev pub signs_before : TableView → Context → Bool → List ℕ → List ℕ
+signs_before t here run rest = option_map_or (signs_of t here run) (first_info t rest) []
+
+-- the indicators before a rest
 abbrev pub indicators : TableView → Context → List ℕ → List ℕ
-indicators t here [] = []
-indicators t here (c ∷ rest) =
-    when (here.numeric && is_nocont t c) (sign_cells t NoContractSign)
-    ++ when (is_literary t c && not here.numeric) (sign_cells t NumSign)
-    ++ when (share (classes_of t c) uppercase) (sign_cells t CapsLetter)
+indicators t here rest = signs_before t here (is_in_run t here.classes rest) rest

@@ -2,6 +2,7 @@ pub mod TableView
 pub mod Places
 pub mod Signs
 pub mod Text
+pub mod Infos
 pub mod Indicators
 pub mod Choice
 pub mod Translation
@@ -9,7 +10,6 @@ pub mod Rank
 pub mod Limits
 pub mod Rest
 pub mod Position
-pub mod Infos
 pub mod Views
 pub mod Examples
 pub mod Tree

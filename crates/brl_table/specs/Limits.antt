@@ -1,5 +1,5 @@
 -- What every table keeps. The numbers are this project's own limits. With them a step of any
--- machine gives at most 512 cells of a rule and 16 of each of three indicators, fewer than the
+-- machine gives at most 512 cells of a rule and 16 of each of five indicators, fewer than the
 -- 1,024 that a lead may have.
 use Rattle.std.specs.Prelude.{ℕ, ◌≡◌, ◌≤◌, ◌<◌, All, List, length, nat_eq, Some, IsSome, slice_get}
 use Rattle.std.specs.List.{IsDistinct}

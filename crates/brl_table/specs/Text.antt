@@ -71,6 +71,13 @@ is_capital classes = share classes uppercase
 abbrev pub are_run : TableView → Class → Class → Bool
 are_run t first second = has_word_capitals t && is_capital first && is_capital second
 
+-- whether a rest of a text begins in a run of capitals, after a character of these classes: in a
+-- table with word capitals its first character is a capital, and so is the one before it or the one
+-- after it
+abbrev pub is_in_run : TableView → Class → List ℕ → Bool
+is_in_run t before rest =
+    has_word_capitals t && is_capital (classes_at t rest 0) && (is_capital before || is_capital (classes_at t rest 1))
+
 -- whether a run of capitals goes to position i: the two characters before it are capitals, in a
 -- table with word capitals
 abbrev pub run_at : TableView → List ℕ → ℕ → Bool

@@ -1,5 +1,5 @@
 -- Internal. The tree of a table's rules: which rules have just the given characters.
-use Rattle.std.specs.Prelude.{ℕ, ◌+◌, ◌≡◌, Bool, true, false, ◌&&◌, ◌==◌, nat_eq, List, [], ◌∷◌, ◌++◌, if◌then◌else◌}
+use Rattle.std.specs.Prelude.{ℕ, ◌+◌, ◌≡◌, Bool, true, false, ◌&&◌, ◌==◌, nat_eq, List, [], ◌∷◌, ◌++◌, Option, Some, None, if◌then◌else◌}
 use Rattle.std.specs.List.{find}
 use Rattle.std.specs.Map.{lookup}
 use Rattle.std.specs.Option.{option_map_or}
@@ -7,6 +7,7 @@ use Rattle.brl_table.specs.declared.rule.Rule.{Rule}
 use Rattle.brl_table.specs.declared.tree.Node.{Node, out-Node}
 use Rattle.brl_table.specs.declared.tree.RuleTree.{RuleTree}
 use Rattle.brl_table.specs.TableView.{TableView}
+use Rattle.brl_table.specs.Text.{classes_of, fold_of, is_capital}
 use Rattle.brl_table.specs.Limits.{IsTable}
 
 -- `f` of the first branch to which a character leads; no numbers where there is none
@@ -29,6 +30,11 @@ with_rule (x ∷ chars) number (c ∷ at) ends = if x == c then with_rule chars 
 -- the numbers of the rules in a tree that have just this character and these after it
 abbrev pub ends_in : RuleTree → ℕ → List ℕ → List ℕ
 ends_in tree c at = option_map_or (λ root. ends_at root at) (lookup (nat_eq c) tree.roots.entries) []
+
+-- the character by which the walk down the tree goes on at this one: in a run of capitals its fold,
+-- and none where it isn't a capital
+abbrev pub mark_of : TableView → Bool → ℕ → Option ℕ
+mark_of t run c = if run then (if is_capital (classes_of t c) then Some (fold_of t c) else None) else Some c
 
 -- these characters are just those
 abbrev pub is_just : List ℕ → List ℕ → Bool

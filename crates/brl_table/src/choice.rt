@@ -3,11 +3,12 @@ ghost use Rattle.std.specs.Prelude.{◌≡◌, [], ◌<◌, ◌≤◌, length, s
 ghost use Rattle.std.specs.List.{find, position_from};
 ghost use Rattle.brl_table.specs.Choice.{fits, place_allows, place_allows_number, chosen, chosen_number, IsChoice};
 ghost use Rattle.brl_table.specs.Infos.{first_info};
-ghost use Rattle.brl_table.specs.Text.{fold_of};
-ghost use Rattle.brl_table.specs.Tree.{ends_at};
+ghost use Rattle.brl_table.specs.Text.{fold_of, is_in_run};
+ghost use Rattle.brl_table.specs.Tree.{ends_at, mark_of};
 
 use crate::tree::Node;
 use crate::{Class, Cond, Info, Rule, Table, holds};
+use bitflags::Flags;
 use brl_cells::Cell;
 
 /// The rule that is chosen at the start of a rest.
@@ -34,7 +35,7 @@ impl Table {
     {
         self.law();
         match self.info(rest[0]) {
-            Some(info) => self.choice_of(info, before, rest),
+            Some(info) => self.choice_of(info, self.is_in_run(before, rest), before, rest),
             None => Choice {
                 number: self.rules_in_rank().len() as u32,
                 taken: 1,
@@ -43,15 +44,23 @@ impl Table {
         }
     }
 
-    /// The same, given the info of the first character.
-    pub fn choice_of<'a>(&'a self, info: &'a Info, before: Class, rest: &[char]) -> Choice<'a>
-        requires { first_info self.now rest.now ≡ Some info.now }
+    /// The same, given the info of the first character and whether `rest` begins in a run of
+    /// capitals.
+    pub fn choice_of<'a>(
+        &'a self,
+        info: &'a Info,
+        run: bool,
+        before: Class,
+        rest: &[char],
+    ) -> Choice<'a>
+        requires info { first_info self.now rest.now ≡ Some info.now }
+        requires run { run ≡ is_in_run self.now before rest.now }
         ensures choice { IsChoice result (chosen self.now before rest.now) }
         ensures some { 0 < result.taken }
         ensures room { result.taken ≤ length rest.now }
     {
         self.law();
-        match self.fitting_rule(info.fold, before, rest) {
+        match self.fitting_rule(info.fold, run, before, rest) {
             Some(number) => {
                 let rule = &self.rules_in_rank()[number as usize];
                 Choice {
@@ -76,26 +85,47 @@ impl Table {
         ensures { result ≡ chosen_number self.now before rest.now }
     {
         let info = self.info(*rest.first()?)?;
-        Some(self.choice_of(info, before, rest).number)
+        let run = self.is_in_run(before, rest);
+        Some(self.choice_of(info, run, before, rest).number)
     }
 
     /// The number of the first rule in rank that fits at the start of `rest`, whose first character
     /// has this fold. `None` where no rule fits.
-    fn fitting_rule(&self, fold: char, before: Class, rest: &[char]) -> Option<u32>
-        requires { IfSome (slice_get rest.now 0) (λ first. fold ≡ fold_of self.now first) }
+    fn fitting_rule(&self, fold: char, run: bool, before: Class, rest: &[char]) -> Option<u32>
+        requires fold { IfSome (slice_get rest.now 0) (λ first. fold ≡ fold_of self.now first) }
+        requires run { run ≡ is_in_run self.now before rest.now }
         ensures { result ≡ position_from (fits self.now before rest.now) 0 self.now.rules }
     {
         let (_, others) = rest.split_first()?;
         let mut node = self.root(fold)?;
         let mut best = self.rule_at(node, before, rest);
         for character in others {
-            let Some(branch) = node.branch(*character) else {
+            let Some(mark) = self.mark_of(run, *character) else {
+                return best;
+            };
+            let Some(branch) = node.branch(mark) else {
                 return best;
             };
             node = branch;
             best = self.rule_at(node, before, rest).or(best);
         }
         best
+    }
+
+    /// The character by which the walk goes on at this one: in a run of capitals its fold, and none
+    /// where it isn't a capital.
+    fn mark_of(&self, run: bool, character: char) -> Option<char>
+        ensures { result ≡ mark_of self.now run character }
+    {
+        if !run {
+            return Some(character);
+        }
+        let info = self.info(character)?;
+        if info.classes.intersects(Class::UPPERCASE) {
+            Some(info.fold)
+        } else {
+            None
+        }
     }
 
     /// The first of the rules ending at a node whose place allows it at the start of `rest`.

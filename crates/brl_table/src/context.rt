@@ -25,7 +25,7 @@ impl Table {
     ghost use Rattle.std.specs.Prelude.{◌≡◌, ℕ, List, Some};
     ghost use Rattle.brl_table.specs.Infos.{AreInfosOf};
     ghost use Rattle.brl_table.specs.TableView.{info_of};
-    ghost use Rattle.brl_table.specs.Text.{are_run, context_behind, context_behind_all, has_word_capitals};
+    ghost use Rattle.brl_table.specs.Text.{are_run, context_behind, context_behind_all, has_word_capitals, is_in_run};
 
     /// Whether the table has word capitals: it defines `begcapsword`.
     pub fn has_word_capitals(&self) -> bool
@@ -41,6 +41,18 @@ impl Table {
         second.intersects(Class::UPPERCASE)
             && first.intersects(Class::UPPERCASE)
             && self.has_word_capitals()
+    }
+
+    /// Whether a rest of a text begins in a run of capitals, after a character with these classes:
+    /// its first character is a capital, and so is the one before it or the one after it. Never so
+    /// in a table without word capitals. `rest` is the text to its end.
+    pub fn is_in_run(&self, before: Class, rest: &[char]) -> bool
+        ensures { result ≡ is_in_run self.now before rest.now }
+    {
+        self.has_word_capitals()
+            && self.classes_at(rest, 0).intersects(Class::UPPERCASE)
+            && (before.intersects(Class::UPPERCASE)
+                || self.classes_at(rest, 1).intersects(Class::UPPERCASE))
     }
 
     /// The context after one more character, given its info.

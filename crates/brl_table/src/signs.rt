@@ -1,7 +1,6 @@
 //! The indicators, and the cells that a table gives them.
-ghost use Rattle.std.specs.Prelude.{◌≡◌, ◌<◌, ◌≤◌, ◌↔◌, ◌++◌, ℕ, IsTrue, List, OnOk, Some, length};
-ghost use Rattle.brl_table.specs.Indicators.{indicators};
-ghost use Rattle.brl_table.specs.Infos.{first_info};
+ghost use Rattle.std.specs.Prelude.{◌≡◌, ◌<◌, ◌≤◌, ◌↔◌, ◌++◌, ℕ, IsTrue, OnOk, length};
+ghost use Rattle.brl_table.specs.Indicators.{is_used, signs_before, signs_of, used_cells};
 ghost use Rattle.brl_table.specs.declared.signs.Sign.{Sign as SignView};
 ghost use Rattle.brl_table.specs.Signs.{cells_at, no_cells, sign_number, with_cells};
 
@@ -88,15 +87,16 @@ impl Signs {
 }
 
 impl Table {
-    /// Appends the cells of the indicators before `rest` to `cells`. After `AllocError` some of
-    /// them may be there.
+    /// Appends the cells of the indicators before `rest`, which begins in a run of capitals or
+    /// doesn't, to `cells`. After `AllocError` some of them may be there.
     pub fn push_indicators(
         &self,
         here: Context,
+        run: bool,
         rest: &[char],
         cells: &mut Vec<Cell>,
     ) -> Result<(), AllocError>
-        ensures { OnOk result (cells.new.items ≡ cells.old.items ++ indicators self.now here rest.now) }
+        ensures { OnOk result (cells.new.items ≡ cells.old.items ++ signs_before self.now here run rest.now) }
     {
         let Some(first) = rest.first() else {
             return Ok(());
@@ -104,29 +104,57 @@ impl Table {
         let Some(info) = self.info(*first) else {
             return Ok(());
         };
-        self.push_signs(here, info, cells)
+        self.push_signs(here, run, info, cells)
     }
 
-    /// Appends the cells of the indicators before a character with this info to `cells`. After
-    /// `AllocError` some of them may be there.
+    /// Appends the cells of the indicators before a character with this info, which is in a run of
+    /// capitals or isn't, to `cells`. After `AllocError` some of them may be there.
     pub fn push_signs(
         &self,
         here: Context,
+        run: bool,
         info: &Info,
         cells: &mut Vec<Cell>,
     ) -> Result<(), AllocError>
-        ensures { OnOk result ((rest : List ℕ) → first_info self.now rest ≡ Some info.now →
-            cells.new.items ≡ cells.old.items ++ indicators self.now here rest) }
+        ensures { OnOk result (cells.new.items ≡ cells.old.items ++ signs_of self.now here run info.now) }
     {
-        if here.numeric && info.nocont {
-            cells.extend_from_slice(self.indicator(Sign::NoContractSign))?;
-        }
-        if info.literary && !here.numeric {
-            cells.extend_from_slice(self.indicator(Sign::NumSign))?;
-        }
-        if info.classes.intersects(Class::UPPERCASE) {
-            cells.extend_from_slice(self.indicator(Sign::CapsLetter))?;
+        self.push_sign(here, run, info, Sign::EndCapsWord, cells)?;
+        self.push_sign(here, run, info, Sign::NoContractSign, cells)?;
+        self.push_sign(here, run, info, Sign::NumSign, cells)?;
+        self.push_sign(here, run, info, Sign::BegCapsWord, cells)?;
+        self.push_sign(here, run, info, Sign::CapsLetter, cells)?;
+        Ok(())
+    }
+
+    /// Appends the cells of an indicator, if it is used there.
+    fn push_sign(
+        &self,
+        here: Context,
+        run: bool,
+        info: &Info,
+        sign: Sign,
+        cells: &mut Vec<Cell>,
+    ) -> Result<(), AllocError>
+        ensures { OnOk result (cells.new.items ≡ cells.old.items ++ used_cells self.now here run info.now sign) }
+    {
+        if is_used(here, run, info, sign) {
+            cells.extend_from_slice(self.indicator(sign))?;
         }
         Ok(())
+    }
+}
+
+/// Whether an indicator is used before a character with this info, which is in a run of capitals or
+/// isn't.
+fn is_used(here: Context, run: bool, info: &Info, sign: Sign) -> bool
+    ensures { result ≡ is_used here run info.now sign }
+{
+    let is_capital = info.classes.intersects(Class::UPPERCASE);
+    match sign {
+        Sign::EndCapsWord => here.run && info.classes.intersects(Class::LETTER) && !is_capital,
+        Sign::NoContractSign => here.numeric && info.nocont,
+        Sign::NumSign => info.literary && !here.numeric,
+        Sign::BegCapsWord => is_capital && run && !here.classes.intersects(Class::UPPERCASE),
+        Sign::CapsLetter => is_capital && !run,
     }
 }

@@ -55,6 +55,12 @@ A4 PairMissing pair 0 rule 0|uplow Aa 1|BRLCERT 2;state 1 0;state 24 0;state 40 
 A5 BothEnd pair 0|uplow Aa 1|BRLCERT 2;state 1 0;state 24 0;state 40 0;pair 1 2 -;pair 1 1 -;pair 2 2 -;pair 2 1 1;pair 1 1 1;pair 2 2 1;pair 1 2 1;end 3 7;
 K8 Truncated line 6|letter a 1|BRLCERT 2;state 1 0;state 8 0;state 8 0 b62*;pair 1 2 12;
 B1 OutsideProfile pass2 at t.ctb:1|pass2 @1 @2|BRLCERT 2;end 0 0;
+K9 OldVersion line 1|uplow Aa 1;capsletter 6;begcapsword 6-6;endcapsword 6-3|BRLCERT 2;end 0 0;
+K9 OldVersion line 1|uplow Aa 1;capsletter 6;begcapsword 6-6;endcapsword 6-3|BRLCERT 1;state 1 0 0 -;end 1 0;
+K8 Truncated line 2|uplow Aa 1;begcapsword 6-6|BRLCERT 2;
+A1 NoStart|uplow Aa 1;capsletter 6;begcapsword 6-6;endcapsword 6-3|BRLCERT 3;end 0 0;
+1 states, 0 pairs|begcapsword 6-6|BRLCERT 3;state 1 0 0;end 1 0;
+1 states, 0 pairs|endcapsword 6-6|BRLCERT 2;state 1 0;end 1 0;
 ";
 
 /// The start alone.

@@ -38,6 +38,23 @@ const STEPS_OF_CAPITALS: &str = "\
 4|b|12|24 0 0
 ";
 
+/// Word capitals: a capital is the first of a run, or stands alone.
+const WORD_CAPITALS: &str =
+    "uplow Aa 1; uplow Bb 12; capsletter 6; begcapsword 6-6; endcapsword 6-3; always ab 14";
+
+/// The steps of its start.
+const STEPS_OF_WORD_CAPITALS: &str = "\
+0|AB|6-6-14|40 0 1
+0|Ab|6-14|24 0 0
+0|ab|14|24 0 0
+1|A|6-6-1|40 0 0 n+32 b42*
+1|A|6-1|40 0 0 n-32 b62*
+2|a|1|24 0 0 b62*
+3|B|6-6-12|40 0 0 n+32
+3|B|6-12|40 0 0 n-32
+4|b|12|24 0 0
+";
+
 /// A certificate that lists this state alone.
 fn cert_of(alloc: Global, state: DuesState) -> Result<Cert, Fail> {
     let mut states = Members::new(alloc);
@@ -110,6 +127,7 @@ fn steps_of_starts(rt: HostRuntime) -> Result<(), Fail> {
     let alloc = rt.alloc();
     assert!(rt; has_steps(alloc, WORDS, STEPS_OF_WORDS)?);
     assert!(rt; has_steps(alloc, CAPITALS, STEPS_OF_CAPITALS)?);
+    assert!(rt; has_steps(alloc, WORD_CAPITALS, STEPS_OF_WORD_CAPITALS)?);
     assert!(rt; has_steps(alloc, "", "")?);
     Ok(())
 }

@@ -24,6 +24,9 @@ clashing|letter a 1; letter b 12; letter c 14; always ab 14
 clashing|space \\s 0; letter b 12; letter u 136; letter t 2345; word but 12
 clashing|letter a 1; litdigit 1 1; numsign 3456
 clashing|uplow Aa 1
+certified|uplow Aa 1; uplow Bb 12; uplow Cc 14; capsletter 6; begcapsword 6-6; endcapsword 6-3
+clashing|uplow Aa 1; uplow Bb 12; uplow Cc 14; capsletter 6; begcapsword 6-6
+clashing|uplow Aa 1; capsletter 6-1; begcapsword 6
 ";
 
 /// What `confirm` says of a clash's texts, in a word.

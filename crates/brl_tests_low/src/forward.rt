@@ -14,6 +14,9 @@ letter a 1; letter b 12; letter x 1-12; always ab 14|aab|1-14
 space \\s 0; letter b 12; letter u 136; letter t 2345; word but 12; word b 56-12|b but|56-12-0-12
 letter a 1; letter b 12; always ab 14; word ab 15|ab|14
 letter a 1; letter b 12; always a 14; always ab 15|ab|15
+uplow Aa 1; uplow Bb 12; capsletter 6; endcapsword 6-3|ABb|6-1-6-12-12
+uplow Aa 1; litdigit 2 12; numsign 3456; begcapsword 6-6; endcapsword 6-3|AA2A|6-6-1-1-3456-12-1
+uplow Aa 1; uplow \u{c4}a 1; begcapsword 6-6; always aa 14|\u{c4}A|6-6-14
 ";
 
 /// A table's lines, two texts and the dots of their clash, or nothing.
@@ -25,12 +28,15 @@ letter a 1; litdigit 1 1; numsign 3456|1a|11|3456-1-1
 letter a 1; litdigit 1 1; numsign 3456; nocontractsign 56; numericnocontchars a|1a|11|
 uplow Aa 1|A|a|1
 uplow Aa 1; uplow Bb 12; capsletter 6; always ab 14|A|a|
+uplow Aa 1; uplow Bb 12; uplow Cc 14; capsletter 6; begcapsword 6-6|ABc|ABC|6-6-1-12-14
+uplow Aa 1; uplow Bb 12; uplow Cc 14; capsletter 6; begcapsword 6-6; endcapsword 6-3|ABc|ABC|
 ";
 
 /// A table's lines, a text and its steps: start, rule, length, how many indicators, dots.
 const TRACES: &str = "\
 letter a 1; letter b 12; letter x 1-12; always ab 14|aab|0 1 1 0 1,1 0 2 0 14,
 uplow Aa 1; uplow Bb 12; capsletter 6; always ab 14|aB|0 2 1 0 1,1 3 1 1 6-12,
+uplow Aa 1; uplow Bb 12; capsletter 6; begcapsword 6-6; endcapsword 6-3; always ab 14|ABb|0 0 2 2 6-6-14,2 4 1 2 6-3-12,
 ";
 
 /// The dots of the translation of a text.

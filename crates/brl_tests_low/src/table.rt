@@ -43,6 +43,7 @@ litdigit a 12; letter a 1|a 12 12 literary at 1;
 letter a 1; letter A 2; uplow Aa 12|a 1 24 at 1;A 2 40 folds to a at 2;again A at 3;again a at 3;
 uplow Aa 1,12; uplow Ab 2|A 1 40 folds to a at 1;a 12 24 at 1;b 2 24 at 2;again A at 2;
 numericmodechars .; numericnocontchars a; letter a 1; punctuation . 2; capsign 6; numsign 3456|a 1 8 nocont at 3;. 2 2 mode at 4;CapsLetter 6;NumSign 3456;
+begcapsword 6-6; endcapsword 6-3|BegCapsWord 6-6;EndCapsWord 6-3;
 uplow Aa 1; uplow ab 2; always A =; nocontractsign 56|A 1 40 folds to a at 1;a 1 56 folds to b at 1;b 2 24 at 2;Always a 1 at 3;NoContractSign 56;again a at 2;
 ";
 
@@ -68,6 +69,9 @@ nofor always a\\x00 9|B3 BadCharacters a\\x00 at t.ctb:1
 letter a 1; nofor word aaaaaaaaaaaaaaaaaaaaaaaaaaaaaaaaa 1|B8 TooMany word at t.ctb:2
 numsign 6; numsign 6|B9 IndicatorTwice numsign at t.ctb:2
 capsletter 6; capsign 6|B9 IndicatorTwice capsign at t.ctb:2
+begcapsword 6; endcapsword 6; begcapsword 6|B9 IndicatorTwice begcapsword at t.ctb:3
+endcapsword 6; endcapsword 6|B9 IndicatorTwice endcapsword at t.ctb:2
+begcapsword|B2 MissingOperand begcapsword at t.ctb:1
 numericmodechars .|B6 UndefinedInList . at t.ctb:1
 litdigit 1 1; numericnocontchars 1|B7 TwoRoles 1 at t.ctb:2
 litdigit 1 1; numericnocontchars 1z|B6 UndefinedInList 1z at t.ctb:2
@@ -169,8 +173,17 @@ fn push_rule(alloc: Global, text: &mut String, rule: &Rule) -> Result<(), Fail> 
     Ok(())
 }
 
+/// The indicators.
+const SIGNS: [Sign; 5] = [
+    Sign::CapsLetter,
+    Sign::NumSign,
+    Sign::NoContractSign,
+    Sign::BegCapsWord,
+    Sign::EndCapsWord,
+];
+
 fn push_signs(alloc: Global, text: &mut String, table: &Table) -> Result<(), Fail> {
-    for sign in [Sign::CapsLetter, Sign::NumSign, Sign::NoContractSign] {
+    for sign in SIGNS {
         let cells = table.indicator(sign);
         if !cells.is_empty() {
             let dots = write_dots(alloc, cells)?;

@@ -51,6 +51,15 @@ t.ctb: letter a 1; litdigit 1 1; numsign 3456|brl,translate,t.ctb|11|#AA||0
 t.ctb: letter a 1; litdigit 1 1; numsign 3456; nocontractsign 56; numericnocontchars a|brl,translate,t.ctb|1a|#A;A||0
 t.ctb: uplow Aa 1; uplow Bb 12; capsletter 6; always ab 14|brl,translate,t.ctb|Ab|,C||0
 t.ctb: uplow Aa 1; uplow Bb 12; capsletter 6; always ab 14|brl,translate,t.ctb|aB|A,B||0
+t.ctb: uplow Aa 1; uplow Bb 12; uplow Cc 14; capsletter 6; begcapsword 6-6; endcapsword 6-3|brl,translate,t.ctb|ABc|,,AB,'C||0
+t.ctb: uplow Aa 1; uplow Bb 12; uplow Cc 14; capsletter 6; begcapsword 6-6; endcapsword 6-3|brl,translate,t.ctb|Ab|,AB||0
+t.ctb: uplow Aa 1; uplow Bb 12; uplow Cc 14; capsletter 6; begcapsword 6-6; endcapsword 6-3|brl,translate,t.ctb|aBC|A,,BC||0
+t.ctb: uplow Aa 1; uplow Bb 12; uplow Cc 14; capsletter 6; begcapsword 6-6; endcapsword 6-3|brl,translate,t.ctb|AbC|,AB,C||0
+t.ctb: uplow Aa 1; uplow Bb 12; uplow Cc 14; capsletter 6; begcapsword 6-6; endcapsword 6-3; always ab 1456|brl,translate,t.ctb|AB|,,?||0
+t.ctb: uplow Aa 1; uplow Bb 12; uplow Cc 14; capsletter 6; begcapsword 6-6; endcapsword 6-3; always ab 1456|brl,translate,t.ctb|Ab|,?||0
+t.ctb: uplow Aa 1; uplow Bb 12; uplow Cc 14; capsletter 6; begcapsword 6-6; endcapsword 6-3; always ab 1456|brl,translate,t.ctb|ABc|,,?,'C||0
+t.ctb: uplow Aa 1; uplow Bb 12; uplow Cc 14; capsletter 6; begcapsword 6-6; endcapsword 6-3; always bc 1456|brl,translate,t.ctb|aBc|A,?||0
+t.ctb: uplow Aa 1; uplow Bb 12; uplow Cc 14; capsletter 6; begcapsword 6-6; endcapsword 6-3; always bc 1456|brl,translate,t.ctb|ABc|,,AB,'C||0
 t.ctb: uplow Aa 1,12; capsign 6|brl,translate,t.ctb|Aa|,AB||0
 t.ctb: litdigit 1 1; numsign 3456; punctuation . 256|brl,translate,t.ctb|1.1|#A4#A||0
 t.ctb: litdigit 1 1; numsign 3456; punctuation . 256|brl,translate,t.ctb|.1|4#A||0
@@ -97,6 +106,7 @@ t.ctb: letter a 19|brl,clash,t.ctb,z,y|||B4 BadDots 19 at t.ctb:1|2
 t.ctb: letter a 1; letter b 12; letter c 14; always ab 14|brl,clash,t.ctb,ab,c||left: ab; right: c; cells: 14; left from 0:;   ab  14  t.ctb:4; right from 0:;   c  14  t.ctb:3||1
 t.ctb: space \\s 0; letter b 12; letter u 136; letter t 2345; word but 12|brl,clash,t.ctb,but,b||left: but; right: b; cells: 12; left from 0:;   but  12  t.ctb:5; right from 0:;   b  12  t.ctb:2||1
 t.ctb: letter a 1; letter b 12; letter x 1-12; always ab 14|brl,clash,t.ctb,ab,x||no clash||0
+t.ctb: uplow Aa 1; capsletter 6-1; begcapsword 6|brl,clash,t.ctb,A,AA||left: A; right: AA; cells: 6-1-1; left from 0:;   A  6-1-1  t.ctb:1; right from 0:;   A  6-1  t.ctb:1;   A  1    t.ctb:1||1
 t.ctb: letter a 1; letter b 12; letter x 1-12|brl,clash,t.ctb,,||no clash||0
 t.ctb: letter a 1; letter b 12; letter x 1-12|brl,clash,t.ctb,,a||no clash||0
 t.ctb: space \\s 1; punctuation \\\\ 1; space \\t 1; space \\x0001 1; letter \u{56fd} 1|brl,clash,t.ctb, ,\\||left: \\s; right: \\\\; cells: 1; left from 0:;   \\s  1  t.ctb:1; right from 0:;   \\\\  1  t.ctb:2||1
@@ -127,6 +137,8 @@ t.ctb: letter a 1 & c: BRLCERT 1; state 1 0 0 -; state 8 0 0 61; state 8 0 1 -; 
 t.ctb: letter a 1 & c: BRLCERT 9; state 1 0 0 -; state 8 0 0 61; state 8 0 1 -; pair 1 2 -; end 3 1|brl,check,t.ctb,c||refused: K1 Version line 1||1
 t.ctb: letter a 1 & c: BRLCERT 2; state 1 0 0 -; state 8 0 0 61; state 8 0 1 -; pair 1 2 -; end 3 1|brl,check,t.ctb,c||refused: K2 Syntax line 2||1
 t.ctb: # & c: BRLCERT 2; state 1 0; end 1 0|brl,check,t.ctb,c||accepted: 1 states, 0 pairs||0
+t.ctb: uplow Aa 1; uplow Bb 12; uplow Cc 14; capsletter 6; begcapsword 6-6; endcapsword 6-3 & c: BRLCERT 2; end 0 0|brl,check,t.ctb,c||refused: K9 OldVersion line 1||1
+t.ctb: uplow Aa 1; uplow Bb 12; uplow Cc 14; capsletter 6; begcapsword 6-6; endcapsword 6-3 & c: BRLCERT 3; end 0 0|brl,check,t.ctb,c||refused: A1 NoStart||1
 t.ctb: # & c: BRLCERT 3; state 1 0 0; end 1 0|brl,check,t.ctb,c||accepted: 1 states, 0 pairs||0
 t.ctb: letter a 1; letter b 12; letter x 1-12; always ab 14 & c: BRLCERT 2; state 1 0; state 8 0; state 8 0 b62*; pair 1 2 12; end 3 1|brl,check,t.ctb,c||accepted: 3 states, 1 pairs||0
 t.ctb: letter a 1; letter b 12; letter x 1-12 & c: BRLCERT 2; state 1 0; state 8 0; state 8 0 b62*; pair 1 2 12; end 3 1|brl,check,t.ctb,c||refused: A3 SplitMissing state 0 rules 0 2||1

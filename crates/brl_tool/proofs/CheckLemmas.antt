@@ -48,6 +48,7 @@ module _ (from to : MayGive) (moves : (p : List ℕ) (a : FileAnswer) → from p
   refused_moved : (path bytes : List ℕ) (fault : JudgeFault) → IsRefusedBy from path bytes fault → IsRefusedBy to path bytes fault
   refused_moved path bytes (judge.NoTable fault) h = fault_moved path fault h
   refused_moved path bytes (judge.Cert fault) h = (h.0, table_moved path h.0 h.1, h.2, h.3)
+  refused_moved path bytes judge.OldVersion h = (h.0, table_moved path h.0 h.1, h.2, h.3)
   refused_moved path bytes (judge.Wide fault) h = (h.0, table_moved path h.0 h.1, h.2, h.3)
   refused_moved path bytes (judge.Refused fault) h = (h.0, table_moved path h.0 h.1, h.2, h.3)
 
@@ -84,6 +85,7 @@ module _ (gives after : MayGive) (same : AllStay gives after) (path cert bytes :
   refused_as (failures.Fault (judge.NoTable (no_table.Load fault))) h result told = as_it_is (Load fault) result (inr (bytes, holds, h)) told
   refused_as (failures.Fault (judge.NoTable (no_table.Table fault))) h result told = as_it_is (Table fault) result (inr (bytes, holds, h)) told
   refused_as (failures.Fault (judge.Cert fault)) h result told = unless IsRefusal result told (λ answer is. (bytes, holds, inr (judge.Cert fault, tt, h, is)))
+  refused_as (failures.Fault judge.OldVersion) h result told = unless IsRefusal result told (λ answer is. (bytes, holds, inr (judge.OldVersion, tt, h, is)))
   refused_as (failures.Fault (judge.Wide fault)) h result told = as_it_is (Wide fault) result (inr (bytes, holds, h)) told
   refused_as (failures.Fault (judge.Refused fault)) h result told = unless IsRefusal result told (λ answer is. (bytes, holds, inr (judge.Refused fault, tt, h, is)))
   refused_as failures.Memory h result told = as_it_is Memory result (inr (bytes, holds, tt)) told

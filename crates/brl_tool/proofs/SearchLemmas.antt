@@ -19,7 +19,7 @@ verdict_of : (t : TableView) (limit : ℕ) (out : List ℕ) (search : Found) (ce
 verdict_of t limit out (found.Certified (Word body)) cert answer same is at =
     let it : cert ≡ Word body = cc in
     let at_it : IsCertificateAt out (Word body) answer = subst (λ (c : Cert). IsCertificateAt out c answer) it at in
-    inl (is.unambiguous, (body, record { closed = is.closed; states = is.states; pairs = is.pairs; within = is.within; order = is.order }, (Word body, at_it.3, (tt, is.closed, refl)), at_it))
+    inl (is.unambiguous, (body, record { closed = is.closed; states = is.states; pairs = is.pairs; within = is.within; order = is.order }, (Word body, at_it.3, (tt, (tt, is.closed, refl))), at_it))
 verdict_of t limit out (found.Certified (Dues body)) cert answer same is at = absurd is.unambiguous
 verdict_of t limit out (found.Certified (Window body)) cert answer same is at = absurd is.unambiguous
 verdict_of t limit out (found.Clashing clash) cert answer same is at = cc

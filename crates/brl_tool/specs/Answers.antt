@@ -115,6 +115,7 @@ IsRefusal answer = (rest : List ℕ) × Says Refuted (codes "refused: " ++ rest)
 -- the fault is the certificate's, and not the table's
 abbrev pub IsOfCertificate : JudgeFault → Type 0
 IsOfCertificate (judge.Cert fault) = Unit {0}
+IsOfCertificate judge.OldVersion = Unit {0}
 IsOfCertificate (judge.Refused fault) = Unit {0}
 IsOfCertificate fault = ⊥
 

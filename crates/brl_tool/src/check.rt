@@ -71,6 +71,7 @@ fn judgement(
         Ok(accepted) => acceptance(alloc, accepted),
         Err(Failure::Fault(JudgeFault::NoTable(fault))) => Err(Failure::Fault(fault).into()),
         Err(Failure::Fault(JudgeFault::Cert(fault))) => refusal(alloc, &fault),
+        Err(Failure::Fault(JudgeFault::OldVersion)) => refusal(alloc, &JudgeFault::OldVersion),
         Err(Failure::Fault(JudgeFault::Wide(fault))) => Err(RunFault::Wide(fault)),
         Err(Failure::Fault(JudgeFault::Refused(fault))) => refusal(alloc, &fault),
         Err(Failure::Memory) => Err(RunFault::Memory),

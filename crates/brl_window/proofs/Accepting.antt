@@ -9,7 +9,7 @@ use Rattle.brl_table.specs.declared.rule.Rule.{Rule}
 use Rattle.brl_table.specs.declared.rule.Info.{Info}
 use Rattle.brl_table.specs.declared.context.Context.{Context}
 use Rattle.brl_table.specs.Choice.{chosen}
-use Rattle.brl_table.specs.Indicators.{indicators}
+use Rattle.brl_table.specs.Indicators.{indicators, signs_before}
 use Rattle.brl_table.specs.Rest.{translation_of_rest}
 use Rattle.brl_table.specs.TableView.{TableView}
 use Rattle.brl_table.specs.Text.{context_behind_all, is_defined, is_text}
@@ -19,12 +19,16 @@ use Rattle.brl_window.specs.declared.state.WindowState.{WindowState}
 use Rattle.brl_window.specs.Windows.{longest, width, Window, windows_on, windows, window_step, steps_at, context_of, steps_found, window_steps, first_state, window_machine}
 use Rattle.brl_window.proofs.Kept.{Choosing, Translating, chosen-Takes}
 use Rattle.brl_window.proofs.Listing.{IsIn, in-flat_map, in-at, in-by_rule_number}
-use Rattle.brl_window.proofs.Longer.{chosen-more}
+use Rattle.brl_window.proofs.Longer.{chosen-more, run-more}
 
 -- rules are no longer than the longest
 longest-AllByRecursion : (rules : List Rule) (n : ℕ) → longest rules < n → AllByRecursion (λ r. length r.chars < n) rules
 longest-AllByRecursion [] n h = tt
 longest-AllByRecursion (r ∷ rs) n h = ((let a : length r.chars < n = omega (arith, h) in a), longest-AllByRecursion rs n (omega (arith, h)))
+
+longest-some : (rules : List Rule) → 1 ≤ longest rules
+longest-some [] = omega arith
+longest-some (r ∷ rules) = omega (arith, longest-some rules)
 
 -- a character that the table defines is in its alphabet
 pub defined-in : (entries : List (ℕ × Info)) (c : ℕ) → is_some (lookup (nat_eq c) entries) ≡ true → IsIn c (map (λ e. e.0) entries)
@@ -119,7 +123,13 @@ pub record Steps (t : TableView) (here : Context) (rest : List ℕ) (w : Window)
 same-choice : (t : TableView) (here : Context) (b : Bool) (x : ℕ) (xs left : List ℕ) → (b ≡ true → left ≡ []) → (b ≡ false → longest t.rules < length (x ∷ xs))
     → chosen t here.classes (x ∷ (xs ++ left)) ≡ chosen t here.classes (x ∷ xs)
 same-choice t here true x xs left all enough = ap (λ l. chosen t here.classes (x ∷ l)) (ap (λ l. xs ++ l) (all refl) ∙ append-nil xs)
-same-choice t here false x xs left all enough = chosen-more t here.classes x xs left (longest-AllByRecursion t.rules (length (x ∷ xs)) (enough refl))
+same-choice t here false x xs left all enough = chosen-more t here.classes x xs left (omega (arith, enough refl, longest-some t.rules)) (longest-AllByRecursion t.rules (length (x ∷ xs)) (enough refl))
+
+same-signs : (t : TableView) (here : Context) (b : Bool) (x : ℕ) (xs left : List ℕ) → (b ≡ true → left ≡ []) → (b ≡ false → longest t.rules < length (x ∷ xs))
+    → indicators t here (x ∷ (xs ++ left)) ≡ indicators t here (x ∷ xs)
+same-signs t here true x xs left all enough = ap (λ l. indicators t here (x ∷ l)) (ap (λ l. xs ++ l) (all refl) ∙ append-nil xs)
+same-signs t here false x xs left all enough =
+    ap (λ run. signs_before t here run (x ∷ xs)) (run-more t here.classes x xs left (omega (arith, enough refl, longest-some t.rules)))
 
 same-step : (t : TableView) → Choosing t → (here : Context) (b : Bool) (x : ℕ) (xs left : List ℕ) → (b ≡ true → left ≡ []) → (b ≡ false → longest t.rules < length (x ∷ xs))
     → Steps t here (x ∷ (xs ++ left)) (record { known = x ∷ xs; ended = b }) left
@@ -129,7 +139,7 @@ same-step t choosing here b x xs left all enough =
     let takes = chosen-Takes t choosing here.classes x xs in
     record {
       choice = e;
-      signs = refl;
+      signs = same-signs t here b x xs left all enough;
       taken = ap (λ c. take c.taken (x ∷ (xs ++ left))) e ∙ take-append-le n (x ∷ xs) left takes.room;
       behind = ap (λ c. drop c.taken (x ∷ (xs ++ left))) e ∙ drop-append-le n (x ∷ xs) left takes.room;
     }
@@ -180,7 +190,7 @@ path-at t choosing translating n s b x xs left on short defined is_one all enoug
     let law = translating.rule here rest (omega arith) in
     let behind : context_behind_all t here (take taken rest) ≡ context_of step.next = ap (context_behind_all t here) same.taken in
     let cells : step.cells ≡ indicators t here rest ++ (chosen t here.classes rest).cells =
-    ap (λ c. indicators t here rest ++ c.cells) (sym same.choice) in (
+    ap (λ signs. signs ++ (chosen t here.classes w.known).cells) (sym same.signs) ∙ ap (λ c. indicators t here rest ++ c.cells) (sym same.choice) in (
       step ∷ path.0,
       (in-at step (window_steps t s) (step-in t s x xs b defined.0 is_one), path.1),
       ap (λ l. step.reads ++ l) path.2 ∙ ap (λ l. l ++ more) (sym same.taken) ∙ take-append-drop taken rest,

@@ -1,14 +1,15 @@
 -- Which rule is chosen depends on the next characters alone, as many as the longest rule has and
--- one more.
-use Rattle.std.proofs.Common.{ℕ, zero, suc, ◌+◌, ◌<◌, ◌≤◌, ◌≡◌, ◌&&◌, List, [], ◌∷◌, ◌++◌, length, refl, arith, cond, nat_eq, ◌∙◌, ap}
-use Rattle.std.specs.List.{starts_with, slice_get, AllByRecursion}
+-- one more; whether they begin in a run of capitals depends on two.
+use Rattle.std.proofs.Common.{ℕ, zero, suc, ◌+◌, ◌<◌, ◌≤◌, ◌≡◌, Bool, true, false, ◌&&◌, List, [], ◌∷◌, ◌++◌, length, map, refl, arith, cond, nat_eq, sym, ◌∙◌, ap}
+use Rattle.std.proofs.lemmas.List.Sums.{take_while-cons}
+use Rattle.std.specs.List.{starts_with, slice_get, take_while, AllByRecursion}
 use Rattle.std.specs.Option.{option_map_or}
 use Rattle.brl_table.specs.declared.class.Class.{Class}
 use Rattle.brl_table.specs.declared.rule.Rule.{Rule}
 use Rattle.brl_table.specs.TableView.{TableView}
 use Rattle.brl_table.specs.Places.{space, holds, before_of, after_of}
-use Rattle.brl_table.specs.Choice.{by_rule, matches, fits, first_fitting, chosen}
-use Rattle.brl_table.specs.Text.{fold_of, classes_of, classes_at}
+use Rattle.brl_table.specs.Choice.{by_rule, folds_of_capitals, matches, fits, first_fitting, chosen}
+use Rattle.brl_table.specs.Text.{fold_of, classes_of, classes_at, is_capital, is_in_run}
 
 -- what is asked of the known characters: more than the rule has, or all that there are
 starts_with-more : (xs ys chars : List ℕ) → length chars ≤ length xs → starts_with nat_eq (xs ++ ys) chars ≡ starts_with nat_eq xs chars
@@ -21,25 +22,58 @@ slice_get-more [] ys k h = absurd (omega (arith, h))
 slice_get-more (x ∷ xs) ys zero h = refl
 slice_get-more (x ∷ xs) ys (suc k) h = slice_get-more xs ys k (omega (arith, h))
 
-matches-more : (t : TableView) (x : ℕ) (xs ys chars : List ℕ) → length chars < length (x ∷ xs) → matches t (x ∷ xs ++ ys) chars ≡ matches t (x ∷ xs) chars
-matches-more t x xs ys [] h = refl
-matches-more t x xs ys (c ∷ cs) h = ap (λ b. nat_eq (fold_of t x) c && b) (starts_with-more xs ys cs (omega (arith, h)))
+-- the folds of the capitals with which characters begin
+mapped : (t : TableView) (c : ℕ) (rest : List ℕ) (b : Bool)
+    → map (fold_of t) (cond b (c ∷ take_while (λ c. is_capital (classes_of t c)) rest) []) ≡ cond b (fold_of t c ∷ folds_of_capitals t rest) []
+mapped t c rest true = refl
+mapped t c rest false = refl
 
-fits-more : (t : TableView) (before : Class) (x : ℕ) (xs ys : List ℕ) (r : Rule) → length r.chars < length (x ∷ xs) → fits t before (x ∷ (xs ++ ys)) r ≡ fits t before (x ∷ xs) r
-fits-more t before x xs ys r h =
-    let m = matches-more t x xs ys r.chars h in
+folds-cons : (t : TableView) (c : ℕ) (rest : List ℕ)
+    → folds_of_capitals t (c ∷ rest) ≡ cond (is_capital (classes_of t c)) (fold_of t c ∷ folds_of_capitals t rest) []
+folds-cons t c rest = ap (map (fold_of t)) (take_while-cons (λ c. is_capital (classes_of t c)) c rest) ∙ mapped t c rest (is_capital (classes_of t c))
+
+folds-more : (t : TableView) (xs ys chars : List ℕ) → length chars ≤ length xs
+    → starts_with nat_eq (folds_of_capitals t (xs ++ ys)) chars ≡ starts_with nat_eq (folds_of_capitals t xs) chars
+folds-more t xs ys [] h = refl
+folds-more t [] ys (c ∷ cs) h = absurd (omega (arith, h))
+folds-more t (x ∷ xs) ys (c ∷ cs) h =
+    ap (λ l. starts_with nat_eq l (c ∷ cs)) (folds-cons t x (xs ++ ys)) ∙ cases (is_capital (classes_of t x)) (folds-more t xs ys cs (omega (arith, h)))
+    ∙ sym (ap (λ l. starts_with nat_eq l (c ∷ cs)) (folds-cons t x xs))
+  where
+    cases : (b : Bool) → starts_with nat_eq (folds_of_capitals t (xs ++ ys)) cs ≡ starts_with nat_eq (folds_of_capitals t xs) cs
+        → starts_with nat_eq (cond b (fold_of t x ∷ folds_of_capitals t (xs ++ ys)) []) (c ∷ cs) ≡ starts_with nat_eq (cond b (fold_of t x ∷ folds_of_capitals t xs) []) (c ∷ cs)
+    cases true more = ap (λ b. nat_eq c (fold_of t x) && b) more
+    cases false more = refl
+
+matches-more : (t : TableView) (run : Bool) (x : ℕ) (xs ys chars : List ℕ) → length chars < length (x ∷ xs)
+    → matches t run (x ∷ (xs ++ ys)) chars ≡ matches t run (x ∷ xs) chars
+matches-more t run x xs ys [] h = refl
+matches-more t false x xs ys (c ∷ cs) h = ap (λ b. nat_eq c (fold_of t x) && b) (starts_with-more xs ys cs (omega (arith, h)))
+matches-more t true x xs ys (c ∷ cs) h = ap (λ b. nat_eq c (fold_of t x) && b) (folds-more t xs ys cs (omega (arith, h)))
+
+-- whether these begin in a run of capitals, by two of them
+pub run-more : (t : TableView) (before : Class) (x : ℕ) (xs ys : List ℕ) → 2 ≤ length (x ∷ xs) → is_in_run t before (x ∷ (xs ++ ys)) ≡ is_in_run t before (x ∷ xs)
+run-more t before x [] ys h = absurd (omega (arith, h))
+run-more t before x (y ∷ xs) ys h = refl
+
+fits-more : (t : TableView) (before : Class) (x : ℕ) (xs ys : List ℕ) (r : Rule) → 2 ≤ length (x ∷ xs) → length r.chars < length (x ∷ xs)
+    → fits t before (x ∷ (xs ++ ys)) r ≡ fits t before (x ∷ xs) r
+fits-more t before x xs ys r two h =
+    let run = is_in_run t before (x ∷ xs) in
+    let m : matches t (is_in_run t before (x ∷ (xs ++ ys))) (x ∷ (xs ++ ys)) r.chars ≡ matches t run (x ∷ xs) r.chars =
+    ap (λ run. matches t run (x ∷ (xs ++ ys)) r.chars) (run-more t before x xs ys two) ∙ matches-more t run x xs ys r.chars h in
     let g : classes_at t (x ∷ (xs ++ ys)) (length r.chars) ≡ classes_at t (x ∷ xs) (length r.chars) =
     ap (λ o. option_map_or (classes_of t) o space) (slice_get-more (x ∷ xs) ys (length r.chars) h) in
     ap (λ b. b && holds (before_of r.place) before && holds (after_of r.place before) (classes_at t (x ∷ (xs ++ ys)) (length r.chars))) m
-    ∙ ap (λ k. matches t (x ∷ xs) r.chars && holds (before_of r.place) before && holds (after_of r.place before) k) g
+    ∙ ap (λ k. matches t run (x ∷ xs) r.chars && holds (before_of r.place) before && holds (after_of r.place before) k) g
 
-first_fitting-more : (t : TableView) (before : Class) (x : ℕ) (xs ys : List ℕ) (n : ℕ) (rules : List Rule) → AllByRecursion (λ r. length r.chars < length (x ∷ xs)) rules
+first_fitting-more : (t : TableView) (before : Class) (x : ℕ) (xs ys : List ℕ) (n : ℕ) (rules : List Rule) → 2 ≤ length (x ∷ xs) → AllByRecursion (λ r. length r.chars < length (x ∷ xs)) rules
     → first_fitting t before (x ∷ (xs ++ ys)) n rules ≡ first_fitting t before (x ∷ xs) n rules
-first_fitting-more t before x xs ys n [] h = refl
-first_fitting-more t before x xs ys n (r ∷ rs) h =
-    ap (λ b. cond b (by_rule n r) (first_fitting t before (x ∷ (xs ++ ys)) (n + 1) rs)) (fits-more t before x xs ys r h.0)
-    ∙ ap (cond (fits t before (x ∷ xs) r) (by_rule n r)) (first_fitting-more t before x xs ys (n + 1) rs h.1)
+first_fitting-more t before x xs ys n [] two h = refl
+first_fitting-more t before x xs ys n (r ∷ rs) two h =
+    ap (λ b. cond b (by_rule n r) (first_fitting t before (x ∷ (xs ++ ys)) (n + 1) rs)) (fits-more t before x xs ys r two h.0)
+    ∙ ap (cond (fits t before (x ∷ xs) r) (by_rule n r)) (first_fitting-more t before x xs ys (n + 1) rs two h.1)
 
-pub chosen-more : (t : TableView) (before : Class) (x : ℕ) (xs ys : List ℕ) → AllByRecursion (λ r. length r.chars < length (x ∷ xs)) t.rules
+pub chosen-more : (t : TableView) (before : Class) (x : ℕ) (xs ys : List ℕ) → 2 ≤ length (x ∷ xs) → AllByRecursion (λ r. length r.chars < length (x ∷ xs)) t.rules
     → chosen t before (x ∷ (xs ++ ys)) ≡ chosen t before (x ∷ xs)
-chosen-more t before x xs ys h = first_fitting-more t before x xs ys 0 t.rules h
+chosen-more t before x xs ys two h = first_fitting-more t before x xs ys 0 t.rules two h

@@ -1,5 +1,5 @@
 -- The steps of a window machine are good and in order, and none is listed twice.
-use Rattle.std.proofs.Common.{ℕ, zero, suc, ◌+◌, ◌-◌, ◌≤◌, ◌≡◌, ◌≢◌, Bool, true, false, ◌&&◌, not, List, [], ◌∷◌, ◌++◌, length, refl, arith, cond, sym, ◌∙◌, ap, subst, Some, is_some, inl, inr, nat_eq, nat_le, length-append, append_assoc, append-nil, slice_get}
+use Rattle.std.proofs.Common.{ℕ, zero, suc, ◌+◌, ◌-◌, ◌≤◌, ◌≡◌, ◌≢◌, Bool, true, false, List, [], ◌∷◌, ◌++◌, length, refl, arith, cond, sym, ◌∙◌, ap, subst, Option, Some, None, is_some, inl, inr, nat_eq, nat_le, length-append, append_assoc, append-nil, slice_get}
 use Rattle.std.proofs.lemmas.List.{take-append-drop, length-take-le, append_cancel_left}
 use Rattle.std.proofs.lemmas.Bool.Decides.{nat_tests}
 use Rattle.std.specs.List.{flat_map, AllByRecursion}
@@ -10,12 +10,13 @@ use Rattle.brl_table.specs.declared.class.Class.{Class}
 use Rattle.brl_table.specs.declared.rule.Rule.{Rule}
 use Rattle.brl_table.specs.declared.rule.Info.{Info}
 use Rattle.brl_table.specs.declared.context.Context.{Context}
-use Rattle.brl_table.specs.declared.signs.Sign.TheVariants.{CapsLetter, NumSign, NoContractSign}
+use Rattle.brl_table.specs.declared.signs.Sign.TheVariants.{CapsLetter, NumSign, NoContractSign, BegCapsWord, EndCapsWord}
 use Rattle.brl_table.specs.Choice.{Choice, by_rule, chosen, own, first_fitting, fits}
-use Rattle.brl_table.specs.Indicators.{indicators, when}
-use Rattle.brl_table.specs.Places.{share, uppercase}
+use Rattle.brl_table.specs.declared.signs.Sign.{Sign}
+use Rattle.brl_table.specs.Infos.{first_info}
+use Rattle.brl_table.specs.Indicators.{indicators, is_used, signs_of, used_cells}
 use Rattle.brl_table.specs.TableView.{TableView, sign_cells}
-use Rattle.brl_table.specs.Text.{is_defined, is_nocont, is_literary, classes_of}
+use Rattle.brl_table.specs.Text.{is_defined, is_in_run}
 use Rattle.brl_pairs.specs.declared.step.Step.{Step}
 use Rattle.brl_pairs.specs.Runs.{IsListed, IsGoodStep, IsInOrder}
 use Rattle.brl_window.specs.declared.state.WindowState.{WindowState}
@@ -44,20 +45,28 @@ first-Within t before c rest n [] h o = o
 first-Within t before c rest n (r ∷ rs) h o =
     cond-Within (fits t before (c ∷ rest) r) (by_rule n r) (first_fitting t before (c ∷ rest) (n + 1) rs) h.0 (first-Within t before c rest (n + 1) rs h.1 o)
 
-when-most : (b : Bool) (cells : List ℕ) → length cells ≤ 16 → length (when b cells) ≤ 16
-when-most true cells h = h
-when-most false cells h = omega arith
+used-most : (b : Bool) (cells : List ℕ) → length cells ≤ 16 → length (cond b cells []) ≤ 16
+used-most true cells h = h
+used-most false cells h = omega arith
 
-signs-most : (t : TableView) (here : Context) (c : ℕ) (rest : List ℕ) → Keeps t → length (indicators t here (c ∷ rest)) ≤ 48
-signs-most t here c rest valid = three
-    (when (here.numeric && is_nocont t c) (sign_cells t NoContractSign)) (when (is_literary t c && not here.numeric) (sign_cells t NumSign))
-    (when (share (classes_of t c) uppercase) (sign_cells t CapsLetter))
-    (when-most (here.numeric && is_nocont t c) (sign_cells t NoContractSign) (valid.signs_cells NoContractSign))
-    (when-most (is_literary t c && not here.numeric) (sign_cells t NumSign) (valid.signs_cells NumSign))
-    (when-most (share (classes_of t c) uppercase) (sign_cells t CapsLetter) (valid.signs_cells CapsLetter))
+signs-most : (t : TableView) (here : Context) (rest : List ℕ) → Keeps t → length (indicators t here rest) ≤ 80
+signs-most t here rest valid = of_info (first_info t rest)
   where
-    three : (xs ys zs : List ℕ) → length xs ≤ 16 → length ys ≤ 16 → length zs ≤ 16 → length (xs ++ ys ++ zs) ≤ 48
-    three xs ys zs a b c = grind (arith, length-append)
+    run : Bool
+    run = is_in_run t here.classes rest
+
+    used : Info → Sign → List ℕ
+    used info sign = used_cells t here run info sign
+
+    most : (info : Info) (sign : Sign) → length (used info sign) ≤ 16
+    most info sign = used-most (is_used here run info sign) (sign_cells t sign) (valid.signs_cells sign)
+
+    five : (a b c d e : List ℕ) → length a ≤ 16 → length b ≤ 16 → length c ≤ 16 → length d ≤ 16 → length e ≤ 16 → length (a ++ (b ++ (c ++ (d ++ (e ++ []))))) ≤ 80
+    five a b c d e ha hb hc hd he = grind (arith, length-append)
+
+    of_info : (info : Option Info) → length (option_map_or (signs_of t here run) info []) ≤ 80
+    of_info None = omega arith
+    of_info (Some info) = five (used info EndCapsWord) (used info NoContractSign) (used info NumSign) (used info BegCapsWord) (used info CapsLetter) (most info EndCapsWord) (most info NoContractSign) (most info NumSign) (most info BegCapsWord) (most info CapsLetter)
 
 -- the step of a window whose first character is defined
 good-step : (t : TableView) (here : Context) (x : ℕ) (xs : List ℕ) (b : Bool) → Keeps t → Choosing t → is_defined t x ≡ true
@@ -65,7 +74,7 @@ good-step : (t : TableView) (here : Context) (x : ℕ) (xs : List ℕ) (b : Bool
 good-step t here x xs b valid choosing d =
     let cells = first-Within t here.classes x xs 0 t.rules valid.rule_cells (found-cells t.characters x valid.own_cells d) in
     let takes = chosen-Takes t choosing here.classes x xs in
-    let signs = signs-most t here x xs valid in
+    let signs = signs-most t here (x ∷ xs) valid in
     let long = length-append (indicators t here (x ∷ xs)) (chosen t here.classes (x ∷ xs)).cells in
     let read = length-take-le (chosen t here.classes (x ∷ xs)).taken (x ∷ xs) takes.room in
     record {

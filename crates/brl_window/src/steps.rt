@@ -106,7 +106,8 @@ fn step_of(
     let (reads, coming) = known.split_at(choice.taken);
     let behind = table.context_behind(here, reads);
     let mut cells = Vec::new(alloc);
-    table.push_indicators(here, known, &mut cells)?;
+    let run = table.is_in_run(here.classes, known);
+    table.push_indicators(here, run, known, &mut cells)?;
     cells.extend_from_slice(choice.cells)?;
     Ok(Step {
         rule: choice.number,

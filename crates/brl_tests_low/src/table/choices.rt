@@ -1,6 +1,7 @@
 //! Which rule a table takes in front of a text's rest, by number; and as many rules as a table may have.
 use super::shown;
-use brl_table::{Class, Context, Rule, Table, holds};
+use bitflags::Flags;
+use brl_table::{Class, Context, Rule, Sign, Table, holds};
 use brl_testing::{agree, chars, cut, with_table};
 use std::alloc::Global;
 use std::test::Fail;
@@ -70,20 +71,28 @@ const SEVERAL_PLACES: &str = "\
 uplow Aa 1; letter b 12; punctuation . 256; always ab 14; word ab 15; begword a 16; midword ba 24; endword bb 25; \
 always aab 26; partword ba 34; midendword b 35; sufword abb 36; prfword a 45; begmidword bab 46; word a. 56; always .. 2";
 
+/// The same, with word capitals.
+const SEVERAL_PLACES_WITH_RUNS: &str = "\
+uplow Aa 1; uplow Bb 12; punctuation . 256; always ab 14; word ab 15; begword a 16; midword ba 24; endword bb 25; \
+always aab 26; partword ba 34; midendword b 35; sufword abb 36; prfword a 45; begmidword bab 46; begcapsword 6";
+
 /// The characters of the texts that are compared.
 const LETTERS: [char; 4] = ['a', 'A', 'b', '.'];
+
+/// Those of the texts with word capitals.
+const CAPITALS: [char; 4] = ['a', 'A', 'B', '.'];
 
 /// How many texts of up to four of them there are.
 const TEXTS: u32 = 1 + 4 + 16 + 64 + 256;
 
-/// The text with this number.
-fn text_of(alloc: Global, number: u32) -> Result<Vec<char>, Fail> {
+/// The text of these characters with this number.
+fn text_of(alloc: Global, letters: [char; 4], number: u32) -> Result<Vec<char>, Fail> {
     let mut text = Vec::new(alloc);
     let mut left = number;
     for _ in 0..4 {
         if left > 0 {
             left -= 1;
-            text.push(LETTERS[left as usize % 4])?;
+            text.push(letters[left as usize % 4])?;
             left /= 4;
         }
     }
@@ -112,6 +121,35 @@ fn begins_with(rest: &[char], fold: char, rule: &Rule) -> bool {
             .is_some_and(|behind| behind.starts_with(others))
 }
 
+/// Whether a character is a capital.
+fn is_capital(table: &Table, character: Option<&char>) -> bool {
+    classes_of(table, character).intersects(Class::UPPERCASE)
+}
+
+/// Whether a rest begins in a run of capitals.
+fn begins_in_run(table: &Table, before: Class, rest: &[char]) -> bool {
+    let is_beside = before.intersects(Class::UPPERCASE) || is_capital(table, rest.get(1));
+    !table.indicator(Sign::BegCapsWord).is_empty() && is_capital(table, rest.first()) && is_beside
+}
+
+/// Whether a character is a capital with this fold.
+fn is_capital_of(table: &Table, character: Option<&char>, fold: char) -> bool {
+    let Some(info) = character.and_then(|character| table.info(*character)) else {
+        return false;
+    };
+    info.classes.intersects(Class::UPPERCASE) && info.fold == fold
+}
+
+/// Whether capitals with these folds are in front of a rest.
+fn begins_with_capitals(table: &Table, rest: &[char], folds: &[char]) -> bool {
+    for (place, fold) in folds.iter().enumerate() {
+        if !is_capital_of(table, rest.get(place), *fold) {
+            return false;
+        }
+    }
+    true
+}
+
 /// Whether what the place of a rule asks of its neighbours holds.
 fn may_stand(table: &Table, before: Class, rest: &[char], rule: &Rule) -> bool {
     let after = classes_of(table, rest.get(rule.chars.len()));
@@ -122,24 +160,31 @@ fn may_stand(table: &Table, before: Class, rest: &[char], rule: &Rule) -> bool {
 fn plainly_chosen(table: &Table, before: Class, rest: &[char]) -> Option<u32> {
     let info = table.info(*rest.first()?)?;
     for (place, rule) in table.rules_in_rank().iter().enumerate() {
-        if begins_with(rest, info.fold, rule) && may_stand(table, before, rest, rule) {
+        let begins = if begins_in_run(table, before, rest) {
+            begins_with_capitals(table, rest, rule.chars.as_slice())
+        } else {
+            begins_with(rest, info.fold, rule)
+        };
+        if begins && may_stand(table, before, rest, rule) {
             return Some(place as u32);
         }
     }
     Some(table.rules_in_rank().len() as u32 + info.number)
 }
 
-/// Whether the same rule is found at the start of a text and after a letter.
+/// Whether the same rule is found at the start of a text, after a letter, and after a capital.
 fn has_plain_choices(table: &Table, rest: &[char]) -> bool {
+    let capital = Class::LETTER.union(Class::UPPERCASE);
     table.choose(Class::SPACE, rest) == plainly_chosen(table, Class::SPACE, rest)
         && table.choose(Class::LETTER, rest) == plainly_chosen(table, Class::LETTER, rest)
+        && table.choose(capital, rest) == plainly_chosen(table, capital, rest)
 }
 
 /// The numbers of the texts for which `choose` and the plain search disagree.
-fn differences(alloc: Global, table: &Table) -> Result<String, Fail> {
+fn differences(alloc: Global, letters: [char; 4], table: &Table) -> Result<String, Fail> {
     let mut differences = Vec::new(alloc);
     for number in 0..TEXTS {
-        let rest = text_of(alloc, number)?;
+        let rest = text_of(alloc, letters, number)?;
         if !has_plain_choices(table, rest.as_slice()) {
             differences.push(number)?;
         }
@@ -150,6 +195,12 @@ fn differences(alloc: Global, table: &Table) -> Result<String, Fail> {
 #[test]
 fn choices_are_the_first_rules_in_rank_that_fit(rt: HostRuntime) -> Result<(), Fail> {
     let alloc = rt.alloc();
-    let given = with_table(alloc, SEVERAL_PLACES, |table| differences(alloc, table))?;
-    agree("all texts", given.as_str(), "[]")
+    for (lines, letters) in [
+        (SEVERAL_PLACES, LETTERS),
+        (SEVERAL_PLACES_WITH_RUNS, CAPITALS),
+    ] {
+        let given = with_table(alloc, lines, |table| differences(alloc, letters, table))?;
+        agree(lines, given.as_str(), "[]")?;
+    }
+    Ok(())
 }

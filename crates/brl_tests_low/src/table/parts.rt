@@ -125,7 +125,7 @@ fn choices_of_a_table(rt: HostRuntime) -> Result<(), Fail> {
 fn needs_no_indicator(alloc: Global, table: &Table) -> Result<bool, Fail> {
     let here = table.context_behind(Context::START, &['a']);
     let mut cells = Vec::new(alloc);
-    table.push_indicators(here, &['a'], &mut cells)?;
+    table.push_indicators(here, false, &['a'], &mut cells)?;
     Ok(here.classes == Class::LETTER && cells.is_empty())
 }
 

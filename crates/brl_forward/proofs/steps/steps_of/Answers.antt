@@ -1,10 +1,10 @@
-use Rattle.std.proofs.Common.{◌≡◌, ◌+◌, ◌-◌, ◌<◌, ◌≤◌, ◌∙◌, ap, arith, drop, length, length-drop, refl, take}
+use Rattle.std.proofs.Common.{◌≡◌, ◌+◌, ◌-◌, ◌<◌, ◌≤◌, ◌∙◌, ap, arith, drop, length, length-drop, refl, rules, take}
 use Rattle.std.proofs.lemmas.List.{take_rest}
 use Rattle.brl_table.specs.Infos.{first_info}
 use Rattle.brl_table.specs.Text.{context_at, context_behind_all}
 use Rattle.brl_forward.specs.Trace.{step_before}
 use Rattle.brl_forward.proofs.InfoLists.{first_info-at, infos-taken, length-infos}
-use Rattle.brl_forward.proofs.StepLoop.{none_yet, step_more}
+use Rattle.brl_forward.proofs.StepLoop.{no_more, none_yet, step_more}
 use Rattle.brl_forward.proofs.steps.steps_of.Goals as goal
 
 pub loop-info-init : goal.loop-info-init
@@ -43,3 +43,9 @@ loop-info-preserved c =
           ∙ c.translation_laws.ensures.context t text start n room;
       within = omega (arith, room, length-drop start text, c.loop-info.invariant.within);
     }
+
+pub returns : goal.returns
+returns c =
+    let ended : length c.args.infos.now ≤ c.loop-info.start = search rules in
+    let past : length c.args.text.now ≤ c.loop-info.start = omega (arith, ended, length-infos c.args.table.now c.args.text.now c.args.infos.now c.requires) in
+    no_more c.args.table.now c.args.text.now c.loop-info.start _ _ past c.loop-info.invariant.so_far

@@ -5,9 +5,11 @@ use Rattle.brl_table.proofs.FirstInfo.{first_info-got, chosen-undefined}
 use Rattle.brl_table.proofs.table.Table.choice.Goals as goal
 
 pub choice_of-requires : goal.choice_of-requires
-choice_of-requires c =
-    first_info-got c.args.self.now c.args.rest.now c.index-rest-0.result c.requires
-    ∙ ap (info_of c.args.self.now) (sym c.index-rest-0.is) ∙ sym c.in-Some.ensures.value
+choice_of-requires c = record {
+  info = first_info-got c.args.self.now c.args.rest.now c.index-rest-0.result c.requires
+      ∙ ap (info_of c.args.self.now) (sym c.index-rest-0.is) ∙ sym c.in-Some.ensures.value;
+  run = c.is_in_run.ensures;
+}
 
 pub returns-in-None-clause-choice : goal.returns-in-None-clause-choice
 returns-in-None-clause-choice c =

@@ -11,7 +11,7 @@ bounds-rules_in_rank-number c = place-within c.args.self.now c.args.before c.arg
 pub overflow_add-result : goal.overflow_add-result
 overflow_add-result c =
     let small : c.args.info.now.number < 1024 =
-    number-small c.args.self.now c.args.info.now c.law.ensures.parts.numbered c.law.ensures.parts.few.characters c.args.rest.now c.requires in
+    number-small c.args.self.now c.args.info.now c.law.ensures.parts.numbered c.law.ensures.parts.few.characters c.args.rest.now c.requires.info in
     omega (arith, c.rules_in_rank-in-None.ensures.few)
 
 pub returns-in-Some-clause-choice : goal.returns-in-Some-clause-choice
@@ -28,19 +28,19 @@ pub returns-in-Some-clause-some : goal.returns-in-Some-clause-some
 returns-in-Some-clause-some c =
     let is = chosen-at c.args.self.now c.args.before c.args.rest.now c.in-Some.number (sym c.in-Some.ensures) c.rules_in_rank.result.now c.rules_in_rank.ensures.rules
     c.index-rules_in_rank-number.result c.index-rules_in_rank-number.is in
-    let takes = chosen-takes c.args.self.now c.args.before c.args.rest.now (some-characters c.args.self.now c.args.info.now c.args.rest.now c.requires) in
+    let takes = chosen-takes c.args.self.now c.args.before c.args.rest.now (some-characters c.args.self.now c.args.info.now c.args.rest.now c.requires.info) in
     omega (arith, takes.some, c.len.ensures, ap (λ (choice : Choice). choice.taken) is)
 
 pub returns-in-Some-clause-room : goal.returns-in-Some-clause-room
 returns-in-Some-clause-room c =
     let is = chosen-at c.args.self.now c.args.before c.args.rest.now c.in-Some.number (sym c.in-Some.ensures) c.rules_in_rank.result.now c.rules_in_rank.ensures.rules
     c.index-rules_in_rank-number.result c.index-rules_in_rank-number.is in
-    let takes = chosen-takes c.args.self.now c.args.before c.args.rest.now (some-characters c.args.self.now c.args.info.now c.args.rest.now c.requires) in
+    let takes = chosen-takes c.args.self.now c.args.before c.args.rest.now (some-characters c.args.self.now c.args.info.now c.args.rest.now c.requires.info) in
     omega (arith, takes.room, c.len.ensures, ap (λ (choice : Choice). choice.taken) is)
 
 pub returns-in-None-clause-choice : goal.returns-in-None-clause-choice
 returns-in-None-clause-choice c =
-    let is = chosen-none c.args.self.now c.args.before c.args.rest.now (sym c.in-None.ensures) ∙ own-known c.args.self.now c.args.info.now c.args.rest.now c.requires in
+    let is = chosen-none c.args.self.now c.args.before c.args.rest.now (sym c.in-None.ensures) ∙ own-known c.args.self.now c.args.info.now c.args.rest.now c.requires.info in
     record {
       number = ap (λ n. n + c.args.info.now.number) (ap length c.rules_in_rank-in-None.ensures.rules) ∙ sym (ap (λ (choice : Choice). choice.number) is);
       taken = sym (ap (λ (choice : Choice). choice.taken) is);

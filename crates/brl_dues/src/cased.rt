@@ -1,0 +1,199 @@
+//! A table with its capitals.
+ghost use Rattle.std.specs.Prelude.{◌≡◌, [], ◌∷◌, ◌++◌, ◌&&◌, map, not, IfOk, IsTrue, OnOk, if◌then◌else◌};
+ghost use Rattle.std.specs.List.{flat_map};
+ghost use Rattle.brl_table.specs.Text.{has_word_capitals, is_capital as does_capital};
+ghost use Rattle.brl_dues.specs.Capitals.{alike, any_if as any_cond_if, capitals, choices, further as what_follows, is_upper as is_upper_in, put_capital};
+ghost use Rattle.brl_dues.specs.CapitalList.{capital_of, stands_for as does_stand_for};
+
+use crate::carry::class_of;
+use crate::letter::fold_of;
+use brl_cells::Chars;
+use brl_table::{Class, Cond, Table, holds};
+use std::alloc::{AllocError, Global};
+use std::marker::Model;
+
+/// A capital of a table.
+#[derive(Clone, Copy)]
+pub struct Capital {
+    pub character: char,
+    pub fold: char,
+}
+
+/// A table, with its capitals where it has word capitals. A contract sees the table.
+#[derive(Drop)]
+pub struct CasedTable<'a> {
+    table: &'a Table,
+    has_word_capitals: bool,
+    capitals: Vec<Capital>,
+}
+
+impl<'a> Model for CasedTable<'a> {
+    ghost use Rattle.brl_table.specs.TableView.{TableView};
+    ghost use Rattle.brl_dues.specs.CapitalList.{AreCapitals};
+
+    ghost Value = { TableView };
+
+    ghost view = { λ c. c.table.now };
+
+    ghost invariant = { λ c. AreCapitals c.table.now c.has_word_capitals c.capitals.items };
+}
+
+impl<'a> CasedTable<'a> {
+    /// A table with its capitals. Memory is allocated only for a table with word capitals.
+    pub fn new(alloc: Global, table: &'a Table) -> Result<CasedTable<'a>, AllocError>
+        ensures { IfOk result (λ cased. cased ≡ table.now) }
+    {
+        let has_word_capitals = table.has_word_capitals();
+        let mut capitals = Vec::new(alloc);
+        if has_word_capitals {
+            add_capitals(table, &mut capitals)?;
+        }
+        Ok(CasedTable {
+            table,
+            has_word_capitals,
+            capitals,
+        })
+    }
+
+    /// The table.
+    pub fn table(&self) -> &Table
+        ensures { result.now ≡ self.now }
+    {
+        self.table
+    }
+
+    /// Whether a run of capitals may begin with a character: the table has word capitals, and it is
+    /// a capital.
+    pub fn may_begin_run(&self, character: char) -> bool
+        ensures { result ≡ (has_word_capitals self.now && is_upper_in self.now character) }
+    {
+        self.has_word_capitals && is_upper(self.table, character)
+    }
+
+    /// What must follow these characters so that they begin in a run of capitals, or out of one,
+    /// after a character of these classes. `None` where they can't.
+    pub fn further(
+        &self,
+        before: Class,
+        run: bool,
+        character: char,
+        others: &[char],
+    ) -> Option<Cond>
+        ensures { result ≡ what_follows self.now before run (character ∷ others.now) }
+    {
+        if !self.may_begin_run(character) {
+            return any_if(!run);
+        }
+        if is_capital(before) {
+            return any_if(run);
+        }
+        match others.first() {
+            Some(second) => any_if(is_upper(self.table, *second) == run),
+            None if run => Some(Cond::Meets(Class::UPPERCASE)),
+            None => Some(Cond::Avoids(Class::UPPERCASE)),
+        }
+    }
+
+    /// Whether a character is a capital whose fold is this one.
+    pub fn stands_for(&self, character: char, fold: char) -> bool
+        ensures { result ≡ does_stand_for self.now character fold }
+    {
+        is_upper(self.table, character) && fold == fold_of(self.table, character)
+    }
+
+    /// The texts of capitals whose folds are these characters.
+    pub fn choices(&self, alloc: Global, chars: &[char]) -> Result<Vec<Chars>, AllocError>
+        requires { IsTrue (has_word_capitals self.now) }
+        ensures { IfOk result (λ found. found.items ≡ choices self.now chars.now) }
+    {
+        let mut texts = Vec::new(alloc);
+        texts.push(Chars::from_vec(Vec::new(alloc)))?;
+        for done in 0..chars.len() {
+            let fold = chars[chars.len() - 1 - done];
+            texts = self.put_capitals(alloc, fold, texts.as_slice())?;
+        }
+        Ok(texts)
+    }
+
+    /// These texts with each capital of this fold in front.
+    fn put_capitals(
+        &self,
+        alloc: Global,
+        fold: char,
+        texts: &[Chars],
+    ) -> Result<Vec<Chars>, AllocError>
+        requires { IsTrue (has_word_capitals self.now) }
+        ensures { IfOk result (λ found. found.items ≡ flat_map (put_capital self.now fold texts.now) (capitals self.now)) }
+    {
+        let mut found = Vec::new(alloc);
+        for capital in &self.capitals {
+            if fold == capital.fold {
+                put_front(alloc, capital.character, texts, &mut found)?;
+            }
+        }
+        Ok(found)
+    }
+}
+
+/// Appends these texts with a character in front.
+fn put_front(
+    alloc: Global,
+    character: char,
+    texts: &[Chars],
+    found: &mut Vec<Chars>,
+) -> Result<(), AllocError>
+    ensures { OnOk result (found.new.items ≡ found.old.items ++ map (λ text. character ∷ text) texts.now) }
+{
+    for text in texts {
+        let others = text.as_slice();
+        let mut chars = Vec::with_capacity(alloc, others.len() + 1)?;
+        chars.push(character)?;
+        chars.extend_from_slice(others)?;
+        found.push(Chars::from_vec(chars))?;
+    }
+    Ok(())
+}
+
+/// Appends the capitals of a table.
+fn add_capitals(table: &Table, found: &mut Vec<Capital>) -> Result<(), AllocError>
+    requires { found.old.items ≡ [] }
+    ensures { OnOk result (found.new.items ≡ map (capital_of table.now) (capitals table.now)) }
+{
+    for number in 0..table.char_count() {
+        add_capital(table, table.char_at(number as u32), found)?;
+    }
+    Ok(())
+}
+
+/// Appends a character, if it is a capital.
+fn add_capital(table: &Table, character: char, found: &mut Vec<Capital>) -> Result<(), AllocError>
+    ensures { OnOk result (found.new.items ≡ found.old.items
+        ++ (if is_upper_in table.now character then capital_of table.now character ∷ [] else [])) }
+{
+    if is_upper(table, character) {
+        let fold = fold_of(table, character);
+        found.push(Capital { character, fold })?;
+    }
+    Ok(())
+}
+
+/// Whether a character is a capital.
+fn is_upper(table: &Table, character: char) -> bool
+    ensures { result ≡ is_upper_in table.now character }
+{
+    is_capital(class_of(table, character))
+}
+
+/// Whether a character of these classes is a capital.
+fn is_capital(classes: Class) -> bool
+    ensures { result ≡ does_capital classes }
+{
+    holds(Cond::Meets(Class::UPPERCASE), classes)
+}
+
+/// No condition, where this is so.
+fn any_if(is_so: bool) -> Option<Cond>
+    ensures { result ≡ any_cond_if is_so }
+{
+    if is_so { Some(Cond::Any) } else { None }
+}
