@@ -2,16 +2,19 @@
 """Decides small tables. Usage: tests/decided.py PROGRAM
 
 Four hundred tables are made, the same on each run: two to four letters, with and without a blank, and some rules in several
-places. Each must be certified, and its certificate accepted; or shown to clash, by two texts that `brl clash` finds alike.
+places; and two hundred of letters with their capitals, most of them with indicators of runs of capitals. Each must be
+certified, and its certificate accepted; or shown to clash, by two texts that `brl clash` finds alike.
 """
 
 import random
 import subprocess
 import sys
 import tempfile
+from collections.abc import Callable
 from pathlib import Path
 
 TABLES = 400
+CASED_TABLES = 200
 CELLS = ["1", "2", "12", "3", "13", "1-1", "1-2", "2-1", "12-1", "1-12", "1-1-2"]
 PLACES = ["always", "always", "word", "begword", "endword", "midword", "midendword", "partword", "begmidword"]
 
@@ -21,6 +24,19 @@ def table(chance: random.Random) -> str:
     lines = ["space \\s 0"] * chance.randint(0, 1)
     lines += [f"letter {it} {chance.choice(CELLS)}" for it in letters]
     for _ in range(chance.randint(0, 4)):
+        chars = "".join(chance.choices(letters, k=chance.randint(1, 3)))
+        lines.append(f"{chance.choice(PLACES)} {chars} {chance.choice(CELLS)}")
+    return "\n".join(lines) + "\n"
+
+
+def cased_table(chance: random.Random) -> str:
+    letters = "abc"[: chance.randint(1, 3)]
+    lines = ["space \\s 0"] * chance.randint(0, 1)
+    lines += [f"uplow {it.upper()}{it} {chance.choice(CELLS)}" for it in letters]
+    lines += [f"uplow \\x00c4{letters[0]} 1"] * (chance.random() < 0.1)
+    signs = [("capsletter", 0.9, "6"), ("begcapsword", 0.8, "6-6"), ("endcapsword", 0.8, "6-3"), ("begcapsword", 0.1, "2")]
+    lines += list({sign: f"{sign} {cells}" for sign, often, cells in signs if chance.random() < often}.values())
+    for _ in range(chance.randint(0, 3)):
         chars = "".join(chance.choices(letters, k=chance.randint(1, 3)))
         lines.append(f"{chance.choice(PLACES)} {chars} {chance.choice(CELLS)}")
     return "\n".join(lines) + "\n"
@@ -50,24 +66,31 @@ def fault(program: str, path: Path, cert: Path) -> tuple[str, str]:
     return "undecided", f"status {status}: {told}"
 
 
+def decide(program: str, make: Callable[[random.Random], str], tables: int) -> str:
+    """Decides this many tables, and gives what is wrong, if anything."""
+    chance, counts = random.Random(1), {"certified": 0, "clashing": 0}
+    with tempfile.TemporaryDirectory() as folder:
+        path, cert = Path(folder, "t.ctb"), Path(folder, "t.cert")
+        for _ in range(tables):
+            path.write_text(make(chance))
+            kind, wrong = fault(program, path, cert)
+            if wrong:
+                return f"{wrong}\n{path.read_text()}"
+            counts[kind] += 1
+    if min(counts.values()) < tables // 8:
+        return f"{counts}: too few tables of one kind"
+    print(f"decided: {counts['certified']} tables certified and accepted, {counts['clashing']} shown to clash")
+    return ""
+
+
 def main(words: list[str]) -> int:
     if len(words) != 1:
         print(__doc__, file=sys.stderr)
         return 2
-    chance, counts = random.Random(1), {"certified": 0, "clashing": 0}
-    with tempfile.TemporaryDirectory() as folder:
-        path, cert = Path(folder, "t.ctb"), Path(folder, "t.cert")
-        for _ in range(TABLES):
-            path.write_text(table(chance))
-            kind, wrong = fault(words[0], path, cert)
-            if wrong:
-                print(f"FAILED: {wrong}\n{path.read_text()}")
-                return 1
-            counts[kind] += 1
-    if min(counts.values()) < 50:
-        print(f"FAILED: {counts}: too few tables of one kind")
-        return 1
-    print(f"decided: {counts['certified']} tables certified and accepted, {counts['clashing']} shown to clash")
+    for make, tables in [(table, TABLES), (cased_table, CASED_TABLES)]:
+        if wrong := decide(words[0], make, tables):
+            print(f"FAILED: {wrong}")
+            return 1
     return 0
 
 
