@@ -6,8 +6,8 @@
 //! what the text must or must not continue with is decided one step at a time.
 //!
 //! In a table with word capitals, a step also knows whether what it reads begins in a run of
-//! capitals. Where one capital alone doesn't decide that, there is a step for each of both, and it
-//! owes that a capital follows, or that none does.
+//! capitals. Where one capital alone doesn't decide that, there is a step for each case: one owes
+//! that a capital follows, the other that none does.
 #![tactic(auto)]
 
 mod above;
