@@ -14,6 +14,7 @@ use crate::trail::Trail;
 use crate::worklist::Worklist;
 use brl_failure::Failure;
 use brl_pairs::Machine;
+use brl_watch::{Unwatched, Watch, Work};
 use std::alloc::{AllocError, Global};
 use std::marker::Model;
 
@@ -97,6 +98,14 @@ impl<'m, M: Machine> Search<'m, M> {
         self.trail.pairs.len()
     }
 
+    /// How far it is.
+    fn work(&self) -> Work {
+        Work::Search {
+            states: self.state_count() as u64,
+            pairs: self.pair_count() as u64,
+        }
+    }
+
     /// Continues the search for at most this number of steps. A step expands a state or walks a
     /// pair. After `AllocError` the search can't be continued.
     pub fn run(self, steps: u64) -> Result<Progress<'m, M>, AllocError>
@@ -130,6 +139,9 @@ impl<'m, M: Machine> Search<'m, M> {
     }
 }
 
+/// The most steps that a search runs before a watcher is told how far it is.
+const SLICE: u64 = 1_000;
+
 /// Searches a machine to the end.
 pub fn search_machine<M: Machine>(
     alloc: Global,
@@ -139,10 +151,26 @@ pub fn search_machine<M: Machine>(
     requires { limit ≤ 4294967295 }
     ensures { IfOk result (IsOutcome (M.behaviour machine.now) limit) }
 {
+    search_machine_watched(alloc, machine, limit, &mut Unwatched)
+}
+
+/// The same. From slice to slice it tells a watcher how much is found.
+pub fn search_machine_watched<M: Machine, W: Watch>(
+    alloc: Global,
+    machine: &M,
+    limit: u64,
+    watch: &mut W,
+) -> Result<Outcome<M::State>, AllocError>
+    requires { limit ≤ 4294967295 }
+    ensures { IfOk result (IsOutcome (M.behaviour machine.now) limit) }
+{
     let mut progress = Search::start(alloc, machine, limit)?;
     loop {
         match progress {
-            Progress::Unfinished(search) => progress = search.run(u64::MAX)?,
+            Progress::Unfinished(search) => {
+                watch.tell(search.work());
+                progress = search.run(SLICE)?;
+            }
             Progress::Finished(outcome) => return Ok(outcome),
         }
     }

@@ -1,6 +1,6 @@
 use Rattle.brl_search.specs.Answers.{IfFinished, IfUnfinished, IsOutcome, steps_left_in}
 use Rattle.brl_search.specs.SearchView.{IsOf}
-use Rattle.brl_search.proofs.explore.search_machine.Given as goal
+use Rattle.brl_search.proofs.explore.search_machine_watched.Given as goal
 
 abbrev pub invariant-loop-progress : goal.invariant-loop-progress
 invariant-loop-progress g l = record {

@@ -2,7 +2,7 @@ use Rattle.std.proofs.Common.{slice_get}
 use Rattle.std.proofs.lemmas.Result.{err_from_is_err_and}
 use Rattle.brl_edges.specs.Sets.{pair_at}
 use Rattle.brl_accept.proofs.Closing.{open_where_failed}
-use Rattle.brl_accept.proofs.checker.accept.Goals as goal
+use Rattle.brl_accept.proofs.checker.accept_watched.Goals as goal
 
 pub returns-in_err-check-clause-not_closed : goal.returns-in_err-check-clause-not_closed
 returns-in_err-check-clause-not_closed g c =
