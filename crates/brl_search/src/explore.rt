@@ -6,7 +6,7 @@ ghost use Rattle.brl_search.specs.Answers.{IfFinished, IfUnfinished, IsOutcome};
 ghost use Rattle.brl_search.specs.Reached.{AtLeast, Reached, ReachedPair, SamePair, SameState};
 ghost use Rattle.brl_search.specs.SearchView.{IsAfter, IsOf};
 ghost use Rattle.brl_search.specs.Trail.{IsStopped};
-ghost use Rattle.brl_search.specs.Worklist.{IsFinished, IsStep, IsWorking, NoneIsReady};
+ghost use Rattle.brl_search.specs.Worklist.{AreSteps, IsFinished, IsStep, IsWorking, NoneIsReady};
 
 use crate::finder::{Finder, Stop};
 use crate::outcome::Outcome;
@@ -117,25 +117,22 @@ impl<'m, M: Machine> Search<'m, M> {
             mut trail,
             mut worklist,
         } = self;
-        for _ in 0..steps {
-            match finder.step(&mut trail, &mut worklist) {
-                Ok(true) => {}
-                Ok(false) => {
-                    let body = finder.body_of(trail);
-                    return Ok(Progress::Finished(Outcome::Closed(body)));
-                }
-                Err(Failure::Fault(stop)) => {
-                    let outcome = finder.outcome_of(&trail, stop)?;
-                    return Ok(Progress::Finished(outcome));
-                }
-                Err(Failure::Memory) => return Err(AllocError),
+        match finder.run(&mut trail, &mut worklist, steps) {
+            Ok(true) => Ok(Progress::Unfinished(Search {
+                finder,
+                trail,
+                worklist,
+            })),
+            Ok(false) => {
+                let body = finder.body_of(trail);
+                Ok(Progress::Finished(Outcome::Closed(body)))
             }
+            Err(Failure::Fault(stop)) => {
+                let outcome = finder.outcome_of(&trail, stop)?;
+                Ok(Progress::Finished(outcome))
+            }
+            Err(Failure::Memory) => Err(AllocError),
         }
-        Ok(Progress::Unfinished(Search {
-            finder,
-            trail,
-            worklist,
-        }))
     }
 }
 
@@ -177,6 +174,26 @@ pub fn search_machine_watched<M: Machine, W: Watch>(
 }
 
 impl<'m, M: Machine> Finder<'m, M> {
+    /// Takes at most this number of steps. False where nothing is left to do.
+    fn run(
+        &self,
+        trail: &mut Trail<M::State>,
+        worklist: &mut Worklist,
+        steps: u64,
+    ) -> Result<bool, Failure<Stop>>
+        requires working { IsWorking M.behaviour self.now trail.old worklist.old }
+        ensures steps { IfOk result (λ more. OnTrue more (AreSteps M.behaviour steps self.now trail.old worklist.old trail.new worklist.new)) }
+        ensures finished { IfOk result (λ more. OnFalse more (IsFinished M.behaviour self.now trail.new)) }
+        ensures stopped { IfErr result (IfFault (IsStopped M.behaviour self.now trail.new)) }
+    {
+        for _ in 0..steps {
+            if !self.step(trail, worklist)? {
+                return Ok(false);
+            }
+        }
+        Ok(true)
+    }
+
     /// Walks the first queued pair whose state behind has been expanded, and else expands the next
     /// state. False where nothing is left to do.
     fn step(
