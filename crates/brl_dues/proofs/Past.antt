@@ -1,6 +1,6 @@
 -- Dues carried past characters, and then past more: what is left is what is left past all of them.
-use Rattle.std.proofs.Common.{◌≡◌, ℕ, Bool, true, false, not, ◌&&◌, List, [], ◌∷◌, ◌++◌, Option, Some, None, map, refl, sym, ap, ap₂, ◌∙◌, cond, nat_eq, append-nil}
-use Rattle.std.specs.List.{flat_map, list_all}
+use Rattle.std.proofs.Common.{◌≡◌, ℕ, Bool, true, false, not, ◌&&◌, List, [], ◌∷◌, ◌++◌, Some, None, map, refl, sym, ap, ap₂, ◌∙◌, cond, nat_eq, append-nil}
+use Rattle.std.specs.List.{list_all}
 use Rattle.std.specs.Option.{option_map_or}
 use Rattle.std.proofs.lemmas.Grind.{flat_map-append}
 use Rattle.std.proofs.lemmas.List.Folds.{list_all-append}
@@ -14,7 +14,7 @@ use Rattle.brl_dues.specs.declared.carry.Carried.TheVariants.{Broken, Settled, L
 use Rattle.brl_dues.specs.declared.due.Due.{Due}
 use Rattle.brl_dues.specs.declared.due.Due.TheVariants.{Need, Bar}
 use Rattle.brl_dues.specs.Adding.{Adds}
-use Rattle.brl_dues.specs.Carry.{carry, carry_bar, carry_need, is_whole, left_of, lefts, opposed, settled_if}
+use Rattle.brl_dues.specs.Carry.{carry, carry_bar, is_whole, left_of, lefts, opposed, settled_if}
 use Rattle.brl_dues.specs.Letters.{left_past}
 use Rattle.brl_dues.proofs.Carrying.{not_not}
 

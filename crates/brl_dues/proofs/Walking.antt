@@ -1,5 +1,5 @@
 -- The steps in a run of capitals, listed character by character.
-use Rattle.std.proofs.Common.{◌≡◌, ℕ, Bool, true, false, ◌&&◌, ◌||◌, List, [], ◌∷◌, ◌++◌, Option, Some, None, map, refl, sym, ap, ap₂, ◌∙◌, cond, nat_eq, append_assoc, append-nil}
+use Rattle.std.proofs.Common.{◌≡◌, ℕ, Bool, true, false, ◌&&◌, ◌||◌, List, [], ◌∷◌, ◌++◌, Option, Some, None, map, refl, sym, ap, ◌∙◌, cond, nat_eq, append_assoc, append-nil}
 use Rattle.std.specs.List.{flat_map, list_all, list_any}
 use Rattle.std.specs.Option.{option_map_or}
 use Rattle.brl_pairs.specs.declared.step.Step.{Step}
@@ -13,7 +13,7 @@ use Rattle.brl_dues.specs.CapitalList.{capital_of, is_fold_of_capital}
 use Rattle.brl_dues.specs.Capitals.{capitals, choices, further, is_upper, put_capital}
 use Rattle.brl_dues.specs.Carry.{gathered, need}
 use Rattle.brl_dues.specs.LetterView.{LetterView}
-use Rattle.brl_dues.specs.Letters.{bars_of, left_by, left_past, left_with, letter_form, letter_step, next_step, run_step, run_steps}
+use Rattle.brl_dues.specs.Letters.{bars_of, left_past, left_with, letter_form, letter_step, next_step, run_step, run_steps}
 use Rattle.brl_dues.specs.Steps.{step_if}
 use Rattle.brl_dues.proofs.Casing.{none-in-run}
 use Rattle.brl_dues.proofs.Finding.{flat_map-flat_map, flat_map-none, flat_map-of_map, flat_map-same}

@@ -1,4 +1,4 @@
-use Rattle.std.proofs.Common.{◌≡◌, ◌∙◌, arith, length, subst, sym, true}
+use Rattle.std.proofs.Common.{◌≡◌, arith, subst, sym, true}
 use Rattle.brl_dues.specs.Adding.{Adds}
 use Rattle.brl_dues.proofs.Adding.{barred-Adds, rest-barred}
 use Rattle.brl_dues.proofs.runs.add_run_bars.Goals as goal

@@ -1,4 +1,4 @@
-use Rattle.std.proofs.Common.{ap, subst, sym, ◌∙◌}
+use Rattle.std.proofs.Common.{subst, ◌∙◌}
 use Rattle.brl_table.specs.Limits.{IsTable}
 use Rattle.brl_dues.proofs.Casing.{no-other, one-other, other-again}
 use Rattle.brl_dues.proofs.Kept.{keeps_of}

@@ -1,11 +1,11 @@
-use Rattle.std.proofs.Common.{Global, Vec, get_or, ◌≡◌, ◌∷◌, ◌++◌, [], Some, None, ap, arith, eq-eqb, length, sym, ◌∙◌}
+use Rattle.std.proofs.Common.{Global, Vec, get_or, ◌≡◌, ◌∷◌, ◌++◌, [], ap, arith, eq-eqb, sym, ◌∙◌}
 use Rattle.std.specs.List.{flat_map}
 use Rattle.std.specs.Prelude.{option_map}
 use Rattle.brl_pairs.specs.declared.step.Step.{Step}
 use Rattle.brl_dues.specs.declared.state.DuesState.{DuesState}
 use Rattle.brl_dues.specs.declared.walk.Beginning.{Beginning}
 use Rattle.brl_dues.specs.Letters.{left_past, run_steps}
-use Rattle.brl_dues.proofs.Loops.{own-next, own-all}
+use Rattle.brl_dues.proofs.Loops.{own-next}
 use Rattle.brl_dues.proofs.Walking.{broken-fold, left-further, same-fold, steps-by-capital, steps_after}
 use Rattle.brl_dues.proofs.walk.+go_on.Goals as goal
 use Rattle.brl_dues.proofs.walk.+go_on.Goals.{in-Some-2+in_ok-go_on, in_default-2}
@@ -42,21 +42,23 @@ loop-capital-preserved t c =
     let items = c.capitals-capital-items.result.now in
     let capital = get_or items c.loop-capital.capital-index (record { character = 0; fold = 0 }) in
     let next = own-next (steps_after o.table.now o.state.now o.letter.now c.args.taken.number c.args.taken.after c.args.taken.cells.now begun c.in-Some.fold.now c.in-Some.others.now) items c.loop-capital.capital-index (record { character = 0; fold = 0 })
-    c.loop-capital.listed.items c.match-branch-2.listed.items _ c.loop-capital-test.true c.loop-capital.invariant in
+    c.loop-capital.listed.items c.match-branch-2.listed.items (c.args.listed.now.items ++ run_steps o.table.now o.state.now o.letter.now c.args.taken.number c.args.taken.after c.args.taken.cells.now begun c.args.folds.now) c.loop-capital-test.true c.loop-capital.invariant in
     elim c.match-branch-2.branch [
       | in-Some-2+in_ok-go_on w ↦ (
           let longer = w.in-Some-2.longer in
           let capitals : longer.capitals.items ≡ begun ++ capital.character ∷ [] = rw w.in-Some-2.is at c.in_ok-longer.ensures.capitals in
+          let same : c.match-branch-2.listed.items ≡ w.go_on.new.listed.items = ap (λ (v : Vec (Step DuesState) Global). v.items) w.listed-is in
           next
           (same-fold o.table.now o.state.now o.letter.now c.args.taken.number c.args.taken.after c.args.taken.cells.now begun c.in-Some.fold.now c.in-Some.others.now capital c.loop-capital.listed.items
           (eq-eqb c.in-Some.fold.now capital.fold (sym c.if-capital-fold.false)) c.match-branch-2.listed.items
-          (ap (λ (v : Vec (Step DuesState) Global). v.items) w.listed-is ∙ w.in_ok-go_on.ensures
+          (same ∙ w.in_ok-go_on.ensures
           ∙ ap (λ l. c.loop-capital.listed.items ++ run_steps o.table.now o.state.now o.letter.now c.args.taken.number c.args.taken.after c.args.taken.cells.now l c.in-Some.others.now) capitals)))
-      | in_default-2 w ↦
+      | in_default-2 w ↦ (
+          let same : c.match-branch-2.listed.items ≡ c.loop-capital.listed.items = ap (λ (v : Vec (Step DuesState) Global). v.items) w.listed-is in
           next
-          (ap (λ (v : Vec (Step DuesState) Global). v.items) w.listed-is
+          (same
           ∙ broken-fold o.table.now o.state.now o.letter.now c.args.taken.number c.args.taken.after c.args.taken.cells.now begun c.in-Some.fold.now c.in-Some.others.now capital c.loop-capital.listed.items
           (left-further o.table.now o.state.now o.letter.now begun capital.character c.args.beginning.left.items (option_map (λ (b : Beginning). b.left.items) c.in_ok-longer.field-0) c.requires.left
           (c.in_ok-longer.ensures.left ∙ ap (λ x. left_past x (capital.character ∷ []) c.args.beginning.left.items) c.table-table.ensures)
-          ∙ ap (option_map (λ (b : Beginning). b.left.items)) w.in_default-2.is))
+          ∙ ap (option_map (λ (b : Beginning). b.left.items)) w.in_default-2.is)))
     ]

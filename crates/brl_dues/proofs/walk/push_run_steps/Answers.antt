@@ -1,4 +1,4 @@
-use Rattle.std.proofs.Common.{Global, Vec, ℕ, [], ◌∷◌, ◌&&◌, ap, ap₂, sym, ◌∙◌}
+use Rattle.std.proofs.Common.{Global, Vec, [], ◌∷◌, ◌&&◌, ap, ap₂, sym, ◌∙◌}
 use Rattle.std.specs.Prelude.{option_map}
 use Rattle.brl_table.specs.Text.{has_word_capitals}
 use Rattle.brl_dues.specs.declared.due.Due.{Due}
