@@ -1,6 +1,6 @@
--- The lines of a table that have a fault by themselves. A line with a fault defines nothing, so each
--- line is read after the good lines before it. What one line can't show, as a character of a rule
--- that no line defines, is no part of this. The project's own choice.
+-- The lines of a table that have a fault by themselves. A line with a fault defines nothing, so
+-- each line is read after the good lines before it. What one line can't show, as a character of a
+-- rule that no line defines, is no part of this. The project's own choice.
 use Rattle.std.specs.Prelude.{ℕ, ◌≡◌, ◌≢◌, Bool, true, false, if◌then◌else◌, List, [], ◌∷◌, ◌++◌, flat_map, fold, take, slice_get, string_bytes, is_some, Option, Some, None}
 use Rattle.std.specs.List.{enumerate_from}
 use Rattle.std.specs.Option.{option_map_or}

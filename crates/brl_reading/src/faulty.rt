@@ -23,10 +23,10 @@ pub struct FaultyLine {
     pub fault: TableFault,
 }
 
-/// The lines that have a fault by themselves, in order, each with its fault. These are the faults of
-/// the first pass of `read_table`. A line with a fault defines nothing: each line is read after the
-/// good lines before it. A character that a rule or a list names and that no line defines is no fault
-/// of the line by itself.
+/// The lines that have a fault by themselves, in order, each with its fault. These are the faults
+/// of the first pass of `read_table`. A line with a fault defines nothing: each line is read after
+/// the good lines before it. A character that a rule or a list names and that no line defines is no
+/// fault of the line by itself.
 pub fn survey(alloc: Global, lines: &[Line<'_>]) -> Result<Vec<FaultyLine>, AllocError>
     ensures { IfOk result (λ found. map faulty_line_view found.items ≡ faulty_lines (map line_view lines.now)) }
 {
@@ -57,7 +57,8 @@ fn faulty_line(
     Ok(FaultyLine { opcode, fault })
 }
 
-/// The opcode of a line: what follows `noback` or `nofor`, if anything does, and else its first word.
+/// The opcode of a line: what follows `noback` or `nofor`, if anything does, and else its first
+/// word.
 fn named_opcode<'a>(line: &Line<'a>) -> &'a str
     ensures { result.now ≡ opcode_by (line_view line.now) }
 {
