@@ -1,8 +1,9 @@
 -- The steps that take something with a character, in a run of capitals and out of one.
-use Rattle.std.proofs.Common.{◌≡◌, ◌≢◌, ℕ, ◌-◌, ◌≤◌, Bool, true, false, not, ◌&&◌, List, [], ◌∷◌, ◌++◌, Option, Some, None, length, map, take, drop, sym, ap, ap₂, ◌∙◌, cond, nat_eq, append_assoc, arith, length-drop}
+use Rattle.std.proofs.Common.{◌≡◌, ◌≢◌, ℕ, ◌-◌, ◌<◌, ◌≤◌, Bool, true, false, not, ◌&&◌, List, [], ◌∷◌, ◌++◌, Option, Some, None, length, map, take, drop, refl, sym, ap, ap₂, ◌∙◌, cond, nat_eq, subst, inl, append_assoc, arith, length-drop}
 use Rattle.std.proofs.Math.Seq.{drop-append_seam}
 use Rattle.std.proofs.lemmas.List.{take_all}
-use Rattle.std.specs.List.{list_any}
+use Rattle.std.specs.Cmp.{first_so}
+use Rattle.std.specs.List.{list_all, list_any}
 use Rattle.std.specs.Option.{option_map_or}
 use Rattle.brl_pairs.specs.declared.step.Step.{Step}
 use Rattle.brl_table.specs.declared.place.Cond.{Cond}
@@ -15,10 +16,11 @@ use Rattle.brl_dues.specs.Carry.{gathered}
 use Rattle.brl_dues.specs.LetterView.{LetterView}
 use Rattle.brl_dues.specs.Letters.{cased_steps, left_by, letter_form, letter_step, next_step, run_step, run_steps}
 use Rattle.brl_dues.specs.Steps.{is_same_step, step_if, with_steps}
-use Rattle.brl_dues.proofs.Forms.{from-put, from-step_if}
-use Rattle.brl_dues.proofs.Listing.{IsIn}
+use Rattle.brl_dues.proofs.Finding.{flat_map-none}
+use Rattle.brl_dues.proofs.Forms.{from-choices, from-put, from-step_if}
+use Rattle.brl_dues.proofs.Listing.{IsIn, from-flat_map}
 use Rattle.brl_dues.proofs.Pairwise.{Pairwise, filter-Pairwise, flat_map-Pairwise, map-Pairwise}
-use Rattle.brl_dues.proofs.Repeats.{with_steps-apart, with_steps-append}
+use Rattle.brl_dues.proofs.Repeats.{apart, with_steps-apart, with_steps-append}
 
 -- a step, if there is one
 abbrev pub one_if : Option (Step DuesState) → List (Step DuesState)
@@ -42,13 +44,13 @@ module _ (t : TableView) (single : Pairwise (λ a b. a ≢ b) (letters t)) where
       put-differ c false h = tt
 
 module _ (t : TableView) (s : DuesState) (l : LetterView) (number : ℕ) (after : Cond) (cells : List ℕ) where
-  -- what the steps of a choice read
-  run-reads : (chosen : List ℕ) (x : Step DuesState) → IsIn x (run_step t s l number after cells chosen) → x.reads ≡ l.character ∷ chosen
-  run-reads chosen x h = at (further t s.before true (l.character ∷ chosen)) h
+  -- what a step reads
+  step-reads : (run : Bool) (others : List ℕ) (x : Step DuesState) → IsIn x (letter_step t s l number run others after cells) → x.reads ≡ l.character ∷ others
+  step-reads run others x h = at (further t s.before run (l.character ∷ others)) h
     where
-      at : (o : Option Cond) → IsIn x (option_map_or (next_step t s l number true chosen after cells) o []) → x.reads ≡ l.character ∷ chosen
+      at : (o : Option Cond) → IsIn x (option_map_or (next_step t s l number run others after cells) o []) → x.reads ≡ l.character ∷ others
       at None i = absurd i
-      at (Some next) i = ap (λ (y : Step DuesState). y.reads) (from-step_if t s (letter_form l number true next chosen after cells) (gathered (left_by t s.dues l true next chosen after)) x i).2
+      at (Some next) i = ap (λ (y : Step DuesState). y.reads) (from-step_if t s (letter_form l number run next others after cells) (gathered (left_by t s.dues l run next others after)) x i).2
 
   -- a choice has one step at most
   run-differ : (chosen : List ℕ) → Pairwise (λ a b. a ≢ b) (run_step t s l number after cells chosen)
@@ -67,8 +69,8 @@ module _ (t : TableView) (s : DuesState) (l : LetterView) (number : ℕ) (after 
       flat_map-Pairwise (λ a b. a ≢ b) (λ a b. a ≢ b) (run_step t s l number after cells) (choices t others) (choices-differ t single others)
       (λ chosen i. run-differ chosen)
       (λ chosen other x y apart i j same. (
-      let first = run-reads chosen x i in
-      let second = run-reads other y j in
+      let first = step-reads true chosen x i in
+      let second = step-reads true other y j in
       let both : l.character ∷ chosen ≡ l.character ∷ other = sym first ∙ ap (λ (z : Step DuesState). z.reads) same ∙ second in
       let rest : chosen ≡ other = cc in
       apart rest))
@@ -79,6 +81,35 @@ module _ (t : TableView) (s : DuesState) (l : LetterView) (number : ℕ) (after 
       ap (λ b. option_map_or (next_step t s l number true chosen after cells) (cond b (cond (is_capital s.before) (any_if true) (further_by t true chosen)) (any_if (not true))) []) h
 
   -- ---- The one out of a run
+
+  -- where it reads several characters, the second is no capital
+  out-second : (d : ℕ) (others : List ℕ) (x : Step DuesState) → (has_word_capitals t && is_upper t l.character) ≡ true → IsIn x (letter_step t s l number false (d ∷ others) after cells) → is_upper t d ≡ false
+  out-second d others x w h =
+      at (is_capital s.before) (is_upper t d)
+      (subst (λ b. IsIn x (option_map_or (next_step t s l number false (d ∷ others) after cells) (cond b (cond (is_capital s.before) (any_if false) (further_by t false (d ∷ others))) (any_if true)) [])) w h)
+    where
+      at : (b k : Bool) → IsIn x (option_map_or (next_step t s l number false (d ∷ others) after cells) (cond b None (any_if (not k))) []) → k ≡ false
+      at true k i = absurd i
+      at false true i = absurd i
+      at false false i = refl
+
+  -- so it is none of those in a run
+  out-apart : (d : ℕ) (others : List ℕ) (x : Step DuesState) → IsIn x (letter_step t s l number false (d ∷ others) after cells) → list_any (is_same_step x) (run_steps t s l number after cells [] (d ∷ others)) ≡ false
+  out-apart d others x h = at (has_word_capitals t && is_upper t l.character) refl
+    where
+      at : (b : Bool) → (has_word_capitals t && is_upper t l.character) ≡ b → list_any (is_same_step x) (run_steps t s l number after cells [] (d ∷ others)) ≡ false
+      at false w = ap (list_any (is_same_step x)) (flat_map-none (run_step t s l number after cells) (none-in-run w) (choices t (d ∷ others)))
+      at true w = apart x (run_steps t s l number after cells [] (d ∷ others)) (λ i. (
+          let chosen = from-flat_map (run_step t s l number after cells) x (choices t (d ∷ others)) i in
+          let both : l.character ∷ chosen.0 ≡ l.character ∷ d ∷ others = sym (step-reads true chosen.0 x chosen.2) ∙ step-reads false (d ∷ others) x h in
+          let same : chosen.0 ≡ d ∷ others = cc in
+          let upper : (is_upper t d && list_all (is_upper t) others) ≡ true = ap (list_all (is_upper t)) (sym same) ∙ (from-choices t (d ∷ others) chosen.0 chosen.1).0 in
+          let never : false ≡ true = sym (out-second d others x w h) ∙ first_so (is_upper t d) (list_all (is_upper t) others) upper in
+          cc))
+
+  out-longer : (others : List ℕ) (x : Step DuesState) → IsIn x (letter_step t s l number false others after cells) → 1 < length x.reads → list_any (is_same_step x) (run_steps t s l number after cells [] others) ≡ false
+  out-longer [] x h more = (let one = ap length (step-reads false [] x h) in absurd (omega (arith, one, more)))
+  out-longer (d ∷ others) x h more = out-apart d others x h
 
   -- the steps in a run, and then the one out of it, each once
   module _ (single : Pairwise (λ a b. a ≢ b) (letters t)) (others : List ℕ) (run : Bool) (out : run ≡ false) (o : Option (Step DuesState))
@@ -95,23 +126,28 @@ module _ (t : TableView) (s : DuesState) (l : LetterView) (number : ℕ) (after 
     pub no-other : o ≡ None → now ≡ old ++ with_steps [] (cased_steps t s l number others after cells)
     no-other e = had ∙ ap (λ l. old ++ l) (sym (each-once ∙ ap (λ p. with_steps in_run (one_if p)) e))
 
-    module _ (x : Step DuesState) (is : o ≡ Some x) (whole : List (Step DuesState)) (first : ℕ) (same : whole ≡ now) (at : first ≡ length old) (among : Bool)
-        (found : among ≡ list_any (is_same_step x) (take (length whole - first) (drop first whole))) where
+    module _ (x : Step DuesState) (is : o ≡ Some x) (whole : List (Step DuesState)) (first : ℕ) (same : whole ≡ now) (at : first ≡ length old) where
       tail : take (length whole - first) (drop first whole) ≡ in_run
       tail =
           let all : length (drop first whole) ≤ length whole - first = (let n = length-drop first whole in omega (arith, n)) in
           take_all (length whole - first) (drop first whole) all ∙ ap₂ (λ n l. drop n l) at (same ∙ had) ∙ drop-append_seam old in_run
 
-      each : cond among now (now ++ x ∷ []) ≡ old ++ with_steps [] (cased_steps t s l number others after cells)
-      each =
-          by-flag among ∙ ap (λ l. old ++ l) (ap (λ b. cond b in_run (in_run ++ x ∷ [])) (found ∙ ap (list_any (is_same_step x)) tail) ∙ sym (each-once ∙ ap (λ p. with_steps in_run (one_if p)) is))
-        where
-          by-flag : (b : Bool) → cond b now (now ++ x ∷ []) ≡ old ++ cond b in_run (in_run ++ x ∷ [])
-          by-flag true = had
-          by-flag false = ap (λ l. l ++ x ∷ []) had ∙ append_assoc old in_run (x ∷ [])
+      pub longer-apart : 1 < length x.reads → list_any (is_same_step x) (take (length whole - first) (drop first whole)) ≡ false
+      longer-apart more =
+          let there : x ∷ [] ≡ letter_step t s l number false others after cells = ap one_if (sym is) ∙ step ∙ ap (λ b. letter_step t s l number b others after cells) out in
+          ap (list_any (is_same_step x)) tail ∙ out-longer others x (subst (IsIn x) there (inl refl)) more
 
-      pub other-again : among ≡ true → now ≡ old ++ with_steps [] (cased_steps t s l number others after cells)
-      other-again e = ap (λ b. cond b now (now ++ x ∷ [])) (sym e) ∙ each
+      module _ (among : Bool) (found : among ≡ list_any (is_same_step x) (take (length whole - first) (drop first whole))) where
+        each : cond among now (now ++ x ∷ []) ≡ old ++ with_steps [] (cased_steps t s l number others after cells)
+        each =
+            by-flag among ∙ ap (λ l. old ++ l) (ap (λ b. cond b in_run (in_run ++ x ∷ [])) (found ∙ ap (list_any (is_same_step x)) tail) ∙ sym (each-once ∙ ap (λ p. with_steps in_run (one_if p)) is))
+          where
+            by-flag : (b : Bool) → cond b now (now ++ x ∷ []) ≡ old ++ cond b in_run (in_run ++ x ∷ [])
+            by-flag true = had
+            by-flag false = ap (λ l. l ++ x ∷ []) had ∙ append_assoc old in_run (x ∷ [])
 
-      pub one-other : among ≡ false → (new : List (Step DuesState)) → new ≡ now ++ x ∷ [] → new ≡ old ++ with_steps [] (cased_steps t s l number others after cells)
-      one-other e new gave = gave ∙ ap (λ b. cond b now (now ++ x ∷ [])) (sym e) ∙ each
+        pub other-again : among ≡ true → now ≡ old ++ with_steps [] (cased_steps t s l number others after cells)
+        other-again e = ap (λ b. cond b now (now ++ x ∷ [])) (sym e) ∙ each
+
+        pub one-other : among ≡ false → (new : List (Step DuesState)) → new ≡ now ++ x ∷ [] → new ≡ old ++ with_steps [] (cased_steps t s l number others after cells)
+        one-other e new gave = gave ∙ ap (λ b. cond b now (now ++ x ∷ [])) (sym e) ∙ each

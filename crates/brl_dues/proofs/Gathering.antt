@@ -139,9 +139,6 @@ adds-both xs ys old mid new w h k = record {
   found = λ e. k.found e ∙ ap (λ l. l ++ lefts ys) (h.found refl) ∙ append_assoc old (lefts xs) (lefts ys) ∙ ap (λ l. old ++ l) (sym (flat_map-append left_of xs ys));
 }
 
-adds-stop : (xs ys : List Carried) (old mid : List Due) → Adds xs old mid false → Adds (xs ++ ys) old mid false
-adds-stop xs ys old mid h = record { whole_is = ap (λ b. b && list_all is_whole ys) h.whole_is ∙ sym (list_all-append is_whole xs ys); found = λ e. cc }
-
 gathered-none : (xs : List Carried) (old new : List Due) → Adds xs old new false → gathered xs ≡ None
 gathered-none xs old new h = ap (λ b. cond b (Some (in_order (lefts xs))) None) (sym h.whole_is)
 

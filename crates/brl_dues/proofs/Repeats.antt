@@ -129,7 +129,7 @@ with_steps-append steps (y ∷ more) last = with_steps-append (with_step steps y
 -- ---- Steps that differ
 
 -- a step that is none of these
-apart : (y : Step DuesState) (steps : List (Step DuesState)) → (IsIn y steps → ⊥) → list_any (is_same_step y) steps ≡ false
+pub apart : (y : Step DuesState) (steps : List (Step DuesState)) → (IsIn y steps → ⊥) → list_any (is_same_step y) steps ≡ false
 apart y steps none = at (list_any (is_same_step y) steps) refl
   where
     at : (b : Bool) → list_any (is_same_step y) steps ≡ b → b ≡ false

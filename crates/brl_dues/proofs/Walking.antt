@@ -123,15 +123,8 @@ module _ (t : TableView) (s : DuesState) (l : LetterView) (number : ℕ) (after 
       (put-steps begun a chars) (capitals t)
       ∙ sym (flat_map-of_map (steps_after begun a chars) (capital_of t) (capitals t))
 
-  -- a beginning that is a whole choice
-  pub whole-choice : (begun : List ℕ) → run_steps t s l number after cells begun [] ≡ run_step t s l number after cells begun
-  whole-choice begun = append-nil (run_step t s l number after cells (begun ++ [])) ∙ ap (run_step t s l number after cells) (append-nil begun)
-
   -- each capital's steps, in the loop over capitals
   module _ (begun : List ℕ) (a : ℕ) (chars : List ℕ) (capital : Capital) (now : List (Step DuesState)) where
-    pub other-fold : nat_eq a capital.fold ≡ false → now ≡ now ++ steps_after begun a chars capital
-    other-fold h = sym (append-nil now) ∙ ap (λ b. now ++ cond b (run_steps t s l number after cells (begun ++ capital.character ∷ []) chars) []) (sym h)
-
     pub same-fold : nat_eq a capital.fold ≡ true → (new : List (Step DuesState)) → new ≡ now ++ run_steps t s l number after cells (begun ++ capital.character ∷ []) chars
         → new ≡ now ++ steps_after begun a chars capital
     same-fold h new e = e ∙ ap (λ b. now ++ cond b (run_steps t s l number after cells (begun ++ capital.character ∷ []) chars) []) (sym h)

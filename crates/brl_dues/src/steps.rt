@@ -1,5 +1,5 @@
 //! The steps of a state.
-ghost use Rattle.std.specs.Prelude.{◌≡◌, [], ◌∷◌, ◌++◌, false, map, IfOk, IsTrue, OnOk};
+ghost use Rattle.std.specs.Prelude.{◌≡◌, ◌<◌, [], ◌∷◌, ◌++◌, false, length, map, IfOk, IsTrue, OnOk};
 ghost use Rattle.std.specs.List.{flat_map, list_any};
 ghost use Rattle.brl_table.specs.Choice.{own};
 ghost use Rattle.brl_table.specs.Places.{before_of, holds as does_hold};
@@ -146,10 +146,19 @@ fn push_steps(
     let Some(step) = step_with(alloc, origin, taken)? else {
         return Ok(());
     };
-    if !is_among(&step, &listed[first..]) {
+    if !is_also_in_run(&step, &listed[first..]) {
         listed.push(step)?;
     }
     Ok(())
+}
+
+/// Whether a step out of a run of capitals is also one of those in a run. It is none of them where
+/// it reads several characters.
+fn is_also_in_run(step: &Step<DuesState>, in_run: &[Step<DuesState>]) -> bool
+    requires { 1 < length step.now.reads → list_any (is_same_step step.now) in_run.now ≡ false }
+    ensures { result ≡ list_any (is_same_step step.now) in_run.now }
+{
+    step.reads.len() <= 1 && is_among(step, in_run)
 }
 
 /// Whether a step is one of these.

@@ -1,6 +1,6 @@
 use Rattle.std.proofs.Common.{subst, ◌∙◌}
 use Rattle.brl_table.specs.Limits.{IsTable}
-use Rattle.brl_dues.proofs.Casing.{no-other, one-other, other-again}
+use Rattle.brl_dues.proofs.Casing.{longer-apart, no-other, one-other, other-again}
 use Rattle.brl_dues.proofs.Kept.{keeps_of}
 use Rattle.brl_dues.proofs.steps.push_steps.Goals as goal
 
@@ -15,11 +15,18 @@ returns-in_ok-push c =
     let o = c.args.origin.now in
     one-other o.table.now o.state.now o.letter.now c.args.taken.number c.args.taken.after c.args.taken.cells.now (keeps_of o.table.now (subst IsTable c.table.ensures c.law.ensures)).single
     c.args.taken.others.now c.args.taken.run c.requires c.in_ok-step.field-0 c.in_ok-step.ensures c.args.listed.now.items c.push_run_steps.new.listed.items c.in_ok-push_run_steps.ensures
-    c.in-Some.step c.in-Some.is c.deref.result.now c.len-first.result c.deref.ensures.value (c.len-first.ensures ∙ c.args.listed.now.ok.0) c.is_among.result c.is_among.ensures c.if-not-is_among.true c.push.new.self.items c.in_ok-push.ensures.items
+    c.in-Some.step c.in-Some.is c.deref.result.now c.len-first.result c.deref.ensures.value (c.len-first.ensures ∙ c.args.listed.now.ok.0) c.is_also_in_run.result c.is_also_in_run.ensures c.if-not-is_also_in_run.true c.push.new.self.items c.in_ok-push.ensures.items
 
-pub returns-else-not-is_among : goal.returns-else-not-is_among
-returns-else-not-is_among c =
+pub returns-else-not-is_also_in_run : goal.returns-else-not-is_also_in_run
+returns-else-not-is_also_in_run c =
     let o = c.args.origin.now in
     other-again o.table.now o.state.now o.letter.now c.args.taken.number c.args.taken.after c.args.taken.cells.now (keeps_of o.table.now (subst IsTable c.table.ensures c.law.ensures)).single
     c.args.taken.others.now c.args.taken.run c.requires c.in_ok-step.field-0 c.in_ok-step.ensures c.args.listed.now.items c.push_run_steps.new.listed.items c.in_ok-push_run_steps.ensures
-    c.in-Some.step c.in-Some.is c.deref.result.now c.len-first.result c.deref.ensures.value (c.len-first.ensures ∙ c.args.listed.now.ok.0) c.is_among.result c.is_among.ensures c.if-not-is_among.false
+    c.in-Some.step c.in-Some.is c.deref.result.now c.len-first.result c.deref.ensures.value (c.len-first.ensures ∙ c.args.listed.now.ok.0) c.is_also_in_run.result c.is_also_in_run.ensures c.if-not-is_also_in_run.false
+
+pub is_also_in_run-requires : goal.is_also_in_run-requires
+is_also_in_run-requires c =
+    let o = c.args.origin.now in
+    longer-apart o.table.now o.state.now o.letter.now c.args.taken.number c.args.taken.after c.args.taken.cells.now (keeps_of o.table.now (subst IsTable c.table.ensures c.law.ensures)).single
+    c.args.taken.others.now c.args.taken.run c.requires c.in_ok-step.field-0 c.in_ok-step.ensures c.args.listed.now.items c.push_run_steps.new.listed.items c.in_ok-push_run_steps.ensures
+    c.in-Some.step c.in-Some.is c.deref.result.now c.len-first.result c.deref.ensures.value (c.len-first.ensures ∙ c.args.listed.now.ok.0)
