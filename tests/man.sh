@@ -10,6 +10,7 @@ if [ $# -ne 1 ]; then
     exit 2
 fi
 program=$(cd "$(dirname "$1")" && pwd)/$(basename "$1")
+. "$(dirname "$0")/help.sh"
 cd "$(dirname "$0")/.." || exit 2
 page=man/brl.1
 work=$(mktemp -d)
@@ -38,20 +39,11 @@ else
 fi
 
 # What the help names: of each command a line with its operands and long options, and one of brl.
-commands() {
-    "$program" --help | sed -n '/^Commands:/,/^$/s/^  \([a-z][a-z]*\) .*/\1/p' | grep -vx help
-}
-options() {
-    "$program" "$@" --help | sed -n '/^Options:/,/^$/s/^ .*--\([a-z][a-z-]*\).*/--\1/p' | sort
-}
-operands() {
-    "$program" "$1" --help | sed -n '/^Arguments:/,/^$/s/^  [<[]\([A-Z]*\)[]>].*/\1/p'
-}
 {
     for command in $(commands); do
-        echo "$command" $(operands "$command") $(options "$command" | grep -vx -e --help)
+        echo "$command" $(operands "$command") $(options "$command" | grep -vx -e --help | sort)
     done | sort
-    echo brl $(options)
+    echo brl $(options | sort)
 } >"$work/help"
 [ "$(wc -l <"$work/help")" -gt 3 ] || fail 'the help' "$work/help"
 
