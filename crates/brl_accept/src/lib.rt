@@ -16,6 +16,6 @@ mod missing;
 mod pass;
 
 pub use accept_fault::AcceptFault;
-pub use checker::{Accepted, accept};
+pub use checker::{Accepted, accept, accept_watched};
 pub use judge_fault::JudgeFault;
 pub use judge_files::judge;

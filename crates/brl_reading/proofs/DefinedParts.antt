@@ -13,7 +13,8 @@ use Rattle.brl_table.specs.Limits.{AreNumbered, IsAmong, IsEntry}
 use Rattle.brl_reading.specs.Reading.{Listed, defined_characters, defined_entries, first_literary, first_uplow, defining_line, defined_info, is_repeated, notice_of, notices_after, numbered}
 use Rattle.brl_reading.specs.ItemLimits.{IsWithinLimits}
 use Rattle.brl_reading.proofs.NumberedEntries.{there-some}
-use Rattle.brl_reading.proofs.DefinitionSteps.{is_known, known-found, known-listed, plain-known}
+use Rattle.brl_reading.proofs.DefinitionSteps.{known-found, known-listed, plain-known}
+use Rattle.brl_reading.specs.Building.{is_known}
 
 -- ---- Numbers
 

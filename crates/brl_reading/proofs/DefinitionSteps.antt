@@ -18,13 +18,10 @@ use Rattle.brl_reading.specs.declared.characters.Characters.{Characters}
 use Rattle.brl_reading.specs.declared.item.Definition.{Definition}
 use Rattle.brl_table.specs.declared.rule.Info.{Info}
 use Rattle.brl_reading.specs.Reading.{Listed, insert_new, dedup, about, defined_characters, defined_classes, defined_entries, first_literary, first_plain, first_uplow, defined_info, is_repeated, notice_of, notices_after, numbered}
-use Rattle.brl_reading.specs.Building.{info_first, merged, none_listed, CharactersRepresent}
+use Rattle.brl_reading.specs.Building.{info_first, is_known, merged, none_listed, CharactersRepresent}
 use Rattle.brl_reading.proofs.NumberedEntries.{absent, any-fold, eq-flip, found-numbered, is_there, length-numbered, numbered-new, numbered-old, or-false, put-known, single-fold, there}
 
 -- ---- whether a character is known
-
-abbrev pub is_known : List Definition → ℕ → Bool
-is_known defined c = list_any (λ d. nat_eq c d.character) defined
 
 any-map : (c : ℕ) (defined : List Definition) → list_any (nat_eq c) (map (λ d. d.character) defined) ≡ is_known defined c
 any-map c [] = refl

@@ -136,7 +136,7 @@ same-bytes : (x : List ℕ) → bytes_eq x x ≡ true
 same-bytes x = (bytes_eq-Decides x x).1 refl
 
 module _ (lines : List Line) (names : List (String Global)) (named : map string_bytes names ≡ files_of (map line_view lines)) (i : ℕ) (line : Line) (within : i < length lines) (is : line ≡ get_or lines i line) where
-  there : slice_get (map line_view lines) i ≡ Some (line_view line)
+  pub there : slice_get (map line_view lines) i ≡ Some (line_view line)
   there = slice_get-map line_view lines i ∙ ap (option_map line_view) (slice_get-get_or lines i line within ∙ ap Some (sym is))
 
   pub has_file : (found : Option ℕ) → found ≡ position (λ other. bytes_eq line.file.now (string_bytes other)) names → IsSome found
@@ -150,7 +150,7 @@ module _ (lines : List Line) (names : List (String Global)) (named : map string_
       subst P (sym (position_from-zero (λ other. bytes_eq path (string_bytes other)) names) ∙ sym e) some
 
   module _ (file : ℕ) (found : file ≡ file_number (files_of (map line_view lines)) line.file.now) where
-    says : item_of file (line_view line) ≡ item_in (files_of (map line_view lines)) (line_view line)
+    pub says : item_of file (line_view line) ≡ item_in (files_of (map line_view lines)) (line_view line)
     says = ap (λ k. item_of k (line_view line)) found
 
     view-is : (other : LineView) → slice_get (map line_view lines) i ≡ Some other → other ≡ line_view line

@@ -1,5 +1,5 @@
 -- One more item of the first pass: what represents the items, and whether they are too many.
-use Rattle.std.proofs.Common.{ℕ, ◌<◌, ◌≤◌, ◌≡◌, Bool, true, false, ◌||◌, ◌==◌, not, cond, ◌⊎◌, inl, inr, List, [], ◌∷◌, ◌++◌, length, nat_lt, refl, arith, sym, ◌∙◌, ap, subst, Some, None, Result, Ok, Err, append-nil}
+use Rattle.std.proofs.Common.{ℕ, ◌<◌, ◌≤◌, ◌≡◌, Bool, true, false, ◌||◌, ◌==◌, not, cond, List, [], ◌∷◌, ◌++◌, length, nat_lt, refl, arith, sym, ◌∙◌, ap, subst, Some, None, Result, Ok, Err, append-nil}
 use Rattle.std.proofs.lemmas.Bool.Decides.{nat_tests}
 use Rattle.std.proofs.lemmas.Grind.{flat_map-append}
 use Rattle.brl_lines.specs.Tokens.{LineView}
@@ -14,9 +14,10 @@ use Rattle.brl_failure.specs.Failure.{Gives}
 use Rattle.brl_failure.specs.declared.failure.Failure.{Failure}
 use Rattle.brl_failure.specs.declared.failure.Failure.TheVariants as failures
 use Rattle.brl_reading.specs.Items.{Fault, fault}
-use Rattle.brl_reading.specs.Reading.{defined_characters, definition_in, definitions, fault_after, indicated_in, repeats_indicator, opcode_in, indicator_cells, used_in, used_rules}
+use Rattle.brl_reading.specs.Reading.{are_too_many, defined_characters, definition_in, definitions, fault_after, indicated_in, repeats_indicator, opcode_in, indicator_cells, used_in, used_rules}
 use Rattle.brl_reading.specs.Building.{Adds, none_listed, SignsRepresent, Represents, CharactersRepresent}
 use Rattle.brl_reading.proofs.DefinitionSteps.{above, count-entries, not_above}
+use Rattle.brl_reading.proofs.NumberedEntries.{or-false}
 
 -- a list of the cells of each indicator gives each its own
 abbrev pub GivesOwn : Type 0
@@ -29,6 +30,18 @@ AreSame = (sign other : Sign) → is_same_sign sign other ≡ true → sign ≡ 
 module _ (items : List Item) where
   definitions-more : (item : Item) → definitions (items ++ item ∷ []) ≡ definitions items ++ definition_in item
   definitions-more item = flat_map-append definition_in items (item ∷ []) ∙ ap (λ ds. definitions items ++ ds) (append-nil (definition_in item))
+
+  -- whether the items are too many with one more, by the numbers of characters and of used rules
+  module _ (item : Item) (count used : ℕ) (counted : count ≡ length (defined_characters (definitions items ++ definition_in item))) (rules : used ≡ length (used_rules (items ++ item ∷ []))) where
+    by-numbers : nat_lt 1024 count || nat_lt 4096 used ≡ are_too_many (items ++ item ∷ [])
+    by-numbers = ap (λ n. nat_lt 1024 n || nat_lt 4096 used) (counted ∙ ap (λ ds. length (defined_characters ds)) (sym (definitions-more item)))
+        ∙ ap (λ n. nat_lt 1024 (length (defined_characters (definitions (items ++ item ∷ [])))) || nat_lt 4096 n) rules
+
+    pub too_many-characters : 1024 < count → nat_lt 1024 count ≡ are_too_many (items ++ item ∷ [])
+    too_many-characters more = above 1024 count more ∙ sym (ap (λ b. b || nat_lt 4096 used) (above 1024 count more)) ∙ by-numbers
+
+    pub too_many-rules : count ≤ 1024 → nat_lt 4096 used ≡ are_too_many (items ++ item ∷ [])
+    too_many-rules few = sym (ap (λ b. b || nat_lt 4096 used) (not_above 1024 count few)) ∙ by-numbers
 
   sign-more : (item : Item) (sign : Sign) → indicator_cells (items ++ item ∷ []) sign ≡ indicator_cells items sign ++ indicated_in sign item
   sign-more item sign = flat_map-append (indicated_in sign) items (item ∷ []) ∙ ap (λ cells. indicator_cells items sign ++ cells) (append-nil (indicated_in sign item))
@@ -97,26 +110,29 @@ signs-within own same items files item old new once limits before after few sign
     subst P (sym (ap (λ s. cells_at s sign) after ∙ own (indicator_cells (items ++ item ∷ [])) sign ∙ sign-more items item sign))
     (few-signs items same files item once limits (λ other. subst P (ap (λ s. cells_at s other) before ∙ own (indicator_cells items) other) (few other)) sign)
 
-or-second : (a b : Bool) → b ≡ true → a || b ≡ true
-or-second true b h = refl
-or-second false b h = h
+at_most : (m n : ℕ) → nat_lt m n ≡ false → n ≤ m
+at_most m n h = grind (arith, nat_tests)
 
 module _ (items : List Item) (line : LineView) (item : Item) where
+  -- a line whose item makes the items too many
+  pub fault-too_many : repeats_indicator items item ≡ false → are_too_many (items ++ item ∷ []) ≡ true → fault_after items line (Ok item) ≡ Some (fault TooMany (opcode_in line item))
+  fault-too_many once many = rw (once, many) refl
+
   module _ (once : repeats_indicator items item ≡ false) (characters : Characters) (signs : List (List ℕ)) (used : ℕ) (represents : Represents (items ++ item ∷ []) characters signs used) where
     count : length characters.infos.entries ≡ length (defined_characters (definitions (items ++ item ∷ [])))
     count = ap length represents.defined.entries_are ∙ count-entries (definitions (items ++ item ∷ [])) none_listed
 
-    pub fault-too_many : (1024 < length characters.infos.entries) ⊎ (4096 < used) → fault_after items line (Ok item) ≡ Some (fault TooMany (opcode_in line item))
-    fault-too_many (inl more) =
+    -- items that aren't too many are within the limits
+    pub within-limits : are_too_many (items ++ item ∷ []) ≡ false → (length characters.infos.entries ≤ 1024) × (used ≤ 4096)
+    within-limits few =
+        let characters_now = length (defined_characters (definitions (items ++ item ∷ []))) in
+        let rules_now = length (used_rules (items ++ item ∷ [])) in
+        let tests : (nat_lt 1024 characters_now ≡ false) × (nat_lt 4096 rules_now ≡ false) = or-false (nat_lt 1024 characters_now) (nat_lt 4096 rules_now) few in
+        let characters_few : characters_now ≤ 1024 = at_most 1024 characters_now tests.0 in
+        let rules_few : rules_now ≤ 4096 = at_most 4096 rules_now tests.1 in
         let n = count in
-        let many : 1024 < length (defined_characters (definitions (items ++ item ∷ []))) = omega arith in
-        rw (once, above 1024 (length (defined_characters (definitions (items ++ item ∷ [])))) many) refl
-    fault-too_many (inr more) =
         let e = represents.counted in
-        let many : 4096 < length (used_rules (items ++ item ∷ [])) = omega arith in
-        let yes = or-second (nat_lt 1024 (length (defined_characters (definitions (items ++ item ∷ []))))) (nat_lt 4096 (length (used_rules (items ++ item ∷ []))))
-        (above 4096 (length (used_rules (items ++ item ∷ []))) many) in
-        rw once (ap (λ b. cond b (Some (fault TooMany (opcode_in line item))) None) yes)
+        (omega arith, omega arith)
 
     pub fault-none : length characters.infos.entries ≤ 1024 → used ≤ 4096 → fault_after items line (Ok item) ≡ None
     fault-none few_characters few_rules =

@@ -6,7 +6,11 @@ pub mod ItemSteps
 pub mod ResolveSteps
 pub mod LimitLemmas
 pub mod DefinedParts
+pub mod CharacterCounts
 pub mod FileNames
 pub mod FirstPass
 pub mod SecondPass
 pub mod OneTable
+pub mod Places
+pub mod SurveyLaws
+pub mod SurveySteps

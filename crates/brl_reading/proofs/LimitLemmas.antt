@@ -20,7 +20,7 @@ use Rattle.brl_table.specs.Limits.{IsAmong, IsEntry, IsRule}
 use Rattle.brl_reading.specs.Reading.{definition_in, definitions, own_cells, rule_of}
 use Rattle.brl_reading.specs.Building.{over}
 use Rattle.brl_table.specs.Text.{fold_of, is_defined, is_text}
-use Rattle.brl_reading.proofs.DefinitionSteps.{is_known}
+use Rattle.brl_reading.specs.Building.{is_known}
 
 one-within : (files : ℕ) (item : Item) → IsItemWithinLimits files item → All (IsWithinLimits files) (definition_in item)
 one-within files (Defines d) limits = All-cons (IsWithinLimits files) d [] limits.limits (All-nil (IsWithinLimits files))

@@ -1,6 +1,7 @@
 -- Internal. What the steps of building a table keep.
-use Rattle.std.specs.Prelude.{All, ℕ, ◌≡◌, ◌+◌, ◌≤◌, ◌<◌, true, false, ◌&&◌, ◌||◌, not, nat_eq, if◌then◌else◌, List, [], ◌∷◌, ◌++◌, length, map, slice_get, string_bytes, is_some, None, Result, Ok, Err, Some}
+use Rattle.std.specs.Prelude.{All, ℕ, Bool, ◌≡◌, ◌+◌, ◌≤◌, ◌<◌, true, false, ◌&&◌, ◌||◌, not, nat_eq, if◌then◌else◌, List, [], ◌∷◌, ◌++◌, length, map, slice_get, string_bytes, is_some, None, Result, Ok, Err, Some}
 use Rattle.std.specs.Int.RustNames.{bit_or}
+use Rattle.std.specs.List.{list_any}
 use Rattle.indexmap.specs.IndexSet.{contains}
 use Rattle.brl_lines.specs.Tokens.{LineView}
 use Rattle.brl_reading.specs.declared.characters.Characters.{Characters}
@@ -67,6 +68,10 @@ with_role NeedsNoContractSign info = record info { nocont = true }
 -- the listed characters, and those that the list lines among these items name
 abbrev pub listed_with : Listed → List Item → Listed
 listed_with listed items = record { mode = listed.mode ++ (listed_characters items).mode; nocont = listed.nocont ++ (listed_characters items).nocont }
+
+-- whether one of the definitions is of the character
+abbrev pub is_known : List Definition → ℕ → Bool
+is_known defined c = list_any (λ d. nat_eq c d.character) defined
 
 -- the characters, those of plain lines and the notices are what these definitions give
 pub record CharactersRepresent (defined : List Definition) (characters : Characters) : Type 0 where

@@ -27,6 +27,7 @@ ghost use Rattle.brl_reading.specs.declared.item.Item.TheVariants as items;
 ghost use Rattle.brl_table.specs.declared.rule.Rule.{Rule as RuleView};
 ghost use Rattle.brl_reading.specs.Reading.{
   Listed,
+  are_too_many,
   defined_entries,
   repeats_indicator as repeats_indicator_by,
   files_of,
@@ -78,7 +79,7 @@ pub fn read_table(alloc: Global, lines: &[Line<'_>]) -> Result<Table, Failure<Ta
 
 /// A table that is being built.
 #[derive(Drop)]
-struct TableBuilder {
+pub(crate) struct TableBuilder {
     /// The item of each line.
     items: Vec<Item>,
     /// The characters that the items define.
@@ -91,7 +92,7 @@ struct TableBuilder {
 
 impl TableBuilder {
     /// A table without lines.
-    fn new(alloc: Global) -> TableBuilder
+    pub(crate) fn new(alloc: Global) -> TableBuilder
         ensures items { result.items.items ≡ [] }
         ensures represents { Represents [] result.characters result.signs result.used }
         ensures within { AreWithinLimits result.characters result.signs result.used }
@@ -148,11 +149,18 @@ impl TableBuilder {
         Ok(())
     }
 
-    /// The first pass over one line, of the file with this number.
-    fn add(&mut self, alloc: Global, file: usize, line: &Line<'_>) -> Result<(), Failure<WordFault>>
+    /// The first pass over one line, of the file with this number. A line with a fault changes
+    /// nothing.
+    pub(crate) fn add(
+        &mut self,
+        alloc: Global,
+        file: usize,
+        line: &Line<'_>,
+    ) -> Result<(), Failure<WordFault>>
         requires represents { Represents self.old.items.items self.old.characters self.old.signs self.old.used }
         requires within { AreWithinLimits self.old.characters self.old.signs self.old.used }
-        ensures { let view = line_view line.now in
+        ensures same { IfErr result (IfFault (λ _. self.new ≡ self.old)) }
+        ensures adds { let view = line_view line.now in
             Adds self.old.items.items view file (item_defined file view) self.new.items.items
             self.new.characters self.new.signs self.new.used result }
     {
@@ -162,11 +170,11 @@ impl TableBuilder {
         if self.repeats_indicator(&item) {
             return refuse(alloc, TableFaultKind::IndicatorTwice, opcode);
         }
-        self.apply(&item)?;
-        self.items.push(item)?;
-        if self.characters.infos.len() > MOST_CHARACTERS || self.used > MOST_RULES {
+        if self.exceeds_limits(&item) {
             return refuse(alloc, TableFaultKind::TooMany, opcode);
         }
+        self.apply(&item)?;
+        self.items.push(item)?;
         Ok(())
     }
 
@@ -178,6 +186,26 @@ impl TableBuilder {
         match item {
             Item::Indicates(sign, _) => !self.signs.cells(*sign).is_empty(),
             _ => false,
+        }
+    }
+
+    /// Whether an item would give the table too many characters or used rules.
+    fn exceeds_limits(&self, item: &Item) -> bool
+        requires { AreWithinLimits self.now.characters self.now.signs self.now.used }
+        ensures { (earlier : List ItemView) → Represents earlier self.now.characters self.now.signs self.now.used →
+            result ≡ are_too_many (earlier ++ item.now ∷ []) }
+    {
+        self.characters.count_with(item) > MOST_CHARACTERS || self.used_with(item) > MOST_RULES
+    }
+
+    /// The number of used rules with that of an item.
+    fn used_with(&self, item: &Item) -> usize
+        requires { self.now.used ≤ 4096 }
+        ensures { (earlier : List ItemView) → self.now.used ≡ length (used_rules earlier) → result ≡ length (used_rules (earlier ++ item.now ∷ [])) }
+    {
+        match item {
+            Item::Rules(rule) if rule.head.used => self.used + 1,
+            _ => self.used,
         }
     }
 
@@ -346,7 +374,7 @@ fn operand_of<'a>(line: &Line<'a>, number: usize) -> &'a str
 }
 
 /// The names of the lines' files without repetitions, in the order in which lines first name them.
-fn file_names(alloc: Global, lines: &[Line<'_>]) -> Result<Vec<String>, AllocError>
+pub(crate) fn file_names(alloc: Global, lines: &[Line<'_>]) -> Result<Vec<String>, AllocError>
     ensures { IfOk result (λ files. map string_bytes files.items ≡ files_of (map line_view lines.now)) }
 {
     let mut files: Vec<String> = Vec::new(alloc);
@@ -359,14 +387,18 @@ fn file_names(alloc: Global, lines: &[Line<'_>]) -> Result<Vec<String>, AllocErr
 }
 
 /// The place of a name in a list, from 0.
-fn place_of(names: &[String], name: &str) -> Option<usize>
+pub(crate) fn place_of(names: &[String], name: &str) -> Option<usize>
     ensures { result ≡ position (λ other. bytes_eq name.now (string_bytes other)) names.now }
 {
     names.iter().position(|other| name == other.as_str())
 }
 
 /// The fault of a line, with the line's file and number.
-fn fault_at(alloc: Global, failure: Failure<WordFault>, line: &Line<'_>) -> Failure<TableFault>
+pub(crate) fn fault_at(
+    alloc: Global,
+    failure: Failure<WordFault>,
+    line: &Line<'_>,
+) -> Failure<TableFault>
     ensures { IsAt (line_view line.now) failure result }
 {
     let Failure::Fault(fault) = failure else {

@@ -3,11 +3,11 @@ ghost use Rattle.std.specs.Prelude.{◌≡◌, ◌+◌, ◌≤◌, ◌∷◌, �
 ghost use Rattle.std.specs.List.{flat_map, list_any};
 ghost use Rattle.indexmap.specs.IndexSet.{IsEmpty};
 ghost use Rattle.brl_reading.specs.declared.item.Definition.{Definition};
-ghost use Rattle.brl_reading.specs.Reading.{Listed, defined_entries, is_repeated as is_repeated_by, own_cells as own_cells_of, rule_of};
+ghost use Rattle.brl_reading.specs.Reading.{Listed, defined_characters, defined_entries, definition_in, is_repeated as is_repeated_by, own_cells as own_cells_of, rule_of};
 ghost use Rattle.brl_reading.specs.Building.{with_role, info_first, merged, listed_more, none_listed, over, CharactersRepresent};
-ghost use Rattle.brl_table.specs.Text.{fold_of, is_literary, is_text};
+ghost use Rattle.brl_table.specs.Text.{fold_of, is_defined, is_literary, is_text};
 
-use crate::item::{Definition, ListLine, NumericRole, RuleLine};
+use crate::item::{Definition, Item, ListLine, NumericRole, RuleLine};
 use bitflags::Flags;
 use brl_cells::{Cells, Chars};
 use brl_table::{Info, Notice, Rule};
@@ -58,6 +58,38 @@ impl Characters {
             })?;
         }
         Ok(())
+    }
+
+    /// The number of characters with those that an item defines.
+    pub fn count_with(&self, item: &Item) -> usize
+        requires { length self.now.infos.entries ≤ 1024 }
+        ensures { (defined : List Definition) → CharactersRepresent defined self.now →
+            result ≡ length (defined_characters (defined ++ definition_in item.now)) }
+    {
+        let count = self.infos.len();
+        match item {
+            Item::Defines(definition) => count + self.new_count(definition.character),
+            Item::DefinesBoth(upper, lower) => {
+                let first = self.new_count(upper.character);
+                if upper.character == lower.character {
+                    return count + first;
+                }
+                count + first + self.new_count(lower.character)
+            }
+            _ => count,
+        }
+    }
+
+    /// 1 for a character that isn't defined yet, else 0.
+    fn new_count(&self, character: char) -> usize
+        ensures value { result ≡ (if is_defined (over self.now.infos.entries) character then 0 else 1) }
+        ensures small { result ≤ 1 }
+    {
+        if self.infos.contains_key(&character) {
+            0
+        } else {
+            1
+        }
     }
 
     /// Whether the character has a definition of the same kind, `litdigit` or plain.

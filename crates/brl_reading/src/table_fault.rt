@@ -1,45 +1,58 @@
 //! The faults of lines that define no table.
+use std::error::Error;
+use std::fmt;
 use std::marker::Model;
-use thiserror::Error;
 
 /// The kinds of faults of a line.
-#[derive(Clone, Copy, PartialEq, Eq, Debug, Error)]
+#[derive(Clone, Copy, PartialEq, Eq, Debug)]
 pub enum TableFaultKind {
     /// Its opcode isn't in the profile.
-    #[error("B1 OutsideProfile")]
     OutsideProfile,
     /// It has fewer operands than its opcode needs.
-    #[error("B2 MissingOperand")]
     MissingOperand,
     /// A character operand has a bad escape, or doesn't spell the characters that the opcode asks
     /// for.
-    #[error("B3 BadCharacters")]
     BadCharacters,
     /// A dots operand spells no cells, or too many.
-    #[error("B4 BadDots")]
     BadDots,
     /// The table doesn't define a character of its rule.
-    #[error("B5 UndefinedInRule")]
     UndefinedInRule,
     /// The table doesn't define a character of its list.
-    #[error("B6 UndefinedInList")]
     UndefinedInList,
     /// A character that it lists as one that could be read as a digit is a digit: it has a
     /// `litdigit` line.
-    #[error("B7 TwoRoles")]
     TwoRoles,
     /// Its rule has too many characters, or it gives the table too many characters or used rules.
-    #[error("B8 TooMany")]
     TooMany,
     /// It defines an indicator again.
-    #[error("B9 IndicatorTwice")]
     IndicatorTwice,
 }
 
-/// The first fault of a table's lines: its kind, the word of the line that it is about, and the
-/// line.
-#[derive(Debug, Drop, Error)]
-#[error("{kind} {subject} at {file}:{line}")]
+impl fmt::Display for TableFaultKind {
+    ghost use Rattle.std.specs.Prelude.{Some};
+    ghost use Rattle.brl_reading.specs.FaultText.{kind_text};
+
+    ghost output = { λ kind. Some (kind_text kind) };
+
+    fn fmt<W: fmt::Write>(&self, f: &mut fmt::Formatter<W>) -> fmt::Result {
+        f.write_str(match self {
+            TableFaultKind::OutsideProfile => "B1 OutsideProfile",
+            TableFaultKind::MissingOperand => "B2 MissingOperand",
+            TableFaultKind::BadCharacters => "B3 BadCharacters",
+            TableFaultKind::BadDots => "B4 BadDots",
+            TableFaultKind::UndefinedInRule => "B5 UndefinedInRule",
+            TableFaultKind::UndefinedInList => "B6 UndefinedInList",
+            TableFaultKind::TwoRoles => "B7 TwoRoles",
+            TableFaultKind::TooMany => "B8 TooMany",
+            TableFaultKind::IndicatorTwice => "B9 IndicatorTwice",
+        })
+    }
+}
+
+impl Error for TableFaultKind {}
+
+/// A fault of a line of a table: its kind, the word of the line that it is about, and the line.
+#[derive(Debug, Drop)]
 pub struct TableFault {
     pub kind: TableFaultKind,
     pub subject: String,
@@ -48,6 +61,25 @@ pub struct TableFault {
     /// The line's number in its file, from 1.
     pub line: u32,
 }
+
+impl fmt::Display for TableFault {
+    ghost use Rattle.std.specs.Prelude.{Some};
+    ghost use Rattle.brl_reading.specs.FaultText.{fault_text, located_fault};
+
+    ghost output = { λ found. Some (fault_text (located_fault found)) };
+
+    fn fmt<W: fmt::Write>(&self, f: &mut fmt::Formatter<W>) -> fmt::Result {
+        let TableFault {
+            kind,
+            subject,
+            file,
+            line,
+        } = self;
+        write!(f, "{kind} {subject} at {file}:{line}")
+    }
+}
+
+impl Error for TableFault {}
 
 /// The fault of a line by itself: its kind, and the word that it is about.
 #[derive(Drop)]

@@ -1,4 +1,4 @@
-mod Printed
 mod Places
 mod Known
 mod Common
+mod Tallies

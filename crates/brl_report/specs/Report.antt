@@ -1,20 +1,16 @@
 -- The report of a clash. The project's own choice.
-use Rattle.std.specs.Prelude.{ℕ, List, [], ◌∷◌, ◌++◌, codes, map, drop}
+use Rattle.std.specs.Prelude.{ℕ, List, [], ◌∷◌, ◌++◌, codes, drop}
 use Rattle.std.specs.Fmt.{decimal}
-use Rattle.std.specs.Str.{encode_utf8_all}
-use Rattle.brl_cells.specs.Dots.{spelling}
-use Rattle.brl_lines.specs.Spelling.{text_spelling}
-use Rattle.brl_report.specs.Rows.{row_lines, row_of}
+use Rattle.brl_report.specs.Header.{cells_line, text_line}
+use Rattle.brl_report.specs.Rows.{step_lines}
 use Rattle.brl_report.specs.Steps.{common_prefix, report_steps}
+use Rattle.brl_report.specs.declared.row.CellColumns.TheVariants.{Joined}
 use Rattle.brl_report.specs.declared.steps.ReportStep.{ReportStep}
 use Rattle.brl_table.specs.TableView.{TableView}
 
--- the lines of the texts, spelled, and of their cells in dots
+-- the lines of the texts of a clash and of their cells
 abbrev pub header : List ℕ → List ℕ → List ℕ → List ℕ
-header left right cells =
-    codes "left: " ++ encode_utf8_all (text_spelling left) ++ codes "\n"
-    ++ codes "right: " ++ encode_utf8_all (text_spelling right) ++ codes "\n"
-    ++ codes "cells: " ++ spelling cells ++ codes "\n"
+header left right cells = text_line (codes "left") left ++ text_line (codes "right") right ++ cells_line cells
 
 -- the position of the first of some steps, or 0
 abbrev pub first_start : List ReportStep → ℕ
@@ -23,7 +19,7 @@ first_start (x ∷ steps) = x.step.start
 
 -- a side of this name: its steps from where the two translations diverge
 abbrev pub side : TableView → List ℕ → List ReportStep → List ℕ
-side t name steps = name ++ codes " from " ++ decimal (first_start steps) ++ codes ":\n" ++ row_lines (map (row_of t) steps)
+side t name steps = name ++ codes " from " ++ decimal (first_start steps) ++ codes ":\n" ++ step_lines t Joined steps
 
 -- both sides after a text
 abbrev pub report_of : TableView → List ℕ → List ReportStep → List ReportStep → List ℕ

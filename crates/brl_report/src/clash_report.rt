@@ -3,11 +3,10 @@ ghost use Rattle.std.specs.Prelude.{◌≡◌, IfOk, string_bytes};
 ghost use Rattle.brl_report.specs.Report.{header, report_text};
 ghost use Rattle.brl_table.specs.Translation.{IsClash};
 
+use crate::header::{push_cells_line, push_text_line};
 use crate::side::push_sides;
 use crate::steps::report_steps;
-use brl_cells::write_dots;
 use brl_forward::Clash;
-use brl_lines::spell_chars;
 use brl_table::Table;
 use std::alloc::{AllocError, Global};
 
@@ -15,10 +14,11 @@ use std::alloc::{AllocError, Global};
 fn header(alloc: Global, clash: &Clash) -> Result<String, AllocError>
     ensures { IfOk result (λ text. string_bytes text ≡ header clash.now.left clash.now.right clash.now.cells) }
 {
-    let left = spell_chars(alloc, clash.left())?;
-    let right = spell_chars(alloc, clash.right())?;
-    let cells = write_dots(alloc, clash.cells())?;
-    format!(in alloc; "left: {left}\nright: {right}\ncells: {cells}\n")
+    let mut text = String::new(alloc);
+    push_text_line(alloc, &mut text, "left", clash.left())?;
+    push_text_line(alloc, &mut text, "right", clash.right())?;
+    push_cells_line(alloc, &mut text, clash.cells())?;
+    Ok(text)
 }
 
 /// The report of a clash of a table: its two texts and their cells, and then for each text the

@@ -1,10 +1,19 @@
-//! The report of a clash: the two texts, their cells, and for each text the steps of its
-//! translation from the first one that the other text doesn't have.
+//! Reports. `report` has a clash: the two texts, their cells, and for each text the steps of its
+//! translation from the first one that the other text doesn't have. `trace_report` has one text,
+//! its cells and all its steps. `survey_report` has the lines of a table that have a fault by
+//! themselves.
 #![tactic(auto)]
 
 mod clash_report;
+mod counts;
+mod header;
 mod row;
+mod rows;
 mod side;
 mod steps;
+mod survey;
+mod trace;
 
 pub use clash_report::report;
+pub use survey::survey_report;
+pub use trace::trace_report;

@@ -1,31 +1,59 @@
 //! The lines of a report that list the steps of a text.
-ghost use Rattle.std.specs.Prelude.{◌≡◌, ◌<◌, ◌++◌, IfOk, OnOk, Some, length, slice_get, string_bytes};
-ghost use Rattle.brl_report.specs.Rows.{filled, first_column, place_of_rule, place_text, row_line, row_of, second_column, widest};
+ghost use Rattle.std.specs.Prelude.{◌≡◌, ◌<◌, ◌++◌, IfOk, OnOk, Some, length, option_map, slice_get, string_bytes, take, drop};
+ghost use Rattle.brl_report.specs.Rows.{
+  cells_or_none,
+  column,
+  column_if,
+  filled,
+  indicators_column,
+  place_of_rule,
+  place_text,
+  row_line,
+  row_of,
+  rule_cells,
+  widths_of,
+};
 
 use crate::steps::ReportStep;
-use brl_cells::write_dots;
+use brl_cells::{Cell, write_dots};
 use brl_lines::spell_chars;
 use brl_table::Table;
 use std::alloc::{AllocError, Global};
 use std::marker::Model;
 use unicode_width::UnicodeWidthStr;
 
+/// How the cells of a step are shown.
+#[derive(Clone, Copy)]
+pub enum CellColumns {
+    /// In one column.
+    Joined,
+    /// In two columns: those of the indicators, then those of the rule.
+    Parted,
+}
+
 /// The columns of a line: a step's characters as they are spelled, its cells in dots, and the
 /// location of its rule.
 #[derive(Drop)]
 pub struct Row {
     characters: String,
+    /// The cells of the indicators, if they have a column of their own.
+    indicators: Option<String>,
     dots: String,
     place: String,
 }
 
 impl Model for Row {
-    ghost use Rattle.std.specs.Prelude.{string_bytes};
+    ghost use Rattle.std.specs.Prelude.{option_map, string_bytes};
     ghost use Rattle.brl_report.specs.Rows.{RowView};
 
     ghost Value = { RowView };
 
-    ghost view = { λ r. record { characters = string_bytes r.characters; dots = string_bytes r.dots; place = string_bytes r.place } };
+    ghost view = { λ r. record {
+      characters = string_bytes r.characters;
+      indicators = option_map string_bytes r.indicators;
+      dots = string_bytes r.dots;
+      place = string_bytes r.place;
+    } };
 }
 
 /// A file and one of its lines, as `FILE:LINE`.
@@ -57,14 +85,59 @@ fn place_of(alloc: Global, table: &Table, step: &ReportStep) -> Result<String, A
     place_text(alloc, table, info.file, info.line)
 }
 
+/// Cells in dots, or `-` for none.
+fn cells_or_none(alloc: Global, cells: &[Cell]) -> Result<String, AllocError>
+    ensures { IfOk result (λ text. string_bytes text ≡ cells_or_none cells.now) }
+{
+    if cells.is_empty() {
+        return String::from_str(alloc, "-");
+    }
+    write_dots(alloc, cells)
+}
+
+/// The cells of a step's indicators, if they have a column of their own.
+fn indicators_column(
+    alloc: Global,
+    columns: CellColumns,
+    step: &ReportStep,
+) -> Result<Option<String>, AllocError>
+    ensures { IfOk result (λ column. option_map string_bytes column ≡ indicators_column columns step.now) }
+{
+    match columns {
+        CellColumns::Joined => Ok(None),
+        CellColumns::Parted => {
+            let cells = step.step.cells.as_slice();
+            let indicators = cells.get(..step.step.indicators).unwrap_or(cells);
+            Ok(Some(cells_or_none(alloc, indicators)?))
+        }
+    }
+}
+
+/// The cells of a step in the column of its rule.
+fn rule_cells(columns: CellColumns, step: &ReportStep) -> &[Cell]
+    ensures { result.now ≡ rule_cells columns step.now }
+{
+    let cells = step.step.cells.as_slice();
+    match columns {
+        CellColumns::Joined => cells,
+        CellColumns::Parted => cells.get(step.step.indicators..).unwrap_or_default(),
+    }
+}
+
 impl Row {
     /// The columns of a step.
-    pub fn of(alloc: Global, table: &Table, step: &ReportStep) -> Result<Row, AllocError>
-        ensures { IfOk result (λ row. row ≡ row_of table.now step.now) }
+    pub fn of(
+        alloc: Global,
+        table: &Table,
+        columns: CellColumns,
+        step: &ReportStep,
+    ) -> Result<Row, AllocError>
+        ensures { IfOk result (λ row. row ≡ row_of table.now columns step.now) }
     {
         Ok(Row {
             characters: spell_chars(alloc, step.characters.as_slice())?,
-            dots: write_dots(alloc, step.step.cells.as_slice())?,
+            indicators: indicators_column(alloc, columns, step)?,
+            dots: write_dots(alloc, rule_cells(columns, step))?,
             place: place_of(alloc, table, step)?,
         })
     }
@@ -76,15 +149,42 @@ impl Row {
         text: &mut String,
         widths: Widths,
     ) -> Result<(), AllocError>
-        ensures { OnOk result (string_bytes text.new ≡ string_bytes text.old ++ row_line widths.first widths.second self.now) }
+        ensures { OnOk result (string_bytes text.new ≡ string_bytes text.old ++ row_line widths self.now) }
     {
-        text.push_str("  ")?;
-        push_filled(alloc, text, self.characters.as_str(), widths.first)?;
-        text.push_str("  ")?;
-        push_filled(alloc, text, self.dots.as_str(), widths.second)?;
+        push_column(alloc, text, self.characters.as_str(), widths.characters)?;
+        push_column_if(alloc, text, &self.indicators, widths.indicators)?;
+        push_column(alloc, text, self.dots.as_str(), widths.dots)?;
         text.push_str("  ")?;
         text.push_str(self.place.as_str())?;
         text.push('\n')
+    }
+}
+
+/// Appends a column to a text, after two blanks.
+fn push_column(
+    alloc: Global,
+    text: &mut String,
+    entry: &str,
+    width: usize,
+) -> Result<(), AllocError>
+    ensures { OnOk result (string_bytes text.new ≡ string_bytes text.old ++ column width entry.now) }
+{
+    text.push_str("  ")?;
+    push_filled(alloc, text, entry, width)
+}
+
+/// The same of a column that may not be there.
+fn push_column_if(
+    alloc: Global,
+    text: &mut String,
+    entry: &Option<String>,
+    width: usize,
+) -> Result<(), AllocError>
+    ensures { OnOk result (string_bytes text.new ≡ string_bytes text.old ++ column_if width (option_map string_bytes entry.now)) }
+{
+    match entry {
+        Some(entry) => push_column(alloc, text, entry.as_str(), width),
+        None => Ok(()),
     }
 }
 
@@ -92,33 +192,39 @@ impl Row {
 fn push_filled(
     alloc: Global,
     text: &mut String,
-    column: &str,
+    entry: &str,
     width: usize,
 ) -> Result<(), AllocError>
-    ensures { OnOk result (string_bytes text.new ≡ string_bytes text.old ++ filled width column.now) }
+    ensures { OnOk result (string_bytes text.new ≡ string_bytes text.old ++ filled width entry.now) }
 {
-    text.push_str(column)?;
-    let blanks = " ".repeat(alloc, width.saturating_sub(column.width()))?;
+    text.push_str(entry)?;
+    let blanks = " ".repeat(alloc, width.saturating_sub(entry.width()))?;
     text.push_str(blanks.as_str())
 }
 
-/// The widths of the first two columns.
+/// The widths of the columns before the location.
 #[derive(Clone, Copy)]
 pub struct Widths {
-    pub first: usize,
-    pub second: usize,
+    pub characters: usize,
+    pub indicators: usize,
+    pub dots: usize,
 }
 
-/// The widths that fit the first two columns of all rows.
+/// The widths that fit the columns of all rows.
 pub fn widths_of(rows: &[Row]) -> Widths
-    ensures first { result.first ≡ widest first_column rows.now }
-    ensures second { result.second ≡ widest second_column rows.now }
+    ensures { result ≡ widths_of rows.now }
 {
-    let mut first = 0;
-    let mut second = 0;
+    let mut characters = 0;
+    let mut indicators = 0;
+    let mut dots = 0;
     for row in rows {
-        first = first.max(row.characters.width());
-        second = second.max(row.dots.width());
+        characters = characters.max(row.characters.width());
+        indicators = indicators.max(row.indicators.as_ref().map_or(0, |entry| entry.width()));
+        dots = dots.max(row.dots.width());
     }
-    Widths { first, second }
+    Widths {
+        characters,
+        indicators,
+        dots,
+    }
 }

@@ -1,34 +1,12 @@
 //! One side of the report: the steps of a text from where the two translations diverge.
-ghost use Rattle.std.specs.Prelude.{◌≡◌, ◌++◌, OnOk, IfOk, string_bytes, drop, map};
+ghost use Rattle.std.specs.Prelude.{◌≡◌, ◌++◌, OnOk, string_bytes, drop};
 ghost use Rattle.brl_report.specs.Report.{report_of, side};
-ghost use Rattle.brl_report.specs.Rows.{row_of, row_lines};
 
-use crate::row::{Row, widths_of};
+use crate::row::CellColumns;
+use crate::rows::push_steps;
 use crate::steps::{ReportStep, common_prefix};
 use brl_table::Table;
 use std::alloc::{AllocError, Global};
-
-/// The rows of steps.
-fn rows_of(alloc: Global, table: &Table, steps: &[ReportStep]) -> Result<Vec<Row>, AllocError>
-    ensures { IfOk result (λ rows. rows.items ≡ map (row_of table.now) steps.now) }
-{
-    let mut rows = Vec::new(alloc);
-    for step in steps {
-        rows.push(Row::of(alloc, table, step)?)?;
-    }
-    Ok(rows)
-}
-
-/// Appends the lines of rows to a text.
-fn push_rows(alloc: Global, text: &mut String, rows: &[Row]) -> Result<(), AllocError>
-    ensures { OnOk result (string_bytes text.new ≡ string_bytes text.old ++ row_lines rows.now) }
-{
-    let widths = widths_of(rows);
-    for row in rows {
-        row.push_line(alloc, text, widths)?;
-    }
-    Ok(())
-}
 
 /// Appends a side of this name to a text.
 fn push_side(
@@ -42,7 +20,7 @@ fn push_side(
 {
     let start = steps.first().map_or(0, |first| first.step.start);
     write!(text, "{name} from {start}:\n")?;
-    push_rows(alloc, text, rows_of(alloc, table, steps)?.as_slice())
+    push_steps(alloc, table, text, CellColumns::Joined, steps)
 }
 
 /// The steps from index `count` on.

@@ -1,11 +1,13 @@
 //! The steps of a translation with their characters, and where two translations diverge.
-ghost use Rattle.std.specs.Prelude.{◌≡◌, IsTrue, IfOk, take, drop};
+ghost use Rattle.std.specs.Prelude.{◌≡◌, IsTrue, IfErr, IfOk, take, drop};
+ghost use Rattle.brl_failure.specs.Failure.{IfFault};
+ghost use Rattle.brl_forward.specs.Faults.{IsFaultOf};
 ghost use Rattle.brl_report.specs.Steps.{are_same, common_prefix, report_step, report_steps};
 ghost use Rattle.brl_table.specs.Text.{is_text};
 
 use brl_cells::Chars;
 use brl_failure::Failure;
-use brl_forward::{Traced, trace};
+use brl_forward::{ForwardFault, Traced, trace};
 use brl_table::Table;
 use std::alloc::{AllocError, Global};
 
@@ -25,7 +27,26 @@ fn taken(alloc: Global, text: &[char], step: &Traced) -> Result<Chars, AllocErro
     Ok(Chars::from_vec(Vec::from_slice(alloc, front)?))
 }
 
-/// The steps of a text's translation.
+/// The steps of a text's translation. `UnknownChar` where the table doesn't define a character.
+pub fn traced_steps(
+    alloc: Global,
+    table: &Table,
+    text: &[char],
+) -> Result<Vec<ReportStep>, Failure<ForwardFault>>
+    ensures steps { IfOk result (λ steps. steps.items ≡ report_steps table.now text.now) }
+    ensures text { IfOk result (λ _. IsTrue (is_text table.now text.now)) }
+    ensures fault { IfErr result (IfFault (IsFaultOf table.now text.now)) }
+{
+    let steps = trace(alloc, table, text)?;
+    let mut found = Vec::new(alloc);
+    for step in steps {
+        let characters = taken(alloc, text, &step)?;
+        found.push(ReportStep { step, characters })?;
+    }
+    Ok(found)
+}
+
+/// The steps of the translation of a text whose characters the table defines.
 pub fn report_steps(
     alloc: Global,
     table: &Table,
@@ -34,17 +55,11 @@ pub fn report_steps(
     requires { IsTrue (is_text table.now text.now) }
     ensures { IfOk result (λ steps. steps.items ≡ report_steps table.now text.now) }
 {
-    let steps = match trace(alloc, table, text) {
-        Ok(steps) => steps,
+    match traced_steps(alloc, table, text) {
+        Ok(steps) => Ok(steps),
         Err(Failure::Fault(_)) => unreachable!(),
-        Err(Failure::Memory) => return Err(AllocError),
-    };
-    let mut found = Vec::new(alloc);
-    for step in steps {
-        let characters = taken(alloc, text, &step)?;
-        found.push(ReportStep { step, characters })?;
+        Err(Failure::Memory) => Err(AllocError),
     }
-    Ok(found)
 }
 
 /// Whether the rules, the characters and the cells of two steps are the same.

@@ -24,7 +24,7 @@ mod trail;
 mod worklist;
 
 pub use dues_laws::{dues_certificate_law, dues_closed_law, dues_reached_law};
-pub use explore::{Progress, Search, search_machine};
+pub use explore::{Progress, Search, search_machine, search_machine_watched};
 pub use laws::{
     clash_law, just_reached_law, lead_law, no_limit_law, reached_closed_law, reached_listed_law,
     same_cells_law, short_lead_law, two_ends_law, two_runs_law,

@@ -28,6 +28,8 @@ t.ctb: space \\s 0; letter b 12; letter u 136; letter t 2345; word but 12; word 
 t.ctb: space \\s 0; letter a 1; letter b 12; punctuation . 256; begword ab 14; endword ab 15; word ab 16; midword ab 24|brl,translate,t.ctb|ab aba aab aaba ab.|* CA AE AIA *4||0
 t.ctb: space \\s 0; letter a 1; letter b 12; partword ab 14|brl,translate,t.ctb|ab aba aab|AB CA AC||0
 t.ctb: letter a 1; always a 14; always a 15|brl,translate,t.ctb|a|C||0
+t.ctb: letter a 1; letter b 12; always ab 14; word ab 15|brl,translate,t.ctb|ab|E||0
+t.ctb: letter a 1; letter b 12; always ab 14; word ab 15|brl,translate,t.ctb|aab|AC||0
 t.ctb: letter a 1; letter b 12; noback always ab 14; nofor always ba 15; display \\x2801 1|brl,translate,t.ctb|abba|CBA||0
 t.ctb: letter a 1; always ab 14|brl,translate,t.ctb|||B5 UndefinedInRule ab at t.ctb:2|2
 t.ctb: letter a 1; nofor always ab 14|brl,translate,t.ctb|||B5 UndefinedInRule ab at t.ctb:2|2
@@ -147,6 +149,7 @@ t.ctb: letter a 1 & c: BRLCERT 2; state 1 0; end 1 0|brl,check,t.ctb,c||refused:
 t.ctb: uplow Aa 1 & c: BRLCERT 2; state 1 0; state 24 0; state 40 0; pair 1 2 -; end 3 1|brl,check,t.ctb,c||refused: A4 PairMissing pair 0 rule 0||1
 t.ctb: uplow Aa 1 & c: BRLCERT 2; state 1 0; state 24 0; state 40 0; pair 1 2 -; pair 1 1 -; pair 2 2 -; pair 2 1 1; pair 1 1 1; pair 2 2 1; pair 1 2 1; end 3 7|brl,check,t.ctb,c||refused: A5 BothEnd pair 0||1
 t.ctb: letter a 1 & c: BRLCERT 2; state 1 0 n*; end 1 0|brl,check,t.ctb,c||refused: K2 Syntax line 2||1
+t.ctb: letter a 1; letter b 12; always ab 14; word ab 15 & c: BRLCERT 3; state 1 0 0; state 8 0 0; state 8 0 0 b62* b62+3; state 8 0 0 b62*; end 4 0|brl,check,t.ctb,c||refused: A2 StateMissing state 0 rule 0||1
 t.ctb: pass2 @1 @2 & c: BRLCERT 1; end 0 0|brl,check,t.ctb,c|||B1 OutsideProfile pass2 at t.ctb:1|2
 t.ctb: include t.ctb & c: BRLCERT 1; end 0 0|brl,check,t.ctb,c|||L4 Cycle t.ctb at t.ctb:1|2
 |brl,check,t.ctb,c|||L1 NotFound c|2

@@ -22,9 +22,9 @@ loop-line-preserved c =
     let before = c.loop-line.invariant in
     let number = number-of line.file.now names _ c.place_of.result c.unwrap-file.result named c.place_of.ensures c.unwrap-file.ensures in
     let within = number-within line.file.now names _ c.place_of.result c.unwrap-file.result named c.place_of.ensures c.unwrap-file.ensures in
-    let item = c.in_default.ensures.0 in
-    let is = c.in_default.ensures.1 in
-    let more = c.in_default.ensures.2 in
+    let item = c.in_default.ensures.adds.0 in
+    let is = c.in_default.ensures.adds.1 in
+    let more = c.in_default.ensures.adds.2 in
     let after = c.add.new.self in
     record {
       aligned = aligned-more lines names named i line c.loop-line-test.true c.line-item.is c.unwrap-file.result number items before.aligned item _ is more.added;
@@ -47,7 +47,7 @@ returns-in-Err-clause-fault c =
     (if_fault-weaker _ _ c.in-Err.failure
     (λ wrong h. first-fault lines names named i line c.loop-line-test.true c.line-item.is c.unwrap-file.result number c.loop-line.self.items.items c.loop-line.invariant.aligned
     wrong h c.loop-line.invariant.passed)
-    c.in-Err.ensures)
+    c.in-Err.ensures.adds)
     c.fault_at.ensures
 
 pub returns-clause-added : goal.returns-clause-added

@@ -1,9 +1,0 @@
-use Rattle.std.proofs.Common.{◌≡◌, ◌++◌, take}
-use Rattle.std.specs.Prelude.{string_bytes}
-use Rattle.std.specs.List.{flat_map}
-use Rattle.brl_report.specs.Rows.{row_line}
-use Rattle.brl_report.proofs.side.push_rows.Given as goal
-
-abbrev pub invariant-loop-row : goal.invariant-loop-row
-invariant-loop-row l =
-    string_bytes l.text ≡ string_bytes l.fn.text ++ flat_map (row_line l.widths.first l.widths.second) (take l.row-index l.rows)

@@ -1,0 +1,12 @@
+-- The report of one text: its steps. The project's own choice.
+use Rattle.std.specs.Prelude.{ℕ, List, ◌++◌, codes}
+use Rattle.brl_report.specs.Header.{cells_line, text_line}
+use Rattle.brl_report.specs.Rows.{step_lines}
+use Rattle.brl_report.specs.Steps.{report_steps}
+use Rattle.brl_report.specs.declared.row.CellColumns.TheVariants.{Parted}
+use Rattle.brl_table.specs.TableView.{TableView}
+use Rattle.brl_table.specs.Translation.{translation}
+
+-- the text, its cells, and the steps of its translation, with the cells of the indicators apart
+abbrev pub trace_text : TableView → List ℕ → List ℕ
+trace_text t text = text_line (codes "text") text ++ cells_line (translation t text) ++ step_lines t Parted (report_steps t text)
