@@ -56,7 +56,7 @@ awk '
     /^\.Cm/ { command = $2 }
     /^\.Op Fl Fl/ { options = options " --" $4 }
     command && /^\.Ar/ { operands = operands " " $2 }
-' "$page" | sort >"$work/synopsis"
+' "$page" | tr -s ' ' | sort >"$work/synopsis"
 grep -v '^brl ' "$work/help" | diff - "$work/synopsis" >"$work/diff" || fail 'the synopsis: < is in the help, > in the page' "$work/diff"
 
 awk '
@@ -81,7 +81,7 @@ awk '
         operands = $0
     }
     /^\.It Fl/ { options = options options_of($0) }
-' "$page" | sort >"$work/described"
+' "$page" | tr -s ' ' | sort >"$work/described"
 sort "$work/help" | diff - "$work/described" >"$work/diff" || fail 'the description: < is in the help, > in the page' "$work/diff"
 echo "ok: the page has the commands, operands and options of the help"
 
