@@ -12,6 +12,7 @@ if [ $# -ne 1 ]; then
 fi
 program=$(cd "$(dirname "$1")" && pwd)/$(basename "$1")
 completions=$(cd "$(dirname "$0")/../completions" && pwd) || exit 2
+. "$(dirname "$0")/help.sh"
 work=$(mktemp -d)
 trap 'rm -rf "$work"' EXIT
 trap 'exit 2' HUP INT TERM
@@ -19,14 +20,6 @@ mkdir "$work/files" "$work/files/tables" && cd "$work/files" || exit 2
 : >table.ctb
 : >table.cert
 : >other.txt
-
-# The commands that `brl --help` names, and the long options of a command, or of brl itself.
-commands() {
-    "$program" --help | sed -n '/^Commands:/,/^$/s/^  \([a-z][a-z]*\) .*/\1/p' | grep -vx help
-}
-options() {
-    "$program" "$@" --help | sed -n '/^Options:/,/^$/s/^ .*\(--[a-z][a-z-]*\).*/\1/p'
-}
 
 # What each shell offers at the end of a line, one word a line.
 bash_offers() {

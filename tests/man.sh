@@ -10,6 +10,7 @@ if [ $# -ne 1 ]; then
     exit 2
 fi
 program=$(cd "$(dirname "$1")" && pwd)/$(basename "$1")
+. "$(dirname "$0")/help.sh"
 cd "$(dirname "$0")/.." || exit 2
 page=man/brl.1
 work=$(mktemp -d)
@@ -38,20 +39,11 @@ else
 fi
 
 # What the help names: of each command a line with its operands and long options, and one of brl.
-commands() {
-    "$program" --help | sed -n '/^Commands:/,/^$/s/^  \([a-z][a-z]*\) .*/\1/p' | grep -vx help
-}
-options() {
-    "$program" "$@" --help | sed -n '/^Options:/,/^$/s/^ .*--\([a-z][a-z-]*\).*/--\1/p' | sort
-}
-operands() {
-    "$program" "$1" --help | sed -n '/^Arguments:/,/^$/s/^  [<[]\([A-Z]*\)[]>].*/\1/p'
-}
 {
     for command in $(commands); do
-        echo "$command" $(operands "$command") $(options "$command" | grep -vx -e --help)
+        echo "$command" $(operands "$command") $(options "$command" | grep -vx -e --help | sort)
     done | sort
-    echo brl $(options)
+    echo brl $(options | sort)
 } >"$work/help"
 [ "$(wc -l <"$work/help")" -gt 3 ] || fail 'the help' "$work/help"
 
@@ -64,7 +56,7 @@ awk '
     /^\.Cm/ { command = $2 }
     /^\.Op Fl Fl/ { options = options " --" $4 }
     command && /^\.Ar/ { operands = operands " " $2 }
-' "$page" | sort >"$work/synopsis"
+' "$page" | tr -s ' ' | sort >"$work/synopsis"
 grep -v '^brl ' "$work/help" | diff - "$work/synopsis" >"$work/diff" || fail 'the synopsis: < is in the help, > in the page' "$work/diff"
 
 awk '
@@ -89,7 +81,7 @@ awk '
         operands = $0
     }
     /^\.It Fl/ { options = options options_of($0) }
-' "$page" | sort >"$work/described"
+' "$page" | tr -s ' ' | sort >"$work/described"
 sort "$work/help" | diff - "$work/described" >"$work/diff" || fail 'the description: < is in the help, > in the page' "$work/diff"
 echo "ok: the page has the commands, operands and options of the help"
 

@@ -40,7 +40,7 @@ class NewFile:
 
 def blocks(path: Path) -> list[tuple[int, str, list[str]]]:
     """The blocks of a document: the line before each, what follows its backquotes, and its lines."""
-    lines = path.read_text().splitlines()
+    lines = path.read_text(encoding="utf-8").split("\n")
     is_manual = path.suffix != ".md"
     begins, ends = (r"\.Bd -literal", r"\.Ed$") if is_manual else (r"```(.+)", r"```$")
     found, at = [], 0
