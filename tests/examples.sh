@@ -3,7 +3,8 @@
 # examples/NAME.brf is what `translate examples/NAME.ctb` writes of examples/NAME.txt, examples/NAME.report what `clash
 # examples/NAME.ctb` writes of the two lines of examples/NAME.texts, examples/NAME.verdict what `check examples/NAME.ctb
 # examples/NAME.cert` writes, and examples/NAME.found what `search examples/NAME.ctb OUT` writes: where that is a certificate, a check
-# accepts it with the same numbers.
+# accepts it with the same numbers. examples/NAME.survey is what `survey examples/NAME.ctb` writes, and examples/NAME.trace what `trace
+# examples/NAME.ctb` writes of the line of examples/NAME.text.
 set -u
 
 if [ $# -ne 1 ]; then
@@ -12,6 +13,23 @@ if [ $# -ne 1 ]; then
 fi
 program=$(cd "$(dirname "$1")" && pwd)/$(basename "$1")
 cd "$(dirname "$0")/../examples" || exit 2
+
+# Compares what a command writes with the expected output of an example, and its status with another: same WANT STATUS WORDS..
+same() {
+    want=$1
+    ends=$2
+    shift 2
+    got=$(mktemp)
+    "$program" "$@" >"$got"
+    status=$?
+    if [ "$status" != "$ends" ] || ! cmp "$got" "$want"; then
+        echo "FAILED: examples/$want, status $status"
+        rm -f "$got"
+        exit 1
+    fi
+    rm -f "$got"
+    echo "ok: examples/$want"
+}
 
 for want in *.brf; do
     name=${want%.brf}
@@ -25,16 +43,7 @@ done
 for want in *.report; do
     name=${want%.report}
     { IFS= read -r left && IFS= read -r right; } <"$name.texts" || exit 1
-    got=$(mktemp)
-    "$program" clash "$name.ctb" "$left" "$right" >"$got"
-    status=$?
-    if [ "$status" != 1 ] || ! cmp "$got" "$want"; then
-        echo "FAILED: examples/$name, status $status"
-        rm -f "$got"
-        exit 1
-    fi
-    rm -f "$got"
-    echo "ok: examples/$name"
+    same "$want" 1 clash "$name.ctb" "$left" "$right"
 done
 
 for want in *.verdict; do
@@ -64,6 +73,16 @@ for want in *.found; do
     fi
     rm -rf "$work"
     echo "ok: examples/$name"
+done
+
+for want in *.survey; do
+    same "$want" 0 survey "${want%.survey}.ctb"
+done
+
+for want in *.trace; do
+    name=${want%.trace}
+    IFS= read -r text <"$name.text" || exit 1
+    same "$want" 0 trace "$name.ctb" "$text"
 done
 
 cd .. && exec tests/shown.py "$program" docs/TUTORIAL.md

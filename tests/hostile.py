@@ -59,6 +59,24 @@ right from 0:
   x  1-12  t.ctb:3
 """
 
+SURVEY = """\
+table: t.ctb
+B1 OutsideProfile pass2 at t.ctb:3
+B4 BadDots 9 at t.ctb:4
+opcode letter: 1
+opcode pass2: 1
+2 of 4 lines are read
+table: u.ctb
+0 of 0 lines are read
+no verdict: a survey doesn't decide whether two texts have the same cells
+"""
+TRACE = """\
+text: 1a
+cells: 3456-1-56-1
+  1  3456  1  t.ctb:2
+  a  56    1  t.ctb:1
+"""
+
 
 @dataclass(frozen=True)
 class Run:
@@ -209,6 +227,8 @@ RUNS = [
     check("a certificate of version 1 is accepted", "letter a 1\n", LETTER_CERT, "accepted: 3 states, 1 pairs\n", 0),
     check("a certificate of version 2 is accepted", APART, APART_CERT, "accepted: 3 states, 1 pairs\n", 0),
     Run("two texts clash", ["clash", "t.ctb", "ab", "x"], {"t.ctb": ALIKE}, REPORT, 1),
+    Run("two tables are surveyed", ["survey", "t.ctb", "u.ctb"], {"t.ctb": TWO + "pass2 x\nletter c 9\n", "u.ctb": ""}, SURVEY),
+    Run("a text is traced", ["trace", "t.ctb", "1a"], {"t.ctb": NUMBERS}, TRACE),
     Run("one text twice is no clash", ["clash", "t.ctb", "ab", "ab"], {"t.ctb": ALIKE}, "no clash\n"),
     Run("two files include each other", ["translate", "t.ctb"], {"t.ctb": "include u.ctb\n", "u.ctb": "include t.ctb\n"},
         status=2, err="L4 Cycle t.ctb at u.ctb:1\n"),

@@ -1,8 +1,10 @@
 //! Worked reports.
 use brl_forward::confirm;
-use brl_report::report;
+use brl_lines::{Line, Loaded};
+use brl_reading::survey;
+use brl_report::{report, survey_report, trace_report};
 use brl_table::Table;
-use brl_testing::{chars, cut, lines_of, table_of};
+use brl_testing::{agree, chars, cut, lend, lines_of, loaded_of, table_of, with_table};
 use std::alloc::Global;
 use std::test::Fail;
 
@@ -44,6 +46,70 @@ fn is_reported(alloc: Global, row: &str) -> Result<bool, Fail> {
 fn worked_reports(rt: HostRuntime) -> Result<(), Fail> {
     for row in REPORTS.lines() {
         assert!(rt; is_reported(rt.alloc(), row)?, "at {row}");
+    }
+    Ok(())
+}
+
+/// A table's lines, a text and the lines of its report.
+const TRACES: &str = "\
+letter a 1; letter b 12|ab|text: ab; cells: 1-12;   a  -  1   t.ctb:1;   b  -  12  t.ctb:2
+letter a 1||text: ; cells: \n\
+uplow Aa 1; capsletter 6; litdigit 1 1; numsign 3456|Aa1|text: Aa1; cells: 6-1-1-3456-1;   A  6     1  t.ctb:1;   a  -     1  t.ctb:1;   1  3456  1  t.ctb:3
+uplow Aa 1; uplow Bb 12; uplow Cc 14; capsletter 6; begcapsword 6-6; endcapsword 6-3; always ab 1456|ABc|text: ABc; cells: 6-6-1456-6-3-14;   AB  6-6  1456  t.ctb:7;   c   6-3  14    t.ctb:3
+space \\s 0; punctuation \\\\ 12| \\|text: \\s\\\\; cells: 0-12;   \\s  -  0   t.ctb:1;   \\\\  -  12  t.ctb:2
+letter \u{56fd} 1; letter b 12|\u{56fd}b|text: \u{56fd}b; cells: 1-12;   \u{56fd}  -  1   t.ctb:1;   b   -  12  t.ctb:2
+";
+
+fn traced_by(alloc: Global, table: &Table, text: &str) -> Result<String, Fail> {
+    let text = chars(alloc, text)?;
+    Ok(trace_report(alloc, table, text.as_slice())?)
+}
+
+fn check_trace(alloc: Global, row: &str) -> Result<(), Fail> {
+    let (lines, rest) = cut(row)?;
+    let (text, want) = cut(rest)?;
+    let given = with_table(alloc, lines, |table| traced_by(alloc, table, text))?;
+    agree(row, given.as_str(), lines_of(alloc, want)?.as_str())
+}
+
+#[test]
+fn worked_traces(rt: HostRuntime) -> Result<(), Fail> {
+    for row in TRACES.lines() {
+        check_trace(rt.alloc(), row)?;
+    }
+    Ok(())
+}
+
+/// Lines, and those of the report of their survey.
+const SURVEYS: &str = "\
+|0 of 0 lines are read
+letter a 1|1 of 1 lines are read
+letter a 1; pass2 @1 @2; letter b 9; pass2 @2 @3|B1 OutsideProfile pass2 at t.ctb:2; B4 BadDots 9 at t.ctb:3; B1 OutsideProfile pass2 at t.ctb:4; opcode pass2: 2; opcode letter: 1; 1 of 4 lines are read
+zeta; context; letter a 1|B1 OutsideProfile zeta at t.ctb:1; B1 OutsideProfile context at t.ctb:2; opcode context: 1; opcode zeta: 1; 1 of 3 lines are read
+b x; a x; b y; c z; a w; b q|B1 OutsideProfile b at t.ctb:1; B1 OutsideProfile a at t.ctb:2; B1 OutsideProfile b at t.ctb:3; B1 OutsideProfile c at t.ctb:4; B1 OutsideProfile a at t.ctb:5; B1 OutsideProfile b at t.ctb:6; opcode b: 3; opcode a: 2; opcode c: 1; 0 of 6 lines are read
+";
+
+fn surveyed_lines(alloc: Global, lines: &[Line<'_>]) -> Result<String, Fail> {
+    lend(survey(alloc, lines)?, |found| {
+        Ok(survey_report(alloc, found.as_slice(), lines.len())?)
+    })
+}
+
+fn surveyed(alloc: Global, loaded: &Loaded) -> Result<String, Fail> {
+    let lines = loaded.lines(alloc)?;
+    surveyed_lines(alloc, lines.as_slice())
+}
+
+fn check_survey(alloc: Global, row: &str) -> Result<(), Fail> {
+    let (lines, want) = cut(row)?;
+    let given = lend(loaded_of(alloc, lines)?, |loaded| surveyed(alloc, loaded))?;
+    agree(row, given.as_str(), lines_of(alloc, want)?.as_str())
+}
+
+#[test]
+fn worked_surveys(rt: HostRuntime) -> Result<(), Fail> {
+    for row in SURVEYS.lines() {
+        check_survey(rt.alloc(), row)?;
     }
     Ok(())
 }

@@ -164,6 +164,33 @@ t.ctb: include u|brl,search,t.ctb,o|||L1 NotFound u at t.ctb:1|2
 t.ctb: letter a 1; letter a 1; letter b 12; letter b 1; letter x 19|brl,search,t.ctb,o|||B4 BadDots 19 at t.ctb:5|2
 ";
 
+/// Surveys, in the same form.
+pub const SURVEYS: &str = "\
+t.ctb: letter a 1|brl,survey,t.ctb||1 of 1 lines are read; no verdict: a survey doesn't decide whether two texts have the same cells||0
+t.ctb: #|brl,survey,t.ctb||0 of 0 lines are read; no verdict: a survey doesn't decide whether two texts have the same cells||0
+t.ctb: letter a 1; pass2 @1 @2; letter b 9; pass2 @2 @3|brl,survey,t.ctb||B1 OutsideProfile pass2 at t.ctb:2; B4 BadDots 9 at t.ctb:3; B1 OutsideProfile pass2 at t.ctb:4; opcode pass2: 2; opcode letter: 1; 1 of 4 lines are read; no verdict: a survey doesn't decide whether two texts have the same cells||0
+t.ctb: letter \\x0020\\q 1|brl,survey,t.ctb||B3 BadCharacters \\x0020\\q at t.ctb:1; opcode letter: 1; 0 of 1 lines are read; no verdict: a survey doesn't decide whether two texts have the same cells||0
+t.ctb: include u; pass2 x & u: letter a 9; letter b 1|brl,survey,t.ctb||B4 BadDots 9 at u:1; B1 OutsideProfile pass2 at t.ctb:2; opcode letter: 1; opcode pass2: 1; 1 of 3 lines are read; no verdict: a survey doesn't decide whether two texts have the same cells||0
+t.ctb: letter a 1 & u.ctb: letter a 9|brl,survey,t.ctb,u.ctb||table: t.ctb; 1 of 1 lines are read; table: u.ctb; B4 BadDots 9 at u.ctb:1; opcode letter: 1; 0 of 1 lines are read; no verdict: a survey doesn't decide whether two texts have the same cells||0
+t.ctb: #|brl,survey,t.ctb,t.ctb||table: t.ctb; 0 of 0 lines are read; table: t.ctb; 0 of 0 lines are read; no verdict: a survey doesn't decide whether two texts have the same cells||0
+t.ctb: letter a 9|brl,survey,v.ctb,t.ctb,w.ctb||table: t.ctb; B4 BadDots 9 at t.ctb:1; opcode letter: 1; 0 of 1 lines are read; no verdict: a survey doesn't decide whether two texts have the same cells|L1 NotFound v.ctb; L1 NotFound w.ctb|2
+t.ctb: letter a 9; include t.ctb|brl,survey,t.ctb||no verdict: a survey doesn't decide whether two texts have the same cells|L4 Cycle t.ctb at t.ctb:2|2
+|brl,survey,t.ctb||no verdict: a survey doesn't decide whether two texts have the same cells|L1 NotFound t.ctb|2
+";
+
+/// Traces, in the same form.
+pub const TRACES: &str = "\
+t.ctb: letter a 1; letter b 12|brl,trace,t.ctb,ab||text: ab; cells: 1-12;   a  -  1   t.ctb:1;   b  -  12  t.ctb:2||0
+t.ctb: uplow Aa 1; capsletter 6; litdigit 1 1; numsign 3456|brl,trace,t.ctb,Aa1||text: Aa1; cells: 6-1-1-3456-1;   A  6     1  t.ctb:1;   a  -     1  t.ctb:1;   1  3456  1  t.ctb:3||0
+t.ctb: include u; letter b 12 & u: letter a 1; always ab 14|brl,trace,t.ctb,aba||text: aba; cells: 14-1;   ab  -  14  u:2;   a   -  1   u:1||0
+t.ctb: space \\s 0; punctuation \\\\ 12|brl,trace,t.ctb, \\||text: \\s\\\\; cells: 0-12;   \\s  -  0   t.ctb:1;   \\\\  -  12  t.ctb:2||0
+t.ctb: letter a 1|brl,trace,t.ctb,||text: ; cells: ||0
+t.ctb: letter a 1; letter b 12|brl,trace,t.ctb,az|||F1 UnknownChar 1 at text|2
+t.ctb: letter a 1; letter b 12|brl,trace,t.ctb,zz|||F1 UnknownChar 0 at text|2
+t.ctb: letter a 19|brl,trace,t.ctb,a|||B4 BadDots 19 at t.ctb:1|2
+|brl,trace,t.ctb,a|||L1 NotFound t.ctb|2
+";
+
 /// Tables for which a search finds a certificate, each with its notices.
 pub const CERTIFIED: &str = "\
 letter a 1; letter b 12; letter x 1-12; always ab 14|
@@ -213,5 +240,13 @@ brl,search,t.ctb,o,--limit,4294967295||L1 NotFound t.ctb|2
 brl,search,t.ctb,o,--limit,4294967296||invalid value '4294967296' for '--limit <N>'|2
 brl,search,t.ctb,o,--limit,-1||'-1'|2
 brl,search,t.ctb,o,--limit,ten||invalid value 'ten' for '--limit <N>'|2
+brl,survey,--help|brl survey far.ctb||0
+brl,survey||<TABLE>|2
+brl,survey,--nothing,t.ctb||unexpected argument '--nothing'|2
+brl,survey,t.ctb,u.ctb|no verdict|L1 NotFound t.ctb|2
+brl,trace,--help|brl trace steps.ctb Aa1||0
+brl,trace,t.ctb||<TEXT>|2
+brl,trace,t.ctb,a,b||unexpected argument 'b'|2
+brl,trace,t.ctb,a||L1 NotFound t.ctb|2
 brl,find,t.ctb||unrecognized subcommand 'find'|2
 ";

@@ -23,7 +23,7 @@ use Rattle.brl_table.specs.Translation.{IsUnambiguous}
 use Rattle.brl_tool.specs.Answers.{AcceptsGood, Checks, IsAcceptance, IsFaultOfFile, IsRefusal, LacksBytes, Tells, UnlessMemory}
 use Rattle.brl_tool.specs.declared.answer.Answer.{Answer}
 use Rattle.brl_tool.specs.declared.run_fault.RunFault.{RunFault}
-use Rattle.brl_tool.specs.declared.run_fault.RunFault.TheVariants.{Load, Table, Stream, Confirm, Wide, WouldOverwrite, OutputFailed, CannotWrite, Memory}
+use Rattle.brl_tool.specs.declared.run_fault.RunFault.TheVariants.{Load, Table, Stream, Confirm, Text, Wide, WouldOverwrite, OutputFailed, CannotWrite, Memory}
 
 -- ---- What one source gives, another may give
 
@@ -32,13 +32,13 @@ module _ (from to : MayGive) (moves : (p : List ℕ) (a : FileAnswer) → from p
   given [] h = tt
   given (entry ∷ others) h = (moves entry.0 entry.1 h.0, given others h.1)
 
-  lines_moved : (path : List ℕ) (lines : List LineView) → AreLinesOf from path lines → AreLinesOf to path lines
+  pub lines_moved : (path : List ℕ) (lines : List LineView) → AreLinesOf from path lines → AreLinesOf to path lines
   lines_moved path lines h = (h.0, given h.0 h.1, h.2)
 
   pub table_moved : (path : List ℕ) (t : TableView) → IsTableOf from path t → IsTableOf to path t
   table_moved path t h = (h.0, lines_moved path h.0 h.1, h.2, h.3)
 
-  load_fault_moved : (path : List ℕ) (fault : LoadFault) → IsLoadFault from path (failures.Fault fault) → IsLoadFault to path (failures.Fault fault)
+  pub load_fault_moved : (path : List ℕ) (fault : LoadFault) → IsLoadFault from path (failures.Fault fault) → IsLoadFault to path (failures.Fault fault)
   load_fault_moved path fault h = ((h.0.0, given h.0.0 h.0.1, h.0.2), λ e. moves _ _ (h.1 e))
 
   fault_moved : (path : List ℕ) (fault : NoTable) → IsFaultAt from path fault → IsFaultAt to path fault
@@ -72,6 +72,7 @@ module _ (gives after : MayGive) (same : AllStay gives after) (path cert bytes :
   unless is (Err (Table fault)) h then = absurd h
   unless is (Err (Stream fault)) h then = absurd h
   unless is (Err (Confirm fault)) h then = absurd h
+  unless is (Err (Text fault)) h then = absurd h
   unless is (Err (Wide fault)) h then = absurd h
   unless is (Err (WouldOverwrite named)) h then = absurd h
   unless is (Err OutputFailed) h then = absurd h
@@ -143,6 +144,7 @@ has_bytes gives path cert fault h one bytes there short t table accepted deserve
     by_fault (Table fault) k = absurd k
     by_fault (Stream fault) k = absurd k
     by_fault (Confirm fault) k = absurd k
+    by_fault (Text fault) k = absurd k
     by_fault (Wide fault) k = absurd k
     by_fault (WouldOverwrite named) k = absurd k
     by_fault OutputFailed k = absurd k

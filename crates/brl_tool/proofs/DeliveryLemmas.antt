@@ -6,13 +6,13 @@ use Rattle.brl_tool.specs.Files.{FilesAfter, IsPutInto, OthersStay}
 use Rattle.brl_tool.specs.declared.answer.Answer.{Answer}
 use Rattle.brl_tool.specs.declared.answer.NewFile.{NewFile}
 use Rattle.brl_tool.specs.declared.run_fault.RunFault.{RunFault}
-use Rattle.brl_tool.specs.declared.run_fault.RunFault.TheVariants.{Load, Table, Stream, Confirm, Wide, WouldOverwrite, OutputFailed, CannotWrite, Memory}
+use Rattle.brl_tool.specs.declared.run_fault.RunFault.TheVariants.{Load, Table, Stream, Confirm, Text, Wide, WouldOverwrite, OutputFailed, CannotWrite, Memory}
 use Rattle.brl_tool.specs.declared.status.Status.{Status}
 
 -- ---- A read before the delivery changes nothing
 
 module _ (before between after : MayGive) (same : AllStay before between) where
-  all_after : AllStay between after → AllStay before after
+  pub all_after : AllStay between after → AllStay before after
   all_after stay = λ p a. ((λ h. (same p a).0 ((stay p a).0 h)), (λ h. (stay p a).1 ((same p a).1 h)))
 
   others_after : (path : List ℕ) → OthersStay between after path → OthersStay before after path
@@ -29,6 +29,7 @@ module _ (before between after : MayGive) (same : AllStay before between) where
   put_after file (Table fault) is = absurd is
   put_after file (Stream fault) is = absurd is
   put_after file (Confirm fault) is = absurd is
+  put_after file (Text fault) is = absurd is
   put_after file (Wide fault) is = absurd is
   put_after file (WouldOverwrite named) is = absurd is
   put_after file OutputFailed is = absurd is
@@ -42,6 +43,7 @@ module _ (before between after : MayGive) (same : AllStay before between) where
   writes_after answer failed old new (Err (Table fault)) (still, (file, is, put)) = absurd put
   writes_after answer failed old new (Err (Stream fault)) (still, (file, is, put)) = absurd put
   writes_after answer failed old new (Err (Confirm fault)) (still, (file, is, put)) = absurd put
+  writes_after answer failed old new (Err (Text fault)) (still, (file, is, put)) = absurd put
   writes_after answer failed old new (Err (Wide fault)) (still, (file, is, put)) = absurd put
   writes_after answer failed old new (Err (WouldOverwrite named)) (still, (file, is, put)) = absurd put
 
@@ -64,6 +66,7 @@ none_changes before after answer failed old new (Err (Load fault)) none (still, 
 none_changes before after answer failed old new (Err (Table fault)) none (still, (file, is, put)) = absurd put
 none_changes before after answer failed old new (Err (Stream fault)) none (still, (file, is, put)) = absurd put
 none_changes before after answer failed old new (Err (Confirm fault)) none (still, (file, is, put)) = absurd put
+none_changes before after answer failed old new (Err (Text fault)) none (still, (file, is, put)) = absurd put
 none_changes before after answer failed old new (Err (Wide fault)) none (still, (file, is, put)) = absurd put
 none_changes before after answer failed old new (Err (WouldOverwrite named)) none (still, (file, is, put)) = absurd put
 
@@ -76,6 +79,7 @@ not_put before after answer file failed text (Load fault) is put = absurd put
 not_put before after answer file failed text (Table fault) is put = absurd put
 not_put before after answer file failed text (Stream fault) is put = absurd put
 not_put before after answer file failed text (Confirm fault) is put = absurd put
+not_put before after answer file failed text (Text fault) is put = absurd put
 not_put before after answer file failed text (Wide fault) is put = absurd put
 not_put before after answer file failed text (WouldOverwrite named) is put = absurd put
 not_put before after answer file failed text OutputFailed is put = absurd put

@@ -5,3 +5,4 @@ pub mod NoticesLemmas
 pub mod SearchLemmas
 pub mod StatusLemmas
 pub mod StreamLemmas
+pub mod SurveyLemmas

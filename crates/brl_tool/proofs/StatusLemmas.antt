@@ -1,5 +1,5 @@
 -- What the status says of what was delivered.
-use Rattle.std.proofs.Common.{◌≡◌, ◌≢◌, ◌∙◌, ℕ, suc, List, [], ◌∷◌, All, arith, map, inl, inr, Option, None, Some, Result, Ok, Err, refl, subst, sym}
+use Rattle.std.proofs.Common.{◌≡◌, ◌≢◌, ◌∙◌, ℕ, suc, Bool, true, false, cond, List, [], ◌∷◌, All, arith, map, inl, inr, Option, None, Some, Result, Ok, Err, refl, subst, sym}
 use Rattle.std.specs.Io.KnownBytes.{Appends}
 use Rattle.std.specs.Prelude.{string_bytes}
 use Rattle.brl_cert.specs.Reading.{spelling}
@@ -16,12 +16,14 @@ use Rattle.brl_tool.specs.Delivery.{Delivers}
 use Rattle.brl_tool.specs.Files.{FilesAfter, GivesAlso, MayBeSame, OthersStay}
 use Rattle.brl_tool.specs.Running.{ReportsAcceptance, ReportsCertificate, ReportsClash, ReportsRefusal}
 use Rattle.brl_tool.specs.Status.{status_of}
+use Rattle.brl_tool.specs.Surveying.{SurveysByFiles}
+use Rattle.brl_tool.specs.Tracing.{TracesByFile}
 use Rattle.brl_tool.specs.declared.answer.Answer.{Answer}
 use Rattle.brl_tool.specs.declared.answer.NewFile.{NewFile}
 use Rattle.brl_tool.specs.declared.run_fault.RunFault.{RunFault}
-use Rattle.brl_tool.specs.declared.run_fault.RunFault.TheVariants.{Load, Table, Stream, Confirm, Wide, WouldOverwrite, OutputFailed, CannotWrite, Memory}
+use Rattle.brl_tool.specs.declared.run_fault.RunFault.TheVariants.{Load, Table, Stream, Confirm, Text, Wide, WouldOverwrite, OutputFailed, CannotWrite, Memory}
 use Rattle.brl_tool.specs.declared.status.Status.{Status}
-use Rattle.brl_tool.specs.declared.status.Status.TheVariants.{Done, Refuted}
+use Rattle.brl_tool.specs.declared.status.Status.TheVariants.{Done, Faulty, Refuted}
 
 -- ---- No fault has the status of work that was done
 
@@ -30,6 +32,7 @@ never_done (Load fault) e = cc
 never_done (Table fault) e = cc
 never_done (Stream fault) e = cc
 never_done (Confirm fault) e = cc
+never_done (Text fault) e = cc
 never_done (Wide fault) e = cc
 never_done (WouldOverwrite named) e = cc
 never_done OutputFailed e = cc
@@ -41,6 +44,7 @@ never_refuted (Load fault) e = cc
 never_refuted (Table fault) e = cc
 never_refuted (Stream fault) e = cc
 never_refuted (Confirm fault) e = cc
+never_refuted (Text fault) e = cc
 never_refuted (Wide fault) e = cc
 never_refuted (WouldOverwrite named) e = cc
 never_refuted OutputFailed e = cc
@@ -163,3 +167,35 @@ module _ (before after : MayGive) (failed : Type 0) (old new : Option (List ℕ)
   found_at_refuted same_file path out limit outcome status is delivers same =
       let (answer, ok, refuted, files, appends) = whole Refuted never_refuted outcome status delivers same in
       clash_found same_file path out limit answer (subst (SearchesByFile before same_file path out limit) ok is) refuted files appends
+
+  -- ---- `brl survey`
+
+  pub survey_changes_none : (paths : List (List ℕ)) (outcome : Result Answer RunFault) (status : Status) → SurveysByFiles before paths outcome → Delivers outcome before after failed old new status → AllStay before after
+  survey_changes_none paths (Ok answer) status (parts, named, are, says) (written, writes, e) = none_changes before after answer failed old new written says.2 writes
+  survey_changes_none paths (Err fault) status is (stay, still, e) = stay
+
+  unrefuted : (loaded : Bool) → cond loaded Done Faulty ≡ Refuted → ⊥
+  unrefuted true e = cc
+  unrefuted false e = cc
+
+  survey_said : (paths : List (List ℕ)) (answer : Answer) → SurveysByFiles before paths (Ok answer) → answer.status ≡ Refuted → ⊥
+  survey_said paths answer (parts, named, are, says) refuted = unrefuted _ (sym says.0 ∙ refuted)
+
+  pub survey_unrefuted : (paths : List (List ℕ)) (outcome : Result Answer RunFault) (status : Status) → SurveysByFiles before paths outcome → Delivers outcome before after failed old new status → status ≡ Refuted → ⊥
+  survey_unrefuted paths outcome status is delivers same =
+      let (answer, ok, refuted, files, appends) = whole Refuted never_refuted outcome status delivers same in
+      survey_said paths answer (subst (SurveysByFiles before paths) ok is) refuted
+
+  -- ---- `brl trace`
+
+  pub trace_changes_none : (path text : List ℕ) (outcome : Result Answer RunFault) (status : Status) → TracesByFile before path text outcome → Delivers outcome before after failed old new status → AllStay before after
+  trace_changes_none path text (Ok answer) status (t, table, (known, says)) (written, writes, e) = none_changes before after answer failed old new written says.2 writes
+  trace_changes_none path text (Err fault) status is (stay, still, e) = stay
+
+  trace_said : (path text : List ℕ) (answer : Answer) → TracesByFile before path text (Ok answer) → answer.status ≡ Refuted → ⊥
+  trace_said path text answer (t, table, (known, says)) refuted = let e = sym says.0 ∙ refuted in cc
+
+  pub trace_unrefuted : (path text : List ℕ) (outcome : Result Answer RunFault) (status : Status) → TracesByFile before path text outcome → Delivers outcome before after failed old new status → status ≡ Refuted → ⊥
+  trace_unrefuted path text outcome status is delivers same =
+      let (answer, ok, refuted, files, appends) = whole Refuted never_refuted outcome status delivers same in
+      trace_said path text answer (subst (TracesByFile before path text) ok is) refuted

@@ -1,5 +1,7 @@
 pub mod Running
 pub mod Answers
+pub mod Surveying
+pub mod Tracing
 pub mod Delivery
 pub mod Streams
 pub mod Files

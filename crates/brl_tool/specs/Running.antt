@@ -1,6 +1,6 @@
 -- What a run of the program comes to. The project's own choice. `failed` says that the output failed
 -- in that run; `before` and `after` what the files may give, and `same` which paths may name one file.
-use Rattle.std.specs.Prelude.{ℕ, ◌≡◌, ◌<◌, ◌⊎◌, List, ◌++◌, Option, Result, Ok, Err, codes}
+use Rattle.std.specs.Prelude.{ℕ, ◌≡◌, ◌<◌, ◌⊎◌, List, ◌++◌, map, Option, Result, Ok, Err, codes}
 use Rattle.std.specs.Io.KnownBytes.{Appends}
 use Rattle.std.specs.Str.{chars}
 use Rattle.brl_accept.specs.Judging.{IsAccepted, counted}
@@ -18,6 +18,8 @@ use Rattle.brl_tool.specs.Delivery.{IsDelivered}
 use Rattle.brl_tool.specs.Files.{GivesAlso, MayBeSame, OthersStay}
 use Rattle.brl_tool.specs.Status.{code_of, status_of}
 use Rattle.brl_tool.specs.Streams.{TranslatesByFile}
+use Rattle.brl_tool.specs.Surveying.{SurveysByFiles}
+use Rattle.brl_tool.specs.Tracing.{TracesByFile}
 use Rattle.brl_tool.specs.declared.answer.Answer.{Answer}
 use Rattle.brl_tool.specs.declared.run_fault.RunFault.{RunFault}
 use Rattle.brl_tool.specs.declared.status.Status.{Status}
@@ -53,6 +55,16 @@ abbrev pub SearchesBy : MayGive → MayGive → MayBeSame → List ℕ → List 
 SearchesBy before after same path out limit failed old new status =
     IsDelivered (SearchesByFile before same path out limit) before after failed old new status
 
+-- the tables of the files at these paths were surveyed
+abbrev pub SurveysBy : MayGive → MayGive → List (List ℕ) → Type 0 → Option (List ℕ) → Option (List ℕ) → Status → Type 0
+SurveysBy before after paths failed old new status =
+    IsDelivered (SurveysByFiles before paths) before after failed old new status
+
+-- a text was traced by the table of the file at a path
+abbrev pub TracesBy : MayGive → MayGive → List ℕ → List ℕ → Type 0 → Option (List ℕ) → Option (List ℕ) → Status → Type 0
+TracesBy before after path text failed old new status =
+    IsDelivered (TracesByFile before path text) before after failed old new status
+
 -- A task was done, with the paths, texts, form and limit that it has. Only a search changes a file.
 abbrev pub Performs : Task → MayGive → MayGive → MayBeSame → Option (List ℕ) → Type 0 → Option (List ℕ) → Option (List ℕ) → Status → Type 0
 Performs (task.Translate path form) before after same input failed old new status =
@@ -63,6 +75,10 @@ Performs (task.Check path cert) before after same input failed old new status =
     AllStay before after × ChecksBy before after path.now cert.now failed old new status
 Performs (task.Search path out limit) before after same input failed old new status =
     SearchesBy before after same path.now out.now limit failed old new status
+Performs (task.Survey paths) before after same input failed old new status =
+    AllStay before after × SurveysBy before after (map (λ path. path.now) paths.items) failed old new status
+Performs (task.Trace path text) before after same input failed old new status =
+    AllStay before after × TracesBy before after path.now (chars text.now) failed old new status
 
 -- the answer with help or the version
 abbrev pub IsHelp : Result Answer RunFault → Type 0

@@ -3,11 +3,12 @@ use Rattle.std.specs.Prelude.{ℕ}
 use Rattle.brl_failure.specs.declared.failure.Failure.{Failure}
 use Rattle.brl_failure.specs.declared.failure.Failure.TheVariants as failures
 use Rattle.brl_forward.specs.declared.fault.ConfirmFault.{ConfirmFault}
+use Rattle.brl_forward.specs.declared.fault.ForwardFault.{ForwardFault}
 use Rattle.brl_reading.specs.declared.no_table.NoTable.{NoTable}
 use Rattle.brl_reading.specs.declared.no_table.NoTable.TheVariants as no_table
 use Rattle.brl_stream.specs.declared.fault.StreamFault.{StreamFault}
 use Rattle.brl_tool.specs.declared.run_fault.RunFault.{RunFault}
-use Rattle.brl_tool.specs.declared.run_fault.RunFault.TheVariants.{Load, Table, Stream, Confirm, Wide, Memory}
+use Rattle.brl_tool.specs.declared.run_fault.RunFault.TheVariants.{Load, Table, Stream, Confirm, Text, Wide, Memory}
 use Rattle.brl_tool.specs.declared.status.Status.{Status}
 use Rattle.brl_tool.specs.declared.status.Status.TheVariants.{Done, Refuted, Faulty, Undecided}
 
@@ -39,3 +40,8 @@ of_stream failures.Memory = Memory
 abbrev pub of_confirm : Failure ConfirmFault → RunFault
 of_confirm (failures.Fault fault) = Confirm fault
 of_confirm failures.Memory = Memory
+
+-- the fault of the program where a text can't be traced
+abbrev pub of_forward : Failure ForwardFault → RunFault
+of_forward (failures.Fault fault) = Text fault
+of_forward failures.Memory = Memory

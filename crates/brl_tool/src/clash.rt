@@ -47,7 +47,7 @@ fn compare(alloc: Global, table: &Table, left: &str, right: &str) -> Result<Answ
 }
 
 /// The characters of a text.
-fn characters(alloc: Global, text: &str) -> Result<Vec<char>, AllocError>
+pub fn characters(alloc: Global, text: &str) -> Result<Vec<char>, AllocError>
     ensures { IfOk result (λ found. found.items ≡ chars text.now) }
 {
     text.chars().collect(alloc)

@@ -14,6 +14,8 @@ mod replace;
 mod run_fault;
 mod search;
 mod status;
+mod survey;
+mod trace;
 mod translate;
 
 pub use brl_stream::{

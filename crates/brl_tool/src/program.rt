@@ -1,8 +1,8 @@
 //! The program over any files and streams.
-ghost use Rattle.std.specs.Prelude.{◌≡◌, ◌≢◌, ◌⊎◌};
+ghost use Rattle.std.specs.Prelude.{◌≡◌, ◌≢◌, ◌⊎◌, map};
 ghost use Rattle.std.specs.Str.{chars};
 ghost use Rattle.brl_lines.specs.Answer.{AllStay};
-ghost use Rattle.brl_tool.specs.Running.{ChecksBy, ComparesBy, IsHelp, IsStatus, Performs, Replies, ReportsAcceptance, ReportsCertificate, ReportsClash, ReportsRefusal, Runs, SearchesBy, TranslatesBy};
+ghost use Rattle.brl_tool.specs.Running.{ChecksBy, ComparesBy, IsHelp, IsStatus, Performs, Replies, ReportsAcceptance, ReportsCertificate, ReportsClash, ReportsRefusal, Runs, SearchesBy, SurveysBy, TracesBy, TranslatesBy};
 ghost use Rattle.brl_tool.specs.declared.status.Status.TheVariants as statuses;
 
 use crate::answer::{Answer, deliver};
@@ -11,6 +11,8 @@ use crate::clash::compare_by_file;
 use crate::run_fault::RunFault;
 use crate::search::search_by_file;
 use crate::status::Status;
+use crate::survey::survey_by_files;
+use crate::trace::trace_by_file;
 use crate::translate::translate_by_file;
 use crate::{Files, Form, Input, Output};
 use brl_words::{NoTask, Task, task_of};
@@ -22,9 +24,10 @@ use std::io::Write;
 /// the output had a fault, and 3 where memory ran out, a search decided nothing, or a table is too wide
 /// for a certificate of version 1. The first of the words is the program's name.
 ///
-/// Standard output gets the translation, what was found of two texts, of a certificate or by a search,
-/// or help or the version where these are asked for. Standard error gets the notices of a table that is
-/// searched, one line for a fault, or the text of a use fault; what can't be written there is dropped
+/// Standard output gets the translation, what was found of two texts, of a certificate, by a search or
+/// by a survey, the steps of a text, or help or the version where these are asked for. Standard error
+/// gets the notices of a table that is searched, one line for a fault (a survey has one for each table
+/// that can't be loaded, and goes on), or the text of a use fault; what can't be written there is dropped
 /// and changes no status. Faults come in the order of the work: the words, the certificate's file, the
 /// table's files, a file for a new certificate that is one of these, the table's lines, the texts, the
 /// input, the certificate or the search, the file that gets a certificate, the output.
@@ -72,6 +75,8 @@ fn perform<F: Files, I: Input, O: Output, E: Write>(
         Task::Clash { table, left, right } => compare(alloc, files, table, left, right, out, err),
         Task::Check { table, cert } => check(alloc, files, table, cert, out, err),
         Task::Search { table, cert, limit } => search(alloc, files, table, cert, limit, out, err),
+        Task::Survey { tables } => survey(alloc, files, tables.as_slice(), out, err),
+        Task::Trace { table, text } => trace(alloc, files, table, text, out, err),
     }
 }
 
@@ -155,6 +160,42 @@ fn search<F: Files, O: Output, E: Write>(
     ensures same { result ≡ statuses.Refuted → AllStay (F.gives files.old) (F.gives files.new) }
 {
     let answer = search_by_file(alloc, files, table, cert, limit, err);
+    deliver(alloc, answer, files, out, err)
+}
+
+/// `brl survey`.
+fn survey<F: Files, O: Output, E: Write>(
+    alloc: Global,
+    files: &mut F,
+    tables: &[&str],
+    out: &mut O,
+    err: &mut E,
+) -> Status
+    ensures surveys { SurveysBy (F.gives files.old) (F.gives files.new) (map (λ path. path.now) tables.now)
+        (O.failures out.new ≢ O.failures out.old) (O.contents out.old) (O.contents out.new) result }
+    // It gives no verdict.
+    ensures verdict { result ≢ statuses.Refuted }
+    ensures same { AllStay (F.gives files.old) (F.gives files.new) }
+{
+    let answer = survey_by_files(alloc, files, tables, err);
+    deliver(alloc, answer, files, out, err)
+}
+
+/// `brl trace`.
+fn trace<F: Files, O: Output, E: Write>(
+    alloc: Global,
+    files: &mut F,
+    table: &str,
+    text: &str,
+    out: &mut O,
+    err: &mut E,
+) -> Status
+    ensures traces { TracesBy (F.gives files.old) (F.gives files.new) table.now (chars text.now)
+        (O.failures out.new ≢ O.failures out.old) (O.contents out.old) (O.contents out.new) result }
+    ensures verdict { result ≢ statuses.Refuted }
+    ensures same { AllStay (F.gives files.old) (F.gives files.new) }
+{
+    let answer = trace_by_file(alloc, files, table, text);
     deliver(alloc, answer, files, out, err)
 }
 

@@ -2,7 +2,7 @@
 use crate::status::Status;
 use crate::{Failed, StreamFault};
 use brl_failure::Failure;
-use brl_forward::ConfirmFault;
+use brl_forward::{ConfirmFault, ForwardFault};
 use brl_lines::LoadFault;
 use brl_reading::{NoTable, TableFault};
 use brl_window::TooWide;
@@ -25,6 +25,9 @@ pub enum RunFault {
     /// A text to be compared has a character that the table doesn't define.
     #[error("{0}")]
     Confirm(ConfirmFault),
+    /// The text to be traced has a character that the table doesn't define.
+    #[error("{0} at text")]
+    Text(ForwardFault),
     /// The certificate lists states of a window machine, and the table has none.
     #[error("{0}")]
     Wide(TooWide),
@@ -117,6 +120,20 @@ impl From<Failure<ConfirmFault>> for RunFault {
     fn from(failure: Failure<ConfirmFault>) -> RunFault {
         match failure {
             Failure::Fault(fault) => RunFault::Confirm(fault),
+            Failure::Memory => RunFault::Memory,
+        }
+    }
+}
+
+impl From<Failure<ForwardFault>> for RunFault {
+    ghost use Rattle.std.specs.Prelude.{◌≡◌};
+    ghost use Rattle.brl_tool.specs.Status.{of_forward};
+
+    ghost from_gives = { λ failure fault. fault ≡ of_forward failure };
+
+    fn from(failure: Failure<ForwardFault>) -> RunFault {
+        match failure {
+            Failure::Fault(fault) => RunFault::Text(fault),
             Failure::Memory => RunFault::Memory,
         }
     }

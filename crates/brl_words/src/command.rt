@@ -1,12 +1,12 @@
 //! The words of the command line.
 use brl_stream::Form;
 use clap::error::{Error, ErrorKind};
-use clap::{Arg, ArgMatches, Command, value_parser};
+use clap::{Arg, ArgAction, ArgMatches, Command, value_parser};
 use std::alloc::{AllocError, Global};
 use std::fmt;
 
 /// What the words ask for.
-#[derive(Clone, Copy)]
+#[derive(Drop)]
 pub enum Task<'a> {
     /// Translate the input to this form by the table whose file is at this path.
     Translate {
@@ -30,6 +30,16 @@ pub enum Task<'a> {
         table: &'a str,
         cert: &'a str,
         limit: u32,
+    },
+    /// List the lines of tables that are outside the profile or faulty. Their files are at these
+    /// paths.
+    Survey {
+        tables: Vec<&'a str>,
+    },
+    /// Show the steps of a text's translation by the table whose file is at this path.
+    Trace {
+        table: &'a str,
+        text: &'a str,
     },
 }
 
@@ -81,13 +91,24 @@ struct Operand {
     id: &'static str,
     name: &'static str,
     help: &'static str,
+    /// Whether it may come several times.
+    several: bool,
 }
+
+/// The operand of the files of tables.
+const TABLES: Operand = Operand {
+    id: "tables",
+    name: "TABLE",
+    help: "The files of tables",
+    several: true,
+};
 
 /// The operand of the table's file.
 const TABLE: Operand = Operand {
     id: "table",
     name: "TABLE",
     help: "The table's file",
+    several: false,
 };
 
 /// An option of a command.
@@ -173,11 +194,13 @@ It prints:
             id: "left",
             name: "LEFT",
             help: "A text",
+            several: false,
         },
         Operand {
             id: "right",
             name: "RIGHT",
             help: "Another text",
+            several: false,
         },
     ],
 };
@@ -208,6 +231,7 @@ It prints:
             id: "cert",
             name: "CERT",
             help: "The certificate's file",
+            several: false,
         },
     ],
 };
@@ -239,22 +263,94 @@ It prints:
             id: "out",
             name: "OUT",
             help: "The file that gets a certificate",
+            several: false,
+        },
+    ],
+};
+
+/// `brl survey`.
+const SURVEY: Page = Page {
+    name: "survey",
+    about: "Lists the lines of tables that are outside the profile or faulty",
+    long_about: "Lists the lines of tables that are outside the profile or faulty
+
+Reads each TABLE with the files that it includes, and each line by itself: a
+faulty line defines nothing, and the lines after it are read all the same.
+Standard output gets the fault of each faulty line, how many of these lines
+there are of each opcode, and how many lines are read. Comments, blank lines and
+lines that include a file aren't counted. With several TABLEs the lines of each
+come after its name; one that can't be loaded is named on standard error, the
+others are surveyed, and the exit status is 2.
+
+Faulty lines don't change the exit status. A character that a rule or a list
+names and no line defines isn't looked for. A survey gives no verdict on
+ambiguity.",
+    example: "Example, a table in which one of four lines is read:
+  printf '%s\\n' 'letter a 1' 'pass2 @1 @2' 'letter b 9' 'pass2 @2 @3' > far.ctb
+  brl survey far.ctb
+
+It prints:
+  B1 OutsideProfile pass2 at far.ctb:2
+  B4 BadDots 9 at far.ctb:3
+  B1 OutsideProfile pass2 at far.ctb:4
+  opcode pass2: 2
+  opcode letter: 1
+  1 of 4 lines are read
+  no verdict: a survey doesn't decide whether two texts have the same cells",
+    choice: None,
+    operands: &[TABLES],
+};
+
+/// `brl trace`.
+const TRACE: Page = Page {
+    name: "trace",
+    about: "Shows the steps of a text's translation",
+    long_about: "Shows the steps of a text's translation
+
+Translates the text by a liblouis table. Standard output gets the text, its cells,
+and a line for each step: the characters that it reads, the cells of the
+indicators before them (- for none), the cells of the rule, and the file and line
+of the rule. A blank is written \\s, a backslash \\\\, and control characters as in
+a table.",
+    example: "Example, a table of a letter, its capital and a digit:
+  printf '%s\\n' 'uplow Aa 1' 'capsletter 6' 'litdigit 1 1' 'numsign 3456' > steps.ctb
+  brl trace steps.ctb Aa1
+
+It prints:
+  text: Aa1
+  cells: 6-1-1-3456-1
+    A  6     1  steps.ctb:1
+    a  -     1  steps.ctb:1
+    1  3456  1  steps.ctb:3",
+    choice: None,
+    operands: &[
+        TABLE,
+        Operand {
+            id: "text",
+            name: "TEXT",
+            help: "A text",
+            several: false,
         },
     ],
 };
 
 /// The commands of `brl`.
-const PAGES: [Page; 4] = [TRANSLATE, CLASH, CHECK, SEARCH];
+const PAGES: [Page; 6] = [TRANSLATE, CLASH, CHECK, SEARCH, SURVEY, TRACE];
 
 /// How many states, and how many pairs, a search may find where the words give no limit.
 const USUAL_LIMIT: &str = "1000000";
 
 /// An operand that must be there.
 fn required_argument<'a>(alloc: Global, operand: Operand) -> Arg<'a> {
-    Arg::new(alloc, operand.id)
+    let argument = Arg::new(alloc, operand.id)
         .value_name(operand.name)
         .help(operand.help)
-        .required(true)
+        .required(true);
+    if operand.several {
+        argument.num_args(1..).action(ArgAction::Append)
+    } else {
+        argument
+    }
 }
 
 /// The option of how cells are written.
@@ -335,19 +431,41 @@ pub fn task_of<'a>(alloc: Global, words: &'a [String]) -> Result<Task<'a>, NoTas
 /// The task of the words; an error has the text that answers them.
 fn read_words<'a>(alloc: Global, words: &'a [String]) -> Result<Task<'a>, Error> {
     let mut command = whole_command(alloc)?;
-    read_by(&mut command, words)
+    read_by(alloc, &mut command, words)
 }
 
 /// The same by a command line.
-fn read_by<'a>(command: &mut Command<'a>, words: &'a [String]) -> Result<Task<'a>, Error> {
+fn read_by<'a>(
+    alloc: Global,
+    command: &mut Command<'a>,
+    words: &'a [String],
+) -> Result<Task<'a>, Error> {
     let matches = command.try_get_matches_from_mut(words)?;
+    if let Some(task) = survey_task(alloc, &matches)? {
+        return Ok(task);
+    }
     match found_task(&matches) {
         Some(task) => Ok(task),
         None => Err(command.error(ErrorKind::MissingSubcommand, "no command was given")?),
     }
 }
 
-/// The task of words that were read.
+/// The task of words that were read, if it is a survey.
+fn survey_task<'a>(
+    alloc: Global,
+    matches: &ArgMatches<'a>,
+) -> Result<Option<Task<'a>>, AllocError> {
+    let Some(("survey", found)) = matches.subcommand() else {
+        return Ok(None);
+    };
+    let Some(tables) = found.get_strs("tables") else {
+        return Ok(None);
+    };
+    let tables = Vec::from_slice(alloc, tables)?;
+    Ok(Some(Task::Survey { tables }))
+}
+
+/// The task of words that were read, if it is another one.
 fn found_task<'a>(matches: &ArgMatches<'a>) -> Option<Task<'a>> {
     match matches.subcommand()? {
         ("translate", found) => Some(Task::Translate {
@@ -367,6 +485,10 @@ fn found_task<'a>(matches: &ArgMatches<'a>) -> Option<Task<'a>> {
             table: found.get_str("table")?,
             cert: found.get_str("out")?,
             limit: found.get_one("limit")?,
+        }),
+        ("trace", found) => Some(Task::Trace {
+            table: found.get_str("table")?,
+            text: found.get_str("text")?,
         }),
         _ => None,
     }

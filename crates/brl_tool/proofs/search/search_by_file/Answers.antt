@@ -20,7 +20,7 @@ use Rattle.brl_tool.specs.Answers.{HasNoTable, IsOverwriting, SearchesByFile, lo
 use Rattle.brl_tool.specs.Files.{MayBeSame}
 use Rattle.brl_tool.specs.Status.{of_no_table}
 use Rattle.brl_tool.specs.declared.run_fault.RunFault.{RunFault}
-use Rattle.brl_tool.specs.declared.run_fault.RunFault.TheVariants.{Load, Table, Stream, Confirm, Wide, WouldOverwrite, OutputFailed, CannotWrite, Memory}
+use Rattle.brl_tool.specs.declared.run_fault.RunFault.TheVariants.{Load, Table, Stream, Confirm, Text, Wide, WouldOverwrite, OutputFailed, CannotWrite, Memory}
 use Rattle.brl_tool.proofs.search.search_by_file.Goals as goal
 
 module _ (gives : MayGive) (same : MayBeSame) (path out : List ℕ) (limit : ℕ) where
@@ -30,6 +30,7 @@ module _ (gives : MayGive) (same : MayBeSame) (path out : List ℕ) (limit : ℕ
   without_table (Table fault) h = h
   without_table (Stream fault) h = absurd h
   without_table (Confirm fault) h = absurd h
+  without_table (Text fault) h = absurd h
   without_table (Wide fault) h = absurd h
   without_table (WouldOverwrite file) h = absurd h
   without_table OutputFailed h = absurd h
@@ -54,6 +55,7 @@ module _ (gives : MayGive) (same : MayBeSame) (path out : List ℕ) (limit : ℕ
   overwriting paths lines (Table fault) are h = absurd h
   overwriting paths lines (Stream fault) are h = absurd h
   overwriting paths lines (Confirm fault) are h = absurd h
+  overwriting paths lines (Text fault) are h = absurd h
   overwriting paths lines (Wide fault) are h = absurd h
   overwriting paths lines (WouldOverwrite file) are h = (paths, lines, are, h)
   overwriting paths lines OutputFailed are h = absurd h

@@ -1,0 +1,94 @@
+//! The lines of tables that have a fault by themselves, in rows whose fields are cut at `|`.
+use brl_lines::{Line, Loaded};
+use brl_reading::{FaultyLine, survey};
+use brl_testing::{agree, cut, lend, lines_of, loaded_of};
+use std::alloc::Global;
+use std::fmt::Write;
+use std::test::Fail;
+
+/// Lines, and those that have a fault by themselves: the opcode and the fault of each.
+const SURVEYS: &str = "\
+|
+letter a 1|
+# a comment; ; letter a 1|
+pass2 @1 @2; letter a 1; pass2 @2 @3|pass2 B1 OutsideProfile pass2 at t.ctb:1; pass2 B1 OutsideProfile pass2 at t.ctb:3
+letter a 19; letter a; always a =|letter B4 BadDots 19 at t.ctb:1; letter B2 MissingOperand letter at t.ctb:2
+letter \\q 1; uplow AA 1|letter B3 BadCharacters \\q at t.ctb:1; uplow B3 BadCharacters AA at t.ctb:2
+noback pass2 @1 @2; nofor letter a 1|pass2 B1 OutsideProfile pass2 at t.ctb:1; letter B1 OutsideProfile letter at t.ctb:2
+noback; nofor always a 1,2; nofor|noback B2 MissingOperand noback at t.ctb:1; always B4 BadDots 1,2 at t.ctb:2; nofor B2 MissingOperand nofor at t.ctb:3
+numsign 9; numsign 6; numsign 6; numsign 1|numsign B4 BadDots 9 at t.ctb:1; numsign B9 IndicatorTwice numsign at t.ctb:3; numsign B9 IndicatorTwice numsign at t.ctb:4
+capsletter 6; capsign 6; numsign 6|capsign B9 IndicatorTwice capsign at t.ctb:2
+always ab =; numericmodechars .; litdigit 1 1; numericnocontchars 1|
+nofor word aaaaaaaaaaaaaaaaaaaaaaaaaaaaaaaaa 1; pass2 x|word B8 TooMany word at t.ctb:1; pass2 B1 OutsideProfile pass2 at t.ctb:2
+include|include B2 MissingOperand include at t.ctb:1
+";
+
+/// The faulty lines, one a line.
+fn text_of(alloc: Global, found: &[FaultyLine]) -> Result<String, Fail> {
+    let mut text = String::new(alloc);
+    for faulty in found {
+        let FaultyLine { opcode, fault } = faulty;
+        writeln!(text, "{opcode} {fault}")?;
+    }
+    Ok(text)
+}
+
+fn surveyed_lines(alloc: Global, lines: &[Line<'_>]) -> Result<String, Fail> {
+    lend(
+        survey(alloc, lines)?,
+        |found| text_of(alloc, found.as_slice()),
+    )
+}
+
+fn surveyed_loaded(alloc: Global, loaded: &Loaded) -> Result<String, Fail> {
+    let lines = loaded.lines(alloc)?;
+    surveyed_lines(alloc, lines.as_slice())
+}
+
+/// The faulty lines among those of a field.
+fn surveyed(alloc: Global, lines: &str) -> Result<String, Fail> {
+    lend(
+        loaded_of(alloc, lines)?,
+        |loaded| surveyed_loaded(alloc, loaded),
+    )
+}
+
+fn check_row(alloc: Global, row: &str) -> Result<(), Fail> {
+    let (lines, want) = cut(row)?;
+    let given = surveyed(alloc, lines)?;
+    agree(row, given.as_str(), lines_of(alloc, want)?.as_str())
+}
+
+#[test]
+fn faulty_lines(rt: HostRuntime) -> Result<(), Fail> {
+    for row in SURVEYS.lines() {
+        check_row(rt.alloc(), row)?;
+    }
+    Ok(())
+}
+
+/// The lines of 1,026 letters, and then two lines for the first of them.
+fn many_letters(alloc: Global) -> Result<String, Fail> {
+    let mut lines = String::new(alloc);
+    for code in 0x4e00..0x5202 {
+        write!(lines, "letter \\x{code:04x} 1; ")?;
+    }
+    lines.push_str("punctuation \\x4e00 2; always \\x4e00\\x5201 1")?;
+    Ok(lines)
+}
+
+/// Whether of these lines just those that define the last two letters are faulty.
+fn are_last_faulty(alloc: Global) -> Result<bool, Fail> {
+    let lines = many_letters(alloc)?;
+    let given = surveyed(alloc, lines.as_str())?;
+    Ok(
+        given.as_str()
+            == "letter B8 TooMany letter at t.ctb:1025\nletter B8 TooMany letter at t.ctb:1026\n",
+    )
+}
+
+#[test]
+fn a_table_has_1024_characters(rt: HostRuntime) -> Result<(), Fail> {
+    assert!(rt; are_last_faulty(rt.alloc())?);
+    Ok(())
+}
