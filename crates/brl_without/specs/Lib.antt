@@ -1,0 +1,4 @@
+pub mod LeftOut
+pub mod Without
+pub mod Tables
+pub mod Itself

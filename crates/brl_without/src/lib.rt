@@ -1,0 +1,14 @@
+//! Machines without some characters: what is left of a machine for the texts that don't use them. So
+//! a table's question can be decided for the texts over its other characters.
+//!
+//! `Without` is such a machine, over any other one; `LeftOut` has the characters. The laws state that
+//! it keeps what a search and a checker need.
+#![tactic(auto)]
+
+mod laws;
+mod left_out;
+mod without;
+
+pub use laws::{exact_without_law, nothing_left_out_law, unambiguous_without_law};
+pub use left_out::{LeftOut, first_undefined};
+pub use without::Without;
