@@ -1,13 +1,12 @@
 -- What a search of a table finds, from what a search of its machine without some characters finds.
-use Rattle.std.proofs.Common.{◌≡◌, ℕ, List, [], Result, IfOk, IsTrue, refl, sym, subst}
+use Rattle.std.proofs.Common.{◌≡◌, ℕ, List, [], IsTrue, refl, sym, subst}
 use Rattle.std.specs.Cmp.{first_so, second_so}
-use Rattle.std.proofs.lemmas.Result.{IfOk-weaker}
 use Rattle.brl_dues.specs.Steps.{dues_machine}
 use Rattle.brl_forward.specs.ClashView.{ClashView}
 use Rattle.brl_pairs.specs.Runs.{Behaviour}
 use Rattle.brl_search.specs.Answers.{IsOutcome}
 use Rattle.brl_search.specs.Deciding.{IsClashOf}
-use Rattle.brl_search.specs.Found.{IfCertified, IfClashing, IsCertificate, IsFound, IsFoundOver, IsFoundWithout}
+use Rattle.brl_search.specs.Found.{IfCertified, IfClashing, IsFound, IsFoundOver, IsFoundWithout}
 use Rattle.brl_search.specs.Searched.{State, machine_of}
 use Rattle.brl_search.specs.declared.outcome.Outcome.{Outcome}
 use Rattle.brl_search.specs.declared.table_search.Found.{Found}

@@ -26,9 +26,10 @@ use std::io::Write;
 /// Standard output gets the translation, what was found of two texts, of a certificate or by a search,
 /// or help or the version where these are asked for. Standard error gets the notices of a table that is
 /// searched, one line for a fault, or the text of a use fault; what can't be written there is dropped
-/// and changes no status. Faults come in the order of the work: the words, the certificate's file, the
-/// table's files, a file for a new certificate that is one of these, the table's lines, the texts, the
-/// input, the certificate or the search, the file that gets a certificate, the output.
+/// and changes no status. Faults come in the order of the work: the words, and what they leave out, the
+/// certificate's file, the table's files, a file for a new certificate that is one of these, the
+/// table's lines, a character that is left out and isn't defined, the texts, the input, the certificate
+/// or the search, the file that gets a certificate, the output.
 ///
 /// A file is written only where a search found a certificate: that file and no other. A file of the
 /// searched table is refused as the file for the certificate before the search.

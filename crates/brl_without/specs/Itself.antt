@@ -6,7 +6,7 @@ use Rattle.brl_pairs.specs.declared.step.Step.{Step}
 use Rattle.brl_table.specs.TableView.{TableView}
 use Rattle.brl_table.specs.Translation.{IsUnambiguous}
 use Rattle.brl_without.specs.LeftOut.{uses_none}
-use Rattle.brl_without.specs.Parts.{Part, part_without, whole}
+use Rattle.brl_without.specs.Parts.{part_without, whole}
 use Rattle.brl_without.specs.Tables.{IsUnambiguousWithout}
 use Rattle.brl_without.specs.Without.{without}
 

@@ -1,7 +1,6 @@
 use Rattle.std.proofs.Common.{ℕ, List, IfErr, IfOk, subst, sym}
 use Rattle.std.proofs.lemmas.Result.{IfErr-weaker}
 use Rattle.brl_accept.specs.Judging.{IsAcceptedWithout, IsRefusedByWithout}
-use Rattle.brl_accept.specs.declared.checker.Accepted.{Accepted}
 use Rattle.brl_failure.specs.Failure.{IfFault}
 use Rattle.brl_failure.specs.Raised.{if_fault-weaker}
 use Rattle.brl_reading.specs.Files.{IsTableOf}

@@ -1,6 +1,5 @@
 use Rattle.std.proofs.Common.{List, ℕ, subst, sym}
 use Rattle.std.proofs.lemmas.Result.{IfOk-weaker}
-use Rattle.std.specs.Prelude.{IfOk}
 use Rattle.brl_search.specs.Answers.{IsOutcome}
 use Rattle.brl_search.specs.Found.{IsFound, IsFoundWithout}
 use Rattle.brl_search.specs.Searched.{machine_of}
