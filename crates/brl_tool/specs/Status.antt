@@ -46,6 +46,7 @@ of_confirm failures.Memory = Memory
 abbrev pub of_forward : Failure ForwardFault → RunFault
 of_forward (failures.Fault fault) = Text fault
 of_forward failures.Memory = Memory
+
 -- the fault of the program where a table doesn't define what is left out
 abbrev pub of_undefined : Failure UndefinedLeftOut → RunFault
 of_undefined (failures.Fault fault) = NotDefined fault

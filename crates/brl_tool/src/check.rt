@@ -103,11 +103,7 @@ fn judgement(
 }
 
 /// The answer where a certificate is accepted.
-fn acceptance(
-    alloc: Global,
-    left_out: &LeftOut,
-    accepted: Accepted,
-) -> Result<Answer, RunFault>
+fn acceptance(alloc: Global, left_out: &LeftOut, accepted: Accepted) -> Result<Answer, RunFault>
     ensures { UnlessMemory (IsAcceptance left_out.now accepted) result }
 {
     let states = u64::from(accepted.states);

@@ -26,11 +26,7 @@ pub fn left_out_of(alloc: Global, option: Option<&str>) -> Result<LeftOut, RunFa
 }
 
 /// A line of an answer, and where characters are left out another line, which spells them.
-pub fn tell_without(
-    alloc: Global,
-    line: String,
-    left_out: &LeftOut,
-) -> Result<String, AllocError>
+pub fn tell_without(alloc: Global, line: String, left_out: &LeftOut) -> Result<String, AllocError>
     ensures { IfOk result (λ text. string_bytes text ≡ told_without left_out.now (string_bytes line)) }
 {
     if left_out.is_empty() {
