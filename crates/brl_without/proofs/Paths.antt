@@ -1,12 +1,17 @@
 -- The paths of a machine without some characters are its paths that read none of them.
-use Rattle.std.proofs.Common.{◌≡◌, ℕ, ◌&&◌, Bool, true, IsTrue, List, [], ◌∷◌, ◌++◌, refl, sym, ◌∙◌, ap}
+use Rattle.std.proofs.Common.{◌≡◌, ◌≢◌, ◌<◌, ◌⊎◌, inl, inr, arith, ℕ, ◌&&◌, Bool, true, IsTrue, List, [], ◌∷◌, ◌++◌, refl, sym, ◌∙◌, ap}
 use Rattle.std.specs.Cmp.{first_so, second_so}
 use Rattle.std.proofs.lemmas.List.Folds.{list_all-append}
+use Rattle.brl_pairs.specs.Pairs.{IsClosed, Sets, Splits}
 use Rattle.brl_pairs.specs.Runs.{Accepts, Behaviour, IsExact, IsGoodStep, IsInOrder, IsListed, IsPath, IsUnambiguous, KeepsLaws, reads_of}
+use Rattle.brl_pairs.specs.declared.step.Pair.{Pair}
 use Rattle.brl_pairs.specs.declared.step.Step.{Step}
 use Rattle.brl_without.specs.LeftOut.{uses_none}
 use Rattle.brl_without.specs.Without.{IsUnambiguousFor, without}
 use Rattle.brl_without.proofs.Steps.{kept_in_turn, kept_passes, passes_kept}
+
+either_order : (i j : ℕ) → i ≢ j → (i < j) ⊎ (j < i)
+either_order i j differ = grind arith
 
 and_of : (b c : Bool) → b ≡ true → c ≡ true → (b && c) ≡ true
 and_of b c e f = rw e f
@@ -69,6 +74,25 @@ module _ (left_out : List ℕ) where
           and_of _ _ (exact.text path r.0) r.1);
       translates = λ path is. exact.translates path (path_within m.start path is).0;
       one_path = λ path other is also same. exact.one_path path other (path_within m.start path is).0 (path_within m.start other also).0 same;
+    }
+
+    split_within : (s : S) (p : Pair S) → Splits ((without left_out m).steps s) p → Splits (m.steps s) p
+    split_within s p h = elim (either_order h.i h.j h.differ) [
+      | inl less ↦
+          let r = kept_in_turn (λ (y : Step S). uses_none left_out y.reads) (m.steps s) h.longer h.shorter h.i h.j less h.longer_listed h.shorter_listed in
+          record { i = r.first; j = r.second; longer = h.longer; shorter = h.shorter; differ = λ e. absurd (omega (arith, r.less, e)); longer_listed = r.first_at; shorter_listed = r.second_at; ahead = h.ahead; behind = h.behind; lead = h.lead }
+      | inr more ↦
+          let r = kept_in_turn (λ (y : Step S). uses_none left_out y.reads) (m.steps s) h.shorter h.longer h.j h.i more h.shorter_listed h.longer_listed in
+          record { i = r.second; j = r.first; longer = h.longer; shorter = h.shorter; differ = λ e. absurd (omega (arith, r.less, e)); longer_listed = r.second_at; shorter_listed = r.first_at; ahead = h.ahead; behind = h.behind; lead = h.lead }
+    ]
+
+    pub keeps_closed : (sets : Sets S) → IsClosed m sets → IsClosed (without left_out m) sets
+    keeps_closed sets closed = record {
+      start = closed.start;
+      steps = λ s x has listed. closed.steps s x has (listed_within s x listed).0;
+      splits = λ s p has split. closed.splits s p has (split_within s p split);
+      moves = λ p q has moved. closed.moves p q has (record { step = moved.step; listed = (listed_within p.behind moved.step moved.listed).0; moved = moved.moved });
+      ends = closed.ends;
     }
 
     pub unambiguous_for : IsUnambiguous (without left_out m) → IsUnambiguousFor left_out m

@@ -1,9 +1,7 @@
 //! Characters that are left out.
 ghost use Rattle.std.specs.Prelude.{◌≡◌, ◌↔◌, [], IfOk, IsTrue};
 ghost use Rattle.brl_without.specs.LeftOut.{is_left_out, uses_none};
-ghost use Rattle.brl_without.specs.Tables.{first_undefined as undefined_first};
 
-use brl_table::Table;
 use indexmap::IndexSet;
 use std::alloc::{AllocError, Global};
 use std::marker::Model;
@@ -27,6 +25,16 @@ impl Model for LeftOut {
 }
 
 impl LeftOut {
+    /// No characters. No memory is allocated.
+    pub fn none(alloc: Global) -> LeftOut
+        ensures { result ≡ [] }
+    {
+        LeftOut {
+            given: Vec::new(alloc),
+            set: IndexSet::new(alloc),
+        }
+    }
+
     /// These characters.
     pub fn new(alloc: Global, given: Vec<char>) -> Result<LeftOut, AllocError>
         ensures { IfOk result (λ left_out. left_out ≡ given.items) }
@@ -65,12 +73,4 @@ impl LeftOut {
     {
         text.iter().all(|c| !self.contains(*c))
     }
-}
-
-/// The first of these characters that the table doesn't define.
-pub fn first_undefined(table: &Table, left_out: &LeftOut) -> Option<char>
-    ensures { result ≡ undefined_first table.now left_out.now }
-{
-    let given = left_out.as_slice();
-    given.iter().copied().find(|c| table.info(*c).is_none())
 }

@@ -7,8 +7,12 @@
 
 mod laws;
 mod left_out;
+mod undefined;
 mod without;
 
-pub use laws::{exact_without_law, nothing_left_out_law, unambiguous_without_law};
-pub use left_out::{LeftOut, first_undefined};
+pub use laws::{
+    closed_without_law, exact_without_law, nothing_left_out_law, unambiguous_without_law,
+};
+pub use left_out::LeftOut;
+pub use undefined::{UndefinedLeftOut, check_defined};
 pub use without::Without;
