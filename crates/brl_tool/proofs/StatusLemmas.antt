@@ -232,9 +232,10 @@ module _ (before after : MayGive) (failed : Type 0) (old new : Option (List ℕ)
 
   pub found_by : (option : Option (List ℕ)) (same_file : MayBeSame) (path out : List ℕ) (limit : ℕ) (outcome : Result Answer RunFault) (status : Status) → ByLeftOut option (λ left_out. SearchesByFile left_out before same_file path out limit) outcome → Delivers outcome before after failed old new status → status ≡ Refuted
       → ReportsClash before old new × AllStay before after
-  found_at_refuted same_file path out limit outcome status is delivers same =
-      let (answer, ok, refuted, files, appends) = whole Refuted never_refuted outcome status delivers same in
-      clash_found same_file path out limit answer (subst (SearchesByFile before same_file path out limit) ok is) refuted files appends
+  found_by option same_file path out limit outcome status is delivers same = elim is [
+    | inl (left_out, spelled, searched) ↦ found_at_refuted left_out same_file path out limit outcome status searched delivers same
+    | inr (fault, e, bad) ↦ absurd (no_option Refuted never_refuted outcome status fault e delivers same)
+  ]
 
   -- ---- `brl survey`
 
@@ -267,7 +268,3 @@ module _ (before after : MayGive) (failed : Type 0) (old new : Option (List ℕ)
   trace_unrefuted path text outcome status is delivers same =
       let (answer, ok, refuted, files, appends) = whole Refuted never_refuted outcome status delivers same in
       trace_said path text answer (subst (TracesByFile before path text) ok is) refuted
-  found_by option same_file path out limit outcome status is delivers same = elim is [
-    | inl (left_out, spelled, searched) ↦ found_at_refuted left_out same_file path out limit outcome status searched delivers same
-    | inr (fault, e, bad) ↦ absurd (no_option Refuted never_refuted outcome status fault e delivers same)
-  ]

@@ -41,7 +41,7 @@ returns-in-Closed c limit outcome =
     let body = c.in-Closed.body in
     let certified : IsCertified (without left_out (dues_machine t)) limit body = rw c.in-Closed.is at outcome in
     let closed : IsClosed (without m.left_out (dues_machine m.machine)) (sets_of body) =
-        subst₂ (λ (cs : List ℕ) (u : TableView). IsClosed (without cs (dues_machine u)) (sets_of body)) (sym c.new-machine.ensures.left_out) (sym (c.new-machine.ensures.machine ∙ c.new-dues.ensures.table)) certified.closed in
+    subst₂ (λ (cs : List ℕ) (u : TableView). IsClosed (without cs (dues_machine u)) (sets_of body)) (sym c.new-machine.ensures.left_out) (sym (c.new-machine.ensures.machine ∙ c.new-dues.ensures.table)) certified.closed in
     let machine : IsUnambiguous (without m.left_out (dues_machine m.machine)) = c.numbered_sets_law.ensures (slice_get body.states) (pair_at body) closed in
     record {
       closed = certified.closed;
@@ -71,8 +71,8 @@ returns-in_ok-clash-in-BothEnd c limit outcome =
     let paths : AreTwoPaths (without left_out (dues_machine t)) left right = (rw c.in-BothEnd.is at outcome).0 in
     let shown = shows c.new-machine.result.left_out left_out c.new-machine.result.machine c.new-dues.result t left right c.new-machine.ensures.left_out c.new-machine.ensures.machine c.new-dues.ensures.table c.exact_law.ensures (c.exact_without_law.ensures left_out) c.same_cells_law.ensures paths in
     let clash : IsClashWithout left_out t found.left found.right found.cells =
-        clash_without left_out t left right found (c.in_ok-clash-in-BothEnd.ensures.left ∙ c.as_slice.ensures.value) (c.in_ok-clash-in-BothEnd.ensures.right ∙ c.as_slice-in-BothEnd.ensures.value)
-        (none_of_machine left_out t left right shown) c.in_ok-clash-in-BothEnd.ensures.clash in
+    clash_without left_out t left right found (c.in_ok-clash-in-BothEnd.ensures.left ∙ c.as_slice.ensures.value) (c.in_ok-clash-in-BothEnd.ensures.right ∙ c.as_slice-in-BothEnd.ensures.value)
+    (none_of_machine left_out t left right shown) c.in_ok-clash-in-BothEnd.ensures.clash in
     record {
       closed = tt;
       unambiguous = tt;

@@ -76,6 +76,7 @@ module _ (left_out : List ℕ) (gives : MayGive) (same : MayBeSame) (path out : 
   answered paths t is apart (Err (Table fault)) verdict h = absurd h
   answered paths t is apart (Err (Stream fault)) verdict h = absurd h
   answered paths t is apart (Err (Confirm fault)) verdict h = absurd h
+  answered paths t is apart (Err (Text fault)) verdict h = absurd h
   answered paths t is apart (Err (Wide fault)) verdict h = absurd h
   answered paths t is apart (Err (BadLeftOut named)) verdict h = absurd h
   answered paths t is apart (Err (NotDefined fault)) verdict h = (t, of_files gives path paths t is, h)
@@ -91,6 +92,7 @@ reads_none t left_out before now same (Err (Load fault)) h = absurd h
 reads_none t left_out before now same (Err (Table fault)) h = absurd h
 reads_none t left_out before now same (Err (Stream fault)) h = absurd h
 reads_none t left_out before now same (Err (Confirm fault)) h = absurd h
+reads_none t left_out before now same (Err (Text fault)) h = absurd h
 reads_none t left_out before now same (Err (Wide fault)) h = absurd h
 reads_none t left_out before now same (Err (BadLeftOut named)) h = absurd h
 reads_none t left_out before now same (Err (NotDefined fault)) h = same
