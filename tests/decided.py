@@ -3,7 +3,8 @@
 
 Four hundred tables are made, the same on each run: two to four letters, with and without a blank, and some rules in several
 places; and two hundred of letters with their capitals, most of them with indicators of runs of capitals. Each must be
-certified, and its certificate accepted; or shown to clash, by two texts that `brl clash` finds alike.
+certified, and its certificate accepted; or shown to clash, by two texts that `brl clash` finds alike. The same must hold
+for the texts that don't use the letter `a`; these clash in no table that is certified.
 """
 
 import random
@@ -51,19 +52,32 @@ def text(line: str) -> str:
     return line.partition(": ")[2].replace("\\s", " ")
 
 
-def fault(program: str, path: Path, cert: Path) -> tuple[str, str]:
-    """What the search says of a table, and what is wrong with it, if anything."""
-    status, told = run(program, "search", path, cert)
+def fault(program: str, path: Path, cert: Path, left_out: str) -> tuple[str, str]:
+    """What the search says of a table without a character, if one is given, and what is wrong with it, if anything."""
+    option = ["--without", left_out] if left_out else []
+    status, told = run(program, "search", path, cert, *option)
     first, *others = told.splitlines() or [""]
     if status == 0 and first.startswith("certified: "):
-        accepted = run(program, "check", path, cert)
-        wanted = (0, first.replace("certified", "accepted") + "\n")
-        return "certified", "" if accepted == wanted else f"the certificate isn't accepted: {accepted}"
+        accepted = run(program, "check", path, cert, *option)
+        wanted = (0, told.replace("certified", "accepted", 1))
+        named = others == ([f"without: {left_out}"] if left_out else [])
+        return "certified", "" if named and accepted == wanted else f"the certificate isn't accepted: {told}{accepted}"
     if status == 1 and first.startswith("left: "):
         left, right = text(first), text(others[0])
+        if left_out and left_out in left + right:
+            return "clashing", f"{left_out} is used"
         again = run(program, "clash", path, left, right)
         return "clashing", "" if left != right and again == (1, told) else f"the texts don't clash: {again}"
     return "undecided", f"status {status}: {told}"
+
+
+def fault_of_both(program: str, path: Path, cert: Path) -> tuple[str, str]:
+    """What the search says of a table, and what is wrong with that, or with what it says without the letter a."""
+    kind, wrong = fault(program, path, cert, "")
+    fewer, other = fault(program, path, cert, "a")
+    if not wrong and not other and (kind, fewer) == ("certified", "clashing"):
+        other = "texts without a clash in a table that is certified"
+    return kind, wrong or other
 
 
 def decide(program: str, make: Callable[[random.Random], str], tables: int) -> str:
@@ -73,7 +87,7 @@ def decide(program: str, make: Callable[[random.Random], str], tables: int) -> s
         path, cert = Path(folder, "t.ctb"), Path(folder, "t.cert")
         for _ in range(tables):
             path.write_text(make(chance))
-            kind, wrong = fault(program, path, cert)
+            kind, wrong = fault_of_both(program, path, cert)
             if wrong:
                 return f"{wrong}\n{path.read_text()}"
             counts[kind] += 1

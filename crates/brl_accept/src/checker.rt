@@ -12,6 +12,7 @@ use crate::pass::find_missing;
 use brl_edges::Body;
 use brl_failure::Failure;
 use brl_pairs::{Machine, numbered_sets_law};
+use brl_watch::{Unwatched, Watch};
 use std::alloc::Global;
 
 /// The numbers of states and pairs of a certificate that was accepted.
@@ -22,10 +23,11 @@ pub struct Accepted {
 }
 
 /// Checks that no state, no split and no pair is missing.
-fn check_missing<M: Machine>(
+fn check_missing<M: Machine, W: Watch>(
     alloc: Global,
     machine: &M,
     body: &Body<M::State>,
+    watch: &mut W,
 ) -> Result<(), Failure<AcceptFault>>
     requires laws { KeepsLaws (M.behaviour machine.now) }
     requires start { HasStart (M.behaviour machine.now) body.now }
@@ -34,7 +36,7 @@ fn check_missing<M: Machine>(
     ensures moves { OnOk result (MissesNoPair (M.behaviour machine.now) body.now) }
     ensures refused { IfErr result (IfFault (IsRefused (M.behaviour machine.now) body.now)) }
 {
-    let missing = find_missing(alloc, machine, body)?;
+    let missing = find_missing(alloc, machine, body, watch)?;
     if let Some(split) = missing.split {
         return Err(Failure::Fault(AcceptFault::SplitMissing {
             state: split.state,
@@ -69,10 +71,11 @@ fn check_ends<M: Machine>(machine: &M, body: &Body<M::State>) -> Result<(), Fail
 }
 
 /// Checks that the states and pairs are closed.
-fn check<M: Machine>(
+fn check<M: Machine, W: Watch>(
     alloc: Global,
     machine: &M,
     body: &Body<M::State>,
+    watch: &mut W,
 ) -> Result<(), Failure<AcceptFault>>
     ensures closed { OnOk result (IsClosed (M.behaviour machine.now) (sets_of body.now)) }
     ensures refused { IfErr result (IfFault (IsRefused (M.behaviour machine.now) body.now)) }
@@ -80,7 +83,7 @@ fn check<M: Machine>(
     if !body.has_state(&machine.start()) {
         return Err(Failure::Fault(AcceptFault::NoStart));
     }
-    check_missing(alloc, machine, body)?;
+    check_missing(alloc, machine, body, watch)?;
     check_ends(machine, body)
 }
 
@@ -106,8 +109,25 @@ pub fn accept<M: Machine>(
     // States and pairs that are refused are not closed.
     ensures not_closed { IfErr result (IfFault (λ _. IsClosed (M.behaviour machine.now) (sets_of body.now) → ⊥)) }
 {
+    accept_watched(alloc, machine, body, &mut Unwatched)
+}
+
+/// The same. A watcher is told of each state how far the check is.
+pub fn accept_watched<M: Machine, W: Watch>(
+    alloc: Global,
+    machine: &M,
+    body: &Body<M::State>,
+    watch: &mut W,
+) -> Result<Accepted, Failure<AcceptFault>>
+    ensures closed { OnOk result (IsClosed (M.behaviour machine.now) (sets_of body.now)) }
+    ensures unambiguous { OnOk result (IsUnambiguous (M.behaviour machine.now)) }
+    ensures states { IfOk result (λ accepted. accepted.states ≡ length body.now.states) }
+    ensures pairs { IfOk result (λ accepted. accepted.pairs ≡ length body.now.pairs) }
+    ensures refused { IfErr result (IfFault (IsRefused (M.behaviour machine.now) body.now)) }
+    ensures not_closed { IfErr result (IfFault (λ _. IsClosed (M.behaviour machine.now) (sets_of body.now) → ⊥)) }
+{
     numbered_sets_law(machine);
-    check(alloc, machine, body)?;
+    check(alloc, machine, body, watch)?;
     Ok(Accepted {
         states: body.state_count(),
         pairs: body.pair_count(),

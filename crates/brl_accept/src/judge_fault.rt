@@ -3,6 +3,7 @@ use crate::AcceptFault;
 use brl_cert::CertFault;
 use brl_reading::NoTable;
 use brl_window::TooWide;
+use brl_without::UndefinedLeftOut;
 use thiserror::Error;
 
 /// The first stage that refused, and its fault.
@@ -11,6 +12,9 @@ pub enum JudgeFault {
     /// The files define no table.
     #[error("{0}")]
     NoTable(NoTable),
+    /// The table doesn't define a character that is left out.
+    #[error("{0}")]
+    NotDefined(UndefinedLeftOut),
     /// The bytes spell no certificate.
     #[error("{0}")]
     Cert(CertFault),

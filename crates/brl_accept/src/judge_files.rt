@@ -1,6 +1,6 @@
 //! The judge of a certificate for the table that files define.
 ghost use Rattle.std.specs.Prelude.{◌≡◌, ◌⊎◌, ◌↔◌, Err, IfErr, IfOk, IsTrue, Ok, OnOk};
-ghost use Rattle.brl_accept.specs.Judging.{IsAccepted, IsNotProvedWith, IsProvedWith, IsRefusedBy, IsRefusedFor, load_outcome};
+ghost use Rattle.brl_accept.specs.Judging.{IsAccepted, IsAcceptedFor, IsAcceptedWithout, IsNotProvedWith, IsProvedWith, IsRefusedBy, IsRefusedByWithout, IsRefusedFor, IsRefusedWithout, load_outcome};
 ghost use Rattle.brl_accept.specs.declared.checker.Accepted.{Accepted as AcceptedValue};
 ghost use Rattle.brl_failure.specs.Failure.{IfFault};
 ghost use Rattle.brl_failure.specs.declared.failure.Failure.TheVariants as failures;
@@ -10,6 +10,8 @@ ghost use Rattle.brl_lines.specs.Outcome.{CountsFailure};
 ghost use Rattle.brl_reading.specs.Files.{IsTableOf};
 ghost use Rattle.brl_table.specs.TableView.{TableView};
 ghost use Rattle.brl_table.specs.Translation.{IsUnambiguous};
+ghost use Rattle.brl_without.specs.Parts.{part_without};
+ghost use Rattle.brl_without.specs.Tables.{IsUnambiguousWithout};
 
 use crate::{Accepted, JudgeFault, accept};
 use brl_cert::{Cert, read_cert};
@@ -20,36 +22,44 @@ use brl_lines::Source;
 use brl_reading::{load_table, one_table_law};
 use brl_table::Table;
 use brl_window::{TooWide, Window, WindowState};
+use brl_without::{LeftOut, Without, check_defined, unambiguous_without_law};
 use std::alloc::Global;
 
-/// Judges the states and pairs of a certificate of version 1 for a table.
+/// Judges the states and pairs of a certificate of version 1 for a table without some characters.
 fn judge_windows(
     alloc: Global,
     table: &Table,
+    left_out: &LeftOut,
     body: &Body<WindowState>,
 ) -> Result<Accepted, Failure<JudgeFault>>
-    ensures unambiguous { OnOk result (IsUnambiguous table.now) }
-    ensures accepted { IfOk result (IsProvedWith table.now (Cert.Window body.now)) }
-    ensures refused { IfErr result (IfFault (IsNotProvedWith table.now (Cert.Window body.now))) }
+    ensures unambiguous { OnOk result (IsUnambiguousWithout left_out.now table.now) }
+    ensures accepted { IfOk result (IsProvedWith (part_without left_out.now) table.now (Cert.Window body.now)) }
+    ensures refused { IfErr result (IfFault (IsNotProvedWith (part_without left_out.now) table.now (Cert.Window body.now))) }
 {
     let Ok(window) = Window::new(alloc, table) else {
         return Err(Failure::Fault(JudgeFault::Wide(TooWide)));
     };
-    raise(accept(alloc, &window, body), JudgeFault::Refused)
+    unambiguous_without_law(&window);
+    let machine = Without::new(&window, left_out);
+    raise(accept(alloc, &machine, body), JudgeFault::Refused)
 }
 
-/// Judges the states and pairs of a certificate of version 2 or 3 for a table.
+/// Judges the states and pairs of a certificate of version 2 or 3 for a table without some
+/// characters.
 fn judge_dues(
     alloc: Global,
     table: &Table,
+    left_out: &LeftOut,
     body: &Body<DuesState>,
 ) -> Result<Accepted, Failure<JudgeFault>>
-    ensures unambiguous { OnOk result (IsUnambiguous table.now) }
-    ensures accepted { IfOk result (IsProvedWith table.now (Cert.Word body.now)) }
-    ensures refused { IfErr result (IfFault (IsNotProvedWith table.now (Cert.Word body.now))) }
+    ensures unambiguous { OnOk result (IsUnambiguousWithout left_out.now table.now) }
+    ensures accepted { IfOk result (IsProvedWith (part_without left_out.now) table.now (Cert.Word body.now)) }
+    ensures refused { IfErr result (IfFault (IsNotProvedWith (part_without left_out.now) table.now (Cert.Word body.now))) }
 {
     let dues = Dues::new(alloc, table);
-    raise(accept(alloc, &dues, body), JudgeFault::Refused)
+    unambiguous_without_law(&dues);
+    let machine = Without::new(&dues, left_out);
+    raise(accept(alloc, &machine, body), JudgeFault::Refused)
 }
 
 /// Whether certificates of this one's version are for the table: all where it has no word capitals,
@@ -63,21 +73,42 @@ fn has_version(table: &Table, cert: &Cert) -> bool
     }
 }
 
-/// Judges a certificate for a table.
-fn judge_table(alloc: Global, table: &Table, cert: &[u8]) -> Result<Accepted, Failure<JudgeFault>>
-    ensures unambiguous { OnOk result (IsUnambiguous table.now) }
-    ensures accepted { IfOk result (IsAccepted table.now cert.now) }
-    ensures refused { IfErr result (IfFault (IsRefusedFor table.now cert.now)) }
+/// Judges a certificate for a table without some characters.
+fn judge_cert(
+    alloc: Global,
+    table: &Table,
+    left_out: &LeftOut,
+    cert: &[u8],
+) -> Result<Accepted, Failure<JudgeFault>>
+    ensures unambiguous { OnOk result (IsUnambiguousWithout left_out.now table.now) }
+    ensures accepted { IfOk result (IsAcceptedFor (part_without left_out.now) table.now cert.now) }
+    ensures refused { IfErr result (IfFault (IsRefusedFor (part_without left_out.now) table.now cert.now)) }
 {
     let cert = raise(read_cert(alloc, cert), JudgeFault::Cert)?;
     if !has_version(table, &cert) {
         return Err(Failure::Fault(JudgeFault::OldVersion));
     }
     match cert {
-        Cert::Window(runless) => judge_windows(alloc, table, runless.body()),
-        Cert::Dues(runless) => judge_dues(alloc, table, runless.body()),
-        Cert::Word(body) => judge_dues(alloc, table, &body),
+        Cert::Window(runless) => judge_windows(alloc, table, left_out, runless.body()),
+        Cert::Dues(runless) => judge_dues(alloc, table, left_out, runless.body()),
+        Cert::Word(body) => judge_dues(alloc, table, left_out, &body),
     }
+}
+
+/// The same, once the table defines what is left out.
+fn judge_table(
+    alloc: Global,
+    table: &Table,
+    left_out: &LeftOut,
+    cert: &[u8],
+) -> Result<Accepted, Failure<JudgeFault>>
+    ensures unambiguous { OnOk result (IsUnambiguousWithout left_out.now table.now) }
+    ensures accepted { IfOk result (IsAcceptedWithout left_out.now table.now cert.now) }
+    ensures refused { IfErr result (IfFault (IsRefusedWithout left_out.now table.now cert.now)) }
+{
+    let defined = check_defined(alloc, table, left_out);
+    raise(defined, JudgeFault::NotDefined)?;
+    judge_cert(alloc, table, left_out, cert)
 }
 
 /// Judges a certificate for the table that the file at the path `root` defines. An acceptance gives
@@ -110,9 +141,44 @@ pub fn judge<S: Source>(
     ensures count { CountsFailure (S.faults source.old) (S.faults source.new) (load_outcome result) }
     ensures same { AllStay (S.gives source.old) (S.gives source.new) }
 {
+    judge_without(alloc, source, root, cert, &LeftOut::none(alloc))
+}
+
+/// Judges a certificate for the table that the file at the path `root` defines, for the texts that
+/// use none of some characters. An acceptance gives the numbers of states and pairs that the
+/// certificate lists. Then any two texts over the table's other characters that the table translates
+/// to the same cells are equal, whatever their length.
+///
+/// Otherwise the fault is that of the first stage that refuses: those of `judge`, and after `NoTable`
+/// `NotDefined` where the table doesn't define a character that is left out. `Refused` where the
+/// certificate's states and pairs aren't closed for the machine of its version without these
+/// characters.
+pub fn judge_without<S: Source>(
+    alloc: Global,
+    source: &mut S,
+    root: &str,
+    cert: &[u8],
+    left_out: &LeftOut,
+) -> Result<Accepted, Failure<JudgeFault>>
+    // The files define a table, as the source gave them. Any two texts over its other characters that
+    // it translates to the same cells are equal, whatever their length. The bytes spell a certificate
+    // that proves it, with these numbers of states and pairs.
+    ensures accepted { IfOk result (λ accepted. (t : TableView) × IsTableOf (S.gives source.old) root.now t
+        × IsUnambiguousWithout left_out.now t × IsAcceptedWithout left_out.now t cert.now accepted) }
+    // The fault is that of the first stage that refuses. Where the files define a table, the bytes
+    // don't deserve acceptance for it without these characters.
+    ensures refused { IfErr result (IfFault (IsRefusedByWithout left_out.now (S.gives source.old) root.now cert.now)) }
+    // Where each file has one content, a certificate that deserves acceptance is accepted, unless
+    // memory runs out.
+    ensures decides { GivesOneAnswer (S.gives source.old) → (t : TableView) → IsTableOf (S.gives source.old) root.now t
+        → (accepted : AcceptedValue) → IsAcceptedWithout left_out.now t cert.now accepted
+        → (result ≡ Ok accepted) ⊎ (result ≡ Err failures.Memory) }
+    ensures count { CountsFailure (S.faults source.old) (S.faults source.new) (load_outcome result) }
+    ensures same { AllStay (S.gives source.old) (S.gives source.new) }
+{
     one_table_law(&*source);
     let table = raise(load_table(alloc, source, root), JudgeFault::NoTable)?;
-    let judged = judge_table(alloc, &table, cert);
+    let judged = judge_table(alloc, &table, left_out, cert);
     drop(table);
     judged
 }

@@ -13,7 +13,9 @@ use crate::edges::edges_of;
 use crate::missing::{MissingPair, MissingSplit, missing_pair_at, missing_split_at};
 use brl_edges::{Body, Edge};
 use brl_failure::Failure;
+use brl_members::Key;
 use brl_pairs::Machine;
+use brl_watch::{Watch, Work};
 use std::alloc::{AllocError, Global};
 
 /// What is missing at the states that were passed: the least split, or where no split is missing
@@ -93,12 +95,13 @@ fn missing_after<M: Machine>(
     Ok(Missing { split, pair })
 }
 
-/// What is missing, by one pass over the states that holds the edges of one state at a time. The
-/// fault is the first step that leads to no state of the body.
-pub fn find_missing<M: Machine>(
+/// What is missing, by one pass over the states that holds the edges of one state at a time. A
+/// watcher is told of each state. The fault is the first step that leads to no state of the body.
+pub fn find_missing<M: Machine, W: Watch>(
     alloc: Global,
     machine: &M,
     body: &Body<M::State>,
+    watch: &mut W,
 ) -> Result<Missing, Failure<AcceptFault>>
     requires laws { KeepsLaws (M.behaviour machine.now) }
     requires start { HasStart (M.behaviour machine.now) body.now }
@@ -112,6 +115,7 @@ pub fn find_missing<M: Machine>(
         pair: None,
     };
     for state in 0..body.state_count() {
+        watch.tell(work_at(body, state));
         let edges = edges_of(alloc, machine, body, state as usize)?;
         let kept = first_two_alike(alloc, edges)?;
         missing = missing_after(
@@ -125,4 +129,13 @@ pub fn find_missing<M: Machine>(
         )?;
     }
     Ok(missing)
+}
+
+/// How far the pass is at the state with this number.
+fn work_at<S: Key>(body: &Body<S>, state: u32) -> Work {
+    Work::Check {
+        passed: u64::from(state),
+        states: u64::from(body.state_count()),
+        pairs: u64::from(body.pair_count()),
+    }
 }

@@ -1,16 +1,18 @@
 -- What carried dues leave, appended one by one to the dues found so far.
-use Rattle.std.proofs.Common.{◌≡◌, ℕ, ◌+◌, ◌<◌, ◌≤◌, Bool, true, false, ◌&&◌, List, [], ◌∷◌, ◌++◌, length, take, drop, get_or, map, refl, sym, ap, ap₂, ◌∙◌, subst, append_assoc, append-nil}
+use Rattle.std.proofs.Common.{◌≡◌, ℕ, suc, ◌+◌, ◌-◌, ◌<◌, ◌≤◌, Bool, true, false, ◌&&◌, List, [], ◌∷◌, ◌++◌, length, take, drop, get_or, map, refl, sym, ap, ap₂, ◌∙◌, subst, append_assoc, append-nil, arith, drop-cons, drop_of_length-le, length-drop}
 use Rattle.std.proofs.lemmas.List.{map-append, take-append-drop, take_all, take_more}
 use Rattle.std.proofs.lemmas.Grind.{flat_map-append}
 use Rattle.std.proofs.lemmas.List.Folds.{list_all-append}
 use Rattle.std.specs.List.{flat_map, list_all}
 use Rattle.brl_table.specs.declared.place.Cond.{Cond}
+use Rattle.brl_table.specs.TableView.{TableView}
 use Rattle.brl_dues.specs.declared.carry.Carried.{Carried}
+use Rattle.brl_dues.specs.declared.carry.Carried.TheVariants.{Left}
 use Rattle.brl_dues.specs.declared.due.Due.{Due}
 use Rattle.brl_dues.specs.declared.due.Due.TheVariants.{Bar}
 use Rattle.brl_dues.specs.Adding.{Adds}
-use Rattle.brl_dues.specs.Barred.{barred}
-use Rattle.brl_dues.specs.Carry.{is_whole, left_of, lefts}
+use Rattle.brl_dues.specs.Capitals.{choices}
+use Rattle.brl_dues.specs.Carry.{carry_capitals, is_whole, left_of, lefts}
 
 -- none of these is broken, and what they leave is appended
 pub record HasAdded (carried : List Carried) (old new : List Due) : Type 0 where
@@ -90,6 +92,10 @@ module _ {X : Type 0} (g : X → List Carried) (xs : List X) (i : ℕ) where
 
 -- ---- Bars in a run of capitals
 
+-- the due that bars this text, followed by a character that meets the condition
+abbrev pub barred : Cond → List ℕ → Carried
+barred cond text = Left (Bar text cond)
+
 barred-whole : (c : Cond) (texts : List (List ℕ)) → list_all is_whole (map (barred c) texts) ≡ true
 barred-whole c [] = refl
 barred-whole c (text ∷ texts) = barred-whole c texts
@@ -100,3 +106,12 @@ barred-lefts c (text ∷ texts) = ap (λ l. Bar text c ∷ l) (barred-lefts c te
 
 pub barred-Adds : (c : Cond) (texts : List (List ℕ)) (old new : List Due) → new ≡ old ++ map (λ text. Bar text c) texts → Adds (map (barred c) texts) old new true
 barred-Adds c texts old new e = record { whole_is = sym (barred-whole c texts); found = λ _. e ∙ ap (λ l. old ++ l) (sym (barred-lefts c texts)) }
+
+-- what is left of the bars of a rule in a run of capitals whose characters weren't all read
+pub rest-barred : (t : TableView) (past chars : List ℕ) (c : Cond) (i shared : ℕ) → carry_capitals t past chars c ≡ carry_capitals t (drop i past) (drop i chars) c → i ≡ shared
+    → length past ≤ shared → shared < length chars → carry_capitals t past chars c ≡ map (barred c) (choices t (take (length chars - shared) (drop shared chars)))
+rest-barred t past chars c i shared e is done more =
+    let rest : drop shared chars ≡ get_or chars shared 0 ∷ drop (suc shared) chars = drop-cons chars shared 0 more in
+    e ∙ ap (λ k. carry_capitals t (drop k past) (drop k chars) c) is
+    ∙ ap₂ (λ a b. carry_capitals t a b c) (drop_of_length-le past done) rest
+    ∙ ap (λ l. map (barred c) (choices t l)) (sym rest ∙ sym (take_all (length chars - shared) (drop shared chars) (let n = length-drop shared chars in omega (arith, n))))

@@ -34,7 +34,7 @@ goes_on_in t run rest chars c = cond run (run_goes_on t c rest chars) (goes_on t
 abbrev pub fits_in : TableView → Class → Bool → List ℕ → Rule → Bool
 fits_in t before run rest r = matches t run rest r.chars && holds (before_of r.place) before && holds (after_of r.place before) (classes_at t rest (length r.chars))
 
-not_not : (b : Bool) → not (not b) ≡ b
+pub not_not : (b : Bool) → not (not b) ≡ b
 not_not true = refl
 not_not false = refl
 

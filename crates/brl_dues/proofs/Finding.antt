@@ -120,7 +120,7 @@ module _ (t : TableView) (c : ℕ) (others : List ℕ) where
       ap (λ b. cond b (Some (in_order (lefts (map (carry t (c ∷ others)) dues ++ ys)))) None)
       (list_all-append is_whole (map (carry t (c ∷ others)) dues) ys ∙ ap (λ b. b && list_all is_whole ys) (refused dues h))
 
-flat_map-same : {X Y : Type 0} (f g : X → List Y) → ((x : X) → f x ≡ g x) → (xs : List X) → flat_map f xs ≡ flat_map g xs
+pub flat_map-same : {X Y : Type 0} (f g : X → List Y) → ((x : X) → f x ≡ g x) → (xs : List X) → flat_map f xs ≡ flat_map g xs
 flat_map-same f g h [] = refl
 flat_map-same f g h (x ∷ xs) = ap₂ (λ a b. a ++ b) (h x) (flat_map-same f g h xs)
 
@@ -129,11 +129,11 @@ flat_map-none f h [] = refl
 flat_map-none f h (x ∷ xs) = ap₂ (λ a b. a ++ b) (h x) (flat_map-none f h xs)
 
 -- lists of lists
-flat_map-flat_map : {X Y Z : Type 0} (f : Y → List Z) (g : X → List Y) (xs : List X) → flat_map f (flat_map g xs) ≡ flat_map (λ x. flat_map f (g x)) xs
+pub flat_map-flat_map : {X Y Z : Type 0} (f : Y → List Z) (g : X → List Y) (xs : List X) → flat_map f (flat_map g xs) ≡ flat_map (λ x. flat_map f (g x)) xs
 flat_map-flat_map f g [] = refl
 flat_map-flat_map f g (x ∷ xs) = flat_map-append f (g x) (flat_map g xs) ∙ ap (λ l. flat_map f (g x) ++ l) (flat_map-flat_map f g xs)
 
-flat_map-of_map : {X Y Z : Type 0} (f : Y → List Z) (g : X → Y) (xs : List X) → flat_map f (map g xs) ≡ flat_map (λ x. f (g x)) xs
+pub flat_map-of_map : {X Y Z : Type 0} (f : Y → List Z) (g : X → Y) (xs : List X) → flat_map f (map g xs) ≡ flat_map (λ x. f (g x)) xs
 flat_map-of_map f g [] = refl
 flat_map-of_map f g (x ∷ xs) = ap (λ l. f (g x) ++ l) (flat_map-of_map f g xs)
 

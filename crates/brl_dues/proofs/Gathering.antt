@@ -10,16 +10,16 @@ use Rattle.brl_table.specs.Places.{holds}
 use Rattle.brl_table.specs.TableView.{TableView}
 use Rattle.brl_table.specs.Text.{classes_of, fold_of}
 use Rattle.brl_dues.specs.declared.carry.Carried.{Carried}
-use Rattle.brl_dues.specs.declared.carry.Carried.TheVariants.{Settled}
+use Rattle.brl_dues.specs.declared.carry.Carried.TheVariants.{Left, Settled}
 use Rattle.brl_dues.specs.declared.due.Due.{Due}
 use Rattle.brl_dues.specs.declared.due.Due.TheVariants.{Need, Bar}
 use Rattle.brl_dues.specs.Adding.{Adds}
-use Rattle.brl_dues.specs.Barred.{barred}
 use Rattle.brl_dues.specs.Capitals.{capitals, choices, is_upper, put_capital}
 use Rattle.brl_dues.specs.Carry.{bars_past, carry, carry_bar, carry_capitals, gathered, is_whole, left_of, lefts, need, opposed, settled_if}
 use Rattle.brl_dues.specs.LetterView.{LetterView}
-use Rattle.brl_dues.specs.Letters.{bars_of, left_by}
+use Rattle.brl_dues.specs.Letters.{bars_of, left_past, left_with}
 use Rattle.brl_dues.specs.Order.{in_order, is_proper}
+use Rattle.brl_dues.proofs.Adding.{barred}
 use Rattle.brl_dues.proofs.Forms.{from-put}
 use Rattle.brl_dues.proofs.Listing.{IsIn, from-flat_map}
 
@@ -55,6 +55,15 @@ need-proper Any = none-proper
 need-proper (Meets set) = one-proper (Need (Meets set)) refl
 need-proper (Avoids set) = one-proper (Need (Avoids set)) refl
 
+-- dues that are left, as they are carried
+left-whole : (left : List Due) → list_all is_whole (map Left left) ≡ true
+left-whole [] = refl
+left-whole (d ∷ left) = left-whole left
+
+left-lefts : (left : List Due) → lefts (map Left left) ≡ left
+left-lefts [] = refl
+left-lefts (d ∷ left) = ap (λ l. d ∷ l) (left-lefts left)
+
 module _ (t : TableView) where
   carry_bar-proper : (past chars : List ℕ) (c : Cond) → AllProper (left_of (carry_bar t past chars c))
   carry_bar-proper [] [] c = opposed-proper c
@@ -73,6 +82,9 @@ module _ (t : TableView) where
   carried-proper past (d ∷ dues) h =
       append-proper (left_of (carry t past d)) (lefts (map (carry t past) dues)) (carry-proper past d (All-head (λ due. IsTrue (is_proper due)) d dues h))
       (carried-proper past dues (All-tail (λ due. IsTrue (is_proper due)) d dues h))
+
+  pub past-proper : (past : List ℕ) (dues new : List Due) → AllProper dues → Adds (map (carry t past) dues) [] new true → AllProper new
+  past-proper past dues new h adds = subst AllProper (sym (adds.found refl)) (carried-proper past dues h)
 
   -- ---- The bars of the rules above
 
@@ -112,10 +124,10 @@ module _ (t : TableView) where
       subst AllProper (sym (flat_map-append left_of (bars_past t run others a.0 a.1) (bars_of t run others above)))
       (append-proper (lefts (bars_past t run others a.0 a.1)) (lefts (bars_of t run others above)) (bars_past-proper run others a.0 a.1) (bars-proper run others above))
 
-  left_by-proper : (dues : List Due) (l : LetterView) (run : Bool) (next : Cond) (others : List ℕ) (after : Cond) → AllProper dues → AllProper (lefts (left_by t dues l run next others after))
-  left_by-proper dues l run next others after h =
-      subst AllProper (sym (flat_map-append left_of (map (carry t (l.character ∷ others)) dues) (need after ∷ need next ∷ bars_of t run others l.above)))
-      (append-proper (lefts (map (carry t (l.character ∷ others)) dues)) (lefts (need after ∷ need next ∷ bars_of t run others l.above)) (carried-proper (l.character ∷ others) dues h)
+  left_with-proper : (left : List Due) (l : LetterView) (run : Bool) (next : Cond) (others : List ℕ) (after : Cond) → AllProper left → AllProper (lefts (left_with t left l run next others after))
+  left_with-proper left l run next others after h =
+      subst AllProper (sym (flat_map-append left_of (map Left left) (need after ∷ need next ∷ bars_of t run others l.above)))
+      (append-proper (lefts (map Left left)) (lefts (need after ∷ need next ∷ bars_of t run others l.above)) (subst AllProper (sym (left-lefts left)) h)
       (append-proper (left_of (need after)) (lefts (need next ∷ bars_of t run others l.above)) (need-proper after)
       (append-proper (left_of (need next)) (lefts (bars_of t run others l.above)) (need-proper next) (bars-proper run others l.above))))
 
@@ -127,27 +139,43 @@ adds-both xs ys old mid new w h k = record {
   found = λ e. k.found e ∙ ap (λ l. l ++ lefts ys) (h.found refl) ∙ append_assoc old (lefts xs) (lefts ys) ∙ ap (λ l. old ++ l) (sym (flat_map-append left_of xs ys));
 }
 
-adds-stop : (xs ys : List Carried) (old mid : List Due) → Adds xs old mid false → Adds (xs ++ ys) old mid false
-adds-stop xs ys old mid h = record { whole_is = ap (λ b. b && list_all is_whole ys) h.whole_is ∙ sym (list_all-append is_whole xs ys); found = λ e. cc }
-
 gathered-none : (xs : List Carried) (old new : List Due) → Adds xs old new false → gathered xs ≡ None
 gathered-none xs old new h = ap (λ b. cond b (Some (in_order (lefts xs))) None) (sym h.whole_is)
 
 gathered-some : (xs : List Carried) (new : List Due) → Adds xs [] new true → gathered xs ≡ Some (in_order new)
 gathered-some xs new h = ap₂ (λ b (l : List Due). cond b (Some (in_order l)) None) (sym h.whole_is) (sym (h.found refl))
 
--- what the old dues leave in a table, and in the same table
-pub old-dues : (t other : TableView) (reads : List ℕ) (dues old new : List Due) (w : Bool) → other ≡ t → Adds (map (carry other reads) dues) old new w → Adds (map (carry t reads) dues) old new w
-old-dues t other reads dues old new w e h = subst (λ x. Adds (map (carry x reads) dues) old new w) e h
+-- ---- The old dues
 
--- the parts that a step finds: what the old dues leave, the needs of its after-condition and of
--- what must follow, and the bars of the rules above
-module _ (t : TableView) (l : LetterView) (run : Bool) (next : Cond) (others : List ℕ) (after : Cond) (dues slice : List Due) (reads : List ℕ) (above : List (List ℕ × Cond))
-    (same_dues : slice ≡ dues) (same_reads : reads ≡ l.character ∷ others) (start one : List Due) (none : start ≡ []) (v : Bool)
-    (old : Adds (map (carry t reads) slice) start one v) where
-  -- what the old dues leave; with the first need; and with the second
+module _ (t : TableView) (past : List ℕ) (dues : List Due) (ys : List Carried) where
+  -- what is left of the old dues may stand for them
+  pub gathered-left : (left : List Due) → left_past t past dues ≡ Some left → gathered (map (carry t past) dues ++ ys) ≡ gathered (map Left left ++ ys)
+  gathered-left left e =
+      let old = map (carry t past) dues in
+      let is = left-of (list_all is_whole old) (lefts old) e in
+      ap₂ (λ b (l : List Due). cond b (Some (in_order l)) None)
+      (list_all-append is_whole old ys ∙ ap (λ b. b && list_all is_whole ys) (is.0 ∙ sym (left-whole left)) ∙ sym (list_all-append is_whole (map Left left) ys))
+      (flat_map-append left_of old ys ∙ ap (λ l. l ++ lefts ys) (is.1 ∙ sym (left-lefts left)) ∙ sym (flat_map-append left_of (map Left left) ys))
+    where
+      left-of : (b : Bool) (l : List Due) → cond b (Some l) None ≡ Some left → (b ≡ true) × (l ≡ left)
+      left-of true l h = (refl, (cc))
+      left-of false l h = cc
+
+  pub gathered-broken : left_past t past dues ≡ None → gathered (map (carry t past) dues ++ ys) ≡ None
+  gathered-broken e =
+      let old = map (carry t past) dues in
+      ap (λ b. cond b (Some (in_order (lefts (old ++ ys)))) None) (list_all-append is_whole old ys ∙ ap (λ b. b && list_all is_whole ys) (broken (list_all is_whole old) (lefts old) e))
+    where
+      broken : (b : Bool) (l : List Due) → cond b (Some l) None ≡ None → b ≡ false
+      broken true l h = cc
+      broken false l h = refl
+
+-- the parts that a step finds: what is left of the old dues, the needs of its after-condition and
+-- of what must follow, and the bars of the rules above
+module _ (t : TableView) (l : LetterView) (run : Bool) (next : Cond) (others : List ℕ) (after : Cond) (left : List Due) where
+  -- what is left of the old dues; with the first need; and with the second
   abbrev parts-1 : List Carried
-  parts-1 = map (carry t (l.character ∷ others)) dues
+  parts-1 = map Left left
 
   abbrev parts-2 : List Carried
   parts-2 = parts-1 ++ need after ∷ []
@@ -155,35 +183,26 @@ module _ (t : TableView) (l : LetterView) (run : Bool) (next : Cond) (others : L
   abbrev parts-3 : List Carried
   parts-3 = parts-2 ++ need next ∷ []
 
-  whole : parts-3 ++ bars_of t run others l.above ≡ left_by t dues l run next others after
+  whole : parts-3 ++ bars_of t run others l.above ≡ left_with t left l run next others after
   whole = append_assoc parts-2 (need next ∷ []) (bars_of t run others l.above) ∙ append_assoc parts-1 (need after ∷ []) (need next ∷ bars_of t run others l.above)
 
-  first : Adds parts-1 [] one v
-  first = subst (λ s. Adds parts-1 s one v) none (subst (λ x. Adds x start one v) (ap₂ (λ r ds. map (carry t r) ds) same_reads same_dues) old)
+  first : Adds parts-1 [] left true
+  first = record { whole_is = sym (left-whole left); found = λ _. sym (left-lefts left) }
 
-  pub old-broken : v ≡ false → gathered (left_by t dues l run next others after) ≡ None
-  old-broken e =
-      gathered-none (left_by t dues l run next others after) [] one
-      (adds-stop parts-1 (need after ∷ need next ∷ bars_of t run others l.above) [] one (subst (Adds parts-1 [] one) e first))
-
-  module _ (e : v ≡ true) (two : List Due) (needs : Adds (need after ∷ []) one two true) (three : List Due) (nexts : Adds (need next ∷ []) two three true)
-      (same_above : above ≡ l.above) (four : List Due) (y : Bool) (bars : Adds (bars_of t run others above) three four y) where
-    second : Adds parts-2 [] two true
-    second = adds-both parts-1 (need after ∷ []) [] one two true (subst (Adds parts-1 [] one) e first) needs
-
-    third : Adds parts-3 [] three true
-    third = adds-both parts-2 (need next ∷ []) [] two three true second nexts
-
-    fourth : Adds (left_by t dues l run next others after) [] four y
+  module _ (two : List Due) (needs : Adds (need after ∷ []) left two true) (three : List Due) (nexts : Adds (need next ∷ []) two three true)
+      (above : List (List ℕ × Cond)) (same_above : above ≡ l.above) (four : List Due) (y : Bool) (bars : Adds (bars_of t run others above) three four y) where
+    fourth : Adds (left_with t left l run next others after) [] four y
     fourth =
+        let second = adds-both parts-1 (need after ∷ []) [] left two true first needs in
+        let third = adds-both parts-2 (need next ∷ []) [] two three true second nexts in
         subst (λ z. Adds z [] four y) whole
         (adds-both parts-3 (bars_of t run others l.above) [] three four y third (subst (λ a. Adds (bars_of t run others a) three four y) same_above bars))
 
-    pub bars-broken : y ≡ false → gathered (left_by t dues l run next others after) ≡ None
-    bars-broken k = gathered-none (left_by t dues l run next others after) [] four (subst (Adds (left_by t dues l run next others after) [] four) k fourth)
+    pub bars-broken : y ≡ false → gathered (left_with t left l run next others after) ≡ None
+    bars-broken k = gathered-none (left_with t left l run next others after) [] four (subst (Adds (left_with t left l run next others after) [] four) k fourth)
 
-    pub none-broken : y ≡ true → gathered (left_by t dues l run next others after) ≡ Some (in_order four)
-    none-broken k = gathered-some (left_by t dues l run next others after) four (subst (Adds (left_by t dues l run next others after) [] four) k fourth)
+    pub none-broken : y ≡ true → gathered (left_with t left l run next others after) ≡ Some (in_order four)
+    none-broken k = gathered-some (left_with t left l run next others after) four (subst (Adds (left_with t left l run next others after) [] four) k fourth)
 
-    pub found-proper : y ≡ true → AllProper dues → AllProper four
-    found-proper k h = subst AllProper (sym (fourth.found k)) (left_by-proper t dues l run next others after h)
+    pub found-proper : y ≡ true → AllProper left → AllProper four
+    found-proper k h = subst AllProper (sym (fourth.found k)) (left_with-proper t left l run next others after h)

@@ -77,9 +77,7 @@ upper-defined t c h = at (info_of t c) h
     at (Some info) e = refl
 
 pub folds-more : (t : TableView) (c : ℕ) (rest : List ℕ) → is_upper t c ≡ true → folds_of_capitals t (c ∷ rest) ≡ fold_of t c ∷ folds_of_capitals t rest
-folds-more t c rest h =
-    ap (λ b. map (fold_of t) (take (cond b (1 + prefix_len (is_upper t) rest) 0) (c ∷ rest))) h
-    ∙ ap (λ n. map (fold_of t) (take n (c ∷ rest))) (let e : 1 + prefix_len (is_upper t) rest ≡ suc (prefix_len (is_upper t) rest) = omega arith in e)
+folds-more t c rest h = ap (λ b. cond b (fold_of t c ∷ folds_of_capitals t rest) []) h
 
 pub folds-none : (t : TableView) (c : ℕ) (rest : List ℕ) → is_upper t c ≡ false → folds_of_capitals t (c ∷ rest) ≡ []
-folds-none t c rest h = ap (λ b. map (fold_of t) (take (cond b (1 + prefix_len (is_upper t) rest) 0) (c ∷ rest))) h
+folds-none t c rest h = ap (λ b. cond b (fold_of t c ∷ folds_of_capitals t rest) []) h

@@ -1,9 +1,9 @@
 -- A relation that holds of any two members of a list, the earlier one first.
-use Rattle.std.proofs.Common.{◌≡◌, ℕ, zero, suc, ◌<◌, List, [], ◌∷◌, ◌++◌, Some, arith, subst, inl, inr, refl}
+use Rattle.std.proofs.Common.{◌≡◌, ℕ, zero, suc, ◌<◌, Bool, true, false, List, [], ◌∷◌, ◌++◌, Some, arith, cond, filter, subst, sym, inl, inr, refl}
 use Rattle.std.specs.Prelude.{slice_get, map}
 use Rattle.std.specs.Bool.{⊤}
 use Rattle.std.specs.List.{AllByRecursion, flat_map}
-use Rattle.brl_dues.proofs.Listing.{IsIn, in-append, from-flat_map, at-in}
+use Rattle.brl_dues.proofs.Listing.{IsIn, in-append, in-right, from-flat_map, at-in}
 
 abbrev pub Pairwise : {X : Type 0} → (X → X → Type 0) → List X → Type 0
 Pairwise R [] = ⊤
@@ -24,6 +24,27 @@ append-Pairwise R (x ∷ xs) ys h k between = (
   all-in (R x) (xs ++ ys) (λ z q. elim (in-append z xs ys q) [ inl a ↦ in-all (R x) xs z h.0 a | inr b ↦ between x z (inl refl) b ]),
   append-Pairwise R xs ys h.1 k (λ a b i j. between a b (inr i) j),
 )
+
+pub between-Pairwise : {X : Type 0} (R : X → X → Type 0) (xs ys : List X) → Pairwise R (xs ++ ys) → (x y : X) → IsIn x xs → IsIn y ys → R x y
+between-Pairwise R [] ys h x y i j = absurd i
+between-Pairwise R (z ∷ xs) ys h x y (inl e) j = subst (λ w. R w y) (sym e) (in-all (R z) (xs ++ ys) y h.0 (in-right y xs ys j))
+between-Pairwise R (z ∷ xs) ys h x y (inr i) j = between-Pairwise R xs ys h.1 x y i j
+
+pub filter-Pairwise : {X : Type 0} (R : X → X → Type 0) (p : X → Bool) (xs : List X) → Pairwise R xs → Pairwise R (filter p xs)
+filter-Pairwise R p [] h = tt
+filter-Pairwise {X = X} R p (x ∷ xs) h = at (p x) (filter-Pairwise R p xs h.1)
+  where
+    passing : (P : X → Type 0) (b : Bool) (y : X) (ys : List X) → P y → AllByRecursion P ys → AllByRecursion P (cond b (y ∷ ys) ys)
+    passing P true y ys k ks = (k, ks)
+    passing P false y ys k ks = ks
+
+    all-passing : (P : X → Type 0) (ys : List X) → AllByRecursion P ys → AllByRecursion P (filter p ys)
+    all-passing P [] k = tt
+    all-passing P (y ∷ ys) k = passing P (p y) y (filter p ys) k.0 (all-passing P ys k.1)
+
+    at : (b : Bool) → Pairwise R (filter p xs) → Pairwise R (cond b (x ∷ filter p xs) (filter p xs))
+    at true k = (all-passing (R x) xs h.0, k)
+    at false k = k
 
 pub flat_map-Pairwise : {X Y : Type 0} (R : X → X → Type 0) (S : Y → Y → Type 0) (f : X → List Y) (xs : List X) → Pairwise R xs → ((x : X) → IsIn x xs → Pairwise S (f x))
     → ((x x' : X) (y y' : Y) → R x x' → IsIn y (f x) → IsIn y' (f x') → S y y') → Pairwise S (flat_map f xs)

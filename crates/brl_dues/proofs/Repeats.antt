@@ -1,5 +1,5 @@
 -- Steps listed once: which they are, and that no two of them are the same.
-use Rattle.std.proofs.Common.{◌≡◌, ◌≢◌, Bool, true, false, ◌&&◌, ◌||◌, List, [], ◌∷◌, ◌++◌, ◌⊎◌, inl, inr, refl, sym, ap, ap₂, ◌∙◌, subst, cond, nat_eq}
+use Rattle.std.proofs.Common.{◌≡◌, ◌≢◌, Bool, true, false, ◌&&◌, ◌||◌, List, [], ◌∷◌, ◌++◌, ◌⊎◌, inl, inr, refl, sym, ap, ap₂, ◌∙◌, subst, cond, nat_eq, append_assoc, append-nil}
 use Rattle.std.proofs.Math.Bool.{beq}
 use Rattle.std.proofs.lemmas.Bool.Decides.{Decides-eqb}
 use Rattle.std.specs.Cmp.{first_so, second_so}
@@ -13,7 +13,7 @@ use Rattle.brl_dues.specs.Same.{dues_equiv}
 use Rattle.brl_dues.specs.SameState.{same_states}
 use Rattle.brl_dues.specs.Steps.{is_same_step, with_step, with_steps}
 use Rattle.brl_dues.proofs.Listing.{IsIn, in-append, in-left, in-right}
-use Rattle.brl_dues.proofs.Pairwise.{Pairwise, append-Pairwise}
+use Rattle.brl_dues.proofs.Pairwise.{Pairwise, append-Pairwise, between-Pairwise}
 
 -- ---- The same step
 
@@ -125,3 +125,21 @@ with_steps-differ steps (y ∷ more) h = with_steps-differ (with_step steps y) m
 pub with_steps-append : (steps more last : List (Step DuesState)) → with_steps steps (more ++ last) ≡ with_steps (with_steps steps more) last
 with_steps-append steps [] last = refl
 with_steps-append steps (y ∷ more) last = with_steps-append (with_step steps y) more last
+
+-- ---- Steps that differ
+
+-- a step that is none of these
+pub apart : (y : Step DuesState) (steps : List (Step DuesState)) → (IsIn y steps → ⊥) → list_any (is_same_step y) steps ≡ false
+apart y steps none = at (list_any (is_same_step y) steps) refl
+  where
+    at : (b : Bool) → list_any (is_same_step y) steps ≡ b → b ≡ false
+    at true e = absurd (none (found-in y steps e))
+    at false e = refl
+
+-- steps of which no two are the same are appended as they are
+pub with_steps-apart : (steps more : List (Step DuesState)) → Pairwise (λ a b. a ≢ b) (steps ++ more) → with_steps steps more ≡ steps ++ more
+with_steps-apart steps [] h = sym (append-nil steps)
+with_steps-apart steps (y ∷ more) h =
+    ap (λ b. with_steps (cond b steps (steps ++ y ∷ [])) more) (apart y steps (λ i. between-Pairwise (λ a b. a ≢ b) steps (y ∷ more) h y y i (inl refl) refl))
+    ∙ with_steps-apart (steps ++ y ∷ []) more (subst (Pairwise (λ a b. a ≢ b)) (sym (append_assoc steps (y ∷ []) more)) h)
+    ∙ append_assoc steps (y ∷ []) more

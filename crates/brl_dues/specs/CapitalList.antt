@@ -1,5 +1,6 @@
 -- Internal. A table with its capitals, as contracts see it.
 use Rattle.std.specs.Prelude.{ℕ, ◌≡◌, Bool, true, ◌&&◌, ◌==◌, List, map}
+use Rattle.std.specs.List.{list_any}
 use Rattle.brl_table.specs.TableView.{TableView}
 use Rattle.brl_table.specs.Text.{fold_of, has_word_capitals}
 use Rattle.brl_dues.specs.declared.cased.Capital.{Capital}
@@ -12,6 +13,10 @@ capital_of t c = record { character = c; fold = fold_of t c }
 -- whether a character is a capital whose fold is this one
 abbrev pub stands_for : TableView → ℕ → ℕ → Bool
 stands_for t c a = is_upper t c && (a == fold_of t c)
+
+-- whether a capital has this fold
+abbrev pub is_fold_of_capital : TableView → ℕ → Bool
+is_fold_of_capital t a = list_any (λ capital. a == capital.fold) (map (capital_of t) (capitals t))
 
 -- whether the table has word capitals, and then its capitals
 pub record AreCapitals (t : TableView) (word_capitals : Bool) (listed : List Capital) : Type 0 where

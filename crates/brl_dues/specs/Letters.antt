@@ -1,6 +1,6 @@
 -- Internal. How the steps of a state are found: by the characters that may come next, each with the
 -- rules above that begin with it. That these are the steps of the machine is proved.
-use Rattle.std.specs.Prelude.{ℕ, ◌+◌, Bool, true, false, ◌&&◌, ◌==◌, List, [], ◌∷◌, ◌++◌, filter, map, drop, if◌then◌else◌}
+use Rattle.std.specs.Prelude.{ℕ, ◌+◌, Bool, true, false, ◌&&◌, ◌==◌, List, [], ◌∷◌, ◌++◌, Option, Some, None, filter, map, drop, if◌then◌else◌}
 use Rattle.std.specs.List.{flat_map, list_all}
 use Rattle.std.specs.Option.{option_map_or}
 use Rattle.brl_pairs.specs.declared.step.Step.{Step}
@@ -13,11 +13,12 @@ use Rattle.brl_table.specs.Places.{holds, before_of, after_of}
 use Rattle.brl_table.specs.TableView.{TableView}
 use Rattle.brl_table.specs.Text.{classes_of, fold_of}
 use Rattle.brl_dues.specs.declared.carry.Carried.{Carried}
+use Rattle.brl_dues.specs.declared.carry.Carried.TheVariants.{Left}
 use Rattle.brl_dues.specs.declared.due.Due.{Due}
 use Rattle.brl_dues.specs.declared.due.Due.TheVariants.{Need, Bar}
 use Rattle.brl_dues.specs.declared.state.DuesState.{DuesState}
 use Rattle.brl_dues.specs.Capitals.{choices, further, letters}
-use Rattle.brl_dues.specs.Carry.{bars_past, carry, gathered, need}
+use Rattle.brl_dues.specs.Carry.{bars_past, carry, gathered, is_whole, lefts, need}
 use Rattle.brl_dues.specs.Form.{Form}
 use Rattle.brl_dues.specs.Steps.{step_if, with_steps}
 use Rattle.brl_dues.specs.LetterView.{LetterView}
@@ -69,6 +70,14 @@ abbrev pub left_by : TableView → List Due → LetterView → Bool → Cond →
 left_by t dues l run next others after =
     map (carry t (l.character ∷ others)) dues ++ (need after ∷ need next ∷ bars_of t run others l.above)
 
+-- what is left of dues after these characters, and none where one is broken
+abbrev pub left_past : TableView → List ℕ → List Due → Option (List Due)
+left_past t past dues = if list_all is_whole (map (carry t past) dues) then Some (lefts (map (carry t past) dues)) else None
+
+-- what is left after a step where these dues are left of the old ones: these, and what it owes
+abbrev pub left_with : TableView → List Due → LetterView → Bool → Cond → List ℕ → Cond → List Carried
+left_with t left l run next others after = map Left left ++ (need after ∷ need next ∷ bars_of t run others l.above)
+
 -- the form that reads the character and these others
 abbrev pub letter_form : LetterView → ℕ → Bool → Cond → List ℕ → Cond → List ℕ → Form
 letter_form l number run next others after cells = record {
@@ -94,6 +103,11 @@ letter_step t s l number run others after cells =
 -- the same in a run of capitals
 abbrev pub run_step : TableView → DuesState → LetterView → ℕ → Cond → List ℕ → List ℕ → List (Step DuesState)
 run_step t s l number after cells others = letter_step t s l number true others after cells
+
+-- the steps in a run of capitals that read the character, these capitals and others, whose folds
+-- are these characters
+abbrev pub run_steps : TableView → DuesState → LetterView → ℕ → Cond → List ℕ → List ℕ → List ℕ → List (Step DuesState)
+run_steps t s l number after cells begun chars = flat_map (λ text. run_step t s l number after cells (begun ++ text)) (choices t chars)
 
 -- the steps of a rule with these other characters: in a run of capitals, one for each choice of
 -- capitals, and then the one out of a run

@@ -1,9 +1,10 @@
 //! Dues carried past the characters that a step reads.
-ghost use Rattle.std.specs.Prelude.{◌≡◌, [], ◌∷◌, map, true, IfOk, IsTrue, OnOk};
+ghost use Rattle.std.specs.Prelude.{◌≡◌, [], ◌∷◌, option_map, true, All, IfOk, IfSome, IsTrue, OnOk};
 ghost use Rattle.brl_table.specs.Text.{classes_of, has_word_capitals};
 ghost use Rattle.brl_dues.specs.Adding.{Adds};
 ghost use Rattle.brl_dues.specs.Carry.{carry as carried_past, carry_bar as bar_carried, need as need_of_cond, opposed, settled_if};
-ghost use Rattle.brl_dues.specs.Letters.{bars_of};
+ghost use Rattle.brl_dues.specs.Letters.{bars_of, left_past};
+ghost use Rattle.brl_dues.specs.Order.{is_proper};
 
 use crate::Due;
 use crate::above::Above;
@@ -114,23 +115,24 @@ pub fn add(carried: Carried, found: &mut Vec<Due>) -> Result<bool, AllocError>
     }
 }
 
-/// Appends what is left of dues after the characters `past` to the dues found so far. Returns
-/// whether none is broken.
-pub fn add_dues(
+/// What is left of dues after the characters `past`. `None` where one is broken.
+pub fn dues_past(
     alloc: Global,
     table: &Table,
     past: &[char],
     dues: &[Due],
-    found: &mut Vec<Due>,
-) -> Result<bool, AllocError>
-    ensures { IfOk result (λ whole. Adds (map (carried_past table.now past.now) dues.now) found.old.items found.new.items whole) }
+) -> Result<Option<Vec<Due>>, AllocError>
+    requires { All (λ due. IsTrue (is_proper due)) dues.now }
+    ensures left { IfOk result (λ left. option_map (λ l. l.items) left ≡ left_past table.now past.now dues.now) }
+    ensures proper { IfOk result (λ left. IfSome left (λ l. All (λ due. IsTrue (is_proper due)) l.items)) }
 {
+    let mut left = Vec::new(alloc);
     for due in dues {
-        if !add(carry(alloc, table, past, due)?, found)? {
-            return Ok(false);
+        if !add(carry(alloc, table, past, due)?, &mut left)? {
+            return Ok(None);
         }
     }
-    Ok(true)
+    Ok(Some(left))
 }
 
 /// Appends the need of a condition on the next character, if it has one, to the dues found so far.

@@ -1,9 +1,9 @@
 //! A table with its capitals.
 ghost use Rattle.std.specs.Prelude.{◌≡◌, [], ◌∷◌, ◌++◌, ◌&&◌, map, not, IfOk, IsTrue, OnOk, if◌then◌else◌};
-ghost use Rattle.std.specs.List.{flat_map};
+ghost use Rattle.std.specs.List.{flat_map, list_all};
 ghost use Rattle.brl_table.specs.Text.{has_word_capitals, is_capital as does_capital};
 ghost use Rattle.brl_dues.specs.Capitals.{alike, any_if as any_cond_if, capitals, choices, further as what_follows, is_upper as is_upper_in, put_capital};
-ghost use Rattle.brl_dues.specs.CapitalList.{capital_of, stands_for as does_stand_for};
+ghost use Rattle.brl_dues.specs.CapitalList.{capital_of, is_fold_of_capital, stands_for as does_stand_for};
 
 use crate::carry::class_of;
 use crate::letter::fold_of;
@@ -101,12 +101,39 @@ impl<'a> CasedTable<'a> {
         is_upper(self.table, character) && fold == fold_of(self.table, character)
     }
 
+    /// The capitals, in the order of their definitions.
+    pub fn capitals(&self) -> &[Capital]
+        requires { IsTrue (has_word_capitals self.now) }
+        ensures { result.now ≡ map (capital_of self.now) (capitals self.now) }
+    {
+        self.capitals.as_slice()
+    }
+
+    /// Whether there is a text of capitals whose folds are these characters.
+    pub fn has_choices(&self, chars: &[char]) -> bool
+        requires { IsTrue (has_word_capitals self.now) }
+        ensures { result ≡ list_all (is_fold_of_capital self.now) chars.now }
+    {
+        chars.iter().all(|fold| self.has_capital(*fold))
+    }
+
+    /// Whether a capital has this fold.
+    fn has_capital(&self, fold: char) -> bool
+        requires { IsTrue (has_word_capitals self.now) }
+        ensures { result ≡ is_fold_of_capital self.now fold }
+    {
+        self.capitals.iter().any(|capital| fold == capital.fold)
+    }
+
     /// The texts of capitals whose folds are these characters.
     pub fn choices(&self, alloc: Global, chars: &[char]) -> Result<Vec<Chars>, AllocError>
         requires { IsTrue (has_word_capitals self.now) }
         ensures { IfOk result (λ found. found.items ≡ choices self.now chars.now) }
     {
         let mut texts = Vec::new(alloc);
+        if !self.has_choices(chars) {
+            return Ok(texts);
+        }
         texts.push(Chars::from_vec(Vec::new(alloc)))?;
         for done in 0..chars.len() {
             let fold = chars[chars.len() - 1 - done];

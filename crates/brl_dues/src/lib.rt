@@ -18,9 +18,12 @@ mod laws;
 mod letter;
 mod list;
 mod machine;
+mod origin;
 mod runs;
 mod state;
+mod step;
 mod steps;
+mod walk;
 
 pub use due::Due;
 pub use laws::{dues_law, exact_law, finite_law, order_law, step_law};

@@ -1,15 +1,14 @@
 //! The bars of rules in a run of capitals.
-ghost use Rattle.std.specs.Prelude.{◌≡◌, map, IfOk, IsTrue};
+ghost use Rattle.std.specs.Prelude.{◌≡◌, ◌++◌, map, IfOk, IsTrue, OnOk};
 ghost use Rattle.brl_table.specs.Text.{has_word_capitals};
 ghost use Rattle.brl_dues.specs.Adding.{Adds};
 ghost use Rattle.brl_dues.specs.Capitals.{choices};
 ghost use Rattle.brl_dues.specs.Carry.{carry_capitals};
-ghost use Rattle.brl_dues.specs.Barred.{barred};
+ghost use Rattle.brl_dues.specs.declared.due.Due.TheVariants.{Bar};
 
 use crate::Due;
 use crate::carry::{add, class_of, opposed_to};
 use crate::cased::CasedTable;
-use brl_cells::Chars;
 use brl_table::{Cond, holds};
 use std::alloc::{AllocError, Global};
 
@@ -36,26 +35,25 @@ pub fn add_run_bars(
         return Ok(!holds(cond, class_of(table.table(), past[shared])));
     }
     if shared < chars.len() {
-        return add_choices(alloc, table, &chars[shared..], cond, found);
+        add_choices(alloc, table, &chars[shared..], cond, found)?;
+        return Ok(true);
     }
     add(opposed_to(cond), found)
 }
 
-/// Appends a bar for each text of capitals whose folds are these characters. Returns true: none is
-/// broken.
+/// Appends a bar for each text of capitals whose folds are these characters.
 fn add_choices(
     alloc: Global,
     table: &CasedTable<'_>,
     chars: &[char],
     cond: Cond,
     found: &mut Vec<Due>,
-) -> Result<bool, AllocError>
+) -> Result<(), AllocError>
     requires { IsTrue (has_word_capitals table.now) }
-    ensures { IfOk result (λ whole. Adds (map (barred cond) (choices table.now chars.now)) found.old.items found.new.items whole) }
+    ensures { OnOk result (found.new.items ≡ found.old.items ++ map (λ text. Bar text cond) (choices table.now chars.now)) }
 {
-    let texts = table.choices(alloc, chars)?;
-    for text in &texts {
-        found.push(Due::Bar(text.copy(alloc)?, cond))?;
+    for text in table.choices(alloc, chars)? {
+        found.push(Due::Bar(text, cond))?;
     }
-    Ok(true)
+    Ok(())
 }

@@ -84,7 +84,7 @@ fn step(
     ensures room { IfOk result (λ step. step.length ≤ length rest.now) }
 {
     let mut cells = Vec::new(alloc);
-    let run = table.is_in_run(here.classes, rest);
+    let run = table.is_in_run_of(info, here.classes, rest);
     table.push_signs(here, run, info, &mut cells)?;
     let indicators = cells.len();
     let choice = table.choice_of(info, run, here.classes, rest);

@@ -44,7 +44,7 @@ fn cells_of(
     let mut start = 0;
     while let Some(info) = infos.get(start) {
         let rest = &text[start..];
-        let run = table.is_in_run(here.classes, rest);
+        let run = table.is_in_run_of(info, here.classes, rest);
         table.push_signs(here, run, info, &mut cells)?;
         let choice = table.choice_of(info, run, here.classes, rest);
         cells.extend_from_slice(choice.cells)?;

@@ -14,6 +14,7 @@ use Rattle.brl_table.specs.Text.{has_word_capitals}
 use Rattle.brl_window.specs.Width.{start_moves}
 use Rattle.brl_window.specs.Windows.{window_machine}
 use Rattle.brl_window.specs.declared.state.WindowState.{WindowState}
+use Rattle.brl_without.specs.Parts.{Part}
 
 -- a statement about a machine and a body holds of a certificate for a table: of the machine of its
 -- version, and of what it lists
@@ -35,9 +36,10 @@ HasMachine t (Window body) = start_moves t ≤ 10000
 HasMachine t (Dues body) = Unit {0}
 HasMachine t (Word body) = Unit {0}
 
--- the states and pairs that the certificate lists are closed for the machine of its version
-abbrev pub IsClosedFor : TableView → Certificate → Type 0
-IsClosedFor t cert = OfMachine (λ S m body. IsClosed m (sets_of body)) t cert
+-- the states and pairs that the certificate lists are closed for this part of the machine of its
+-- version
+abbrev pub IsClosedFor : Part → TableView → Certificate → Type 0
+IsClosedFor part t cert = OfMachine (λ S m body. IsClosed (part S m) (sets_of body)) t cert
 
 -- the number of states that a certificate lists
 abbrev pub state_count : Certificate → ℕ

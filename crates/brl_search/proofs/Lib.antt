@@ -14,3 +14,4 @@ pub mod TwoRuns
 pub mod Members
 pub mod Listed
 pub mod OfDues
+pub mod TableSearch

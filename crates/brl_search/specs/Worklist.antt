@@ -48,3 +48,9 @@ pub record IsStep {M S : Type 0} (behaviour : M → Behaviour S) (f : Finder M S
   pub working : IsWorking behaviour f t' w'
   pub extends : Extends t t'
   pub fewer : steps_left f.limit t' w' < steps_left f.limit t w
+
+-- the same of this number of steps, each of which leaves one fewer
+pub record AreSteps {M S : Type 0} (behaviour : M → Behaviour S) (steps : ℕ) (f : Finder M S) (t : Trail S) (w : Worklist) (t' : Trail S) (w' : Worklist) : Type 0 where
+  pub working : IsWorking behaviour f t' w'
+  pub extends : Extends t t'
+  pub fewer : steps_left f.limit t' w' + steps ≤ steps_left f.limit t w

@@ -6,7 +6,7 @@ ghost use Rattle.brl_search.specs.Answers.{IfFinished, IfUnfinished, IsOutcome};
 ghost use Rattle.brl_search.specs.Reached.{AtLeast, Reached, ReachedPair, SamePair, SameState};
 ghost use Rattle.brl_search.specs.SearchView.{IsAfter, IsOf};
 ghost use Rattle.brl_search.specs.Trail.{IsStopped};
-ghost use Rattle.brl_search.specs.Worklist.{IsFinished, IsStep, IsWorking, NoneIsReady};
+ghost use Rattle.brl_search.specs.Worklist.{AreSteps, IsFinished, IsStep, IsWorking, NoneIsReady};
 
 use crate::finder::{Finder, Stop};
 use crate::outcome::Outcome;
@@ -14,6 +14,7 @@ use crate::trail::Trail;
 use crate::worklist::Worklist;
 use brl_failure::Failure;
 use brl_pairs::Machine;
+use brl_watch::{Unwatched, Watch, Work};
 use std::alloc::{AllocError, Global};
 use std::marker::Model;
 
@@ -97,6 +98,14 @@ impl<'m, M: Machine> Search<'m, M> {
         self.trail.pairs.len()
     }
 
+    /// How far it is.
+    fn work(&self) -> Work {
+        Work::Search {
+            states: self.state_count() as u64,
+            pairs: self.pair_count() as u64,
+        }
+    }
+
     /// Continues the search for at most this number of steps. A step expands a state or walks a
     /// pair. After `AllocError` the search can't be continued.
     pub fn run(self, steps: u64) -> Result<Progress<'m, M>, AllocError>
@@ -108,27 +117,27 @@ impl<'m, M: Machine> Search<'m, M> {
             mut trail,
             mut worklist,
         } = self;
-        for _ in 0..steps {
-            match finder.step(&mut trail, &mut worklist) {
-                Ok(true) => {}
-                Ok(false) => {
-                    let body = finder.body_of(trail);
-                    return Ok(Progress::Finished(Outcome::Closed(body)));
-                }
-                Err(Failure::Fault(stop)) => {
-                    let outcome = finder.outcome_of(&trail, stop)?;
-                    return Ok(Progress::Finished(outcome));
-                }
-                Err(Failure::Memory) => return Err(AllocError),
+        match finder.run(&mut trail, &mut worklist, steps) {
+            Ok(true) => Ok(Progress::Unfinished(Search {
+                finder,
+                trail,
+                worklist,
+            })),
+            Ok(false) => {
+                let body = finder.body_of(trail);
+                Ok(Progress::Finished(Outcome::Closed(body)))
             }
+            Err(Failure::Fault(stop)) => {
+                let outcome = finder.outcome_of(&trail, stop)?;
+                Ok(Progress::Finished(outcome))
+            }
+            Err(Failure::Memory) => Err(AllocError),
         }
-        Ok(Progress::Unfinished(Search {
-            finder,
-            trail,
-            worklist,
-        }))
     }
 }
+
+/// The most steps that a search runs before a watcher is told how far it is.
+const SLICE: u64 = 1_000;
 
 /// Searches a machine to the end.
 pub fn search_machine<M: Machine>(
@@ -139,16 +148,52 @@ pub fn search_machine<M: Machine>(
     requires { limit ≤ 4294967295 }
     ensures { IfOk result (IsOutcome (M.behaviour machine.now) limit) }
 {
+    search_machine_watched(alloc, machine, limit, &mut Unwatched)
+}
+
+/// The same. From slice to slice it tells a watcher how much is found.
+pub fn search_machine_watched<M: Machine, W: Watch>(
+    alloc: Global,
+    machine: &M,
+    limit: u64,
+    watch: &mut W,
+) -> Result<Outcome<M::State>, AllocError>
+    requires { limit ≤ 4294967295 }
+    ensures { IfOk result (IsOutcome (M.behaviour machine.now) limit) }
+{
     let mut progress = Search::start(alloc, machine, limit)?;
     loop {
         match progress {
-            Progress::Unfinished(search) => progress = search.run(u64::MAX)?,
+            Progress::Unfinished(search) => {
+                watch.tell(search.work());
+                progress = search.run(SLICE)?;
+            }
             Progress::Finished(outcome) => return Ok(outcome),
         }
     }
 }
 
 impl<'m, M: Machine> Finder<'m, M> {
+    /// Takes at most this number of steps. False where nothing is left to do.
+    fn run(
+        &self,
+        trail: &mut Trail<M::State>,
+        worklist: &mut Worklist,
+        steps: u64,
+    ) -> Result<bool, Failure<Stop>>
+        requires working { IsWorking M.behaviour self.now trail.old worklist.old }
+        ensures steps { IfOk result (λ more. OnTrue more (AreSteps M.behaviour steps self.now trail.old worklist.old trail.new worklist.new)) }
+        ensures finished { IfOk result (λ more. OnFalse more (IsFinished M.behaviour self.now trail.new)) }
+        ensures stopped { IfErr result (IfFault (IsStopped M.behaviour self.now trail.new)) }
+    {
+        for _ in 0..steps {
+            if !self.step(trail, worklist)? {
+                return Ok(false);
+            }
+        }
+        Ok(true)
+    }
+
     /// Walks the first queued pair whose state behind has been expanded, and else expands the next
     /// state. False where nothing is left to do.
     fn step(

@@ -1,12 +1,14 @@
 //! The search of a table.
-ghost use Rattle.std.specs.Prelude.{◌≤◌, ℕ, IfOk};
+ghost use Rattle.std.specs.Prelude.{◌≡◌, ◌≤◌, ℕ, IfOk};
 ghost use Rattle.brl_search.specs.Answers.{IsOutcome};
-ghost use Rattle.brl_search.specs.Found.{IfCertified, IsFound};
+ghost use Rattle.brl_search.specs.Found.{IfCertified, IsFound, IsFoundWithout};
 ghost use Rattle.brl_search.specs.Searched.{machine_of};
 ghost use Rattle.brl_table.specs.Translation.{IsClash, IsUnambiguous, translation};
+ghost use Rattle.brl_without.specs.Tables.{IsUnambiguousWithout};
+ghost use Rattle.brl_without.specs.Without.{without};
 
 use crate::explore::search_machine;
-use crate::laws::clash_law;
+use crate::laws::same_cells_law;
 use crate::outcome::Outcome;
 use brl_dues::{Dues, DuesState, exact_law};
 use brl_failure::Failure;
@@ -14,6 +16,7 @@ use brl_forward::{Clash, confirm};
 use brl_kinds::Cert;
 use brl_pairs::numbered_sets_law;
 use brl_table::Table;
+use brl_without::{LeftOut, Without, exact_without_law, unambiguous_without_law};
 use std::alloc::{AllocError, Global};
 
 /// What a search of a table finds.
@@ -37,9 +40,25 @@ pub fn search(alloc: Global, table: &Table, limit: u64) -> Result<Found, AllocEr
     ensures found { IfOk result (IsFound table.now limit) }
     ensures unambiguous { IfOk result (IfCertified (λ _. IsUnambiguous table.now)) }
 {
+    search_without(alloc, table, limit, &LeftOut::none(alloc))
+}
+
+/// Searches a table for a certificate or a clash of texts that use none of some characters, over its
+/// dues machine without these. Else the same as `search`.
+pub fn search_without(
+    alloc: Global,
+    table: &Table,
+    limit: u64,
+    left_out: &LeftOut,
+) -> Result<Found, AllocError>
+    requires { limit ≤ 4294967295 }
+    ensures found { IfOk result (IsFoundWithout left_out.now table.now limit) }
+    ensures unambiguous { IfOk result (IfCertified (λ _. IsUnambiguousWithout left_out.now table.now)) }
+{
     let dues = Dues::new(alloc, table);
-    let outcome = search_machine(alloc, &dues, limit)?;
-    found_of(alloc, table, outcome)
+    let machine = Without::new(&dues, left_out);
+    let outcome = search_machine(alloc, &machine, limit)?;
+    found_without(alloc, table, left_out, outcome)
 }
 
 /// What a table's search finds, from the outcome of the search of its dues machine: for a caller
@@ -52,15 +71,32 @@ pub fn found_of(
     requires { (limit : ℕ) × IsOutcome (machine_of table.now) limit outcome }
     ensures { (limit : ℕ) → IsOutcome (machine_of table.now) limit outcome → IfOk result (IsFound table.now limit) }
 {
+    found_without(alloc, table, &LeftOut::none(alloc), outcome)
+}
+
+/// The same from the outcome of the search of its dues machine without some characters.
+pub fn found_without(
+    alloc: Global,
+    table: &Table,
+    left_out: &LeftOut,
+    outcome: Outcome<DuesState>,
+) -> Result<Found, AllocError>
+    requires { (limit : ℕ) × IsOutcome (without left_out.now (machine_of table.now)) limit outcome }
+    ensures { (limit : ℕ) → IsOutcome (without left_out.now (machine_of table.now)) limit outcome →
+        IfOk result (IsFoundWithout left_out.now table.now limit) }
+{
     let dues = Dues::new(alloc, table);
     exact_law(table);
+    exact_without_law(&dues);
+    unambiguous_without_law(&dues);
+    let machine = Without::new(&dues, left_out);
     match outcome {
         Outcome::Closed(body) => {
-            numbered_sets_law(&dues);
+            numbered_sets_law(&machine);
             Ok(Found::Certified(Cert::Word(body)))
         }
         Outcome::BothEnd { left, right } => {
-            clash_law(&dues, table);
+            same_cells_law(&machine);
             let clash = clash_of(alloc, table, left.as_slice(), right.as_slice())?;
             Ok(Found::Clashing(clash))
         }
@@ -76,7 +112,9 @@ fn clash_of(
     right: &[char],
 ) -> Result<Clash, AllocError>
     requires { IsClash table.now left.now right.now (translation table.now left.now) }
-    ensures { IfOk result (λ clash. IsClash table.now clash.left clash.right clash.cells) }
+    ensures left { IfOk result (λ clash. clash.left ≡ left.now) }
+    ensures right { IfOk result (λ clash. clash.right ≡ right.now) }
+    ensures clash { IfOk result (λ clash. IsClash table.now clash.left clash.right clash.cells) }
 {
     match confirm(alloc, table, left, right) {
         Ok(Some(clash)) => Ok(clash),

@@ -1,10 +1,9 @@
 -- What the characters of a rule are compared with: in a run of capitals the folds of its capitals.
 use Rattle.std.proofs.Common.{ℕ, zero, suc, ◌<◌, ◌≤◌, ◌≡◌, Bool, true, false, ◌&&◌, List, [], ◌∷◌, length, map, cond, nat_eq, get_or, refl, arith, sym, ◌∙◌, ap, Some, None}
 use Rattle.std.specs.Prelude.{slice_get, slice_index}
-use Rattle.std.specs.List.{starts_with, take_while}
+use Rattle.std.specs.List.{starts_with}
 use Rattle.std.specs.Cmp.{first_so, second_so}
 use Rattle.std.proofs.lemmas.Bool.Decides.{nat_tests}
-use Rattle.std.proofs.lemmas.List.Sums.{take_while-cons}
 use Rattle.brl_table.specs.TableView.{TableView}
 use Rattle.brl_table.specs.Text.{classes_of, fold_of, is_capital}
 use Rattle.brl_table.specs.Choice.{compared, folds_of_capitals}
@@ -14,19 +13,11 @@ use Rattle.brl_table.specs.Tree.{mark_of}
 abbrev pub is_cap : TableView → ℕ → Bool
 is_cap t c = is_capital (classes_of t c)
 
-mapped : (t : TableView) (c : ℕ) (rest : List ℕ) (b : Bool)
-    → map (fold_of t) (cond b (c ∷ take_while (is_cap t) rest) []) ≡ cond b (fold_of t c ∷ folds_of_capitals t rest) []
-mapped t c rest true = refl
-mapped t c rest false = refl
-
-folds-cons : (t : TableView) (c : ℕ) (rest : List ℕ) → folds_of_capitals t (c ∷ rest) ≡ cond (is_cap t c) (fold_of t c ∷ folds_of_capitals t rest) []
-folds-cons t c rest = ap (map (fold_of t)) (take_while-cons (is_cap t) c rest) ∙ mapped t c rest (is_cap t c)
-
 folds-capital : (t : TableView) (c : ℕ) (rest : List ℕ) → is_cap t c ≡ true → folds_of_capitals t (c ∷ rest) ≡ fold_of t c ∷ folds_of_capitals t rest
-folds-capital t c rest is = folds-cons t c rest ∙ ap (λ b. cond b (fold_of t c ∷ folds_of_capitals t rest) []) is
+folds-capital t c rest is = ap (λ b. cond b (fold_of t c ∷ folds_of_capitals t rest) []) is
 
 folds-other : (t : TableView) (c : ℕ) (rest : List ℕ) → is_cap t c ≡ false → folds_of_capitals t (c ∷ rest) ≡ []
-folds-other t c rest is = folds-cons t c rest ∙ ap (λ b. cond b (fold_of t c ∷ folds_of_capitals t rest) []) is
+folds-other t c rest is = ap (λ b. cond b (fold_of t c ∷ folds_of_capitals t rest) []) is
 
 -- ---- how many there are
 

@@ -1,3 +1,4 @@
+pub mod RankWeight
 pub mod SignLists
 pub mod SortedRanking
 pub mod EntryNumbers

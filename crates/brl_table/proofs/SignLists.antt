@@ -1,11 +1,16 @@
 -- The indicators by their numbers, and lists of the cells of each.
-use Rattle.std.proofs.Common.{ℕ, zero, suc, ◌<◌, ◌≤◌, ◌≡◌, ◌∙◌, Bool, true, List, [], ◌∷◌, length, map, ap, arith, refl, subst, sym, Some}
+use Rattle.std.proofs.Common.{ℕ, zero, suc, ◌<◌, ◌≤◌, ◌≡◌, ◌∙◌, Bool, true, false, cond, List, [], ◌∷◌, ◌++◌, length, map, ap, arith, refl, subst, sym, Some}
 use Rattle.std.proofs.lemmas.Bool.Decides.{Decides-eqb}
 use Rattle.std.proofs.lemmas.List.{length-map}
 use Rattle.std.proofs.lemmas.Option.{slice_get-get_or, slice_get-map, slice_get_within}
 use Rattle.std.specs.Prelude.{◌↔◌, All, IsTrue, option_map, slice_get, slice_index_or}
+use Rattle.std.specs.List.{flat_map}
+use Rattle.brl_table.specs.declared.context.Context.{Context}
+use Rattle.brl_table.specs.declared.rule.Info.{Info}
 use Rattle.brl_table.specs.declared.signs.Sign.{Sign}
 use Rattle.brl_table.specs.declared.signs.Sign.TheVariants.{CapsLetter, NumSign, NoContractSign, BegCapsWord, EndCapsWord}
+use Rattle.brl_table.specs.Indicators.{is_used, sign_order, signs_of, used_cells}
+use Rattle.brl_table.specs.TableView.{TableView, sign_cells}
 use Rattle.brl_table.specs.Signs.{all_signs, by_sign, cells_at, is_same_sign, sign_number}
 
 -- each indicator is at its number among them all
@@ -59,3 +64,16 @@ each-few signs most b count all = (
       let P : List ℕ → Type 0 = λ cells. length cells ≤ most in
       subst P (ap (λ n. slice_index_or signs n []) sign.1 ∙ any-default signs place [] d within) (few sign.0)),
 )
+
+-- ---- a character before which no indicator is used
+
+no-cells : (used : Bool) (cells : List ℕ) → used ≡ false → cond used cells [] ≡ []
+no-cells used cells is = ap (λ b. cond b cells []) is
+
+none-joined : (cells : Sign → List ℕ) (signs : List Sign) → ((sign : Sign) → cells sign ≡ []) → flat_map cells signs ≡ []
+none-joined cells [] none = refl
+none-joined cells (sign ∷ signs) none = ap (λ first. first ++ flat_map cells signs) (none sign) ∙ none-joined cells signs none
+
+pub signs-none : (t : TableView) (here : Context) (run : Bool) (info : Info) → ((sign : Sign) → is_used here run info sign ≡ false) → signs_of t here run info ≡ []
+signs-none t here run info none =
+    none-joined (used_cells t here run info) sign_order (λ sign. no-cells (is_used here run info sign) (sign_cells t sign) (none sign))

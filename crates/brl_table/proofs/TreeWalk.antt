@@ -15,7 +15,8 @@ use Rattle.brl_table.specs.TableView.{TableView, info_of}
 use Rattle.brl_table.specs.Places.{holds, before_of, after_of}
 use Rattle.brl_table.specs.Text.{classes_at, is_in_run}
 use Rattle.brl_table.specs.Choice.{compared, matches, fits, place_allows, place_allows_number, by_rule, own, first_fitting, chosen, chosen_number}
-use Rattle.brl_table.specs.Rank.{weight, IsInRank}
+use Rattle.brl_table.specs.Rank.{outranks, IsInRank}
+use Rattle.brl_table.proofs.RankWeight.{level-length}
 use Rattle.brl_table.specs.Tree.{is_just, numbers, ends_of}
 use Rattle.brl_table.proofs.TakenLengths.{fits-Takes, starts_with-length}
 
@@ -70,7 +71,11 @@ numbers-none test n (r ∷ rules) h (suc k) s is = numbers-none test (n + 1) rul
     cases true others e = cc
     cases false others e = e
 
--- ---- rank: rules of one weight come before all that are lighter
+-- ---- rank: rules of one length come before all that are shorter
+
+-- the number of a rule's characters
+abbrev pub length_of : Rule → ℕ
+length_of r = length r.chars
 
 le-true : (w k : ℕ) → w ≤ k → nat_le w k ≡ true
 le-true w k h = grind (arith, nat_tests)
@@ -99,49 +104,49 @@ got_within [] k s is = cc
 got_within (r ∷ rules) zero s is = omega arith
 got_within (r ∷ rules) (suc k) s is = omega (arith, got_within rules k s is)
 
--- no rule after the first in rank is heavier
-lighter : (r : Rule) (rules : List Rule) → IsInRank (r ∷ rules) → (k : ℕ) (s : Rule) → slice_get rules k ≡ Some s → weight s ≤ weight r
-lighter r rules h k s is =
+-- no rule after the first in rank is longer
+shorter : (r : Rule) (rules : List Rule) → IsInRank (r ∷ rules) → (k : ℕ) (s : Rule) → slice_get rules k ≡ Some s → length_of s ≤ length_of r
+shorter r rules h k s is =
     let within : k < length rules = got_within rules k s is in
     let e : get_or rules k s ≡ s = get_or_from_slice_get rules k s s is in
-    let low : weight (get_or rules k s) ≤ weight r = h 0 (suc k) s (omega arith) (omega (arith, within)) in
-    omega (arith, low, ap weight e)
+    let low : length_of (get_or rules k s) ≤ length_of r = level-length (get_or rules k s) r (h 0 (suc k) s (omega arith) (omega (arith, within))) in
+    omega (arith, low, ap length_of e)
 
-as_heavy : (b : Bool) (n : ℕ) (more same less : Option ℕ) → more ≡ option_or same less
+as_long : (b : Bool) (n : ℕ) (more same less : Option ℕ) → more ≡ option_or same less
     → cond (b && true) (Some n) more ≡ option_or (cond (b && true) (Some n) same) (cond (b && false) (Some n) less)
-as_heavy true n more same less e = refl
-as_heavy false n more same less e = e
+as_long true n more same less e = refl
+as_long false n more same less e = e
 
-as_light : (b : Bool) (n : ℕ) (more same less : Option ℕ) → same ≡ None → more ≡ option_or same less
+as_short : (b : Bool) (n : ℕ) (more same less : Option ℕ) → same ≡ None → more ≡ option_or same less
     → cond (b && true) (Some n) more ≡ option_or (cond (b && false) (Some n) same) (cond (b && true) (Some n) less)
-as_light true n more same less none e = rw none refl
-as_light false n more same less none e = e
+as_short true n more same less none e = rw none refl
+as_short false n more same less none e = e
 
-too_heavy : (b : Bool) (n : ℕ) (more same less : Option ℕ) → more ≡ option_or same less
+too_long : (b : Bool) (n : ℕ) (more same less : Option ℕ) → more ≡ option_or same less
     → cond (b && false) (Some n) more ≡ option_or (cond (b && false) (Some n) same) (cond (b && false) (Some n) less)
-too_heavy true n more same less e = e
-too_heavy false n more same less e = e
+too_long true n more same less e = e
+too_long false n more same less e = e
 
 pub rank-step : (f : Rule → Bool) (k n : ℕ) (rules : List Rule) → IsInRank rules
-    → position_from (λ r. f r && nat_le (weight r) (k + 1)) n rules
-    ≡ option_or (position_from (λ r. f r && nat_eq (weight r) (k + 1)) n rules) (position_from (λ r. f r && nat_le (weight r) k) n rules)
+    → position_from (λ r. f r && nat_le (length_of r) (k + 1)) n rules
+    ≡ option_or (position_from (λ r. f r && nat_eq (length_of r) (k + 1)) n rules) (position_from (λ r. f r && nat_le (length_of r) k) n rules)
 rank-step f k n [] h = refl
-rank-step f k n (r ∷ rules) h = by_order (cases_order (weight r) (k + 1)) (rank-step f k (n + 1) rules (tail r rules h))
+rank-step f k n (r ∷ rules) h = by_order (cases_order (length_of r) (k + 1)) (rank-step f k (n + 1) rules (tail r rules h))
   where
-    by_order : (weight r ≡ k + 1) ⊎ ((weight r < k + 1) ⊎ (k + 1 < weight r))
-        → position_from (λ r. f r && nat_le (weight r) (k + 1)) (n + 1) rules
-        ≡ option_or (position_from (λ r. f r && nat_eq (weight r) (k + 1)) (n + 1) rules) (position_from (λ r. f r && nat_le (weight r) k) (n + 1) rules)
-        → position_from (λ r. f r && nat_le (weight r) (k + 1)) n (r ∷ rules)
-        ≡ option_or (position_from (λ r. f r && nat_eq (weight r) (k + 1)) n (r ∷ rules)) (position_from (λ r. f r && nat_le (weight r) k) n (r ∷ rules))
+    by_order : (length_of r ≡ k + 1) ⊎ ((length_of r < k + 1) ⊎ (k + 1 < length_of r))
+        → position_from (λ r. f r && nat_le (length_of r) (k + 1)) (n + 1) rules
+        ≡ option_or (position_from (λ r. f r && nat_eq (length_of r) (k + 1)) (n + 1) rules) (position_from (λ r. f r && nat_le (length_of r) k) (n + 1) rules)
+        → position_from (λ r. f r && nat_le (length_of r) (k + 1)) n (r ∷ rules)
+        ≡ option_or (position_from (λ r. f r && nat_eq (length_of r) (k + 1)) n (r ∷ rules)) (position_from (λ r. f r && nat_le (length_of r) k) n (r ∷ rules))
     by_order (inl same) more =
-        rw (le-true (weight r) (k + 1) (omega arith), eq-true (weight r) (k + 1) same, le-false (weight r) k (omega arith)) (as_heavy (f r) n _ _ _ more)
+        rw (le-true (length_of r) (k + 1) (omega arith), eq-true (length_of r) (k + 1) same, le-false (length_of r) k (omega arith)) (as_long (f r) n _ _ _ more)
     by_order (inr (inl less)) more =
-        let low : weight r ≤ k = omega arith in
-        let none = position-none (λ r. f r && nat_eq (weight r) (k + 1)) (n + 1) rules
-        (λ j s is. and-false (f s) (nat_eq (weight s) (k + 1)) (eq-false (weight s) (k + 1) (omega (arith, lighter r rules h j s is)))) in
-        rw (le-true (weight r) (k + 1) (omega arith), eq-false (weight r) (k + 1) less, le-true (weight r) k low) (as_light (f r) n _ _ _ none more)
+        let low : length_of r ≤ k = omega arith in
+        let none = position-none (λ r. f r && nat_eq (length_of r) (k + 1)) (n + 1) rules
+        (λ j s is. and-false (f s) (nat_eq (length_of s) (k + 1)) (eq-false (length_of s) (k + 1) (omega (arith, shorter r rules h j s is)))) in
+        rw (le-true (length_of r) (k + 1) (omega arith), eq-false (length_of r) (k + 1) less, le-true (length_of r) k low) (as_short (f r) n _ _ _ none more)
     by_order (inr (inr above)) more =
-        rw (le-false (weight r) (k + 1) above, eq-false-above (weight r) (k + 1) above, le-false (weight r) k (omega arith)) (too_heavy (f r) n _ _ _ more)
+        rw (le-false (length_of r) (k + 1) above, eq-false-above (length_of r) (k + 1) above, le-false (length_of r) k (omega arith)) (too_long (f r) n _ _ _ more)
 
 -- ---- rules with just the first characters of a rest
 
@@ -245,19 +250,19 @@ module _ (t : TableView) (before : Class) (rest : List ℕ) (first : ℕ) (behin
       ∙ ap (λ e. matches t (is_in_run t before rest) rest (x ∷ others) && e) (sym (suc-eq (length others) k) ∙ ap (nat_eq (suc (length others))) (sym plus))
 
   just-fits : (k : ℕ) → k ≤ length behind → (r : Rule)
-      → is_just r.chars (first ∷ take k behind) && place_allows t before rest r ≡ fits t before rest r && nat_eq (weight r) (k + 1)
+      → is_just r.chars (first ∷ take k behind) && place_allows t before rest r ≡ fits t before rest r && nat_eq (length_of r) (k + 1)
   just-fits k h r =
       ap (λ e. e && place_allows t before rest r) (just-matches r.chars k h)
-      ∙ four (matches t (is_in_run t before rest) rest r.chars) (nat_eq (weight r) (k + 1)) (holds (before_of r.place) before)
+      ∙ four (matches t (is_in_run t before rest) rest r.chars) (nat_eq (length_of r) (k + 1)) (holds (before_of r.place) before)
       (holds (after_of r.place before) (classes_at t rest (length r.chars)))
 
   -- the first rule at a node whose place allows it is the first in rank of this length that fits
   at_node : (k : ℕ) → k ≤ length behind
       → find (place_allows_number t before rest) (numbers (λ r. is_just r.chars (first ∷ take k behind)) 0 t.rules)
-      ≡ position_from (λ r. fits t before rest r && nat_eq (weight r) (k + 1)) 0 t.rules
+      ≡ position_from (λ r. fits t before rest r && nat_eq (length_of r) (k + 1)) 0 t.rules
   at_node k h =
       find-numbers t.rules (λ r. is_just r.chars (first ∷ take k behind)) (place_allows t before rest) 0 t.rules (λ j. let e : 0 + j ≡ j = omega arith in ap (slice_get t.rules) e)
-      ∙ position-agree (λ r. is_just r.chars (first ∷ take k behind) && place_allows t before rest r) (λ r. fits t before rest r && nat_eq (weight r) (k + 1)) 0 t.rules
+      ∙ position-agree (λ r. is_just r.chars (first ∷ take k behind) && place_allows t before rest r) (λ r. fits t before rest r && nat_eq (length_of r) (k + 1)) 0 t.rules
       (λ j r there. just-fits k h r)
 
   pub fits-matches : (r : Rule) → fits t before rest r ≡ true → matches t (is_in_run t before rest) rest r.chars ≡ true
@@ -274,40 +279,40 @@ module _ (t : TableView) (before : Class) (rest : List ℕ) (first : ℕ) (behin
       (others, ap (λ y. y ∷ others) x-is, second_so (nat_eq x first) (starts_with nat_eq behind others) both)
 
   -- the rules of one character are at the first node
-  at_first : position_from (λ r. fits t before rest r && nat_eq (weight r) (0 + 1)) 0 t.rules
-      ≡ position_from (λ r. fits t before rest r && nat_le (weight r) (0 + 1)) 0 t.rules
+  at_first : position_from (λ r. fits t before rest r && nat_eq (length_of r) (0 + 1)) 0 t.rules
+      ≡ position_from (λ r. fits t before rest r && nat_le (length_of r) (0 + 1)) 0 t.rules
   at_first =
-      position-agree (λ r. fits t before rest r && nat_eq (weight r) (0 + 1)) (λ r. fits t before rest r && nat_le (weight r) (0 + 1)) 0 t.rules
-      (λ j r there. under (fits t before rest r) (nat_eq (weight r) (0 + 1)) (nat_le (weight r) (0 + 1)) (λ does. one-le (weight r) (fits-Takes t before rest r does).some))
+      position-agree (λ r. fits t before rest r && nat_eq (length_of r) (0 + 1)) (λ r. fits t before rest r && nat_le (length_of r) (0 + 1)) 0 t.rules
+      (λ j r there. under (fits t before rest r) (nat_eq (length_of r) (0 + 1)) (nat_le (length_of r) (0 + 1)) (λ does. one-le (length_of r) (fits-Takes t before rest r does).some))
 
   -- where no rule that fits has more characters, the longest so far is the first in rank
-  no_more : (k : ℕ) → ((j : ℕ) (r : Rule) → slice_get t.rules j ≡ Some r → fits t before rest r ≡ true → weight r ≤ k)
-      → position_from (λ r. fits t before rest r && nat_le (weight r) k) 0 t.rules ≡ position_from (fits t before rest) 0 t.rules
+  no_more : (k : ℕ) → ((j : ℕ) (r : Rule) → slice_get t.rules j ≡ Some r → fits t before rest r ≡ true → length_of r ≤ k)
+      → position_from (λ r. fits t before rest r && nat_le (length_of r) k) 0 t.rules ≡ position_from (fits t before rest) 0 t.rules
   no_more k h =
-      position-agree (λ r. fits t before rest r && nat_le (weight r) k) (fits t before rest) 0 t.rules
-      (λ j r there. under-true (fits t before rest r) (nat_le (weight r) k) (λ does. le-true (weight r) k (h j r there does)))
+      position-agree (λ r. fits t before rest r && nat_le (length_of r) k) (fits t before rest) 0 t.rules
+      (λ j r there. under-true (fits t before rest r) (nat_le (length_of r) k) (λ does. le-true (length_of r) k (h j r there does)))
 
   pub rest-first : find (place_allows_number t before rest) (ends_of t.rules (first ∷ []))
-      ≡ position_from (λ r. fits t before rest r && nat_le (weight r) (0 + 1)) 0 t.rules
+      ≡ position_from (λ r. fits t before rest r && nat_le (length_of r) (0 + 1)) 0 t.rules
   rest-first = at_node 0 (omega arith) ∙ at_first
 
   pub rest-next : (k : ℕ) (best : Option ℕ) → k < length behind → IsInRank t.rules
-      → best ≡ position_from (λ r. fits t before rest r && nat_le (weight r) (k + 1)) 0 t.rules
+      → best ≡ position_from (λ r. fits t before rest r && nat_le (length_of r) (k + 1)) 0 t.rules
       → option_or (find (place_allows_number t before rest) (ends_of t.rules (first ∷ take (k + 1) behind))) best
-      ≡ position_from (λ r. fits t before rest r && nat_le (weight r) (k + 1 + 1)) 0 t.rules
+      ≡ position_from (λ r. fits t before rest r && nat_le (length_of r) (k + 1 + 1)) 0 t.rules
   rest-next k best within rank e =
       ap (option_or (find (place_allows_number t before rest) (ends_of t.rules (first ∷ take (k + 1) behind)))) e
-      ∙ ap (λ found. option_or found (position_from (λ r. fits t before rest r && nat_le (weight r) (k + 1)) 0 t.rules)) (at_node (k + 1) (omega (arith, within)))
+      ∙ ap (λ found. option_or found (position_from (λ r. fits t before rest r && nat_le (length_of r) (k + 1)) 0 t.rules)) (at_node (k + 1) (omega (arith, within)))
       ∙ sym (rank-step (fits t before rest) (k + 1) 0 t.rules rank)
 
   -- the rest has no more characters that rules are compared with
   pub rest-end : (k : ℕ) → length behind ≤ k
-      → position_from (λ r. fits t before rest r && nat_le (weight r) (k + 1)) 0 t.rules ≡ position_from (fits t before rest) 0 t.rules
+      → position_from (λ r. fits t before rest r && nat_le (length_of r) (k + 1)) 0 t.rules ≡ position_from (fits t before rest) 0 t.rules
   rest-end k h = no_more (k + 1) (λ j r there does. short r (front r.chars (fits-matches r does)))
     where
-      short : (r : Rule) → (others : List ℕ) × (r.chars ≡ first ∷ others) × (starts_with nat_eq behind others ≡ true) → weight r ≤ k + 1
+      short : (r : Rule) → (others : List ℕ) × (r.chars ≡ first ∷ others) × (starts_with nat_eq behind others ≡ true) → length_of r ≤ k + 1
       short r f =
-          let long : weight r ≡ suc (length f.0) = ap length f.1 in
+          let long : length_of r ≡ suc (length f.0) = ap length f.1 in
           omega (arith, long, starts_with-length behind f.0 f.2, h)
 
   -- where a character leads to no rules, no rule that fits has it
@@ -322,16 +327,16 @@ module _ (t : TableView) (before : Class) (rest : List ℕ) (first : ℕ) (behin
       not_both (is_just r.chars (first ∷ f.0)) just not))
 
   pub rest-no_branch : (k d : ℕ) → k < length behind → ((at : List ℕ) → [] ≡ ends_of t.rules (first ∷ (take k behind ++ get_or behind k d ∷ at)))
-      → position_from (λ r. fits t before rest r && nat_le (weight r) (k + 1)) 0 t.rules ≡ position_from (fits t before rest) 0 t.rules
+      → position_from (λ r. fits t before rest r && nat_le (length_of r) (k + 1)) 0 t.rules ≡ position_from (fits t before rest) 0 t.rules
   rest-no_branch k d within none = no_more (k + 1) (λ j r there does. short j r there (front r.chars (fits-matches r does)))
     where
-      short : (j : ℕ) (r : Rule) → slice_get t.rules j ≡ Some r → (others : List ℕ) × (r.chars ≡ first ∷ others) × (starts_with nat_eq behind others ≡ true) → weight r ≤ k + 1
+      short : (j : ℕ) (r : Rule) → slice_get t.rules j ≡ Some r → (others : List ℕ) × (r.chars ≡ first ∷ others) × (starts_with nat_eq behind others ≡ true) → length_of r ≤ k + 1
       short j r there f = by_order (cases_order (length f.0) k)
         where
-          count : weight r ≡ suc (length f.0)
+          count : length_of r ≡ suc (length f.0)
           count = ap length f.1
 
-          by_order : (length f.0 ≡ k) ⊎ ((length f.0 < k) ⊎ (k < length f.0)) → weight r ≤ k + 1
+          by_order : (length f.0 ≡ k) ⊎ ((length f.0 < k) ⊎ (k < length f.0)) → length_of r ≤ k + 1
           by_order (inl same) = omega (arith, count)
           by_order (inr (inl less)) = omega (arith, count)
           by_order (inr (inr more)) =

@@ -4,17 +4,14 @@ use Rattle.std.specs.Prelude.{filter, slice_index_or}
 use Rattle.std.proofs.lemmas.Bool.{cases_order}
 use Rattle.std.proofs.lemmas.Bool.Decides.{nat_tests}
 use Rattle.brl_table.specs.declared.rule.Rule.{Rule}
-use Rattle.brl_table.specs.Rank.{weight, IsInRank, IsRanking}
+use Rattle.brl_table.specs.Rank.{IsRanking}
+use Rattle.brl_table.proofs.RankWeight.{weight, of_weight, ties-of_weight, IsByWeight, rank-by_weight}
 
 same : (n : ℕ) → nat_eq n n ≡ true
 same n = grind (arith, nat_tests)
 
 differ : (m n : ℕ) → m < n → nat_eq m n ≡ false
 differ m n h = grind (arith, nat_tests)
-
--- the rules of weight n
-of_weight : ℕ → List Rule → List Rule
-of_weight n rules = filter (λ r. nat_eq (weight r) n) rules
 
 -- each rule has less weight than n
 abbrev AreLighter : ℕ → List Rule → Type 0
@@ -31,11 +28,11 @@ unfolding of_weight
 first_counts r rules = rw (same (weight r)) refl
 
 -- no rule after the first of a ranking is heavier
-at_most_first : (r : Rule) (rules : List Rule) → IsInRank (r ∷ rules) → (k : ℕ) (d : Rule) → k < length (r ∷ rules) → weight (slice_index_or (r ∷ rules) k d) ≤ weight r
+at_most_first : (r : Rule) (rules : List Rule) → IsByWeight (r ∷ rules) → (k : ℕ) (d : Rule) → k < length (r ∷ rules) → weight (slice_index_or (r ∷ rules) k d) ≤ weight r
 at_most_first r rules h zero d within = omega arith
 at_most_first r rules h (suc k) d within = h 0 (suc k) d (omega arith) within
 
-behind_first : (r : Rule) (rules : List Rule) → IsInRank (r ∷ rules) → IsInRank rules
+behind_first : (r : Rule) (rules : List Rule) → IsByWeight (r ∷ rules) → IsByWeight rules
 behind_first r rules h i j d before within = h (suc i) (suc j) d (omega (arith, before)) (omega (arith, within))
 
 of_none : (n : ℕ) → of_weight n [] ≡ []
@@ -46,10 +43,10 @@ no_cons : (r : Rule) (rules : List Rule) → r ∷ rules ≡ [] → ⊥
 no_cons r rules e = cc
 
 -- the first of one ranking is no heavier than the first of another of the same rules
-not_heavier : (x y : Rule) (xs ys : List Rule) → IsInRank (y ∷ ys) → ((n : ℕ) → of_weight n (x ∷ xs) ≡ of_weight n (y ∷ ys)) → weight y < weight x → ⊥
+not_heavier : (x y : Rule) (xs ys : List Rule) → IsByWeight (y ∷ ys) → ((r : Rule) → of_weight (weight r) (x ∷ xs) ≡ of_weight (weight r) (y ∷ ys)) → weight y < weight x → ⊥
 not_heavier x y xs ys h agree more =
     no_cons x (of_weight (weight x) xs)
-    (sym (first_counts x xs) ∙ agree (weight x)
+    (sym (first_counts x xs) ∙ agree x
     ∙ none_as_heavy (weight x) (y ∷ ys) (λ k d within. let low = at_most_first y ys h k d within in omega (arith, low, more)))
 
 equal_weight : (m n : ℕ) → (n < m → ⊥) → (m < n → ⊥) → m ≡ n
@@ -77,19 +74,20 @@ tails_agree n x xs ys = by_test (nat_eq (weight x) n)
     by_test true e = same_tail x x _ _ e
     by_test false e = e
 
-one_ranking : (xs ys : List Rule) → IsInRank xs → IsInRank ys → ((n : ℕ) → of_weight n xs ≡ of_weight n ys) → xs ≡ ys
+one_ranking : (xs ys : List Rule) → IsByWeight xs → IsByWeight ys → ((r : Rule) → of_weight (weight r) xs ≡ of_weight (weight r) ys) → xs ≡ ys
 one_ranking [] [] hx hy agree = refl
-one_ranking [] (y ∷ ys) hx hy agree = absurd (no_cons y (of_weight (weight y) ys) (sym (first_counts y ys) ∙ sym (agree (weight y)) ∙ of_none (weight y)))
-one_ranking (x ∷ xs) [] hx hy agree = absurd (no_cons x (of_weight (weight x) xs) (sym (first_counts x xs) ∙ agree (weight x) ∙ of_none (weight x)))
+one_ranking [] (y ∷ ys) hx hy agree = absurd (no_cons y (of_weight (weight y) ys) (sym (first_counts y ys) ∙ sym (agree y) ∙ of_none (weight y)))
+one_ranking (x ∷ xs) [] hx hy agree = absurd (no_cons x (of_weight (weight x) xs) (sym (first_counts x xs) ∙ agree x ∙ of_none (weight x)))
 one_ranking (x ∷ xs) (y ∷ ys) hx hy agree =
-    let w : weight x ≡ weight y = equal_weight (weight x) (weight y) (not_heavier x y xs ys hy agree) (not_heavier y x ys xs hx (λ n. sym (agree n))) in
+    let w : weight x ≡ weight y = equal_weight (weight x) (weight y) (not_heavier x y xs ys hy agree) (not_heavier y x ys xs hx (λ r. sym (agree r))) in
     let heads : x ∷ of_weight (weight x) xs ≡ y ∷ of_weight (weight y) ys =
-    sym (first_counts x xs) ∙ agree (weight x) ∙ ap (λ n. of_weight n (y ∷ ys)) w ∙ first_counts y ys in
+    sym (first_counts x xs) ∙ agree x ∙ ap (λ n. of_weight n (y ∷ ys)) w ∙ first_counts y ys in
     let head : x ≡ y = same_head x y _ _ heads in
     let tails = one_ranking xs ys (behind_first x xs hx) (behind_first y ys hy)
-    (λ n. tails_agree n x xs ys (agree n ∙ ap (λ r. of_weight n (r ∷ ys)) (sym head))) in
+    (λ r. tails_agree (weight r) x xs ys (agree r ∙ ap (λ s. of_weight (weight r) (s ∷ ys)) (sym head))) in
     ap (λ r. r ∷ xs) head ∙ ap (λ rules. y ∷ rules) tails
 
 pub ranking-unique : (lines xs ys : List Rule) → IsRanking lines xs → IsRanking lines ys → xs ≡ ys
-unfolding of_weight
-ranking-unique lines xs ys hx hy = one_ranking xs ys hx.heavier_first hy.heavier_first (λ n. hx.in_lines_order n ∙ sym (hy.in_lines_order n))
+ranking-unique lines xs ys hx hy =
+    one_ranking xs ys (rank-by_weight xs hx.higher_first) (rank-by_weight ys hy.higher_first)
+    (λ r. sym (ties-of_weight r xs) ∙ hx.in_lines_order r ∙ sym (hy.in_lines_order r) ∙ ties-of_weight r ys)

@@ -1,8 +1,8 @@
 -- Which rule is chosen at the start of a rest of a text. The manual, section "Translation Opcodes":
 -- at each position the most eligible entry is used. That only the first character of a rule is
 -- compared without case, and in a run of capitals each, is this project's own choice.
-use Rattle.std.specs.Prelude.{ℕ, ◌≡◌, ◌+◌, Bool, false, ◌&&◌, nat_eq, Option, Some, None, List, [], ◌∷◌, length, map, if◌then◌else◌, slice_get}
-use Rattle.std.specs.List.{starts_with, take_while}
+use Rattle.std.specs.Prelude.{ℕ, ◌≡◌, ◌+◌, Bool, false, ◌&&◌, nat_eq, Option, Some, None, List, [], ◌∷◌, length, if◌then◌else◌, slice_get}
+use Rattle.std.specs.List.{starts_with}
 use Rattle.std.specs.Option.{option_map_or}
 use Rattle.brl_table.specs.declared.choice.Choice.{Choice as Lent}
 use Rattle.brl_table.specs.declared.class.Class.{Class}
@@ -13,7 +13,8 @@ use Rattle.brl_table.specs.Text.{fold_of, classes_at, classes_of, is_capital, is
 
 -- the folds of the capitals with which a rest begins, up to the first character that isn't one
 abbrev pub folds_of_capitals : TableView → List ℕ → List ℕ
-folds_of_capitals t rest = map (fold_of t) (take_while (λ c. is_capital (classes_of t c)) rest)
+folds_of_capitals t [] = []
+folds_of_capitals t (c ∷ rest) = if is_capital (classes_of t c) then fold_of t c ∷ folds_of_capitals t rest else []
 
 -- what the characters of a rule are compared with at the start of a rest: the fold of its first
 -- character, and after it in a run of capitals the folds of the capitals that follow, else the

@@ -1,7 +1,7 @@
 -- Classes, conditions on the classes of a neighbour, and the conditions of each place on both
 -- neighbours. The manual, section "Translation Opcodes", says where in a word each place allows a
 -- rule; by which classes is this project's own choice.
-use Rattle.std.specs.Prelude.{Bool, true, not, ◌==◌, if◌then◌else◌}
+use Rattle.std.specs.Prelude.{Bool, true, false, not, ◌==◌, if◌then◌else◌}
 use Rattle.std.specs.Int.RustNames.{bit_and}
 use Rattle.brl_table.specs.declared.class.Class.{Class}
 use Rattle.brl_table.specs.declared.place.Cond.{Cond}
@@ -95,3 +95,8 @@ before_of place = (conditions_of place none).before
 -- the condition on the character after a rule, where the one before has these classes
 abbrev pub after_of : Place → Class → Cond
 after_of place before = (conditions_of place before).after
+
+-- whether a place is any but `always`: a rule that has one is placed
+abbrev pub is_placed : Place → Bool
+is_placed Always = false
+is_placed place = true

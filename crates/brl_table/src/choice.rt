@@ -35,7 +35,10 @@ impl Table {
     {
         self.law();
         match self.info(rest[0]) {
-            Some(info) => self.choice_of(info, self.is_in_run(before, rest), before, rest),
+            Some(info) => {
+                let run = self.is_in_run_of(info, before, rest);
+                self.choice_of(info, run, before, rest)
+            }
             None => Choice {
                 number: self.rules_in_rank().len() as u32,
                 taken: 1,
@@ -85,7 +88,7 @@ impl Table {
         ensures { result ≡ chosen_number self.now before rest.now }
     {
         let info = self.info(*rest.first()?)?;
-        let run = self.is_in_run(before, rest);
+        let run = self.is_in_run_of(info, before, rest);
         Some(self.choice_of(info, run, before, rest).number)
     }
 

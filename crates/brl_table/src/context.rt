@@ -23,7 +23,7 @@ impl Context {
 
 impl Table {
     ghost use Rattle.std.specs.Prelude.{◌≡◌, ℕ, List, Some};
-    ghost use Rattle.brl_table.specs.Infos.{AreInfosOf};
+    ghost use Rattle.brl_table.specs.Infos.{AreInfosOf, first_info};
     ghost use Rattle.brl_table.specs.TableView.{info_of};
     ghost use Rattle.brl_table.specs.Text.{are_run, context_behind, context_behind_all, has_word_capitals, is_in_run};
 
@@ -49,10 +49,24 @@ impl Table {
     pub fn is_in_run(&self, before: Class, rest: &[char]) -> bool
         ensures { result ≡ is_in_run self.now before rest.now }
     {
-        self.has_word_capitals()
-            && self.classes_at(rest, 0).intersects(Class::UPPERCASE)
-            && (before.intersects(Class::UPPERCASE)
-                || self.classes_at(rest, 1).intersects(Class::UPPERCASE))
+        match rest.first() {
+            Some(first) => match self.info(*first) {
+                Some(info) => self.is_in_run_of(info, before, rest),
+                None => false,
+            },
+            None => false,
+        }
+    }
+
+    /// The same, given the info of the first character.
+    pub fn is_in_run_of(&self, info: &Info, before: Class, rest: &[char]) -> bool
+        requires { first_info self.now rest.now ≡ Some info.now }
+        ensures { result ≡ is_in_run self.now before rest.now }
+    {
+        if !info.classes.intersects(Class::UPPERCASE) || !self.has_word_capitals() {
+            return false;
+        }
+        before.intersects(Class::UPPERCASE) || self.classes_at(rest, 1).intersects(Class::UPPERCASE)
     }
 
     /// The context after one more character, given its info.

@@ -1,12 +1,12 @@
 //! Laws of the definitions, for proofs in the crates above. Each function has an empty body; its
 //! contract is the law.
-ghost use Rattle.std.specs.Prelude.{◌≡◌, ◌++◌, ◌+◌, ◌<◌, ◌≤◌, ◌↔◌, ℕ, false, IsTrue, [], List, length, take, drop, slice_get, Some};
+ghost use Rattle.std.specs.Prelude.{◌≡◌, ◌++◌, ◌+◌, ◌<◌, ◌≤◌, ◌↔◌, ℕ, false, AllPairs, IsTrue, [], List, length, take, drop, slice_get, Some};
 ghost use Rattle.brl_table.specs.declared.class.Class.{Class};
 ghost use Rattle.brl_table.specs.declared.context.Context.{Context};
 ghost use Rattle.brl_table.specs.declared.rule.Rule.{Rule};
 ghost use Rattle.brl_table.specs.Choice.{fits, by_rule, own, chosen};
 ghost use Rattle.brl_table.specs.Position.{FitsAt, IsFirstThatFits};
-ghost use Rattle.brl_table.specs.Rank.{in_rank, IsRanking};
+ghost use Rattle.brl_table.specs.Rank.{in_rank, IsInRank, IsRanking};
 ghost use Rattle.brl_table.specs.Rest.{translation_of_rest, TakesOneRule};
 ghost use Rattle.brl_table.specs.declared.signs.Sign.{Sign};
 ghost use Rattle.brl_table.specs.Signs.{by_sign, cells_at, is_same_sign};
@@ -21,10 +21,11 @@ pub fn signs_law()
     ensures same { (sign other : Sign) → IsTrue (is_same_sign sign other) → sign ≡ other }
 {}
 
-/// Rules have one ranking only, which `in_rank` computes.
+/// Rules have one ranking only, which `in_rank` computes. In rank, longer rules come first.
 pub fn rank_law()
     ensures one { (lines one other : List Rule) → IsRanking lines one → IsRanking lines other → one ≡ other }
     ensures computed { (lines : List Rule) → IsRanking lines (in_rank lines) }
+    ensures longer_first { (rules : List Rule) → IsInRank rules → AllPairs (λ r s. length s.chars ≤ length r.chars) rules }
 {}
 
 /// Which rule is chosen. A rule fits at the start of a rest exactly where it fits at that position

@@ -1,6 +1,6 @@
 //! The places where a rule may be used, and the conditions of each on the rule's neighbours.
 ghost use Rattle.std.specs.Prelude.{◌≡◌};
-ghost use Rattle.brl_table.specs.Places.{holds as does_hold, conditions_of, before_of, after_of};
+ghost use Rattle.brl_table.specs.Places.{holds as does_hold, conditions_of, before_of, after_of, is_placed as does_place};
 
 use crate::Class;
 use bitflags::Flags;
@@ -67,6 +67,13 @@ impl Place {
         ensures { result ≡ after_of self before }
     {
         self.conditions(before).after
+    }
+
+    /// Whether it is any but `always`.
+    pub fn is_placed(self) -> bool
+        ensures { result ≡ does_place self }
+    {
+        self != Place::Always
     }
 
     /// Both conditions, where the character before the rule has these classes.

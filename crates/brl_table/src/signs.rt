@@ -1,5 +1,5 @@
 //! The indicators, and the cells that a table gives them.
-ghost use Rattle.std.specs.Prelude.{◌≡◌, ◌<◌, ◌≤◌, ◌↔◌, ◌++◌, ℕ, IsTrue, OnOk, length};
+ghost use Rattle.std.specs.Prelude.{◌≡◌, ◌<◌, ◌≤◌, ◌↔◌, ◌++◌, ℕ, Bool, false, IsTrue, OnOk, length};
 ghost use Rattle.brl_table.specs.Indicators.{is_used, signs_before, signs_of, used_cells};
 ghost use Rattle.brl_table.specs.declared.signs.Sign.{Sign as SignView};
 ghost use Rattle.brl_table.specs.Signs.{cells_at, no_cells, sign_number, with_cells};
@@ -118,6 +118,9 @@ impl Table {
     ) -> Result<(), AllocError>
         ensures { OnOk result (cells.new.items ≡ cells.old.items ++ signs_of self.now here run info.now) }
     {
+        if !may_use_signs(here, info) {
+            return Ok(());
+        }
         self.push_sign(here, run, info, Sign::EndCapsWord, cells)?;
         self.push_sign(here, run, info, Sign::NoContractSign, cells)?;
         self.push_sign(here, run, info, Sign::NumSign, cells)?;
@@ -142,6 +145,13 @@ impl Table {
         }
         Ok(())
     }
+}
+
+/// Whether any indicator may be used before a character with this info: it may for few characters.
+fn may_use_signs(here: Context, info: &Info) -> bool
+    ensures { result ≡ false → (run : Bool) (sign : SignView) → is_used here run info.now sign ≡ false }
+{
+    here.run || info.nocont || info.literary || info.classes.intersects(Class::UPPERCASE)
 }
 
 /// Whether an indicator is used before a character with this info, which is in a run of capitals or

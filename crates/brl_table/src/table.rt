@@ -2,8 +2,9 @@
 ghost use Rattle.std.specs.Prelude.{◌≡◌, ◌<◌, ◌≤◌, ◌∷◌, [], ℕ, List, length, map, slice_get, Some, IfOk, OnOk, IfSome, option_copied};
 ghost use Rattle.std.specs.List.Sorted.{IsPermutation};
 ghost use Rattle.std.specs.Option.{option_map_or};
+ghost use Rattle.std.specs.Ordering.{is_lt};
 ghost use Rattle.brl_table.specs.Limits.{AreParts, IsTable};
-ghost use Rattle.brl_table.specs.Rank.{IsInRank, IsRanking};
+ghost use Rattle.brl_table.specs.Rank.{IsInRank, IsRanking, outranks};
 ghost use Rattle.brl_table.specs.TableView.{info_of, sign_cells};
 ghost use Rattle.brl_table.specs.Text.{classes_at as classes_there, classes_of};
 ghost use Rattle.brl_table.specs.Tree.{ends_at, ends_of};
@@ -13,6 +14,7 @@ use crate::tree::{Node, RuleTree};
 use crate::{Class, Info, Notice, Rule, Sign, TableParts};
 use brl_cells::Cell;
 use std::alloc::AllocError;
+use std::cmp::Ordering;
 use std::marker::Model;
 
 /// A braille table. A contract sees a `TableView`.
@@ -146,11 +148,20 @@ impl Table {
     }
 }
 
-/// Puts rules in rank: longer ones first, and those of one length in the order that they have.
+/// Puts rules in rank: longer ones first, of one length those that are placed before `always` rules,
+/// and else in the order that they have.
 fn rank(rules: &mut Vec<Rule>) -> Result<(), AllocError>
     ensures ranking { OnOk result (IsRanking rules.old.items rules.new.items) }
     ensures permutation { IsPermutation rules.old.items rules.new.items }
 {
-    rules.sort_by(|a, b| b.chars.len().cmp(&a.chars.len()))?;
+    rules.sort_by(|a, b| order_of(a, b))?;
     Ok(())
+}
+
+/// The order of two rules in rank, where that of their lines doesn't decide.
+fn order_of(rule: &Rule, other: &Rule) -> Ordering
+    ensures { is_lt result ≡ outranks rule.now other.now }
+{
+    let by_length = other.chars.len().cmp(&rule.chars.len());
+    by_length.then(other.place.is_placed().cmp(&rule.place.is_placed()))
 }

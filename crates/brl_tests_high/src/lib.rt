@@ -17,3 +17,5 @@ mod lines;
 mod report;
 #[cfg(test)]
 mod search;
+#[cfg(test)]
+mod without;

@@ -17,6 +17,7 @@ certified: 1 pairs, 3 states|letter a 1; letter b 12; letter x 1-12; always ab 1
 certified: 0 pairs, 2 states|letter a 1; letter b 12
 certified|letter a 1; letter a 12
 certified|space \\s 0; letter b 12; letter u 136; letter t 2345; word but 12; word b 56-12
+certified: 0 pairs, 6 states|letter a 1; letter b 12; always ab 14; word ab 15
 certified|letter a 1; litdigit 1 1; numsign 3456; nocontractsign 56; numericnocontchars a
 certified: 0 pairs|space \\s 0; letter a 1; letter b 12; letter c 14; always abcabc 25
 clashing|letter a 1; letter b 12; letter x 1-12

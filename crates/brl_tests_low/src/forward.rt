@@ -12,7 +12,9 @@ use std::test::Fail;
 const TRANSLATIONS: &str = "\
 letter a 1; letter b 12; letter x 1-12; always ab 14|aab|1-14
 space \\s 0; letter b 12; letter u 136; letter t 2345; word but 12; word b 56-12|b but|56-12-0-12
-letter a 1; letter b 12; always ab 14; word ab 15|ab|14
+letter a 1; letter b 12; always ab 14; word ab 15|ab|15
+letter a 1; letter b 12; always ab 14; word ab 15|aab|1-14
+letter a 1; letter b 12; always ab 14; word a 15|ab|14
 letter a 1; letter b 12; always a 14; always ab 15|ab|15
 uplow Aa 1; uplow Bb 12; capsletter 6; endcapsword 6-3|ABb|6-1-6-12-12
 uplow Aa 1; litdigit 2 12; numsign 3456; begcapsword 6-6; endcapsword 6-3|AA2A|6-6-1-1-3456-12-1

@@ -29,7 +29,9 @@ const TABLES: &str = "\
 letter a 1; punctuation a 12|a 1 10 at 1;again a at 2;
 space a 1; digit b 1; lowercase c 1; uppercase d 1; sign e 1; math f 1|a 1 1 at 1;b 1 4 at 2;c 1 24 at 3;d 1 40 at 4;e 1 64 at 5;f 1 128 at 6;
 letter a 1; always a 14; always a 15|a 1 8 at 1;Always a 14 at 2;Always a 15 at 3;
-letter a 1; letter b 12; always a 14; always ab 15; word b 16; always ba 17|a 1 8 at 1;b 12 8 at 2;Always ab 15 at 4;Always ba 17 at 6;Always a 14 at 3;Word b 16 at 5;
+letter a 1; letter b 12; always a 14; always ab 15; word b 16; always ba 17|a 1 8 at 1;b 12 8 at 2;Always ab 15 at 4;Always ba 17 at 6;Word b 16 at 5;Always a 14 at 3;
+letter a 1; letter b 12; always ab 14; word ab 15|a 1 8 at 1;b 12 8 at 2;Word ab 15 at 4;Always ab 14 at 3;
+letter a 1; always a 14; endword a 15; always aa 16; begnum a 17; word aa 18|a 1 8 at 1;Word aa 18 at 6;Always aa 16 at 4;Endword a 15 at 3;Begnum a 17 at 5;Always a 14 at 2;
 letter a 1; letter b 12; noback always ab 14; nofor always ba 15; display \\x2801 1|a 1 8 at 1;b 12 8 at 2;Always ab 14 at 3;
 always ab =; letter a 1; letter b 12|a 1 8 at 2;b 12 8 at 3;Always ab 1-12 at 1;
 letter a 1; letter b 12-3; always aba =|a 1 8 at 1;b 12-3 8 at 2;Always aba 1-12-3-1 at 3;

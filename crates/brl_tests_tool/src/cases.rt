@@ -28,6 +28,8 @@ t.ctb: space \\s 0; letter b 12; letter u 136; letter t 2345; word but 12; word 
 t.ctb: space \\s 0; letter a 1; letter b 12; punctuation . 256; begword ab 14; endword ab 15; word ab 16; midword ab 24|brl,translate,t.ctb|ab aba aab aaba ab.|* CA AE AIA *4||0
 t.ctb: space \\s 0; letter a 1; letter b 12; partword ab 14|brl,translate,t.ctb|ab aba aab|AB CA AC||0
 t.ctb: letter a 1; always a 14; always a 15|brl,translate,t.ctb|a|C||0
+t.ctb: letter a 1; letter b 12; always ab 14; word ab 15|brl,translate,t.ctb|ab|E||0
+t.ctb: letter a 1; letter b 12; always ab 14; word ab 15|brl,translate,t.ctb|aab|AC||0
 t.ctb: letter a 1; letter b 12; noback always ab 14; nofor always ba 15; display \\x2801 1|brl,translate,t.ctb|abba|CBA||0
 t.ctb: letter a 1; always ab 14|brl,translate,t.ctb|||B5 UndefinedInRule ab at t.ctb:2|2
 t.ctb: letter a 1; nofor always ab 14|brl,translate,t.ctb|||B5 UndefinedInRule ab at t.ctb:2|2
@@ -147,6 +149,7 @@ t.ctb: letter a 1 & c: BRLCERT 2; state 1 0; end 1 0|brl,check,t.ctb,c||refused:
 t.ctb: uplow Aa 1 & c: BRLCERT 2; state 1 0; state 24 0; state 40 0; pair 1 2 -; end 3 1|brl,check,t.ctb,c||refused: A4 PairMissing pair 0 rule 0||1
 t.ctb: uplow Aa 1 & c: BRLCERT 2; state 1 0; state 24 0; state 40 0; pair 1 2 -; pair 1 1 -; pair 2 2 -; pair 2 1 1; pair 1 1 1; pair 2 2 1; pair 1 2 1; end 3 7|brl,check,t.ctb,c||refused: A5 BothEnd pair 0||1
 t.ctb: letter a 1 & c: BRLCERT 2; state 1 0 n*; end 1 0|brl,check,t.ctb,c||refused: K2 Syntax line 2||1
+t.ctb: letter a 1; letter b 12; always ab 14; word ab 15 & c: BRLCERT 3; state 1 0 0; state 8 0 0; state 8 0 0 b62* b62+3; state 8 0 0 b62*; end 4 0|brl,check,t.ctb,c||refused: A2 StateMissing state 0 rule 0||1
 t.ctb: pass2 @1 @2 & c: BRLCERT 1; end 0 0|brl,check,t.ctb,c|||B1 OutsideProfile pass2 at t.ctb:1|2
 t.ctb: include t.ctb & c: BRLCERT 1; end 0 0|brl,check,t.ctb,c|||L4 Cycle t.ctb at t.ctb:1|2
 |brl,check,t.ctb,c|||L1 NotFound c|2
@@ -188,6 +191,37 @@ t.ctb: letter a 19|brl,trace,t.ctb,a|||B4 BadDots 19 at t.ctb:1|2
 |brl,trace,t.ctb,a|||L1 NotFound t.ctb|2
 ";
 
+/// Searches and checks without some characters, in the same form.
+pub const WITHOUT: &str = "\
+t.ctb: space \\s 0; space \\x00a0 0; letter a 1; letter b 12|brl,search,t.ctb,o,--without,\\x00a0||certified: 2 states, 0 pairs; without: \u{a0}||0
+t.ctb: space \\s 0; space \\x00a0 0; letter a 1; letter b 12|brl,search,t.ctb,o,--without,\\s||certified: 2 states, 0 pairs; without: \\s||0
+t.ctb: space \\s 0; space \\x00a0 0; letter a 1; letter b 12; letter x 1-12|brl,search,t.ctb,o,--without,\\x00a0||left: x; right: ab; cells: 1-12; left from 0:;   x  1-12  t.ctb:5; right from 0:;   a  1   t.ctb:3;   b  12  t.ctb:4||1
+t.ctb: space \\s 0; space \\x00a0 0; letter a 1; letter b 12; letter x 1-12|brl,search,t.ctb,o,--without,x\\x00a0||certified: 2 states, 0 pairs; without: x\u{a0}||0
+t.ctb: letter a 1; letter b 12; letter c 14; letter d 145; always abc 145|brl,search,t.ctb,o,--without,b||certified: 3 states, 0 pairs; without: b||0
+t.ctb: letter a 1|brl,search,t.ctb,o,--without,a||certified: 1 states, 0 pairs; without: a||0
+t.ctb: letter a 1; letter b 12|brl,search,t.ctb,o,--without,ba||certified: 1 states, 0 pairs; without: ba||0
+t.ctb: letter a 1; letter b 12|brl,search,t.ctb,o,--without,aa||certified: 2 states, 0 pairs; without: aa||0
+t.ctb: letter a 1|brl,search,t.ctb,o,--without,||certified: 2 states, 0 pairs||0
+t.ctb: letter a 1; letter b 12; letter x 1-12|brl,search,t.ctb,o,--limit,0,--without,x||limit: 1 states, 0 pairs||3
+t.ctb: letter a 1|brl,search,t.ctb,o,--without,b|||U8 UndefinedLeftOut b|2
+t.ctb: letter a 1; letter b 12|brl,search,t.ctb,o,--without,abzy|||U8 UndefinedLeftOut z|2
+t.ctb: letter a 1|brl,search,t.ctb,o,--without,\\n|||U8 UndefinedLeftOut \\n|2
+t.ctb: letter a 1; letter a 1|brl,search,t.ctb,o,--without,b|||U8 UndefinedLeftOut b|2
+t.ctb: letter a 19|brl,search,t.ctb,o,--without,b|||B4 BadDots 19 at t.ctb:1|2
+|brl,search,t.ctb,o,--without,a\\q|||U9 BadLeftOut a\\q|2
+|brl,check,t.ctb,c,--without,\\x12|||U9 BadLeftOut \\x12|2
+t.ctb: letter a 1 & c: BRLCERT 3; state 1 0 0; end 1 0|brl,check,t.ctb,c,--without,a||accepted: 1 states, 0 pairs; without: a||0
+t.ctb: letter a 1 & c: BRLCERT 3; state 1 0 0; end 1 0|brl,check,t.ctb,c||refused: A2 StateMissing state 0 rule 0||1
+t.ctb: letter a 1; letter b 12; letter x 1-12 & c: BRLCERT 3; state 1 0 0; state 8 0 0; end 2 0|brl,check,t.ctb,c,--without,x||accepted: 2 states, 0 pairs; without: x||0
+t.ctb: letter a 1; letter b 12 & c: BRLCERT 3; state 1 0 0; state 8 0 0; end 2 0|brl,check,t.ctb,c,--without,a||accepted: 2 states, 0 pairs; without: a||0
+t.ctb: letter a 1; letter b 12; letter x 1-12 & c: BRLCERT 2; state 1 0; state 8 0; end 2 0|brl,check,t.ctb,c,--without,b||refused: A3 SplitMissing state 0 rules 0 2||1
+t.ctb: letter a 1; letter b 1 & c: BRLCERT 1; state 1 0 0 -; state 8 0 0 61; state 8 0 0 62; state 8 0 1 -; pair 1 2 -; pair 1 3 -; pair 2 3 -; end 4 3|brl,check,t.ctb,c,--without,b||accepted: 4 states, 3 pairs; without: b||0
+t.ctb: letter a 1; letter b 1 & c: BRLCERT 1; state 1 0 0 -; state 8 0 0 61; state 8 0 0 62; state 8 0 1 -; pair 1 2 -; pair 1 3 -; pair 2 3 -; end 4 3|brl,check,t.ctb,c||refused: A3 SplitMissing state 0 rules 0 1||1
+t.ctb: letter a 1 & c: BRLCERT 9|brl,check,t.ctb,c,--without,ab|||U8 UndefinedLeftOut b|2
+t.ctb: letter a 1 & c: BRLCERT 9|brl,check,t.ctb,c,--without,a||refused: K1 Version line 1||1
+t.ctb: uplow Aa 1; begcapsword 6-6 & c: BRLCERT 2; end 0 0|brl,check,t.ctb,c,--without,A||refused: K9 OldVersion line 1||1
+";
+
 /// Tables for which a search finds a certificate, each with its notices.
 pub const CERTIFIED: &str = "\
 letter a 1; letter b 12; letter x 1-12; always ab 14|
@@ -206,6 +240,7 @@ letter a 1; letter b 12; letter c 14; always ab 14
 space \\s 0; letter b 12; letter u 136; letter t 2345; word but 12
 letter a 1; litdigit 1 1; numsign 3456
 uplow Aa 1
+letter a 1; letter b 12; letter c 14; letter d 145; always abc 145
 ";
 
 /// The words, over no files; a text that is written to standard output and one to standard error,
@@ -224,6 +259,10 @@ brl,translate,--nothing,t.ctb||unexpected argument '--nothing'|2
 brl,translate,--form,unicode,t.ctb||L1 NotFound t.ctb|2
 brl,translate,--form,latin,t.ctb||invalid value 'latin' for '--form <FORM>'|2
 brl,translate,--help|[possible values: ascii, unicode]||0
+brl,search,--help|--without <CHARS>||0
+brl,check,--help|--without <CHARS>||0
+brl,check,t.ctb,c,--without||a value is required for '--without <CHARS>'|2
+brl,clash,t.ctb,a,b,--without,a||unexpected argument '--without'|2
 brl,--nothing||unexpected argument '--nothing'|2
 brl,clash,t.ctb,a,b||L1 NotFound t.ctb|2
 brl,clash,--help|brl clash alike.ctb ab x||0

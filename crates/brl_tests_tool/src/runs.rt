@@ -137,7 +137,8 @@ fn worked_runs(rt: HostRuntime) -> Result<(), Fail> {
     check_rows(&rt, rt.alloc(), cases::CHECKS)?;
     check_rows(&rt, rt.alloc(), cases::SEARCHES)?;
     check_rows(&rt, rt.alloc(), cases::SURVEYS)?;
-    check_rows(&rt, rt.alloc(), cases::TRACES)
+    check_rows(&rt, rt.alloc(), cases::TRACES)?;
+    check_rows(&rt, rt.alloc(), cases::WITHOUT)
 }
 
 /// Whether what was written has a text that isn't empty; of the empty text, whether nothing was

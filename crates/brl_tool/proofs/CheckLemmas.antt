@@ -1,6 +1,6 @@
 -- What is answered for the judge's outcome, by the source as it was before the certificate's file was read.
 use Rattle.std.proofs.Common.{◌≡◌, ℕ, ◌<◌, List, [], ◌∷◌, length, ◌⊎◌, inl, inr, Result, Ok, Err, IfOk, IfErr, arith, refl, subst, sym}
-use Rattle.brl_accept.specs.Judging.{IsAccepted, IsRefusedBy}
+use Rattle.brl_accept.specs.Judging.{IsAcceptedWithout, IsRefusedByWithout}
 use Rattle.brl_accept.specs.declared.checker.Accepted.{Accepted}
 use Rattle.brl_accept.specs.declared.judge_fault.JudgeFault.{JudgeFault}
 use Rattle.brl_accept.specs.declared.judge_fault.JudgeFault.TheVariants as judge
@@ -19,11 +19,11 @@ use Rattle.brl_reading.specs.Files.{IsFaultAt, IsTableOf}
 use Rattle.brl_reading.specs.declared.no_table.NoTable.{NoTable}
 use Rattle.brl_reading.specs.declared.no_table.NoTable.TheVariants as no_table
 use Rattle.brl_table.specs.TableView.{TableView}
-use Rattle.brl_table.specs.Translation.{IsUnambiguous}
 use Rattle.brl_tool.specs.Answers.{AcceptsGood, Checks, IsAcceptance, IsFaultOfFile, IsRefusal, LacksBytes, Tells, UnlessMemory}
 use Rattle.brl_tool.specs.declared.answer.Answer.{Answer}
 use Rattle.brl_tool.specs.declared.run_fault.RunFault.{RunFault}
-use Rattle.brl_tool.specs.declared.run_fault.RunFault.TheVariants.{Load, Table, Stream, Confirm, Text, Wide, WouldOverwrite, OutputFailed, CannotWrite, Memory}
+use Rattle.brl_tool.specs.declared.run_fault.RunFault.TheVariants.{Load, Table, Stream, Confirm, Text, Wide, WouldOverwrite, OutputFailed, CannotWrite, Memory, BadLeftOut, NotDefined}
+use Rattle.brl_without.specs.Tables.{IsUnambiguousWithout}
 
 -- ---- What one source gives, another may give
 
@@ -45,19 +45,20 @@ module _ (from to : MayGive) (moves : (p : List ℕ) (a : FileAnswer) → from p
   fault_moved path (no_table.Load fault) h = load_fault_moved path fault h
   fault_moved path (no_table.Table fault) h = (h.0, lines_moved path h.0 h.1, h.2)
 
-  refused_moved : (path bytes : List ℕ) (fault : JudgeFault) → IsRefusedBy from path bytes fault → IsRefusedBy to path bytes fault
-  refused_moved path bytes (judge.NoTable fault) h = fault_moved path fault h
-  refused_moved path bytes (judge.Cert fault) h = (h.0, table_moved path h.0 h.1, h.2, h.3)
-  refused_moved path bytes judge.OldVersion h = (h.0, table_moved path h.0 h.1, h.2, h.3)
-  refused_moved path bytes (judge.Wide fault) h = (h.0, table_moved path h.0 h.1, h.2, h.3)
-  refused_moved path bytes (judge.Refused fault) h = (h.0, table_moved path h.0 h.1, h.2, h.3)
+  refused_moved : (left_out path bytes : List ℕ) (fault : JudgeFault) → IsRefusedByWithout left_out from path bytes fault → IsRefusedByWithout left_out to path bytes fault
+  refused_moved left_out path bytes (judge.NoTable fault) h = fault_moved path fault h
+  refused_moved left_out path bytes (judge.NotDefined fault) h = (h.0, table_moved path h.0 h.1, h.2, h.3)
+  refused_moved left_out path bytes (judge.Cert fault) h = (h.0, table_moved path h.0 h.1, h.2, h.3)
+  refused_moved left_out path bytes judge.OldVersion h = (h.0, table_moved path h.0 h.1, h.2, h.3)
+  refused_moved left_out path bytes (judge.Wide fault) h = (h.0, table_moved path h.0 h.1, h.2, h.3)
+  refused_moved left_out path bytes (judge.Refused fault) h = (h.0, table_moved path h.0 h.1, h.2, h.3)
 
-  pub failed_moved : (path bytes : List ℕ) (failure : Failure JudgeFault) → IfFault (IsRefusedBy from path bytes) failure → IfFault (IsRefusedBy to path bytes) failure
-  failed_moved path bytes failure h = if_fault-weaker (IsRefusedBy from path bytes) (IsRefusedBy to path bytes) failure (refused_moved path bytes) h
+  pub failed_moved : (left_out path bytes : List ℕ) (failure : Failure JudgeFault) → IfFault (IsRefusedByWithout left_out from path bytes) failure → IfFault (IsRefusedByWithout left_out to path bytes) failure
+  failed_moved left_out path bytes failure h = if_fault-weaker (IsRefusedByWithout left_out from path bytes) (IsRefusedByWithout left_out to path bytes) failure (refused_moved left_out path bytes) h
 
 -- ---- The judge's outcome
 
-module _ (gives after : MayGive) (same : AllStay gives after) (path cert bytes : List ℕ) (holds : gives cert (Holds bytes)) where
+module _ (left_out : List ℕ) (gives after : MayGive) (same : AllStay gives after) (path cert bytes : List ℕ) (holds : gives cert (Holds bytes)) where
   back : (p : List ℕ) (a : FileAnswer) → after p a → gives p a
   back p a = (same p a).0
 
@@ -65,7 +66,7 @@ module _ (gives after : MayGive) (same : AllStay gives after) (path cert bytes :
   forth p a = (same p a).1
 
   -- an answer, unless memory ran out
-  unless : (is : Answer → Type 0) (result : Result Answer RunFault) → UnlessMemory is result → ((answer : Answer) → is answer → Checks gives path cert (Ok answer)) → Checks gives path cert result
+  unless : (is : Answer → Type 0) (result : Result Answer RunFault) → UnlessMemory is result → ((answer : Answer) → is answer → Checks left_out gives path cert (Ok answer)) → Checks left_out gives path cert result
   unless is (Ok answer) h then = then answer h
   unless is (Err Memory) h then = inr (bytes, holds, tt)
   unless is (Err (Load fault)) h then = absurd h
@@ -74,17 +75,20 @@ module _ (gives after : MayGive) (same : AllStay gives after) (path cert bytes :
   unless is (Err (Confirm fault)) h then = absurd h
   unless is (Err (Text fault)) h then = absurd h
   unless is (Err (Wide fault)) h then = absurd h
+  unless is (Err (BadLeftOut named)) h then = absurd h
+  unless is (Err (NotDefined fault)) h then = absurd h
   unless is (Err (WouldOverwrite named)) h then = absurd h
   unless is (Err OutputFailed) h then = absurd h
   unless is (Err (CannotWrite named)) h then = absurd h
 
   -- a fault is answered as it is
-  as_it_is : (fault : RunFault) (result : Result Answer RunFault) → Checks gives path cert (Err fault) → result ≡ Err fault → Checks gives path cert result
-  as_it_is fault result is e = subst (Checks gives path cert) (sym e) is
+  as_it_is : (fault : RunFault) (result : Result Answer RunFault) → Checks left_out gives path cert (Err fault) → result ≡ Err fault → Checks left_out gives path cert result
+  as_it_is fault result is e = subst (Checks left_out gives path cert) (sym e) is
 
-  refused_as : (failure : Failure JudgeFault) → IfFault (IsRefusedBy gives path bytes) failure → (result : Result Answer RunFault) → Tells (Err failure) result → Checks gives path cert result
+  refused_as : (failure : Failure JudgeFault) → IfFault (IsRefusedByWithout left_out gives path bytes) failure → (result : Result Answer RunFault) → Tells left_out (Err failure) result → Checks left_out gives path cert result
   refused_as (failures.Fault (judge.NoTable (no_table.Load fault))) h result told = as_it_is (Load fault) result (inr (bytes, holds, h)) told
   refused_as (failures.Fault (judge.NoTable (no_table.Table fault))) h result told = as_it_is (Table fault) result (inr (bytes, holds, h)) told
+  refused_as (failures.Fault (judge.NotDefined fault)) h result told = as_it_is (NotDefined fault) result (inr (bytes, holds, h)) told
   refused_as (failures.Fault (judge.Cert fault)) h result told = unless IsRefusal result told (λ answer is. (bytes, holds, inr (judge.Cert fault, tt, h, is)))
   refused_as (failures.Fault judge.OldVersion) h result told = unless IsRefusal result told (λ answer is. (bytes, holds, inr (judge.OldVersion, tt, h, is)))
   refused_as (failures.Fault (judge.Wide fault)) h result told = as_it_is (Wide fault) result (inr (bytes, holds, h)) told
@@ -93,32 +97,32 @@ module _ (gives after : MayGive) (same : AllStay gives after) (path cert bytes :
 
   -- the answer to a judge's outcome is one about the table of the path
   pub judged : (outcome : Result Accepted (Failure JudgeFault))
-      → IfOk outcome (λ accepted. (t : TableView) × IsTableOf after path t × IsUnambiguous t × IsAccepted t bytes accepted)
-      → IfErr outcome (IfFault (IsRefusedBy after path bytes))
-      → (result : Result Answer RunFault) → Tells outcome result → Checks gives path cert result
+      → IfOk outcome (λ accepted. (t : TableView) × IsTableOf after path t × IsUnambiguousWithout left_out t × IsAcceptedWithout left_out t bytes accepted)
+      → IfErr outcome (IfFault (IsRefusedByWithout left_out after path bytes))
+      → (result : Result Answer RunFault) → Tells left_out outcome result → Checks left_out gives path cert result
   judged (Ok accepted) is refused result told =
-      unless (IsAcceptance accepted) result told (λ answer says. (bytes, holds, inl (is.0, table_moved after gives back path is.0 is.1, is.2, (accepted, is.3, says))))
-  judged (Err failure) is refused result told = refused_as failure (failed_moved after gives back path bytes failure refused) result told
+      unless (IsAcceptance left_out accepted) result told (λ answer says. (bytes, holds, inl (is.0, table_moved after gives back path is.0 is.1, is.2, (accepted, is.3, says))))
+  judged (Err failure) is refused result told = refused_as failure (failed_moved after gives back left_out path bytes failure refused) result told
 
   -- a good certificate is accepted, unless memory ran out
   pub accepted_good : (outcome : Result Accepted (Failure JudgeFault))
-      → (GivesOneAnswer after → (t : TableView) → IsTableOf after path t → (accepted : Accepted) → IsAccepted t bytes accepted → (outcome ≡ Ok accepted) ⊎ (outcome ≡ Err failures.Memory))
-      → (result : Result Answer RunFault) → Tells outcome result → AcceptsGood gives path cert result
+      → (GivesOneAnswer after → (t : TableView) → IsTableOf after path t → (accepted : Accepted) → IsAcceptedWithout left_out t bytes accepted → (outcome ≡ Ok accepted) ⊎ (outcome ≡ Err failures.Memory))
+      → (result : Result Answer RunFault) → Tells left_out outcome result → AcceptsGood left_out gives path cert result
   accepted_good outcome decides result told one certificate there short t table accepted deserved =
       let are : certificate ≡ bytes = same_bytes (one cert (Holds certificate) (Holds bytes) there holds) in
-      let decided = decides (λ p a b h k. one p a b (back p a h) (back p b k)) t (table_moved gives after forth path t table) accepted (subst (λ (b : List ℕ). IsAccepted t b accepted) are deserved) in
+      let decided = decides (λ p a b h k. one p a b (back p a h) (back p b k)) t (table_moved gives after forth path t table) accepted (subst (λ (b : List ℕ). IsAcceptedWithout left_out t b accepted) are deserved) in
       elim decided [
-        | inl ok ↦ subst (λ (o : Result Accepted (Failure JudgeFault)). Tells o result) ok told
-        | inr err ↦ subst (UnlessMemory (IsAcceptance accepted)) (sym (subst (λ (o : Result Accepted (Failure JudgeFault)). Tells o result) err told)) tt
+        | inl ok ↦ subst (λ (o : Result Accepted (Failure JudgeFault)). Tells left_out o result) ok told
+        | inr err ↦ subst (UnlessMemory (IsAcceptance left_out accepted)) (sym (subst (λ (o : Result Accepted (Failure JudgeFault)). Tells left_out o result) err told)) tt
       ]
     where
       same_bytes : {x y : List ℕ} → Holds x ≡ Holds y → x ≡ y
       same_bytes e = cc
 
 -- a file with few enough bytes is read, unless memory runs out
-pub has_bytes : (gives : MayGive) (path cert : List ℕ) (fault : RunFault) → IsFaultOfFile gives cert fault → AcceptsGood gives path cert (Err fault)
-has_bytes gives path cert fault h one bytes there short t table accepted deserved =
-    subst (λ (f : RunFault). UnlessMemory (IsAcceptance accepted) (Err f)) (sym (by_fault fault h)) tt
+pub has_bytes : (left_out : List ℕ) (gives : MayGive) (path cert : List ℕ) (fault : RunFault) → IsFaultOfFile gives cert fault → AcceptsGood left_out gives path cert (Err fault)
+has_bytes left_out gives path cert fault h one bytes there short t table accepted deserved =
+    subst (λ (f : RunFault). UnlessMemory (IsAcceptance left_out accepted) (Err f)) (sym (by_fault fault h)) tt
   where
     other : (a : FileAnswer) → gives cert a → Holds bytes ≡ a
     other a given = one cert (Holds bytes) a there given
@@ -146,6 +150,8 @@ has_bytes gives path cert fault h one bytes there short t table accepted deserve
     by_fault (Confirm fault) k = absurd k
     by_fault (Text fault) k = absurd k
     by_fault (Wide fault) k = absurd k
+    by_fault (BadLeftOut named) k = absurd k
+    by_fault (NotDefined fault) k = absurd k
     by_fault (WouldOverwrite named) k = absurd k
     by_fault OutputFailed k = absurd k
     by_fault (CannotWrite named) k = absurd k

@@ -6,7 +6,7 @@ use Rattle.brl_tool.specs.Files.{FilesAfter, IsPutInto, OthersStay}
 use Rattle.brl_tool.specs.declared.answer.Answer.{Answer}
 use Rattle.brl_tool.specs.declared.answer.NewFile.{NewFile}
 use Rattle.brl_tool.specs.declared.run_fault.RunFault.{RunFault}
-use Rattle.brl_tool.specs.declared.run_fault.RunFault.TheVariants.{Load, Table, Stream, Confirm, Text, Wide, WouldOverwrite, OutputFailed, CannotWrite, Memory}
+use Rattle.brl_tool.specs.declared.run_fault.RunFault.TheVariants.{Load, Table, Stream, Confirm, Text, Wide, WouldOverwrite, OutputFailed, CannotWrite, Memory, BadLeftOut, NotDefined}
 use Rattle.brl_tool.specs.declared.status.Status.{Status}
 
 -- ---- A read before the delivery changes nothing
@@ -31,6 +31,8 @@ module _ (before between after : MayGive) (same : AllStay before between) where
   put_after file (Confirm fault) is = absurd is
   put_after file (Text fault) is = absurd is
   put_after file (Wide fault) is = absurd is
+  put_after file (BadLeftOut named) is = absurd is
+  put_after file (NotDefined fault) is = absurd is
   put_after file (WouldOverwrite named) is = absurd is
   put_after file OutputFailed is = absurd is
 
@@ -45,6 +47,8 @@ module _ (before between after : MayGive) (same : AllStay before between) where
   writes_after answer failed old new (Err (Confirm fault)) (still, (file, is, put)) = absurd put
   writes_after answer failed old new (Err (Text fault)) (still, (file, is, put)) = absurd put
   writes_after answer failed old new (Err (Wide fault)) (still, (file, is, put)) = absurd put
+  writes_after answer failed old new (Err (BadLeftOut named)) (still, (file, is, put)) = absurd put
+  writes_after answer failed old new (Err (NotDefined fault)) (still, (file, is, put)) = absurd put
   writes_after answer failed old new (Err (WouldOverwrite named)) (still, (file, is, put)) = absurd put
 
   pub delivered_after : (outcome : Result Answer RunFault) (failed : Type 0) (old new : Option (List ℕ)) (status : Status) → Delivers outcome between after failed old new status → Delivers outcome before after failed old new status
@@ -68,6 +72,8 @@ none_changes before after answer failed old new (Err (Stream fault)) none (still
 none_changes before after answer failed old new (Err (Confirm fault)) none (still, (file, is, put)) = absurd put
 none_changes before after answer failed old new (Err (Text fault)) none (still, (file, is, put)) = absurd put
 none_changes before after answer failed old new (Err (Wide fault)) none (still, (file, is, put)) = absurd put
+none_changes before after answer failed old new (Err (BadLeftOut named)) none (still, (file, is, put)) = absurd put
+none_changes before after answer failed old new (Err (NotDefined fault)) none (still, (file, is, put)) = absurd put
 none_changes before after answer failed old new (Err (WouldOverwrite named)) none (still, (file, is, put)) = absurd put
 
 -- ---- An answer whose file can't be written
@@ -81,6 +87,8 @@ not_put before after answer file failed text (Stream fault) is put = absurd put
 not_put before after answer file failed text (Confirm fault) is put = absurd put
 not_put before after answer file failed text (Text fault) is put = absurd put
 not_put before after answer file failed text (Wide fault) is put = absurd put
+not_put before after answer file failed text (BadLeftOut named) is put = absurd put
+not_put before after answer file failed text (NotDefined fault) is put = absurd put
 not_put before after answer file failed text (WouldOverwrite named) is put = absurd put
 not_put before after answer file failed text OutputFailed is put = absurd put
 

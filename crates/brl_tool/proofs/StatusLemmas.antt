@@ -8,10 +8,12 @@ use Rattle.brl_lines.specs.Answer.{AllStay, MayGive}
 use Rattle.brl_lines.specs.Lines.{Answers}
 use Rattle.brl_lines.specs.Outcome.{AreGiven}
 use Rattle.brl_reading.specs.Files.{IsTableOf, IsTableOfFiles}
-use Rattle.brl_search.specs.Searched.{certificate_of}
+use Rattle.brl_search.specs.Searched.{State, certificate_of}
+use Rattle.brl_accept.specs.Judging.{IsAcceptedWithout, counted}
+use Rattle.brl_edges.specs.Body.{BodyView}
 use Rattle.brl_table.specs.TableView.{TableView}
 use Rattle.brl_tool.proofs.DeliveryLemmas.{none_changes}
-use Rattle.brl_tool.specs.Answers.{Checks, ComparesByFile, IsComparison, IsFileOf, IsJudgement, SearchesByFile}
+use Rattle.brl_tool.specs.Answers.{ByLeftOut, Checks, ComparesByFile, IsComparison, IsFileOf, IsJudgement, Judges, SearchesByFile, accepted_line, certified_line, told_without}
 use Rattle.brl_tool.specs.Delivery.{Delivers}
 use Rattle.brl_tool.specs.Files.{FilesAfter, GivesAlso, MayBeSame, OthersStay}
 use Rattle.brl_tool.specs.Running.{ReportsAcceptance, ReportsCertificate, ReportsClash, ReportsRefusal}
@@ -21,9 +23,10 @@ use Rattle.brl_tool.specs.Tracing.{TracesByFile}
 use Rattle.brl_tool.specs.declared.answer.Answer.{Answer}
 use Rattle.brl_tool.specs.declared.answer.NewFile.{NewFile}
 use Rattle.brl_tool.specs.declared.run_fault.RunFault.{RunFault}
-use Rattle.brl_tool.specs.declared.run_fault.RunFault.TheVariants.{Load, Table, Stream, Confirm, Text, Wide, WouldOverwrite, OutputFailed, CannotWrite, Memory}
+use Rattle.brl_tool.specs.declared.run_fault.RunFault.TheVariants.{Load, Table, Stream, Confirm, Text, Wide, WouldOverwrite, OutputFailed, CannotWrite, Memory, BadLeftOut, NotDefined}
 use Rattle.brl_tool.specs.declared.status.Status.{Status}
 use Rattle.brl_tool.specs.declared.status.Status.TheVariants.{Done, Faulty, Refuted}
+use Rattle.brl_without.specs.Tables.{IsUnambiguousWithout}
 
 -- ---- No fault has the status of work that was done
 
@@ -34,6 +37,8 @@ never_done (Stream fault) e = cc
 never_done (Confirm fault) e = cc
 never_done (Text fault) e = cc
 never_done (Wide fault) e = cc
+never_done (BadLeftOut named) e = cc
+never_done (NotDefined fault) e = cc
 never_done (WouldOverwrite named) e = cc
 never_done OutputFailed e = cc
 never_done (CannotWrite named) e = cc
@@ -46,13 +51,15 @@ never_refuted (Stream fault) e = cc
 never_refuted (Confirm fault) e = cc
 never_refuted (Text fault) e = cc
 never_refuted (Wide fault) e = cc
+never_refuted (BadLeftOut named) e = cc
+never_refuted (NotDefined fault) e = cc
 never_refuted (WouldOverwrite named) e = cc
 never_refuted OutputFailed e = cc
 never_refuted (CannotWrite named) e = cc
 never_refuted Memory e = cc
 
 -- the table of some files is that of its root
-of_files : (gives : MayGive) (path : List ℕ) (paths : List (List ℕ)) (t : TableView) → IsTableOfFiles gives path paths t → IsTableOf gives path t
+pub of_files : (gives : MayGive) (path : List ℕ) (paths : List (List ℕ)) (t : TableView) → IsTableOfFiles gives path paths t → IsTableOf gives path t
 of_files gives path paths t (lines, (answers, given, are, lines_are), passes, is) = (lines, (answers, given, lines_are), passes, is)
 
 module _ (before after : MayGive) (failed : Type 0) (old new : Option (List ℕ)) where
@@ -87,42 +94,7 @@ module _ (before after : MayGive) (failed : Type 0) (old new : Option (List ℕ)
       let (answer, ok, refuted, files, appends) = whole Refuted never_refuted outcome status delivers same in
       clash_said path left right answer (subst (ComparesByFile before path left right) ok is) refuted appends
 
-  -- ---- `brl check`
-
-  judgement_changes_none : (path bytes : List ℕ) (answer : Answer) → IsJudgement before path bytes answer → answer.file ≡ None
-  judgement_changes_none path bytes answer is = elim is [
-    | inl (t, table, none, (accepted, deserved, says)) ↦ says.2
-    | inr (fault, of, refused, (rest, says)) ↦ says.2
-  ]
-
-  pub check_changes_none : (path cert : List ℕ) (outcome : Result Answer RunFault) (status : Status) → Checks before path cert outcome → Delivers outcome before after failed old new status → AllStay before after
-  check_changes_none path cert (Ok answer) status (bytes, holds, is) (written, writes, e) =
-      none_changes before after answer failed old new written (judgement_changes_none path bytes answer is) writes
-  check_changes_none path cert (Err fault) status is (stay, still, e) = stay
-
-  acceptance_said : (path cert : List ℕ) (answer : Answer) → Checks before path cert (Ok answer) → answer.status ≡ Done → Appends old new (string_bytes answer.text) → ReportsAcceptance before path old new
-  acceptance_said path cert answer (bytes, holds, is) done appends = elim is [
-    | inl (t, table, none, (accepted, deserved, says)) ↦ ((t, table, none), (accepted.states, accepted.pairs, subst (Appends old new) says.1 appends))
-    | inr (fault, of, refused, (rest, says)) ↦ let e = sym says.0 ∙ done in cc
-  ]
-
-  refusal_said : (path cert : List ℕ) (answer : Answer) → Checks before path cert (Ok answer) → answer.status ≡ Refuted → Appends old new (string_bytes answer.text) → ReportsRefusal old new
-  refusal_said path cert answer (bytes, holds, is) refuted appends = elim is [
-    | inl (t, table, none, (accepted, deserved, says)) ↦ let e = sym says.0 ∙ refuted in cc
-    | inr (fault, of, refused, (rest, says)) ↦ (rest, subst (Appends old new) says.1 appends)
-  ]
-
-  pub accepted_at_done : (path cert : List ℕ) (outcome : Result Answer RunFault) (status : Status) → Checks before path cert outcome → Delivers outcome before after failed old new status → status ≡ Done → ReportsAcceptance before path old new
-  accepted_at_done path cert outcome status is delivers same =
-      let (answer, ok, done, files, appends) = whole Done never_done outcome status delivers same in
-      acceptance_said path cert answer (subst (Checks before path cert) ok is) done appends
-
-  pub refused_at_refuted : (path cert : List ℕ) (outcome : Result Answer RunFault) (status : Status) → Checks before path cert outcome → Delivers outcome before after failed old new status → status ≡ Refuted → ReportsRefusal old new
-  refused_at_refuted path cert outcome status is delivers same =
-      let (answer, ok, refuted, files, appends) = whole Refuted never_refuted outcome status delivers same in
-      refusal_said path cert answer (subst (Checks before path cert) ok is) refuted appends
-
-  -- ---- `brl search`
+  -- ---- A file that is written
 
   file_written : (cert : Cert) (out : List ℕ) (file : Option NewFile) → IsFileOf cert out file → FilesAfter before after file → GivesAlso after out (spelling cert) × OthersStay before after out
   file_written cert out None is files = absurd is
@@ -140,33 +112,130 @@ module _ (before after : MayGive) (failed : Type 0) (old new : Option (List ℕ)
   table_stays path out paths t (lines, (answers, given, are, lines_are), passes, is) apart others =
       (lines, (answers, answers_stay out others answers (subst (All (λ one. one ≢ out)) (sym are) apart) given, lines_are), passes, is)
 
-  certificate_said : (same_file : MayBeSame) (path out : List ℕ) (limit : ℕ) (answer : Answer) → SearchesByFile before same_file path out limit (Ok answer) → answer.status ≡ Done → FilesAfter before after answer.file → Appends old new (string_bytes answer.text) → ReportsCertificate before after path out old new
-  certificate_said same_file path out limit answer (paths, t, table, apart, is) done files appends = elim is [
-    | inl (none, (body, certified, accepted, (status, text, file, read))) ↦
-        let (gives, others) = file_written (certificate_of body) out answer.file file files in
-        (t, of_files before path paths t table, none, (body, accepted, gives, others, table_stays path out paths t table apart others, subst (Appends old new) text appends))
-    | inr (inl (left, right, cells, clash, says)) ↦ let e = sym says.0 ∙ done in cc
-    | inr (inr (states, pairs, limit_is, says)) ↦ let e = sym says.0 ∙ done in cc
+  module _ (left_out : List ℕ) where
+    -- ---- `brl check`
+
+    -- an acceptance was written without these characters
+    abbrev Accepts : List ℕ → Type 0
+    Accepts path = ((t : TableView) × IsTableOf before path t × IsUnambiguousWithout left_out t) × ((states pairs : ℕ) × Appends old new (told_without left_out (accepted_line states pairs)))
+
+    judgement_changes_none : (path bytes : List ℕ) (answer : Answer) → IsJudgement left_out before path bytes answer → answer.file ≡ None
+    judgement_changes_none path bytes answer is = elim is [
+      | inl (t, table, none, (accepted, deserved, says)) ↦ says.2
+      | inr (fault, of, refused, (rest, says)) ↦ says.2
+    ]
+
+    check_changes_none : (path cert : List ℕ) (outcome : Result Answer RunFault) (status : Status) → Checks left_out before path cert outcome → Delivers outcome before after failed old new status → AllStay before after
+    check_changes_none path cert (Ok answer) status (bytes, holds, is) (written, writes, e) =
+        none_changes before after answer failed old new written (judgement_changes_none path bytes answer is) writes
+    check_changes_none path cert (Err fault) status is (stay, still, e) = stay
+
+    acceptance_said : (path cert : List ℕ) (answer : Answer) → Checks left_out before path cert (Ok answer) → answer.status ≡ Done → Appends old new (string_bytes answer.text) → Accepts path
+    acceptance_said path cert answer (bytes, holds, is) done appends = elim is [
+      | inl (t, table, none, (accepted, deserved, says)) ↦ ((t, table, none), (accepted.states, accepted.pairs, subst (Appends old new) says.1 appends))
+      | inr (fault, of, refused, (rest, says)) ↦ let e = sym says.0 ∙ done in cc
+    ]
+
+    refusal_said : (path cert : List ℕ) (answer : Answer) → Checks left_out before path cert (Ok answer) → answer.status ≡ Refuted → Appends old new (string_bytes answer.text) → ReportsRefusal old new
+    refusal_said path cert answer (bytes, holds, is) refuted appends = elim is [
+      | inl (t, table, none, (accepted, deserved, says)) ↦ let e = sym says.0 ∙ refuted in cc
+      | inr (fault, of, refused, (rest, says)) ↦ (rest, subst (Appends old new) says.1 appends)
+    ]
+
+    accepted_at_done : (path cert : List ℕ) (outcome : Result Answer RunFault) (status : Status) → Checks left_out before path cert outcome → Delivers outcome before after failed old new status → status ≡ Done → Accepts path
+    accepted_at_done path cert outcome status is delivers same =
+        let (answer, ok, done, files, appends) = whole Done never_done outcome status delivers same in
+        acceptance_said path cert answer (subst (Checks left_out before path cert) ok is) done appends
+
+    refused_at_refuted : (path cert : List ℕ) (outcome : Result Answer RunFault) (status : Status) → Checks left_out before path cert outcome → Delivers outcome before after failed old new status → status ≡ Refuted → ReportsRefusal old new
+    refused_at_refuted path cert outcome status is delivers same =
+        let (answer, ok, refuted, files, appends) = whole Refuted never_refuted outcome status delivers same in
+        refusal_said path cert answer (subst (Checks left_out before path cert) ok is) refuted appends
+
+    -- ---- `brl search`
+
+    -- a certificate was written without these characters
+    abbrev Certifies : List ℕ → List ℕ → Type 0
+    Certifies path out =
+        (t : TableView) × IsTableOf before path t × IsUnambiguousWithout left_out t
+        × ((body : BodyView State) × IsAcceptedWithout left_out t (spelling (certificate_of body)) (counted (certificate_of body))
+        × GivesAlso after out (spelling (certificate_of body)) × OthersStay before after out × IsTableOf after path t
+        × Appends old new (told_without left_out (certified_line (certificate_of body))))
+
+    certificate_said : (same_file : MayBeSame) (path out : List ℕ) (limit : ℕ) (answer : Answer) → SearchesByFile left_out before same_file path out limit (Ok answer) → answer.status ≡ Done → FilesAfter before after answer.file → Appends old new (string_bytes answer.text) → Certifies path out
+    certificate_said same_file path out limit answer (paths, t, table, apart, is) done files appends = elim is [
+      | inl (none, (body, certified, accepted, (status, text, file, read))) ↦
+          let (gives, others) = file_written (certificate_of body) out answer.file file files in
+          (t, of_files before path paths t table, none, (body, accepted, gives, others, table_stays path out paths t table apart others, subst (Appends old new) text appends))
+      | inr (inl (left, right, cells, clash, says)) ↦ let e = sym says.0 ∙ done in cc
+      | inr (inr (states, pairs, limit_is, says)) ↦ let e = sym says.0 ∙ done in cc
+    ]
+
+    clash_found : (same_file : MayBeSame) (path out : List ℕ) (limit : ℕ) (answer : Answer) → SearchesByFile left_out before same_file path out limit (Ok answer) → answer.status ≡ Refuted → FilesAfter before after answer.file → Appends old new (string_bytes answer.text)
+        → ReportsClash before old new × AllStay before after
+    clash_found same_file path out limit answer (paths, t, table, apart, is) refuted files appends = elim is [
+      | inl (none, (body, certified, accepted, (status, text, file, read))) ↦ let e = sym status ∙ refuted in cc
+      | inr (inl (left, right, cells, clash, says)) ↦ ((path, left, right, cells, t, of_files before path paths t table, clash.clash, subst (Appends old new) says.1 appends), subst (FilesAfter before after) says.2 files)
+      | inr (inr (states, pairs, limit_is, says)) ↦ let e = sym says.0 ∙ refuted in cc
+    ]
+
+    certified_at_done : (same_file : MayBeSame) (path out : List ℕ) (limit : ℕ) (outcome : Result Answer RunFault) (status : Status) → SearchesByFile left_out before same_file path out limit outcome → Delivers outcome before after failed old new status → status ≡ Done → Certifies path out
+    certified_at_done same_file path out limit outcome status is delivers same =
+        let (answer, ok, done, files, appends) = whole Done never_done outcome status delivers same in
+        certificate_said same_file path out limit answer (subst (SearchesByFile left_out before same_file path out limit) ok is) done files appends
+
+    found_at_refuted : (same_file : MayBeSame) (path out : List ℕ) (limit : ℕ) (outcome : Result Answer RunFault) (status : Status) → SearchesByFile left_out before same_file path out limit outcome → Delivers outcome before after failed old new status → status ≡ Refuted
+        → ReportsClash before old new × AllStay before after
+    found_at_refuted same_file path out limit outcome status is delivers same =
+        let (answer, ok, refuted, files, appends) = whole Refuted never_refuted outcome status delivers same in
+        clash_found same_file path out limit answer (subst (SearchesByFile left_out before same_file path out limit) ok is) refuted files appends
+
+  -- ---- What an option leaves out
+
+  -- a fault of the option has no status that no fault has
+  no_option : (s : Status) → ((fault : RunFault) → status_of fault ≡ s → ⊥) → (outcome : Result Answer RunFault) (status : Status) (fault : RunFault) → outcome ≡ Err fault → Delivers outcome before after failed old new status → status ≡ s → ⊥
+  no_option s never outcome status fault is delivers same =
+      let (stay, still, e) = subst (λ (o : Result Answer RunFault). Delivers o before after failed old new status) is delivers in
+      never fault (sym e ∙ same)
+
+  pub accepted_by : (option : Option (List ℕ)) (path cert : List ℕ) (outcome : Result Answer RunFault) (status : Status) → ByLeftOut option (λ left_out. Judges left_out before path cert) outcome → Delivers outcome before after failed old new status → status ≡ Done → ReportsAcceptance before path option old new
+  accepted_by option path cert outcome status is delivers same = elim is [
+    | inl (left_out, spelled, judges) ↦
+        let (table, line) = accepted_at_done left_out path cert outcome status judges.checks delivers same in
+        (left_out, spelled, table, line)
+    | inr (fault, e, bad) ↦ absurd (no_option Done never_done outcome status fault e delivers same)
   ]
 
-  clash_found : (same_file : MayBeSame) (path out : List ℕ) (limit : ℕ) (answer : Answer) → SearchesByFile before same_file path out limit (Ok answer) → answer.status ≡ Refuted → FilesAfter before after answer.file → Appends old new (string_bytes answer.text)
-      → ReportsClash before old new × AllStay before after
-  clash_found same_file path out limit answer (paths, t, table, apart, is) refuted files appends = elim is [
-    | inl (none, (body, certified, accepted, (status, text, file, read))) ↦ let e = sym status ∙ refuted in cc
-    | inr (inl (left, right, cells, clash, says)) ↦ ((path, left, right, cells, t, of_files before path paths t table, clash, subst (Appends old new) says.1 appends), subst (FilesAfter before after) says.2 files)
-    | inr (inr (states, pairs, limit_is, says)) ↦ let e = sym says.0 ∙ refuted in cc
+  pub refused_by : (option : Option (List ℕ)) (path cert : List ℕ) (outcome : Result Answer RunFault) (status : Status) → ByLeftOut option (λ left_out. Judges left_out before path cert) outcome → Delivers outcome before after failed old new status → status ≡ Refuted → ReportsRefusal old new
+  refused_by option path cert outcome status is delivers same = elim is [
+    | inl (left_out, spelled, judges) ↦ refused_at_refuted left_out path cert outcome status judges.checks delivers same
+    | inr (fault, e, bad) ↦ absurd (no_option Refuted never_refuted outcome status fault e delivers same)
   ]
 
-  pub certified_at_done : (same_file : MayBeSame) (path out : List ℕ) (limit : ℕ) (outcome : Result Answer RunFault) (status : Status) → SearchesByFile before same_file path out limit outcome → Delivers outcome before after failed old new status → status ≡ Done → ReportsCertificate before after path out old new
-  certified_at_done same_file path out limit outcome status is delivers same =
-      let (answer, ok, done, files, appends) = whole Done never_done outcome status delivers same in
-      certificate_said same_file path out limit answer (subst (SearchesByFile before same_file path out limit) ok is) done files appends
+  -- a fault changes no file
+  stays_at_fault : (outcome : Result Answer RunFault) (status : Status) (fault : RunFault) → outcome ≡ Err fault → Delivers outcome before after failed old new status → AllStay before after
+  stays_at_fault outcome status fault is delivers = (subst (λ (o : Result Answer RunFault). Delivers o before after failed old new status) is delivers).0
 
-  pub found_at_refuted : (same_file : MayBeSame) (path out : List ℕ) (limit : ℕ) (outcome : Result Answer RunFault) (status : Status) → SearchesByFile before same_file path out limit outcome → Delivers outcome before after failed old new status → status ≡ Refuted
+  pub check_stays : (option : Option (List ℕ)) (path cert : List ℕ) (outcome : Result Answer RunFault) (status : Status) → ByLeftOut option (λ left_out. Judges left_out before path cert) outcome → Delivers outcome before after failed old new status → AllStay before after
+  check_stays option path cert outcome status is delivers = elim is [
+    | inl (left_out, spelled, judges) ↦ check_changes_none left_out path cert outcome status judges.checks delivers
+    | inr (fault, e, bad) ↦ stays_at_fault outcome status fault e delivers
+  ]
+
+  pub certified_by : (option : Option (List ℕ)) (same_file : MayBeSame) (path out : List ℕ) (limit : ℕ) (outcome : Result Answer RunFault) (status : Status) → ByLeftOut option (λ left_out. SearchesByFile left_out before same_file path out limit) outcome → Delivers outcome before after failed old new status → status ≡ Done → ReportsCertificate before after path out option old new
+  certified_by option same_file path out limit outcome status is delivers same = elim is [
+    | inl (left_out, spelled, searched) ↦
+        let (t, table, none, more) = certified_at_done left_out same_file path out limit outcome status searched delivers same in
+        (left_out, spelled, t, table, none, more)
+    | inr (fault, e, bad) ↦ absurd (no_option Done never_done outcome status fault e delivers same)
+  ]
+
+  pub found_by : (option : Option (List ℕ)) (same_file : MayBeSame) (path out : List ℕ) (limit : ℕ) (outcome : Result Answer RunFault) (status : Status) → ByLeftOut option (λ left_out. SearchesByFile left_out before same_file path out limit) outcome → Delivers outcome before after failed old new status → status ≡ Refuted
       → ReportsClash before old new × AllStay before after
-  found_at_refuted same_file path out limit outcome status is delivers same =
-      let (answer, ok, refuted, files, appends) = whole Refuted never_refuted outcome status delivers same in
-      clash_found same_file path out limit answer (subst (SearchesByFile before same_file path out limit) ok is) refuted files appends
+  found_by option same_file path out limit outcome status is delivers same = elim is [
+    | inl (left_out, spelled, searched) ↦ found_at_refuted left_out same_file path out limit outcome status searched delivers same
+    | inr (fault, e, bad) ↦ absurd (no_option Refuted never_refuted outcome status fault e delivers same)
+  ]
 
   -- ---- `brl survey`
 

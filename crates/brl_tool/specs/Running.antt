@@ -1,9 +1,10 @@
 -- What a run of the program comes to. The project's own choice. `failed` says that the output failed
 -- in that run; `before` and `after` what the files may give, and `same` which paths may name one file.
 use Rattle.std.specs.Prelude.{ℕ, ◌≡◌, ◌<◌, ◌⊎◌, List, ◌++◌, map, Option, Result, Ok, Err, codes}
+use Rattle.std.specs.Option.{option_copied}
 use Rattle.std.specs.Io.KnownBytes.{Appends}
 use Rattle.std.specs.Str.{chars}
-use Rattle.brl_accept.specs.Judging.{IsAccepted, counted}
+use Rattle.brl_accept.specs.Judging.{IsAcceptedWithout, counted}
 use Rattle.brl_cert.specs.Reading.{spelling}
 use Rattle.brl_edges.specs.Body.{BodyView}
 use Rattle.brl_lines.specs.Answer.{AllStay, MayGive}
@@ -12,8 +13,8 @@ use Rattle.brl_report.specs.Report.{report_text}
 use Rattle.brl_search.specs.Searched.{State, certificate_of}
 use Rattle.brl_stream.specs.declared.form.Form.{Form}
 use Rattle.brl_table.specs.TableView.{TableView}
-use Rattle.brl_table.specs.Translation.{IsClash, IsUnambiguous}
-use Rattle.brl_tool.specs.Answers.{ComparesByFile, Judges, Says, SearchesByFile, UnlessMemory, accepted_line, certified_line}
+use Rattle.brl_table.specs.Translation.{IsClash}
+use Rattle.brl_tool.specs.Answers.{ByLeftOut, ComparesByFile, Judges, Says, SearchesByFile, UnlessMemory, accepted_line, certified_line, spelled_by, told_without}
 use Rattle.brl_tool.specs.Delivery.{IsDelivered}
 use Rattle.brl_tool.specs.Files.{GivesAlso, MayBeSame, OthersStay}
 use Rattle.brl_tool.specs.Status.{code_of, status_of}
@@ -26,6 +27,7 @@ use Rattle.brl_tool.specs.declared.status.Status.{Status}
 use Rattle.brl_tool.specs.declared.status.Status.TheVariants.{Done, Faulty}
 use Rattle.brl_words.specs.declared.command.Task.{Task}
 use Rattle.brl_words.specs.declared.command.Task.TheVariants as task
+use Rattle.brl_without.specs.Tables.{IsUnambiguousWithout}
 
 -- ---- What each task comes to
 
@@ -44,16 +46,18 @@ abbrev pub ComparesBy : MayGive → MayGive → List ℕ → List ℕ → List �
 ComparesBy before after path left right failed old new status =
     IsDelivered (ComparesByFile before path left right) before after failed old new status
 
--- The certificate in the file at one path was judged for the table of the file at another. Where it
--- deserves acceptance, it is accepted, unless memory runs out.
-abbrev pub ChecksBy : MayGive → MayGive → List ℕ → List ℕ → Type 0 → Option (List ℕ) → Option (List ℕ) → Status → Type 0
-ChecksBy before after path cert failed old new status =
-    IsDelivered (Judges before path cert) before after failed old new status
+-- The certificate in the file at one path was judged for the table of the file at another, without
+-- the characters that the option leaves out. Where it deserves acceptance, it is accepted, unless
+-- memory runs out.
+abbrev pub ChecksBy : MayGive → MayGive → List ℕ → List ℕ → Option (List ℕ) → Type 0 → Option (List ℕ) → Option (List ℕ) → Status → Type 0
+ChecksBy before after path cert option failed old new status =
+    IsDelivered (ByLeftOut option (λ left_out. Judges left_out before path cert)) before after failed old new status
 
--- the table of the file at one path was searched, up to a limit, for a certificate for another file
-abbrev pub SearchesBy : MayGive → MayGive → MayBeSame → List ℕ → List ℕ → ℕ → Type 0 → Option (List ℕ) → Option (List ℕ) → Status → Type 0
-SearchesBy before after same path out limit failed old new status =
-    IsDelivered (SearchesByFile before same path out limit) before after failed old new status
+-- the table of the file at one path was searched, up to a limit, for a certificate for another file,
+-- without the characters that the option leaves out
+abbrev pub SearchesBy : MayGive → MayGive → MayBeSame → List ℕ → List ℕ → ℕ → Option (List ℕ) → Type 0 → Option (List ℕ) → Option (List ℕ) → Status → Type 0
+SearchesBy before after same path out limit option failed old new status =
+    IsDelivered (ByLeftOut option (λ left_out. SearchesByFile left_out before same path out limit)) before after failed old new status
 
 -- the tables of the files at these paths were surveyed
 abbrev pub SurveysBy : MayGive → MayGive → List (List ℕ) → Type 0 → Option (List ℕ) → Option (List ℕ) → Status → Type 0
@@ -71,14 +75,14 @@ Performs (task.Translate path form) before after same input failed old new statu
     AllStay before after × TranslatesBy before path.now form input old new status
 Performs (task.Clash path left right) before after same input failed old new status =
     AllStay before after × ComparesBy before after path.now (chars left.now) (chars right.now) failed old new status
-Performs (task.Check path cert) before after same input failed old new status =
-    AllStay before after × ChecksBy before after path.now cert.now failed old new status
-Performs (task.Search path out limit) before after same input failed old new status =
-    SearchesBy before after same path.now out.now limit failed old new status
 Performs (task.Survey paths) before after same input failed old new status =
     AllStay before after × SurveysBy before after (map (λ path. path.now) paths.items) failed old new status
 Performs (task.Trace path text) before after same input failed old new status =
     AllStay before after × TracesBy before after path.now (chars text.now) failed old new status
+Performs (task.Check path cert option) before after same input failed old new status =
+    AllStay before after × ChecksBy before after path.now cert.now (option_copied option) failed old new status
+Performs (task.Search path out limit option) before after same input failed old new status =
+    SearchesBy before after same path.now out.now limit (option_copied option) failed old new status
 
 -- the answer with help or the version
 abbrev pub IsHelp : Result Answer RunFault → Type 0
@@ -102,10 +106,13 @@ IsStatus code = code < 4
 
 -- ---- What the status says
 
--- an acceptance was written, and the table of the file at the path is unambiguous
-abbrev pub ReportsAcceptance : MayGive → List ℕ → Option (List ℕ) → Option (List ℕ) → Type 0
-ReportsAcceptance gives path old new =
-    ((t : TableView) × IsTableOf gives path t × IsUnambiguous t) × ((states pairs : ℕ) × Appends old new (accepted_line states pairs))
+-- an acceptance was written, and the table of the file at the path is unambiguous without the
+-- characters that the option leaves out
+abbrev pub ReportsAcceptance : MayGive → List ℕ → Option (List ℕ) → Option (List ℕ) → Option (List ℕ) → Type 0
+ReportsAcceptance gives path option old new =
+    (left_out : List ℕ) × (spelled_by option ≡ Ok left_out)
+    × ((t : TableView) × IsTableOf gives path t × IsUnambiguousWithout left_out t)
+    × ((states pairs : ℕ) × Appends old new (told_without left_out (accepted_line states pairs)))
 
 -- the refusal of a certificate was written
 abbrev pub ReportsRefusal : Option (List ℕ) → Option (List ℕ) → Type 0
@@ -117,10 +124,11 @@ ReportsClash gives old new =
     (path left right cells : List ℕ) × (t : TableView) × IsTableOf gives path t × IsClash t left right cells × Appends old new (report_text t left right cells)
 
 -- a certificate was written that a judge accepts for the table of the file at the path, and that
--- table is unambiguous; no other file changed, so the files still define that table
-abbrev pub ReportsCertificate : MayGive → MayGive → List ℕ → List ℕ → Option (List ℕ) → Option (List ℕ) → Type 0
-ReportsCertificate before after path out old new =
-    (t : TableView) × IsTableOf before path t × IsUnambiguous t
-    × ((body : BodyView State) × IsAccepted t (spelling (certificate_of body)) (counted (certificate_of body))
+-- table is unambiguous, both without the characters that the option leaves out; no other file
+-- changed, so the files still define that table
+abbrev pub ReportsCertificate : MayGive → MayGive → List ℕ → List ℕ → Option (List ℕ) → Option (List ℕ) → Option (List ℕ) → Type 0
+ReportsCertificate before after path out option old new =
+    (left_out : List ℕ) × (spelled_by option ≡ Ok left_out) × (t : TableView) × IsTableOf before path t × IsUnambiguousWithout left_out t
+    × ((body : BodyView State) × IsAcceptedWithout left_out t (spelling (certificate_of body)) (counted (certificate_of body))
     × GivesAlso after out (spelling (certificate_of body)) × OthersStay before after out × IsTableOf after path t
-    × Appends old new (certified_line (certificate_of body)))
+    × Appends old new (told_without left_out (certified_line (certificate_of body))))

@@ -8,9 +8,10 @@ use Rattle.brl_reading.specs.declared.no_table.NoTable.{NoTable}
 use Rattle.brl_reading.specs.declared.no_table.NoTable.TheVariants as no_table
 use Rattle.brl_stream.specs.declared.fault.StreamFault.{StreamFault}
 use Rattle.brl_tool.specs.declared.run_fault.RunFault.{RunFault}
-use Rattle.brl_tool.specs.declared.run_fault.RunFault.TheVariants.{Load, Table, Stream, Confirm, Text, Wide, Memory}
+use Rattle.brl_tool.specs.declared.run_fault.RunFault.TheVariants.{Load, Table, Stream, Confirm, Text, Wide, Memory, NotDefined}
 use Rattle.brl_tool.specs.declared.status.Status.{Status}
 use Rattle.brl_tool.specs.declared.status.Status.TheVariants.{Done, Refuted, Faulty, Undecided}
+use Rattle.brl_without.specs.declared.undefined.UndefinedLeftOut.{UndefinedLeftOut}
 
 -- the number of a status
 abbrev pub code_of : Status → ℕ
@@ -45,3 +46,8 @@ of_confirm failures.Memory = Memory
 abbrev pub of_forward : Failure ForwardFault → RunFault
 of_forward (failures.Fault fault) = Text fault
 of_forward failures.Memory = Memory
+
+-- the fault of the program where a table doesn't define what is left out
+abbrev pub of_undefined : Failure UndefinedLeftOut → RunFault
+of_undefined (failures.Fault fault) = NotDefined fault
+of_undefined failures.Memory = Memory

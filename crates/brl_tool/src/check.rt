@@ -2,33 +2,55 @@
 ghost use Rattle.std.specs.Prelude.{◌≡◌, ◌≤◌, IfErr, IfOk, length};
 ghost use Rattle.brl_lines.specs.Answer.{AllStay, Holds};
 ghost use Rattle.brl_lines.specs.Outcome.{CountsFailure};
-ghost use Rattle.brl_tool.specs.Answers.{AcceptsGood, Checks, IsAcceptance, IsFaultOfFile, IsRefusal, Tells, UnlessMemory, load_outcome};
+ghost use Rattle.std.specs.Option.{option_copied};
+ghost use Rattle.brl_tool.specs.Answers.{AcceptsGood, ByLeftOut, Checks, IsAcceptance, IsFaultOfFile, IsRefusal, Judges, Tells, UnlessMemory, load_outcome};
 
 use crate::answer::{Answer, counts_text};
+use crate::left_out::{left_out_of, tell_without};
 use crate::run_fault::RunFault;
 use crate::status::Status;
-use brl_accept::{Accepted, JudgeFault, judge};
+use brl_accept::{Accepted, JudgeFault, judge_without};
 use brl_failure::Failure;
 use brl_lines::{LoadFault, LoadFaultKind, MOST_FILE_BYTES, Source, SourceFault};
+use brl_without::LeftOut;
 use std::alloc::Global;
 use std::fmt::Display;
 
-/// Judges the certificate in the file at one path for the table whose file is at another. The
-/// certificate's file is read first. The answer is the line of an acceptance or of a refusal.
+/// Judges the certificate in the file at one path for the table whose file is at another, without the
+/// characters that the option leaves out. What it spells is read first.
+pub fn check_by_words<S: Source>(
+    alloc: Global,
+    source: &mut S,
+    table: &str,
+    cert: &str,
+    option: Option<&str>,
+) -> Result<Answer, RunFault>
+    ensures checks { ByLeftOut (option_copied option.entry) (λ left_out. Judges left_out (S.gives source.old) table.now cert.now) result }
+    ensures count { CountsFailure (S.faults source.old) (S.faults source.new) (load_outcome result) }
+    ensures same { AllStay (S.gives source.old) (S.gives source.new) }
+{
+    let left_out = left_out_of(alloc, option)?;
+    check_by_file(alloc, source, table, cert, &left_out)
+}
+
+/// Judges the certificate in the file at one path for the table whose file is at another, without the
+/// characters that are left out. The certificate's file is read first. The answer is the lines of an
+/// acceptance or the line of a refusal.
 pub fn check_by_file<S: Source>(
     alloc: Global,
     source: &mut S,
     table: &str,
     cert: &str,
+    left_out: &LeftOut,
 ) -> Result<Answer, RunFault>
-    ensures checks { Checks (S.gives source.old) table.now cert.now result }
-    ensures accepts { AcceptsGood (S.gives source.old) table.now cert.now result }
+    ensures checks { Checks left_out.now (S.gives source.old) table.now cert.now result }
+    ensures accepts { AcceptsGood left_out.now (S.gives source.old) table.now cert.now result }
     ensures count { CountsFailure (S.faults source.old) (S.faults source.new) (load_outcome result) }
     ensures same { AllStay (S.gives source.old) (S.gives source.new) }
 {
     let bytes = bytes_at(alloc, source, cert)?;
-    let judged = judge(alloc, source, table, bytes.as_slice());
-    judgement(alloc, judged)
+    let judged = judge_without(alloc, source, table, bytes.as_slice(), left_out);
+    judgement(alloc, left_out, judged)
 }
 
 /// The bytes of the certificate's file.
@@ -63,13 +85,15 @@ fn bytes_at<S: Source>(alloc: Global, source: &mut S, path: &str) -> Result<Vec<
 /// certificate.
 fn judgement(
     alloc: Global,
+    left_out: &LeftOut,
     judged: Result<Accepted, Failure<JudgeFault>>,
 ) -> Result<Answer, RunFault>
-    ensures { Tells judged result }
+    ensures { Tells left_out.now judged result }
 {
     match judged {
-        Ok(accepted) => acceptance(alloc, accepted),
+        Ok(accepted) => acceptance(alloc, left_out, accepted),
         Err(Failure::Fault(JudgeFault::NoTable(fault))) => Err(Failure::Fault(fault).into()),
+        Err(Failure::Fault(JudgeFault::NotDefined(fault))) => Err(RunFault::NotDefined(fault)),
         Err(Failure::Fault(JudgeFault::Cert(fault))) => refusal(alloc, &fault),
         Err(Failure::Fault(JudgeFault::OldVersion)) => refusal(alloc, &JudgeFault::OldVersion),
         Err(Failure::Fault(JudgeFault::Wide(fault))) => Err(RunFault::Wide(fault)),
@@ -79,12 +103,13 @@ fn judgement(
 }
 
 /// The answer where a certificate is accepted.
-fn acceptance(alloc: Global, accepted: Accepted) -> Result<Answer, RunFault>
-    ensures { UnlessMemory (IsAcceptance accepted) result }
+fn acceptance(alloc: Global, left_out: &LeftOut, accepted: Accepted) -> Result<Answer, RunFault>
+    ensures { UnlessMemory (IsAcceptance left_out.now accepted) result }
 {
     let states = u64::from(accepted.states);
     let pairs = u64::from(accepted.pairs);
-    let text = counts_text(alloc, "accepted", states, pairs)?;
+    let line = counts_text(alloc, "accepted", states, pairs)?;
+    let text = tell_without(alloc, line, left_out)?;
     Ok(Answer::new(Status::Done, text))
 }
 

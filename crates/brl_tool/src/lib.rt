@@ -8,6 +8,7 @@ mod answer;
 mod check;
 mod clash;
 mod files;
+mod left_out;
 mod notices;
 mod program;
 mod replace;

@@ -1,15 +1,16 @@
 //! The program over any files and streams.
 ghost use Rattle.std.specs.Prelude.{◌≡◌, ◌≢◌, ◌⊎◌, map};
+ghost use Rattle.std.specs.Option.{option_copied};
 ghost use Rattle.std.specs.Str.{chars};
 ghost use Rattle.brl_lines.specs.Answer.{AllStay};
 ghost use Rattle.brl_tool.specs.Running.{ChecksBy, ComparesBy, IsHelp, IsStatus, Performs, Replies, ReportsAcceptance, ReportsCertificate, ReportsClash, ReportsRefusal, Runs, SearchesBy, SurveysBy, TracesBy, TranslatesBy};
 ghost use Rattle.brl_tool.specs.declared.status.Status.TheVariants as statuses;
 
 use crate::answer::{Answer, deliver};
-use crate::check::check_by_file;
+use crate::check::check_by_words;
 use crate::clash::compare_by_file;
 use crate::run_fault::RunFault;
-use crate::search::search_by_file;
+use crate::search::search_by_words;
 use crate::status::Status;
 use crate::survey::survey_by_files;
 use crate::trace::trace_by_file;
@@ -28,9 +29,10 @@ use std::io::Write;
 /// by a survey, the steps of a text, or help or the version where these are asked for. Standard error
 /// gets the notices of a table that is searched, one line for a fault (a survey has one for each table
 /// that can't be loaded, and goes on), or the text of a use fault; what can't be written there is dropped
-/// and changes no status. Faults come in the order of the work: the words, the certificate's file, the
-/// table's files, a file for a new certificate that is one of these, the table's lines, the texts, the
-/// input, the certificate or the search, the file that gets a certificate, the output.
+/// and changes no status. Faults come in the order of the work: the words, and what they leave out, the
+/// certificate's file, the table's files, a file for a new certificate that is one of these, the
+/// table's lines, a character that is left out and isn't defined, the texts, the input, the certificate
+/// or the search, the file that gets a certificate, the output.
 ///
 /// A file is written only where a search found a certificate: that file and no other. A file of the
 /// searched table is refused as the file for the certificate before the search.
@@ -73,10 +75,19 @@ fn perform<F: Files, I: Input, O: Output, E: Write>(
     match task {
         Task::Translate { table, form } => translate(alloc, files, table, form, input, out, err),
         Task::Clash { table, left, right } => compare(alloc, files, table, left, right, out, err),
-        Task::Check { table, cert } => check(alloc, files, table, cert, out, err),
-        Task::Search { table, cert, limit } => search(alloc, files, table, cert, limit, out, err),
         Task::Survey { tables } => survey(alloc, files, tables.as_slice(), out, err),
         Task::Trace { table, text } => trace(alloc, files, table, text, out, err),
+        Task::Check {
+            table,
+            cert,
+            without,
+        } => check(alloc, files, table, cert, without, out, err),
+        Task::Search {
+            table,
+            cert,
+            limit,
+            without,
+        } => search(alloc, files, table, cert, limit, without, out, err),
     }
 }
 
@@ -125,17 +136,20 @@ fn check<F: Files, O: Output, E: Write>(
     files: &mut F,
     table: &str,
     cert: &str,
+    without: Option<&str>,
     out: &mut O,
     err: &mut E,
 ) -> Status
-    ensures checks { ChecksBy (F.gives files.old) (F.gives files.new) table.now cert.now
+    ensures checks { ChecksBy (F.gives files.old) (F.gives files.new) table.now cert.now (option_copied without.entry)
         (O.failures out.new ≢ O.failures out.old) (O.contents out.old) (O.contents out.new) result }
-    // Where it accepts, no two different texts of the table are translated to the same cells.
-    ensures accepted { result ≡ statuses.Done → ReportsAcceptance (F.gives files.old) table.now (O.contents out.old) (O.contents out.new) }
+    // Where it accepts, no two different texts of the table that use no character that is left out are
+    // translated to the same cells.
+    ensures accepted { result ≡ statuses.Done → ReportsAcceptance (F.gives files.old) table.now (option_copied without.entry)
+        (O.contents out.old) (O.contents out.new) }
     ensures refused { result ≡ statuses.Refuted → ReportsRefusal (O.contents out.old) (O.contents out.new) }
     ensures same { AllStay (F.gives files.old) (F.gives files.new) }
 {
-    let answer = check_by_file(alloc, files, table, cert);
+    let answer = check_by_words(alloc, files, table, cert, without);
     deliver(alloc, answer, files, out, err)
 }
 
@@ -146,20 +160,21 @@ fn search<F: Files, O: Output, E: Write>(
     table: &str,
     cert: &str,
     limit: u32,
+    without: Option<&str>,
     out: &mut O,
     err: &mut E,
 ) -> Status
-    ensures searches { SearchesBy (F.gives files.old) (F.gives files.new) F.same_file table.now cert.now limit
+    ensures searches { SearchesBy (F.gives files.old) (F.gives files.new) F.same_file table.now cert.now limit (option_copied without.entry)
         (O.failures out.new ≢ O.failures out.old) (O.contents out.old) (O.contents out.new) result }
-    // Where it finds a certificate, no two texts of the table clash, the certificate is written, and
-    // the table's files stay.
+    // Where it finds a certificate, no two texts of the table that use no character that is left out
+    // clash, the certificate is written, and the table's files stay.
     ensures certified { result ≡ statuses.Done → ReportsCertificate (F.gives files.old) (F.gives files.new) table.now cert.now
-        (O.contents out.old) (O.contents out.new) }
+        (option_copied without.entry) (O.contents out.old) (O.contents out.new) }
     ensures clash { result ≡ statuses.Refuted → ReportsClash (F.gives files.old) (O.contents out.old) (O.contents out.new) }
     // Where two texts clash, no file is written.
     ensures same { result ≡ statuses.Refuted → AllStay (F.gives files.old) (F.gives files.new) }
 {
-    let answer = search_by_file(alloc, files, table, cert, limit, err);
+    let answer = search_by_words(alloc, files, table, cert, limit, without, err);
     deliver(alloc, answer, files, out, err)
 }
 

@@ -6,6 +6,7 @@ use brl_forward::{ConfirmFault, ForwardFault};
 use brl_lines::LoadFault;
 use brl_reading::{NoTable, TableFault};
 use brl_window::TooWide;
+use brl_without::UndefinedLeftOut;
 use std::alloc::AllocError;
 use std::io::Write;
 use thiserror::Error;
@@ -31,6 +32,12 @@ pub enum RunFault {
     /// The certificate lists states of a window machine, and the table has none.
     #[error("{0}")]
     Wide(TooWide),
+    /// The option of what is left out spells no characters, as this is written.
+    #[error("U9 BadLeftOut {0}")]
+    BadLeftOut(String),
+    /// A character that is left out isn't one of the table's.
+    #[error("{0}")]
+    NotDefined(UndefinedLeftOut),
     /// The file for the certificate is this one of the table's files.
     #[error("error: the certificate would overwrite {0}, a file of the table")]
     WouldOverwrite(String),
@@ -134,6 +141,20 @@ impl From<Failure<ForwardFault>> for RunFault {
     fn from(failure: Failure<ForwardFault>) -> RunFault {
         match failure {
             Failure::Fault(fault) => RunFault::Text(fault),
+            Failure::Memory => RunFault::Memory,
+        }
+    }
+}
+
+impl From<Failure<UndefinedLeftOut>> for RunFault {
+    ghost use Rattle.std.specs.Prelude.{◌≡◌};
+    ghost use Rattle.brl_tool.specs.Status.{of_undefined};
+
+    ghost from_gives = { λ failure fault. fault ≡ of_undefined failure };
+
+    fn from(failure: Failure<UndefinedLeftOut>) -> RunFault {
+        match failure {
+            Failure::Fault(fault) => RunFault::NotDefined(fault),
             Failure::Memory => RunFault::Memory,
         }
     }

@@ -1,7 +1,7 @@
 -- What the machine needs of a table: from what every table keeps, and from the laws of its
 -- definitions.
 use Rattle.std.proofs.Common.{ℕ, suc, ◌<◌, ◌≤◌, ◌≡◌, ◌≢◌, false, List, [], ◌∷◌, length, nat_eq, arith, Some, ap}
-use Rattle.std.specs.Prelude.{slice_get, slice_index_or}
+use Rattle.std.specs.Prelude.{AllPairs, slice_get, slice_index_or}
 use Rattle.std.specs.Bool.{⊤}
 use Rattle.std.specs.List.{AllByRecursion, IsDistinct}
 use Rattle.std.specs.Map.{keys_of}
@@ -13,7 +13,6 @@ use Rattle.brl_table.specs.declared.rule.Rule.{Rule}
 use Rattle.brl_table.specs.declared.signs.Sign.{Sign}
 use Rattle.brl_table.specs.Choice.{chosen}
 use Rattle.brl_table.specs.Limits.{IsRule, IsTable}
-use Rattle.brl_table.specs.Rank.{IsInRank}
 use Rattle.brl_table.specs.Rest.{translation_of_rest, TakesOneRule}
 use Rattle.brl_table.specs.TableView.{TableView, sign_cells}
 use Rattle.brl_table.specs.Text.{at_start}
@@ -71,15 +70,15 @@ longest-most n (r ∷ rules) some h =
     let others = longest-most n rules some (λ k d within. h (suc k) d (omega (arith, within))) in
     omega (arith, first, others)
 
--- it is the first in rank
-pub longest-first : (characters : List (ℕ × Info)) (files : ℕ) (rules : List Rule) (r : Rule) → IsInRank rules
+-- it is the first where longer ones come first
+pub longest-first : (characters : List (ℕ × Info)) (files : ℕ) (rules : List Rule) (r : Rule) → AllPairs (λ r s. length s.chars ≤ length r.chars) rules
     → ((k : ℕ) (d : Rule) → k < length rules → IsRule characters files (slice_index_or rules k d)) → slice_get rules 0 ≡ Some r → length r.chars ≡ longest rules
-longest-first characters files [] r rank all e = cc
-longest-first characters files (x ∷ rules) r rank all e =
+longest-first characters files [] r lengths all e = cc
+longest-first characters files (x ∷ rules) r lengths all e =
     let same : x ≡ r = cc in
     let size : length x.chars ≡ length r.chars = ap (λ (q : Rule). length q.chars) same in
     let some = (all 0 x (omega arith)).some_characters in
-    let others : longest rules ≤ length x.chars = longest-most (length x.chars) rules some (λ k d within. rank 0 (suc k) d (omega arith) (omega (arith, within))) in
+    let others : longest rules ≤ length x.chars = longest-most (length x.chars) rules some (λ k d within. lengths 0 (suc k) d (omega arith) (omega (arith, within))) in
     omega (arith, size, others)
 
 -- ---- The laws of a table's definitions

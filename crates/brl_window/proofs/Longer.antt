@@ -1,8 +1,7 @@
 -- Which rule is chosen depends on the next characters alone, as many as the longest rule has and
 -- one more; whether they begin in a run of capitals depends on two.
 use Rattle.std.proofs.Common.{ℕ, zero, suc, ◌+◌, ◌<◌, ◌≤◌, ◌≡◌, Bool, true, false, ◌&&◌, List, [], ◌∷◌, ◌++◌, length, map, refl, arith, cond, nat_eq, sym, ◌∙◌, ap}
-use Rattle.std.proofs.lemmas.List.Sums.{take_while-cons}
-use Rattle.std.specs.List.{starts_with, slice_get, take_while, AllByRecursion}
+use Rattle.std.specs.List.{starts_with, slice_get, AllByRecursion}
 use Rattle.std.specs.Option.{option_map_or}
 use Rattle.brl_table.specs.declared.class.Class.{Class}
 use Rattle.brl_table.specs.declared.rule.Rule.{Rule}
@@ -23,22 +22,12 @@ slice_get-more (x ∷ xs) ys zero h = refl
 slice_get-more (x ∷ xs) ys (suc k) h = slice_get-more xs ys k (omega (arith, h))
 
 -- the folds of the capitals with which characters begin
-mapped : (t : TableView) (c : ℕ) (rest : List ℕ) (b : Bool)
-    → map (fold_of t) (cond b (c ∷ take_while (λ c. is_capital (classes_of t c)) rest) []) ≡ cond b (fold_of t c ∷ folds_of_capitals t rest) []
-mapped t c rest true = refl
-mapped t c rest false = refl
-
-folds-cons : (t : TableView) (c : ℕ) (rest : List ℕ)
-    → folds_of_capitals t (c ∷ rest) ≡ cond (is_capital (classes_of t c)) (fold_of t c ∷ folds_of_capitals t rest) []
-folds-cons t c rest = ap (map (fold_of t)) (take_while-cons (λ c. is_capital (classes_of t c)) c rest) ∙ mapped t c rest (is_capital (classes_of t c))
-
 folds-more : (t : TableView) (xs ys chars : List ℕ) → length chars ≤ length xs
     → starts_with nat_eq (folds_of_capitals t (xs ++ ys)) chars ≡ starts_with nat_eq (folds_of_capitals t xs) chars
 folds-more t xs ys [] h = refl
 folds-more t [] ys (c ∷ cs) h = absurd (omega (arith, h))
 folds-more t (x ∷ xs) ys (c ∷ cs) h =
-    ap (λ l. starts_with nat_eq l (c ∷ cs)) (folds-cons t x (xs ++ ys)) ∙ cases (is_capital (classes_of t x)) (folds-more t xs ys cs (omega (arith, h)))
-    ∙ sym (ap (λ l. starts_with nat_eq l (c ∷ cs)) (folds-cons t x xs))
+    cases (is_capital (classes_of t x)) (folds-more t xs ys cs (omega (arith, h)))
   where
     cases : (b : Bool) → starts_with nat_eq (folds_of_capitals t (xs ++ ys)) cs ≡ starts_with nat_eq (folds_of_capitals t xs) cs
         → starts_with nat_eq (cond b (fold_of t x ∷ folds_of_capitals t (xs ++ ys)) []) (c ∷ cs) ≡ starts_with nat_eq (cond b (fold_of t x ∷ folds_of_capitals t xs) []) (c ∷ cs)

@@ -7,7 +7,7 @@ ghost use Rattle.brl_window.specs.Windows.{by_rule_number, longest, steps_at, st
 use crate::WindowState;
 use brl_cells::{Cells, Chars};
 use brl_pairs::Step;
-use brl_table::{Context, Table};
+use brl_table::{Context, Table, rank_law};
 use std::alloc::{AllocError, Global};
 
 /// The length of the longest rule, which is the first in rank, or 1 where there is no rule.
@@ -16,6 +16,7 @@ pub fn longest_rule(table: &Table) -> usize
     ensures short { result ≤ 32 }
 {
     table.law();
+    rank_law();
     match table.rules_in_rank().first() {
         Some(rule) => rule.chars.len(),
         None => 1,

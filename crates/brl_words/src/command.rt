@@ -19,17 +19,21 @@ pub enum Task<'a> {
         left: &'a str,
         right: &'a str,
     },
-    /// Check the certificate in the file at one path for the table whose file is at another.
+    /// Check the certificate in the file at one path for the table whose file is at another, for the
+    /// texts that use none of the characters that `without` spells.
     Check {
         table: &'a str,
         cert: &'a str,
+        without: Option<&'a str>,
     },
-    /// Search the table whose file is at one path, and write a certificate to the file at another. At
-    /// most `limit` states and `limit` pairs may be found.
+    /// Search the table whose file is at one path, for the texts that use none of the characters that
+    /// `without` spells, and write a certificate to the file at another. At most `limit` states and
+    /// `limit` pairs may be found.
     Search {
         table: &'a str,
         cert: &'a str,
         limit: u32,
+        without: Option<&'a str>,
     },
     /// List the lines of tables that are outside the profile or faulty. Their files are at these
     /// paths.
@@ -111,13 +115,15 @@ const TABLE: Operand = Operand {
     several: false,
 };
 
-/// An option of a command.
+/// The options of a command.
 #[derive(Clone, Copy)]
 enum Choice {
     /// How cells are written.
     Form,
-    /// How much a search may find.
-    Limit,
+    /// Which characters are left out.
+    Without,
+    /// How much a search may find, and which characters are left out.
+    Search,
 }
 
 /// A command, as its help shows it.
@@ -215,7 +221,10 @@ A certificate lists states and pairs of states. Where it is accepted, standard
 output gets how many there are, and no two different texts over the table's
 characters give the same cells, however long they are. Whoever made the
 certificate need not be trusted. Else standard output gets why it is refused,
-and the exit status is 1; a refusal doesn't say that two texts look alike.",
+and the exit status is 1; a refusal doesn't say that two texts look alike.
+
+With --without it is judged for the texts that use none of CHARS, and a second
+line of an acceptance names these. CHARS are spelled as in a table.",
     example: "Example, a table of one letter and its certificate:
   printf 'letter a 1\\n' > a.ctb
   printf 'BRLCERT 1\\nstate 1 0 0 -\\nstate 8 0 0 61\\nstate 8 0 1 -\\n' > a.cert
@@ -224,7 +233,7 @@ and the exit status is 1; a refusal doesn't say that two texts look alike.",
 
 It prints:
   accepted: 3 states, 1 pairs",
-    choice: None,
+    choice: Some(Choice::Without),
     operands: &[
         TABLE,
         Operand {
@@ -247,7 +256,11 @@ characters give the same cells, however long they are. Where there is one, it is
 written to OUT, and standard output gets how many states and pairs it lists;
 'brl check' accepts it. Where two texts clash, standard output gets their report,
 the exit status is 1, and OUT isn't written. Where more than N states or more
-than N pairs are found, nothing is decided, and the status is 3.",
+than N pairs are found, nothing is decided, and the status is 3.
+
+With --without only texts that use none of CHARS are looked at, and a second
+line names these; 'brl check' with the same option accepts the certificate.
+CHARS are spelled as in a table: \\s is a blank, \\x00a0 a no-break space.",
     example: "Example, a table of two letters:
   printf '%s\\n' 'letter a 1' 'letter b 12' > ab.ctb
   brl search ab.ctb ab.cert
@@ -256,7 +269,7 @@ than N pairs are found, nothing is decided, and the status is 3.",
 It prints:
   certified: 2 states, 0 pairs
   accepted: 2 states, 0 pairs",
-    choice: Some(Choice::Limit),
+    choice: Some(Choice::Search),
     operands: &[
         TABLE,
         Operand {
@@ -373,12 +386,24 @@ fn limit_option<'a>(alloc: Global) -> Arg<'a> {
         .default_value(USUAL_LIMIT)
 }
 
-/// The arguments of a command: its option, if any, and its operands.
+/// The option of which characters are left out.
+fn without_option<'a>(alloc: Global) -> Arg<'a> {
+    Arg::new(alloc, "without")
+        .long("without")
+        .value_name("CHARS")
+        .help("Look only at texts that use none of these characters")
+}
+
+/// The arguments of a command: its options, if any, and its operands.
 fn arguments<'a>(alloc: Global, page: &Page) -> Result<Vec<Arg<'a>>, AllocError> {
     let mut arguments = Vec::new(alloc);
     match page.choice {
         Some(Choice::Form) => arguments.push(form_option(alloc))?,
-        Some(Choice::Limit) => arguments.push(limit_option(alloc))?,
+        Some(Choice::Without) => arguments.push(without_option(alloc))?,
+        Some(Choice::Search) => {
+            arguments.push(limit_option(alloc))?;
+            arguments.push(without_option(alloc))?;
+        }
         None => {}
     }
     for operand in page.operands {
@@ -480,11 +505,13 @@ fn found_task<'a>(matches: &ArgMatches<'a>) -> Option<Task<'a>> {
         ("check", found) => Some(Task::Check {
             table: found.get_str("table")?,
             cert: found.get_str("cert")?,
+            without: found.get_str("without"),
         }),
         ("search", found) => Some(Task::Search {
             table: found.get_str("table")?,
             cert: found.get_str("out")?,
             limit: found.get_one("limit")?,
+            without: found.get_str("without"),
         }),
         ("trace", found) => Some(Task::Trace {
             table: found.get_str("table")?,

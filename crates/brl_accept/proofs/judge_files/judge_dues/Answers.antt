@@ -1,4 +1,4 @@
-use Rattle.std.proofs.Common.{◌≡◌, length, sym, subst}
+use Rattle.std.proofs.Common.{◌≡◌, ◌∙◌, List, ℕ, length, sym, subst, subst₂}
 use Rattle.brl_accept.specs.Judging.{IsNotProvedWith, IsProvedWith, counted}
 use Rattle.brl_accept.specs.Refusals.{IsRefused}
 use Rattle.brl_accept.specs.declared.checker.Accepted.{Accepted}
@@ -8,19 +8,41 @@ use Rattle.brl_failure.specs.Raised.{if_err-raised, if_ok-both, if_ok-raised}
 use Rattle.brl_accept.proofs.Judged.{same_counts}
 use Rattle.brl_dues.specs.Steps.{dues_machine}
 use Rattle.brl_pairs.specs.Pairs.{IsClosed}
+use Rattle.brl_pairs.specs.Runs.{IsUnambiguous}
 use Rattle.brl_table.specs.TableView.{TableView}
+use Rattle.brl_without.specs.Parts.{part_without}
+use Rattle.brl_without.specs.Tables.{IsUnambiguousWithout}
+use Rattle.brl_without.specs.Without.{without}
 use Rattle.brl_accept.proofs.judge_files.judge_dues.Goals as goal
+
+pub returns-clause-unambiguous : goal.returns-clause-unambiguous
+returns-clause-unambiguous c =
+    let left_out = c.args.left_out.now in
+    if_ok-raised _ (λ (accepted : Accepted). IsUnambiguous (without c.new-machine.result.left_out (dues_machine c.new-machine.result.machine))) (λ (accepted : Accepted). IsUnambiguousWithout left_out c.args.table.now) c.accept.result c.raise.result c.raise.ensures c.accept.ensures.unambiguous
+    (λ accepted single.
+    subst (IsUnambiguousWithout left_out) c.new-dues.ensures.table
+    ((c.unambiguous_without_law.ensures left_out).0
+    (subst₂ (λ (cs : List ℕ) (t : TableView). IsUnambiguous (without cs (dues_machine t))) c.new-machine.ensures.left_out c.new-machine.ensures.machine single)))
 
 pub returns-clause-accepted : goal.returns-clause-accepted
 returns-clause-accepted c =
     let body = c.args.body.now in
-    if_ok-raised _ _ (IsProvedWith c.args.table.now (Word body)) c.accept.result c.raise.result c.raise.ensures
-    (if_ok-both (λ (accepted : Accepted). IsClosed (dues_machine c.new-dues.result) (sets_of body)) (λ (accepted : Accepted). (accepted.states ≡ length body.states) × (accepted.pairs ≡ length body.pairs)) c.accept.result c.accept.ensures.closed
+    let left_out = c.args.left_out.now in
+    let m = c.new-machine.result in
+    if_ok-raised _ _ (IsProvedWith (part_without left_out) c.args.table.now (Word body)) c.accept.result c.raise.result c.raise.ensures
+    (if_ok-both (λ (accepted : Accepted). IsClosed (without m.left_out (dues_machine m.machine)) (sets_of body)) (λ (accepted : Accepted). (accepted.states ≡ length body.states) × (accepted.pairs ≡ length body.pairs)) c.accept.result c.accept.ensures.closed
     (if_ok-both (λ (accepted : Accepted). accepted.states ≡ length body.states) (λ (accepted : Accepted). accepted.pairs ≡ length body.pairs) c.accept.result c.accept.ensures.states c.accept.ensures.pairs))
-    (λ accepted h. (tt, subst (λ (t : TableView). IsClosed (dues_machine t) (sets_of body)) c.new-dues.ensures.table h.0, same_counts accepted (counted (Word body)) h.1.0 h.1.1))
+    (λ accepted h. (
+      tt,
+      subst₂ (λ (cs : List ℕ) (t : TableView). IsClosed (without cs (dues_machine t)) (sets_of body)) c.new-machine.ensures.left_out (c.new-machine.ensures.machine ∙ c.new-dues.ensures.table) h.0,
+      same_counts accepted (counted (Word body)) h.1.0 h.1.1,
+    ))
 
 pub returns-clause-refused : goal.returns-clause-refused
 returns-clause-refused c =
     let body = c.args.body.now in
-    if_err-raised _ _ (IsNotProvedWith c.args.table.now (Word body)) c.accept.result c.raise.result c.raise.ensures c.accept.ensures.refused
-    (λ fault other is h. subst (IsNotProvedWith c.args.table.now (Word body)) (sym is) (tt, subst (λ (t : TableView). IsRefused (dues_machine t) body fault) c.new-dues.ensures.table h))
+    let part = part_without c.args.left_out.now in
+    if_err-raised _ _ (IsNotProvedWith part c.args.table.now (Word body)) c.accept.result c.raise.result c.raise.ensures c.accept.ensures.refused
+    (λ fault other is h.
+    subst (IsNotProvedWith part c.args.table.now (Word body)) (sym is)
+    (tt, subst₂ (λ (cs : List ℕ) (t : TableView). IsRefused (without cs (dues_machine t)) body fault) c.new-machine.ensures.left_out (c.new-machine.ensures.machine ∙ c.new-dues.ensures.table) h))

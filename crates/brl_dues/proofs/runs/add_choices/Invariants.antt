@@ -1,6 +1,6 @@
-use Rattle.std.proofs.Common.{◌≡◌, ◌++◌, map, take}
+use Rattle.std.proofs.Common.{◌≡◌, ◌++◌, map}
 use Rattle.brl_dues.specs.declared.due.Due.TheVariants.{Bar}
 use Rattle.brl_dues.proofs.runs.add_choices.Given as goal
 
 abbrev pub invariant-loop-text : goal.invariant-loop-text
-invariant-loop-text l = l.found.items ≡ l.fn.found.items ++ map (λ text. Bar text l.cond) (take l.text-index l.text-items)
+invariant-loop-text l = l.found.items ≡ l.fn.found.items ++ map (λ text. Bar text l.cond) l.yielded

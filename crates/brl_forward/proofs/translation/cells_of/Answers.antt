@@ -7,11 +7,16 @@ use Rattle.brl_forward.proofs.InfoLists.{first_info-at, infos-taken, length-info
 use Rattle.brl_forward.proofs.TranslationLoop.{rule_more, no_more, signs-known}
 use Rattle.brl_forward.proofs.translation.cells_of.Goals as goal
 
+pub is_in_run_of-run-requires : goal.is_in_run_of-run-requires
+is_in_run_of-run-requires c =
+    ap (first_info c.args.table.now) (take_rest c.args.text.now c.loop-info.start)
+    ∙ first_info-at c.args.table.now c.args.text.now c.args.infos.now c.loop-info.start c.in-Some.info.now c.requires c.in-Some.ensures.lookup.3.0 c.in-Some.ensures.lookup.1
+
 pub choice_of-choice-requires : goal.choice_of-choice-requires
 choice_of-choice-requires c = record {
   info = ap (first_info c.args.table.now) (take_rest c.args.text.now c.loop-info.start)
       ∙ first_info-at c.args.table.now c.args.text.now c.args.infos.now c.loop-info.start c.in-Some.info.now c.requires c.in-Some.ensures.lookup.3.0 c.in-Some.ensures.lookup.1;
-  run = c.is_in_run-run.ensures;
+  run = c.is_in_run_of-run.ensures;
 }
 
 pub slice_bounds-context_behind_infos-end : goal.slice_bounds-context_behind_infos-end
@@ -34,7 +39,7 @@ loop-info-preserved c =
     let room : n ≤ length rest = omega (arith, c.choice_of-choice.ensures.room, ap length (take_rest text start)) in
     let some : 0 < length rest = omega (arith, room, c.choice_of-choice.ensures.some) in
     let taken : start + n - start ≡ n = omega arith in
-    let in_run = c.is_in_run-run.ensures ∙ ap (is_in_run t c.loop-info.here.classes) (take_rest text start) in
+    let in_run = c.is_in_run_of-run.ensures ∙ ap (is_in_run t c.loop-info.here.classes) (take_rest text start) in
     let signs = c.in_ok-push_signs.ensures ∙ ap (λ signs. c.loop-info.cells.items ++ signs) (signs-known t c.loop-info.here _ rest c.in-Some.info.now.now known in_run) in
     record {
       so_far = rule_more t c.loop-info.here c.context_behind_infos-here.result rest (drop (start + n) text) (take n rest)

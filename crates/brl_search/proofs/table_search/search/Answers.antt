@@ -1,18 +1,21 @@
-use Rattle.std.proofs.Common.{subst}
+use Rattle.std.proofs.Common.{List, ℕ, subst}
 use Rattle.std.proofs.lemmas.Result.{IfOk-weaker}
-use Rattle.brl_dues.specs.Steps.{dues_machine}
-use Rattle.brl_search.specs.Answers.{IsOutcome}
-use Rattle.brl_search.specs.Found.{IsFound}
-use Rattle.brl_table.specs.TableView.{TableView}
+use Rattle.brl_search.specs.Found.{IsFound, IsFoundWithout}
+use Rattle.brl_search.proofs.TableSearch.{found_all}
 use Rattle.brl_search.proofs.table_search.search.Goals as goal
 
-pub found_of-requires : goal.found_of-requires
-found_of-requires c = (c.args.limit, subst (λ (t : TableView). IsOutcome (dues_machine t) c.args.limit c.in_ok-outcome.outcome) c.new-dues.ensures.table c.in_ok-outcome.ensures)
-
 pub returns-clause-found : goal.returns-clause-found
-returns-clause-found c = c.found_of.ensures c.args.limit (subst (λ (t : TableView). IsOutcome (dues_machine t) c.args.limit c.in_ok-outcome.outcome) c.new-dues.ensures.table c.in_ok-outcome.ensures)
+returns-clause-found c =
+    let t = c.args.table.now in
+    let limit = c.args.limit in
+    IfOk-weaker c.search_without-2.result (IsFoundWithout c.none.result t limit) (IsFound t limit)
+    (λ found h. found_all t limit found (subst (λ (left_out : List ℕ). IsFoundWithout left_out t limit found) c.none.ensures h))
+    c.search_without-2.ensures.found
 
 pub returns-clause-unambiguous : goal.returns-clause-unambiguous
 returns-clause-unambiguous c =
-    let found = c.found_of.ensures c.args.limit (subst (λ (t : TableView). IsOutcome (dues_machine t) c.args.limit c.in_ok-outcome.outcome) c.new-dues.ensures.table c.in_ok-outcome.ensures) in
-    IfOk-weaker c.found_of.result (IsFound c.args.table.now c.args.limit) _ (λ f is. is.unambiguous) found
+    let t = c.args.table.now in
+    let limit = c.args.limit in
+    IfOk-weaker c.search_without-2.result (IsFoundWithout c.none.result t limit) _
+    (λ found h. (found_all t limit found (subst (λ (left_out : List ℕ). IsFoundWithout left_out t limit found) c.none.ensures h)).unambiguous)
+    c.search_without-2.ensures.found

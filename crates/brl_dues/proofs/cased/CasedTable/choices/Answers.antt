@@ -1,7 +1,8 @@
-use Rattle.std.proofs.Common.{[], ◌∷◌, ◌++◌, ◌∙◌, ap, ap₂}
+use Rattle.std.proofs.Common.{[], ◌∷◌, ◌++◌, ◌∙◌, ap, ap₂, sym}
 use Rattle.std.specs.List.{flat_map}
 use Rattle.brl_dues.specs.Capitals.{capitals, put_capital}
 use Rattle.brl_dues.proofs.ChoiceLoops.{choices-all, choices-next, choices-none}
+use Rattle.brl_dues.proofs.Walking.{no-choices}
 use Rattle.brl_dues.proofs.cased.CasedTable.choices.Goals as goal
 
 pub loop-done-init : goal.loop-done-init
@@ -17,3 +18,6 @@ loop-done-preserved c =
 
 pub returns : goal.returns
 returns c = choices-all c.args.self.now c.args.chars.now c.loop-done.done c.loop-done.texts.items c.loop-done-test.false c.loop-done.invariant
+
+pub returns-then-not-has_choices : goal.returns-then-not-has_choices
+returns-then-not-has_choices c = c.new-texts.ensures.items ∙ sym (no-choices c.args.self.now c.args.chars.now (sym c.has_choices.ensures ∙ c.if-not-has_choices.true))

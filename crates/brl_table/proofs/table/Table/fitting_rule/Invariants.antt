@@ -2,7 +2,6 @@ use Rattle.std.proofs.Common.{◌≡◌, ℕ, List, ◌∷◌, ◌+◌, ◌≤�
 use Rattle.std.specs.Prelude.{nat_le}
 use Rattle.std.specs.List.{position_from}
 use Rattle.brl_table.specs.Choice.{fits}
-use Rattle.brl_table.specs.Rank.{weight}
 use Rattle.brl_table.specs.Tree.{ends_at, ends_of}
 use Rattle.brl_table.proofs.Compared.{behind_first}
 use Rattle.brl_table.proofs.table.Table.fitting_rule.Given as goal
@@ -11,5 +10,5 @@ abbrev pub invariant-loop-character : goal.invariant-loop-character
 invariant-loop-character l = record {
   inside : l.character-index ≤ length (behind_first l.self l.fn.run l.others);
   node : (at : List ℕ) → ends_at l.node at ≡ ends_of l.self.rules (l.fn.fold ∷ (take l.character-index (behind_first l.self l.fn.run l.others) ++ at));
-  best : l.best ≡ position_from (λ r. fits l.self l.before l.rest r && nat_le (weight r) (l.character-index + 1)) 0 l.self.rules;
+  best : l.best ≡ position_from (λ r. fits l.self l.before l.rest r && nat_le (length r.chars) (l.character-index + 1)) 0 l.self.rules;
 }

@@ -23,7 +23,7 @@ invariant_of-result c =
               rules = All-permutation (IsRule view.characters (length view.files)) _ _ c.rank.ensures.permutation c.requires.rules;
               notices = c.requires.notices;
             };
-            in_rank = c.in_ok-rank.ensures.ranking.heavier_first;
+            in_rank = c.in_ok-rank.ensures.ranking.higher_first;
           };
       is_tree = λ x at. c.in_ok-tree.ensures x at ∙ ap (λ rules. ends_of rules (x ∷ at)) c.as_slice.ensures.value;
     }

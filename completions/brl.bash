@@ -1,0 +1,67 @@
+# Completions of the words of brl for bash. They need no other file; bash-completion loads them by
+# their name where it is installed.
+
+# The candidates for the word at the cursor, one of each line of the input.
+_brl_reply() {
+    local line
+    COMPREPLY=()
+    while IFS= read -r line; do
+        COMPREPLY+=("$line")
+    done
+}
+
+# Files whose names begin with the word at the cursor.
+_brl_files() {
+    compopt -o filenames 2>/dev/null
+    _brl_reply < <(compgen -f -- "$1")
+}
+
+_brl() {
+    local commands='translate clash trace search check survey'
+    local word=${COMP_WORDS[COMP_CWORD]} command='' option='' at operands=0
+    [[ $word == '=' ]] && word=''
+
+    # The command, the option that waits for its value, and the operands before the cursor.
+    for ((at = 1; at < COMP_CWORD; at++)); do
+        case ${COMP_WORDS[at]} in
+            --form | --limit | --without) option=${COMP_WORDS[at]} ;;
+            =) ;;
+            *)
+                if [[ -n $option ]]; then
+                    option=''
+                elif [[ ${COMP_WORDS[at]} == -* ]]; then
+                    :
+                elif [[ -z $command ]]; then
+                    command=${COMP_WORDS[at]}
+                else
+                    ((operands++))
+                fi
+                ;;
+        esac
+    done
+
+    local options='--help'
+    case $command in
+        '') options='--help --version' ;;
+        translate) options='--form --help' ;;
+        search) options='--limit --without --help' ;;
+        check) options='--without --help' ;;
+    esac
+
+    COMPREPLY=()
+    if [[ $option == --form ]]; then
+        _brl_reply < <(compgen -W 'ascii unicode' -- "$word")
+    elif [[ -n $option ]]; then
+        return
+    elif [[ $word == -* ]]; then
+        _brl_reply < <(compgen -W "$options" -- "$word")
+    elif [[ -z $command ]]; then
+        _brl_reply < <(compgen -W "$commands" -- "$word")
+    else
+        case $command:$operands in
+            translate:0 | clash:0 | trace:0 | search:[01] | check:[01] | survey:*) _brl_files "$word" ;;
+        esac
+    fi
+}
+
+complete -F _brl brl

@@ -1,0 +1,54 @@
+# Completions of the words of brl for fish.
+
+# How many operands of the command come before the cursor.
+function __brl_operands
+    set -l count 0
+    set -l takes_value no
+    for word in (commandline -opc)[3..-1]
+        if test $takes_value = yes
+            set takes_value no
+        else if contains -- $word --form --limit --without
+            set takes_value yes
+        else if not string match -q -- '-*' $word
+            set count (math $count + 1)
+        end
+    end
+    echo $count
+end
+
+# The command before the cursor is one of these.
+function __brl_is
+    set -l words (commandline -opc)
+    contains -- "$words[2]" $argv
+end
+
+# The command before the cursor is this one, and one of these numbers of operands comes after it.
+function __brl_at
+    __brl_is $argv[1]; and contains -- (__brl_operands) $argv[2..-1]
+end
+
+# No word comes before the cursor but brl.
+function __brl_is_first
+    test (count (commandline -opc)) = 1
+end
+
+complete -c brl -f
+complete -c brl -n __brl_is_first -a translate -d 'Translate text into braille by a table'
+complete -c brl -n __brl_is_first -a clash -d 'Say whether two texts look alike in braille'
+complete -c brl -n __brl_is_first -a trace -d 'Show the steps of the translation of a text'
+complete -c brl -n __brl_is_first -a search -d 'Decide whether any two texts look alike by a table'
+complete -c brl -n __brl_is_first -a check -d 'Say whether a certificate proves a table unambiguous'
+complete -c brl -n __brl_is_first -a survey -d 'List the lines of tables that are not read'
+
+complete -c brl -l help -d 'Print help'
+complete -c brl -n __brl_is_first -l version -d 'Print the version'
+complete -c brl -n '__brl_is translate' -l form -x -a 'ascii unicode' -d 'How cells are written'
+complete -c brl -n '__brl_is search' -l limit -x -d 'How many states and pairs may be found'
+complete -c brl -n '__brl_is search check' -l without -x -d 'Characters that the texts do not use'
+
+complete -c brl -n '__brl_at translate 0' -F
+complete -c brl -n '__brl_at clash 0' -F
+complete -c brl -n '__brl_at trace 0' -F
+complete -c brl -n '__brl_at search 0 1' -F
+complete -c brl -n '__brl_at check 0 1' -F
+complete -c brl -n '__brl_is survey' -F

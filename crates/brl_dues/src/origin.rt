@@ -1,0 +1,13 @@
+//! Where steps begin.
+
+use crate::DuesState;
+use crate::cased::CasedTable;
+use crate::letter::Letter;
+
+/// A state of a table's machine, and a character that may come next.
+#[derive(Clone, Copy)]
+pub struct Origin<'a> {
+    pub table: &'a CasedTable<'a>,
+    pub state: &'a DuesState,
+    pub letter: &'a Letter<'a>,
+}

@@ -1,0 +1,160 @@
+//! One step: what it takes, and what is due after it.
+ghost use Rattle.std.specs.Prelude.{◌≡◌, [], ◌∷◌, true, All, IfOk, IsTrue, Some};
+ghost use Rattle.std.specs.Option.{option_map_or};
+ghost use Rattle.brl_table.specs.Text.{has_word_capitals};
+ghost use Rattle.brl_table.specs.declared.place.Cond.TheVariants.{Any};
+ghost use Rattle.brl_dues.specs.Capitals.{further};
+ghost use Rattle.brl_dues.specs.Carry.{gathered};
+ghost use Rattle.brl_dues.specs.Letters.{left_past, left_with, letter_step, next_step};
+ghost use Rattle.brl_dues.specs.Order.{is_proper};
+ghost use Rattle.brl_dues.specs.Steps.{step_of as step_by};
+
+use crate::carry::{add_bars, add_need, dues_past};
+use crate::origin::Origin;
+use crate::{Due, DueList, DuesState};
+use brl_cells::{Cell, Cells, Chars};
+use brl_pairs::Step;
+use brl_table::Cond;
+use std::alloc::{AllocError, Global};
+
+/// What a step takes with a character: the number of a rule, whether it begins in a run of
+/// capitals, the other characters that it reads, its condition on the character after these, and
+/// its cells without indicators.
+#[derive(Clone, Copy)]
+pub struct Taken<'a> {
+    pub number: u32,
+    pub run: bool,
+    pub others: &'a [char],
+    pub after: Cond,
+    pub cells: &'a [Cell],
+}
+
+/// The step that takes this. `None` where it can't be taken so, or breaks a due.
+pub fn step_with(
+    alloc: Global,
+    origin: &Origin<'_>,
+    taken: Taken<'_>,
+) -> Result<Option<Step<DuesState>>, AllocError>
+    requires { taken.run ≡ true → IsTrue (has_word_capitals origin.now.table.now) }
+    ensures { IfOk result (λ step. option_map_or (λ x. x ∷ []) step []
+        ≡ letter_step origin.now.table.now origin.now.state.now origin.now.letter.now taken.entry.number taken.entry.run taken.entry.others.now taken.entry.after taken.entry.cells.now) }
+{
+    let Some(next) = what_follows(origin, taken) else {
+        return Ok(None);
+    };
+    let reads = reads_of(alloc, origin, taken)?;
+    let dues = origin.state.dues.as_slice();
+    let Some(left) = dues_past(alloc, origin.table.table(), reads.as_slice(), dues)? else {
+        return Ok(None);
+    };
+    finish_step(alloc, origin, taken, next, reads, left)
+}
+
+/// What must follow what a step reads so that it begins in a run of capitals, or out of one.
+pub fn what_follows(origin: &Origin<'_>, taken: Taken<'_>) -> Option<Cond>
+    ensures { result ≡ further origin.now.table.now origin.now.state.now.before taken.entry.run (origin.now.letter.now.character ∷ taken.entry.others.now) }
+{
+    let character = origin.letter.character();
+    origin
+        .table
+        .further(origin.state.before, taken.run, character, taken.others)
+}
+
+/// The characters that a step reads.
+pub fn reads_of(
+    alloc: Global,
+    origin: &Origin<'_>,
+    taken: Taken<'_>,
+) -> Result<Vec<char>, AllocError>
+    ensures { IfOk result (λ reads. reads.items ≡ origin.now.letter.now.character ∷ taken.entry.others.now) }
+{
+    let mut reads = Vec::with_capacity(alloc, taken.others.len() + 1)?;
+    reads.push(origin.letter.character())?;
+    reads.extend_from_slice(taken.others)?;
+    Ok(reads)
+}
+
+/// The step that takes this, reads these characters and asks this of the next one, where `left` is
+/// what is left of the state's dues after these. `None` where it can't meet what it owes.
+pub fn finish_step(
+    alloc: Global,
+    origin: &Origin<'_>,
+    taken: Taken<'_>,
+    next: Cond,
+    reads: Vec<char>,
+    left: Vec<Due>,
+) -> Result<Option<Step<DuesState>>, AllocError>
+    requires word { taken.run ≡ true → IsTrue (has_word_capitals origin.now.table.now) }
+    requires reads { reads.items ≡ origin.now.letter.now.character ∷ taken.others.now }
+    requires left { left_past origin.now.table.now reads.items origin.now.state.now.dues ≡ Some left.items }
+    requires proper { All (λ due. IsTrue (is_proper due)) left.items }
+    ensures { IfOk result (λ step. option_map_or (λ x. x ∷ []) step []
+        ≡ next_step origin.now.table.now origin.now.state.now origin.now.letter.now taken.entry.number taken.entry.run taken.entry.others.now taken.entry.after taken.entry.cells.now next) }
+{
+    let Some(dues) = next_dues(alloc, origin, taken, next, left)? else {
+        return Ok(None);
+    };
+    Ok(Some(step_of(alloc, origin, taken, reads, dues)?))
+}
+
+/// The dues after the step that takes this and asks this of the next character, where `left` is
+/// what is left of the state's. `None` where one is broken.
+fn next_dues(
+    alloc: Global,
+    origin: &Origin<'_>,
+    taken: Taken<'_>,
+    next: Cond,
+    left: Vec<Due>,
+) -> Result<Option<DueList>, AllocError>
+    requires word { taken.run ≡ true → IsTrue (has_word_capitals origin.now.table.now) }
+    requires proper { All (λ due. IsTrue (is_proper due)) left.items }
+    ensures { IfOk result (λ dues. dues ≡ gathered (left_with origin.now.table.now left.items origin.now.letter.now taken.entry.run next taken.entry.others.now taken.entry.after)) }
+{
+    let mut found = left;
+    add_need(taken.after, &mut found)?;
+    add_need(next, &mut found)?;
+    let above = origin.letter.above();
+    if !add_bars(
+        alloc,
+        origin.table,
+        taken.run,
+        taken.others,
+        above,
+        &mut found,
+    )? {
+        return Ok(None);
+    }
+    Ok(Some(DueList::in_order(found)))
+}
+
+/// The step that takes this and reads these characters, with the dues after it.
+fn step_of(
+    alloc: Global,
+    origin: &Origin<'_>,
+    taken: Taken<'_>,
+    reads: Vec<char>,
+    dues: DueList,
+) -> Result<Step<DuesState>, AllocError>
+    ensures { IfOk result (λ step. step ≡ step_by origin.now.table.now origin.now.state.now (record {
+      number = taken.entry.number;
+      reads = reads.items;
+      run = taken.entry.run;
+      next = Any;
+      after = taken.entry.after;
+      cells = taken.entry.cells.now;
+      above = [];
+    }) dues) }
+{
+    let table = origin.table.table();
+    let here = origin.state.context();
+    let behind = table.context_behind(here, reads.as_slice());
+    let mut cells = Vec::new(alloc);
+    table.push_indicators(here, taken.run, reads.as_slice(), &mut cells)?;
+    cells.extend_from_slice(taken.cells)?;
+    Ok(Step {
+        rule: taken.number,
+        reads: Chars::from_vec(reads),
+        cells: Cells::from_slice(alloc, cells.as_slice())?,
+        next: DuesState::from_context(behind, dues),
+    })
+}

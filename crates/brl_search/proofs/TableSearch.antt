@@ -1,0 +1,90 @@
+-- What a search of a table finds, from what a search of its machine without some characters finds.
+use Rattle.std.proofs.Common.{◌≡◌, ℕ, List, [], IsTrue, refl, sym, subst}
+use Rattle.std.specs.Cmp.{first_so, second_so}
+use Rattle.brl_dues.specs.Steps.{dues_machine}
+use Rattle.brl_forward.specs.ClashView.{ClashView}
+use Rattle.brl_pairs.specs.Runs.{Behaviour}
+use Rattle.brl_search.specs.Answers.{IsOutcome}
+use Rattle.brl_search.specs.Deciding.{IsClashOf}
+use Rattle.brl_search.specs.Found.{IfCertified, IfClashing, IsFound, IsFoundOver, IsFoundWithout}
+use Rattle.brl_search.specs.Searched.{State, machine_of}
+use Rattle.brl_search.specs.declared.outcome.Outcome.{Outcome}
+use Rattle.brl_search.specs.declared.table_search.Found.{Found}
+use Rattle.brl_search.specs.declared.table_search.Found.TheVariants.{Certified, Clashing, Limit}
+use Rattle.brl_kinds.specs.declared.cert.Cert.TheVariants.{Dues, Window, Word}
+use Rattle.brl_table.specs.TableView.{TableView}
+use Rattle.brl_table.specs.Text.{is_text}
+use Rattle.brl_table.specs.Translation.{IsClash, IsUnambiguous, translation}
+use Rattle.brl_without.specs.Itself.{unambiguous-none, without-none}
+use Rattle.brl_without.specs.LeftOut.{uses_none}
+use Rattle.brl_without.specs.Tables.{IsClashWithout, IsUnambiguousWithout}
+use Rattle.brl_without.specs.Without.{without}
+
+-- a clash of the machine without some characters is one of the table
+pub clash_of_machine : (left_out : List ℕ) (t : TableView) (left right : List ℕ) → IsClashOf (without left_out (dues_machine t)) left right → IsClash t left right (translation t left)
+clash_of_machine left_out t left right h = record {
+  left_text = first_so _ _ h.left_text;
+  right_text = first_so _ _ h.right_text;
+  differ = h.differ;
+  left_cells = refl;
+  right_cells = sym h.same_cells;
+}
+
+-- its texts use none of the characters
+pub none_of_machine : (left_out : List ℕ) (t : TableView) (left right : List ℕ) → IsClashOf (without left_out (dues_machine t)) left right
+    → IsTrue (uses_none left_out left) × IsTrue (uses_none left_out right)
+none_of_machine left_out t left right h = (second_so (is_text t left) _ h.left_text, second_so (is_text t right) _ h.right_text)
+
+-- the clash that is found has these texts
+pub clash_without : (left_out : List ℕ) (t : TableView) (left right : List ℕ) (clash : ClashView) → clash.left ≡ left → clash.right ≡ right
+    → IsTrue (uses_none left_out left) × IsTrue (uses_none left_out right) → IsClash t clash.left clash.right clash.cells → IsClashWithout left_out t clash.left clash.right clash.cells
+clash_without left_out t left right clash is_left is_right none is = record {
+  clash = is;
+  left_without = subst (λ (text : List ℕ). IsTrue (uses_none left_out text)) (sym is_left) none.0;
+  right_without = subst (λ (text : List ℕ). IsTrue (uses_none left_out text)) (sym is_right) none.1;
+}
+
+-- ---- Where nothing is left out
+
+if_certified-weaker : (P Q : Type 0) (found : Found) → (P → Q) → IfCertified (λ _. P) found → IfCertified (λ _. Q) found
+if_certified-weaker P Q (Certified (Word body)) then h = then h
+if_certified-weaker P Q (Certified (Dues body)) then h = h
+if_certified-weaker P Q (Certified (Window body)) then h = h
+if_certified-weaker P Q (Clashing clash) then h = h
+if_certified-weaker P Q (Limit states pairs) then h = h
+
+if_clashing-weaker : (P Q : ClashView → Type 0) (found : Found) → ((clash : ClashView) → P clash → Q clash) → IfClashing P found → IfClashing Q found
+if_clashing-weaker P Q (Certified cert) then h = h
+if_clashing-weaker P Q (Clashing clash) then h = then clash h
+if_clashing-weaker P Q (Limit states pairs) then h = h
+
+-- what is found says as much by what follows from it
+found-weaker : (m : Behaviour State) (P Q : Type 0) (Shows Shown : ClashView → Type 0) (limit : ℕ) (found : Found) → (P → Q) → (Q → P) → ((clash : ClashView) → Shows clash → Shown clash)
+    → IsFoundOver m P Shows limit found → IsFoundOver m Q Shown limit found
+found-weaker m P Q Shows Shown limit found forth back shown h = record {
+  closed = h.closed;
+  unambiguous = if_certified-weaker P Q found forth h.unambiguous;
+  states = h.states;
+  pairs = h.pairs;
+  within = h.within;
+  order = h.order;
+  clash = if_clashing-weaker Shows Shown found shown h.clash;
+  passed = h.passed;
+  by_one = h.by_one;
+  states_reached = h.states_reached;
+  pairs_reached = h.pairs_reached;
+  decides = h.decides;
+  certifies = λ few_states few_pairs single. h.certifies few_states few_pairs (back single);
+}
+
+unambiguous-nothing : (t : TableView) → IsUnambiguous t → IsUnambiguousWithout [] t
+unambiguous-nothing t single left right left_is right_is left_none right_none same = single left right left_is right_is same
+
+pub found_all : (t : TableView) (limit : ℕ) (found : Found) → IsFoundWithout [] t limit found → IsFound t limit found
+found_all t limit found h =
+    found-weaker (machine_of t) (IsUnambiguousWithout [] t) (IsUnambiguous t) (λ clash. IsClashWithout [] t clash.left clash.right clash.cells) (λ clash. IsClash t clash.left clash.right clash.cells) limit found
+    (unambiguous-none t) (unambiguous-nothing t) (λ clash is. is.clash)
+    (subst (λ (m : Behaviour State). IsFoundOver m (IsUnambiguousWithout [] t) (λ clash. IsClashWithout [] t clash.left clash.right clash.cells) limit found) (without-none (machine_of t)) h)
+
+pub outcome_nothing : (t : TableView) (limit : ℕ) (outcome : Outcome State) → IsOutcome (machine_of t) limit outcome → IsOutcome (without [] (machine_of t)) limit outcome
+outcome_nothing t limit outcome h = subst (λ (m : Behaviour State). IsOutcome m limit outcome) (sym (without-none (machine_of t))) h

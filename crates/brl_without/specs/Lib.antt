@@ -1,0 +1,5 @@
+pub mod LeftOut
+pub mod Without
+pub mod Tables
+pub mod Parts
+pub mod Itself

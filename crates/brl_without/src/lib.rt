@@ -1,0 +1,18 @@
+//! Machines without some characters: what is left of a machine for the texts that don't use them. So
+//! a table's question can be decided for the texts over its other characters.
+//!
+//! `Without` is such a machine, over any other one; `LeftOut` has the characters. The laws state that
+//! it keeps what a search and a checker need.
+#![tactic(auto)]
+
+mod laws;
+mod left_out;
+mod undefined;
+mod without;
+
+pub use laws::{
+    closed_without_law, exact_without_law, nothing_left_out_law, unambiguous_without_law,
+};
+pub use left_out::LeftOut;
+pub use undefined::{UndefinedLeftOut, check_defined};
+pub use without::Without;

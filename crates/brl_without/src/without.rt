@@ -1,0 +1,68 @@
+//! A machine without some characters.
+ghost use Rattle.std.specs.Prelude.{◌≡◌};
+ghost use Rattle.std.specs.List.{filter};
+ghost use Rattle.brl_without.specs.LeftOut.{uses_none};
+
+use crate::LeftOut;
+use brl_members::Key;
+use brl_pairs::{Machine, Step};
+use std::alloc::{AllocError, Global};
+use std::marker::Model;
+
+/// A machine without the texts that use some characters: its steps are those that read none of them.
+/// A contract sees the machine and the characters.
+#[derive(Drop)]
+pub struct Without<'m, M: Machine> {
+    machine: &'m M,
+    left_out: &'m LeftOut,
+}
+
+impl<'m, M: Machine> Model for Without<'m, M> {
+    ghost use Rattle.brl_without.specs.Without.{WithoutView};
+
+    ghost Value = { WithoutView M };
+
+    ghost view = { λ w. record { machine = w.machine.now; left_out = w.left_out.now } };
+}
+
+impl<'m, M: Machine> Without<'m, M> {
+    /// The machine without these characters.
+    pub fn new(machine: &'m M, left_out: &'m LeftOut) -> Without<'m, M>
+        ensures machine { result.machine ≡ machine.entry.now }
+        ensures left_out { result.left_out ≡ left_out.entry.now }
+    {
+        Without { machine, left_out }
+    }
+}
+
+impl<'m, M: Machine> Machine for Without<'m, M> {
+    ghost use Rattle.brl_without.specs.Without.{without};
+
+    type State = M::State;
+
+    ghost behaviour = { λ w. without w.left_out (M.behaviour w.machine) };
+
+    fn start(&self) -> M::State {
+        self.machine.start()
+    }
+
+    fn moves(&self, alloc: Global, state: &M::State) -> Result<Vec<Step<M::State>>, AllocError> {
+        let listed = self.machine.moves(alloc, state)?;
+        Ok(steps_without(self.left_out, listed))
+    }
+
+    fn ends(&self, state: &M::State) -> bool {
+        self.machine.ends(state)
+    }
+}
+
+/// The steps that read none of the characters, in their order.
+fn steps_without<S: Key>(left_out: &LeftOut, listed: Vec<Step<S>>) -> Vec<Step<S>>
+    ensures { result.items ≡ filter (λ x. uses_none left_out.now x.reads) listed.items }
+{
+    let mut kept = listed;
+    if !left_out.is_empty() {
+        kept.retain(|step| left_out.is_unused_in(step.reads.as_slice()));
+    }
+    kept
+}

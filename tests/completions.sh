@@ -1,0 +1,135 @@
+#!/bin/sh
+# Tries the completions of bash, zsh and fish, each in its own shell.
+# Usage: tests/completions.sh PROGRAM
+# At the end of each of these lines it must offer just these words; for commands and options they
+# are those that the program's help names. A shell that isn't installed is skipped, and a line says
+# so.
+set -u
+
+if [ $# -ne 1 ]; then
+    echo "usage: $0 PROGRAM" >&2
+    exit 2
+fi
+program=$(cd "$(dirname "$1")" && pwd)/$(basename "$1")
+completions=$(cd "$(dirname "$0")/../completions" && pwd) || exit 2
+. "$(dirname "$0")/help.sh"
+work=$(mktemp -d)
+trap 'rm -rf "$work"' EXIT
+trap 'exit 2' HUP INT TERM
+mkdir "$work/files" "$work/files/tables" && cd "$work/files" || exit 2
+: >table.ctb
+: >table.cert
+: >other.txt
+
+# What each shell offers at the end of a line, one word a line.
+bash_offers() {
+    bash --norc --noprofile -c '
+        . "$1/brl.bash"
+        COMP_LINE=$2 COMP_POINT=${#2}
+        # as readline cuts a line: at blanks, and before and after each equals sign
+        read -ra COMP_WORDS <<<"${2//=/ = }"
+        [[ $2 != *" " && $2 != *= ]] || COMP_WORDS+=("")
+        [[ $2 != *= ]] || unset "COMP_WORDS[-1]"
+        COMP_CWORD=$((${#COMP_WORDS[@]} - 1))
+        command=$(complete -p brl) && [[ $command == *"-F _brl "* ]] || exit 1
+        _brl
+        printf "%s\n" "${COMPREPLY[@]}"
+    ' bash "$completions" "$1"
+}
+
+fish_offers() {
+    fish --no-config -c 'source $argv[1]/brl.fish; complete -C $argv[2]' "$completions" "$1" | cut -f 1
+}
+
+# In zsh a line is typed into a shell of its own, whose `compadd` writes down what it is given.
+cat >"$work/typed.zsh" <<'END'
+zmodload zsh/zpty || exit 1
+zpty shell zsh -f -i
+zpty -w shell "source $ROOM/setup.zsh"
+for try in {1..300}; do [[ -e $ROOM/ready ]] && break; sleep 0.1; done
+zpty -w -n shell "$LINE_TO_TYPE"$'\t'
+for try in {1..300}; do [[ -e $ROOM/ended ]] && break; sleep 0.1; done
+zpty -d shell
+[[ -e $ROOM/ended ]]
+END
+cat >"$work/setup.zsh" <<'END'
+PROMPT= RPS1=
+unsetopt beep
+fpath=($COMPLETIONS $fpath)
+autoload -Uz compinit && compinit -u -D
+bindkey '^I' complete-word
+compadd() {
+    local -a offered
+    if [[ ${@[1,(i)(-|--)]} != *-(O|A|D)\ * ]]; then
+        builtin compadd -A offered "$@"
+        [[ $#offered == 0 ]] || print -rl -- $offered >>$ROOM/offered
+    fi
+    builtin compadd "$@"
+}
+note_end() { : >$ROOM/ended }
+comppostfuncs=(note_end)
+: >$ROOM/ready
+END
+
+zsh_offers() {
+    rm -f "$work/offered" "$work/ready" "$work/ended"
+    ROOM=$work COMPLETIONS=$completions LINE_TO_TYPE=$1 zsh -f "$work/typed.zsh" >/dev/null 2>&1 || return 1
+    [ ! -e "$work/offered" ] || cat "$work/offered"
+}
+
+# At the end of this line the shell must offer these words and no others.
+offers() {
+    line=$1
+    shift
+    [ $# -eq 0 ] || printf '%s\n' "$@" | sort -u >"$work/want"
+    [ $# -ne 0 ] || : >"$work/want"
+    "${shell}_offers" "$line" >"$work/got" || echo "the shell failed" >"$work/got"
+    # a folder's slash and the option before an equals sign are a matter of each shell
+    sed -i 's|/$||; s|^--form=||; s|=$||; /^$/d' "$work/got"
+    if ! sort -u "$work/got" | diff "$work/want" - >"$work/diff"; then
+        echo "FAILED: $shell, '$line': < must be offered, > is offered"
+        cat "$work/diff"
+        exit 1
+    fi
+    count=$((count + 1))
+}
+
+[ -n "$(commands)" ] && [ -n "$(options)" ] || { echo "FAILED: the help of $program has no commands or no options"; exit 1; }
+
+for shell in bash zsh fish; do
+    if ! command -v "$shell" >/dev/null; then
+        echo "skipped: no $shell"
+        continue
+    fi
+    count=0
+    offers 'brl ' $(commands)
+    offers 'brl -' $(options)
+    offers 'brl trans' translate
+    offers 'brl nothing '
+    for command in $(commands); do
+        offers "brl $command -" $(options "$command")
+        offers "brl $command t" table.ctb table.cert tables
+        offers "brl $command o" other.txt
+    done
+    offers 'brl translate --form ' ascii unicode
+    offers 'brl translate --form u' unicode
+    offers 'brl translate --form=' ascii unicode
+    offers 'brl translate --form=a' ascii
+    offers 'brl translate --form ascii t' table.ctb table.cert tables
+    offers 'brl translate table.ctb t'
+    offers 'brl clash table.ctb t'
+    offers 'brl clash table.ctb text t'
+    offers 'brl trace table.ctb t'
+    offers 'brl search table.ctb t' table.ctb table.cert tables
+    offers 'brl search table.ctb table.cert t'
+    offers 'brl search --limit t'
+    offers 'brl search --limit 5 t' table.ctb table.cert tables
+    offers 'brl search --without t'
+    offers 'brl search --without ab table.ctb t' table.ctb table.cert tables
+    offers 'brl search --limit=5 table.ctb table.cert t'
+    offers 'brl check table.ctb t' table.ctb table.cert tables
+    offers 'brl check --without ab table.ctb t' table.ctb table.cert tables
+    offers 'brl check table.ctb table.cert t'
+    offers 'brl survey table.ctb other.txt t' table.ctb table.cert tables
+    echo "ok: completions of $shell, $count lines"
+done

@@ -1,0 +1,96 @@
+#!/bin/sh
+# Checks the man page. Usage: tests/man.sh PROGRAM
+# Where man and mandoc are installed, they have no warning. It has the commands, operands and
+# options that the program's help names, and no others, and the faults that docs/ has. Its examples
+# print what it shows.
+set -u
+
+if [ $# -ne 1 ]; then
+    echo "usage: $0 PROGRAM" >&2
+    exit 2
+fi
+program=$(cd "$(dirname "$1")" && pwd)/$(basename "$1")
+. "$(dirname "$0")/help.sh"
+cd "$(dirname "$0")/.." || exit 2
+page=man/brl.1
+work=$(mktemp -d)
+trap 'rm -rf "$work"' EXIT
+trap 'exit 2' HUP INT TERM
+
+fail() {
+    echo "FAILED: $1"
+    cat "$2"
+    exit 1
+}
+
+# man's own warnings, and mandoc's that are more than matters of style.
+if command -v man >/dev/null && man --help 2>/dev/null | grep -q -- --warnings; then
+    LC_ALL=C.UTF-8 man --warnings -l "$page" >"$work/text" 2>"$work/warnings" && [ -s "$work/text" ] || fail 'man' "$work/warnings"
+    [ ! -s "$work/warnings" ] || fail 'man warns' "$work/warnings"
+    echo 'ok: man has no warning'
+else
+    echo 'skipped: no man that warns'
+fi
+if command -v mandoc >/dev/null; then
+    mandoc -T lint -W warning "$page" >"$work/lint" 2>&1 && [ ! -s "$work/lint" ] || fail 'mandoc warns' "$work/lint"
+    echo 'ok: mandoc has no warning'
+else
+    echo 'skipped: no mandoc'
+fi
+
+# What the help names: of each command a line with its operands and long options, and one of brl.
+{
+    for command in $(commands); do
+        echo "$command" $(operands "$command") $(options "$command" | grep -vx -e --help | sort)
+    done | sort
+    echo brl $(options | sort)
+} >"$work/help"
+[ "$(wc -l <"$work/help")" -gt 3 ] || fail 'the help' "$work/help"
+
+# The same of the page: of its synopsis, and of its lists of commands and of other options.
+awk '
+    function ended() { if (command) print command operands options; command = operands = options = "" }
+    /^\.Sh/ { ended(); is_synopsis = /SYNOPSIS/ }
+    !is_synopsis { next }
+    /^\.Nm/ { ended() }
+    /^\.Cm/ { command = $2 }
+    /^\.Op Fl Fl/ { options = options " --" $4 }
+    command && /^\.Ar/ { operands = operands " " $2 }
+' "$page" | tr -s ' ' | sort >"$work/synopsis"
+grep -v '^brl ' "$work/help" | diff - "$work/synopsis" >"$work/diff" || fail 'the synopsis: < is in the help, > in the page' "$work/diff"
+
+awk '
+    function ended() { if (command) print command operands options; command = operands = options = "" }
+    function options_of(line,   n, found) {
+        while (match(line, /Fl Fl [a-z-]+/)) {
+            found = found " --" substr(line, RSTART + 6, RLENGTH - 6)
+            line = substr(line, RSTART + RLENGTH)
+        }
+        return found
+    }
+    /^\.Sh/ { ended(); is_description = /DESCRIPTION/ }
+    !is_description { next }
+    /^The other options are/ { ended(); command = "brl" }
+    /^\.It Cm/ {
+        ended()
+        command = $3
+        in_head = options_of($0)
+        gsub(/Oo Fl Fl [a-z-]+ Ar [A-Z]+ Oc/, "")
+        sub(/^\.It Cm [a-z]+/, "")
+        gsub(/ Ar| \.\.\./, "")
+        operands = $0
+    }
+    /^\.It Fl/ { options = options options_of($0) }
+' "$page" | tr -s ' ' | sort >"$work/described"
+sort "$work/help" | diff - "$work/described" >"$work/diff" || fail 'the description: < is in the help, > in the page' "$work/diff"
+echo "ok: the page has the commands, operands and options of the help"
+
+# Every fault that docs/ names is there, and no other.
+faults() {
+    grep -oE '\b[A-Z][0-9] [A-Z][a-z]+[A-Za-z0-9]*' "$@" | sort -u
+}
+faults -h docs/FAULTS.md docs/CERTIFICATES.md docs/PROFILE.md >"$work/faults"
+faults "$page" | diff "$work/faults" - >"$work/diff" || fail 'the faults: < is in docs/, > in the page' "$work/diff"
+echo "ok: the page has the $(wc -l <"$work/faults") faults of docs/"
+
+tests/shown.py "$program" "$page"
