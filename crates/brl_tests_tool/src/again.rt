@@ -21,6 +21,9 @@ t.ctb: letter a 1; pass2 x; noback pass2 y; letter b 9 & u.ctb: #|brl,survey,t.c
 t.ctb: uplow Aa 1; capsletter 6|brl,trace,t.ctb,Aa||text: Aa; cells: 6-1-1;   A  6  1  t.ctb:1;   a  -  1  t.ctb:1||0
 t.ctb: #|brl,search,t.ctb,o||certified: 1 states, 0 pairs||0
 t.ctb: letter a 1; letter b 12|brl,search,t.ctb,o||certified: 2 states, 0 pairs||0
+t.ctb: letter a 1; letter b 12|brl,search,t.ctb,o,--without,b||certified: 2 states, 0 pairs; without: b||0
+t.ctb: letter a 1|brl,search,t.ctb,o,--without,b|||U8 UndefinedLeftOut b|2
+t.ctb: letter a 1 & c: BRLCERT 3; state 1 0 0; end 1 0|brl,check,t.ctb,c,--without,a||accepted: 1 states, 0 pairs; without: a||0
 t.ctb: # & c: BRLCERT 2; state 1 0; end 1 0|brl,check,t.ctb,c||accepted: 1 states, 0 pairs||0
 t.ctb: letter a 1; letter b 12; letter x 1-12; always ab 14 & c: BRLCERT 2; state 1 0; state 8 0; state 8 0 b62*; pair 1 2 12; end 3 1|brl,check,t.ctb,c||accepted: 3 states, 1 pairs||0
 t.ctb: letter a 1 & c: BRLCERT 1; state 1 0 0 -; state 8 0 0 61; state 8 0 1 -; pair 1 2 -; end 3 1|brl,check,t.ctb,c||accepted: 3 states, 1 pairs||0
