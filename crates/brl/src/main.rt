@@ -6,6 +6,8 @@ mod words;
 use crate::words::words_of;
 use brl_lines::FileSource;
 use brl_tool::{Watched, run};
+use brl_watch::Console;
+use std::io::IsTerminal;
 use std::process::ExitCode;
 
 fn main(rt: HostRuntime) -> ExitCode {
@@ -17,13 +19,15 @@ fn main(rt: HostRuntime) -> ExitCode {
             return ExitCode::from(fault.status());
         }
     };
+    let err = rt.stderr();
+    let is_terminal = err.is_terminal();
     let status = run(
         alloc,
         words.as_slice(),
         &mut FileSource::new(&rt),
         &mut Watched::new(rt.stdin()),
         &mut Watched::new(rt.stdout()),
-        &mut rt.stderr(),
+        &mut Console::new(&rt, err, is_terminal),
     );
     ExitCode::from(status)
 }

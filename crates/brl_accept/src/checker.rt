@@ -112,7 +112,7 @@ pub fn accept<M: Machine>(
     accept_watched(alloc, machine, body, &mut Unwatched)
 }
 
-/// The same. A watcher is told of each state how far the check is.
+/// The same. The watcher is told how far the check is, state by state.
 pub fn accept_watched<M: Machine, W: Watch>(
     alloc: Global,
     machine: &M,

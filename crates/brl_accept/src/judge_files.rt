@@ -13,7 +13,7 @@ ghost use Rattle.brl_table.specs.Translation.{IsUnambiguous};
 ghost use Rattle.brl_without.specs.Parts.{part_without};
 ghost use Rattle.brl_without.specs.Tables.{IsUnambiguousWithout};
 
-use crate::{Accepted, JudgeFault, accept};
+use crate::{Accepted, JudgeFault, accept_watched};
 use brl_cert::{Cert, read_cert};
 use brl_dues::{Dues, DuesState};
 use brl_edges::Body;
@@ -21,16 +21,18 @@ use brl_failure::{Failure, raise};
 use brl_lines::Source;
 use brl_reading::{load_table, one_table_law};
 use brl_table::Table;
+use brl_watch::{Unwatched, Watch};
 use brl_window::{TooWide, Window, WindowState};
 use brl_without::{LeftOut, Without, check_defined, unambiguous_without_law};
 use std::alloc::Global;
 
 /// Judges the states and pairs of a certificate of version 1 for a table without some characters.
-fn judge_windows(
+fn judge_windows<W: Watch>(
     alloc: Global,
     table: &Table,
     left_out: &LeftOut,
     body: &Body<WindowState>,
+    watch: &mut W,
 ) -> Result<Accepted, Failure<JudgeFault>>
     ensures unambiguous { OnOk result (IsUnambiguousWithout left_out.now table.now) }
     ensures accepted { IfOk result (IsProvedWith (part_without left_out.now) table.now (Cert.Window body.now)) }
@@ -41,16 +43,18 @@ fn judge_windows(
     };
     unambiguous_without_law(&window);
     let machine = Without::new(&window, left_out);
-    raise(accept(alloc, &machine, body), JudgeFault::Refused)
+    let accepted = accept_watched(alloc, &machine, body, watch);
+    raise(accepted, JudgeFault::Refused)
 }
 
 /// Judges the states and pairs of a certificate of version 2 or 3 for a table without some
 /// characters.
-fn judge_dues(
+fn judge_dues<W: Watch>(
     alloc: Global,
     table: &Table,
     left_out: &LeftOut,
     body: &Body<DuesState>,
+    watch: &mut W,
 ) -> Result<Accepted, Failure<JudgeFault>>
     ensures unambiguous { OnOk result (IsUnambiguousWithout left_out.now table.now) }
     ensures accepted { IfOk result (IsProvedWith (part_without left_out.now) table.now (Cert.Word body.now)) }
@@ -59,7 +63,8 @@ fn judge_dues(
     let dues = Dues::new(alloc, table);
     unambiguous_without_law(&dues);
     let machine = Without::new(&dues, left_out);
-    raise(accept(alloc, &machine, body), JudgeFault::Refused)
+    let accepted = accept_watched(alloc, &machine, body, watch);
+    raise(accepted, JudgeFault::Refused)
 }
 
 /// Whether certificates of this one's version are for the table: all where it has no word capitals,
@@ -74,11 +79,12 @@ fn has_version(table: &Table, cert: &Cert) -> bool
 }
 
 /// Judges a certificate for a table without some characters.
-fn judge_cert(
+fn judge_cert<W: Watch>(
     alloc: Global,
     table: &Table,
     left_out: &LeftOut,
     cert: &[u8],
+    watch: &mut W,
 ) -> Result<Accepted, Failure<JudgeFault>>
     ensures unambiguous { OnOk result (IsUnambiguousWithout left_out.now table.now) }
     ensures accepted { IfOk result (IsAcceptedFor (part_without left_out.now) table.now cert.now) }
@@ -89,18 +95,19 @@ fn judge_cert(
         return Err(Failure::Fault(JudgeFault::OldVersion));
     }
     match cert {
-        Cert::Window(runless) => judge_windows(alloc, table, left_out, runless.body()),
-        Cert::Dues(runless) => judge_dues(alloc, table, left_out, runless.body()),
-        Cert::Word(body) => judge_dues(alloc, table, left_out, &body),
+        Cert::Window(runless) => judge_windows(alloc, table, left_out, runless.body(), watch),
+        Cert::Dues(runless) => judge_dues(alloc, table, left_out, runless.body(), watch),
+        Cert::Word(body) => judge_dues(alloc, table, left_out, &body, watch),
     }
 }
 
 /// The same, once the table defines what is left out.
-fn judge_table(
+fn judge_table<W: Watch>(
     alloc: Global,
     table: &Table,
     left_out: &LeftOut,
     cert: &[u8],
+    watch: &mut W,
 ) -> Result<Accepted, Failure<JudgeFault>>
     ensures unambiguous { OnOk result (IsUnambiguousWithout left_out.now table.now) }
     ensures accepted { IfOk result (IsAcceptedWithout left_out.now table.now cert.now) }
@@ -108,7 +115,7 @@ fn judge_table(
 {
     let defined = check_defined(alloc, table, left_out);
     raise(defined, JudgeFault::NotDefined)?;
-    judge_cert(alloc, table, left_out, cert)
+    judge_cert(alloc, table, left_out, cert, watch)
 }
 
 /// Judges a certificate for the table that the file at the path `root` defines. An acceptance gives
@@ -141,24 +148,33 @@ pub fn judge<S: Source>(
     ensures count { CountsFailure (S.faults source.old) (S.faults source.new) (load_outcome result) }
     ensures same { AllStay (S.gives source.old) (S.gives source.new) }
 {
-    judge_without(alloc, source, root, cert, &LeftOut::none(alloc))
+    judge_without(
+        alloc,
+        source,
+        root,
+        cert,
+        &LeftOut::none(alloc),
+        &mut Unwatched,
+    )
 }
 
 /// Judges a certificate for the table that the file at the path `root` defines, for the texts that
 /// use none of some characters. An acceptance gives the numbers of states and pairs that the
 /// certificate lists. Then any two texts over the table's other characters that the table translates
-/// to the same cells are equal, whatever their length.
+/// to the same cells are equal, whatever their length. The watcher is told how far the check is,
+/// state by state.
 ///
 /// Otherwise the fault is that of the first stage that refuses: those of `judge`, and after `NoTable`
 /// `NotDefined` where the table doesn't define a character that is left out. `Refused` where the
 /// certificate's states and pairs aren't closed for the machine of its version without these
 /// characters.
-pub fn judge_without<S: Source>(
+pub fn judge_without<S: Source, W: Watch>(
     alloc: Global,
     source: &mut S,
     root: &str,
     cert: &[u8],
     left_out: &LeftOut,
+    watch: &mut W,
 ) -> Result<Accepted, Failure<JudgeFault>>
     // The files define a table, as the source gave them. Any two texts over its other characters that
     // it translates to the same cells are equal, whatever their length. The bytes spell a certificate
@@ -178,7 +194,7 @@ pub fn judge_without<S: Source>(
 {
     one_table_law(&*source);
     let table = raise(load_table(alloc, source, root), JudgeFault::NoTable)?;
-    let judged = judge_table(alloc, &table, left_out, cert);
+    let judged = judge_table(alloc, &table, left_out, cert, watch);
     drop(table);
     judged
 }

@@ -151,7 +151,7 @@ pub fn search_machine<M: Machine>(
     search_machine_watched(alloc, machine, limit, &mut Unwatched)
 }
 
-/// The same. From slice to slice it tells a watcher how much is found.
+/// The same. The watcher is told how much is found, slice by slice.
 pub fn search_machine_watched<M: Machine, W: Watch>(
     alloc: Global,
     machine: &M,

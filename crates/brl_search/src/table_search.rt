@@ -7,7 +7,7 @@ ghost use Rattle.brl_table.specs.Translation.{IsClash, IsUnambiguous, translatio
 ghost use Rattle.brl_without.specs.Tables.{IsUnambiguousWithout};
 ghost use Rattle.brl_without.specs.Without.{without};
 
-use crate::explore::search_machine;
+use crate::explore::search_machine_watched;
 use crate::laws::same_cells_law;
 use crate::outcome::Outcome;
 use brl_dues::{Dues, DuesState, exact_law};
@@ -16,6 +16,7 @@ use brl_forward::{Clash, confirm};
 use brl_kinds::Cert;
 use brl_pairs::numbered_sets_law;
 use brl_table::Table;
+use brl_watch::{Unwatched, Watch};
 use brl_without::{LeftOut, Without, exact_without_law, unambiguous_without_law};
 use std::alloc::{AllocError, Global};
 
@@ -40,16 +41,18 @@ pub fn search(alloc: Global, table: &Table, limit: u64) -> Result<Found, AllocEr
     ensures found { IfOk result (IsFound table.now limit) }
     ensures unambiguous { IfOk result (IfCertified (λ _. IsUnambiguous table.now)) }
 {
-    search_without(alloc, table, limit, &LeftOut::none(alloc))
+    search_without(alloc, table, limit, &LeftOut::none(alloc), &mut Unwatched)
 }
 
 /// Searches a table for a certificate or a clash of texts that use none of some characters, over its
-/// dues machine without these. Else the same as `search`.
-pub fn search_without(
+/// dues machine without these. Else the same as `search`. The watcher is told how much is found,
+/// slice by slice.
+pub fn search_without<W: Watch>(
     alloc: Global,
     table: &Table,
     limit: u64,
     left_out: &LeftOut,
+    watch: &mut W,
 ) -> Result<Found, AllocError>
     requires { limit ≤ 4294967295 }
     ensures found { IfOk result (IsFoundWithout left_out.now table.now limit) }
@@ -57,7 +60,7 @@ pub fn search_without(
 {
     let dues = Dues::new(alloc, table);
     let machine = Without::new(&dues, left_out);
-    let outcome = search_machine(alloc, &machine, limit)?;
+    let outcome = search_machine_watched(alloc, &machine, limit, watch)?;
     found_without(alloc, table, left_out, outcome)
 }
 

@@ -1,4 +1,5 @@
 //! Writers that fail.
+use brl_watch::{Watch, Work};
 use std::io::{Error, ErrorKind, Result as IoResult, Write};
 
 /// Takes this many writes whole, and then no byte.
@@ -35,4 +36,10 @@ impl Write for Closed {
     fn flush(&mut self) -> IoResult<()> {
         Ok(())
     }
+}
+
+impl Watch for Closed {
+    fn tell(&mut self, _work: Work) {}
+
+    fn end(&mut self) {}
 }

@@ -9,6 +9,7 @@ use brl_pairs::Machine;
 use brl_search::{Found, search_without};
 use brl_table::Table;
 use brl_testing::{chars, cut, one_file, table_of};
+use brl_watch::Unwatched;
 use brl_without::{LeftOut, Without};
 use std::alloc::Global;
 use std::test::Fail;
@@ -76,7 +77,7 @@ fn told_of_found(
 }
 
 fn told_of_table(alloc: Global, table: &Table, left_out: &LeftOut) -> Result<String, Fail> {
-    let found = search_without(alloc, table, 1_000_000, left_out)?;
+    let found = search_without(alloc, table, 1_000_000, left_out, &mut Unwatched)?;
     told_of_found(alloc, table, left_out, &found)
 }
 
@@ -155,7 +156,9 @@ fn judged(alloc: Global, left_out: &str, lines: &str, text: &str) -> Result<Stri
     let lines = bytes_of(alloc, lines)?;
     let mut source = one_file(alloc, "t.ctb", lines.as_slice())?;
     let cert = bytes_of(alloc, text)?;
-    match judge_without(alloc, &mut source, "t.ctb", cert.as_slice(), &left_out) {
+    let cert = cert.as_slice();
+    let judged = judge_without(alloc, &mut source, "t.ctb", cert, &left_out, &mut Unwatched);
+    match judged {
         Ok(accepted) => Ok(format!(in alloc;
             "{} states, {} pairs",
             accepted.states, accepted.pairs

@@ -1,7 +1,7 @@
 //! Runs in which memory may run out, each made again in the same process.
 use crate::runs::{Outcome, files_of, is_answered, words_of};
 use brl_lines::MapSource;
-use brl_testing::{cut, lines_of, mark};
+use brl_testing::{Listener, cut, lines_of, mark};
 use brl_tool::{Watched, run};
 use std::alloc::Global;
 use std::rt::Files;
@@ -43,7 +43,7 @@ fn marked_outcome<R: Files>(
 ) -> Result<Outcome, Fail> {
     let mut reader = input;
     let mut out = Watched::new(Vec::with_capacity(alloc, ROOM)?);
-    let mut err = Vec::with_capacity(alloc, ROOM)?;
+    let mut err = Listener::new(Vec::with_capacity(alloc, ROOM)?);
     mark(system);
     let status = run(alloc, words, files, &mut reader, &mut out, &mut err);
     mark(system);

@@ -10,6 +10,8 @@ mod checks;
 #[cfg(test)]
 mod files;
 #[cfg(test)]
+mod progress;
+#[cfg(test)]
 mod runs;
 #[cfg(test)]
 mod searches;

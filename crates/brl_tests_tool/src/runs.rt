@@ -3,7 +3,7 @@ use crate::cases;
 use crate::files::Sealed;
 use brl_failure::Failure;
 use brl_lines::{MapSource, SourceFault};
-use brl_testing::{Broken, Closed, Refusing, cut, lines_of, one_file};
+use brl_testing::{Broken, Closed, Listener, Refusing, cut, lines_of, one_file};
 use brl_tool::{Failed, Files, Watched, run};
 use std::alloc::Global;
 use std::collections::BTreeMap;
@@ -50,14 +50,14 @@ pub fn words_of(alloc: Global, field: &str) -> Result<Vec<String>, Fail> {
 #[derive(Drop)]
 pub struct Outcome {
     pub out: Vec<u8>,
-    pub err: Vec<u8>,
+    pub err: Listener,
     pub status: u8,
 }
 
 impl Outcome {
     /// Whether this was written, with this status.
     pub fn is(&self, out: &[u8], err: &[u8], status: u8) -> bool {
-        self.out.as_slice() == out && self.err.as_slice() == err && self.status == status
+        self.out.as_slice() == out && self.err.written.as_slice() == err && self.status == status
     }
 
     /// Whether the lines of two fields were written, with the status of a third.
@@ -81,7 +81,7 @@ pub fn outcome_of<F: Files>(
     let words = words_of(alloc, words)?;
     let mut reader = input;
     let mut out = Watched::new(Vec::new(alloc));
-    let mut err = Vec::new(alloc);
+    let mut err = Listener::new(Vec::new(alloc));
     let status = run(
         alloc,
         words.as_slice(),
@@ -156,7 +156,7 @@ fn has_texts(outcome: &Outcome, fields: &str) -> Result<bool, Fail> {
     Ok(
         outcome.status == status
             && has_text(outcome.out.as_slice(), out)?
-            && has_text(outcome.err.as_slice(), err)?,
+            && has_text(outcome.err.written.as_slice(), err)?,
     )
 }
 
@@ -294,7 +294,7 @@ fn unread_outcome(alloc: Global, files: &mut MapSource) -> Result<Outcome, Fail>
         kind: ErrorKind::Other,
     });
     let mut out = Watched::new(Vec::new(alloc));
-    let mut err = Vec::new(alloc);
+    let mut err = Listener::new(Vec::new(alloc));
     let status = run(
         alloc,
         words.as_slice(),
@@ -337,7 +337,7 @@ brl,--version|U4 OutputFailed
 fn is_cut_off_over(alloc: Global, files: &mut MapSource, row: &str) -> Result<bool, Fail> {
     let (words, fault) = cut(row)?;
     let words = words_of(alloc, words)?;
-    let mut err = Vec::new(alloc);
+    let mut err = Listener::new(Vec::new(alloc));
     let mut input = b"a\n".as_slice();
     let mut out = Watched::new(Closed);
     let status = run(
@@ -348,7 +348,7 @@ fn is_cut_off_over(alloc: Global, files: &mut MapSource, row: &str) -> Result<bo
         &mut out,
         &mut err,
     );
-    Ok(status == 2 && err.as_slice() == lines_of(alloc, fault)?.as_bytes())
+    Ok(status == 2 && err.written.as_slice() == lines_of(alloc, fault)?.as_bytes())
 }
 
 /// Whether such a run over a table of three letters does.

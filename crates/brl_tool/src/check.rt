@@ -12,36 +12,40 @@ use crate::status::Status;
 use brl_accept::{Accepted, JudgeFault, judge_without};
 use brl_failure::Failure;
 use brl_lines::{LoadFault, LoadFaultKind, MOST_FILE_BYTES, Source, SourceFault};
+use brl_watch::Watch;
 use brl_without::LeftOut;
 use std::alloc::Global;
 use std::fmt::Display;
 
 /// Judges the certificate in the file at one path for the table whose file is at another, without the
-/// characters that the option leaves out. What it spells is read first.
-pub fn check_by_words<S: Source>(
+/// characters that the option leaves out. What it spells is read first. The watcher is told how far the
+/// check is.
+pub fn check_by_words<S: Source, W: Watch>(
     alloc: Global,
     source: &mut S,
     table: &str,
     cert: &str,
     option: Option<&str>,
+    watch: &mut W,
 ) -> Result<Answer, RunFault>
     ensures checks { ByLeftOut (option_copied option.entry) (λ left_out. Judges left_out (S.gives source.old) table.now cert.now) result }
     ensures count { CountsFailure (S.faults source.old) (S.faults source.new) (load_outcome result) }
     ensures same { AllStay (S.gives source.old) (S.gives source.new) }
 {
     let left_out = left_out_of(alloc, option)?;
-    check_by_file(alloc, source, table, cert, &left_out)
+    check_by_file(alloc, source, table, cert, &left_out, watch)
 }
 
 /// Judges the certificate in the file at one path for the table whose file is at another, without the
 /// characters that are left out. The certificate's file is read first. The answer is the lines of an
 /// acceptance or the line of a refusal.
-pub fn check_by_file<S: Source>(
+pub fn check_by_file<S: Source, W: Watch>(
     alloc: Global,
     source: &mut S,
     table: &str,
     cert: &str,
     left_out: &LeftOut,
+    watch: &mut W,
 ) -> Result<Answer, RunFault>
     ensures checks { Checks left_out.now (S.gives source.old) table.now cert.now result }
     ensures accepts { AcceptsGood left_out.now (S.gives source.old) table.now cert.now result }
@@ -49,7 +53,7 @@ pub fn check_by_file<S: Source>(
     ensures same { AllStay (S.gives source.old) (S.gives source.new) }
 {
     let bytes = bytes_at(alloc, source, cert)?;
-    let judged = judge_without(alloc, source, table, bytes.as_slice(), left_out);
+    let judged = judge_without(alloc, source, table, bytes.as_slice(), left_out, watch);
     judgement(alloc, left_out, judged)
 }
 

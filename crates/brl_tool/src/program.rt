@@ -16,6 +16,7 @@ use crate::survey::survey_by_files;
 use crate::trace::trace_by_file;
 use crate::translate::translate_by_file;
 use crate::{Files, Form, Input, Output};
+use brl_watch::Watch;
 use brl_words::{NoTask, Task, task_of};
 use std::alloc::Global;
 use std::io::Write;
@@ -29,14 +30,15 @@ use std::io::Write;
 /// by a survey, the steps of a text, or help or the version where these are asked for. Standard error
 /// gets the notices of a table that is searched, one line for a fault (a survey has one for each table
 /// that can't be loaded, and goes on), or the text of a use fault; what can't be written there is dropped
-/// and changes no status. Faults come in the order of the work: the words, and what they leave out, the
+/// and changes no status. It is also told how far a search or a check is, and when that has ended, before
+/// its answer is delivered. Faults come in the order of the work: the words, and what they leave out, the
 /// certificate's file, the table's files, a file for a new certificate that is one of these, the
 /// table's lines, a character that is left out and isn't defined, the texts, the input, the certificate
 /// or the search, the file that gets a certificate, the output.
 ///
 /// A file is written only where a search found a certificate: that file and no other. A file of the
 /// searched table is refused as the file for the certificate before the search.
-pub fn run<F: Files, I: Input, O: Output, E: Write>(
+pub fn run<F: Files, I: Input, O: Output, E: Write + Watch>(
     alloc: Global,
     words: &[String],
     files: &mut F,
@@ -58,7 +60,7 @@ pub fn run<F: Files, I: Input, O: Output, E: Write>(
 }
 
 /// Does a task.
-fn perform<F: Files, I: Input, O: Output, E: Write>(
+fn perform<F: Files, I: Input, O: Output, E: Write + Watch>(
     alloc: Global,
     task: Task<'_>,
     files: &mut F,
@@ -131,7 +133,7 @@ fn compare<F: Files, O: Output, E: Write>(
 }
 
 /// `brl check`.
-fn check<F: Files, O: Output, E: Write>(
+fn check<F: Files, O: Output, E: Write + Watch>(
     alloc: Global,
     files: &mut F,
     table: &str,
@@ -149,12 +151,13 @@ fn check<F: Files, O: Output, E: Write>(
     ensures refused { result ≡ statuses.Refuted → ReportsRefusal (O.contents out.old) (O.contents out.new) }
     ensures same { AllStay (F.gives files.old) (F.gives files.new) }
 {
-    let answer = check_by_words(alloc, files, table, cert, without);
+    let answer = check_by_words(alloc, files, table, cert, without, err);
+    err.end();
     deliver(alloc, answer, files, out, err)
 }
 
 /// `brl search`.
-fn search<F: Files, O: Output, E: Write>(
+fn search<F: Files, O: Output, E: Write + Watch>(
     alloc: Global,
     files: &mut F,
     table: &str,
@@ -175,6 +178,7 @@ fn search<F: Files, O: Output, E: Write>(
     ensures same { result ≡ statuses.Refuted → AllStay (F.gives files.old) (F.gives files.new) }
 {
     let answer = search_by_words(alloc, files, table, cert, limit, without, err);
+    err.end();
     deliver(alloc, answer, files, out, err)
 }
 

@@ -20,13 +20,14 @@ use brl_reading::{NoTable, table_of_loaded};
 use brl_report::report;
 use brl_search::{Found, search_without};
 use brl_table::Table;
+use brl_watch::Watch;
 use brl_without::{LeftOut, check_defined};
 use std::alloc::{AllocError, Global};
 use std::io::Write;
 
 /// Searches the table whose file is at a path, without the characters that the option leaves out. What
-/// it spells is read first.
-pub fn search_by_words<F: Files, E: Write>(
+/// it spells is read first. Standard error is told how far the search is.
+pub fn search_by_words<F: Files, E: Write + Watch>(
     alloc: Global,
     files: &mut F,
     path: &str,
@@ -47,9 +48,9 @@ pub fn search_by_words<F: Files, E: Write>(
 /// Searches the table whose file is at a path, without the characters that are left out, until more
 /// than `limit` states or pairs are found. The answer is a certificate for the file at `out`, with its
 /// numbers; or the report of a clash; or the numbers at which the limit was passed. Before the search
-/// standard error gets the table's notices. `WouldOverwrite` where `out` names one of the table's
+/// standard error gets the table's notices, and it is told how far the search is. `WouldOverwrite` where `out` names one of the table's
 /// files; `NotDefined` where the table doesn't define a character that is left out.
-pub fn search_by_file<F: Files, E: Write>(
+pub fn search_by_file<F: Files, E: Write + Watch>(
     alloc: Global,
     files: &mut F,
     path: &str,
@@ -90,7 +91,7 @@ fn refuse_file_of_table<F: Files>(
 }
 
 /// Searches a table, once it defines what is left out.
-fn search_defined<E: Write>(
+fn search_defined<E: Write + Watch>(
     alloc: Global,
     table: &Table,
     out: &str,
@@ -106,7 +107,7 @@ fn search_defined<E: Write>(
 }
 
 /// Writes a table's notices, and searches it without the characters that are left out.
-fn search_table<E: Write>(
+fn search_table<E: Write + Watch>(
     alloc: Global,
     table: &Table,
     out: &str,
@@ -118,7 +119,7 @@ fn search_table<E: Write>(
     ensures { IfOk result (IsVerdict left_out.now table.now out.now limit) }
 {
     write_notices(alloc, table, err)?;
-    match search_without(alloc, table, u64::from(limit), left_out)? {
+    match search_without(alloc, table, u64::from(limit), left_out, err)? {
         Found::Certified(cert) => certificate(alloc, &cert, out, left_out),
         Found::Clashing(clash) => Ok(Answer::new(Status::Refuted, report(alloc, table, &clash)?)),
         Found::Limit { states, pairs } => {

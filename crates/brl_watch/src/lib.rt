@@ -2,6 +2,9 @@
 //! the work comes to.
 #![tactic(auto)]
 
+mod console;
+
+pub use console::Console;
 use std::fmt;
 
 /// How far work is.

@@ -35,23 +35,23 @@ raised_as part t bytes cert other read version same result h =
     IfErr-weaker result _ _ (λ failure k. if_fault-weaker _ _ failure (λ fault f. refused_as part t bytes other read fault (refused_with part t other (subst (HasVersion t) same version) fault f)) k) h
 
 pub returns-then-not-has_version-clause-refused : goal.returns-then-not-has_version-clause-refused
-returns-then-not-has_version-clause-refused c =
+returns-then-not-has_version-clause-refused g c =
     let read = read_as _ c.args.cert.now c.read_cert.result c.raise.result c.in_ok-cert.cert _ c.raise.ensures c.in_ok-cert.was c.read_cert.ensures.cert refl in
     (c.in_ok-cert.cert, read, λ has. not_both _ c.if-not-has_version.true (c.has_version.ensures.1 has))
 
 pub returns-in-Window-clause-refused : goal.returns-in-Window-clause-refused
-returns-in-Window-clause-refused c =
+returns-in-Window-clause-refused g c =
     let same = c.in-Window.is ∙ ap (λ (body : BodyView WindowState). Window body) (sym c.body.ensures.body) in
     let read = read_as _ c.args.cert.now c.read_cert.result c.raise.result c.in_ok-cert.cert _ c.raise.ensures c.in_ok-cert.was c.read_cert.ensures.cert same in
     raised_as (part_without c.args.left_out.now) c.args.table.now c.args.cert.now _ _ read (c.has_version.ensures.0 c.if-not-has_version.false) same c.judge_windows.result c.judge_windows.ensures.refused
 
 pub returns-in-Dues-clause-refused : goal.returns-in-Dues-clause-refused
-returns-in-Dues-clause-refused c =
+returns-in-Dues-clause-refused g c =
     let same = c.in-Dues.is ∙ ap (λ (body : BodyView DuesState). Dues body) (sym c.body-in-Dues.ensures.body) in
     let read = read_as _ c.args.cert.now c.read_cert.result c.raise.result c.in_ok-cert.cert _ c.raise.ensures c.in_ok-cert.was c.read_cert.ensures.cert same in
     raised_as (part_without c.args.left_out.now) c.args.table.now c.args.cert.now _ _ read (c.has_version.ensures.0 c.if-not-has_version.false) same c.judge_dues.result c.judge_dues.ensures.refused
 
 pub returns-in-Word-clause-refused : goal.returns-in-Word-clause-refused
-returns-in-Word-clause-refused c =
+returns-in-Word-clause-refused g c =
     let read = read_as _ c.args.cert.now c.read_cert.result c.raise.result c.in_ok-cert.cert _ c.raise.ensures c.in_ok-cert.was c.read_cert.ensures.cert c.in-Word.is in
     raised_as (part_without c.args.left_out.now) c.args.table.now c.args.cert.now _ _ read (c.has_version.ensures.0 c.if-not-has_version.false) c.in-Word.is c.judge_dues-in-Word.result c.judge_dues-in-Word.ensures.refused

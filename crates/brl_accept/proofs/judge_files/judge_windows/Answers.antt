@@ -16,22 +16,22 @@ use Rattle.brl_without.specs.Without.{without}
 use Rattle.brl_accept.proofs.judge_files.judge_windows.Goals as goal
 
 pub returns-clause-unambiguous : goal.returns-clause-unambiguous
-returns-clause-unambiguous c =
+returns-clause-unambiguous g c =
     let left_out = c.args.left_out.now in
-    if_ok-raised _ (λ (accepted : Accepted). IsUnambiguous (without c.new-machine.result.left_out (window_machine c.new-machine.result.machine))) (λ (accepted : Accepted). IsUnambiguousWithout left_out c.args.table.now) c.accept.result c.raise.result c.raise.ensures c.accept.ensures.unambiguous
+    if_ok-raised _ (λ (accepted : Accepted). IsUnambiguous (without c.new-machine.result.left_out (window_machine c.new-machine.result.machine))) (λ (accepted : Accepted). IsUnambiguousWithout left_out c.args.table.now) c.accept_watched-accepted.result c.raise.result c.raise.ensures c.accept_watched-accepted.ensures.unambiguous
     (λ accepted single.
     subst (IsUnambiguousWithout left_out) c.in-Ok.ensures.table
     ((c.unambiguous_without_law.ensures left_out).0
     (subst₂ (λ (cs : List ℕ) (t : TableView). IsUnambiguous (without cs (window_machine t))) c.new-machine.ensures.left_out c.new-machine.ensures.machine single)))
 
 pub returns-clause-accepted : goal.returns-clause-accepted
-returns-clause-accepted c =
+returns-clause-accepted g c =
     let body = c.args.body.now in
     let left_out = c.args.left_out.now in
     let m = c.new-machine.result in
-    if_ok-raised _ _ (IsProvedWith (part_without left_out) c.args.table.now (Window body)) c.accept.result c.raise.result c.raise.ensures
-    (if_ok-both (λ (accepted : Accepted). IsClosed (without m.left_out (window_machine m.machine)) (sets_of body)) (λ (accepted : Accepted). (accepted.states ≡ length body.states) × (accepted.pairs ≡ length body.pairs)) c.accept.result c.accept.ensures.closed
-    (if_ok-both (λ (accepted : Accepted). accepted.states ≡ length body.states) (λ (accepted : Accepted). accepted.pairs ≡ length body.pairs) c.accept.result c.accept.ensures.states c.accept.ensures.pairs))
+    if_ok-raised _ _ (IsProvedWith (part_without left_out) c.args.table.now (Window body)) c.accept_watched-accepted.result c.raise.result c.raise.ensures
+    (if_ok-both (λ (accepted : Accepted). IsClosed (without m.left_out (window_machine m.machine)) (sets_of body)) (λ (accepted : Accepted). (accepted.states ≡ length body.states) × (accepted.pairs ≡ length body.pairs)) c.accept_watched-accepted.result c.accept_watched-accepted.ensures.closed
+    (if_ok-both (λ (accepted : Accepted). accepted.states ≡ length body.states) (λ (accepted : Accepted). accepted.pairs ≡ length body.pairs) c.accept_watched-accepted.result c.accept_watched-accepted.ensures.states c.accept_watched-accepted.ensures.pairs))
     (λ accepted h. (
       c.in-Ok.ensures.ok,
       subst₂ (λ (cs : List ℕ) (t : TableView). IsClosed (without cs (window_machine t)) (sets_of body)) c.new-machine.ensures.left_out (c.new-machine.ensures.machine ∙ c.in-Ok.ensures.table) h.0,
@@ -39,10 +39,10 @@ returns-clause-accepted c =
     ))
 
 pub returns-clause-refused : goal.returns-clause-refused
-returns-clause-refused c =
+returns-clause-refused g c =
     let body = c.args.body.now in
     let part = part_without c.args.left_out.now in
-    if_err-raised _ _ (IsNotProvedWith part c.args.table.now (Window body)) c.accept.result c.raise.result c.raise.ensures c.accept.ensures.refused
+    if_err-raised _ _ (IsNotProvedWith part c.args.table.now (Window body)) c.accept_watched-accepted.result c.raise.result c.raise.ensures c.accept_watched-accepted.ensures.refused
     (λ fault other is h.
     subst (IsNotProvedWith part c.args.table.now (Window body)) (sym is)
     (c.in-Ok.ensures.ok, subst₂ (λ (cs : List ℕ) (t : TableView). IsRefused (without cs (window_machine t)) body fault) c.new-machine.ensures.left_out (c.new-machine.ensures.machine ∙ c.in-Ok.ensures.table) h))

@@ -8,12 +8,12 @@ use Rattle.brl_without.specs.Without.{without}
 use Rattle.brl_search.proofs.table_search.search_without.Goals as goal
 
 pub found_without-requires : goal.found_without-requires
-found_without-requires c = (c.args.limit, subst₂ (λ (cs : List ℕ) (t : TableView). IsOutcome (without cs (dues_machine t)) c.args.limit c.in_ok-outcome.outcome) c.new-machine.ensures.left_out (c.new-machine.ensures.machine ∙ c.new-dues.ensures.table) c.in_ok-outcome.ensures)
+found_without-requires g c = (c.args.limit, subst₂ (λ (cs : List ℕ) (t : TableView). IsOutcome (without cs (dues_machine t)) c.args.limit c.in_ok-outcome.outcome) c.new-machine.ensures.left_out (c.new-machine.ensures.machine ∙ c.new-dues.ensures.table) c.in_ok-outcome.ensures)
 
 pub returns-clause-found : goal.returns-clause-found
-returns-clause-found c = c.found_without.ensures c.args.limit (subst₂ (λ (cs : List ℕ) (t : TableView). IsOutcome (without cs (dues_machine t)) c.args.limit c.in_ok-outcome.outcome) c.new-machine.ensures.left_out (c.new-machine.ensures.machine ∙ c.new-dues.ensures.table) c.in_ok-outcome.ensures)
+returns-clause-found g c = c.found_without.ensures c.args.limit (subst₂ (λ (cs : List ℕ) (t : TableView). IsOutcome (without cs (dues_machine t)) c.args.limit c.in_ok-outcome.outcome) c.new-machine.ensures.left_out (c.new-machine.ensures.machine ∙ c.new-dues.ensures.table) c.in_ok-outcome.ensures)
 
 pub returns-clause-unambiguous : goal.returns-clause-unambiguous
-returns-clause-unambiguous c =
+returns-clause-unambiguous g c =
     let found = c.found_without.ensures c.args.limit (subst₂ (λ (cs : List ℕ) (t : TableView). IsOutcome (without cs (dues_machine t)) c.args.limit c.in_ok-outcome.outcome) c.new-machine.ensures.left_out (c.new-machine.ensures.machine ∙ c.new-dues.ensures.table) c.in_ok-outcome.ensures) in
     IfOk-weaker c.found_without.result (IsFoundWithout c.args.left_out.now c.args.table.now c.args.limit) _ (λ f is. is.unambiguous) found

@@ -1,0 +1,48 @@
+//! Standard error that hears how far long work is.
+use brl_watch::{Watch, Work};
+use std::io::{Result as IoResult, Write};
+
+/// Keeps what is written to it, and hears how far work is.
+#[derive(Drop)]
+pub struct Listener {
+    pub written: Vec<u8>,
+    /// The last that it heard.
+    pub last: Option<Work>,
+    /// How often it was told.
+    pub times: u32,
+    /// How often work has ended.
+    pub ends: u32,
+}
+
+impl Listener {
+    /// One that has heard nothing, and writes to `written`.
+    pub fn new(written: Vec<u8>) -> Listener {
+        Listener {
+            written,
+            last: None,
+            times: 0,
+            ends: 0,
+        }
+    }
+}
+
+impl Write for Listener {
+    fn write(&mut self, buf: &[u8]) -> IoResult<usize> {
+        self.written.write(buf)
+    }
+
+    fn flush(&mut self) -> IoResult<()> {
+        self.written.flush()
+    }
+}
+
+impl Watch for Listener {
+    fn tell(&mut self, work: Work) {
+        self.last = Some(work);
+        self.times = self.times.saturating_add(1);
+    }
+
+    fn end(&mut self) {
+        self.ends = self.ends.saturating_add(1);
+    }
+}
