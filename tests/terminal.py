@@ -19,7 +19,7 @@ SHOWN = {
     "check": re.compile(rb"checking: (\d+) of \d+ states, (\d+) pairs, (\d+) s"),
 }
 # After so many seconds work is shown, and so many a search must take here.
-QUIET, LONG = 2, 5
+QUIET, LONG = 2, 4
 LETTERS = {"a": "1", "b": "12", "c": "14", "d": "145", "e": "15", "f": "124", "g": "1245", "h": "125"}
 
 
@@ -80,24 +80,24 @@ def check_shown(command: str, shown: bytes) -> None:
 def main(program: str) -> None:
     with tempfile.TemporaryDirectory() as folder:
         table, cert = f"{folder}/t.ctb", f"{folder}/t.cert"
-        count, seconds = 500, 0.0
-        while seconds < LONG and count < 4096:
+        search, check = [program, "search", table, cert], [program, "check", table, cert]
+        count, seconds = 700, 0.0
+        while seconds < LONG and count < 4000:
             Path(table).write_text(table_of(count))
-            search, check = [program, "search", table, cert], [program, "check", table, cert]
             seconds, status, found, errors = run(search)
-            need((status, errors) == (0, b""), f"search ends with status {status} and writes {errors!r}")
-            count = count * 5 // 4
+            need((status, errors) == (0, b""), f"a search ends with status {status} and writes {errors!r}")
+            count *= 2
         need(seconds >= LONG, f"no search takes {LONG} seconds")
-        need(run(check)[1:] == (0, found.replace(b"certified", b"accepted"), b""), "check doesn't accept")
-        for command, words in (("search", search), ("check", check)):
+        accepted = found.replace(b"certified", b"accepted")
+        need(run(check)[1:] == (0, accepted, b""), "a check without a terminal differs")
+        for command, words, want in (("search", search, found), ("check", check, accepted)):
             status, output, shown = run_on_terminal(words)
-            need((status, output) == run(words)[1:3], f"{command} differs on a terminal")
+            need((status, output) == (0, want), f"{command} differs on a terminal")
             check_shown(command, shown)
-        # Short work isn't shown.
         Path(table).write_text(table_of(5))
         for words in (search, check):
-            need(run_on_terminal(words)[2] == b"", "short work is shown")
-    print("terminal: long work is shown, as it should be")
+            need(run_on_terminal(words)[2] == b"", "work that isn't long is shown")
+    print("terminal: a search and a check show how far they are, and clear what they show")
 
 
 if __name__ == "__main__":

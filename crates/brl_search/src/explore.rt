@@ -137,7 +137,7 @@ impl<'m, M: Machine> Search<'m, M> {
 }
 
 /// The most steps that a search runs before a watcher is told how far it is.
-const SLICE: u64 = 1_000;
+const SLICE: u64 = 16;
 
 /// Searches a machine to the end.
 pub fn search_machine<M: Machine>(

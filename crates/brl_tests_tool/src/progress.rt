@@ -47,6 +47,7 @@ fn searches_and_checks_tell_how_far_they_are(rt: HostRuntime) -> Result<(), Fail
 }
 
 /// A clock that is set by hand, in milliseconds; without a time it fails.
+#[derive(Drop)]
 struct HandClock {
     time: Cell<Option<u64>>,
 }
@@ -140,7 +141,7 @@ fn a_terminal_shows_how_far_long_work_is(rt: HostRuntime) -> Result<(), Fail> {
 /// Whether another stream gets what is said and nothing else.
 fn is_plain(alloc: Global) -> Result<bool, Fail> {
     let written = shown_by(alloc, "0 1,3000 2,say,5000 3,end", false)?;
-    Ok(written.as_slice() == b"said")
+    Ok(written.as_slice() == b"said".as_slice())
 }
 
 #[test]
