@@ -25,8 +25,6 @@ last alone, before it counts as not refused.
 The last line is 'wrong bodies: N refused, M not'.
 """
 
-import importlib.machinery
-import importlib.util
 import os
 import re
 import shutil
@@ -39,6 +37,10 @@ from pathlib import Path
 from types import ModuleType, SimpleNamespace
 
 TOP = Path(__file__).resolve().parent.parent
+
+sys.dont_write_bytecode = True
+sys.path.insert(0, str(TOP))
+from kit import kit
 
 # The memory that the check of one crate may take.
 CHECK_BYTES = 4_000_000_000
@@ -66,17 +68,6 @@ UNREAD = re.compile(r"(?:\./)?(?P<path>src/\S+?):(?P<line>\d+):\d+: error(?P<kin
 ENDED = re.compile(r"only=\d+ holes=\d+$")
 
 FUNCTION = re.compile(r"^( *)(?:[a-z()]+ )*fn (\w+)", re.MULTILINE)
-
-
-def kit() -> ModuleType:
-    """The kit's command `rt`, which reads edits and knows how a crate is checked."""
-    found = shutil.which("rt")
-    if not found:
-        sys.exit("wrong_bodies.py: this needs the command rt of the Rattle kit")
-    loader = importlib.machinery.SourceFileLoader("rt", os.path.realpath(found))
-    made = importlib.util.module_from_spec(importlib.util.spec_from_loader("rt", loader))
-    loader.exec_module(made)
-    return made
 
 
 def function_at(text: str, place: int) -> int | None:
@@ -450,6 +441,8 @@ def free_memory() -> int:
 
 def main(words: list[str]) -> int:
     rt = kit()
+    if not rt:
+        sys.exit("wrong_bodies.py: this needs the command rt of the Rattle kit")
     rt.rtlib.guarded()
     is_after_ci = words[:1] == ["--after-ci"]
     root = Path(words[1]).resolve() if is_after_ci else TOP
