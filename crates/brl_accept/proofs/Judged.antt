@@ -1,15 +1,15 @@
 -- What follows from a judge's outcome for the table and the certificate.
 use Rattle.std.proofs.Common.{◌≡◌, ℕ, ◌⊎◌, inl, inr, List, [], Result, Ok, Err, IfErr, IfOk, OnOk, refl, sym, ◌∙◌, ap, subst}
 use Rattle.brl_accept.specs.Judging.{IsAccepted, IsAcceptedFor, IsAcceptedWith, IsAcceptedWithout, IsNotAccepted, IsNotAcceptedWithout, IsNotClosed, IsNotProvedWith, IsRefusedBy, IsRefusedByWithout, IsRefusedFor, IsRefusedWith, IsRefusedWithout, counted}
-use Rattle.brl_accept.specs.declared.accept_fault.AcceptFault.{AcceptFault}
-use Rattle.brl_accept.specs.declared.checker.Accepted.{Accepted}
+use Rattle.brl_checker.specs.declared.accept_fault.AcceptFault.{AcceptFault}
+use Rattle.brl_checker.specs.declared.checker.Accepted.{Accepted}
 use Rattle.brl_accept.specs.declared.judge_fault.JudgeFault.{JudgeFault}
 use Rattle.brl_accept.specs.declared.judge_fault.JudgeFault.TheVariants.{NoTable, NotDefined, Cert, OldVersion, Wide, Refused}
-use Rattle.brl_accept.proofs.Closing.{open_where_refused}
-use Rattle.brl_kinds.specs.Kinds.{HasVersion, IsClosedFor, OfMachine}
+use Rattle.brl_checker.proofs.Open.{open_where_refused}
+use Rattle.brl_accept.specs.Kinds.{HasVersion, IsClosedFor, OfMachine}
 use Rattle.brl_cert.specs.Reading.{reading}
-use Rattle.brl_kinds.specs.declared.cert.Cert.TheVariants.{Dues, Window, Word}
-use Rattle.brl_kinds.specs.declared.cert.Cert.{Cert as Certificate}
+use Rattle.brl_states.specs.declared.cert.Cert.TheVariants.{Dues, Window, Word}
+use Rattle.brl_states.specs.declared.cert.Cert.{Cert as Certificate}
 use Rattle.brl_cert.specs.declared.fault.CertFault.{CertFault}
 use Rattle.brl_failure.specs.Failure.{IfFault}
 use Rattle.brl_failure.specs.declared.failure.Failure.{Failure}
@@ -20,9 +20,9 @@ use Rattle.brl_reading.specs.declared.no_table.NoTable.{NoTable as NoTableFault}
 use Rattle.brl_table.specs.TableView.{TableView}
 use Rattle.brl_table.specs.Translation.{IsUnambiguous}
 use Rattle.brl_window.specs.Windows.{window_machine}
-use Rattle.brl_window.specs.declared.state.WindowState.{WindowState}
+use Rattle.brl_states.specs.declared.window_state.WindowState.{WindowState}
 use Rattle.brl_dues.specs.Steps.{dues_machine}
-use Rattle.brl_dues.specs.declared.state.DuesState.{DuesState}
+use Rattle.brl_states.specs.declared.dues_state.DuesState.{DuesState}
 use Rattle.brl_without.specs.Itself.{part_without-none, unambiguous-none}
 use Rattle.brl_without.specs.Parts.{Part, part_without, whole}
 use Rattle.brl_without.specs.Tables.{AreDefined, IsUnambiguousWithout}

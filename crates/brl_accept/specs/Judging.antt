@@ -1,15 +1,16 @@
 -- When a certificate is accepted for the table that files define, and why it is refused. The
 -- project's own choice.
 use Rattle.std.specs.Prelude.{ℕ, ◌≡◌, List, Result, Ok, Err}
-use Rattle.brl_accept.specs.Refusals.{IsRefused}
-use Rattle.brl_kinds.specs.Kinds.{HasMachine, HasVersion, IsClosedFor, OfMachine, pair_count, state_count}
-use Rattle.brl_accept.specs.declared.accept_fault.AcceptFault.{AcceptFault}
-use Rattle.brl_accept.specs.declared.checker.Accepted.{Accepted}
+use Rattle.brl_checker.specs.Refusals.{IsRefused}
+use Rattle.brl_states.specs.Counts.{pair_count, state_count}
+use Rattle.brl_accept.specs.Kinds.{HasMachine, HasVersion, IsClosedFor, OfMachine}
+use Rattle.brl_checker.specs.declared.accept_fault.AcceptFault.{AcceptFault}
+use Rattle.brl_checker.specs.declared.checker.Accepted.{Accepted}
 use Rattle.brl_accept.specs.declared.judge_fault.JudgeFault.{JudgeFault}
 use Rattle.brl_accept.specs.declared.judge_fault.JudgeFault.TheVariants.{NoTable, NotDefined, Cert, OldVersion, Wide, Refused}
 use Rattle.brl_edges.specs.Body.{BodyView}
 use Rattle.brl_cert.specs.Reading.{reading}
-use Rattle.brl_kinds.specs.declared.cert.Cert.{Cert as Certificate}
+use Rattle.brl_states.specs.declared.cert.Cert.{Cert as Certificate}
 use Rattle.brl_failure.specs.declared.failure.Failure.{Failure}
 use Rattle.brl_failure.specs.declared.failure.Failure.TheVariants.{Fault, Memory}
 use Rattle.brl_lines.specs.Answer.{MayGive}

@@ -1,7 +1,2 @@
+pub mod Kinds
 pub mod Judging
-pub mod Refusals
-pub mod Least
-pub mod Steps
-pub mod Alike
-pub mod SameKind
-pub mod Pass

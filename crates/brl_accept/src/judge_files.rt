@@ -1,10 +1,10 @@
 //! The judge of a certificate for the table that files define.
 ghost use Rattle.std.specs.Prelude.{◌≡◌, ◌⊎◌, ◌↔◌, Err, IfErr, IfOk, IsTrue, Ok, OnOk};
 ghost use Rattle.brl_accept.specs.Judging.{IsAccepted, IsAcceptedFor, IsAcceptedWithout, IsNotProvedWith, IsProvedWith, IsRefusedBy, IsRefusedByWithout, IsRefusedFor, IsRefusedWithout, load_outcome};
-ghost use Rattle.brl_accept.specs.declared.checker.Accepted.{Accepted as AcceptedValue};
+ghost use Rattle.brl_checker.specs.declared.checker.Accepted.{Accepted as AcceptedValue};
 ghost use Rattle.brl_failure.specs.Failure.{IfFault};
 ghost use Rattle.brl_failure.specs.declared.failure.Failure.TheVariants as failures;
-ghost use Rattle.brl_kinds.specs.Kinds.{HasVersion};
+ghost use Rattle.brl_accept.specs.Kinds.{HasVersion};
 ghost use Rattle.brl_lines.specs.Answer.{AllStay, GivesOneAnswer};
 ghost use Rattle.brl_lines.specs.Outcome.{CountsFailure};
 ghost use Rattle.brl_reading.specs.Files.{IsTableOf};
@@ -13,16 +13,18 @@ ghost use Rattle.brl_table.specs.Translation.{IsUnambiguous};
 ghost use Rattle.brl_without.specs.Parts.{part_without};
 ghost use Rattle.brl_without.specs.Tables.{IsUnambiguousWithout};
 
-use crate::{Accepted, JudgeFault, accept_watched};
+use crate::JudgeFault;
 use brl_cert::{Cert, read_cert};
-use brl_dues::{Dues, DuesState};
+use brl_checker::{Accepted, accept_watched};
+use brl_dues::Dues;
 use brl_edges::Body;
 use brl_failure::{Failure, raise};
 use brl_lines::Source;
 use brl_reading::{load_table, one_table_law};
+use brl_states::{DuesState, WindowState};
 use brl_table::Table;
 use brl_watch::{Unwatched, Watch};
-use brl_window::{TooWide, Window, WindowState};
+use brl_window::{TooWide, Window};
 use brl_without::{LeftOut, Without, check_defined, unambiguous_without_law};
 use std::alloc::Global;
 

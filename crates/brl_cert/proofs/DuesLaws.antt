@@ -10,12 +10,12 @@ use Rattle.std.proofs.lemmas.List.Splits.{slice_split_at, slice_split_none}
 use Rattle.brl_table.specs.declared.class.Class.{Class}
 use Rattle.brl_table.specs.declared.place.Cond.{Cond}
 use Rattle.brl_table.specs.declared.place.Cond.TheVariants.{Any, Meets, Avoids}
-use Rattle.brl_dues.specs.Order.{AreDues, in_order, is_proper}
-use Rattle.brl_dues.specs.Same.{dues_equiv}
-use Rattle.brl_dues.specs.SameState.{same_states}
-use Rattle.brl_dues.specs.declared.due.Due.{Due}
-use Rattle.brl_dues.specs.declared.due.Due.TheVariants.{Need, Bar}
-use Rattle.brl_dues.specs.declared.state.DuesState.{DuesState}
+use Rattle.brl_states.specs.Order.{AreDues, in_order, is_proper}
+use Rattle.brl_states.specs.SameDues.{dues_equiv}
+use Rattle.brl_states.specs.SameDuesState.{same_states}
+use Rattle.brl_states.specs.declared.due.Due.{Due}
+use Rattle.brl_states.specs.declared.due.Due.TheVariants.{Need, Bar}
+use Rattle.brl_states.specs.declared.dues_state.DuesState.{DuesState}
 use Rattle.brl_cert.specs.Dues.{dues_fields, lenient_any, lenient_due, lenient_dues, lenient_head, lenient_parts, lenient_set, lenient_state, lenient_word, or_else, dues_format, spelled_cond, spelled_due, word_fields, word_format}
 use Rattle.brl_cert.specs.Fields.{◌>>=◌, character, each, flag, is_char, lenient_char, number}
 use Rattle.brl_cert.specs.Valid.{HasSet, IsDue, IsDuesState, IsRunless}

@@ -15,8 +15,8 @@ use Rattle.brl_cert.specs.declared.line.Line.TheVariants.{State, Pair, End}
 use Rattle.brl_cert.specs.Lines.{at_line, StateFormat, placed, ◌>>>◌, spelled_line, whole_line, spelled_body, strict_line, line_of, may_follow, lenient_line, is_end, add_line, one_line, body_of}
 use Rattle.brl_cert.specs.Dues.{dues_format, word_format}
 use Rattle.brl_cert.specs.Reading.{spelling, reading, certificate_of, spelled_header, strict_header, header_of, lenient_header, empty_body, version_of, written_so}
-use Rattle.brl_kinds.specs.declared.cert.Cert.TheVariants.{Dues, Window, Word}
-use Rattle.brl_kinds.specs.declared.cert.Cert.{Cert as Certificate}
+use Rattle.brl_states.specs.declared.cert.Cert.TheVariants.{Dues, Window, Word}
+use Rattle.brl_states.specs.declared.cert.Cert.{Cert as Certificate}
 use Rattle.brl_cert.specs.Window.{window_format}
 
 -- the value of a step that did not fail

@@ -20,12 +20,12 @@ use Rattle.brl_cert.specs.Fields.{◌>>=◌, lenient_number, lenient_lead, is_ch
 use Rattle.brl_cert.specs.declared.line.Line.{Line}
 use Rattle.brl_cert.specs.declared.line.Line.TheVariants.{State, Pair, End}
 use Rattle.brl_cert.specs.Lines.{at_line, StateFormat, ◌>>>◌, placed, count, spelled_line, lenient_line, lenient_pair, lenient_end, strict_line, line_of, may_follow, is_end, add_line, one_line, body_of}
-use Rattle.brl_window.specs.declared.state.WindowState.{WindowState}
+use Rattle.brl_states.specs.declared.window_state.WindowState.{WindowState}
 use Rattle.brl_cert.specs.Window.{window_format, lenient_window}
 use Rattle.brl_cert.specs.Dues.{dues_format, word_format}
 use Rattle.brl_cert.specs.Reading.{reading, certificate_of, version_of, header_of, empty_body, written_so}
-use Rattle.brl_kinds.specs.declared.cert.Cert.TheVariants.{Dues, Window, Word}
-use Rattle.brl_kinds.specs.declared.cert.Cert.{Cert as Certificate}
+use Rattle.brl_states.specs.declared.cert.Cert.TheVariants.{Dues, Window, Word}
+use Rattle.brl_states.specs.declared.cert.Cert.{Cert as Certificate}
 use Rattle.brl_cert.specs.Valid.{IsBody, IsRunless, IsWindowState, IsDuesState, IsCertificate}
 use Rattle.brl_cert.proofs.Ascii.{limited}
 use Rattle.brl_cert.proofs.Found.{then_ok, placed_ok, guard_ok, need_ok, ok_is}

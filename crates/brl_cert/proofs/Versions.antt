@@ -9,8 +9,8 @@ use Rattle.brl_cert.specs.Dues.{dues_format, word_format}
 use Rattle.brl_cert.specs.Lines.{StateFormat, spelled_body, body_of, ◌>>>◌}
 use Rattle.brl_cert.specs.Window.{window_format}
 use Rattle.brl_cert.specs.Reading.{spelled_header, header_of, certificate_of, empty_body, reading, spelling, version_of, written_so}
-use Rattle.brl_kinds.specs.declared.cert.Cert.TheVariants.{Dues, Window, Word}
-use Rattle.brl_kinds.specs.declared.cert.Cert.{Cert as Certificate}
+use Rattle.brl_states.specs.declared.cert.Cert.TheVariants.{Dues, Window, Word}
+use Rattle.brl_states.specs.declared.cert.Cert.{Cert as Certificate}
 use Rattle.brl_cert.specs.Valid.{IsBody, IsCertificate, IsDuesState, IsRunless}
 use Rattle.brl_cert.proofs.FieldLaws.{IsAbove, ReadsCells, apart, above_true}
 use Rattle.brl_cert.proofs.Again.{KeepsStates, body_again, first_part}

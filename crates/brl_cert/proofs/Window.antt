@@ -5,12 +5,12 @@ use Rattle.std.specs.List.{AllByRecursion}
 use Rattle.std.proofs.Math.Bool.{beq}
 use Rattle.std.proofs.lemmas.Bool.Decides.{Decides-eqb, same_from_decides}
 use Rattle.std.proofs.lemmas.Slice.Eq.{bytes_eq-Decides}
-use Rattle.brl_window.specs.declared.state.WindowState.{WindowState}
+use Rattle.brl_states.specs.declared.window_state.WindowState.{WindowState}
 use Rattle.brl_edges.specs.Body.{NumberPair, same_pair}
-use Rattle.brl_window.specs.contracts.state.WindowStatePartialEq.TheImpl.{eq-value as window-eq}
+use Rattle.brl_states.specs.contracts.window_state.WindowStatePartialEq.TheImpl.{eq-value as window-eq}
 use Rattle.brl_members.specs.Same.{same_numbers}
 use Rattle.brl_pairs.specs.Same.{same_pairs}
-use Rattle.brl_window.specs.Same.{same_states}
+use Rattle.brl_states.specs.SameWindowState.{same_states}
 use Rattle.brl_cert.specs.Window.{window_fields, lenient_window, window_format}
 use Rattle.brl_cert.specs.Valid.{IsRunless, IsWindowState}
 use Rattle.brl_cert.proofs.FieldLaws.{IsAbove, lower, number_reads, flag_reads, chars_read}

@@ -6,7 +6,7 @@ use Rattle.std.proofs.lemmas.List.{append-nil, flat_map_more, take_more}
 use Rattle.std.proofs.lemmas.List.Elements.{All-push}
 use Rattle.brl_cert.specs.Fields.{spelled_chars}
 use Rattle.brl_edges.specs.Body.{BodyView}
-use Rattle.brl_kinds.specs.Runless.{AreRunless}
+use Rattle.brl_states.specs.Runless.{AreRunless}
 use Rattle.brl_cert.specs.Lines.{StateFormat, after_blanks}
 use Rattle.brl_cert.specs.Valid.{IsBody, IsRunless}
 

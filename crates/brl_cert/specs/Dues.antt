@@ -5,11 +5,11 @@ use Rattle.std.specs.List.{join_with_byte, slice_split}
 use Rattle.brl_table.specs.declared.class.Class.{Class}
 use Rattle.brl_table.specs.declared.place.Cond.{Cond}
 use Rattle.brl_table.specs.declared.place.Cond.TheVariants.{Any, Meets, Avoids}
-use Rattle.brl_dues.specs.Order.{in_order, is_proper}
-use Rattle.brl_dues.specs.declared.due.Due.{Due}
-use Rattle.brl_dues.specs.declared.due.Due.TheVariants.{Need, Bar}
-use Rattle.brl_dues.specs.declared.state.DuesState.{DuesState}
-use Rattle.brl_dues.specs.contracts.state.DuesStatePartialEq.TheImpl.{eq-value}
+use Rattle.brl_states.specs.Order.{in_order, is_proper}
+use Rattle.brl_states.specs.declared.due.Due.{Due}
+use Rattle.brl_states.specs.declared.due.Due.TheVariants.{Need, Bar}
+use Rattle.brl_states.specs.declared.dues_state.DuesState.{DuesState}
+use Rattle.brl_states.specs.contracts.dues_state.DuesStatePartialEq.TheImpl.{eq-value}
 use Rattle.brl_cert.specs.Fields.{◌>>=◌, each, flag, lenient_char, number}
 use Rattle.brl_cert.specs.Lines.{StateFormat}
 

@@ -6,8 +6,8 @@ use Rattle.std.specs.List.{slice_split, join_with_byte}
 use Rattle.brl_cert.specs.declared.fault.CertFault.{CertFault}
 use Rattle.brl_cert.specs.declared.fault.CertFaultKind.{CertFaultKind}
 use Rattle.brl_cert.specs.declared.fault.CertFaultKind.TheVariants.{Version, Syntax, NotCanonical, Truncated}
-use Rattle.brl_kinds.specs.declared.cert.Cert.{Cert as Certificate}
-use Rattle.brl_kinds.specs.declared.cert.Cert.TheVariants.{Dues, Window, Word}
+use Rattle.brl_states.specs.declared.cert.Cert.{Cert as Certificate}
+use Rattle.brl_states.specs.declared.cert.Cert.TheVariants.{Dues, Window, Word}
 use Rattle.brl_cert.specs.Dues.{dues_format, word_format}
 use Rattle.brl_cert.specs.Lines.{StateFormat, at_line, count, spelled_body, body_of, placed, ◌>>>◌}
 use Rattle.brl_edges.specs.Body.{BodyView}

@@ -4,18 +4,18 @@ use Rattle.std.specs.List.{IsDistinct}
 use Rattle.brl_cells.specs.Dots.{AreCells}
 use Rattle.brl_table.specs.declared.place.Cond.{Cond}
 use Rattle.brl_table.specs.declared.place.Cond.TheVariants.{Any, Meets, Avoids}
-use Rattle.brl_dues.specs.Order.{AreDues}
-use Rattle.brl_dues.specs.declared.due.Due.{Due}
-use Rattle.brl_dues.specs.declared.due.Due.TheVariants.{Need, Bar}
-use Rattle.brl_dues.specs.declared.state.DuesState.{DuesState}
-use Rattle.brl_window.specs.declared.state.WindowState.{WindowState}
+use Rattle.brl_states.specs.Order.{AreDues}
+use Rattle.brl_states.specs.declared.due.Due.{Due}
+use Rattle.brl_states.specs.declared.due.Due.TheVariants.{Need, Bar}
+use Rattle.brl_states.specs.declared.dues_state.DuesState.{DuesState}
+use Rattle.brl_states.specs.declared.window_state.WindowState.{WindowState}
 use Rattle.brl_edges.specs.Body.{BodyView, IsPairOf, same_pair}
 use Rattle.brl_cert.specs.Fields.{is_char}
 use Rattle.brl_cert.specs.Lines.{StateFormat}
 use Rattle.brl_cert.specs.Dues.{dues_format, word_format}
 use Rattle.brl_cert.specs.Window.{window_format}
-use Rattle.brl_kinds.specs.declared.cert.Cert.TheVariants.{Dues, Window, Word}
-use Rattle.brl_kinds.specs.declared.cert.Cert.{Cert as Certificate}
+use Rattle.brl_states.specs.declared.cert.Cert.TheVariants.{Dues, Window, Word}
+use Rattle.brl_states.specs.declared.cert.Cert.{Cert as Certificate}
 
 -- a state's classes are a number of eight bits, and its characters are characters
 pub record IsWindowState (s : WindowState) : Type 0 where

@@ -1,7 +1,7 @@
 -- The states of certificates of version 1, as fields. The project's own choice.
 use Rattle.std.specs.Prelude.{ℕ, false, List, [], ◌∷◌, Option, Some, None}
-use Rattle.brl_window.specs.declared.state.WindowState.{WindowState}
-use Rattle.brl_window.specs.contracts.state.WindowStatePartialEq.TheImpl.{eq-value}
+use Rattle.brl_states.specs.declared.window_state.WindowState.{WindowState}
+use Rattle.brl_states.specs.contracts.window_state.WindowStatePartialEq.TheImpl.{eq-value}
 use Rattle.brl_cert.specs.Fields.{◌>>=◌, number, flag, chars}
 use Rattle.brl_cert.specs.Lines.{StateFormat}
 

@@ -6,13 +6,13 @@ ghost use Rattle.brl_cert.specs.Dues.{dues_fields, lenient_any, lenient_due as d
 ghost use Rattle.brl_cert.specs.Fields.{each, flag, is_char, number};
 ghost use Rattle.brl_cert.specs.Lines.{after_blanks};
 ghost use Rattle.brl_cert.specs.Valid.{HasSet, IsDue, IsDuesState};
-ghost use Rattle.brl_dues.specs.Order.{is_proper};
+ghost use Rattle.brl_states.specs.Order.{is_proper};
 ghost use Rattle.brl_table.specs.declared.place.Cond.TheVariants.{Meets, Avoids};
 
 use crate::field::{
     parts_of, push_char, push_flag, push_more, push_number, read_each, read_flag, read_number,
 };
-use brl_dues::{Due, DueList, DuesState};
+use brl_states::{Due, DueList, DuesState};
 use brl_table::{Class, Cond};
 use std::alloc::{AllocError, Global};
 

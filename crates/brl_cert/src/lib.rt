@@ -11,7 +11,7 @@ mod reading;
 mod version;
 mod writing;
 
-pub use brl_kinds::Cert;
+pub use brl_states::Cert;
 pub use fault::{CertFault, CertFaultKind};
 pub use reading::{certificate_laws, read_cert};
 pub use version::{Version, Version1, Version2, Version3};

@@ -4,22 +4,21 @@ ghost use Rattle.brl_cert.specs.Lines.{body_of, placed};
 ghost use Rattle.brl_failure.specs.Failure.{Gives, IsFaultOf};
 ghost use Rattle.brl_cert.specs.Reading.{empty_body, header_of, lenient_header, reading, spelling, version_of};
 ghost use Rattle.brl_cert.specs.Valid.{IsCertificate};
-ghost use Rattle.brl_kinds.specs.declared.cert.Cert.{Cert as Certificate};
-ghost use Rattle.brl_kinds.specs.Runless.{AreRunless};
+ghost use Rattle.brl_states.specs.declared.cert.Cert.{Cert as Certificate};
+ghost use Rattle.brl_states.specs.Runless.{AreRunless};
 ghost use Rattle.brl_cert.specs.Dues.{dues_format};
 ghost use Rattle.brl_cert.specs.Window.{window_format};
-ghost use Rattle.brl_dues.specs.declared.state.DuesState.{DuesState};
+ghost use Rattle.brl_states.specs.declared.dues_state.DuesState.{DuesState};
 ghost use Rattle.brl_edges.specs.Body.{BodyView};
-ghost use Rattle.brl_window.specs.declared.state.WindowState.{WindowState};
+ghost use Rattle.brl_states.specs.declared.window_state.WindowState.{WindowState};
 
 use crate::field::{parts_of, push_number, read_number};
 use crate::reader::Reader;
 use crate::{Cert, CertFault, CertFaultKind, Version, Version1, Version2, Version3};
 use brl_cells::{cells_are_read, spelled_cells_are_read};
-use brl_dues::order_law;
 use brl_edges::Body;
 use brl_failure::Failure;
-use brl_kinds::Runless;
+use brl_states::{Runless, order_law};
 use std::alloc::Global;
 
 /// The laws of certificates, for the crates above: each certificate is read from its spelling, and

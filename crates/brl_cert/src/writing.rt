@@ -4,7 +4,7 @@ ghost use Rattle.std.specs.List.{flat_map, join_with_byte};
 ghost use Rattle.brl_cells.specs.Dots.{AreCells};
 ghost use Rattle.brl_cert.specs.Lines.{end_fields, pair_fields, spelled_body, spelled_line, whole_line};
 ghost use Rattle.brl_cert.specs.Reading.{reading, spelling};
-ghost use Rattle.brl_kinds.specs.declared.cert.Cert.TheVariants.{Dues, Window, Word};
+ghost use Rattle.brl_states.specs.declared.cert.Cert.TheVariants.{Dues, Window, Word};
 ghost use Rattle.brl_cert.specs.Valid.{IsBody};
 ghost use Rattle.brl_edges.specs.Body.{listed};
 ghost use Rattle.brl_cert.specs.declared.line.Line.TheVariants.{State};
@@ -12,11 +12,9 @@ ghost use Rattle.brl_cert.specs.declared.line.Line.TheVariants.{State};
 use crate::field::{push_lead, push_number};
 use crate::line::Line;
 use crate::{Cert, Version, Version1, Version2, Version3, certificate_laws};
-use brl_dues::DuesState;
 use brl_edges::Body;
-use brl_kinds::Runless;
 use brl_pairs::Pair;
-use brl_window::WindowState;
+use brl_states::{DuesState, Runless, WindowState};
 use std::alloc::{AllocError, Global};
 
 /// Writes a state line without its line feed.

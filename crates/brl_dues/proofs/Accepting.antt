@@ -13,8 +13,8 @@ use Rattle.brl_table.specs.declared.place.Cond.{Cond}
 use Rattle.brl_table.specs.Places.{after_of, before_of, holds}
 use Rattle.brl_table.specs.TableView.{TableView}
 use Rattle.brl_table.specs.Text.{classes_at, fold_of, is_defined, is_in_run, is_text}
-use Rattle.brl_dues.specs.declared.due.Due.{Due}
-use Rattle.brl_dues.specs.declared.state.DuesState.{DuesState}
+use Rattle.brl_states.specs.declared.due.Due.{Due}
+use Rattle.brl_states.specs.declared.dues_state.DuesState.{DuesState}
 use Rattle.brl_dues.specs.Due.{dues_met}
 use Rattle.brl_dues.specs.Capitals.{alike, further, is_upper}
 use Rattle.brl_dues.specs.Form.{Form, IsForm, folded, may_read, own_form, rule_form}

@@ -8,8 +8,8 @@ use Rattle.brl_table.specs.declared.place.Cond.{Cond}
 use Rattle.brl_table.specs.TableView.{TableView}
 use Rattle.brl_dues.specs.declared.carry.Carried.{Carried}
 use Rattle.brl_dues.specs.declared.carry.Carried.TheVariants.{Left}
-use Rattle.brl_dues.specs.declared.due.Due.{Due}
-use Rattle.brl_dues.specs.declared.due.Due.TheVariants.{Bar}
+use Rattle.brl_states.specs.declared.due.Due.{Due}
+use Rattle.brl_states.specs.declared.due.Due.TheVariants.{Bar}
 use Rattle.brl_dues.specs.Adding.{Adds}
 use Rattle.brl_dues.specs.Capitals.{choices}
 use Rattle.brl_dues.specs.Carry.{carry_capitals, is_whole, left_of, lefts}

@@ -12,8 +12,8 @@ use Rattle.brl_table.specs.TableView.{TableView}
 use Rattle.brl_table.specs.Text.{classes_at, classes_of, fold_of}
 use Rattle.brl_dues.specs.declared.carry.Carried.{Carried}
 use Rattle.brl_dues.specs.declared.carry.Carried.TheVariants.{Broken, Settled, Left}
-use Rattle.brl_dues.specs.declared.due.Due.{Due}
-use Rattle.brl_dues.specs.declared.due.Due.TheVariants.{Need, Bar}
+use Rattle.brl_states.specs.declared.due.Due.{Due}
+use Rattle.brl_states.specs.declared.due.Due.TheVariants.{Need, Bar}
 use Rattle.brl_dues.specs.Capitals.{choices, is_upper}
 use Rattle.brl_dues.specs.Carry.{opposed, settled_if, carry_bar, carry_capitals, carry_need, carry, need, bars_after, bars_past, bars_to}
 use Rattle.brl_dues.specs.Due.{goes_on, due_met}

@@ -9,8 +9,8 @@ use Rattle.brl_pairs.specs.declared.step.Step.{Step}
 use Rattle.brl_table.specs.declared.place.Cond.{Cond}
 use Rattle.brl_table.specs.TableView.{TableView}
 use Rattle.brl_table.specs.Text.{fold_of, has_word_capitals, is_capital}
-use Rattle.brl_dues.specs.declared.due.Due.{Due}
-use Rattle.brl_dues.specs.declared.state.DuesState.{DuesState}
+use Rattle.brl_states.specs.declared.due.Due.{Due}
+use Rattle.brl_states.specs.declared.dues_state.DuesState.{DuesState}
 use Rattle.brl_dues.specs.Capitals.{any_if, capitals, choices, further, further_by, is_upper, letters, put_capital}
 use Rattle.brl_dues.specs.Carry.{gathered}
 use Rattle.brl_dues.specs.LetterView.{LetterView}
@@ -18,7 +18,7 @@ use Rattle.brl_dues.specs.Letters.{cased_steps, left_by, letter_form, letter_ste
 use Rattle.brl_dues.specs.Steps.{is_same_step, step_if, with_steps}
 use Rattle.brl_dues.proofs.Finding.{flat_map-none}
 use Rattle.brl_dues.proofs.Forms.{from-choices, from-put, from-step_if}
-use Rattle.brl_dues.proofs.Listing.{IsIn, from-flat_map}
+use Rattle.brl_states.proofs.Listing.{IsIn, from-flat_map}
 use Rattle.brl_dues.proofs.Pairwise.{Pairwise, filter-Pairwise, flat_map-Pairwise, map-Pairwise}
 use Rattle.brl_dues.proofs.Repeats.{apart, with_steps-apart, with_steps-append}
 

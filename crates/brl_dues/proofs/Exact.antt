@@ -12,13 +12,14 @@ use Rattle.brl_table.specs.Places.{after_of, holds}
 use Rattle.brl_table.specs.Rest.{translation_of_rest}
 use Rattle.brl_table.specs.TableView.{TableView}
 use Rattle.brl_table.specs.Text.{classes_at, context_behind_all, fold_of, is_defined, is_in_run, is_text}
-use Rattle.brl_dues.specs.declared.due.Due.{Due}
-use Rattle.brl_dues.specs.declared.due.Due.TheVariants.{Need, Bar}
-use Rattle.brl_dues.specs.declared.state.DuesState.{DuesState}
+use Rattle.brl_states.specs.declared.due.Due.{Due}
+use Rattle.brl_states.specs.declared.due.Due.TheVariants.{Need, Bar}
+use Rattle.brl_states.specs.declared.dues_state.DuesState.{DuesState}
 use Rattle.brl_dues.specs.Due.{due_met, dues_met, met_by_space}
 use Rattle.brl_dues.specs.Capitals.{further, is_upper}
 use Rattle.brl_dues.specs.Form.{Form, IsForm, folded, may_read}
-use Rattle.brl_dues.specs.Steps.{context_of, dues_machine, next_dues, step_of}
+use Rattle.brl_states.specs.DuesContext.{context_of}
+use Rattle.brl_dues.specs.Steps.{dues_machine, next_dues, step_of}
 use Rattle.brl_dues.proofs.Forms.{listed-IsStep, there-lt}
 use Rattle.brl_dues.proofs.InRun.{upper-defined}
 use Rattle.brl_dues.proofs.StepLaw.{none_fits, option_met, step-met}

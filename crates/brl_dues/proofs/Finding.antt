@@ -18,15 +18,15 @@ use Rattle.brl_table.specs.Places.{after_of, before_of, holds}
 use Rattle.brl_table.specs.TableView.{TableView}
 use Rattle.brl_table.specs.Text.{classes_of, fold_of}
 use Rattle.brl_dues.specs.declared.carry.Carried.{Carried}
-use Rattle.brl_dues.specs.declared.due.Due.{Due}
-use Rattle.brl_dues.specs.declared.due.Due.TheVariants.{Need, Bar}
-use Rattle.brl_dues.specs.declared.state.DuesState.{DuesState}
+use Rattle.brl_states.specs.declared.due.Due.{Due}
+use Rattle.brl_states.specs.declared.due.Due.TheVariants.{Need, Bar}
+use Rattle.brl_states.specs.declared.dues_state.DuesState.{DuesState}
 use Rattle.brl_dues.specs.Capitals.{choices, further, letters}
 use Rattle.brl_dues.specs.Carry.{bars_after, bars_past, bars_to, carry, gathered, is_whole, lefts, need, settled_if}
 use Rattle.brl_dues.specs.Form.{Form, cased, cased_if, form_if, groups_from, groups_of, own_form, own_forms, rule_form, rule_forms}
 use Rattle.brl_dues.specs.LetterView.{LetterView}
 use Rattle.brl_dues.specs.Letters.{bars_of, begins_with, cased_steps, left_by, letter_form, letter_step, may_come, new_letter, new_letters, next_step, own_step, rule_step, run_step, steps_found, with_rule}
-use Rattle.brl_dues.specs.Order.{in_order}
+use Rattle.brl_states.specs.Order.{in_order}
 use Rattle.brl_dues.specs.Steps.{dues_steps, group_steps, step_if, step_of, steps_of, with_steps}
 use Rattle.brl_dues.proofs.Choices.{and-false}
 

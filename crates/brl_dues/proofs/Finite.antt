@@ -25,19 +25,20 @@ use Rattle.brl_table.specs.TableView.{TableView, info_of}
 use Rattle.brl_table.specs.Text.{classes_of, context_behind, context_behind_all, fold_of, has_word_capitals, is_capital}
 use Rattle.brl_dues.specs.declared.carry.Carried.{Carried}
 use Rattle.brl_dues.specs.declared.carry.Carried.TheVariants.{Left, Settled}
-use Rattle.brl_dues.specs.declared.due.Due.{Due}
-use Rattle.brl_dues.specs.declared.due.Due.TheVariants.{Need, Bar}
-use Rattle.brl_dues.specs.declared.state.DuesState.{DuesState}
+use Rattle.brl_states.specs.declared.due.Due.{Due}
+use Rattle.brl_states.specs.declared.due.Due.TheVariants.{Need, Bar}
+use Rattle.brl_states.specs.declared.dues_state.DuesState.{DuesState}
 use Rattle.brl_dues.specs.Capitals.{any_if, capitals, choices, further, further_by, is_upper, letters, put_capital}
 use Rattle.brl_dues.specs.Carry.{bars_after, bars_past, bars_to, carry, carry_bar, carry_capitals, is_whole, left_of, lefts, need, opposed, settled_if}
 use Rattle.brl_dues.specs.Finite.{after_conds, all_cells, all_classes, all_contexts, all_dues, all_leads, all_states, bars_from, bars_with, with_classes, cells_in, endings, lists_up_to, need_conds, needs_of, texts_of}
 use Rattle.brl_dues.specs.Form.{Form, IsForm, forms, groups}
-use Rattle.brl_dues.specs.Order.{due_cmp, in_order}
-use Rattle.brl_dues.specs.Steps.{IsStep, context_of, dues_steps, first_state, next_dues, owed, state_in}
-use Rattle.brl_dues.proofs.DueOrder.{due_tied, due_total, from-in_order, in_order-sorted}
+use Rattle.brl_states.specs.Order.{due_cmp, in_order}
+use Rattle.brl_states.specs.DuesContext.{context_of, state_in}
+use Rattle.brl_dues.specs.Steps.{IsStep, dues_steps, first_state, next_dues, owed}
+use Rattle.brl_states.proofs.DueOrder.{due_tied, due_total, from-in_order, in_order-sorted}
 use Rattle.brl_dues.proofs.Forms.{IsForm-forms, defined-in, from-put, listed-IsStep}
-use Rattle.brl_dues.proofs.Listing.{IsIn, from-flat_map, in-append, in-flat_map, in-left, in-right}
-use Rattle.brl_dues.proofs.Sorting.{Contains-in, in-Contains}
+use Rattle.brl_states.proofs.Listing.{IsIn, from-flat_map, in-append, in-flat_map, in-left, in-right}
+use Rattle.brl_states.proofs.Sorting.{Contains-in, in-Contains}
 
 -- ---- Lists
 

@@ -11,17 +11,17 @@ use Rattle.brl_table.specs.TableView.{TableView}
 use Rattle.brl_table.specs.Text.{classes_of, fold_of}
 use Rattle.brl_dues.specs.declared.carry.Carried.{Carried}
 use Rattle.brl_dues.specs.declared.carry.Carried.TheVariants.{Left, Settled}
-use Rattle.brl_dues.specs.declared.due.Due.{Due}
-use Rattle.brl_dues.specs.declared.due.Due.TheVariants.{Need, Bar}
+use Rattle.brl_states.specs.declared.due.Due.{Due}
+use Rattle.brl_states.specs.declared.due.Due.TheVariants.{Need, Bar}
 use Rattle.brl_dues.specs.Adding.{Adds}
 use Rattle.brl_dues.specs.Capitals.{capitals, choices, is_upper, put_capital}
 use Rattle.brl_dues.specs.Carry.{bars_past, carry, carry_bar, carry_capitals, gathered, is_whole, left_of, lefts, need, opposed, settled_if}
 use Rattle.brl_dues.specs.LetterView.{LetterView}
 use Rattle.brl_dues.specs.Letters.{bars_of, left_past, left_with}
-use Rattle.brl_dues.specs.Order.{in_order, is_proper}
+use Rattle.brl_states.specs.Order.{in_order, is_proper}
 use Rattle.brl_dues.proofs.Adding.{barred}
 use Rattle.brl_dues.proofs.Forms.{from-put}
-use Rattle.brl_dues.proofs.Listing.{IsIn, from-flat_map}
+use Rattle.brl_states.proofs.Listing.{IsIn, from-flat_map}
 
 -- ---- Proper dues
 

@@ -3,13 +3,13 @@ use Rattle.std.proofs.Common.{◌≡◌, Bool, true, false, List, [], ◌∷◌,
 use Rattle.std.specs.List.{Contains, list_all}
 use Rattle.brl_dues.specs.declared.carry.Carried.{Carried}
 use Rattle.brl_dues.specs.declared.carry.Carried.TheVariants.{Broken, Settled, Left}
-use Rattle.brl_dues.specs.declared.due.Due.{Due}
+use Rattle.brl_states.specs.declared.due.Due.{Due}
 use Rattle.brl_dues.specs.Carry.{gathered, is_whole, lefts}
 use Rattle.brl_dues.specs.Laws.{AreGathered}
-use Rattle.brl_dues.specs.Order.{AreDues, in_order}
-use Rattle.brl_dues.proofs.DueOrder.{from-in_order, in-in_order, in_order-sorted, is-in_order}
-use Rattle.brl_dues.proofs.Listing.{IsIn}
-use Rattle.brl_dues.proofs.Sorting.{Contains-in, in-Contains}
+use Rattle.brl_states.specs.Order.{in_order}
+use Rattle.brl_states.proofs.DueOrder.{from-in_order, in-in_order, in_order-sorted, is-in_order}
+use Rattle.brl_states.proofs.Listing.{IsIn}
+use Rattle.brl_states.proofs.Sorting.{Contains-in, in-Contains}
 
 -- what is left is left by some carried due
 from-lefts : (cs : List Carried) (d : Due) → IsIn d (lefts cs) → IsIn (Left d) cs
@@ -65,13 +65,3 @@ are-gathered cs dues h =
     ∙ ap Some (sym (is-in_order dues (lefts cs) h.ascend
     (λ d i. in-lefts cs d (Contains-in (Left d) cs ((h.each d).0 (in-Contains d dues i))))
     (λ d i. Contains-in d dues ((h.each d).1 (in-Contains (Left d) cs (from-lefts cs d i))))))
-
-pub own-order : (dues : List Due) → AreDues dues → in_order dues ≡ dues
-own-order dues h = sym (is-in_order dues dues h.ascend (λ d i. i) (λ d i. i))
-
--- putting in order keeps the members
-pub members-before : (dues : List Due) (d : Due) → Contains (in_order dues) d → Contains dues d
-members-before dues d c = in-Contains d dues (from-in_order d dues (Contains-in d (in_order dues) c))
-
-pub members-after : (dues : List Due) (d : Due) → Contains dues d → Contains (in_order dues) d
-members-after dues d c = in-Contains d (in_order dues) (in-in_order d dues (Contains-in d dues c))

@@ -7,7 +7,7 @@ use Rattle.brl_pairs.specs.declared.step.Step.{Step}
 use Rattle.brl_table.specs.declared.rule.Rule.{Rule}
 use Rattle.brl_table.specs.Places.{after_of, before_of, holds}
 use Rattle.brl_table.specs.TableView.{TableView}
-use Rattle.brl_dues.specs.declared.state.DuesState.{DuesState}
+use Rattle.brl_states.specs.declared.dues_state.DuesState.{DuesState}
 use Rattle.brl_dues.specs.LetterView.{LetterView}
 use Rattle.brl_dues.specs.Letters.{begins_with, cased_steps, own_step, rule_step, steps_found, with_rule}
 use Rattle.brl_dues.specs.Steps.{with_steps}

@@ -17,14 +17,15 @@ use Rattle.brl_table.specs.Infos.{first_info}
 use Rattle.brl_table.specs.Places.{before_of, holds}
 use Rattle.brl_table.specs.declared.signs.Sign.{Sign}
 use Rattle.brl_table.specs.TableView.{TableView, sign_cells}
-use Rattle.brl_dues.specs.declared.due.Due.{Due}
-use Rattle.brl_dues.specs.declared.state.DuesState.{DuesState}
+use Rattle.brl_states.specs.declared.due.Due.{Due}
+use Rattle.brl_states.specs.declared.dues_state.DuesState.{DuesState}
 use Rattle.brl_dues.specs.Capitals.{letters}
 use Rattle.brl_dues.specs.Form.{Form, IsForm, cased_if, groups, groups_from, groups_of, own_forms}
-use Rattle.brl_dues.specs.Steps.{context_of, dues_steps, group_steps, next_dues, step_of, steps_of}
+use Rattle.brl_states.specs.DuesContext.{context_of}
+use Rattle.brl_dues.specs.Steps.{dues_steps, group_steps, next_dues, step_of, steps_of}
 use Rattle.brl_dues.proofs.Forms.{from-cased_if, from-group, from-groups_from, from-groups_of, from-own_forms, from-step_if, in-map, listed-IsStep}
 use Rattle.brl_dues.proofs.Kept.{Keeps, Within}
-use Rattle.brl_dues.proofs.Listing.{IsIn, in-append}
+use Rattle.brl_states.proofs.Listing.{IsIn, in-append}
 use Rattle.brl_dues.proofs.Pairwise.{Pairwise, append-Pairwise, at-Pairwise, flat_map-Pairwise, map-Pairwise, Pairwise-at, weaken-Pairwise}
 use Rattle.brl_dues.proofs.Repeats.{with_steps-differ}
 use Rattle.brl_dues.proofs.Taking.{ReadsSome, form-ReadsSome}

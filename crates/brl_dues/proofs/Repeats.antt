@@ -7,12 +7,12 @@ use Rattle.std.specs.Cmp.Lexicographic.{lists_equiv, nat_list_eq_equiv, pointwis
 use Rattle.std.specs.List.{list_any}
 use Rattle.std.proofs.lemmas.Bool.{eq-eqb, eqb-true}
 use Rattle.brl_pairs.specs.declared.step.Step.{Step}
-use Rattle.brl_dues.specs.contracts.state.DuesStatePartialEq.TheImpl.{eq-value}
-use Rattle.brl_dues.specs.declared.state.DuesState.{DuesState}
-use Rattle.brl_dues.specs.Same.{dues_equiv}
-use Rattle.brl_dues.specs.SameState.{same_states}
+use Rattle.brl_states.specs.contracts.dues_state.DuesStatePartialEq.TheImpl.{eq-value}
+use Rattle.brl_states.specs.declared.dues_state.DuesState.{DuesState}
+use Rattle.brl_states.specs.SameDues.{dues_equiv}
+use Rattle.brl_states.specs.SameDuesState.{same_states}
 use Rattle.brl_dues.specs.Steps.{is_same_step, with_step, with_steps}
-use Rattle.brl_dues.proofs.Listing.{IsIn, in-append, in-left, in-right}
+use Rattle.brl_states.proofs.Listing.{IsIn, in-append, in-left, in-right}
 use Rattle.brl_dues.proofs.Pairwise.{Pairwise, append-Pairwise, between-Pairwise}
 
 -- ---- The same step

@@ -13,18 +13,18 @@ use Rattle.brl_table.specs.TableView.{TableView}
 use Rattle.brl_table.specs.Text.{classes_at, is_in_run}
 use Rattle.brl_dues.specs.declared.carry.Carried.{Carried}
 use Rattle.brl_dues.specs.declared.carry.Carried.TheVariants.{Broken, Settled, Left}
-use Rattle.brl_dues.specs.declared.due.Due.{Due}
-use Rattle.brl_dues.specs.declared.state.DuesState.{DuesState}
+use Rattle.brl_states.specs.declared.due.Due.{Due}
+use Rattle.brl_states.specs.declared.dues_state.DuesState.{DuesState}
 use Rattle.brl_dues.specs.Capitals.{alike}
 use Rattle.brl_dues.specs.Carry.{bars_to, carry, gathered, is_whole, lefts}
 use Rattle.brl_dues.specs.Due.{due_met, dues_met}
 use Rattle.brl_dues.specs.Form.{Form}
-use Rattle.brl_dues.specs.Order.{due_cmp, place, insert_due, in_order}
+use Rattle.brl_states.specs.Order.{due_cmp, place, insert_due, in_order}
 use Rattle.brl_dues.specs.Steps.{next_dues, owed}
 use Rattle.brl_dues.proofs.Carrying.{bars_to-met, carried_met, carry-met, fits_in, need-met}
 use Rattle.brl_dues.proofs.Choices.{list_all-append, list_all-flat_map, list_all-map}
 use Rattle.brl_dues.proofs.InRun.{alike-true}
-use Rattle.brl_dues.proofs.DueOrder.{due_tied}
+use Rattle.brl_states.proofs.DueOrder.{due_tied}
 
 and-swap : (a b c : Bool) → (a && (b && c)) ≡ (b && (a && c))
 and-swap true b c = refl

@@ -7,8 +7,8 @@ use Rattle.brl_table.specs.declared.place.Cond.{Cond}
 use Rattle.brl_table.specs.TableView.{TableView}
 use Rattle.brl_table.specs.Text.{fold_of, has_word_capitals}
 use Rattle.brl_dues.specs.declared.cased.Capital.{Capital}
-use Rattle.brl_dues.specs.declared.due.Due.{Due}
-use Rattle.brl_dues.specs.declared.state.DuesState.{DuesState}
+use Rattle.brl_states.specs.declared.due.Due.{Due}
+use Rattle.brl_states.specs.declared.dues_state.DuesState.{DuesState}
 use Rattle.brl_dues.specs.CapitalList.{capital_of, is_fold_of_capital}
 use Rattle.brl_dues.specs.Capitals.{capitals, choices, further, is_upper, put_capital}
 use Rattle.brl_dues.specs.Carry.{gathered, need}

@@ -2,7 +2,7 @@
 use Rattle.std.specs.Prelude.{◌≡◌, Bool, true, List, ◌++◌}
 use Rattle.std.specs.List.{list_all}
 use Rattle.brl_dues.specs.declared.carry.Carried.{Carried}
-use Rattle.brl_dues.specs.declared.due.Due.{Due}
+use Rattle.brl_states.specs.declared.due.Due.{Due}
 use Rattle.brl_dues.specs.Carry.{is_whole, lefts}
 
 -- whether none of these is broken; where none is, what they leave is appended

@@ -11,10 +11,10 @@ use Rattle.brl_table.specs.TableView.{TableView}
 use Rattle.brl_table.specs.Text.{classes_of, fold_of}
 use Rattle.brl_dues.specs.declared.carry.Carried.{Carried}
 use Rattle.brl_dues.specs.declared.carry.Carried.TheVariants.{Broken, Settled, Left}
-use Rattle.brl_dues.specs.declared.due.Due.{Due}
-use Rattle.brl_dues.specs.declared.due.Due.TheVariants.{Need, Bar}
+use Rattle.brl_states.specs.declared.due.Due.{Due}
+use Rattle.brl_states.specs.declared.due.Due.TheVariants.{Need, Bar}
 use Rattle.brl_dues.specs.Capitals.{choices, is_upper}
-use Rattle.brl_dues.specs.Order.{in_order}
+use Rattle.brl_states.specs.Order.{in_order}
 
 -- what is left of a bar whose characters were all read: the next character doesn't meet the
 -- condition

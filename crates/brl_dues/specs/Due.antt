@@ -6,8 +6,8 @@ use Rattle.brl_table.specs.declared.place.Cond.{Cond}
 use Rattle.brl_table.specs.Places.{holds, space}
 use Rattle.brl_table.specs.TableView.{TableView}
 use Rattle.brl_table.specs.Text.{classes_at}
-use Rattle.brl_dues.specs.declared.due.Due.{Due}
-use Rattle.brl_dues.specs.declared.due.Due.TheVariants.{Need, Bar}
+use Rattle.brl_states.specs.declared.due.Due.{Due}
+use Rattle.brl_states.specs.declared.due.Due.TheVariants.{Need, Bar}
 
 -- a rest begins with these characters, and the classes after them meet the condition; the end of
 -- the rest counts as class space

@@ -11,13 +11,13 @@ use Rattle.brl_table.specs.Indicators.{signs_before}
 use Rattle.brl_table.specs.Places.{digit, gap, gap_or_letter, letter, none, space, uppercase}
 use Rattle.brl_table.specs.TableView.{TableView}
 use Rattle.brl_table.specs.Text.{classes_of}
-use Rattle.brl_dues.specs.declared.due.Due.{Due}
-use Rattle.brl_dues.specs.declared.due.Due.TheVariants.{Bar}
-use Rattle.brl_dues.specs.declared.state.DuesState.{DuesState}
+use Rattle.brl_states.specs.declared.due.Due.{Due}
+use Rattle.brl_states.specs.declared.due.Due.TheVariants.{Bar}
+use Rattle.brl_states.specs.declared.dues_state.DuesState.{DuesState}
 use Rattle.brl_dues.specs.Capitals.{choices, letters}
 use Rattle.brl_dues.specs.Carry.{left_of, need, opposed}
 use Rattle.brl_dues.specs.Form.{Form, forms}
-use Rattle.brl_dues.specs.Steps.{state_in}
+use Rattle.brl_states.specs.DuesContext.{state_in}
 
 -- ---- Lists
 

@@ -8,10 +8,10 @@ use Rattle.brl_table.specs.Choice.{chosen}
 use Rattle.brl_table.specs.TableView.{TableView}
 use Rattle.brl_dues.specs.declared.carry.Carried.{Carried}
 use Rattle.brl_dues.specs.declared.carry.Carried.TheVariants.{Broken, Left}
-use Rattle.brl_dues.specs.declared.due.Due.{Due}
-use Rattle.brl_dues.specs.declared.state.DuesState.{DuesState}
+use Rattle.brl_states.specs.declared.due.Due.{Due}
+use Rattle.brl_states.specs.declared.dues_state.DuesState.{DuesState}
 use Rattle.brl_dues.specs.Due.{dues_met}
-use Rattle.brl_dues.specs.Order.{due_cmp}
+use Rattle.brl_states.specs.Order.{due_cmp}
 use Rattle.brl_dues.specs.Steps.{dues_steps, ends}
 
 -- the rest continues by this step: it begins with what the step reads, and what follows meets the

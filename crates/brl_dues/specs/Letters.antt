@@ -14,9 +14,9 @@ use Rattle.brl_table.specs.TableView.{TableView}
 use Rattle.brl_table.specs.Text.{classes_of, fold_of}
 use Rattle.brl_dues.specs.declared.carry.Carried.{Carried}
 use Rattle.brl_dues.specs.declared.carry.Carried.TheVariants.{Left}
-use Rattle.brl_dues.specs.declared.due.Due.{Due}
-use Rattle.brl_dues.specs.declared.due.Due.TheVariants.{Need, Bar}
-use Rattle.brl_dues.specs.declared.state.DuesState.{DuesState}
+use Rattle.brl_states.specs.declared.due.Due.{Due}
+use Rattle.brl_states.specs.declared.due.Due.TheVariants.{Need, Bar}
+use Rattle.brl_states.specs.declared.dues_state.DuesState.{DuesState}
 use Rattle.brl_dues.specs.Capitals.{choices, further, letters}
 use Rattle.brl_dues.specs.Carry.{bars_past, carry, gathered, is_whole, lefts, need}
 use Rattle.brl_dues.specs.Form.{Form}

@@ -7,26 +7,18 @@ use Rattle.std.specs.List.{flat_map, list_all, list_any}
 use Rattle.brl_pairs.specs.Runs.{Behaviour}
 use Rattle.brl_pairs.specs.declared.step.Step.{Step}
 use Rattle.brl_table.specs.declared.class.Class.{Class}
-use Rattle.brl_table.specs.declared.context.Context.{Context}
 use Rattle.brl_table.specs.Indicators.{signs_before}
 use Rattle.brl_table.specs.TableView.{TableView}
 use Rattle.brl_table.specs.Text.{at_start, context_behind_all, is_text}
 use Rattle.brl_table.specs.Translation.{translation}
 use Rattle.brl_dues.specs.declared.carry.Carried.{Carried}
-use Rattle.brl_dues.specs.declared.due.Due.{Due}
-use Rattle.brl_dues.specs.declared.state.DuesState.{DuesState}
+use Rattle.brl_states.specs.declared.due.Due.{Due}
+use Rattle.brl_states.specs.DuesContext.{context_of, state_in}
+use Rattle.brl_states.specs.declared.dues_state.DuesState.{DuesState}
 use Rattle.brl_dues.specs.Carry.{bars_to, carry, gathered, need}
 use Rattle.brl_dues.specs.Due.{met_by_space}
 use Rattle.brl_dues.specs.Form.{Form, IsForm, groups}
-use Rattle.brl_dues.specs.contracts.state.DuesStatePartialEq.TheImpl.{eq-value}
-
--- what a state knows of the characters before
-abbrev pub context_of : DuesState → Context
-context_of s = record { classes = s.before; numeric = s.numeric; run = s.run }
-
--- the state with this context that owes these dues
-abbrev pub state_in : Context → List Due → DuesState
-state_in here dues = record { before = here.classes; numeric = here.numeric; run = here.run; dues = dues }
+use Rattle.brl_states.specs.contracts.dues_state.DuesStatePartialEq.TheImpl.{eq-value}
 
 -- what a step of the form owes: the needs of its after-condition and of what must follow so that it
 -- begins in a run of capitals, or out of one, and the bars of each rule that is ranked above it

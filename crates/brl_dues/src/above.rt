@@ -4,10 +4,10 @@ ghost use Rattle.brl_table.specs.Text.{has_word_capitals};
 ghost use Rattle.brl_dues.specs.Adding.{Adds};
 ghost use Rattle.brl_dues.specs.Carry.{bars_past, carry_bar as bar_carried};
 
-use crate::Due;
 use crate::carry::{Carried, add, carry_bar};
 use crate::cased::CasedTable;
 use crate::runs::add_run_bars;
+use brl_states::Due;
 use brl_table::{Cond, Table};
 use std::alloc::{AllocError, Global};
 use std::marker::Model;

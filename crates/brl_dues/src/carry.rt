@@ -4,12 +4,12 @@ ghost use Rattle.brl_table.specs.Text.{classes_of, has_word_capitals};
 ghost use Rattle.brl_dues.specs.Adding.{Adds};
 ghost use Rattle.brl_dues.specs.Carry.{carry as carried_past, carry_bar as bar_carried, need as need_of_cond, opposed, settled_if};
 ghost use Rattle.brl_dues.specs.Letters.{bars_of, left_past};
-ghost use Rattle.brl_dues.specs.Order.{is_proper};
+ghost use Rattle.brl_states.specs.Order.{is_proper};
 
-use crate::Due;
 use crate::above::Above;
 use crate::cased::CasedTable;
 use brl_cells::Chars;
+use brl_states::Due;
 use brl_table::{Class, Cond, Table, holds};
 use std::alloc::{AllocError, Global};
 

@@ -1,6 +1,6 @@
 //! Laws of the definitions, for the crates above: each function has an empty body, and its contract
 //! is the law.
-ghost use Rattle.std.specs.Prelude.{◌≡◌, ◌↔◌, ℕ, All, IsTrue, List, Some, ◌++◌};
+ghost use Rattle.std.specs.Prelude.{◌≡◌, ◌↔◌, ℕ, IsTrue, List, Some, ◌++◌};
 ghost use Rattle.std.specs.List.{Contains};
 ghost use Rattle.brl_pairs.specs.Runs.{IsExact, IsListed};
 ghost use Rattle.brl_pairs.specs.declared.step.Step.{Step as StepValue};
@@ -8,12 +8,11 @@ ghost use Rattle.brl_table.specs.TableView.{TableView};
 ghost use Rattle.brl_table.specs.Text.{is_text};
 ghost use Rattle.brl_dues.specs.Carry.{gathered};
 ghost use Rattle.brl_dues.specs.Laws.{AreGathered, OneStep};
-ghost use Rattle.brl_dues.specs.Order.{AreDues, in_order, is_proper};
 ghost use Rattle.brl_dues.specs.Steps.{IsStep, dues_machine, dues_steps, first_state};
 ghost use Rattle.brl_dues.specs.declared.carry.Carried.{Carried as CarriedValue};
 ghost use Rattle.brl_dues.specs.Finite.{all_cells, all_dues, all_leads, all_states};
-ghost use Rattle.brl_dues.specs.declared.due.Due.{Due as DueValue};
-ghost use Rattle.brl_dues.specs.declared.state.DuesState.{DuesState as StateValue};
+ghost use Rattle.brl_states.specs.declared.due.Due.{Due as DueValue};
+ghost use Rattle.brl_states.specs.declared.dues_state.DuesState.{DuesState as StateValue};
 
 use brl_table::{Table, choice_laws, translation_laws};
 
@@ -24,13 +23,9 @@ pub fn dues_law()
 {}
 
 /// The dues after a step: none of what is carried is broken, and they are what is left, in order
-/// and without repeats. Putting dues in order keeps those that are in order; it makes proper dues
-/// ones that a state may have; and it keeps their members.
-pub fn order_law()
-    ensures gathered { (carried : List CarriedValue) (dues : List DueValue) → gathered carried ≡ Some dues ↔ AreGathered carried dues }
-    ensures kept { (dues : List DueValue) → AreDues dues → in_order dues ≡ dues }
-    ensures made { (dues : List DueValue) → All (λ due. IsTrue (is_proper due)) dues → AreDues (in_order dues) }
-    ensures members { (dues : List DueValue) (due : DueValue) → Contains (in_order dues) due ↔ Contains dues due }
+/// and without repeats.
+pub fn gathered_law()
+    ensures { (carried : List CarriedValue) (dues : List DueValue) → gathered carried ≡ Some dues ↔ AreGathered carried dues }
 {}
 
 /// The law of one step, for every value of the state type and every rest over the table's

@@ -3,9 +3,9 @@ ghost use Rattle.std.specs.Prelude.{◌≡◌, [], ◌∷◌, ◌++◌, IfOk, On
 ghost use Rattle.brl_table.specs.Text.{fold_of as fold};
 ghost use Rattle.brl_dues.specs.Letters.{lets_in as does_let_in, may_come as does_come, new_letter, new_letters};
 
-use crate::Due;
 use crate::above::Above;
 use crate::carry::class_of;
+use brl_states::Due;
 use brl_table::{Cond, Table, holds};
 use std::alloc::{AllocError, Global};
 use std::marker::Model;

@@ -13,20 +13,14 @@
 mod above;
 mod carry;
 mod cased;
-mod due;
 mod laws;
 mod letter;
-mod list;
 mod machine;
 mod origin;
 mod runs;
-mod state;
 mod step;
 mod steps;
 mod walk;
 
-pub use due::Due;
-pub use laws::{dues_law, exact_law, finite_law, order_law, step_law};
-pub use list::DueList;
+pub use laws::{dues_law, exact_law, finite_law, gathered_law, step_law};
 pub use machine::Dues;
-pub use state::DuesState;

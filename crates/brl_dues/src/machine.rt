@@ -5,8 +5,8 @@ ghost use Rattle.brl_table.specs.Translation.{translation};
 ghost use Rattle.brl_dues.specs.Due.{met_by_space};
 
 use crate::steps::find_steps;
-use crate::{Due, DueList, DuesState};
 use brl_pairs::{Machine, Step};
+use brl_states::{Due, DueList, DuesState};
 use brl_table::{Class, Context, Table, choice_laws, holds, translation_laws};
 use std::alloc::{AllocError, Global};
 use std::marker::Model;

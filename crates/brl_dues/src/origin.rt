@@ -1,8 +1,8 @@
 //! Where steps begin.
 
-use crate::DuesState;
 use crate::cased::CasedTable;
 use crate::letter::Letter;
+use brl_states::DuesState;
 
 /// A state of a table's machine, and a character that may come next.
 #[derive(Clone, Copy)]

@@ -4,11 +4,11 @@ ghost use Rattle.brl_table.specs.Text.{has_word_capitals};
 ghost use Rattle.brl_dues.specs.Adding.{Adds};
 ghost use Rattle.brl_dues.specs.Capitals.{choices};
 ghost use Rattle.brl_dues.specs.Carry.{carry_capitals};
-ghost use Rattle.brl_dues.specs.declared.due.Due.TheVariants.{Bar};
+ghost use Rattle.brl_states.specs.declared.due.Due.TheVariants.{Bar};
 
-use crate::Due;
 use crate::carry::{add, class_of, opposed_to};
 use crate::cased::CasedTable;
+use brl_states::Due;
 use brl_table::{Cond, holds};
 use std::alloc::{AllocError, Global};
 

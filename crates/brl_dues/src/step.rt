@@ -6,14 +6,14 @@ ghost use Rattle.brl_table.specs.declared.place.Cond.TheVariants.{Any};
 ghost use Rattle.brl_dues.specs.Capitals.{further};
 ghost use Rattle.brl_dues.specs.Carry.{gathered};
 ghost use Rattle.brl_dues.specs.Letters.{left_past, left_with, letter_step, next_step};
-ghost use Rattle.brl_dues.specs.Order.{is_proper};
+ghost use Rattle.brl_states.specs.Order.{is_proper};
 ghost use Rattle.brl_dues.specs.Steps.{step_of as step_by};
 
 use crate::carry::{add_bars, add_need, dues_past};
 use crate::origin::Origin;
-use crate::{Due, DueList, DuesState};
 use brl_cells::{Cell, Cells, Chars};
 use brl_pairs::Step;
+use brl_states::{Due, DueList, DuesState};
 use brl_table::Cond;
 use std::alloc::{AllocError, Global};
 

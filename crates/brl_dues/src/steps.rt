@@ -7,13 +7,13 @@ ghost use Rattle.brl_table.specs.declared.place.Cond.TheVariants.{Any};
 ghost use Rattle.brl_dues.specs.Letters.{cased_steps, own_step, rule_step, with_rule};
 ghost use Rattle.brl_dues.specs.Steps.{dues_steps, is_same_step, with_steps};
 
-use crate::DuesState;
 use crate::cased::CasedTable;
 use crate::letter::{Letter, new_letters_of};
 use crate::origin::Origin;
 use crate::step::{Taken, step_with};
 use crate::walk::push_run_steps;
 use brl_pairs::Step;
+use brl_states::DuesState;
 use brl_table::{Cond, Rule, Table, holds};
 use std::alloc::{AllocError, Global};
 

@@ -4,13 +4,13 @@
 ghost use Rattle.std.specs.Prelude.{◌≡◌, [], ◌∷◌, ◌++◌, option_map, All, IfOk, IfSome, IsTrue, OnOk, Some};
 ghost use Rattle.brl_table.specs.Text.{has_word_capitals};
 ghost use Rattle.brl_dues.specs.Letters.{left_past, run_step, run_steps};
-ghost use Rattle.brl_dues.specs.Order.{is_proper};
+ghost use Rattle.brl_states.specs.Order.{is_proper};
 
 use crate::carry::dues_past;
 use crate::origin::Origin;
 use crate::step::{Taken, finish_step, reads_of, what_follows};
-use crate::{Due, DuesState};
 use brl_pairs::Step;
+use brl_states::{Due, DuesState};
 use brl_table::Table;
 use std::alloc::{AllocError, Global};
 

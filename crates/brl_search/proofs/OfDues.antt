@@ -3,10 +3,10 @@ use Rattle.std.proofs.Common.{◌≡◌, ℕ, List, ◌++◌}
 use Rattle.std.specs.List.{Contains}
 use Rattle.brl_dues.specs.Finite.{all_leads, all_states}
 use Rattle.brl_dues.specs.Steps.{dues_machine, dues_steps, first_state}
-use Rattle.brl_dues.specs.declared.state.DuesState.{DuesState}
+use Rattle.brl_states.specs.declared.dues_state.DuesState.{DuesState}
 use Rattle.brl_pairs.specs.Runs.{IsListed}
 use Rattle.brl_pairs.specs.declared.step.Step.{Step}
-use Rattle.brl_search.specs.Deciding.{HoldsSteps}
+use Rattle.brl_finder.specs.Deciding.{HoldsSteps}
 use Rattle.brl_table.specs.TableView.{TableView}
 
 pub lists_hold : (t : TableView) → Contains (all_states t) first_state

@@ -4,14 +4,14 @@ use Rattle.std.specs.Cmp.{first_so, second_so}
 use Rattle.brl_dues.specs.Steps.{dues_machine}
 use Rattle.brl_forward.specs.ClashView.{ClashView}
 use Rattle.brl_pairs.specs.Runs.{Behaviour}
-use Rattle.brl_search.specs.Answers.{IsOutcome}
-use Rattle.brl_search.specs.Deciding.{IsClashOf}
+use Rattle.brl_finder.specs.Answers.{IsOutcome}
+use Rattle.brl_finder.specs.Deciding.{IsClashOf}
 use Rattle.brl_search.specs.Found.{IfCertified, IfClashing, IsFound, IsFoundOver, IsFoundWithout}
 use Rattle.brl_search.specs.Searched.{State, machine_of}
-use Rattle.brl_search.specs.declared.outcome.Outcome.{Outcome}
+use Rattle.brl_finder.specs.declared.outcome.Outcome.{Outcome}
 use Rattle.brl_search.specs.declared.table_search.Found.{Found}
 use Rattle.brl_search.specs.declared.table_search.Found.TheVariants.{Certified, Clashing, Limit}
-use Rattle.brl_kinds.specs.declared.cert.Cert.TheVariants.{Dues, Window, Word}
+use Rattle.brl_states.specs.declared.cert.Cert.TheVariants.{Dues, Window, Word}
 use Rattle.brl_table.specs.TableView.{TableView}
 use Rattle.brl_table.specs.Text.{is_text}
 use Rattle.brl_table.specs.Translation.{IsClash, IsUnambiguous, translation}

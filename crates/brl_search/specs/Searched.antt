@@ -1,10 +1,10 @@
 -- The machine over which tables are searched, and the certificates that a search gives. Both are
 -- named here alone. The project's own choice.
 use Rattle.brl_edges.specs.Body.{BodyView}
-use Rattle.brl_kinds.specs.declared.cert.Cert.TheVariants.{Word}
-use Rattle.brl_kinds.specs.declared.cert.Cert.{Cert as Certificate}
+use Rattle.brl_states.specs.declared.cert.Cert.TheVariants.{Word}
+use Rattle.brl_states.specs.declared.cert.Cert.{Cert as Certificate}
 use Rattle.brl_dues.specs.Steps.{dues_machine}
-use Rattle.brl_dues.specs.declared.state.DuesState.{DuesState}
+use Rattle.brl_states.specs.declared.dues_state.DuesState.{DuesState}
 use Rattle.brl_pairs.specs.Runs.{Behaviour}
 use Rattle.brl_table.specs.TableView.{TableView}
 

@@ -5,17 +5,17 @@ ghost use Rattle.brl_edges.specs.Body.{BodyView};
 ghost use Rattle.brl_edges.specs.Sets.{sets_of};
 ghost use Rattle.brl_dues.specs.Finite.{all_dues, all_leads, all_states};
 ghost use Rattle.brl_dues.specs.Steps.{dues_machine};
-ghost use Rattle.brl_dues.specs.declared.due.Due.{Due as DueValue};
-ghost use Rattle.brl_dues.specs.declared.state.DuesState.{DuesState as StateValue};
+ghost use Rattle.brl_states.specs.declared.due.Due.{Due as DueValue};
+ghost use Rattle.brl_states.specs.declared.dues_state.DuesState.{DuesState as StateValue};
 ghost use Rattle.brl_pairs.specs.Pairs.{IsClosed};
 ghost use Rattle.brl_pairs.specs.declared.step.Pair.{Pair as PairValue};
-ghost use Rattle.brl_search.specs.Deciding.{ListsJustReached, all_pairs, reached_sets};
-ghost use Rattle.brl_search.specs.Reached.{AtMost, Reached, ReachedPair, SamePair, SameState};
+ghost use Rattle.brl_finder.specs.Deciding.{ListsJustReached, all_pairs, reached_sets};
+ghost use Rattle.brl_finder.specs.Reached.{AtMost, Reached, ReachedPair, SamePair, SameState};
 ghost use Rattle.brl_table.specs.TableView.{TableView};
 ghost use Rattle.brl_table.specs.Translation.{IsUnambiguous};
 
-use crate::laws::{just_reached_law, reached_closed_law};
 use brl_dues::{Dues, exact_law, finite_law};
+use brl_finder::{just_reached_law, reached_closed_law};
 use brl_table::Table;
 use std::alloc::Global;
 

@@ -1,20 +1,18 @@
 //! The search of a table.
 ghost use Rattle.std.specs.Prelude.{◌≡◌, ◌≤◌, ℕ, IfOk};
-ghost use Rattle.brl_search.specs.Answers.{IsOutcome};
+ghost use Rattle.brl_finder.specs.Answers.{IsOutcome};
 ghost use Rattle.brl_search.specs.Found.{IfCertified, IsFound, IsFoundWithout};
 ghost use Rattle.brl_search.specs.Searched.{machine_of};
 ghost use Rattle.brl_table.specs.Translation.{IsClash, IsUnambiguous, translation};
 ghost use Rattle.brl_without.specs.Tables.{IsUnambiguousWithout};
 ghost use Rattle.brl_without.specs.Without.{without};
 
-use crate::explore::search_machine_watched;
-use crate::laws::same_cells_law;
-use crate::outcome::Outcome;
-use brl_dues::{Dues, DuesState, exact_law};
+use brl_dues::{Dues, exact_law};
 use brl_failure::Failure;
+use brl_finder::{Outcome, same_cells_law, search_machine_watched};
 use brl_forward::{Clash, confirm};
-use brl_kinds::Cert;
 use brl_pairs::numbered_sets_law;
+use brl_states::{Cert, DuesState};
 use brl_table::Table;
 use brl_watch::{Unwatched, Watch};
 use brl_without::{LeftOut, Without, exact_without_law, unambiguous_without_law};

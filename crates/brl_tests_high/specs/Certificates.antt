@@ -5,10 +5,10 @@ use Rattle.brl_cert.specs.Lines.{at_line}
 use Rattle.brl_cert.specs.declared.fault.CertFault.{CertFault}
 use Rattle.brl_cert.specs.declared.fault.CertFaultKind.{CertFaultKind}
 use Rattle.brl_cert.specs.declared.fault.CertFaultKind.TheVariants.{Version, Syntax, NotCanonical, DuplicateState, DuplicatePair, NoSuchState, WrongCount, Truncated}
-use Rattle.brl_window.specs.declared.state.WindowState.{WindowState}
+use Rattle.brl_states.specs.declared.window_state.WindowState.{WindowState}
 use Rattle.brl_cert.specs.Reading.{reading}
-use Rattle.brl_kinds.specs.declared.cert.Cert.TheVariants.{Window}
-use Rattle.brl_kinds.specs.declared.cert.Cert.{Cert as Certificate}
+use Rattle.brl_states.specs.declared.cert.Cert.TheVariants.{Window}
+use Rattle.brl_states.specs.declared.cert.Cert.{Cert as Certificate}
 
 -- the bytes of lines, each with its line feed
 abbrev pub lines : List (List ℕ) → List ℕ

@@ -1,9 +1,10 @@
 //! Worked steps of the machine with dues.
 use brl_cells::write_dots;
 use brl_cert::{Cert, write_cert};
-use brl_dues::{Dues, DuesState};
+use brl_dues::Dues;
 use brl_edges::{Body, Members};
 use brl_pairs::{Machine, Step};
+use brl_states::DuesState;
 use brl_table::Table;
 use brl_testing::table_of;
 use std::alloc::{AllocError, Global};

@@ -1,11 +1,13 @@
 //! Searches of worked tables.
 use crate::lines::bytes_of;
-use brl_accept::accept;
 use brl_cert::{Cert, write_cert};
-use brl_dues::{Dues, DuesState};
+use brl_checker::accept;
+use brl_dues::Dues;
 use brl_edges::Body;
+use brl_finder::{Outcome, Progress, Search};
 use brl_forward::{Clash, confirm};
-use brl_search::{Found, Outcome, Progress, Search, search};
+use brl_search::{Found, search};
+use brl_states::DuesState;
 use brl_table::Table;
 use brl_testing::{cut, table_of};
 use std::alloc::{AllocError, Global};

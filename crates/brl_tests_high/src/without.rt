@@ -1,12 +1,14 @@
 //! Worked tables without some of their characters.
 use crate::lines::bytes_of;
-use brl_accept::{accept, judge_without};
+use brl_accept::judge_without;
 use brl_cert::Cert;
-use brl_dues::{Dues, DuesState};
+use brl_checker::accept;
+use brl_dues::Dues;
 use brl_edges::Body;
 use brl_forward::Clash;
 use brl_pairs::Machine;
 use brl_search::{Found, search_without};
+use brl_states::DuesState;
 use brl_table::Table;
 use brl_testing::{chars, cut, one_file, table_of};
 use brl_watch::Unwatched;

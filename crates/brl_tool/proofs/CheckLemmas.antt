@@ -1,7 +1,7 @@
 -- What is answered for the judge's outcome, by the source as it was before the certificate's file was read.
-use Rattle.std.proofs.Common.{◌≡◌, ℕ, ◌<◌, List, [], ◌∷◌, length, ◌⊎◌, inl, inr, Result, Ok, Err, IfOk, IfErr, arith, refl, subst, sym}
+use Rattle.std.proofs.Common.{◌≡◌, ℕ, ◌<◌, List, length, ◌⊎◌, inl, inr, Result, Ok, Err, IfOk, IfErr, arith, refl, subst, sym}
 use Rattle.brl_accept.specs.Judging.{IsAcceptedWithout, IsRefusedByWithout}
-use Rattle.brl_accept.specs.declared.checker.Accepted.{Accepted}
+use Rattle.brl_checker.specs.declared.checker.Accepted.{Accepted}
 use Rattle.brl_accept.specs.declared.judge_fault.JudgeFault.{JudgeFault}
 use Rattle.brl_accept.specs.declared.judge_fault.JudgeFault.TheVariants as judge
 use Rattle.brl_failure.specs.Failure.{IfFault}
@@ -9,49 +9,29 @@ use Rattle.brl_failure.specs.Raised.{if_fault-weaker}
 use Rattle.brl_failure.specs.declared.failure.Failure.{Failure}
 use Rattle.brl_failure.specs.declared.failure.Failure.TheVariants as failures
 use Rattle.brl_lines.specs.Answer.{AllStay, Answer as FileAnswer, MayGive, GivesOneAnswer, Holds, Large, Missing, Unreadable, most_file_bytes}
-use Rattle.brl_lines.specs.Lines.{Answers}
-use Rattle.brl_lines.specs.Outcome.{AreGiven, AreLinesOf, IsLoadFault}
-use Rattle.brl_lines.specs.Tokens.{LineView}
-use Rattle.brl_lines.specs.declared.fault.LoadFault.{LoadFault}
 use Rattle.brl_lines.specs.declared.fault.LoadFaultKind.{LoadFaultKind}
 use Rattle.brl_lines.specs.declared.fault.LoadFaultKind.TheVariants as kinds
-use Rattle.brl_reading.specs.Files.{IsFaultAt, IsTableOf}
-use Rattle.brl_reading.specs.declared.no_table.NoTable.{NoTable}
+use Rattle.brl_reading.specs.Files.{IsTableOf}
 use Rattle.brl_reading.specs.declared.no_table.NoTable.TheVariants as no_table
 use Rattle.brl_table.specs.TableView.{TableView}
-use Rattle.brl_tool.specs.Answers.{AcceptsGood, Checks, IsAcceptance, IsFaultOfFile, IsRefusal, LacksBytes, Tells, UnlessMemory}
-use Rattle.brl_tool.specs.declared.answer.Answer.{Answer}
-use Rattle.brl_tool.specs.declared.run_fault.RunFault.{RunFault}
-use Rattle.brl_tool.specs.declared.run_fault.RunFault.TheVariants.{Load, Table, Stream, Confirm, Text, Wide, WouldOverwrite, OutputFailed, CannotWrite, Memory, BadLeftOut, NotDefined}
+use Rattle.brl_answers.specs.Answers.{UnlessMemory}
+use Rattle.brl_tool.specs.Verdicts.{AcceptsGood, Checks, IsAcceptance, IsFaultOfFile, IsRefusal, LacksBytes, Tells}
+use Rattle.brl_answers.specs.declared.answer.Answer.{Answer}
+use Rattle.brl_answers.specs.declared.run_fault.RunFault.{RunFault}
+use Rattle.brl_answers.specs.declared.run_fault.RunFault.TheVariants.{Load, Table, Stream, Confirm, Text, Wide, WouldOverwrite, OutputFailed, CannotWrite, Memory, BadLeftOut, NotDefined}
 use Rattle.brl_without.specs.Tables.{IsUnambiguousWithout}
+use Rattle.brl_commands.proofs.Moved.{fault_moved, table_moved}
 
 -- ---- What one source gives, another may give
 
 module _ (from to : MayGive) (moves : (p : List ℕ) (a : FileAnswer) → from p a → to p a) where
-  given : (answers : Answers) → AreGiven from answers → AreGiven to answers
-  given [] h = tt
-  given (entry ∷ others) h = (moves entry.0 entry.1 h.0, given others h.1)
-
-  pub lines_moved : (path : List ℕ) (lines : List LineView) → AreLinesOf from path lines → AreLinesOf to path lines
-  lines_moved path lines h = (h.0, given h.0 h.1, h.2)
-
-  pub table_moved : (path : List ℕ) (t : TableView) → IsTableOf from path t → IsTableOf to path t
-  table_moved path t h = (h.0, lines_moved path h.0 h.1, h.2, h.3)
-
-  pub load_fault_moved : (path : List ℕ) (fault : LoadFault) → IsLoadFault from path (failures.Fault fault) → IsLoadFault to path (failures.Fault fault)
-  load_fault_moved path fault h = ((h.0.0, given h.0.0 h.0.1, h.0.2), λ e. moves _ _ (h.1 e))
-
-  fault_moved : (path : List ℕ) (fault : NoTable) → IsFaultAt from path fault → IsFaultAt to path fault
-  fault_moved path (no_table.Load fault) h = load_fault_moved path fault h
-  fault_moved path (no_table.Table fault) h = (h.0, lines_moved path h.0 h.1, h.2)
-
   refused_moved : (left_out path bytes : List ℕ) (fault : JudgeFault) → IsRefusedByWithout left_out from path bytes fault → IsRefusedByWithout left_out to path bytes fault
-  refused_moved left_out path bytes (judge.NoTable fault) h = fault_moved path fault h
-  refused_moved left_out path bytes (judge.NotDefined fault) h = (h.0, table_moved path h.0 h.1, h.2, h.3)
-  refused_moved left_out path bytes (judge.Cert fault) h = (h.0, table_moved path h.0 h.1, h.2, h.3)
-  refused_moved left_out path bytes judge.OldVersion h = (h.0, table_moved path h.0 h.1, h.2, h.3)
-  refused_moved left_out path bytes (judge.Wide fault) h = (h.0, table_moved path h.0 h.1, h.2, h.3)
-  refused_moved left_out path bytes (judge.Refused fault) h = (h.0, table_moved path h.0 h.1, h.2, h.3)
+  refused_moved left_out path bytes (judge.NoTable fault) h = fault_moved from to moves path fault h
+  refused_moved left_out path bytes (judge.NotDefined fault) h = (h.0, table_moved from to moves path h.0 h.1, h.2, h.3)
+  refused_moved left_out path bytes (judge.Cert fault) h = (h.0, table_moved from to moves path h.0 h.1, h.2, h.3)
+  refused_moved left_out path bytes judge.OldVersion h = (h.0, table_moved from to moves path h.0 h.1, h.2, h.3)
+  refused_moved left_out path bytes (judge.Wide fault) h = (h.0, table_moved from to moves path h.0 h.1, h.2, h.3)
+  refused_moved left_out path bytes (judge.Refused fault) h = (h.0, table_moved from to moves path h.0 h.1, h.2, h.3)
 
   pub failed_moved : (left_out path bytes : List ℕ) (failure : Failure JudgeFault) → IfFault (IsRefusedByWithout left_out from path bytes) failure → IfFault (IsRefusedByWithout left_out to path bytes) failure
   failed_moved left_out path bytes failure h = if_fault-weaker (IsRefusedByWithout left_out from path bytes) (IsRefusedByWithout left_out to path bytes) failure (refused_moved left_out path bytes) h

@@ -1,16 +1,17 @@
 -- What a search of a table finds, as an answer.
 use Rattle.std.proofs.Common.{◌≡◌, ◌∙◌, refl, ℕ, List, Result, Ok, Err, inl, inr, IfOk, subst}
 use Rattle.brl_forward.specs.ClashView.{ClashView}
-use Rattle.brl_kinds.specs.declared.cert.Cert.{Cert}
-use Rattle.brl_kinds.specs.declared.cert.Cert.TheVariants.{Dues, Window, Word}
+use Rattle.brl_states.specs.declared.cert.Cert.{Cert}
+use Rattle.brl_states.specs.declared.cert.Cert.TheVariants.{Dues, Window, Word}
 use Rattle.brl_report.specs.Report.{report_text}
 use Rattle.brl_search.specs.Found.{IsFoundWithout}
 use Rattle.brl_search.specs.declared.table_search.Found.{Found}
 use Rattle.brl_search.specs.declared.table_search.Found.TheVariants as found
 use Rattle.brl_table.specs.TableView.{TableView}
-use Rattle.brl_tool.specs.Answers.{IsCertificateAt, IsVerdict, Says}
-use Rattle.brl_tool.specs.declared.answer.Answer.{Answer}
-use Rattle.brl_tool.specs.declared.status.Status.TheVariants.{Refuted}
+use Rattle.brl_answers.specs.Answers.{Says}
+use Rattle.brl_tool.specs.Verdicts.{IsCertificateAt, IsVerdict}
+use Rattle.brl_answers.specs.declared.answer.Answer.{Answer}
+use Rattle.brl_answers.specs.declared.status.Status.TheVariants.{Refuted}
 use Rattle.brl_without.specs.Tables.{AreDefined, IsClashWithout}
 
 -- the answer with a certificate that was found

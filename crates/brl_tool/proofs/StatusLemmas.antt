@@ -3,7 +3,7 @@ use Rattle.std.proofs.Common.{◌≡◌, ◌≢◌, ◌∙◌, ℕ, suc, Bool, t
 use Rattle.std.specs.Io.KnownBytes.{Appends}
 use Rattle.std.specs.Prelude.{string_bytes}
 use Rattle.brl_cert.specs.Reading.{spelling}
-use Rattle.brl_kinds.specs.declared.cert.Cert.{Cert}
+use Rattle.brl_states.specs.declared.cert.Cert.{Cert}
 use Rattle.brl_lines.specs.Answer.{AllStay, MayGive}
 use Rattle.brl_lines.specs.Lines.{Answers}
 use Rattle.brl_lines.specs.Outcome.{AreGiven}
@@ -12,20 +12,22 @@ use Rattle.brl_search.specs.Searched.{State, certificate_of}
 use Rattle.brl_accept.specs.Judging.{IsAcceptedWithout, counted}
 use Rattle.brl_edges.specs.Body.{BodyView}
 use Rattle.brl_table.specs.TableView.{TableView}
-use Rattle.brl_tool.proofs.DeliveryLemmas.{none_changes}
-use Rattle.brl_tool.specs.Answers.{ByLeftOut, Checks, ComparesByFile, IsComparison, IsFileOf, IsJudgement, Judges, SearchesByFile, accepted_line, certified_line, told_without}
-use Rattle.brl_tool.specs.Delivery.{Delivers}
-use Rattle.brl_tool.specs.Files.{FilesAfter, GivesAlso, MayBeSame, OthersStay}
+use Rattle.brl_answers.proofs.DeliveryLemmas.{none_changes}
+use Rattle.brl_commands.specs.Comparing.{ComparesByFile, IsComparison}
+use Rattle.brl_answers.specs.Answers.{ByLeftOut, told_without}
+use Rattle.brl_tool.specs.Verdicts.{Checks, IsFileOf, IsJudgement, Judges, SearchesByFile, accepted_line, certified_line}
+use Rattle.brl_answers.specs.Delivery.{Delivers}
+use Rattle.brl_answers.specs.Files.{FilesAfter, GivesAlso, MayBeSame, OthersStay}
 use Rattle.brl_tool.specs.Running.{ReportsAcceptance, ReportsCertificate, ReportsClash, ReportsRefusal}
-use Rattle.brl_tool.specs.Status.{status_of}
-use Rattle.brl_tool.specs.Surveying.{SurveysByFiles}
-use Rattle.brl_tool.specs.Tracing.{TracesByFile}
-use Rattle.brl_tool.specs.declared.answer.Answer.{Answer}
-use Rattle.brl_tool.specs.declared.answer.NewFile.{NewFile}
-use Rattle.brl_tool.specs.declared.run_fault.RunFault.{RunFault}
-use Rattle.brl_tool.specs.declared.run_fault.RunFault.TheVariants.{Load, Table, Stream, Confirm, Text, Wide, WouldOverwrite, OutputFailed, CannotWrite, Memory, BadLeftOut, NotDefined}
-use Rattle.brl_tool.specs.declared.status.Status.{Status}
-use Rattle.brl_tool.specs.declared.status.Status.TheVariants.{Done, Faulty, Refuted}
+use Rattle.brl_answers.specs.Status.{status_of}
+use Rattle.brl_commands.specs.Surveying.{SurveysByFiles}
+use Rattle.brl_commands.specs.Tracing.{TracesByFile}
+use Rattle.brl_answers.specs.declared.answer.Answer.{Answer}
+use Rattle.brl_answers.specs.declared.answer.NewFile.{NewFile}
+use Rattle.brl_answers.specs.declared.run_fault.RunFault.{RunFault}
+use Rattle.brl_answers.specs.declared.run_fault.RunFault.TheVariants.{Load, Table, Stream, Confirm, Text, Wide, WouldOverwrite, OutputFailed, CannotWrite, Memory, BadLeftOut, NotDefined}
+use Rattle.brl_answers.specs.declared.status.Status.{Status}
+use Rattle.brl_answers.specs.declared.status.Status.TheVariants.{Done, Faulty, Refuted}
 use Rattle.brl_without.specs.Tables.{IsUnambiguousWithout}
 
 -- ---- No fault has the status of work that was done

@@ -1,9 +1,2 @@
+pub mod Verdicts
 pub mod Running
-pub mod Answers
-pub mod Surveying
-pub mod Tracing
-pub mod Delivery
-pub mod Streams
-pub mod Files
-pub mod Status
-pub mod Notices

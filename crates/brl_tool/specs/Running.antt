@@ -14,17 +14,19 @@ use Rattle.brl_search.specs.Searched.{State, certificate_of}
 use Rattle.brl_stream.specs.declared.form.Form.{Form}
 use Rattle.brl_table.specs.TableView.{TableView}
 use Rattle.brl_table.specs.Translation.{IsClash}
-use Rattle.brl_tool.specs.Answers.{ByLeftOut, ComparesByFile, Judges, Says, SearchesByFile, UnlessMemory, accepted_line, certified_line, spelled_by, told_without}
-use Rattle.brl_tool.specs.Delivery.{IsDelivered}
-use Rattle.brl_tool.specs.Files.{GivesAlso, MayBeSame, OthersStay}
-use Rattle.brl_tool.specs.Status.{code_of, status_of}
-use Rattle.brl_tool.specs.Streams.{TranslatesByFile}
-use Rattle.brl_tool.specs.Surveying.{SurveysByFiles}
-use Rattle.brl_tool.specs.Tracing.{TracesByFile}
-use Rattle.brl_tool.specs.declared.answer.Answer.{Answer}
-use Rattle.brl_tool.specs.declared.run_fault.RunFault.{RunFault}
-use Rattle.brl_tool.specs.declared.status.Status.{Status}
-use Rattle.brl_tool.specs.declared.status.Status.TheVariants.{Done, Faulty}
+use Rattle.brl_commands.specs.Comparing.{ComparesByFile}
+use Rattle.brl_answers.specs.Answers.{ByLeftOut, Says, UnlessMemory, spelled_by, told_without}
+use Rattle.brl_tool.specs.Verdicts.{Judges, SearchesByFile, accepted_line, certified_line}
+use Rattle.brl_answers.specs.Delivery.{IsDelivered}
+use Rattle.brl_answers.specs.Files.{GivesAlso, MayBeSame, OthersStay}
+use Rattle.brl_answers.specs.Status.{code_of, status_of}
+use Rattle.brl_commands.specs.Streams.{TranslatesByFile}
+use Rattle.brl_commands.specs.Surveying.{SurveysByFiles}
+use Rattle.brl_commands.specs.Tracing.{TracesByFile}
+use Rattle.brl_answers.specs.declared.answer.Answer.{Answer}
+use Rattle.brl_answers.specs.declared.run_fault.RunFault.{RunFault}
+use Rattle.brl_answers.specs.declared.status.Status.{Status}
+use Rattle.brl_answers.specs.declared.status.Status.TheVariants.{Done, Faulty}
 use Rattle.brl_words.specs.declared.command.Task.{Task}
 use Rattle.brl_words.specs.declared.command.Task.TheVariants as task
 use Rattle.brl_without.specs.Tables.{IsUnambiguousWithout}

@@ -3,13 +3,12 @@ ghost use Rattle.std.specs.Prelude.{◌≡◌, ◌≤◌, IfErr, IfOk, length};
 ghost use Rattle.brl_lines.specs.Answer.{AllStay, Holds};
 ghost use Rattle.brl_lines.specs.Outcome.{CountsFailure};
 ghost use Rattle.std.specs.Option.{option_copied};
-ghost use Rattle.brl_tool.specs.Answers.{AcceptsGood, ByLeftOut, Checks, IsAcceptance, IsFaultOfFile, IsRefusal, Judges, Tells, UnlessMemory, load_outcome};
+ghost use Rattle.brl_answers.specs.Answers.{ByLeftOut, UnlessMemory, load_outcome};
+ghost use Rattle.brl_tool.specs.Verdicts.{AcceptsGood, Checks, IsAcceptance, IsFaultOfFile, IsRefusal, Judges, Tells};
 
-use crate::answer::{Answer, counts_text};
-use crate::left_out::{left_out_of, tell_without};
-use crate::run_fault::RunFault;
-use crate::status::Status;
-use brl_accept::{Accepted, JudgeFault, judge_without};
+use brl_accept::{JudgeFault, judge_without};
+use brl_answers::{Answer, RunFault, Status, counts_text, left_out_of, tell_without};
+use brl_checker::Accepted;
 use brl_failure::Failure;
 use brl_lines::{LoadFault, LoadFaultKind, MOST_FILE_BYTES, Source, SourceFault};
 use brl_watch::Watch;

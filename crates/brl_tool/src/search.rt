@@ -3,22 +3,20 @@ ghost use Rattle.std.specs.Prelude.{◌≡◌, ◌≢◌, All, IfErr, IfOk, OnOk
 ghost use Rattle.brl_lines.specs.Answer.{AllStay};
 ghost use Rattle.brl_lines.specs.Outcome.{CountsFailure};
 ghost use Rattle.std.specs.Option.{option_copied};
-ghost use Rattle.brl_tool.specs.Answers.{ByLeftOut, IsCertificateAt, IsOverwriting, IsUndefinedFault, IsVerdict, SearchesByFile, load_outcome};
+ghost use Rattle.brl_answers.specs.Answers.{ByLeftOut, load_outcome};
+ghost use Rattle.brl_tool.specs.Verdicts.{IsCertificateAt, IsOverwriting, IsUndefinedFault, IsVerdict, SearchesByFile};
 ghost use Rattle.brl_without.specs.Tables.{AreDefined};
 
 use crate::Files;
-use crate::answer::{Answer, NewFile, counts_text};
-use crate::left_out::{left_out_of, tell_without};
-use crate::notices::write_notices;
-use crate::run_fault::RunFault;
-use crate::status::Status;
+use brl_answers::{Answer, NewFile, RunFault, Status, counts_text, left_out_of, tell_without};
 use brl_cert::write_cert;
+use brl_commands::write_notices;
 use brl_failure::raise;
-use brl_kinds::Cert;
 use brl_lines::{Loaded, load};
 use brl_reading::{NoTable, table_of_loaded};
 use brl_report::report;
 use brl_search::{Found, search_without};
+use brl_states::Cert;
 use brl_table::Table;
 use brl_watch::Watch;
 use brl_without::{LeftOut, check_defined};

@@ -22,8 +22,11 @@ pub struct Console<'c, C, E> {
     clock: &'c C,
     stream: E,
     is_terminal: bool,
+    /// When work was first told of; none before.
     begun: Option<Instant>,
+    /// How long after `begun` the work is shown next.
     due: Duration,
+    /// Whether a line is shown, which is cleared before anything else is written.
     is_shown: bool,
 }
 

@@ -15,8 +15,9 @@ use Rattle.brl_table.specs.TableView.{TableView}
 use Rattle.brl_table.specs.Text.{context_behind_all, is_defined, is_text}
 use Rattle.brl_pairs.specs.declared.step.Step.{Step}
 use Rattle.brl_pairs.specs.Runs.{Accepts, IsPath, reads_of, cells_of}
-use Rattle.brl_window.specs.declared.state.WindowState.{WindowState}
-use Rattle.brl_window.specs.Windows.{longest, width, Window, windows_on, windows, window_step, steps_at, context_of, steps_found, window_steps, first_state, window_machine}
+use Rattle.brl_states.specs.declared.window_state.WindowState.{WindowState}
+use Rattle.brl_states.specs.WindowContext.{context_of}
+use Rattle.brl_window.specs.Windows.{longest, width, Window, windows_on, windows, window_step, steps_at, steps_found, window_steps, first_state, window_machine}
 use Rattle.brl_window.proofs.Kept.{Choosing, Translating, chosen-Takes}
 use Rattle.brl_window.proofs.Listing.{IsIn, in-flat_map, in-at, in-by_rule_number}
 use Rattle.brl_window.proofs.Longer.{chosen-more, run-more}

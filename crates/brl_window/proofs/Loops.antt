@@ -9,7 +9,7 @@ use Rattle.brl_table.specs.declared.rule.Info.{Info}
 use Rattle.brl_table.specs.declared.context.Context.{Context}
 use Rattle.brl_table.specs.TableView.{TableView}
 use Rattle.brl_pairs.specs.declared.step.Step.{Step}
-use Rattle.brl_window.specs.declared.state.WindowState.{WindowState}
+use Rattle.brl_states.specs.declared.window_state.WindowState.{WindowState}
 use Rattle.brl_window.specs.Windows.{windows_on, steps_at}
 
 take-next : (letters : List ℕ) (i c : ℕ) → slice_get letters i ≡ Some c → take (i + 1) letters ≡ take i letters ++ c ∷ []

@@ -19,8 +19,9 @@ use Rattle.brl_table.specs.TableView.{TableView, sign_cells}
 use Rattle.brl_table.specs.Text.{is_defined, is_in_run}
 use Rattle.brl_pairs.specs.declared.step.Step.{Step}
 use Rattle.brl_pairs.specs.Runs.{IsListed, IsGoodStep, IsInOrder}
-use Rattle.brl_window.specs.declared.state.WindowState.{WindowState}
-use Rattle.brl_window.specs.Windows.{width, Window, windows_on, windows, window_step, begins_defined, steps_at, put_in, by_rule_number, context_of, steps_found, window_steps}
+use Rattle.brl_states.specs.declared.window_state.WindowState.{WindowState}
+use Rattle.brl_states.specs.WindowContext.{context_of}
+use Rattle.brl_window.specs.Windows.{width, Window, windows_on, windows, window_step, begins_defined, steps_at, put_in, by_rule_number, steps_found, window_steps}
 use Rattle.brl_window.proofs.Kept.{AreDistinct, Within, Keeps, Choosing, chosen-Takes}
 use Rattle.brl_window.proofs.Listing.{IsIn, in-append, from-flat_map, at-in, from-by_rule_number}
 

@@ -15,7 +15,7 @@ use denote.Param.Members.{Mut}
 use Rattle.std.specs.List.{AllByRecursion}
 use Rattle.brl_window.proofs.Ordering.{IsAscending, by_rule_number-ascending}
 use Rattle.brl_pairs.specs.declared.step.Step.{Step}
-use Rattle.brl_window.specs.declared.state.WindowState.{WindowState}
+use Rattle.brl_states.specs.declared.window_state.WindowState.{WindowState}
 use Rattle.brl_window.specs.Windows.{first_state, put_in, by_rule_number}
 
 three : (m n : ℕ) → (m < n) ⊎ ((n < m) ⊎ (m ≡ n))

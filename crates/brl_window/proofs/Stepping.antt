@@ -11,9 +11,10 @@ use Rattle.brl_table.specs.TableView.{TableView}
 use Rattle.brl_table.specs.Text.{is_defined, is_text}
 use Rattle.brl_table.specs.declared.context.Context.{Context}
 use Rattle.brl_table.specs.declared.rule.Info.{Info}
-use Rattle.brl_window.specs.declared.state.WindowState.{WindowState}
+use Rattle.brl_states.specs.declared.window_state.WindowState.{WindowState}
 use Rattle.brl_window.specs.Steps.{IsWindow, IsStep}
-use Rattle.brl_window.specs.Windows.{Window, begins_defined, context_of, steps_at, steps_found, width, window_step, window_steps, windows, windows_on}
+use Rattle.brl_states.specs.WindowContext.{context_of}
+use Rattle.brl_window.specs.Windows.{Window, begins_defined, steps_at, steps_found, width, window_step, window_steps, windows, windows_on}
 use Rattle.brl_window.proofs.Accepting.{defined-in}
 use Rattle.brl_window.proofs.Listing.{IsIn, at-in, from-by_rule_number, from-flat_map, in-at, in-by_rule_number, in-flat_map}
 

@@ -4,8 +4,9 @@ use Rattle.std.specs.Prelude.{ℕ, ◌≡◌, ◌<◌, max, true, false, IsTrue,
 use Rattle.brl_pairs.specs.declared.step.Step.{Step}
 use Rattle.brl_table.specs.TableView.{TableView}
 use Rattle.brl_table.specs.Text.{is_text}
-use Rattle.brl_window.specs.declared.state.WindowState.{WindowState}
-use Rattle.brl_window.specs.Windows.{Window, begins_defined, context_of, width, window_step}
+use Rattle.brl_states.specs.declared.window_state.WindowState.{WindowState}
+use Rattle.brl_states.specs.WindowContext.{context_of}
+use Rattle.brl_window.specs.Windows.{Window, begins_defined, width, window_step}
 
 -- A window of a state begins with the characters that the state knows and continues with characters
 -- of the table.

@@ -14,7 +14,8 @@ use Rattle.brl_table.specs.Text.{at_start, context_behind_all, is_defined, is_te
 use Rattle.brl_table.specs.Translation.{translation}
 use Rattle.brl_table.specs.declared.context.Context.{Context}
 use Rattle.brl_table.specs.declared.rule.Rule.{Rule}
-use Rattle.brl_window.specs.declared.state.WindowState.{WindowState}
+use Rattle.brl_states.specs.WindowContext.{context_of, state_in}
+use Rattle.brl_states.specs.declared.window_state.WindowState.{WindowState}
 
 -- the length of the longest rule, or 1 where there is no rule
 abbrev pub longest : List Rule → ℕ
@@ -47,14 +48,6 @@ windows t s =
     else windows_on (keys_of t.characters) (width t - length s.coming) s.coming
 
 -- ---- Steps
-
--- what a state knows of the characters before
-abbrev pub context_of : WindowState → Context
-context_of s = record { classes = s.before; numeric = s.numeric; run = s.run }
-
--- the state with this context that knows these next characters, and whether the text ends there
-abbrev pub state_in : Context → Bool → List ℕ → WindowState
-state_in here ended coming = record { before = here.classes; numeric = here.numeric; run = here.run; ended = ended; coming = coming }
 
 -- the step of a window: it applies the chosen rule, with the indicators before it
 abbrev pub window_step : TableView → Context → Window → Step WindowState

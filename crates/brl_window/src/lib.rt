@@ -3,8 +3,6 @@
 #![tactic(auto)]
 
 mod machine;
-mod state;
 mod steps;
 
 pub use machine::{TooWide, Window, window_law};
-pub use state::WindowState;

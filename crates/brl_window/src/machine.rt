@@ -8,12 +8,12 @@ ghost use Rattle.brl_table.specs.Translation.{translation};
 ghost use Rattle.brl_window.specs.Steps.{IsStep};
 ghost use Rattle.brl_window.specs.Width.{start_moves};
 ghost use Rattle.brl_window.specs.Windows.{window_steps};
-ghost use Rattle.brl_window.specs.declared.state.WindowState.{WindowState as StateValue};
+ghost use Rattle.brl_states.specs.declared.window_state.WindowState.{WindowState as StateValue};
 
-use crate::WindowState;
 use crate::steps::{find_steps, longest_rule, sort_steps};
 use brl_cells::Chars;
 use brl_pairs::{Machine, Step};
+use brl_states::WindowState;
 use brl_table::{Context, Table, choice_laws, translation_laws};
 use std::alloc::{AllocError, Global};
 use std::marker::Model;

@@ -4,9 +4,9 @@ ghost use Rattle.std.specs.List.{flat_map};
 ghost use Rattle.std.specs.Map.{keys_of};
 ghost use Rattle.brl_window.specs.Windows.{by_rule_number, longest, steps_at, steps_found, window_step, windows_on};
 
-use crate::WindowState;
 use brl_cells::{Cells, Chars};
 use brl_pairs::Step;
+use brl_states::WindowState;
 use brl_table::{Context, Table, rank_law};
 use std::alloc::{AllocError, Global};
 

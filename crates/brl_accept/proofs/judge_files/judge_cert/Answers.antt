@@ -1,20 +1,20 @@
 use Rattle.std.proofs.Common.{◌≡◌, Bool, true, false, List, ℕ, Result, Ok, IfErr, refl, ◌∙◌, ap, subst, sym}
 use Rattle.std.proofs.lemmas.Result.{IfErr-weaker}
 use Rattle.brl_accept.specs.Judging.{IsNotProvedWith, IsRefusedFor}
-use Rattle.brl_accept.specs.declared.checker.Accepted.{Accepted}
+use Rattle.brl_checker.specs.declared.checker.Accepted.{Accepted}
 use Rattle.brl_accept.specs.declared.judge_fault.JudgeFault.{JudgeFault}
 use Rattle.brl_cert.specs.Reading.{reading}
 use Rattle.brl_cert.specs.declared.fault.CertFault.{CertFault}
 use Rattle.brl_failure.specs.Failure.{Gives, IfFault, IsRaised}
 use Rattle.brl_failure.specs.Raised.{if_fault-weaker, raised_is}
 use Rattle.brl_failure.specs.declared.failure.Failure.{Failure}
-use Rattle.brl_dues.specs.declared.state.DuesState.{DuesState}
+use Rattle.brl_states.specs.declared.dues_state.DuesState.{DuesState}
 use Rattle.brl_edges.specs.Body.{BodyView}
-use Rattle.brl_kinds.specs.Kinds.{HasVersion}
-use Rattle.brl_kinds.specs.declared.cert.Cert.TheVariants.{Dues, Window}
+use Rattle.brl_accept.specs.Kinds.{HasVersion}
+use Rattle.brl_states.specs.declared.cert.Cert.TheVariants.{Dues, Window}
 use Rattle.brl_table.specs.TableView.{TableView}
-use Rattle.brl_kinds.specs.declared.cert.Cert.{Cert as Certificate}
-use Rattle.brl_window.specs.declared.state.WindowState.{WindowState}
+use Rattle.brl_states.specs.declared.cert.Cert.{Cert as Certificate}
+use Rattle.brl_states.specs.declared.window_state.WindowState.{WindowState}
 use Rattle.brl_without.specs.Parts.{Part, part_without}
 use Rattle.brl_accept.proofs.Judged.{refused_as, refused_with}
 use Rattle.brl_accept.proofs.judge_files.judge_cert.Goals as goal

@@ -1,8 +1,8 @@
 use Rattle.std.proofs.Common.{◌≡◌, ◌∙◌, List, ℕ, length, sym, subst, subst₂}
 use Rattle.brl_accept.specs.Judging.{IsNotProvedWith, IsProvedWith, counted}
-use Rattle.brl_accept.specs.Refusals.{IsRefused}
-use Rattle.brl_accept.specs.declared.checker.Accepted.{Accepted}
-use Rattle.brl_kinds.specs.declared.cert.Cert.TheVariants.{Window}
+use Rattle.brl_checker.specs.Refusals.{IsRefused}
+use Rattle.brl_checker.specs.declared.checker.Accepted.{Accepted}
+use Rattle.brl_states.specs.declared.cert.Cert.TheVariants.{Window}
 use Rattle.brl_edges.specs.Sets.{sets_of}
 use Rattle.brl_failure.specs.Raised.{if_err-raised, if_ok-both, if_ok-raised}
 use Rattle.brl_accept.proofs.Judged.{same_counts}

@@ -1,5 +1,5 @@
 use Rattle.std.proofs.Common.{All, List, subst}
-use Rattle.brl_dues.specs.declared.due.Due.{Due}
+use Rattle.brl_states.specs.declared.due.Due.{Due}
 use Rattle.brl_cert.specs.Valid.{IsDue}
 use Rattle.brl_cert.proofs.dues_line.push_dues.Goals as goal
 

@@ -1,6 +1,6 @@
 use Rattle.std.proofs.Common.{List, ℕ, ◌∷◌, ◌++◌, ◌∙◌, ap, take_all, sym, arith, append_assoc, rules}
 use Rattle.std.specs.List.{flat_map}
-use Rattle.brl_dues.specs.declared.due.Due.{Due}
+use Rattle.brl_states.specs.declared.due.Due.{Due}
 use Rattle.std.proofs.lemmas.List.Folds.{flat_map-map}
 use Rattle.brl_cert.specs.Dues.{spelled_due}
 use Rattle.brl_cert.specs.Valid.{IsDue}

@@ -2,7 +2,7 @@ use Rattle.std.proofs.Common.{arith, sym, ap, ◌∙◌, Some, All, IsTrue, subs
 use Rattle.std.specs.Prelude.{IfSome}
 use Rattle.std.proofs.lemmas.List.Elements.{All-push}
 use Rattle.brl_cert.specs.Dues.{lenient_due}
-use Rattle.brl_dues.specs.Order.{is_proper}
+use Rattle.brl_states.specs.Order.{is_proper}
 use Rattle.brl_cert.proofs.Each.{each_more, each_none}
 use Rattle.brl_cert.proofs.dues_line.read_each_due.Goals as goal
 

@@ -4,7 +4,7 @@ use Rattle.brl_cert.specs.Reading.{reading, spelling}
 use Rattle.brl_cert.specs.declared.fault.CertFault.{CertFault}
 use Rattle.brl_failure.specs.Failure.{Gives}
 use Rattle.brl_failure.specs.declared.failure.Failure.{Failure}
-use Rattle.brl_kinds.specs.declared.cert.Cert.{Cert as Certificate}
+use Rattle.brl_states.specs.declared.cert.Cert.{Cert as Certificate}
 use Rattle.brl_cert.proofs.reading.read_cert.Goals as goal
 
 spelled_where_read : (bytes : List ℕ) (result : Result Certificate (Failure CertFault)) → ((cert : Certificate) → reading bytes ≡ Ok cert → spelling cert ≡ bytes) → Gives (reading bytes) result

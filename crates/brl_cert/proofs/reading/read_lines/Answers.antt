@@ -6,7 +6,7 @@ use Rattle.brl_cert.specs.Reading.{certificate_of, header_of, reading, version_o
 use Rattle.brl_cert.specs.declared.fault.CertFault.{CertFault}
 use Rattle.brl_failure.specs.Failure.{Gives}
 use Rattle.brl_failure.specs.declared.failure.Failure.{Failure}
-use Rattle.brl_kinds.specs.declared.cert.Cert.{Cert as Certificate}
+use Rattle.brl_states.specs.declared.cert.Cert.{Cert as Certificate}
 use Rattle.brl_cert.proofs.reading.read_lines.Goals as goal
 
 by_header : (bytes : List ℕ) (parts : List (Bor (List ℕ))) (none : Bor (List ℕ)) (version : ℕ) (result : Result Certificate (Failure CertFault))

@@ -1,7 +1,7 @@
 use Rattle.std.proofs.lemmas.List.Elements.{All-weaker}
 use Rattle.std.proofs.Common.{◌≡◌, false}
-use Rattle.brl_dues.specs.declared.state.DuesState.{DuesState}
-use Rattle.brl_window.specs.declared.state.WindowState.{WindowState}
+use Rattle.brl_states.specs.declared.dues_state.DuesState.{DuesState}
+use Rattle.brl_states.specs.declared.window_state.WindowState.{WindowState}
 use Rattle.brl_cert.specs.Dues.{dues_format}
 use Rattle.brl_cert.specs.Valid.{IsDuesState, IsRunless, IsWindowState}
 use Rattle.brl_cert.specs.Window.{window_format}

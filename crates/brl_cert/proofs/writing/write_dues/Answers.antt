@@ -1,8 +1,8 @@
 use Rattle.std.proofs.Common.{◌≡◌, ◌++◌, ap, ◌∙◌, Ok, subst}
 use Rattle.std.specs.Fmt.{digits}
 use Rattle.brl_edges.specs.Body.{BodyView}
-use Rattle.brl_kinds.specs.declared.cert.Cert.TheVariants.{Dues}
-use Rattle.brl_dues.specs.declared.state.DuesState.{DuesState}
+use Rattle.brl_states.specs.declared.cert.Cert.TheVariants.{Dues}
+use Rattle.brl_states.specs.declared.dues_state.DuesState.{DuesState}
 use Rattle.brl_cert.specs.Lines.{spelled_body}
 use Rattle.brl_cert.specs.Reading.{reading, spelling}
 use Rattle.brl_cert.specs.Valid.{IsDuesState}

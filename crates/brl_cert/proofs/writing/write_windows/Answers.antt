@@ -1,8 +1,8 @@
 use Rattle.std.proofs.Common.{◌≡◌, ◌++◌, ap, ◌∙◌, Ok, subst}
 use Rattle.std.specs.Fmt.{digits}
 use Rattle.brl_edges.specs.Body.{BodyView}
-use Rattle.brl_kinds.specs.declared.cert.Cert.TheVariants.{Window}
-use Rattle.brl_window.specs.declared.state.WindowState.{WindowState}
+use Rattle.brl_states.specs.declared.cert.Cert.TheVariants.{Window}
+use Rattle.brl_states.specs.declared.window_state.WindowState.{WindowState}
 use Rattle.brl_cert.specs.Lines.{spelled_body}
 use Rattle.brl_cert.specs.Reading.{reading, spelling}
 use Rattle.brl_cert.specs.Valid.{IsWindowState}

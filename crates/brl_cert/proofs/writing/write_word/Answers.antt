@@ -3,7 +3,7 @@ use Rattle.std.specs.Fmt.{digits}
 use Rattle.brl_cert.specs.Lines.{spelled_body}
 use Rattle.brl_cert.specs.Dues.{word_format}
 use Rattle.brl_cert.specs.Reading.{reading}
-use Rattle.brl_kinds.specs.declared.cert.Cert.TheVariants.{Word}
+use Rattle.brl_states.specs.declared.cert.Cert.TheVariants.{Word}
 use Rattle.brl_cert.proofs.writing.write_word.Goals as goal
 
 pub returns-clause-spelled : goal.returns-clause-spelled

@@ -1,5 +1,5 @@
 use Rattle.std.proofs.Common.{◌≡◌, ◌++◌, map}
-use Rattle.brl_dues.specs.declared.due.Due.TheVariants.{Bar}
+use Rattle.brl_states.specs.declared.due.Due.TheVariants.{Bar}
 use Rattle.brl_dues.proofs.runs.add_choices.Given as goal
 
 abbrev pub invariant-loop-text : goal.invariant-loop-text

@@ -2,7 +2,7 @@ use Rattle.std.proofs.Common.{Global, Vec, get_or, ◌≡◌, ◌∷◌, ◌++�
 use Rattle.std.specs.List.{flat_map}
 use Rattle.std.specs.Prelude.{option_map}
 use Rattle.brl_pairs.specs.declared.step.Step.{Step}
-use Rattle.brl_dues.specs.declared.state.DuesState.{DuesState}
+use Rattle.brl_states.specs.declared.dues_state.DuesState.{DuesState}
 use Rattle.brl_dues.specs.declared.walk.Beginning.{Beginning}
 use Rattle.brl_dues.specs.Letters.{left_past, run_steps}
 use Rattle.brl_dues.proofs.Loops.{own-next}

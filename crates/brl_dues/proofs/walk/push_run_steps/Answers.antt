@@ -1,7 +1,7 @@
 use Rattle.std.proofs.Common.{Global, Vec, [], ◌∷◌, ◌&&◌, ap, ap₂, sym, ◌∙◌}
 use Rattle.std.specs.Prelude.{option_map}
 use Rattle.brl_table.specs.Text.{has_word_capitals}
-use Rattle.brl_dues.specs.declared.due.Due.{Due}
+use Rattle.brl_states.specs.declared.due.Due.{Due}
 use Rattle.brl_dues.specs.Capitals.{is_upper}
 use Rattle.brl_dues.specs.Letters.{left_past}
 use Rattle.brl_dues.proofs.Walking.{broken-steps, no-run, no-steps, nothing-on}

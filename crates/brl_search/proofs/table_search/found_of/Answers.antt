@@ -1,6 +1,6 @@
 use Rattle.std.proofs.Common.{List, ℕ, subst, sym}
 use Rattle.std.proofs.lemmas.Result.{IfOk-weaker}
-use Rattle.brl_search.specs.Answers.{IsOutcome}
+use Rattle.brl_finder.specs.Answers.{IsOutcome}
 use Rattle.brl_search.specs.Found.{IsFound, IsFoundWithout}
 use Rattle.brl_search.specs.Searched.{machine_of}
 use Rattle.brl_without.specs.Without.{without}

@@ -3,13 +3,13 @@ use Rattle.brl_dues.specs.Steps.{dues_machine}
 use Rattle.brl_edges.specs.Sets.{pair_at, sets_of}
 use Rattle.brl_pairs.specs.Pairs.{IsClosed}
 use Rattle.brl_pairs.specs.Runs.{IsExact, IsUnambiguous}
-use Rattle.brl_search.specs.Answers.{AreTwoPaths, IsCertified, IsLimit}
-use Rattle.brl_search.specs.Deciding.{IsClashOf}
+use Rattle.brl_finder.specs.Answers.{AreTwoPaths, IsCertified, IsLimit}
+use Rattle.brl_finder.specs.Deciding.{IsClashOf}
 use Rattle.brl_table.specs.TableView.{TableView}
 use Rattle.brl_without.specs.Tables.{IsClashWithout, IsUnambiguousWithout}
 use Rattle.brl_without.specs.Without.{without}
 use Rattle.brl_search.proofs.TableSearch.{clash_of_machine, clash_without, none_of_machine}
-use Rattle.brl_search.proofs.TwoRuns.{no_limit}
+use Rattle.brl_finder.proofs.TwoRuns.{no_limit}
 use Rattle.brl_search.proofs.table_search.found_without.Goals as goal
 
 -- two paths with the same cells show a clash of the machine without some characters

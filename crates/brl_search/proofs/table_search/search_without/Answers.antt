@@ -1,7 +1,7 @@
 use Rattle.std.proofs.Common.{◌∙◌, ℕ, List, subst₂}
 use Rattle.std.proofs.lemmas.Result.{IfOk-weaker}
 use Rattle.brl_dues.specs.Steps.{dues_machine}
-use Rattle.brl_search.specs.Answers.{IsOutcome}
+use Rattle.brl_finder.specs.Answers.{IsOutcome}
 use Rattle.brl_search.specs.Found.{IsFoundWithout}
 use Rattle.brl_table.specs.TableView.{TableView}
 use Rattle.brl_without.specs.Without.{without}

@@ -1,6 +1,6 @@
 use Rattle.std.proofs.Common.{◌≡◌, ◌⊎◌, subst, ℕ, List, Err, IfOk, IfErr, Ok}
 use Rattle.brl_accept.specs.Judging.{IsAcceptedWithout, IsRefusedByWithout}
-use Rattle.brl_accept.specs.declared.checker.Accepted.{Accepted}
+use Rattle.brl_checker.specs.declared.checker.Accepted.{Accepted}
 use Rattle.brl_failure.specs.Failure.{IfFault}
 use Rattle.brl_failure.specs.declared.failure.Failure.TheVariants.{Memory}
 use Rattle.brl_lines.specs.Answer.{GivesOneAnswer}

@@ -1,5 +1,5 @@
 use Rattle.std.specs.Str.{chars}
-use Rattle.brl_tool.proofs.DeliveryLemmas.{delivered_after}
+use Rattle.brl_answers.proofs.DeliveryLemmas.{delivered_after}
 use Rattle.brl_tool.proofs.StatusLemmas.{clash_at_refuted, compare_changes_none}
 use Rattle.brl_tool.proofs.program.compare.Goals as goal
 

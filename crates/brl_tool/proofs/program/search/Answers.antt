@@ -1,5 +1,5 @@
 use Rattle.std.specs.Option.{option_copied}
-use Rattle.brl_tool.proofs.DeliveryLemmas.{delivered_after}
+use Rattle.brl_answers.proofs.DeliveryLemmas.{delivered_after}
 use Rattle.brl_tool.proofs.StatusLemmas.{certified_by, found_by}
 use Rattle.brl_tool.proofs.program.search.Goals as goal
 

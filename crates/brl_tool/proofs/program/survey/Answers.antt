@@ -1,5 +1,5 @@
 use Rattle.std.proofs.Common.{map}
-use Rattle.brl_tool.proofs.DeliveryLemmas.{delivered_after}
+use Rattle.brl_answers.proofs.DeliveryLemmas.{delivered_after}
 use Rattle.brl_tool.proofs.StatusLemmas.{survey_changes_none, survey_unrefuted}
 use Rattle.brl_tool.proofs.program.survey.Goals as goal
 

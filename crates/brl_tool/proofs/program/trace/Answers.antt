@@ -1,5 +1,5 @@
 use Rattle.std.specs.Str.{chars}
-use Rattle.brl_tool.proofs.DeliveryLemmas.{delivered_after}
+use Rattle.brl_answers.proofs.DeliveryLemmas.{delivered_after}
 use Rattle.brl_tool.proofs.StatusLemmas.{trace_changes_none, trace_unrefuted}
 use Rattle.brl_tool.proofs.program.trace.Goals as goal
 

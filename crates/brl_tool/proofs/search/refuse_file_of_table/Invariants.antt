@@ -1,4 +1,4 @@
-use Rattle.std.proofs.Common.{◌≡◌, ◌≢◌, All}
+use Rattle.std.proofs.Common.{◌≢◌, All}
 use Rattle.brl_tool.proofs.search.refuse_file_of_table.Given as goal
 
 -- none of the paths that were tried is the file for the certificate

@@ -16,12 +16,13 @@ use Rattle.brl_reading.specs.declared.no_table.NoTable.{NoTable}
 use Rattle.brl_reading.specs.declared.no_table.NoTable.TheVariants as no_table
 use Rattle.brl_reading.specs.declared.table_fault.TableFault.{TableFault}
 use Rattle.brl_table.specs.TableView.{TableView}
-use Rattle.brl_tool.specs.Answers.{HasNoTable, IsOverwriting, IsUndefinedFault, IsVerdict, SearchesByFile, load_outcome}
-use Rattle.brl_tool.specs.Files.{MayBeSame}
-use Rattle.brl_tool.specs.Status.{of_no_table}
-use Rattle.brl_tool.specs.declared.answer.Answer.{Answer}
-use Rattle.brl_tool.specs.declared.run_fault.RunFault.{RunFault}
-use Rattle.brl_tool.specs.declared.run_fault.RunFault.TheVariants.{Load, Table, Stream, Confirm, Text, Wide, WouldOverwrite, OutputFailed, CannotWrite, Memory, BadLeftOut, NotDefined}
+use Rattle.brl_answers.specs.Answers.{HasNoTable, load_outcome}
+use Rattle.brl_tool.specs.Verdicts.{IsOverwriting, IsUndefinedFault, IsVerdict, SearchesByFile}
+use Rattle.brl_answers.specs.Files.{MayBeSame}
+use Rattle.brl_answers.specs.Status.{of_no_table}
+use Rattle.brl_answers.specs.declared.answer.Answer.{Answer}
+use Rattle.brl_answers.specs.declared.run_fault.RunFault.{RunFault}
+use Rattle.brl_answers.specs.declared.run_fault.RunFault.TheVariants.{Load, Table, Stream, Confirm, Text, Wide, WouldOverwrite, OutputFailed, CannotWrite, Memory, BadLeftOut, NotDefined}
 use Rattle.brl_tool.proofs.StatusLemmas.{of_files}
 use Rattle.brl_tool.proofs.search.search_by_file.Goals as goal
 

@@ -1,0 +1,78 @@
+-- What commands answer. The project's own choice.
+use Rattle.std.specs.Prelude.{ℕ, ◌≡◌, ◌⊎◌, List, [], ◌∷◌, ◌++◌, Option, None, Some, Result, Ok, Err, codes, string_bytes}
+use Rattle.std.specs.Fmt.{decimal}
+use Rattle.std.specs.Str.{encode_utf8_all}
+use Rattle.brl_failure.specs.declared.failure.Failure.{Failure}
+use Rattle.brl_failure.specs.declared.failure.Failure.TheVariants as failures
+use Rattle.brl_lines.specs.Answer.{MayGive}
+use Rattle.brl_lines.specs.Escapes.{characters_of}
+use Rattle.brl_lines.specs.Spelling.{text_spelling}
+use Rattle.brl_lines.specs.declared.fault.LoadFault.{LoadFault}
+use Rattle.brl_lines.specs.declared.operand.CharsFault.{CharsFault}
+use Rattle.brl_reading.specs.Files.{IsFaultAt, IsTableOf}
+use Rattle.brl_reading.specs.declared.no_table.NoTable.TheVariants as no_table
+use Rattle.brl_table.specs.TableView.{TableView}
+use Rattle.brl_answers.specs.declared.answer.Answer.{Answer}
+use Rattle.brl_answers.specs.declared.run_fault.RunFault.{RunFault}
+use Rattle.brl_answers.specs.declared.run_fault.RunFault.TheVariants.{Load, Table, BadLeftOut, Memory}
+use Rattle.brl_answers.specs.declared.status.Status.{Status}
+
+-- an answer has this status and text, and no file
+abbrev pub Says : Status → List ℕ → Answer → Type 0
+Says status text answer = (answer.status ≡ status) × (string_bytes answer.text ≡ text) × (answer.file ≡ None)
+
+-- this was answered, unless memory ran out
+abbrev pub UnlessMemory : (Answer → Type 0) → Result Answer RunFault → Type 0
+UnlessMemory is (Ok answer) = is answer
+UnlessMemory is (Err Memory) = Unit {0}
+UnlessMemory is (Err fault) = ⊥
+
+-- a line with numbers of states and of pairs after a word
+abbrev pub counts_line : List ℕ → ℕ → ℕ → List ℕ
+counts_line word states pairs = word ++ (codes ": " ++ (decimal states ++ (codes " states, " ++ (decimal pairs ++ codes " pairs\n"))))
+
+-- ---- The table of a file
+
+-- there is no table at a path, and this is why; memory may run out at any file
+abbrev pub HasNoTable : MayGive → List ℕ → RunFault → Type 0
+HasNoTable gives path (Load fault) = IsFaultAt gives path (no_table.Load fault)
+HasNoTable gives path (Table fault) = IsFaultAt gives path (no_table.Table fault)
+HasNoTable gives path Memory = Unit {0}
+HasNoTable gives path fault = ⊥
+
+-- how the loading of files ended
+abbrev pub load_outcome : {T : Type 0} → Result T RunFault → Result (Unit {0}) (Failure LoadFault)
+load_outcome (Err (Load fault)) = Err (failures.Fault fault)
+load_outcome (Err Memory) = Err failures.Memory
+load_outcome outcome = Ok tt
+
+-- what is answered by the table of the file at a path: what the table gives, or why there is none
+abbrev pub ByTable : MayGive → List ℕ → (TableView → Result Answer RunFault → Type 0) → Result Answer RunFault → Type 0
+ByTable gives path answers (Err (Load fault)) = HasNoTable gives path (Load fault)
+ByTable gives path answers (Err (Table fault)) = HasNoTable gives path (Table fault)
+ByTable gives path answers (Err Memory) = Unit {0}
+ByTable gives path answers outcome = (t : TableView) × IsTableOf gives path t × answers t outcome
+
+-- ---- Characters that are left out
+
+-- the characters that an option leaves out; none where it isn't given
+abbrev pub spelled_by : Option (List ℕ) → Result (List ℕ) CharsFault
+spelled_by None = Ok []
+spelled_by (Some word) = characters_of word
+
+-- the fault is that the option spells no characters, and names it as it was written; or memory ran out
+abbrev pub IsBadLeftOut : Option (List ℕ) → RunFault → Type 0
+IsBadLeftOut (Some word) (BadLeftOut named) = ((fault : CharsFault) × (characters_of word ≡ Err fault)) × (string_bytes named ≡ word)
+IsBadLeftOut option Memory = Unit {0}
+IsBadLeftOut option fault = ⊥
+
+-- what is answered for the characters that an option leaves out, or that it spells none
+abbrev pub ByLeftOut : Option (List ℕ) → (List ℕ → Result Answer RunFault → Type 0) → Result Answer RunFault → Type 0
+ByLeftOut option answers outcome =
+    ((left_out : List ℕ) × (spelled_by option ≡ Ok left_out) × answers left_out outcome)
+    ⊎ ((fault : RunFault) × (outcome ≡ Err fault) × IsBadLeftOut option fault)
+
+-- a line of an answer, and where characters are left out another line, which spells them
+abbrev pub told_without : List ℕ → List ℕ → List ℕ
+told_without [] line = line
+told_without (c ∷ left_out) line = line ++ (codes "without: " ++ (encode_utf8_all (text_spelling (c ∷ left_out)) ++ codes "\n"))

@@ -1,0 +1,37 @@
+//! The characters that an option leaves out.
+ghost use Rattle.std.specs.Prelude.{◌≡◌, IfErr, IfOk, Ok, encode_utf8_all, string_bytes};
+ghost use Rattle.std.specs.Option.{option_copied};
+ghost use Rattle.brl_answers.specs.Answers.{IsBadLeftOut, spelled_by, told_without};
+
+use crate::run_fault::RunFault;
+use brl_failure::Failure;
+use brl_lines::{chars_of, spell_chars};
+use brl_without::LeftOut;
+use std::alloc::{AllocError, Global};
+
+/// The characters that an option leaves out, spelled as an operand of a table; none where it isn't
+/// given.
+pub fn left_out_of(alloc: Global, option: Option<&str>) -> Result<LeftOut, RunFault>
+    ensures spelled { IfOk result (λ left_out. spelled_by (option_copied option.entry) ≡ Ok left_out) }
+    ensures bad { IfErr result (IsBadLeftOut (option_copied option.entry)) }
+{
+    let Some(word) = option else {
+        return Ok(LeftOut::none(alloc));
+    };
+    match chars_of(alloc, word) {
+        Ok(chars) => Ok(LeftOut::new(alloc, chars)?),
+        Err(Failure::Fault(_)) => Err(RunFault::BadLeftOut(String::from_str(alloc, word)?)),
+        Err(Failure::Memory) => Err(RunFault::Memory),
+    }
+}
+
+/// A line of an answer, and where characters are left out another line, which spells them.
+pub fn tell_without(alloc: Global, line: String, left_out: &LeftOut) -> Result<String, AllocError>
+    ensures { IfOk result (λ text. string_bytes text ≡ told_without left_out.now (string_bytes line)) }
+{
+    if left_out.is_empty() {
+        return Ok(line);
+    }
+    let spelled = spell_chars(alloc, left_out.as_slice())?;
+    format!(in alloc; "{line}without: {spelled}\n")
+}

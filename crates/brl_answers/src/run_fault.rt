@@ -1,0 +1,172 @@
+//! Why the program stopped before its work was done.
+use crate::status::Status;
+use brl_failure::Failure;
+use brl_forward::{ConfirmFault, ForwardFault};
+use brl_lines::LoadFault;
+use brl_reading::{NoTable, TableFault};
+use brl_stream::{Failed, StreamFault};
+use brl_window::TooWide;
+use brl_without::UndefinedLeftOut;
+use std::alloc::AllocError;
+use std::io::Write;
+use thiserror::Error;
+
+/// The fault that ended the work. It is shown as the line that standard error gets.
+#[derive(Debug, Drop, Error)]
+pub enum RunFault {
+    /// The table's file was refused.
+    #[error("{0}")]
+    Load(LoadFault),
+    /// A line of the table was refused.
+    #[error("{0}")]
+    Table(TableFault),
+    /// The input wasn't translated to its end.
+    #[error("{0}")]
+    Stream(StreamFault),
+    /// A text to be compared has a character that the table doesn't define.
+    #[error("{0}")]
+    Confirm(ConfirmFault),
+    /// The text to be traced has a character that the table doesn't define.
+    #[error("{0} at text")]
+    Text(ForwardFault),
+    /// The certificate lists states of a window machine, and the table has none.
+    #[error("{0}")]
+    Wide(TooWide),
+    /// The option of what is left out spells no characters, as this is written.
+    #[error("U9 BadLeftOut {0}")]
+    BadLeftOut(String),
+    /// A character that is left out isn't one of the table's.
+    #[error("{0}")]
+    NotDefined(UndefinedLeftOut),
+    /// The file for the certificate is this one of the table's files.
+    #[error("error: the certificate would overwrite {0}, a file of the table")]
+    WouldOverwrite(String),
+    /// The writer failed at an answer, or at help or the version; some first bytes of it may be
+    /// written.
+    #[error("U4 OutputFailed")]
+    OutputFailed,
+    /// The file at this path couldn't be written; what is there now isn't known.
+    #[error("U7 CannotWrite {0}")]
+    CannotWrite(String),
+    /// Memory ran out.
+    #[error("Memory")]
+    Memory,
+}
+
+impl RunFault {
+    ghost use Rattle.std.specs.Prelude.{◌≡◌};
+    ghost use Rattle.brl_answers.specs.Status.{status_of};
+
+    /// The status: nothing was decided where memory ran out and where the table is too wide for a
+    /// certificate of version 1, else there is a fault.
+    pub fn status(&self) -> Status
+        ensures { result ≡ status_of self.now }
+    {
+        match self {
+            RunFault::Memory | RunFault::Wide(_) => Status::Undecided,
+            _ => Status::Faulty,
+        }
+    }
+
+    /// Writes its line to standard error, where what can't be written is dropped, and answers its
+    /// status.
+    pub fn report<E: Write>(&self, err: &mut E) -> Status
+        ensures { result ≡ status_of self.now }
+    {
+        let _ = writeln!(err, "{self}");
+        self.status()
+    }
+}
+
+impl From<AllocError> for RunFault {
+    ghost use Rattle.std.specs.Prelude.{◌≡◌};
+    ghost use Rattle.brl_answers.specs.declared.run_fault.RunFault.TheVariants.{Memory};
+
+    ghost from_gives = { λ _ fault. fault ≡ Memory };
+
+    fn from(_error: AllocError) -> RunFault {
+        RunFault::Memory
+    }
+}
+
+impl From<Failure<NoTable>> for RunFault {
+    ghost use Rattle.std.specs.Prelude.{◌≡◌};
+    ghost use Rattle.brl_answers.specs.Status.{of_no_table};
+
+    ghost from_gives = { λ failure fault. fault ≡ of_no_table failure };
+
+    fn from(failure: Failure<NoTable>) -> RunFault {
+        match failure {
+            Failure::Fault(NoTable::Load(fault)) => RunFault::Load(fault),
+            Failure::Fault(NoTable::Table(fault)) => RunFault::Table(fault),
+            Failure::Memory => RunFault::Memory,
+        }
+    }
+}
+
+impl From<Failure<StreamFault>> for RunFault {
+    ghost use Rattle.std.specs.Prelude.{◌≡◌};
+    ghost use Rattle.brl_answers.specs.Status.{of_stream};
+
+    ghost from_gives = { λ failure fault. fault ≡ of_stream failure };
+
+    fn from(failure: Failure<StreamFault>) -> RunFault {
+        match failure {
+            Failure::Fault(fault) => RunFault::Stream(fault),
+            Failure::Memory => RunFault::Memory,
+        }
+    }
+}
+
+impl From<Failure<ConfirmFault>> for RunFault {
+    ghost use Rattle.std.specs.Prelude.{◌≡◌};
+    ghost use Rattle.brl_answers.specs.Status.{of_confirm};
+
+    ghost from_gives = { λ failure fault. fault ≡ of_confirm failure };
+
+    fn from(failure: Failure<ConfirmFault>) -> RunFault {
+        match failure {
+            Failure::Fault(fault) => RunFault::Confirm(fault),
+            Failure::Memory => RunFault::Memory,
+        }
+    }
+}
+
+impl From<Failure<ForwardFault>> for RunFault {
+    ghost use Rattle.std.specs.Prelude.{◌≡◌};
+    ghost use Rattle.brl_answers.specs.Status.{of_forward};
+
+    ghost from_gives = { λ failure fault. fault ≡ of_forward failure };
+
+    fn from(failure: Failure<ForwardFault>) -> RunFault {
+        match failure {
+            Failure::Fault(fault) => RunFault::Text(fault),
+            Failure::Memory => RunFault::Memory,
+        }
+    }
+}
+
+impl From<Failure<UndefinedLeftOut>> for RunFault {
+    ghost use Rattle.std.specs.Prelude.{◌≡◌};
+    ghost use Rattle.brl_answers.specs.Status.{of_undefined};
+
+    ghost from_gives = { λ failure fault. fault ≡ of_undefined failure };
+
+    fn from(failure: Failure<UndefinedLeftOut>) -> RunFault {
+        match failure {
+            Failure::Fault(fault) => RunFault::NotDefined(fault),
+            Failure::Memory => RunFault::Memory,
+        }
+    }
+}
+
+impl From<Failed> for RunFault {
+    ghost use Rattle.std.specs.Prelude.{◌≡◌};
+    ghost use Rattle.brl_answers.specs.declared.run_fault.RunFault.TheVariants.{OutputFailed};
+
+    ghost from_gives = { λ _ fault. fault ≡ OutputFailed };
+
+    fn from(_failed: Failed) -> RunFault {
+        RunFault::OutputFailed
+    }
+}

@@ -1,0 +1,15 @@
+pub mod Open
+pub mod Lists
+pub mod LeastLaws
+pub mod LeastRule
+pub mod LeastSplit
+pub mod MissingLaws
+pub mod FirstTwo
+pub mod KeptSteps
+pub mod Numbers
+pub mod EdgeSteps
+pub mod MissingAt
+pub mod Deciding
+pub mod Closing
+pub mod Chains
+pub mod Passing

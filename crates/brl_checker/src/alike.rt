@@ -1,0 +1,56 @@
+//! The edges of a state that decide which pairs are missing: the first two of each kind.
+ghost use Rattle.std.specs.Prelude.{◌≡◌, IfOk};
+ghost use Rattle.brl_checker.specs.Alike.{AreFirstTwo, kind_of};
+
+use brl_cells::Cells;
+use brl_edges::{Edge, Members};
+use brl_members::Key;
+use std::alloc::{AllocError, Global};
+
+/// Up to this number of edges all are kept, since looking up their kinds costs more than it saves.
+const FEW_EDGES: usize = 256;
+
+/// What decides which pair follows an edge: the number of its next state, and its cells.
+#[derive(PartialEq, Eq, Hash, Drop)]
+struct Kind {
+    next: u32,
+    cells: Cells,
+}
+
+impl Key for Kind {
+    ghost use Rattle.brl_checker.specs.SameKind.{same_kinds};
+
+    ghost same = { same_kinds };
+}
+
+impl Kind {
+    /// The kind of an edge.
+    fn of(edge: &Edge) -> Result<Kind, AllocError>
+        ensures { IfOk result (λ kind. kind ≡ kind_of edge.now) }
+    {
+        Ok(Kind {
+            next: edge.next,
+            cells: edge.cells.copy()?,
+        })
+    }
+}
+
+/// The edges in their order, without those that have two of their kind before them. Edges of one
+/// kind miss the same pairs, so further ones tell nothing new; the second one is kept, since two
+/// edges of one kind split with each other. Where there are few edges, all are kept.
+pub fn first_two_alike(alloc: Global, edges: Vec<Edge>) -> Result<Vec<Edge>, AllocError>
+    ensures { IfOk result (λ kept. AreFirstTwo edges.items kept.items) }
+{
+    if edges.len() <= FEW_EDGES {
+        return Ok(edges);
+    }
+    let mut once = Members::new(alloc);
+    let mut twice = Members::new(alloc);
+    let mut kept = Vec::new(alloc);
+    for edge in edges {
+        if once.insert(Kind::of(&edge)?)? || twice.insert(Kind::of(&edge)?)? {
+            kept.push(edge)?;
+        }
+    }
+    Ok(kept)
+}

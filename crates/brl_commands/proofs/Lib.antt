@@ -1,0 +1,4 @@
+pub mod Moved
+pub mod NoticesLemmas
+pub mod StreamLemmas
+pub mod SurveyLemmas

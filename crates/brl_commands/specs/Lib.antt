@@ -1,0 +1,5 @@
+pub mod Comparing
+pub mod Notices
+pub mod Streams
+pub mod Surveying
+pub mod Tracing

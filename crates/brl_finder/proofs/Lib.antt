@@ -1,0 +1,14 @@
+pub mod Lists
+pub mod Slices
+pub mod Additions
+pub mod Edges
+pub mod There
+pub mod Queue
+pub mod Steps
+pub mod Path
+pub mod Naming
+pub mod Closed
+pub mod Reached
+pub mod TwoRuns
+pub mod Members
+pub mod Listed

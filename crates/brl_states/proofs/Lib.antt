@@ -1,0 +1,4 @@
+pub mod Listing
+pub mod DueOrder
+pub mod Sorting
+pub mod Ordered
