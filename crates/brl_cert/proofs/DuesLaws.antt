@@ -17,9 +17,9 @@ use Rattle.brl_states.specs.declared.due.Due.{Due}
 use Rattle.brl_states.specs.declared.due.Due.TheVariants.{Need, Bar}
 use Rattle.brl_states.specs.declared.dues_state.DuesState.{DuesState}
 use Rattle.brl_cert.specs.Dues.{dues_fields, lenient_any, lenient_due, lenient_dues, lenient_head, lenient_parts, lenient_set, lenient_state, lenient_word, or_else, dues_format, spelled_cond, spelled_due, word_fields, word_format}
-use Rattle.brl_cert.specs.Fields.{◌>>=◌, character, each, flag, is_char, lenient_char, number}
+use Rattle.brl_fields.specs.Fields.{◌>>=◌, character, each, flag, is_char, lenient_char, number}
 use Rattle.brl_cert.specs.Valid.{HasSet, IsDue, IsDuesState, IsRunless}
-use Rattle.brl_cert.proofs.FieldLaws.{IsAbove, Reads, above_append, above_joined, all_above, each_again, each_char, flag_reads, lower, number_reads, split_joined}
+use Rattle.brl_fields.proofs.FieldLaws.{IsAbove, Reads, above_append, above_joined, all_above, each_again, each_char, flag_reads, lower, number_reads, split_joined}
 use Rattle.brl_cert.proofs.Again.{KeepsStates}
 use Rattle.brl_cert.proofs.Window.{decides, flag_itself, flips}
 

@@ -10,7 +10,7 @@ use Rattle.brl_states.specs.declared.due.Due.{Due}
 use Rattle.brl_states.specs.declared.due.Due.TheVariants.{Need, Bar}
 use Rattle.brl_states.specs.declared.dues_state.DuesState.{DuesState}
 use Rattle.brl_cert.specs.Dues.{lenient_any, lenient_due, lenient_dues, lenient_head, lenient_parts, lenient_set, lenient_state, lenient_word, or_else, dues_format, word_format}
-use Rattle.brl_cert.specs.Fields.{◌>>=◌, each, flag, lenient_char, number}
+use Rattle.brl_fields.specs.Fields.{◌>>=◌, each, flag, lenient_char, number}
 use Rattle.brl_cert.specs.Valid.{HasSet, IsDue, IsDuesState, IsRunless}
 use Rattle.brl_cert.proofs.DuesLaws.{DuesState-Decides, Fine}
 use Rattle.brl_cert.proofs.Sound.{ReadsStates, each_valid, equal_from_decides, lenient_number-small, some_if, then_some}

@@ -1,14 +1,9 @@
-pub mod FieldLaws
 pub mod Again
 pub mod Found
 pub mod Window
 pub mod Versions
 pub mod Sound
-pub mod Numbers
-pub mod Lists
 pub mod Written
-pub mod Each
-pub mod Ascii
 pub mod Loops
 pub mod DuesLaws
 pub mod DuesSound

@@ -16,7 +16,7 @@ use Rattle.brl_cells.specs.declared.fault.DotsFault.TheVariants.{TooManyCells}
 use Rattle.brl_cells.specs.Dots.{AreCells, cells_reading, parts, reading as dots_reading}
 use Rattle.brl_cert.specs.declared.fault.CertFaultKind.TheVariants.{Syntax, NotCanonical, DuplicateState, DuplicatePair, NoSuchState, WrongCount, Version}
 use Rattle.brl_edges.specs.Body.{BodyView, IsPairOf, NumberPair, same_pair}
-use Rattle.brl_cert.specs.Fields.{◌>>=◌, lenient_number, lenient_lead, is_char, lenient_char, lenient_chars, each, number, flag}
+use Rattle.brl_fields.specs.Fields.{◌>>=◌, lenient_number, lenient_lead, is_char, lenient_char, lenient_chars, each, number, flag}
 use Rattle.brl_cert.specs.declared.line.Line.{Line}
 use Rattle.brl_cert.specs.declared.line.Line.TheVariants.{State, Pair, End}
 use Rattle.brl_cert.specs.Lines.{at_line, StateFormat, ◌>>>◌, placed, count, spelled_line, lenient_line, lenient_pair, lenient_end, strict_line, line_of, may_follow, is_end, add_line, one_line, body_of}
@@ -27,7 +27,7 @@ use Rattle.brl_cert.specs.Reading.{reading, certificate_of, version_of, header_o
 use Rattle.brl_states.specs.declared.cert.Cert.TheVariants.{Dues, Window, Word}
 use Rattle.brl_states.specs.declared.cert.Cert.{Cert as Certificate}
 use Rattle.brl_cert.specs.Valid.{IsBody, IsRunless, IsWindowState, IsDuesState, IsCertificate}
-use Rattle.brl_cert.proofs.Ascii.{limited}
+use Rattle.brl_fields.proofs.Ascii.{limited}
 use Rattle.brl_cert.proofs.Found.{then_ok, placed_ok, guard_ok, need_ok, ok_is}
 use Rattle.brl_cert.proofs.Window.{NumberPair-Decides, WindowState-Decides, flips}
 

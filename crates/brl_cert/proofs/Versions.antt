@@ -12,7 +12,7 @@ use Rattle.brl_cert.specs.Reading.{spelled_header, header_of, certificate_of, em
 use Rattle.brl_states.specs.declared.cert.Cert.TheVariants.{Dues, Window, Word}
 use Rattle.brl_states.specs.declared.cert.Cert.{Cert as Certificate}
 use Rattle.brl_cert.specs.Valid.{IsBody, IsCertificate, IsDuesState, IsRunless}
-use Rattle.brl_cert.proofs.FieldLaws.{IsAbove, ReadsCells, apart, above_true}
+use Rattle.brl_fields.proofs.FieldLaws.{IsAbove, ReadsCells, apart, above_true}
 use Rattle.brl_cert.proofs.Again.{KeepsStates, body_again, first_part}
 use Rattle.brl_cert.proofs.Window.{NumberPair-Decides, flips, keeps_windows}
 

@@ -13,7 +13,7 @@ use Rattle.brl_pairs.specs.Same.{same_pairs}
 use Rattle.brl_states.specs.SameWindowState.{same_states}
 use Rattle.brl_cert.specs.Window.{window_fields, lenient_window, window_format}
 use Rattle.brl_cert.specs.Valid.{IsRunless, IsWindowState}
-use Rattle.brl_cert.proofs.FieldLaws.{IsAbove, lower, number_reads, flag_reads, chars_read}
+use Rattle.brl_fields.proofs.FieldLaws.{IsAbove, lower, number_reads, flag_reads, chars_read}
 use Rattle.brl_cert.proofs.Again.{KeepsStates}
 
 -- a test that holds of each value and itself, and of no other two values

@@ -9,7 +9,7 @@ use Rattle.brl_cert.specs.declared.fault.CertFaultKind.TheVariants.{Syntax, NotC
 use Rattle.brl_edges.specs.Body.{BodyView, NumberPair, same_pair}
 use Rattle.brl_cert.specs.declared.line.Line.{Line}
 use Rattle.brl_cert.specs.declared.line.Line.TheVariants.{State, Pair, End}
-use Rattle.brl_cert.specs.Fields.{◌>>=◌, FieldFormat, number, lead}
+use Rattle.brl_fields.specs.Fields.{◌>>=◌, FieldFormat, number, lead}
 
 -- how a version writes states: the fields after the word state, the state of lenient fields, and
 -- when two states are equal

@@ -10,7 +10,7 @@ use Rattle.brl_states.specs.declared.due.Due.TheVariants.{Need, Bar}
 use Rattle.brl_states.specs.declared.dues_state.DuesState.{DuesState}
 use Rattle.brl_states.specs.declared.window_state.WindowState.{WindowState}
 use Rattle.brl_edges.specs.Body.{BodyView, IsPairOf, same_pair}
-use Rattle.brl_cert.specs.Fields.{is_char}
+use Rattle.brl_fields.specs.Fields.{is_char}
 use Rattle.brl_cert.specs.Lines.{StateFormat}
 use Rattle.brl_cert.specs.Dues.{dues_format, word_format}
 use Rattle.brl_cert.specs.Window.{window_format}

@@ -4,7 +4,6 @@
 
 mod dues_line;
 mod fault;
-mod field;
 mod line;
 mod reader;
 mod reading;

@@ -9,10 +9,10 @@ ghost use Rattle.brl_cert.specs.Valid.{IsBody};
 ghost use Rattle.brl_edges.specs.Body.{listed};
 ghost use Rattle.brl_cert.specs.declared.line.Line.TheVariants.{State};
 
-use crate::field::{push_lead, push_number};
 use crate::line::Line;
 use crate::{Cert, Version, Version1, Version2, Version3, certificate_laws};
 use brl_edges::Body;
+use brl_fields::{push_lead, push_number};
 use brl_pairs::Pair;
 use brl_states::{DuesState, Runless, WindowState};
 use std::alloc::{AllocError, Global};

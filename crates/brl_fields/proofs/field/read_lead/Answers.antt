@@ -1,8 +1,8 @@
 use Rattle.std.proofs.Common.{◌≡◌, false}
 use Rattle.std.specs.Prelude.{codes}
 use Rattle.std.specs.Str.{bytes_eq}
-use Rattle.brl_cert.proofs.Ascii.{no_text_no_cells}
-use Rattle.brl_cert.proofs.field.read_lead.Goals as goal
+use Rattle.brl_fields.proofs.Ascii.{no_text_no_cells}
+use Rattle.brl_fields.proofs.field.read_lead.Goals as goal
 
 pub returns-in_default-clause-lead : goal.returns-in_default-clause-lead
 returns-in_default-clause-lead c =

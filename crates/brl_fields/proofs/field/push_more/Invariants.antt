@@ -1,8 +1,8 @@
 use Rattle.std.proofs.Common.{◌≡◌, ◌++◌, ◌∷◌, take, All, true, false}
 use Rattle.std.specs.Fmt.{digits}
 use Rattle.std.specs.List.{flat_map}
-use Rattle.brl_cert.specs.Fields.{is_char}
-use Rattle.brl_cert.proofs.field.push_more.Given as goal
+use Rattle.brl_fields.specs.Fields.{is_char}
+use Rattle.brl_fields.proofs.field.push_more.Given as goal
 
 abbrev pub invariant-loop-character : goal.invariant-loop-character
 invariant-loop-character l = record {

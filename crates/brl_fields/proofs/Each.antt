@@ -1,7 +1,7 @@
 -- A list whose members are read one by one.
 use Rattle.std.proofs.Common.{◌≡◌, ℕ, zero, suc, ◌+◌, ◌<◌, ◌≤◌, List, [], ◌∷◌, ◌++◌, length, map, take, get_or, Option, Some, None, refl, sym, ap, subst, ◌∙◌, arith}
 use Rattle.std.proofs.lemmas.List.{take_more}
-use Rattle.brl_cert.specs.Fields.{◌>>=◌, each}
+use Rattle.brl_fields.specs.Fields.{◌>>=◌, each}
 
 module _ {A B C : Type 0} (f : B → Option C) (g : A → B) where
   each_push : (xs : List A) (ys : List C) (x : A) (y : C) → each f (map g xs) ≡ Some ys → f (g x) ≡ Some y → each f (map g (xs ++ x ∷ [])) ≡ Some (ys ++ y ∷ [])

@@ -1,8 +1,8 @@
 use Rattle.std.proofs.Common.{◌∷◌, true, false, ◌≡◌, arith, append_assoc, rules}
 use Rattle.std.specs.Fmt.{digits}
-use Rattle.brl_cert.specs.Fields.{is_char}
-use Rattle.brl_cert.proofs.Written.{one_more, all_more}
-use Rattle.brl_cert.proofs.field.push_more.Goals as goal
+use Rattle.brl_fields.specs.Fields.{is_char}
+use Rattle.brl_fields.proofs.More.{one_more, all_more}
+use Rattle.brl_fields.proofs.field.push_more.Goals as goal
 
 pub loop-character-preserved : goal.loop-character-preserved
 loop-character-preserved c = record {

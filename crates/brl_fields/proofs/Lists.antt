@@ -3,7 +3,7 @@ use Rattle.std.proofs.Common.{false, ◌≡◌, ℕ, zero, suc, ◌-◌, ◌≤�
 use Rattle.std.specs.Fmt.{digits}
 use Rattle.std.specs.List.{join_with_byte, flat_map}
 use Rattle.std.proofs.lemmas.List.{append-nil}
-use Rattle.brl_cert.specs.Fields.{spelled_chars}
+use Rattle.brl_fields.specs.Fields.{spelled_chars}
 
 -- joined parts are the first, and then each with the mark before it
 pub joined_marks : {A : Type 0} (f : A → List ℕ) (m : ℕ) (part : List ℕ) (xs : List A) → join_with_byte m (part ∷ map f xs) ≡ part ++ flat_map (λ x. m ∷ f x) xs

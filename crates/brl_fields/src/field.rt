@@ -4,7 +4,7 @@ ghost use Rattle.std.specs.Char.{digit_value};
 ghost use Rattle.std.specs.Fmt.{decimal, digits};
 ghost use Rattle.std.specs.List.{flat_map, slice_split};
 ghost use Rattle.brl_cells.specs.Dots.{AreCells};
-ghost use Rattle.brl_cert.specs.Fields.{each, is_char, lenient_char, lenient_chars, lenient_flag, lenient_lead, lenient_number, spelled_chars, spelled_flag, spelled_lead};
+ghost use Rattle.brl_fields.specs.Fields.{each, is_char, lenient_char, lenient_chars, lenient_flag, lenient_lead, lenient_number, spelled_chars, spelled_flag, spelled_lead};
 
 use brl_cells::{Cell, Cells, Chars, read_dots, write_dots};
 use brl_failure::Failure;

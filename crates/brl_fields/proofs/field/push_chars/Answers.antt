@@ -1,6 +1,6 @@
 use Rattle.std.proofs.Common.{arith}
-use Rattle.brl_cert.proofs.Lists.{chars_spelled}
-use Rattle.brl_cert.proofs.field.push_chars.Goals as goal
+use Rattle.brl_fields.proofs.Lists.{chars_spelled}
+use Rattle.brl_fields.proofs.field.push_chars.Goals as goal
 
 pub returns-in_ok-push_more-in-len1-up-clause-written : goal.returns-in_ok-push_more-in-len1-up-clause-written
 returns-in_ok-push_more-in-len1-up-clause-written c =
