@@ -1,4 +1,2 @@
-pub mod Moved
-pub mod NoticesLemmas
 pub mod StreamLemmas
 pub mod SurveyLemmas

@@ -10,7 +10,7 @@ use Rattle.brl_failure.specs.declared.failure.Failure.TheVariants as failures
 use Rattle.brl_lines.specs.Answer.{AllStay, Answer, MayGive}
 use Rattle.brl_lines.specs.Outcome.{IsLoadFault}
 use Rattle.brl_lines.specs.declared.fault.LoadFault.{LoadFault}
-use Rattle.brl_commands.proofs.Moved.{lines_moved, load_fault_moved}
+use Rattle.brl_answers.proofs.Moved.{lines_moved, load_fault_moved}
 use Rattle.brl_commands.specs.Surveying.{IsPart, IsReportAt, Part, part_text, survey_status, text_of_part}
 use Rattle.brl_answers.specs.declared.status.Status.{Status}
 use Rattle.brl_answers.specs.declared.status.Status.TheVariants.{Done, Faulty}

@@ -1,3 +1,1 @@
-pub mod CheckLemmas
-pub mod SearchLemmas
 pub mod StatusLemmas

@@ -11,11 +11,12 @@ use Rattle.brl_reading.specs.Files.{IsTableOf, IsTableOfFiles}
 use Rattle.brl_search.specs.Searched.{State, certificate_of}
 use Rattle.brl_accept.specs.Judging.{IsAcceptedWithout, counted}
 use Rattle.brl_edges.specs.Body.{BodyView}
+use Rattle.brl_verdicts.proofs.OfFiles.{of_files}
 use Rattle.brl_table.specs.TableView.{TableView}
 use Rattle.brl_answers.proofs.DeliveryLemmas.{none_changes}
 use Rattle.brl_commands.specs.Comparing.{ComparesByFile, IsComparison}
 use Rattle.brl_answers.specs.Answers.{ByLeftOut, told_without}
-use Rattle.brl_tool.specs.Verdicts.{Checks, IsFileOf, IsJudgement, Judges, SearchesByFile, accepted_line, certified_line}
+use Rattle.brl_verdicts.specs.Verdicts.{Checks, IsFileOf, IsJudgement, Judges, SearchesByFile, accepted_line, certified_line}
 use Rattle.brl_answers.specs.Delivery.{Delivers}
 use Rattle.brl_answers.specs.Files.{FilesAfter, GivesAlso, MayBeSame, OthersStay}
 use Rattle.brl_tool.specs.Running.{ReportsAcceptance, ReportsCertificate, ReportsClash, ReportsRefusal}
@@ -59,10 +60,6 @@ never_refuted (WouldOverwrite named) e = cc
 never_refuted OutputFailed e = cc
 never_refuted (CannotWrite named) e = cc
 never_refuted Memory e = cc
-
--- the table of some files is that of its root
-pub of_files : (gives : MayGive) (path : List ℕ) (paths : List (List ℕ)) (t : TableView) → IsTableOfFiles gives path paths t → IsTableOf gives path t
-of_files gives path paths t (lines, (answers, given, are, lines_are), passes, is) = (lines, (answers, given, lines_are), passes, is)
 
 module _ (before after : MayGive) (failed : Type 0) (old new : Option (List ℕ)) where
   -- an answer with a status that no fault has was written whole

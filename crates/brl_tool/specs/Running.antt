@@ -16,7 +16,7 @@ use Rattle.brl_table.specs.TableView.{TableView}
 use Rattle.brl_table.specs.Translation.{IsClash}
 use Rattle.brl_commands.specs.Comparing.{ComparesByFile}
 use Rattle.brl_answers.specs.Answers.{ByLeftOut, Says, UnlessMemory, spelled_by, told_without}
-use Rattle.brl_tool.specs.Verdicts.{Judges, SearchesByFile, accepted_line, certified_line}
+use Rattle.brl_verdicts.specs.Verdicts.{Judges, SearchesByFile, accepted_line, certified_line}
 use Rattle.brl_answers.specs.Delivery.{IsDelivered}
 use Rattle.brl_answers.specs.Files.{GivesAlso, MayBeSame, OthersStay}
 use Rattle.brl_answers.specs.Status.{code_of, status_of}

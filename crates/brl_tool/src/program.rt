@@ -6,11 +6,10 @@ ghost use Rattle.brl_lines.specs.Answer.{AllStay};
 ghost use Rattle.brl_tool.specs.Running.{ChecksBy, ComparesBy, IsHelp, IsStatus, Performs, Replies, ReportsAcceptance, ReportsCertificate, ReportsClash, ReportsRefusal, Runs, SearchesBy, SurveysBy, TracesBy, TranslatesBy};
 ghost use Rattle.brl_answers.specs.declared.status.Status.TheVariants as statuses;
 
-use crate::check::check_by_words;
-use crate::search::search_by_words;
 use crate::{Files, Form, Input, Output};
 use brl_answers::{Answer, RunFault, Status, deliver};
 use brl_commands::{compare_by_file, survey_by_files, trace_by_file, translate_by_file};
+use brl_verdicts::{check_by_words, search_by_words};
 use brl_watch::Watch;
 use brl_words::{NoTask, Task, task_of};
 use std::alloc::Global;

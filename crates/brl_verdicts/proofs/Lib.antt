@@ -1,0 +1,4 @@
+pub mod CheckLemmas
+pub mod NoticesLemmas
+pub mod OfFiles
+pub mod SearchLemmas

@@ -1,0 +1,30 @@
+use Rattle.std.proofs.Common.{◌≡◌, ◌⊎◌, subst, ℕ, List, Err, IfOk, IfErr, Ok}
+use Rattle.brl_accept.specs.Judging.{IsAcceptedWithout, IsRefusedByWithout}
+use Rattle.brl_checker.specs.declared.checker.Accepted.{Accepted}
+use Rattle.brl_failure.specs.Failure.{IfFault}
+use Rattle.brl_failure.specs.declared.failure.Failure.TheVariants.{Memory}
+use Rattle.brl_lines.specs.Answer.{GivesOneAnswer}
+use Rattle.brl_reading.specs.Files.{IsTableOf}
+use Rattle.brl_table.specs.TableView.{TableView}
+use Rattle.brl_without.specs.Tables.{IsUnambiguousWithout}
+use Rattle.brl_verdicts.proofs.CheckLemmas.{accepted_good, judged}
+use Rattle.brl_verdicts.proofs.check.check_by_file.Goals as goal
+
+pub returns-clause-checks : goal.returns-clause-checks
+returns-clause-checks g c =
+    let after = g.S.Source.gives c.bytes_at.new.source in
+    let same : c.as_slice.result.now ≡ c.in_ok-bytes.bytes.items = c.as_slice.ensures.value in
+    judged c.args.left_out.now (g.S.Source.gives c.args.source.now) after c.in_ok-bytes.ensures.same c.args.table.now c.args.cert.now c.in_ok-bytes.bytes.items c.in_ok-bytes.ensures.bytes
+    c.judge_without-judged.result
+    (subst (λ (bytes : List ℕ). IfOk c.judge_without-judged.result (λ accepted. (t : TableView) × IsTableOf after c.args.table.now t × IsUnambiguousWithout c.args.left_out.now t × IsAcceptedWithout c.args.left_out.now t bytes accepted)) same c.judge_without-judged.ensures.accepted)
+    (subst (λ (bytes : List ℕ). IfErr c.judge_without-judged.result (IfFault (IsRefusedByWithout c.args.left_out.now after c.args.table.now bytes))) same c.judge_without-judged.ensures.refused)
+    c.judgement.result c.judgement.ensures
+
+pub returns-clause-accepts : goal.returns-clause-accepts
+returns-clause-accepts g c =
+    let after = g.S.Source.gives c.bytes_at.new.source in
+    let same : c.as_slice.result.now ≡ c.in_ok-bytes.bytes.items = c.as_slice.ensures.value in
+    accepted_good c.args.left_out.now (g.S.Source.gives c.args.source.now) after c.in_ok-bytes.ensures.same c.args.table.now c.args.cert.now c.in_ok-bytes.bytes.items c.in_ok-bytes.ensures.bytes
+    c.judge_without-judged.result
+    (subst (λ (bytes : List ℕ). GivesOneAnswer after → (t : TableView) → IsTableOf after c.args.table.now t → (accepted : Accepted) → IsAcceptedWithout c.args.left_out.now t bytes accepted → (c.judge_without-judged.result ≡ Ok accepted) ⊎ (c.judge_without-judged.result ≡ Err Memory)) same c.judge_without-judged.ensures.decides)
+    c.judgement.result c.judgement.ensures
