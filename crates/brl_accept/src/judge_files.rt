@@ -1,6 +1,6 @@
 //! The judge of a certificate for the table that files define.
 ghost use Rattle.std.specs.Prelude.{◌≡◌, ◌⊎◌, ◌↔◌, Err, IfErr, IfOk, IsTrue, Ok, OnOk};
-ghost use Rattle.brl_accept.specs.Judging.{IsAccepted, IsAcceptedFor, IsAcceptedWithout, IsNotProvedWith, IsProvedWith, IsRefusedBy, IsRefusedByWithout, IsRefusedFor, IsRefusedWithout, load_outcome};
+ghost use Rattle.brl_accept.specs.Judging.{IsAccepted, IsAcceptedFor, IsAcceptedWith, IsAcceptedWithout, IsNotProvedWith, IsProvedWith, IsRefusedBy, IsRefusedByWithout, IsRefusedFor, IsRefusedWith, IsRefusedWithout, load_outcome};
 ghost use Rattle.brl_checker.specs.declared.checker.Accepted.{Accepted as AcceptedValue};
 ghost use Rattle.brl_failure.specs.Failure.{IfFault};
 ghost use Rattle.brl_failure.specs.declared.failure.Failure.TheVariants as failures;
@@ -80,7 +80,29 @@ fn has_version(table: &Table, cert: &Cert) -> bool
     }
 }
 
-/// Judges a certificate for a table without some characters.
+/// Judges a certificate that was read, for a table without some characters.
+fn judge_read<W: Watch>(
+    alloc: Global,
+    table: &Table,
+    left_out: &LeftOut,
+    cert: &Cert,
+    watch: &mut W,
+) -> Result<Accepted, Failure<JudgeFault>>
+    ensures unambiguous { OnOk result (IsUnambiguousWithout left_out.now table.now) }
+    ensures accepted { IfOk result (IsAcceptedWith (part_without left_out.now) table.now cert.now) }
+    ensures refused { IfErr result (IfFault (IsRefusedWith (part_without left_out.now) table.now cert.now)) }
+{
+    if !has_version(table, cert) {
+        return Err(Failure::Fault(JudgeFault::OldVersion));
+    }
+    match cert {
+        Cert::Window(runless) => judge_windows(alloc, table, left_out, runless.body(), watch),
+        Cert::Dues(runless) => judge_dues(alloc, table, left_out, runless.body(), watch),
+        Cert::Word(body) => judge_dues(alloc, table, left_out, body, watch),
+    }
+}
+
+/// Judges the certificate that bytes spell for a table without some characters.
 fn judge_cert<W: Watch>(
     alloc: Global,
     table: &Table,
@@ -93,14 +115,7 @@ fn judge_cert<W: Watch>(
     ensures refused { IfErr result (IfFault (IsRefusedFor (part_without left_out.now) table.now cert.now)) }
 {
     let cert = raise(read_cert(alloc, cert), JudgeFault::Cert)?;
-    if !has_version(table, &cert) {
-        return Err(Failure::Fault(JudgeFault::OldVersion));
-    }
-    match cert {
-        Cert::Window(runless) => judge_windows(alloc, table, left_out, runless.body(), watch),
-        Cert::Dues(runless) => judge_dues(alloc, table, left_out, runless.body(), watch),
-        Cert::Word(body) => judge_dues(alloc, table, left_out, &body, watch),
-    }
+    judge_read(alloc, table, left_out, &cert, watch)
 }
 
 /// The same, once the table defines what is left out.
