@@ -1,10 +1,11 @@
 //! `brl search`: whether two texts of a table clash.
-ghost use Rattle.std.specs.Prelude.{◌≡◌, ◌≢◌, All, IfErr, IfOk, OnOk};
+ghost use Rattle.std.specs.Prelude.{◌≡◌, ◌≢◌, ℕ, All, IfErr, IfOk, OnOk};
 ghost use Rattle.brl_lines.specs.Answer.{AllStay};
 ghost use Rattle.brl_lines.specs.Outcome.{CountsFailure};
 ghost use Rattle.std.specs.Option.{option_copied};
 ghost use Rattle.brl_answers.specs.Answers.{ByLeftOut, load_outcome};
 ghost use Rattle.brl_verdicts.specs.Verdicts.{IsCertificateAt, IsOverwriting, IsUndefinedFault, IsVerdict, SearchesByFile};
+ghost use Rattle.brl_search.specs.Found.{IsFoundWithout};
 ghost use Rattle.brl_without.specs.Tables.{AreDefined};
 
 use crate::notices::write_notices;
@@ -118,11 +119,28 @@ fn search_table<E: Write + Watch>(
     ensures { IfOk result (IsVerdict left_out.now table.now out.now limit) }
 {
     write_notices(alloc, table, err)?;
-    match search_without(alloc, table, u64::from(limit), left_out, err)? {
-        Found::Certified(cert) => certificate(alloc, &cert, out, left_out),
-        Found::Clashing(clash) => Ok(Answer::new(Status::Refuted, report(alloc, table, &clash)?)),
+    let found = search_without(alloc, table, u64::from(limit), left_out, err)?;
+    answer_found(alloc, table, out, left_out, &found)
+}
+
+/// The answer with what was found of a table without the characters that are left out.
+fn answer_found(
+    alloc: Global,
+    table: &Table,
+    out: &str,
+    left_out: &LeftOut,
+    found: &Found,
+) -> Result<Answer, AllocError>
+    requires defined { AreDefined table.now left_out.now }
+    requires found { (limit : ℕ) × IsFoundWithout left_out.now table.now limit found.now }
+    ensures { (limit : ℕ) → IsFoundWithout left_out.now table.now limit found.now →
+        IfOk result (IsVerdict left_out.now table.now out.now limit) }
+{
+    match found {
+        Found::Certified(cert) => certificate(alloc, cert, out, left_out),
+        Found::Clashing(clash) => Ok(Answer::new(Status::Refuted, report(alloc, table, clash)?)),
         Found::Limit { states, pairs } => {
-            let text = counts_text(alloc, "limit", states, pairs)?;
+            let text = counts_text(alloc, "limit", *states, *pairs)?;
             Ok(Answer::new(Status::Undecided, text))
         }
     }
