@@ -112,8 +112,7 @@ pub fn accept<M: Machine>(
     accept_watched(alloc, machine, body, &mut Unwatched)
 }
 
-/// Accepts what `accept` accepts, with the same faults. A watcher is told how far the check is, state by
-/// state.
+/// Checks states and pairs as `accept` does, and reports its progress to `watch` after each state.
 pub fn accept_watched<M: Machine, W: Watch>(
     alloc: Global,
     machine: &M,

@@ -151,8 +151,8 @@ pub fn search_machine<M: Machine>(
     search_machine_watched(alloc, machine, limit, &mut Unwatched)
 }
 
-/// Searches a machine to the end, as `search_machine` does. A watcher is told how much is found,
-/// slice by slice.
+/// Searches a machine as `search_machine` does, and reports its progress to `watch` before each slice
+/// of steps.
 pub fn search_machine_watched<M: Machine, W: Watch>(
     alloc: Global,
     machine: &M,
