@@ -1,6 +1,6 @@
 //! Braille cells. A `Cell` is a set of dots; `Cells` and `Chars` are lists of cells and of
 //! characters. Cells are read from dots operands, and written as these (`read_dots`, `write_dots`),
-//! in braille ASCII and in Unicode braille (`to_ascii`, `to_unicode`).
+//! in braille ASCII and in Unicode braille (`Form`, `to_ascii`, `to_unicode`).
 #![tactic(auto)]
 
 mod cell;
@@ -8,6 +8,7 @@ mod cells;
 mod chars;
 mod dots;
 mod fault;
+mod form;
 mod laws;
 mod marks;
 
@@ -16,6 +17,7 @@ pub use cells::Cells;
 pub use chars::Chars;
 pub use dots::{read_dots, write_dots};
 pub use fault::DotsFault;
+pub use form::Form;
 pub use laws::{
     ascii_marks_differ, ascii_marks_keep_decades, cells_are_read, cells_have_one_spelling,
     spelled_cells_are_read,

@@ -10,7 +10,8 @@ ghost use Rattle.brl_states.specs.Order.{is_proper};
 ghost use Rattle.brl_table.specs.declared.place.Cond.TheVariants.{Meets, Avoids};
 
 use brl_fields::{
-    parts_of, push_char, push_flag, push_more, push_number, read_each, read_flag, read_number,
+    parts_of, push_char, push_flag, push_more, push_number, read_between_points, read_flag,
+    read_number,
 };
 use brl_states::{Due, DueList, DuesState};
 use brl_table::{Class, Cond};
@@ -44,11 +45,8 @@ fn read_head(alloc: Global, cond: Cond, head: &[u8]) -> Result<Option<Due>, Allo
     match head {
         [b'n'] => Ok(Some(Due::Need(cond))),
         [b'b', rest @ ..] => {
-            let parts = parts_of(alloc, rest, b'.')?;
-            match read_each(alloc, parts.as_slice())? {
-                Some(chars) => Ok(Some(Due::Bar(chars, cond))),
-                None => Ok(None),
-            }
+            let chars = read_between_points(alloc, rest)?;
+            Ok(chars.map(|chars| Due::Bar(chars, cond)))
         }
         _ => Ok(None),
     }

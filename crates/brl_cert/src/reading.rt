@@ -1,5 +1,5 @@
 //! Reading certificates, and the laws of their spelling.
-ghost use Rattle.std.specs.Prelude.{◌≡◌, ◌≤◌, ◌∷◌, [], ℕ, List, length, map, IfErr, IfOk, IfSome, Ok};
+ghost use Rattle.std.specs.Prelude.{◌≡◌, ◌≤◌, ◌∷◌, [], ℕ, List, length, map, IfErr, IfOk, IfSome, OnOk, Ok};
 ghost use Rattle.brl_cert.specs.Lines.{body_of, placed};
 ghost use Rattle.brl_failure.specs.Failure.{Gives, IsFaultOf};
 ghost use Rattle.brl_cert.specs.Reading.{empty_body, header_of, lenient_header, reading, spelling, version_of};
@@ -85,17 +85,19 @@ fn read_header(alloc: Global, bytes: &[u8]) -> Result<u64, Failure<CertFault>>
     }
 }
 
-/// The body of the lines after a header. The parts are these lines and, last, the bytes after the
-/// last line feed.
-fn read_body<V: Version>(
+/// Takes the lines after a header. The parts are these lines and, last, the bytes after the last
+/// line feed.
+fn take_lines<V: Version>(
     alloc: Global,
+    reader: &mut Reader<V>,
     parts: &[&[u8]],
-) -> Result<Body<V::State>, Failure<CertFault>>
+) -> Result<(), Failure<CertFault>>
     requires { 1 ≤ length parts.now }
-    ensures body { IfOk result (λ body. body_of V.form 2 empty_body (map (λ part. part.now) parts.now) ≡ Ok body) }
-    ensures fault { IfErr result (IsFaultOf (body_of V.form 2 empty_body (map (λ part. part.now) parts.now))) }
+    ensures body { OnOk result (body_of V.form 2 reader.old (map (λ part. part.now) parts.now) ≡ Ok reader.new) }
+    ensures few_states { OnOk result (length reader.new.states ≤ 4294967295) }
+    ensures few_pairs { OnOk result (length reader.new.pairs ≤ 4294967295) }
+    ensures fault { IfErr result (IsFaultOf (body_of V.form 2 reader.old (map (λ part. part.now) parts.now))) }
 {
-    let mut reader = Reader::<V>::new(alloc);
     let last = parts.len() - 1;
     for place in 0..last {
         let number = place as u64 + 2;
@@ -106,10 +108,24 @@ fn read_body<V: Version>(
             if !parts[last].is_empty() {
                 return Err(CertFaultKind::Syntax.at(number + 1));
             }
-            return Ok(reader.into_body());
+            return Ok(());
         }
     }
     Err(CertFaultKind::Truncated.at(parts.len() as u64 + 1))
+}
+
+/// The body of the lines after a header, parts like those of `take_lines`.
+fn read_body<V: Version>(
+    alloc: Global,
+    parts: &[&[u8]],
+) -> Result<Body<V::State>, Failure<CertFault>>
+    requires { 1 ≤ length parts.now }
+    ensures body { IfOk result (λ body. body_of V.form 2 empty_body (map (λ part. part.now) parts.now) ≡ Ok body) }
+    ensures fault { IfErr result (IsFaultOf (body_of V.form 2 empty_body (map (λ part. part.now) parts.now))) }
+{
+    let mut reader = Reader::<V>::new(alloc);
+    take_lines(alloc, &mut reader, parts)?;
+    Ok(reader.into_body())
 }
 
 /// The certificate of the lines after a header of this version.

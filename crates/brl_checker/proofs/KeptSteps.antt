@@ -3,7 +3,7 @@ use Rattle.std.proofs.Common.{◌≡◌, ◌==◌, ℕ, ◌<◌, List, [], ◌�
 use Rattle.std.proofs.lemmas.Bool.{cases_eq}
 use Rattle.std.proofs.lemmas.Bool.Decides.{eqb_tells}
 use Rattle.std.proofs.lemmas.Option.{slice_get_within}
-use Rattle.brl_checker.specs.Alike.{AreFirstTwo, HasTwo, IsOfKind, kind_of}
+use Rattle.brl_checker.specs.Alike.{AreFirstTwo, HasTwo, IsCounted, IsOfKind, kind_of}
 use Rattle.brl_checker.specs.declared.alike.Kind.{Kind}
 use Rattle.brl_checker.proofs.FirstTwo.{all_kept}
 use Rattle.brl_checker.proofs.Lists.{inside, length_push, push_before, push_cases, push_last}
@@ -151,28 +151,49 @@ module _ (edges kept : List Edge) (once twice : List Kind) (h : ArePassed edges 
   }
 
   -- a step of the loop: the first edge of its kind
-  pub passed_first : (kept' : List Edge) (once' twice' : List Kind) → kept' ≡ kept ++ x ∷ [] → once' ≡ once ++ kind ∷ [] → twice' ≡ twice → ArePassed (edges ++ x ∷ []) kept' once' twice'
+  passed_first : (kept' : List Edge) (once' twice' : List Kind) → kept' ≡ kept ++ x ∷ [] → once' ≡ once ++ kind ∷ [] → twice' ≡ twice → ArePassed (edges ++ x ∷ []) kept' once' twice'
   passed_first kept' once' twice' kept_is once_is twice_is = rw (kept_is, once_is, twice_is) first_pushed
 
   -- the second
-  pub passed_second : IsMember once kind → (kept' : List Edge) (once' twice' : List Kind) → kept' ≡ kept ++ x ∷ [] → once' ≡ once → twice' ≡ twice ++ kind ∷ [] → ArePassed (edges ++ x ∷ []) kept' once' twice'
+  passed_second : IsMember once kind → (kept' : List Edge) (once' twice' : List Kind) → kept' ≡ kept ++ x ∷ [] → once' ≡ once → twice' ≡ twice ++ kind ∷ [] → ArePassed (edges ++ x ∷ []) kept' once' twice'
   passed_second known kept' once' twice' kept_is once_is twice_is = rw (kept_is, once_is, twice_is) (second_pushed known)
 
   -- one more, which is left out
-  pub passed_further : IsMember twice kind → (once' twice' : List Kind) → once' ≡ once → twice' ≡ twice → ArePassed (edges ++ x ∷ []) kept once' twice'
+  passed_further : IsMember twice kind → (once' twice' : List Kind) → once' ≡ once → twice' ≡ twice → ArePassed (edges ++ x ∷ []) kept once' twice'
   passed_further known once' twice' once_is twice_is = rw (once_is, twice_is) (record {
     first_two = first_two_left edges kept h.first_two x (subst (HasTwo kept) of (h.each_twice kind known));
     each_once = h.each_once;
     each_twice = h.each_twice;
   })
 
--- ---- What an insertion leaves
+  -- a step of the loop, by how the kind of the edge was counted
+  pub passed_kept : (added : Bool) (kept' : List Edge) (once' twice' : List Kind) → IsCounted kind once twice once' twice' added → added ≡ true → kept' ≡ kept ++ x ∷ [] → ArePassed (edges ++ x ∷ []) kept' once' twice'
+  passed_kept added kept' once' twice' counted is kept_is = elim counted [
+    | inl first ↦ passed_first kept' once' twice' kept_is first.1 first.2
+    | inr other ↦ elim other [
+      | inl second ↦ passed_second second.1 kept' once' twice' kept_is second.2 second.3
+      | inr further ↦ absurd (let wrong : true ≡ false = sym is ∙ further.0 in cc)
+    ]
+  ]
 
-module _ {X : Type 0} (members now : List X) (x : X) where
-  pub added : (is_new : Bool) → is_new ≡ true → now ≡ (if is_new then members ++ x ∷ [] else members) → now ≡ members ++ x ∷ []
-  added true new is = is
-  added false new is = cc
+  pub passed_left : (added : Bool) (once' twice' : List Kind) → IsCounted kind once twice once' twice' added → added ≡ false → ArePassed (edges ++ x ∷ []) kept once' twice'
+  passed_left added once' twice' counted is = elim counted [
+    | inl first ↦ absurd (let wrong : false ≡ true = sym is ∙ first.0 in cc)
+    | inr other ↦ elim other [
+      | inl second ↦ absurd (let wrong : false ≡ true = sym is ∙ second.0 in cc)
+      | inr further ↦ passed_further further.1 once' twice' further.2 further.3
+    ]
+  ]
 
-  pub not_added : (is_new : Bool) → is_new ≡ false → now ≡ (if is_new then members ++ x ∷ [] else members) → now ≡ members
-  not_added true known is = cc
-  not_added false known is = is
+-- ---- Counting a kind
+
+module _ (once once' twice twice' : List Kind) (kind : Kind) where
+  pub counted_once : (added : Bool) → added ≡ true → once' ≡ (if added then once ++ kind ∷ [] else once) → IsCounted kind once twice once' twice true
+  counted_once true new is = inl (refl, is, refl)
+  counted_once false new is = cc
+
+  pub counted_again : (first second : Bool) → first ≡ false → once' ≡ (if first then once ++ kind ∷ [] else once) → IsMember once kind → (second ≡ false → IsMember twice kind)
+      → twice' ≡ (if second then twice ++ kind ∷ [] else twice) → IsCounted kind once twice once' twice' second
+  counted_again true second known once_is one two twice_is = cc
+  counted_again false true known once_is one two twice_is = inr (inl (refl, one, once_is, twice_is))
+  counted_again false false known once_is one two twice_is = inr (inr (refl, two refl, once_is, twice_is))

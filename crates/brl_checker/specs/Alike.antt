@@ -1,6 +1,7 @@
 -- Internal. The edges of a state that decide which pairs are missing: the first two of each kind.
 -- Two edges of one kind have the same cells and the same next state.
-use Rattle.std.specs.Prelude.{◌≡◌, ℕ, ◌<◌, ◌⊎◌, List, length, Some, slice_get}
+use Rattle.std.specs.Prelude.{◌≡◌, ◌++◌, ◌∷◌, [], ℕ, ◌<◌, ◌⊎◌, Bool, true, false, List, length, Some, slice_get}
+use Rattle.brl_members.specs.Members.{IsMember}
 use Rattle.brl_checker.specs.declared.alike.Kind.{Kind}
 use Rattle.brl_edges.specs.Edges.{AreEdges}
 use Rattle.brl_edges.specs.declared.edge.Edge.{Edge}
@@ -23,6 +24,14 @@ pub record HasTwo (edges : List Edge) (kind : Kind) : Type 0 where
   pub in_order : first < second
   pub first_is : IsOfKind edges kind first
   pub second_is : IsOfKind edges kind second
+
+-- A kind is counted: it becomes the last of those that are there once, or where it is there already of
+-- those that are there twice, if it isn't there either. The answer says whether it was added.
+abbrev pub IsCounted : Kind → List Kind → List Kind → List Kind → List Kind → Bool → Type 0
+IsCounted kind once twice once' twice' added =
+    ((added ≡ true) × (once' ≡ once ++ kind ∷ []) × (twice' ≡ twice))
+    ⊎ (((added ≡ true) × IsMember once kind × (once' ≡ once) × (twice' ≡ twice ++ kind ∷ []))
+    ⊎ ((added ≡ false) × IsMember twice kind × (once' ≡ once) × (twice' ≡ twice)))
 
 -- The kept edges are these edges in their order, and each edge that isn't kept has two kept ones of
 -- its kind before it.

@@ -1,6 +1,6 @@
 //! The edges of a state that decide which pairs are missing: the first two of each kind.
-ghost use Rattle.std.specs.Prelude.{◌≡◌, IfOk};
-ghost use Rattle.brl_checker.specs.Alike.{AreFirstTwo, kind_of};
+ghost use Rattle.std.specs.Prelude.{◌≡◌, [], IfOk, OnOk};
+ghost use Rattle.brl_checker.specs.Alike.{AreFirstTwo, IsCounted, kind_of};
 
 use brl_cells::Cells;
 use brl_edges::{Edge, Members};
@@ -44,13 +44,38 @@ pub fn first_two_alike(alloc: Global, edges: Vec<Edge>) -> Result<Vec<Edge>, All
     if edges.len() <= FEW_EDGES {
         return Ok(edges);
     }
+    let mut kept = Vec::new(alloc);
+    keep_first_two(alloc, edges, &mut kept)?;
+    Ok(kept)
+}
+
+/// Adds the edges that have less than two of their kind before them.
+fn keep_first_two(alloc: Global, edges: Vec<Edge>, kept: &mut Vec<Edge>) -> Result<(), AllocError>
+    requires { kept.old.items ≡ [] }
+    ensures { OnOk result (AreFirstTwo edges.items kept.new.items) }
+{
     let mut once = Members::new(alloc);
     let mut twice = Members::new(alloc);
-    let mut kept = Vec::new(alloc);
     for edge in edges {
-        if once.insert(Kind::of(&edge)?)? || twice.insert(Kind::of(&edge)?)? {
+        if count(&edge, &mut once, &mut twice)? {
             kept.push(edge)?;
         }
     }
-    Ok(kept)
+    Ok(())
+}
+
+/// Counts the kind of an edge: adds it to the kinds that are there once, and where it is there to
+/// those that are there twice. Whether it was added.
+fn count(
+    edge: &Edge,
+    once: &mut Members<Kind>,
+    twice: &mut Members<Kind>,
+) -> Result<bool, AllocError>
+    ensures { IfOk result (IsCounted (kind_of edge.now) once.old twice.old once.new twice.new) }
+{
+    if once.insert(Kind::of(edge)?)? {
+        return Ok(true);
+    }
+    let added = twice.insert(Kind::of(edge)?)?;
+    Ok(added)
 }

@@ -11,7 +11,7 @@ use Rattle.brl_commands.specs.Streams.{TranslatesByFile}
 use Rattle.brl_stream.specs.declared.fault.StreamFault.{StreamFault}
 use Rattle.brl_failure.specs.declared.failure.Failure.{Failure}
 use Rattle.brl_failure.specs.declared.failure.Failure.TheVariants as failures
-use Rattle.brl_stream.specs.declared.form.Form.{Form}
+use Rattle.brl_cells.specs.declared.form.Form.{Form}
 use Rattle.brl_answers.specs.declared.run_fault.RunFault.{RunFault}
 
 -- the fault of the stream is that of the work

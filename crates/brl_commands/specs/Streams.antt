@@ -6,7 +6,7 @@ use Rattle.brl_lines.specs.Answer.{MayGive}
 use Rattle.brl_reading.specs.Files.{IsTableOf}
 use Rattle.brl_stream.specs.Output.{HasWritten, verdict}
 use Rattle.brl_stream.specs.declared.fault.StreamFault.{StreamFault}
-use Rattle.brl_stream.specs.declared.form.Form.{Form}
+use Rattle.brl_cells.specs.declared.form.Form.{Form}
 use Rattle.brl_table.specs.TableView.{TableView}
 use Rattle.brl_answers.specs.Answers.{HasNoTable}
 use Rattle.brl_answers.specs.declared.run_fault.RunFault.{RunFault}

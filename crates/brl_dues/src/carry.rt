@@ -14,7 +14,7 @@ use brl_table::{Class, Cond, Table, holds};
 use std::alloc::{AllocError, Global};
 
 /// What is left of a due after the characters that a step reads.
-#[derive(Debug, Drop)]
+#[derive(Drop)]
 pub enum Carried {
     /// The step breaks it: there is no such step.
     Broken,

@@ -76,7 +76,7 @@ pub fn parts_of(alloc: Global, bytes: &[u8], mark: u8) -> Result<Vec<&[u8]>, All
 }
 
 /// The characters of lenient parts, if each part spells one.
-pub fn read_each(alloc: Global, parts: &[&[u8]]) -> Result<Option<Chars>, AllocError>
+fn read_each(alloc: Global, parts: &[&[u8]]) -> Result<Option<Chars>, AllocError>
     ensures { IfOk result (λ chars. chars ≡ each lenient_char (map (λ part. part.now) parts.now)) }
 {
     let mut characters = Vec::new(alloc);
@@ -89,6 +89,14 @@ pub fn read_each(alloc: Global, parts: &[&[u8]]) -> Result<Option<Chars>, AllocE
     Ok(Some(Chars::from_vec(characters)))
 }
 
+/// The characters of lenient parts between points, if each part spells one.
+pub fn read_between_points(alloc: Global, bytes: &[u8]) -> Result<Option<Chars>, AllocError>
+    ensures { IfOk result (λ chars. chars ≡ each lenient_char (slice_split (λ b. b == 46) bytes.now)) }
+{
+    let parts = parts_of(alloc, bytes, b'.')?;
+    read_each(alloc, parts.as_slice())
+}
+
 /// The characters of a lenient field.
 pub fn read_chars(alloc: Global, field: &[u8]) -> Result<Option<Chars>, AllocError>
     ensures { IfOk result (λ chars. chars ≡ lenient_chars field.now) }
@@ -96,8 +104,7 @@ pub fn read_chars(alloc: Global, field: &[u8]) -> Result<Option<Chars>, AllocErr
     if field == b"-".as_slice() {
         return Ok(Some(Chars::from_vec(Vec::new(alloc))));
     }
-    let parts = parts_of(alloc, field, b'.')?;
-    read_each(alloc, parts.as_slice())
+    read_between_points(alloc, field)
 }
 
 /// The lead of a lenient field.

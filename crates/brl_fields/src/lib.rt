@@ -5,6 +5,6 @@
 mod field;
 
 pub use field::{
-    parts_of, push_char, push_chars, push_flag, push_lead, push_more, push_number, read_chars,
-    read_each, read_flag, read_lead, read_number,
+    parts_of, push_char, push_chars, push_flag, push_lead, push_more, push_number,
+    read_between_points, read_chars, read_flag, read_lead, read_number,
 };

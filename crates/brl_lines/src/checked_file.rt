@@ -18,7 +18,7 @@ use std::alloc::Global;
 const MOST_ROW_BYTES: usize = 2048;
 
 /// A file that was read and found good: all of its text, with a byte order mark where it has one.
-#[derive(Debug, Drop)]
+#[derive(Drop)]
 pub(crate) struct CheckedFile {
     whole: String,
     ghost small: { length (string_bytes whole) ≤ most_file_bytes },

@@ -71,7 +71,7 @@ pub struct LoadFault {
 }
 
 /// A file, by its path, and a line of it.
-#[derive(Clone, Copy, Debug)]
+#[derive(Clone, Copy)]
 pub(crate) struct LocationRef<'a> {
     pub file: &'a str,
     pub line: u32,

@@ -7,7 +7,7 @@ use crate::line::Line;
 use std::alloc::{AllocError, Global};
 
 /// A line that includes a file: its number from 1, and the name in it.
-#[derive(Debug, Drop)]
+#[derive(Drop)]
 pub(crate) struct IncludeLine {
     pub line: u32,
     pub name: String,

@@ -7,7 +7,7 @@ ghost use Rattle.brl_lines.specs.Files.{chain_of};
 use std::alloc::{AllocError, Global};
 
 /// A file whose lines are being added.
-#[derive(Debug, Drop)]
+#[derive(Drop)]
 pub(crate) struct OpenFile {
     /// Its index among the files that were read.
     pub index: usize,

@@ -15,7 +15,7 @@ use indexmap::IndexMap;
 use std::alloc::{AllocError, Global};
 
 /// What a row is.
-#[derive(Debug, Drop)]
+#[derive(Drop)]
 pub(crate) enum RowKind {
     /// It does nothing.
     Nothing,
@@ -26,7 +26,7 @@ pub(crate) enum RowKind {
 }
 
 /// A row of a file, and where the next one starts.
-#[derive(Debug, Drop)]
+#[derive(Drop)]
 pub(crate) struct FileRow {
     pub span: LineSpan,
     pub kind: RowKind,

@@ -2,7 +2,7 @@
 
 /// The bytes of a line: the index of its file, its number from 1, and where it starts and ends in
 /// its file's text.
-#[derive(Clone, Copy, Debug)]
+#[derive(Clone, Copy)]
 pub(crate) struct LineSpan {
     pub file: usize,
     pub line: u32,

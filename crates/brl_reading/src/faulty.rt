@@ -1,9 +1,10 @@
 //! The lines of a table that have a fault by themselves.
-ghost use Rattle.std.specs.Prelude.{◌≡◌, ◌↔◌, [], List, IfOk, Some, map, slice_get};
+ghost use Rattle.std.specs.Prelude.{◌≡◌, ◌↔◌, [], List, IfOk, Some, map, slice_get, string_bytes};
 ghost use Rattle.brl_lines.specs.Tokens.{LineView};
 ghost use Rattle.brl_lines.specs.Views.{line_view};
+ghost use Rattle.brl_reading.specs.Building.{AreWithinLimits, Represents};
 ghost use Rattle.brl_reading.specs.FaultText.{located_fault};
-ghost use Rattle.brl_reading.specs.Reading.{IsFaultOf, PassesFirst};
+ghost use Rattle.brl_reading.specs.Reading.{files_of, IsFaultOf, PassesFirst};
 ghost use Rattle.brl_reading.specs.Survey.{IsFaultyAs, faulty_line_view, faulty_lines, named_opcode as opcode_by};
 ghost use Rattle.brl_reading.specs.declared.table_fault.TableFault.{TableFault as Fault};
 
@@ -32,9 +33,25 @@ pub fn survey(alloc: Global, lines: &[Line<'_>]) -> Result<Vec<FaultyLine>, Allo
 {
     let files = file_names(alloc, lines)?;
     let mut builder = TableBuilder::new(alloc);
+    find_faulty(alloc, &mut builder, files.as_slice(), lines)
+}
+
+/// The lines, of files with these names, that have a fault by themselves. The builder has none yet.
+fn find_faulty(
+    alloc: Global,
+    builder: &mut TableBuilder,
+    files: &[String],
+    lines: &[Line<'_>],
+) -> Result<Vec<FaultyLine>, AllocError>
+    requires none { builder.old.items.items ≡ [] }
+    requires represents { Represents [] builder.old.characters builder.old.signs builder.old.used }
+    requires within { AreWithinLimits builder.old.characters builder.old.signs builder.old.used }
+    requires named { map string_bytes files.now ≡ files_of (map line_view lines.now) }
+    ensures { IfOk result (λ found. map faulty_line_view found.items ≡ faulty_lines (map line_view lines.now)) }
+{
     let mut found = Vec::new(alloc);
     for line in lines {
-        let file = place_of(files.as_slice(), line.file).unwrap();
+        let file = place_of(files, line.file).unwrap();
         if let Err(failure) = builder.add(alloc, file, line) {
             found.push(faulty_line(alloc, failure, line)?)?;
         }

@@ -1,4 +1,7 @@
 //! The faults of lines that define no table.
+ghost use Rattle.std.specs.Prelude.{◌≡◌, Some};
+ghost use Rattle.brl_reading.specs.FaultText.{kind_text};
+
 use std::error::Error;
 use std::fmt;
 use std::marker::Model;
@@ -28,14 +31,12 @@ pub enum TableFaultKind {
     IndicatorTwice,
 }
 
-impl fmt::Display for TableFaultKind {
-    ghost use Rattle.std.specs.Prelude.{Some};
-    ghost use Rattle.brl_reading.specs.FaultText.{kind_text};
-
-    ghost output = { λ kind. Some (kind_text kind) };
-
-    fn fmt<W: fmt::Write>(&self, f: &mut fmt::Formatter<W>) -> fmt::Result {
-        f.write_str(match self {
+impl TableFaultKind {
+    /// Its code and its name.
+    fn text(&self) -> &'static str
+        ensures { result.now ≡ kind_text self.now }
+    {
+        match self {
             TableFaultKind::OutsideProfile => "B1 OutsideProfile",
             TableFaultKind::MissingOperand => "B2 MissingOperand",
             TableFaultKind::BadCharacters => "B3 BadCharacters",
@@ -45,7 +46,15 @@ impl fmt::Display for TableFaultKind {
             TableFaultKind::TwoRoles => "B7 TwoRoles",
             TableFaultKind::TooMany => "B8 TooMany",
             TableFaultKind::IndicatorTwice => "B9 IndicatorTwice",
-        })
+        }
+    }
+}
+
+impl fmt::Display for TableFaultKind {
+    ghost output = { λ kind. Some (kind_text kind) };
+
+    fn fmt<W: fmt::Write>(&self, f: &mut fmt::Formatter<W>) -> fmt::Result {
+        f.write_str(self.text())
     }
 }
 
@@ -63,19 +72,16 @@ pub struct TableFault {
 }
 
 impl fmt::Display for TableFault {
-    ghost use Rattle.std.specs.Prelude.{Some};
     ghost use Rattle.brl_reading.specs.FaultText.{fault_text, located_fault};
 
     ghost output = { λ found. Some (fault_text (located_fault found)) };
 
     fn fmt<W: fmt::Write>(&self, f: &mut fmt::Formatter<W>) -> fmt::Result {
-        let TableFault {
-            kind,
-            subject,
-            file,
-            line,
-        } = self;
-        write!(f, "{kind} {subject} at {file}:{line}")
+        write!(
+            f,
+            "{} {} at {}:{}",
+            self.kind, self.subject, self.file, self.line
+        )
     }
 }
 

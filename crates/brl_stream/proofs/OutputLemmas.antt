@@ -23,7 +23,7 @@ use Rattle.brl_failure.specs.Raised.{if_err-raised}
 use Rattle.std.specs.Prelude.{IfErr, IfOk}
 use Rattle.brl_failure.specs.declared.failure.Failure.{Failure}
 use Rattle.brl_failure.specs.declared.failure.Failure.TheVariants as failures
-use Rattle.brl_stream.specs.declared.form.Form.{Form}
+use Rattle.brl_cells.specs.declared.form.Form.{Form}
 use Rattle.brl_stream.proofs.KnownBytes.{Appends-nil}
 use Rattle.brl_stream.proofs.VerdictLemmas.{RefusesLong, test-true, test-false}
 

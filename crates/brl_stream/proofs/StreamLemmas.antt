@@ -16,7 +16,7 @@ use Rattle.brl_stream.specs.declared.fault.LineFault.TheVariants as faults
 use Rattle.brl_stream.specs.declared.fault.StreamFault.{StreamFault}
 use Rattle.brl_failure.specs.declared.failure.Failure.{Failure}
 use Rattle.brl_failure.specs.declared.failure.Failure.TheVariants as failures
-use Rattle.brl_stream.specs.declared.form.Form.{Form}
+use Rattle.brl_cells.specs.declared.form.Form.{Form}
 use Rattle.brl_stream.proofs.KnownBytes.{Appends-trans, Appends-nil}
 use Rattle.brl_stream.proofs.OutputLemmas.{output_of-long}
 use Rattle.brl_stream.proofs.VerdictLemmas.{RefusesLong, decided-line, decided-short, verdict-line, verdict-last, verdict-nil, verdict-too_long, verdict-long}

@@ -15,8 +15,8 @@ use Rattle.brl_stream.specs.declared.fault.LineFault.TheVariants as faults
 use Rattle.brl_stream.specs.declared.fault.StreamFault.{StreamFault}
 use Rattle.brl_failure.specs.declared.failure.Failure.{Failure}
 use Rattle.brl_failure.specs.declared.failure.Failure.TheVariants as failures
-use Rattle.brl_stream.specs.declared.form.Form.{Form}
-use Rattle.brl_stream.specs.declared.form.Form.TheVariants.{Ascii, Unicode}
+use Rattle.brl_cells.specs.declared.form.Form.{Form}
+use Rattle.brl_cells.specs.declared.form.Form.TheVariants.{Ascii, Unicode}
 
 -- what a line gives: its output, or its fault
 abbrev pub LineResult : Type 0

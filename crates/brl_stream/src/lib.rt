@@ -6,12 +6,11 @@
 mod buffer;
 mod device;
 mod fault;
-mod form;
 mod line;
 mod output;
 mod stream;
 
+pub use brl_cells::Form;
 pub use device::{Failed, Input, Output, Watched};
 pub use fault::{LineFault, StreamFault};
-pub use form::Form;
 pub use stream::translate_lines;

@@ -11,7 +11,7 @@ use memchr::memchr;
 const MOST_LINE: usize = 65_536;
 
 /// The next line of an input.
-#[derive(Clone, Copy, PartialEq, Eq, Debug)]
+#[derive(Clone, Copy, PartialEq, Eq)]
 pub enum Next {
     /// A line of `len` bytes, which has `whole` bytes with its end.
     Line { len: usize, whole: usize },

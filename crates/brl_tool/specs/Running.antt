@@ -11,7 +11,7 @@ use Rattle.brl_lines.specs.Answer.{AllStay, MayGive}
 use Rattle.brl_reading.specs.Files.{IsTableOf}
 use Rattle.brl_report.specs.Report.{report_text}
 use Rattle.brl_search.specs.Searched.{State, certificate_of}
-use Rattle.brl_stream.specs.declared.form.Form.{Form}
+use Rattle.brl_cells.specs.declared.form.Form.{Form}
 use Rattle.brl_table.specs.TableView.{TableView}
 use Rattle.brl_table.specs.Translation.{IsClash}
 use Rattle.brl_commands.specs.Comparing.{ComparesByFile}

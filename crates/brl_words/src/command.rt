@@ -1,5 +1,5 @@
 //! The words of the command line.
-use brl_stream::Form;
+use brl_cells::Form;
 use clap::error::{Error, ErrorKind};
 use clap::{Arg, ArgAction, ArgMatches, Command, value_parser};
 use std::alloc::{AllocError, Global};
@@ -348,7 +348,7 @@ It prints:
 };
 
 /// The commands of `brl`.
-const PAGES: [Page; 6] = [TRANSLATE, CLASH, CHECK, SEARCH, SURVEY, TRACE];
+static PAGES: [Page; 6] = [TRANSLATE, CLASH, CHECK, SEARCH, SURVEY, TRACE];
 
 /// How many states, and how many pairs, a search may find where the words give no limit.
 const USUAL_LIMIT: &str = "1000000";
@@ -394,21 +394,46 @@ fn without_option<'a>(alloc: Global) -> Arg<'a> {
         .help("Look only at texts that use none of these characters")
 }
 
-/// The arguments of a command: its options, if any, and its operands.
+/// Adds an argument.
+fn push_argument<'a>(arguments: &mut Vec<Arg<'a>>, argument: Arg<'a>) -> Result<(), AllocError> {
+    arguments.push(argument)?;
+    Ok(())
+}
+
+/// Adds the options of a command.
+fn push_options(
+    alloc: Global,
+    choice: Option<Choice>,
+    arguments: &mut Vec<Arg<'_>>,
+) -> Result<(), AllocError> {
+    match choice {
+        Some(Choice::Form) => push_argument(arguments, form_option(alloc)),
+        Some(Choice::Without) => push_argument(arguments, without_option(alloc)),
+        Some(Choice::Search) => {
+            push_argument(arguments, limit_option(alloc))?;
+            push_argument(arguments, without_option(alloc))
+        }
+        None => Ok(()),
+    }
+}
+
+/// Adds the options of a command, if any, and its operands.
+fn push_arguments(
+    alloc: Global,
+    page: &Page,
+    arguments: &mut Vec<Arg<'_>>,
+) -> Result<(), AllocError> {
+    push_options(alloc, page.choice, arguments)?;
+    for operand in page.operands {
+        push_argument(arguments, required_argument(alloc, *operand))?;
+    }
+    Ok(())
+}
+
+/// The arguments of a command.
 fn arguments<'a>(alloc: Global, page: &Page) -> Result<Vec<Arg<'a>>, AllocError> {
     let mut arguments = Vec::new(alloc);
-    match page.choice {
-        Some(Choice::Form) => arguments.push(form_option(alloc))?,
-        Some(Choice::Without) => arguments.push(without_option(alloc))?,
-        Some(Choice::Search) => {
-            arguments.push(limit_option(alloc))?;
-            arguments.push(without_option(alloc))?;
-        }
-        None => {}
-    }
-    for operand in page.operands {
-        arguments.push(required_argument(alloc, *operand))?;
-    }
+    push_arguments(alloc, page, &mut arguments)?;
     Ok(arguments)
 }
 
@@ -422,12 +447,29 @@ fn page_command<'a>(alloc: Global, page: &Page) -> Result<Command<'a>, AllocErro
         .args(arguments)
 }
 
-/// The command lines of all commands, in the order in which `brl --help` shows them.
+/// Adds the command line of a command.
+fn push_command(
+    alloc: Global,
+    page: &Page,
+    commands: &mut Vec<Command<'_>>,
+) -> Result<(), AllocError> {
+    let command = page_command(alloc, page)?;
+    commands.push(command)?;
+    Ok(())
+}
+
+/// Adds the command lines of all commands, in the order in which `brl --help` shows them.
+fn push_commands(alloc: Global, commands: &mut Vec<Command<'_>>) -> Result<(), AllocError> {
+    for page in &PAGES {
+        push_command(alloc, page, commands)?;
+    }
+    Ok(())
+}
+
+/// The command lines of all commands.
 fn page_commands<'a>(alloc: Global) -> Result<Vec<Command<'a>>, AllocError> {
     let mut commands = Vec::new(alloc);
-    for page in &PAGES {
-        commands.push(page_command(alloc, page)?)?;
-    }
+    push_commands(alloc, &mut commands)?;
     Ok(commands)
 }
 
@@ -466,23 +508,23 @@ fn read_by<'a>(
     words: &'a [String],
 ) -> Result<Task<'a>, Error> {
     let matches = command.try_get_matches_from_mut(words)?;
-    if let Some(task) = survey_task(alloc, &matches)? {
-        return Ok(task);
-    }
-    match found_task(&matches) {
+    match found_task(alloc, &matches)? {
         Some(task) => Ok(task),
         None => Err(command.error(ErrorKind::MissingSubcommand, "no command was given")?),
     }
 }
 
-/// The task of words that were read, if it is a survey.
-fn survey_task<'a>(
-    alloc: Global,
-    matches: &ArgMatches<'a>,
-) -> Result<Option<Task<'a>>, AllocError> {
-    let Some(("survey", found)) = matches.subcommand() else {
-        return Ok(None);
-    };
+/// The task of words that were read, if they name a command.
+fn found_task<'a>(alloc: Global, matches: &ArgMatches<'a>) -> Result<Option<Task<'a>>, AllocError> {
+    match matches.subcommand() {
+        Some(("survey", found)) => survey_task(alloc, found),
+        Some((name, found)) => Ok(task_of_one_table(name, found)),
+        None => Ok(None),
+    }
+}
+
+/// The task of the words behind `survey`.
+fn survey_task<'a>(alloc: Global, found: &ArgMatches<'a>) -> Result<Option<Task<'a>>, AllocError> {
     let Some(tables) = found.get_strs("tables") else {
         return Ok(None);
     };
@@ -490,35 +532,55 @@ fn survey_task<'a>(
     Ok(Some(Task::Survey { tables }))
 }
 
-/// The task of words that were read, if it is another one.
-fn found_task<'a>(matches: &ArgMatches<'a>) -> Option<Task<'a>> {
-    match matches.subcommand()? {
-        ("translate", found) => Some(Task::Translate {
-            table: found.get_str("table")?,
-            form: form_of(found.get_str("form")?)?,
-        }),
-        ("clash", found) => Some(Task::Clash {
-            table: found.get_str("table")?,
-            left: found.get_str("left")?,
-            right: found.get_str("right")?,
-        }),
-        ("check", found) => Some(Task::Check {
-            table: found.get_str("table")?,
-            cert: found.get_str("cert")?,
-            without: found.get_str("without"),
-        }),
-        ("search", found) => Some(Task::Search {
-            table: found.get_str("table")?,
-            cert: found.get_str("out")?,
-            limit: found.get_one("limit")?,
-            without: found.get_str("without"),
-        }),
-        ("trace", found) => Some(Task::Trace {
-            table: found.get_str("table")?,
-            text: found.get_str("text")?,
-        }),
+/// The task of the words behind the name of another command.
+fn task_of_one_table<'a>(name: &str, found: &ArgMatches<'a>) -> Option<Task<'a>> {
+    let table = found.get_str("table")?;
+    match name {
+        "translate" => translate_task(table, found),
+        "clash" => clash_task(table, found),
+        "check" => check_task(table, found),
+        "search" => search_task(table, found),
+        "trace" => trace_task(table, found),
         _ => None,
     }
+}
+
+fn translate_task<'a>(table: &'a str, found: &ArgMatches<'a>) -> Option<Task<'a>> {
+    let form = form_of(found.get_str("form")?)?;
+    Some(Task::Translate { table, form })
+}
+
+fn clash_task<'a>(table: &'a str, found: &ArgMatches<'a>) -> Option<Task<'a>> {
+    let left = found.get_str("left")?;
+    let right = found.get_str("right")?;
+    Some(Task::Clash { table, left, right })
+}
+
+fn check_task<'a>(table: &'a str, found: &ArgMatches<'a>) -> Option<Task<'a>> {
+    let cert = found.get_str("cert")?;
+    let without = found.get_str("without");
+    Some(Task::Check {
+        table,
+        cert,
+        without,
+    })
+}
+
+fn search_task<'a>(table: &'a str, found: &ArgMatches<'a>) -> Option<Task<'a>> {
+    let cert = found.get_str("out")?;
+    let limit = found.get_one("limit")?;
+    let without = found.get_str("without");
+    Some(Task::Search {
+        table,
+        cert,
+        limit,
+        without,
+    })
+}
+
+fn trace_task<'a>(table: &'a str, found: &ArgMatches<'a>) -> Option<Task<'a>> {
+    let text = found.get_str("text")?;
+    Some(Task::Trace { table, text })
 }
 
 /// The form of this name.

@@ -1,4 +1,4 @@
-use Rattle.std.proofs.Common.{◌∙◌, ◌+◌, List, ap, map, string_bytes, subst, sym}
+use Rattle.std.proofs.Common.{◌∙◌, ◌+◌, List, ap, map, subst, sym}
 use Rattle.brl_failure.specs.Raised.{if_fault-weaker}
 use Rattle.brl_lines.specs.Views.{line_view}
 use Rattle.brl_reading.specs.Building.{AreWithinLimits, Represents}
@@ -8,18 +8,18 @@ use Rattle.brl_reading.specs.declared.builder.TableBuilder.{TableBuilder}
 use Rattle.brl_reading.proofs.FirstPass.{has_file, number-of, says, there}
 use Rattle.brl_reading.proofs.ItemSteps.{fault-none}
 use Rattle.brl_reading.proofs.SurveySteps.{IsSurveyed, if_fault-holds, surveyed-faulty, surveyed-good}
-use Rattle.brl_reading.proofs.faulty.survey.Goals as goal
-use Rattle.brl_reading.proofs.faulty.survey.Goals.{in-Err+in_ok-faulty_line+in_ok-push, in_default}
+use Rattle.brl_reading.proofs.faulty.find_faulty.Goals as goal
+use Rattle.brl_reading.proofs.faulty.find_faulty.Goals.{in-Err+in_ok-faulty_line+in_ok-push, in_default}
 
 pub unwrap-file-requires : goal.unwrap-file-requires
 unwrap-file-requires c =
-    has_file c.args.lines.now c.as_slice.result.now (ap (map string_bytes) c.as_slice.ensures.value ∙ c.in_ok-files.ensures) c.loop-line.line-index c.line-item.result c.loop-line-test.true c.line-item.is c.place_of.result c.place_of.ensures
+    has_file c.args.lines.now c.args.files.now c.requires.named c.loop-line.line-index c.line-item.result c.loop-line-test.true c.line-item.is c.place_of.result c.place_of.ensures
 
 pub loop-line-preserved : goal.loop-line-preserved
 loop-line-preserved c =
     let lines = c.args.lines.now in
-    let names = c.as_slice.result.now in
-    let named = ap (map string_bytes) c.as_slice.ensures.value ∙ c.in_ok-files.ensures in
+    let names = c.args.files.now in
+    let named = c.requires.named in
     let i = c.loop-line.line-index in
     let line = c.line-item.result in
     let view = line_view line in

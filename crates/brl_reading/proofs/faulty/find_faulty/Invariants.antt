@@ -2,7 +2,7 @@ use Rattle.std.proofs.Common.{map}
 use Rattle.brl_lines.specs.Views.{line_view}
 use Rattle.brl_reading.specs.Building.{AreWithinLimits, Represents}
 use Rattle.brl_reading.proofs.SurveySteps.{IsSurveyed}
-use Rattle.brl_reading.proofs.faulty.survey.Given as goal
+use Rattle.brl_reading.proofs.faulty.find_faulty.Given as goal
 
 abbrev pub invariant-loop-line : goal.invariant-loop-line
 invariant-loop-line l =

@@ -1,7 +1,7 @@
 use Rattle.std.proofs.Common.{◌+◌, ◌-◌, length, Ok, ap, ◌∙◌, arith}
 use Rattle.std.proofs.lemmas.Result.{err_from_is_err_and}
 use Rattle.brl_cert.proofs.Loops.{goes_on, stops, closes, lines_behind, bytes_behind, cut}
-use Rattle.brl_cert.proofs.reading.read_body.Goals as goal
+use Rattle.brl_cert.proofs.reading.take_lines.Goals as goal
 
 pub loop-place-preserved : goal.loop-place-preserved
 loop-place-preserved g c =
@@ -28,9 +28,9 @@ returns-then-not-is_empty-clause-fault g c =
 
 pub returns-then-branch-clause-body : goal.returns-then-branch-clause-body
 returns-then-branch-clause-body g c =
-    rw c.into_body.ensures (closes g.V.Version.form (λ part. part.now) c.args.parts.now _ (c.loop-place.place + 2) c.loop-place.reader c.loop-place.place _ c.loop-place.invariant (omega arith)
+    closes g.V.Version.form (λ part. part.now) c.args.parts.now _ (c.loop-place.place + 2) c.loop-place.reader c.loop-place.place _ c.loop-place.invariant (omega arith)
     c.take_line.new.self
-    (c.in_ok-take_line.ensures.ok ∙ ap (λ b. Ok (b, c.take_line.new.self)) c.if-branch.true) (length c.args.parts.now - 1) (omega arith) (let h = c.is_empty.ensures in let f = c.if-not-is_empty.false in cc))
+    (c.in_ok-take_line.ensures.ok ∙ ap (λ b. Ok (b, c.take_line.new.self)) c.if-branch.true) (length c.args.parts.now - 1) (omega arith) (let h = c.is_empty.ensures in let f = c.if-not-is_empty.false in cc)
 
 pub returns-clause-fault : goal.returns-clause-fault
 returns-clause-fault g c =
