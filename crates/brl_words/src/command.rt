@@ -394,46 +394,21 @@ fn without_option<'a>(alloc: Global) -> Arg<'a> {
         .help("Look only at texts that use none of these characters")
 }
 
-/// Adds an argument.
-fn push_argument<'a>(arguments: &mut Vec<Arg<'a>>, argument: Arg<'a>) -> Result<(), AllocError> {
-    arguments.push(argument)?;
-    Ok(())
-}
-
-/// Adds the options of a command.
-fn push_options(
-    alloc: Global,
-    choice: Option<Choice>,
-    arguments: &mut Vec<Arg<'_>>,
-) -> Result<(), AllocError> {
-    match choice {
-        Some(Choice::Form) => push_argument(arguments, form_option(alloc)),
-        Some(Choice::Without) => push_argument(arguments, without_option(alloc)),
-        Some(Choice::Search) => {
-            push_argument(arguments, limit_option(alloc))?;
-            push_argument(arguments, without_option(alloc))
-        }
-        None => Ok(()),
-    }
-}
-
-/// Adds the options of a command, if any, and its operands.
-fn push_arguments(
-    alloc: Global,
-    page: &Page,
-    arguments: &mut Vec<Arg<'_>>,
-) -> Result<(), AllocError> {
-    push_options(alloc, page.choice, arguments)?;
-    for operand in page.operands {
-        push_argument(arguments, required_argument(alloc, *operand))?;
-    }
-    Ok(())
-}
-
-/// The arguments of a command.
+/// The arguments of a command: its options, if any, and its operands.
 fn arguments<'a>(alloc: Global, page: &Page) -> Result<Vec<Arg<'a>>, AllocError> {
     let mut arguments = Vec::new(alloc);
-    push_arguments(alloc, page, &mut arguments)?;
+    match page.choice {
+        Some(Choice::Form) => arguments.push(form_option(alloc))?,
+        Some(Choice::Without) => arguments.push(without_option(alloc))?,
+        Some(Choice::Search) => {
+            arguments.push(limit_option(alloc))?;
+            arguments.push(without_option(alloc))?;
+        }
+        None => {}
+    }
+    for operand in page.operands {
+        arguments.push(required_argument(alloc, *operand))?;
+    }
     Ok(arguments)
 }
 
@@ -447,29 +422,12 @@ fn page_command<'a>(alloc: Global, page: &Page) -> Result<Command<'a>, AllocErro
         .args(arguments)
 }
 
-/// Adds the command line of a command.
-fn push_command(
-    alloc: Global,
-    page: &Page,
-    commands: &mut Vec<Command<'_>>,
-) -> Result<(), AllocError> {
-    let command = page_command(alloc, page)?;
-    commands.push(command)?;
-    Ok(())
-}
-
-/// Adds the command lines of all commands, in the order in which `brl --help` shows them.
-fn push_commands(alloc: Global, commands: &mut Vec<Command<'_>>) -> Result<(), AllocError> {
-    for page in &PAGES {
-        push_command(alloc, page, commands)?;
-    }
-    Ok(())
-}
-
-/// The command lines of all commands.
+/// The command lines of all commands, in the order in which `brl --help` shows them.
 fn page_commands<'a>(alloc: Global) -> Result<Vec<Command<'a>>, AllocError> {
     let mut commands = Vec::new(alloc);
-    push_commands(alloc, &mut commands)?;
+    for page in &PAGES {
+        commands.push(page_command(alloc, page)?)?;
+    }
     Ok(commands)
 }
 
