@@ -6,16 +6,9 @@
 # so.
 set -u
 
-if [ $# -ne 1 ]; then
-    echo "usage: $0 PROGRAM" >&2
-    exit 2
-fi
-program=$(cd "$(dirname "$1")" && pwd)/$(basename "$1")
-completions=$(cd "$(dirname "$0")/../completions" && pwd) || exit 2
+. "$(dirname "$0")/begin.sh"
 . "$(dirname "$0")/help.sh"
-work=$(mktemp -d)
-trap 'rm -rf "$work"' EXIT
-trap 'exit 2' HUP INT TERM
+completions=$top/completions
 mkdir "$work/files" "$work/files/tables" && cd "$work/files" || exit 2
 : >table.ctb
 : >table.cert

@@ -3,13 +3,7 @@
 # It prints one line a case, and ends with status 1 at the first that fails.
 set -u
 
-if [ $# -ne 1 ]; then
-    echo "usage: $0 PROGRAM" >&2
-    exit 2
-fi
-program=$(cd "$(dirname "$1")" && pwd)/$(basename "$1")
-work=$(mktemp -d)
-trap 'chmod -R u+rwx "$work"; rm -rf "$work"' EXIT
+. "$(dirname "$0")/begin.sh"
 cd "$work" || exit 2
 
 printf 'space \\s 0\nletter a 1\nletter b 12\nletter c 14\n' >t.ctb

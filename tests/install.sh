@@ -3,15 +3,7 @@
 # ./install runs in a copy of its files, beside a ./build that puts PROGRAM into its place.
 set -u
 
-if [ $# -ne 1 ]; then
-    echo "usage: $0 PROGRAM" >&2
-    exit 2
-fi
-program=$(cd "$(dirname "$1")" && pwd)/$(basename "$1")
-top=$(cd "$(dirname "$0")/.." && pwd) || exit 2
-work=$(mktemp -d)
-trap 'rm -rf "$work"' EXIT
-trap 'exit 2' HUP INT TERM
+. "$(dirname "$0")/begin.sh"
 unset DESTDIR
 mkdir "$work/clone" && cd "$work" || exit 2
 cp -R "$top/install" "$top/man" "$top/completions" clone/ || exit 2

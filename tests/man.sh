@@ -5,17 +5,10 @@
 # print what it shows.
 set -u
 
-if [ $# -ne 1 ]; then
-    echo "usage: $0 PROGRAM" >&2
-    exit 2
-fi
-program=$(cd "$(dirname "$1")" && pwd)/$(basename "$1")
+. "$(dirname "$0")/begin.sh"
 . "$(dirname "$0")/help.sh"
-cd "$(dirname "$0")/.." || exit 2
+cd "$top" || exit 2
 page=man/brl.1
-work=$(mktemp -d)
-trap 'rm -rf "$work"' EXIT
-trap 'exit 2' HUP INT TERM
 
 fail() {
     echo "FAILED: $1"
