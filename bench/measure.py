@@ -22,7 +22,7 @@ MOST_SECONDS = 300
 
 
 def program() -> Path:
-    """The built program; it is built first where a source has changed."""
+    """The program, which is made first where a source has changed. Standard error says whether it is the proved one."""
     subprocess.run([TOP / "brl", "--version"], stdout=subprocess.DEVNULL, check=True)
     return TOP / "out" / "brl"
 

@@ -4,43 +4,23 @@
 Four hundred tables are made, the same on each run: two to four letters, with and without a blank, and some rules in several
 places; and two hundred of letters with their capitals, most of them with indicators of runs of capitals. Each must be
 certified, and its certificate accepted; or shown to clash, by two texts that `brl clash` finds alike. The same must hold
-for the texts that don't use the letter `a`; these clash in no table that is certified.
+for the texts that don't use the letter `a`; these clash in no table that is certified. The last line tells how many of
+the tables have capitals of each kind of tests/random_tables.py; some must have each.
 """
 
 import random
 import subprocess
 import sys
 import tempfile
+from collections import Counter
 from collections.abc import Callable
 from pathlib import Path
 
+sys.dont_write_bytecode = True
+import random_tables
+
 TABLES = 400
 CASED_TABLES = 200
-CELLS = ["1", "2", "12", "3", "13", "1-1", "1-2", "2-1", "12-1", "1-12", "1-1-2"]
-PLACES = ["always", "always", "word", "begword", "endword", "midword", "midendword", "partword", "begmidword"]
-
-
-def table(chance: random.Random) -> str:
-    letters = "abcd"[: chance.randint(2, 4)]
-    lines = ["space \\s 0"] * chance.randint(0, 1)
-    lines += [f"letter {it} {chance.choice(CELLS)}" for it in letters]
-    for _ in range(chance.randint(0, 4)):
-        chars = "".join(chance.choices(letters, k=chance.randint(1, 3)))
-        lines.append(f"{chance.choice(PLACES)} {chars} {chance.choice(CELLS)}")
-    return "\n".join(lines) + "\n"
-
-
-def cased_table(chance: random.Random) -> str:
-    letters = "abc"[: chance.randint(1, 3)]
-    lines = ["space \\s 0"] * chance.randint(0, 1)
-    lines += [f"uplow {it.upper()}{it} {chance.choice(CELLS)}" for it in letters]
-    lines += [f"uplow \\x00c4{letters[0]} 1"] * (chance.random() < 0.1)
-    signs = [("capsletter", 0.9, "6"), ("begcapsword", 0.8, "6-6"), ("endcapsword", 0.8, "6-3"), ("begcapsword", 0.1, "2")]
-    lines += list({sign: f"{sign} {cells}" for sign, often, cells in signs if chance.random() < often}.values())
-    for _ in range(chance.randint(0, 3)):
-        chars = "".join(chance.choices(letters, k=chance.randint(1, 3)))
-        lines.append(f"{chance.choice(PLACES)} {chars} {chance.choice(CELLS)}")
-    return "\n".join(lines) + "\n"
 
 
 def run(*words: str | Path) -> tuple[int, str]:
@@ -80,13 +60,14 @@ def fault_of_both(program: str, path: Path, cert: Path) -> tuple[str, str]:
     return kind, wrong or other
 
 
-def decide(program: str, make: Callable[[random.Random], str], tables: int) -> str:
-    """Decides this many tables, and gives what is wrong, if anything."""
+def decide(program: str, make: Callable[[random.Random], str], tables: int, kinds: Counter[str]) -> str:
+    """Decides this many tables, counts their kinds of capitals, and gives what is wrong, if anything."""
     chance, counts = random.Random(1), {"certified": 0, "clashing": 0}
     with tempfile.TemporaryDirectory() as folder:
         path, cert = Path(folder, "t.ctb"), Path(folder, "t.cert")
         for _ in range(tables):
-            path.write_text(make(chance))
+            path.write_text(table := make(chance))
+            kinds.update(random_tables.kinds(table))
             kind, wrong = fault_of_both(program, path, cert)
             if wrong:
                 return f"{wrong}\n{path.read_text()}"
@@ -101,10 +82,15 @@ def main(words: list[str]) -> int:
     if len(words) != 1:
         print(__doc__, file=sys.stderr)
         return 2
-    for make, tables in [(table, TABLES), (cased_table, CASED_TABLES)]:
-        if wrong := decide(words[0], make, tables):
+    kinds: Counter[str] = Counter()
+    for make, tables in [(random_tables.letter_table, TABLES), (random_tables.cased_table, CASED_TABLES)]:
+        if wrong := decide(words[0], make, tables, kinds):
             print(f"FAILED: {wrong}")
             return 1
+    print(random_tables.shown(kinds))
+    if lacking := random_tables.lacking(kinds):
+        print(f"FAILED: {lacking}")
+        return 1
     return 0
 
 

@@ -15,10 +15,10 @@ use Rattle.brl_failure.specs.Failure.{IfFault}
 use Rattle.brl_failure.specs.declared.failure.Failure.{Failure}
 use Rattle.brl_failure.specs.declared.failure.Failure.TheVariants.{Fault, Memory}
 use Rattle.brl_lines.specs.Answer.{MayGive}
-use Rattle.brl_reading.specs.Files.{IsFaultAt, IsTableOf}
-use Rattle.brl_reading.specs.declared.no_table.NoTable.{NoTable as NoTableFault}
-use Rattle.brl_table.specs.TableView.{TableView}
-use Rattle.brl_table.specs.Translation.{IsUnambiguous}
+use Rattle.brl_table.specs.Files.{IsFaultAt, IsTableOf}
+use Rattle.brl_table.specs.declared.no_table.NoTable.{NoTable as NoTableFault}
+use Rattle.brl_rules.specs.TableView.{TableView}
+use Rattle.brl_rules.specs.Translation.{IsUnambiguous}
 use Rattle.brl_window.specs.Windows.{window_machine}
 use Rattle.brl_states.specs.declared.window_state.WindowState.{WindowState}
 use Rattle.brl_dues.specs.Steps.{dues_machine}

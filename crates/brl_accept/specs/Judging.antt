@@ -16,8 +16,8 @@ use Rattle.brl_failure.specs.declared.failure.Failure.TheVariants.{Fault, Memory
 use Rattle.brl_lines.specs.Answer.{MayGive}
 use Rattle.brl_lines.specs.declared.fault.LoadFault.{LoadFault}
 use Rattle.brl_pairs.specs.Runs.{Behaviour}
-use Rattle.brl_reading.specs.Files.{IsFaultAt, IsTableOf, load_outcome as outcome_at}
-use Rattle.brl_table.specs.TableView.{TableView}
+use Rattle.brl_table.specs.Files.{IsFaultAt, IsTableOf, load_outcome as outcome_at}
+use Rattle.brl_rules.specs.TableView.{TableView}
 use Rattle.brl_without.specs.Parts.{Part, part_without, whole}
 use Rattle.brl_without.specs.Tables.{AreDefined, IsUndefined}
 

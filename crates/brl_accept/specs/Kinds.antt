@@ -9,8 +9,8 @@ use Rattle.brl_dues.specs.Steps.{dues_machine}
 use Rattle.brl_states.specs.declared.dues_state.DuesState.{DuesState}
 use Rattle.brl_pairs.specs.Pairs.{IsClosed}
 use Rattle.brl_pairs.specs.Runs.{Behaviour}
-use Rattle.brl_table.specs.TableView.{TableView}
-use Rattle.brl_table.specs.Text.{has_word_capitals}
+use Rattle.brl_rules.specs.TableView.{TableView}
+use Rattle.brl_rules.specs.Text.{has_word_capitals}
 use Rattle.brl_window.specs.Width.{start_moves}
 use Rattle.brl_window.specs.Windows.{window_machine}
 use Rattle.brl_states.specs.declared.window_state.WindowState.{WindowState}

@@ -1,7 +1,7 @@
 //! Why a certificate isn't accepted for the table that files define.
 use brl_cert::CertFault;
 use brl_checker::AcceptFault;
-use brl_reading::NoTable;
+use brl_table::NoTable;
 use brl_window::TooWide;
 use brl_without::UndefinedLeftOut;
 use thiserror::Error;

@@ -7,9 +7,9 @@ ghost use Rattle.brl_failure.specs.declared.failure.Failure.TheVariants as failu
 ghost use Rattle.brl_accept.specs.Kinds.{HasVersion};
 ghost use Rattle.brl_lines.specs.Answer.{AllStay, GivesOneAnswer};
 ghost use Rattle.brl_lines.specs.Outcome.{CountsFailure};
-ghost use Rattle.brl_reading.specs.Files.{IsTableOf};
-ghost use Rattle.brl_table.specs.TableView.{TableView};
-ghost use Rattle.brl_table.specs.Translation.{IsUnambiguous};
+ghost use Rattle.brl_table.specs.Files.{IsTableOf};
+ghost use Rattle.brl_rules.specs.TableView.{TableView};
+ghost use Rattle.brl_rules.specs.Translation.{IsUnambiguous};
 ghost use Rattle.brl_without.specs.Parts.{part_without};
 ghost use Rattle.brl_without.specs.Tables.{IsUnambiguousWithout};
 
@@ -20,9 +20,9 @@ use brl_dues::Dues;
 use brl_edges::Body;
 use brl_failure::{Failure, raise};
 use brl_lines::Source;
-use brl_reading::{load_table, one_table_law};
+use brl_rules::Table;
 use brl_states::{DuesState, WindowState};
-use brl_table::Table;
+use brl_table::{load_table, one_table_law};
 use brl_watch::{Unwatched, Watch};
 use brl_window::{TooWide, Window};
 use brl_without::{LeftOut, Without, check_defined, unambiguous_without_law};

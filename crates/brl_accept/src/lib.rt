@@ -8,5 +8,6 @@
 mod judge_fault;
 mod judge_files;
 
+pub use brl_checker::{AcceptFault, Accepted, accept};
 pub use judge_fault::JudgeFault;
 pub use judge_files::{judge, judge_without};

@@ -6,10 +6,10 @@ use Rattle.brl_lines.specs.Lines.{Answers}
 use Rattle.brl_lines.specs.Outcome.{AreGiven, AreLinesOf, IsLoadFault}
 use Rattle.brl_lines.specs.Tokens.{LineView}
 use Rattle.brl_lines.specs.declared.fault.LoadFault.{LoadFault}
-use Rattle.brl_reading.specs.Files.{IsFaultAt, IsTableOf}
-use Rattle.brl_reading.specs.declared.no_table.NoTable.{NoTable}
-use Rattle.brl_reading.specs.declared.no_table.NoTable.TheVariants as no_table
-use Rattle.brl_table.specs.TableView.{TableView}
+use Rattle.brl_table.specs.Files.{IsFaultAt, IsTableOf}
+use Rattle.brl_table.specs.declared.no_table.NoTable.{NoTable}
+use Rattle.brl_table.specs.declared.no_table.NoTable.TheVariants as no_table
+use Rattle.brl_rules.specs.TableView.{TableView}
 
 module _ (from to : MayGive) (moves : (p : List ℕ) (a : FileAnswer) → from p a → to p a) where
   given : (answers : Answers) → AreGiven from answers → AreGiven to answers

@@ -9,9 +9,9 @@ use Rattle.brl_lines.specs.Escapes.{characters_of}
 use Rattle.brl_lines.specs.Spelling.{text_spelling}
 use Rattle.brl_lines.specs.declared.fault.LoadFault.{LoadFault}
 use Rattle.brl_lines.specs.declared.operand.CharsFault.{CharsFault}
-use Rattle.brl_reading.specs.Files.{IsFaultAt, IsTableOf}
-use Rattle.brl_reading.specs.declared.no_table.NoTable.TheVariants as no_table
-use Rattle.brl_table.specs.TableView.{TableView}
+use Rattle.brl_table.specs.Files.{IsFaultAt, IsTableOf}
+use Rattle.brl_table.specs.declared.no_table.NoTable.TheVariants as no_table
+use Rattle.brl_rules.specs.TableView.{TableView}
 use Rattle.brl_answers.specs.declared.answer.Answer.{Answer}
 use Rattle.brl_answers.specs.declared.run_fault.RunFault.{RunFault}
 use Rattle.brl_answers.specs.declared.run_fault.RunFault.TheVariants.{Load, Table, BadLeftOut, Memory}

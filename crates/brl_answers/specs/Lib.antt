@@ -1,4 +1,5 @@
 pub mod Answers
 pub mod Delivery
 pub mod Files
+pub mod Prefixes
 pub mod Status

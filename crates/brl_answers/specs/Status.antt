@@ -4,8 +4,8 @@ use Rattle.brl_failure.specs.declared.failure.Failure.{Failure}
 use Rattle.brl_failure.specs.declared.failure.Failure.TheVariants as failures
 use Rattle.brl_forward.specs.declared.fault.ConfirmFault.{ConfirmFault}
 use Rattle.brl_forward.specs.declared.fault.ForwardFault.{ForwardFault}
-use Rattle.brl_reading.specs.declared.no_table.NoTable.{NoTable}
-use Rattle.brl_reading.specs.declared.no_table.NoTable.TheVariants as no_table
+use Rattle.brl_table.specs.declared.no_table.NoTable.{NoTable}
+use Rattle.brl_table.specs.declared.no_table.NoTable.TheVariants as no_table
 use Rattle.brl_stream.specs.declared.fault.StreamFault.{StreamFault}
 use Rattle.brl_answers.specs.declared.run_fault.RunFault.{RunFault}
 use Rattle.brl_answers.specs.declared.run_fault.RunFault.TheVariants.{Load, Table, Stream, Confirm, Text, Wide, Memory, NotDefined}

@@ -7,6 +7,9 @@ use std::alloc::Global;
 use std::os::unix::fs::MetadataExt;
 use std::{fs, rt};
 
+/// Why a file wasn't written: it couldn't be, or memory ran out.
+pub type SinkFault = Failure<Failed>;
+
 /// Files that can be read and written.
 pub trait Files: Source {
     ghost use Rattle.std.specs.Prelude.{◌≡◌, IsTrue, OnOk};

@@ -8,12 +8,14 @@
 mod answer;
 mod files;
 mod left_out;
+mod prefixes;
 mod replace;
 mod run_fault;
 mod status;
 
 pub use answer::{Answer, NewFile, counts_text, deliver};
-pub use files::Files;
+pub use files::{Files, SinkFault};
 pub use left_out::{left_out_of, tell_without};
+pub use prefixes::set_apart;
 pub use run_fault::RunFault;
 pub use status::Status;

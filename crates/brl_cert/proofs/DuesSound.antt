@@ -2,9 +2,9 @@
 use Rattle.std.proofs.Common.{◌≡◌, ◌⊎◌, inl, inr, ℕ, ◌<◌, ◌≤◌, Bool, true, false, cond, eqb, All, List, [], ◌∷◌, length, Option, Some, None, ◌↔◌, refl, subst, arith, IsTrue}
 use Rattle.std.specs.List.{AllByRecursion, Contains, slice_split}
 use Rattle.std.proofs.lemmas.List.Elements.{All-contains, All-contains_itself, All-from_recursion, All-weaker}
-use Rattle.brl_table.specs.declared.class.Class.{Class}
-use Rattle.brl_table.specs.declared.place.Cond.{Cond}
-use Rattle.brl_table.specs.declared.place.Cond.TheVariants.{Any, Meets, Avoids}
+use Rattle.brl_rules.specs.declared.class.Class.{Class}
+use Rattle.brl_rules.specs.declared.place.Cond.{Cond}
+use Rattle.brl_rules.specs.declared.place.Cond.TheVariants.{Any, Meets, Avoids}
 use Rattle.brl_states.specs.Order.{AreDues, in_order, is_proper}
 use Rattle.brl_states.specs.declared.due.Due.{Due}
 use Rattle.brl_states.specs.declared.due.Due.TheVariants.{Need, Bar}

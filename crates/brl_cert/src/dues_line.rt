@@ -7,14 +7,14 @@ ghost use Rattle.brl_fields.specs.Fields.{each, flag, is_char, number};
 ghost use Rattle.brl_cert.specs.Lines.{after_blanks};
 ghost use Rattle.brl_cert.specs.Valid.{HasSet, IsDue, IsDuesState};
 ghost use Rattle.brl_states.specs.Order.{is_proper};
-ghost use Rattle.brl_table.specs.declared.place.Cond.TheVariants.{Meets, Avoids};
+ghost use Rattle.brl_rules.specs.declared.place.Cond.TheVariants.{Meets, Avoids};
 
 use brl_fields::{
     parts_of, push_char, push_flag, push_more, push_number, read_between_points, read_flag,
     read_number,
 };
+use brl_rules::{Class, Cond};
 use brl_states::{Due, DueList, DuesState};
-use brl_table::{Class, Cond};
 use std::alloc::{AllocError, Global};
 
 /// Writes a condition.

@@ -9,7 +9,7 @@ ghost use Rattle.brl_edges.specs.Body.{BodyView, IsPairOf, listed};
 use crate::line::{Line, read_line};
 use crate::writing::push_line;
 use crate::{CertFault, CertFaultKind, Version};
-use brl_edges::{Body, Members};
+use brl_edges::{Body, Members, Seed};
 use brl_failure::Failure;
 use brl_pairs::Pair;
 use std::alloc::Global;
@@ -31,13 +31,13 @@ impl<V: Version> Model for Reader<V> {
 }
 
 impl<V: Version> Reader<V> {
-    /// A reader before the first line.
-    pub fn new(alloc: Global) -> Reader<V>
+    /// A reader before the first line, which finds states and pairs by hashes of this seed.
+    pub fn new(alloc: Global, seed: Seed) -> Reader<V>
         ensures { result ≡ empty_body }
     {
         Reader {
-            states: Members::new(alloc),
-            pairs: Members::new(alloc),
+            states: Members::new(alloc, seed),
+            pairs: Members::new(alloc, seed),
         }
     }
 

@@ -15,7 +15,7 @@ ghost use Rattle.brl_states.specs.declared.window_state.WindowState.{WindowState
 use crate::reader::Reader;
 use crate::{Cert, CertFault, CertFaultKind, Version, Version1, Version2, Version3};
 use brl_cells::{cells_are_read, spelled_cells_are_read};
-use brl_edges::Body;
+use brl_edges::{Body, Seed};
 use brl_failure::Failure;
 use brl_fields::{parts_of, push_number, read_number};
 use brl_states::{Runless, order_law};
@@ -117,13 +117,14 @@ fn take_lines<V: Version>(
 /// The body of the lines after a header, parts like those of `take_lines`.
 fn read_body<V: Version>(
     alloc: Global,
+    seed: Seed,
     parts: &[&[u8]],
 ) -> Result<Body<V::State>, Failure<CertFault>>
     requires { 1 ≤ length parts.now }
     ensures body { IfOk result (λ body. body_of V.form 2 empty_body (map (λ part. part.now) parts.now) ≡ Ok body) }
     ensures fault { IfErr result (IsFaultOf (body_of V.form 2 empty_body (map (λ part. part.now) parts.now))) }
 {
-    let mut reader = Reader::<V>::new(alloc);
+    let mut reader = Reader::<V>::new(alloc, seed);
     take_lines(alloc, &mut reader, parts)?;
     Ok(reader.into_body())
 }
@@ -131,6 +132,7 @@ fn read_body<V: Version>(
 /// The certificate of the lines after a header of this version.
 fn read_version_lines(
     alloc: Global,
+    seed: Seed,
     version: u64,
     parts: &[&[u8]],
 ) -> Result<Cert, Failure<CertFault>>
@@ -140,19 +142,20 @@ fn read_version_lines(
     runless_laws();
     match version {
         1 => {
-            let body = read_body::<Version1>(alloc, parts)?;
+            let body = read_body::<Version1>(alloc, seed, parts)?;
             Ok(Cert::Window(Runless::new(body)))
         }
         2 => {
-            let body = read_body::<Version2>(alloc, parts)?;
+            let body = read_body::<Version2>(alloc, seed, parts)?;
             Ok(Cert::Dues(Runless::new(body)))
         }
-        3 => Ok(Cert::Word(read_body::<Version3>(alloc, parts)?)),
+        3 => Ok(Cert::Word(read_body::<Version3>(alloc, seed, parts)?)),
         _ => Err(CertFaultKind::Version.at(1)),
     }
 }
 
-/// The certificate of the lines of bytes.
+/// The certificate of the lines of bytes. Its states and pairs are found by hashes of a seed that is
+/// drawn from all the bytes, so that nobody can choose states that have one hash.
 fn read_lines(alloc: Global, bytes: &[u8]) -> Result<Cert, Failure<CertFault>>
     ensures { Gives (reading bytes.now) result }
 {
@@ -164,7 +167,7 @@ fn read_lines(alloc: Global, bytes: &[u8]) -> Result<Cert, Failure<CertFault>>
         return Err(CertFaultKind::Truncated.at(1));
     }
     let version = read_header(alloc, header)?;
-    read_version_lines(alloc, version, rest)
+    read_version_lines(alloc, Seed::of(bytes), version, rest)
 }
 
 /// The certificate that bytes spell.

@@ -148,8 +148,11 @@ fn write_word(alloc: Global, body: &Body<DuesState>) -> Result<Vec<u8>, AllocErr
     Ok(out)
 }
 
-/// The one spelling of a certificate. `AllocError` if memory runs out.
-pub fn write_cert(alloc: Global, cert: &Cert) -> Result<Vec<u8>, AllocError>
+/// Why a certificate isn't written: memory runs out.
+pub type WriteFault = AllocError;
+
+/// The one spelling of a certificate.
+pub fn write_cert(alloc: Global, cert: &Cert) -> Result<Vec<u8>, WriteFault>
     ensures spelled { IfOk result (λ bytes. bytes.items ≡ spelling cert.now) }
     // Reading them gives the certificate back.
     ensures read_back { IfOk result (λ bytes. reading bytes.items ≡ Ok cert.now) }

@@ -3,7 +3,7 @@ ghost use Rattle.std.specs.Prelude.{◌≡◌, [], IfOk, OnOk};
 ghost use Rattle.brl_checker.specs.Alike.{AreFirstTwo, IsCounted, kind_of};
 
 use brl_cells::Cells;
-use brl_edges::{Edge, Members};
+use brl_edges::{Edge, Members, Seed};
 use brl_members::Key;
 use std::alloc::{AllocError, Global};
 
@@ -49,13 +49,34 @@ pub fn first_two_alike(alloc: Global, edges: Vec<Edge>) -> Result<Vec<Edge>, All
     Ok(kept)
 }
 
+/// The seed by which the kinds of these edges are found. It is drawn from the edges, so that nobody
+/// can choose kinds that have one hash.
+fn seed_of(alloc: Global, edges: &[Edge]) -> Result<Seed, AllocError> {
+    let mut bytes = Vec::new(alloc);
+    for edge in edges {
+        push_edge(&mut bytes, edge)?;
+    }
+    Ok(Seed::of(bytes.as_slice()))
+}
+
+/// Adds what an edge's kind consists of: the number of its next state, and its cells.
+fn push_edge(bytes: &mut Vec<u8>, edge: &Edge) -> Result<(), AllocError> {
+    bytes.extend_from_slice(&edge.next.to_le_bytes())?;
+    bytes.extend_from_slice(&edge.cells.len().to_le_bytes())?;
+    for cell in edge.cells.as_slice() {
+        bytes.push(cell.0)?;
+    }
+    Ok(())
+}
+
 /// Adds the edges that have less than two of their kind before them.
 fn keep_first_two(alloc: Global, edges: Vec<Edge>, kept: &mut Vec<Edge>) -> Result<(), AllocError>
     requires { kept.old.items ≡ [] }
     ensures { OnOk result (AreFirstTwo edges.items kept.new.items) }
 {
-    let mut once = Members::new(alloc);
-    let mut twice = Members::new(alloc);
+    let seed = seed_of(alloc, edges.as_slice())?;
+    let mut once = Members::new(alloc, seed);
+    let mut twice = Members::new(alloc, seed);
     for edge in edges {
         if count(&edge, &mut once, &mut twice)? {
             kept.push(edge)?;

@@ -2,8 +2,8 @@
 use Rattle.std.proofs.Common.{◌≡◌, ℕ, List, Option, Some, Err, inl, inr, subst, sym}
 use Rattle.brl_lines.specs.Answer.{MayGive}
 use Rattle.brl_lines.specs.Outcome.{CountsFailure}
-use Rattle.brl_reading.specs.Files.{IsTableOf}
-use Rattle.brl_table.specs.TableView.{TableView}
+use Rattle.brl_table.specs.Files.{IsTableOf}
+use Rattle.brl_rules.specs.TableView.{TableView}
 use Rattle.brl_stream.specs.Output.{HasWritten, verdict}
 use Rattle.brl_answers.specs.Answers.{load_outcome}
 use Rattle.brl_answers.specs.Status.{of_stream}

@@ -3,9 +3,9 @@ use Rattle.std.specs.Prelude.{ℕ, ◌⊎◌, IsTrue, List, Result, Ok, Err, cod
 use Rattle.brl_forward.specs.Faults.{IsFaultOfTwo}
 use Rattle.brl_lines.specs.Answer.{MayGive}
 use Rattle.brl_report.specs.Report.{report_text}
-use Rattle.brl_table.specs.TableView.{TableView}
-use Rattle.brl_table.specs.Text.{is_text}
-use Rattle.brl_table.specs.Translation.{IsClash}
+use Rattle.brl_rules.specs.TableView.{TableView}
+use Rattle.brl_rules.specs.Text.{is_text}
+use Rattle.brl_rules.specs.Translation.{IsClash}
 use Rattle.brl_answers.specs.declared.answer.Answer.{Answer}
 use Rattle.brl_answers.specs.declared.run_fault.RunFault.{RunFault}
 use Rattle.brl_answers.specs.declared.run_fault.RunFault.TheVariants.{Confirm, Memory}

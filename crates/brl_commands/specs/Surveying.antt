@@ -7,7 +7,7 @@ use Rattle.brl_lines.specs.Answer.{MayGive}
 use Rattle.brl_lines.specs.Outcome.{AreLinesOf, IsLoadFault}
 use Rattle.brl_lines.specs.Tokens.{LineView}
 use Rattle.brl_lines.specs.declared.fault.LoadFault.{LoadFault}
-use Rattle.brl_reading.specs.Survey.{faulty_lines}
+use Rattle.brl_table.specs.Survey.{faulty_lines}
 use Rattle.brl_report.specs.Survey.{IsSurveyText}
 use Rattle.brl_answers.specs.Answers.{Says, UnlessMemory}
 use Rattle.brl_answers.specs.declared.answer.Answer.{Answer}

@@ -3,8 +3,8 @@ use Rattle.std.specs.Prelude.{ℕ, IsTrue, List, Result, Ok, Err}
 use Rattle.brl_forward.specs.Faults.{IsFaultOf}
 use Rattle.brl_lines.specs.Answer.{MayGive}
 use Rattle.brl_report.specs.Trace.{trace_text}
-use Rattle.brl_table.specs.TableView.{TableView}
-use Rattle.brl_table.specs.Text.{is_text}
+use Rattle.brl_rules.specs.TableView.{TableView}
+use Rattle.brl_rules.specs.Text.{is_text}
 use Rattle.brl_answers.specs.Answers.{ByTable, Says}
 use Rattle.brl_answers.specs.declared.answer.Answer.{Answer}
 use Rattle.brl_answers.specs.declared.run_fault.RunFault.{RunFault}

@@ -9,9 +9,9 @@ ghost use Rattle.brl_answers.specs.Answers.{load_outcome};
 use brl_answers::{Answer, RunFault, Status};
 use brl_forward::confirm;
 use brl_lines::Source;
-use brl_reading::load_table;
 use brl_report::report;
-use brl_table::Table;
+use brl_rules::Table;
+use brl_table::load_table;
 use std::alloc::{AllocError, Global};
 
 /// Compares two texts by the table whose file is at a path. The answer is the report of a clash, or

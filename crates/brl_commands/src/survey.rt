@@ -2,7 +2,7 @@
 ghost use Rattle.std.specs.Prelude.{◌≡◌, ◌++◌, IfErr, IfOk, OnOk, length, map, string_bytes};
 ghost use Rattle.brl_lines.specs.Answer.{AllStay};
 ghost use Rattle.brl_lines.specs.Outcome.{CountsFailure, IsLoadFault};
-ghost use Rattle.brl_reading.specs.Survey.{faulty_lines};
+ghost use Rattle.brl_table.specs.Survey.{faulty_lines};
 ghost use Rattle.brl_report.specs.Survey.{IsSurveyText};
 ghost use Rattle.brl_commands.specs.Surveying.{IsReportAt, SurveysByFiles, part_text};
 ghost use Rattle.brl_answers.specs.declared.status.Status.TheVariants as statuses;
@@ -10,8 +10,8 @@ ghost use Rattle.brl_answers.specs.declared.status.Status.TheVariants as statuse
 use brl_answers::{Answer, RunFault, Status};
 use brl_failure::Failure;
 use brl_lines::{LoadFault, Loaded, Source, load};
-use brl_reading::survey;
 use brl_report::survey_report;
+use brl_table::survey;
 use std::alloc::{AllocError, Global};
 use std::io::Write;
 

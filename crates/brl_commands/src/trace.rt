@@ -8,9 +8,9 @@ ghost use Rattle.brl_commands.specs.Tracing.{Traces, TracesByFile};
 use crate::clash::characters;
 use brl_answers::{Answer, RunFault, Status};
 use brl_lines::Source;
-use brl_reading::load_table;
 use brl_report::trace_report;
-use brl_table::Table;
+use brl_rules::Table;
+use brl_table::load_table;
 use std::alloc::Global;
 
 /// Traces a text by the table whose file is at a path. The answer is the report of the text.

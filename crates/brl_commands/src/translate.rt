@@ -7,8 +7,8 @@ ghost use Rattle.brl_commands.specs.Streams.{TranslatesByFile};
 
 use brl_answers::RunFault;
 use brl_lines::Source;
-use brl_reading::load_table;
 use brl_stream::{Form, Input, Output, translate_lines};
+use brl_table::load_table;
 use std::alloc::Global;
 
 /// Translates the input, line by line, by the table whose file is at a path.

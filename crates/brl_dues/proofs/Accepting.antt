@@ -6,13 +6,13 @@ use Rattle.std.specs.Cmp.{first_so, second_so}
 use Rattle.std.proofs.lemmas.Bool.{eqb-true}
 use Rattle.brl_pairs.specs.declared.step.Step.{Step}
 use Rattle.brl_pairs.specs.Runs.{Accepts, IsPath, reads_of}
-use Rattle.brl_table.specs.declared.class.Class.{Class}
-use Rattle.brl_table.specs.declared.rule.Rule.{Rule}
-use Rattle.brl_table.specs.Choice.{fits, folds_of_capitals, matches}
-use Rattle.brl_table.specs.declared.place.Cond.{Cond}
-use Rattle.brl_table.specs.Places.{after_of, before_of, holds}
-use Rattle.brl_table.specs.TableView.{TableView}
-use Rattle.brl_table.specs.Text.{classes_at, fold_of, is_defined, is_in_run, is_text}
+use Rattle.brl_rules.specs.declared.class.Class.{Class}
+use Rattle.brl_rules.specs.declared.rule.Rule.{Rule}
+use Rattle.brl_rules.specs.Choice.{fits, folds_of_capitals, matches}
+use Rattle.brl_rules.specs.declared.place.Cond.{Cond}
+use Rattle.brl_rules.specs.Places.{after_of, before_of, holds}
+use Rattle.brl_rules.specs.TableView.{TableView}
+use Rattle.brl_rules.specs.Text.{classes_at, fold_of, is_defined, is_in_run, is_text}
 use Rattle.brl_states.specs.declared.due.Due.{Due}
 use Rattle.brl_states.specs.declared.dues_state.DuesState.{DuesState}
 use Rattle.brl_dues.specs.Due.{dues_met}
@@ -20,6 +20,7 @@ use Rattle.brl_dues.specs.Capitals.{alike, further, is_upper}
 use Rattle.brl_dues.specs.Form.{Form, IsForm, folded, may_read, own_form, rule_form}
 use Rattle.brl_dues.specs.Steps.{dues_machine, next_dues, step_of}
 use Rattle.brl_dues.proofs.Carrying.{fits_in}
+use Rattle.brl_dues.proofs.Choices.{starts-rest}
 use Rattle.brl_dues.proofs.Exact.{AreKnown, ends-met, path-Gives}
 use Rattle.brl_dues.proofs.Forms.{IsStep-listed}
 use Rattle.brl_dues.proofs.InRun.{alike-itself, folds-more, folds-none, further-met, some-met}
@@ -27,14 +28,6 @@ use Rattle.brl_dues.proofs.StepLaw.{none_fits, option_met, step-met}
 use Rattle.brl_dues.proofs.Taking.{Choosing, Translating, fits-form, form-ReadsSome, form-agrees}
 
 -- ---- What fits
-
-starts-rest : (rest others : List ℕ) → starts_with nat_eq rest others ≡ true → (u : List ℕ) × (rest ≡ others ++ u)
-starts-rest rest [] h = (rest, refl)
-starts-rest [] (a ∷ others) h = cc
-starts-rest (b ∷ rest) (a ∷ others) h =
-    let more = starts-rest rest others (second_so (nat_eq a b) (starts_with nat_eq rest others) h) in
-    let same : a ≡ b = eqb-true a b (first_so (nat_eq a b) (starts_with nat_eq rest others) h) in
-    (more.0, ap (λ l. b ∷ l) more.1 ∙ ap (λ x. x ∷ (others ++ more.0)) (sym same))
 
 -- capitals that a rest begins with, and what comes after them
 pub record Capitals (t : TableView) (rest chars : List ℕ) : Type 0 where

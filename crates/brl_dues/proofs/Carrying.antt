@@ -1,24 +1,24 @@
 -- What is carried past a step's characters holds of a rest exactly where the due holds of the
 -- characters and the rest.
-use Rattle.std.proofs.Common.{◌≡◌, ℕ, Bool, true, false, not, ◌&&◌, List, [], ◌∷◌, ◌++◌, length, map, refl, sym, ap, ◌∙◌, nat_eq, cond}
+use Rattle.std.proofs.Common.{◌≡◌, ℕ, Bool, true, false, not, ◌&&◌, List, [], ◌∷◌, ◌++◌, Option, Some, None, length, is_some, map, refl, sym, ap, ◌∙◌, nat_eq, cond}
 use Rattle.std.specs.List.{list_all, starts_with}
-use Rattle.brl_table.specs.declared.class.Class.{Class}
-use Rattle.brl_table.specs.declared.place.Cond.{Cond}
-use Rattle.brl_table.specs.declared.place.Cond.TheVariants.{Any, Meets, Avoids}
-use Rattle.brl_table.specs.declared.rule.Rule.{Rule}
-use Rattle.brl_table.specs.Choice.{folds_of_capitals, matches}
-use Rattle.brl_table.specs.Places.{holds, before_of, after_of, share}
-use Rattle.brl_table.specs.TableView.{TableView}
-use Rattle.brl_table.specs.Text.{classes_at, classes_of, fold_of}
+use Rattle.brl_rules.specs.declared.class.Class.{Class}
+use Rattle.brl_rules.specs.declared.place.Cond.{Cond}
+use Rattle.brl_rules.specs.declared.place.Cond.TheVariants.{Any, Meets, Avoids}
+use Rattle.brl_rules.specs.declared.rule.Rule.{Rule}
+use Rattle.brl_rules.specs.Choice.{folds_of_capitals, matches}
+use Rattle.brl_rules.specs.Places.{holds, before_of, after_of, share}
+use Rattle.brl_rules.specs.TableView.{TableView}
+use Rattle.brl_rules.specs.Text.{classes_at, classes_of, fold_of, is_in_run}
 use Rattle.brl_dues.specs.declared.carry.Carried.{Carried}
 use Rattle.brl_dues.specs.declared.carry.Carried.TheVariants.{Broken, Settled, Left}
 use Rattle.brl_states.specs.declared.due.Due.{Due}
 use Rattle.brl_states.specs.declared.due.Due.TheVariants.{Need, Bar}
-use Rattle.brl_dues.specs.Capitals.{choices, is_upper}
-use Rattle.brl_dues.specs.Carry.{opposed, settled_if, carry_bar, carry_capitals, carry_need, carry, need, bars_after, bars_past, bars_to}
+use Rattle.brl_dues.specs.Capitals.{alike, choices, further, is_upper}
+use Rattle.brl_dues.specs.Carry.{opposed, settled_if, carry_bar, carry_capitals, carry_need, carry_out, carry, need, bars_after, bars_past, bars_to}
 use Rattle.brl_dues.specs.Due.{goes_on, due_met}
-use Rattle.brl_dues.proofs.Choices.{and-true, choices-met, choices-on, list_all-map, run_goes_on}
-use Rattle.brl_dues.proofs.InRun.{folds-more, folds-none}
+use Rattle.brl_dues.proofs.Choices.{and-true, choices-met, choices-on, list_all-map, run_goes_on, starts-rest}
+use Rattle.brl_dues.proofs.InRun.{folds-more, folds-none, further-met, met_by}
 
 -- a rest meets what is left
 abbrev pub carried_met : TableView → List ℕ → Carried → Bool
@@ -109,14 +109,39 @@ module _ (t : TableView) (u : List ℕ) where
           ap (λ k. list_all (carried_met t u) (cond (k && nat_eq a (fold_of t b)) (carry_capitals t past chars c) [])) e
           ∙ ap (λ w. not (starts_with nat_eq w (a ∷ chars) && goes)) (sym (folds-none t b (past ++ u) e))
 
-  bars_past-met : (run : Bool) (past chars : List ℕ) (c : Cond) → list_all (carried_met t u) (bars_past t run past chars c) ≡ not (goes_on_in t run (past ++ u) chars c)
-  bars_past-met true past chars c = carry_capitals-met past chars c
-  bars_past-met false past chars c = and-true (carried_met t u (carry_bar t past chars c)) ∙ carry_bar-met past chars c
+  -- a rule that has no form out of a run of capitals doesn't fit where the text isn't in one
+  none-out : (before : Class) (b : ℕ) (past chars : List ℕ) → is_in_run t before (b ∷ (past ++ u)) ≡ false → further t before false (b ∷ chars) ≡ None → starts_with nat_eq (past ++ u) chars ≡ false
+  none-out before b past chars out none = at (starts_with nat_eq (past ++ u) chars) refl
+    where
+      at : (k : Bool) → starts_with nat_eq (past ++ u) chars ≡ k → k ≡ false
+      at false h = refl
+      at true h =
+          let rest = starts-rest (past ++ u) chars h in
+          let met : met_by (further t before false (b ∷ chars)) (classes_at t rest.0 0) ≡ alike false (is_in_run t before (b ∷ (chars ++ rest.0))) =
+          further-met t rest.0 before false b chars in
+          let out_there : is_in_run t before (b ∷ (chars ++ rest.0)) ≡ false = ap (λ l. is_in_run t before (b ∷ l)) (sym rest.1) ∙ out in
+          let no : false ≡ true = ap (λ o. met_by o (classes_at t rest.0 0)) (sym none) ∙ met ∙ ap (alike false) out_there in
+          sym no
 
-  first-met : (run h f : Bool) (past others : List ℕ) (after : Cond) → list_all (carried_met t u) (cond h (cond f (bars_past t run past others after) []) []) ≡ not (h && (f && goes_on_in t run (past ++ u) others after))
-  first-met run true true past others after = bars_past-met run past others after
-  first-met run true false past others after = refl
-  first-met run false f past others after = refl
+  carry_out-met : (before : Class) (b : ℕ) (past chars : List ℕ) (c : Cond) → is_in_run t before (b ∷ (past ++ u)) ≡ false
+      → list_all (carried_met t u) (carry_out t before b past chars c) ≡ not (goes_on t (past ++ u) chars c)
+  carry_out-met before b past chars c out = at (further t before false (b ∷ chars)) refl
+    where
+      at : (o : Option Cond) → further t before false (b ∷ chars) ≡ o
+          → list_all (carried_met t u) (cond (is_some o) (carry_bar t past chars c ∷ []) []) ≡ not (goes_on t (past ++ u) chars c)
+      at (Some next) e = and-true (carried_met t u (carry_bar t past chars c)) ∙ carry_bar-met past chars c
+      at None e = ap (λ k. not (k && holds c (classes_at t (past ++ u) (length chars)))) (sym (none-out before b past chars out e))
+
+  bars_past-met : (before : Class) (run : Bool) (b : ℕ) (past chars : List ℕ) (c : Cond) → is_in_run t before (b ∷ (past ++ u)) ≡ run
+      → list_all (carried_met t u) (bars_past t before run b past chars c) ≡ not (goes_on_in t run (past ++ u) chars c)
+  bars_past-met before true b past chars c is = carry_capitals-met past chars c
+  bars_past-met before false b past chars c is = carry_out-met before b past chars c is
+
+  first-met : (before : Class) (run : Bool) (b : ℕ) (h f : Bool) (past others : List ℕ) (after : Cond) → is_in_run t before (b ∷ (past ++ u)) ≡ run
+      → list_all (carried_met t u) (cond h (cond f (bars_past t before run b past others after) []) []) ≡ not (h && (f && goes_on_in t run (past ++ u) others after))
+  first-met before run b true true past others after is = bars_past-met before run b past others after is
+  first-met before run b true false past others after is = refl
+  first-met before run b false f past others after is = refl
 
   -- how the parts of fitting are joined
   joined : (m h s a : Bool) → (h && (m && (s && a))) ≡ (((m && s) && h) && a)
@@ -132,17 +157,17 @@ module _ (t : TableView) (u : List ℕ) where
   none true a = refl
   none false a = refl
 
-  at-chars : (run : Bool) (c : ℕ) (past chars : List ℕ) (h : Bool) (after : Cond)
-      → list_all (carried_met t u) (cond h (bars_after t run c past chars after) [])
+  at-chars : (before : Class) (run : Bool) (c : ℕ) (past chars : List ℕ) (h : Bool) (after : Cond) → is_in_run t before (c ∷ (past ++ u)) ≡ run
+      → list_all (carried_met t u) (cond h (bars_after t before run c past chars after) [])
       ≡ not ((matches t run (c ∷ (past ++ u)) chars && h) && holds after (classes_at t (c ∷ (past ++ u)) (length chars)))
-  at-chars run c past [] h after = none h (holds after (classes_at t (c ∷ (past ++ u)) 0))
-  at-chars true c past (first ∷ others) h after =
-      first-met true h (nat_eq first (fold_of t c)) past others after
+  at-chars before run c past [] h after is = none h (holds after (classes_at t (c ∷ (past ++ u)) 0))
+  at-chars before true c past (first ∷ others) h after is =
+      first-met before true c h (nat_eq first (fold_of t c)) past others after is
       ∙ ap not (joined (nat_eq first (fold_of t c)) h (starts_with nat_eq (folds_of_capitals t (past ++ u)) others) (holds after (classes_at t (past ++ u) (length others))))
-  at-chars false c past (first ∷ others) h after =
-      first-met false h (nat_eq first (fold_of t c)) past others after
+  at-chars before false c past (first ∷ others) h after is =
+      first-met before false c h (nat_eq first (fold_of t c)) past others after is
       ∙ ap not (joined (nat_eq first (fold_of t c)) h (starts_with nat_eq (past ++ u) others) (holds after (classes_at t (past ++ u) (length others))))
 
-  pub bars_to-met : (before : Class) (run : Bool) (c : ℕ) (past : List ℕ) (r : Rule)
+  pub bars_to-met : (before : Class) (run : Bool) (c : ℕ) (past : List ℕ) → is_in_run t before (c ∷ (past ++ u)) ≡ run → (r : Rule)
       → list_all (carried_met t u) (bars_to t before run (c ∷ past) r) ≡ not (fits_in t before run (c ∷ (past ++ u)) r)
-  bars_to-met before run c past r = at-chars run c past r.chars (holds (before_of r.place) before) (after_of r.place before)
+  bars_to-met before run c past is r = at-chars before run c past r.chars (holds (before_of r.place) before) (after_of r.place before) is

@@ -6,9 +6,9 @@ use Rattle.std.specs.Cmp.{first_so}
 use Rattle.std.specs.List.{list_all, list_any}
 use Rattle.std.specs.Option.{option_map_or}
 use Rattle.brl_pairs.specs.declared.step.Step.{Step}
-use Rattle.brl_table.specs.declared.place.Cond.{Cond}
-use Rattle.brl_table.specs.TableView.{TableView}
-use Rattle.brl_table.specs.Text.{fold_of, has_word_capitals, is_capital}
+use Rattle.brl_rules.specs.declared.place.Cond.{Cond}
+use Rattle.brl_rules.specs.TableView.{TableView}
+use Rattle.brl_rules.specs.Text.{fold_of, has_word_capitals, is_capital}
 use Rattle.brl_states.specs.declared.due.Due.{Due}
 use Rattle.brl_states.specs.declared.dues_state.DuesState.{DuesState}
 use Rattle.brl_dues.specs.Capitals.{any_if, capitals, choices, further, further_by, is_upper, letters, put_capital}
@@ -50,7 +50,7 @@ module _ (t : TableView) (s : DuesState) (l : LetterView) (number : ℕ) (after 
     where
       at : (o : Option Cond) → IsIn x (option_map_or (next_step t s l number run others after cells) o []) → x.reads ≡ l.character ∷ others
       at None i = absurd i
-      at (Some next) i = ap (λ (y : Step DuesState). y.reads) (from-step_if t s (letter_form l number run next others after cells) (gathered (left_by t s.dues l run next others after)) x i).2
+      at (Some next) i = ap (λ (y : Step DuesState). y.reads) (from-step_if t s (letter_form l number run next others after cells) (gathered (left_by t s.before s.dues l run next others after)) x i).2
 
   -- a choice has one step at most
   run-differ : (chosen : List ℕ) → Pairwise (λ a b. a ≢ b) (run_step t s l number after cells chosen)
@@ -62,7 +62,7 @@ module _ (t : TableView) (s : DuesState) (l : LetterView) (number : ℕ) (after 
 
       at : (o : Option Cond) → Pairwise (λ a b. a ≢ b) (option_map_or (next_step t s l number true chosen after cells) o [])
       at None = tt
-      at (Some next) = one next (gathered (left_by t s.dues l true next chosen after))
+      at (Some next) = one next (gathered (left_by t s.before s.dues l true next chosen after))
 
   runs-differ : Pairwise (λ a b. a ≢ b) (letters t) → (others : List ℕ) → Pairwise (λ a b. a ≢ b) (run_steps t s l number after cells [] others)
   runs-differ single others =

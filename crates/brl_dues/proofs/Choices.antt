@@ -2,17 +2,26 @@
 -- where it begins with capitals whose folds are the characters.
 use Rattle.std.proofs.Common.{◌≡◌, ℕ, Bool, true, false, not, ◌&&◌, ◌||◌, List, [], ◌∷◌, ◌++◌, Some, length, map, filter, refl, sym, ap, ap₂, ◌∙◌, cond, nat_eq, is_some}
 use Rattle.std.specs.List.{flat_map, list_all, starts_with}
+use Rattle.std.specs.Cmp.{first_so, second_so}
 use Rattle.std.specs.Map.{keys_of, lookup}
 use Rattle.std.proofs.lemmas.Bool.{eq-eqb, eqb-true}
-use Rattle.brl_table.specs.declared.place.Cond.{Cond}
-use Rattle.brl_table.specs.declared.rule.Info.{Info}
-use Rattle.brl_table.specs.Choice.{folds_of_capitals}
-use Rattle.brl_table.specs.Places.{holds}
-use Rattle.brl_table.specs.TableView.{TableView}
-use Rattle.brl_table.specs.Text.{classes_at, fold_of, is_defined}
+use Rattle.brl_rules.specs.declared.place.Cond.{Cond}
+use Rattle.brl_rules.specs.declared.rule.Info.{Info}
+use Rattle.brl_rules.specs.Choice.{folds_of_capitals}
+use Rattle.brl_rules.specs.Places.{holds}
+use Rattle.brl_rules.specs.TableView.{TableView}
+use Rattle.brl_rules.specs.Text.{classes_at, fold_of, is_defined}
 use Rattle.brl_dues.specs.Capitals.{capitals, choices, is_upper, put_capital}
 use Rattle.brl_dues.specs.Due.{goes_on}
 use Rattle.brl_dues.proofs.InRun.{folds-more, folds-none, upper-defined}
+
+pub starts-rest : (rest others : List ℕ) → starts_with nat_eq rest others ≡ true → (u : List ℕ) × (rest ≡ others ++ u)
+starts-rest rest [] h = (rest, refl)
+starts-rest [] (a ∷ others) h = cc
+starts-rest (b ∷ rest) (a ∷ others) h =
+    let more = starts-rest rest others (second_so (nat_eq a b) (starts_with nat_eq rest others) h) in
+    let same : a ≡ b = eqb-true a b (first_so (nat_eq a b) (starts_with nat_eq rest others) h) in
+    (more.0, ap (λ l. b ∷ l) more.1 ∙ ap (λ x. x ∷ (others ++ more.0)) (sym same))
 
 pub and-true : (a : Bool) → (a && true) ≡ a
 and-true true = refl

@@ -5,13 +5,13 @@ use Rattle.std.specs.List.{list_all, AllByRecursion}
 use Rattle.std.specs.Cmp.{first_so, second_so}
 use Rattle.brl_pairs.specs.declared.step.Step.{Step}
 use Rattle.brl_pairs.specs.Runs.{IsExact, IsListed, IsPath, reads_of, cells_of}
-use Rattle.brl_table.specs.declared.class.Class.{Class}
-use Rattle.brl_table.specs.declared.rule.Rule.{Rule}
-use Rattle.brl_table.specs.Choice.{Choice, chosen, own}
-use Rattle.brl_table.specs.Places.{after_of, holds}
-use Rattle.brl_table.specs.Rest.{translation_of_rest}
-use Rattle.brl_table.specs.TableView.{TableView}
-use Rattle.brl_table.specs.Text.{classes_at, context_behind_all, fold_of, is_defined, is_in_run, is_text}
+use Rattle.brl_rules.specs.declared.class.Class.{Class}
+use Rattle.brl_rules.specs.declared.rule.Rule.{Rule}
+use Rattle.brl_rules.specs.Choice.{Choice, chosen, own}
+use Rattle.brl_rules.specs.Places.{after_of, holds}
+use Rattle.brl_rules.specs.Rest.{translation_of_rest}
+use Rattle.brl_rules.specs.TableView.{TableView}
+use Rattle.brl_rules.specs.Text.{classes_at, context_behind_all, fold_of, is_defined, is_in_run, is_text}
 use Rattle.brl_states.specs.declared.due.Due.{Due}
 use Rattle.brl_states.specs.declared.due.Due.TheVariants.{Need, Bar}
 use Rattle.brl_states.specs.declared.dues_state.DuesState.{DuesState}

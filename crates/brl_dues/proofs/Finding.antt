@@ -3,20 +3,20 @@ use Rattle.std.proofs.Common.{◌≡◌, ℕ, zero, suc, ◌+◌, ◌≤◌, tak
 use Rattle.std.specs.Prelude.{slice_get}
 use Rattle.std.proofs.lemmas.Grind.{flat_map-append}
 use Rattle.std.proofs.lemmas.List.{take_all}
-use Rattle.brl_table.specs.declared.rule.Info.{Info}
+use Rattle.brl_rules.specs.declared.rule.Info.{Info}
 use Rattle.std.proofs.lemmas.List.Folds.{list_all-append}
 use Rattle.std.specs.List.{flat_map, list_all}
 use Rattle.std.specs.Map.{keys_of}
 use Rattle.std.specs.Option.{option_map_or}
 use Rattle.brl_pairs.specs.declared.step.Step.{Step}
-use Rattle.brl_table.specs.declared.class.Class.{Class}
-use Rattle.brl_table.specs.declared.place.Cond.{Cond}
-use Rattle.brl_table.specs.declared.rule.Rule.{Rule}
-use Rattle.brl_table.specs.declared.place.Cond.TheVariants.{Any}
-use Rattle.brl_table.specs.Choice.{own}
-use Rattle.brl_table.specs.Places.{after_of, before_of, holds}
-use Rattle.brl_table.specs.TableView.{TableView}
-use Rattle.brl_table.specs.Text.{classes_of, fold_of}
+use Rattle.brl_rules.specs.declared.class.Class.{Class}
+use Rattle.brl_rules.specs.declared.place.Cond.{Cond}
+use Rattle.brl_rules.specs.declared.rule.Rule.{Rule}
+use Rattle.brl_rules.specs.declared.place.Cond.TheVariants.{Any}
+use Rattle.brl_rules.specs.Choice.{own}
+use Rattle.brl_rules.specs.Places.{after_of, before_of, holds}
+use Rattle.brl_rules.specs.TableView.{TableView}
+use Rattle.brl_rules.specs.Text.{classes_of, fold_of}
 use Rattle.brl_dues.specs.declared.carry.Carried.{Carried}
 use Rattle.brl_states.specs.declared.due.Due.{Due}
 use Rattle.brl_states.specs.declared.due.Due.TheVariants.{Need, Bar}
@@ -77,29 +77,29 @@ letters-more t before above r cs =
 -- ---- The bars of the rules above
 
 module _ (t : TableView) (before : Class) (run : Bool) (c : ℕ) (others : List ℕ) where
-  bars-one : (r : Rule) → bars_to t before run (c ∷ others) r ≡ bars_of t run others (asked_one before (fold_of t c) r)
+  bars-one : (r : Rule) → bars_to t before run (c ∷ others) r ≡ bars_of t before run c others (asked_one before (fold_of t c) r)
   bars-one r = at (holds (before_of r.place) before) r.chars
     where
-      begun : (b : Bool) (rest : List ℕ) → cond b (bars_past t run others rest (after_of r.place before)) [] ≡ bars_of t run others (cond b ((rest, after_of r.place before) ∷ []) [])
-      begun true rest = sym (append-nil (bars_past t run others rest (after_of r.place before)))
+      begun : (b : Bool) (rest : List ℕ) → cond b (bars_past t before run c others rest (after_of r.place before)) [] ≡ bars_of t before run c others (cond b ((rest, after_of r.place before) ∷ []) [])
+      begun true rest = sym (append-nil (bars_past t before run c others rest (after_of r.place before)))
       begun false rest = refl
 
-      at : (h : Bool) (chars : List ℕ) → cond h (bars_after t run c others chars (after_of r.place before)) []
-          ≡ bars_of t run others (cond (h && begins_with (fold_of t c) chars) ((drop 1 chars, after_of r.place before) ∷ []) [])
+      at : (h : Bool) (chars : List ℕ) → cond h (bars_after t before run c others chars (after_of r.place before)) []
+          ≡ bars_of t before run c others (cond (h && begins_with (fold_of t c) chars) ((drop 1 chars, after_of r.place before) ∷ []) [])
       at false chars = refl
       at true [] = refl
       at true (first ∷ rest) = begun (nat_eq first (fold_of t c)) rest
 
-  bars-same : (above : List Rule) → flat_map (bars_to t before run (c ∷ others)) above ≡ bars_of t run others (asked before (fold_of t c) above)
+  bars-same : (above : List Rule) → flat_map (bars_to t before run (c ∷ others)) above ≡ bars_of t before run c others (asked before (fold_of t c) above)
   bars-same [] = refl
   bars-same (r ∷ above) =
       ap₂ (λ a b. a ++ b) (bars-one r) (bars-same above)
-      ∙ sym (flat_map-append (λ (a : List ℕ × Cond). bars_past t run others a.0 a.1) (asked_one before (fold_of t c) r) (asked before (fold_of t c) above))
+      ∙ sym (flat_map-append (λ (a : List ℕ × Cond). bars_past t before run c others a.0 a.1) (asked_one before (fold_of t c) r) (asked before (fold_of t c) above))
 
   -- ---- One step
 
   same-dues : (dues : List Due) (next after : Cond) (above : List Rule)
-      → gathered (map (carry t (c ∷ others)) dues ++ (need after ∷ need next ∷ flat_map (bars_to t before run (c ∷ others)) above)) ≡ gathered (left_by t dues (letter_at t before above c) run next others after)
+      → gathered (map (carry t (c ∷ others)) dues ++ (need after ∷ need next ∷ flat_map (bars_to t before run (c ∷ others)) above)) ≡ gathered (left_by t before dues (letter_at t before above c) run next others after)
   same-dues dues next after above = ap (λ l. gathered (map (carry t (c ∷ others)) dues ++ (need after ∷ need next ∷ l))) (bars-same above)
 
 module _ (t : TableView) (c : ℕ) (others : List ℕ) where
@@ -165,7 +165,7 @@ module _ (t : TableView) (s : DuesState) where
       at : (b : Bool) → may_come t s.dues c ≡ b
           → step_if t s f (gathered (map (carry t (c ∷ others)) s.dues ++ (need f.after ∷ need f.next ∷ flat_map (bars_to t s.before f.run (c ∷ others)) above)))
           ≡ cond b (next_step t s (letter_at t s.before above c) f.number f.run others f.after f.cells f.next) []
-      at true e = ap (step_if t s f) (same-dues t s.before f.run c others s.dues f.next f.after above) ∙ same-step (gathered (left_by t s.dues (letter_at t s.before above c) f.run f.next others f.after))
+      at true e = ap (step_if t s f) (same-dues t s.before f.run c others s.dues f.next f.after above) ∙ same-step (gathered (left_by t s.before s.dues (letter_at t s.before above c) f.run f.next others f.after))
       at false e = ap (step_if t s f) (none-gathered t c others s.dues (need f.after ∷ need f.next ∷ flat_map (bars_to t s.before f.run (c ∷ others)) above) e)
 
   empty : (b : Bool) → [] ≡ cond b (let x : List (Step DuesState) = [] in x) []

@@ -12,17 +12,17 @@ use Rattle.std.proofs.lemmas.Map.Keys.{IsDistinct-from_sorted}
 use Rattle.std.proofs.lemmas.Map.Made.{length-le_from_is_member}
 use Rattle.brl_pairs.specs.Runs.{IsListed}
 use Rattle.brl_pairs.specs.declared.step.Step.{Step}
-use Rattle.brl_table.specs.declared.class.Class.{Class}
-use Rattle.brl_table.specs.declared.context.Context.{Context}
-use Rattle.brl_table.specs.declared.place.Cond.{Cond}
-use Rattle.brl_table.specs.declared.place.Cond.TheVariants.{Any, Meets, Avoids}
-use Rattle.brl_table.specs.declared.place.Place.{Place}
-use Rattle.brl_table.specs.declared.place.Place.TheVariants.{Always, Word, Sufword, Prfword, Begword, Begmidword, Midword, Midendword, Endword, Partword, Begnum, Midnum, Endnum}
-use Rattle.brl_table.specs.declared.rule.Info.{Info}
-use Rattle.brl_table.specs.declared.rule.Rule.{Rule}
-use Rattle.brl_table.specs.Places.{after_of, before_of, holds, letter, none, share, uppercase}
-use Rattle.brl_table.specs.TableView.{TableView, info_of}
-use Rattle.brl_table.specs.Text.{classes_of, context_behind, context_behind_all, fold_of, has_word_capitals, is_capital}
+use Rattle.brl_rules.specs.declared.class.Class.{Class}
+use Rattle.brl_rules.specs.declared.context.Context.{Context}
+use Rattle.brl_rules.specs.declared.place.Cond.{Cond}
+use Rattle.brl_rules.specs.declared.place.Cond.TheVariants.{Any, Meets, Avoids}
+use Rattle.brl_rules.specs.declared.place.Place.{Place}
+use Rattle.brl_rules.specs.declared.place.Place.TheVariants.{Always, Word, Sufword, Prfword, Begword, Begmidword, Midword, Midendword, Endword, Partword, Begnum, Midnum, Endnum}
+use Rattle.brl_rules.specs.declared.rule.Info.{Info}
+use Rattle.brl_rules.specs.declared.rule.Rule.{Rule}
+use Rattle.brl_rules.specs.Places.{after_of, before_of, holds, letter, none, share, uppercase}
+use Rattle.brl_rules.specs.TableView.{TableView, info_of}
+use Rattle.brl_rules.specs.Text.{classes_of, context_behind, context_behind_all, fold_of, has_word_capitals, is_capital}
 use Rattle.brl_dues.specs.declared.carry.Carried.{Carried}
 use Rattle.brl_dues.specs.declared.carry.Carried.TheVariants.{Left, Settled}
 use Rattle.brl_states.specs.declared.due.Due.{Due}
@@ -292,21 +292,24 @@ module _ (t : TableView) where
   carry_capitals-in (b ∷ past) (a ∷ chars) c is =
       if-in (is_upper t b && nat_eq a (fold_of t b)) (carry_capitals t past chars c) (carry_capitals-in past chars c (next-ending a chars c is))
 
-  bars_past-in : (run : Bool) (past chars : List ℕ) (c : Cond) → IsEnding chars c → AllIn (bars_past t run past chars c)
-  bars_past-in true past chars c is = carry_capitals-in past chars c is
-  bars_past-in false past chars c is = one-in (carry_bar t past chars c) (λ d h. carry_bar-in past chars c (record { chars = chars; ending = is; is_text = inl refl }) d h)
+  bars_past-in : (before : Class) (run : Bool) (b : ℕ) (past chars : List ℕ) (c : Cond) → IsEnding chars c → AllIn (bars_past t before run b past chars c)
+  bars_past-in before true b past chars c is = carry_capitals-in past chars c is
+  bars_past-in before false b past chars c is =
+      if-in (is_some (further t before false (b ∷ chars))) (carry_bar t past chars c ∷ [])
+      (one-in (carry_bar t past chars c) (λ d h. carry_bar-in past chars c (record { chars = chars; ending = is; is_text = inl refl }) d h))
 
-  bars_after-in : (r : Rule) (run : Bool) (c : ℕ) (past chars : List ℕ) (after : Cond) → IsIn r t.rules → IsIn after after_conds → r.chars ≡ chars → AllIn (bars_after t run c past chars after)
-  bars_after-in r run c past [] after i asks e = λ k d j h. absurd j
-  bars_after-in r run c past (first ∷ others) after i asks e =
-      if-in (nat_eq first (fold_of t c)) (bars_past t run past others after)
-      (bars_past-in run past others after (record { rule = r; there = i; front = first ∷ []; ends = e; asks = asks }))
+  bars_after-in : (r : Rule) (before : Class) (run : Bool) (c : ℕ) (past chars : List ℕ) (after : Cond) → IsIn r t.rules → IsIn after after_conds → r.chars ≡ chars
+      → AllIn (bars_after t before run c past chars after)
+  bars_after-in r before run c past [] after i asks e = λ k d j h. absurd j
+  bars_after-in r before run c past (first ∷ others) after i asks e =
+      if-in (nat_eq first (fold_of t c)) (bars_past t before run c past others after)
+      (bars_past-in before run c past others after (record { rule = r; there = i; front = first ∷ []; ends = e; asks = asks }))
 
   bars_to-in : (before : Class) (run : Bool) (reads : List ℕ) (r : Rule) → IsIn r t.rules → AllIn (bars_to t before run reads r)
   bars_to-in before run [] r i = λ k d j h. absurd j
   bars_to-in before run (c ∷ past) r i =
-      if-in (holds (before_of r.place) before) (bars_after t run c past r.chars (after_of r.place before))
-      (bars_after-in r run c past r.chars (after_of r.place before) i (after-in r.place before) refl)
+      if-in (holds (before_of r.place) before) (bars_after t before run c past r.chars (after_of r.place before))
+      (bars_after-in r before run c past r.chars (after_of r.place before) i (after-in r.place before) refl)
 
   -- ---- Forms
 

@@ -1,20 +1,21 @@
 -- What a step leaves, found part by part.
-use Rattle.std.proofs.Common.{◌≡◌, ℕ, Bool, true, false, not, inl, inr, ◌&&◌, List, [], ◌∷◌, ◌++◌, Some, None, map, refl, sym, ap, ap₂, ◌∙◌, subst, cond, nat_eq, append_assoc, All, IsTrue}
+use Rattle.std.proofs.Common.{◌≡◌, ℕ, Bool, true, false, not, inl, inr, ◌&&◌, List, [], ◌∷◌, ◌++◌, Some, None, is_some, map, refl, sym, ap, ap₂, ◌∙◌, subst, cond, nat_eq, append_assoc, All, IsTrue}
 use Rattle.std.proofs.lemmas.Grind.{flat_map-append}
 use Rattle.std.proofs.lemmas.List.Elements.{All-append, All-cons, All-head, All-nil, All-tail}
 use Rattle.std.proofs.lemmas.List.Folds.{list_all-append}
 use Rattle.std.specs.List.{list_all}
-use Rattle.brl_table.specs.declared.place.Cond.{Cond}
-use Rattle.brl_table.specs.declared.place.Cond.TheVariants.{Any, Meets, Avoids}
-use Rattle.brl_table.specs.Places.{holds}
-use Rattle.brl_table.specs.TableView.{TableView}
-use Rattle.brl_table.specs.Text.{classes_of, fold_of}
+use Rattle.brl_rules.specs.declared.class.Class.{Class}
+use Rattle.brl_rules.specs.declared.place.Cond.{Cond}
+use Rattle.brl_rules.specs.declared.place.Cond.TheVariants.{Any, Meets, Avoids}
+use Rattle.brl_rules.specs.Places.{holds}
+use Rattle.brl_rules.specs.TableView.{TableView}
+use Rattle.brl_rules.specs.Text.{classes_of, fold_of}
 use Rattle.brl_dues.specs.declared.carry.Carried.{Carried}
 use Rattle.brl_dues.specs.declared.carry.Carried.TheVariants.{Left, Settled}
 use Rattle.brl_states.specs.declared.due.Due.{Due}
 use Rattle.brl_states.specs.declared.due.Due.TheVariants.{Need, Bar}
 use Rattle.brl_dues.specs.Adding.{Adds}
-use Rattle.brl_dues.specs.Capitals.{capitals, choices, is_upper, put_capital}
+use Rattle.brl_dues.specs.Capitals.{capitals, choices, further, is_upper, put_capital}
 use Rattle.brl_dues.specs.Carry.{bars_past, carry, carry_bar, carry_capitals, gathered, is_whole, left_of, lefts, need, opposed, settled_if}
 use Rattle.brl_dues.specs.LetterView.{LetterView}
 use Rattle.brl_dues.specs.Letters.{bars_of, left_past, left_with}
@@ -114,22 +115,27 @@ module _ (t : TableView) where
   carry_capitals-proper (b ∷ past) [] c = one-left (settled_if (not (holds c (classes_of t b)))) (settled-proper _)
   carry_capitals-proper (b ∷ past) (a ∷ chars) c = if-proper (is_upper t b && nat_eq a (fold_of t b)) (carry_capitals t past chars c) (carry_capitals-proper past chars c)
 
-  bars_past-proper : (run : Bool) (past chars : List ℕ) (c : Cond) → AllLeftProper (bars_past t run past chars c)
-  bars_past-proper true past chars c = carry_capitals-proper past chars c
-  bars_past-proper false past chars c = one-left (carry_bar t past chars c) (carry_bar-proper past chars c)
+  bars_past-proper : (before : Class) (run : Bool) (b : ℕ) (past chars : List ℕ) (c : Cond) → AllLeftProper (bars_past t before run b past chars c)
+  bars_past-proper before true b past chars c = carry_capitals-proper past chars c
+  bars_past-proper before false b past chars c =
+      if-proper (is_some (further t before false (b ∷ chars))) (carry_bar t past chars c ∷ []) (one-left (carry_bar t past chars c) (carry_bar-proper past chars c))
 
-  bars-proper : (run : Bool) (others : List ℕ) (above : List (List ℕ × Cond)) → AllLeftProper (bars_of t run others above)
-  bars-proper run others [] = none-proper
-  bars-proper run others (a ∷ above) =
-      subst AllProper (sym (flat_map-append left_of (bars_past t run others a.0 a.1) (bars_of t run others above)))
-      (append-proper (lefts (bars_past t run others a.0 a.1)) (lefts (bars_of t run others above)) (bars_past-proper run others a.0 a.1) (bars-proper run others above))
+  bars-proper : (before : Class) (run : Bool) (b : ℕ) (others : List ℕ) (above : List (List ℕ × Cond)) → AllLeftProper (bars_of t before run b others above)
+  bars-proper before run b others [] = none-proper
+  bars-proper before run b others (a ∷ above) =
+      let one = bars_past t before run b others a.0 a.1 in
+      let more = bars_of t before run b others above in
+      subst AllProper (sym (flat_map-append left_of one more))
+      (append-proper (lefts one) (lefts more) (bars_past-proper before run b others a.0 a.1) (bars-proper before run b others above))
 
-  left_with-proper : (left : List Due) (l : LetterView) (run : Bool) (next : Cond) (others : List ℕ) (after : Cond) → AllProper left → AllProper (lefts (left_with t left l run next others after))
-  left_with-proper left l run next others after h =
-      subst AllProper (sym (flat_map-append left_of (map Left left) (need after ∷ need next ∷ bars_of t run others l.above)))
-      (append-proper (lefts (map Left left)) (lefts (need after ∷ need next ∷ bars_of t run others l.above)) (subst AllProper (sym (left-lefts left)) h)
-      (append-proper (left_of (need after)) (lefts (need next ∷ bars_of t run others l.above)) (need-proper after)
-      (append-proper (left_of (need next)) (lefts (bars_of t run others l.above)) (need-proper next) (bars-proper run others l.above))))
+  left_with-proper : (before : Class) (left : List Due) (l : LetterView) (run : Bool) (next : Cond) (others : List ℕ) (after : Cond) → AllProper left
+      → AllProper (lefts (left_with t before left l run next others after))
+  left_with-proper before left l run next others after h =
+      let bars = bars_of t before run l.character others l.above in
+      subst AllProper (sym (flat_map-append left_of (map Left left) (need after ∷ need next ∷ bars)))
+      (append-proper (lefts (map Left left)) (lefts (need after ∷ need next ∷ bars)) (subst AllProper (sym (left-lefts left)) h)
+      (append-proper (left_of (need after)) (lefts (need next ∷ bars)) (need-proper after)
+      (append-proper (left_of (need next)) (lefts bars) (need-proper next) (bars-proper before run l.character others l.above))))
 
 -- ---- Part by part
 
@@ -172,7 +178,7 @@ module _ (t : TableView) (past : List ℕ) (dues : List Due) (ys : List Carried)
 
 -- the parts that a step finds: what is left of the old dues, the needs of its after-condition and
 -- of what must follow, and the bars of the rules above
-module _ (t : TableView) (l : LetterView) (run : Bool) (next : Cond) (others : List ℕ) (after : Cond) (left : List Due) where
+module _ (t : TableView) (before : Class) (l : LetterView) (run : Bool) (next : Cond) (others : List ℕ) (after : Cond) (left : List Due) where
   -- what is left of the old dues; with the first need; and with the second
   abbrev parts-1 : List Carried
   parts-1 = map Left left
@@ -183,26 +189,28 @@ module _ (t : TableView) (l : LetterView) (run : Bool) (next : Cond) (others : L
   abbrev parts-3 : List Carried
   parts-3 = parts-2 ++ need next ∷ []
 
-  whole : parts-3 ++ bars_of t run others l.above ≡ left_with t left l run next others after
-  whole = append_assoc parts-2 (need next ∷ []) (bars_of t run others l.above) ∙ append_assoc parts-1 (need after ∷ []) (need next ∷ bars_of t run others l.above)
+  whole : parts-3 ++ bars_of t before run l.character others l.above ≡ left_with t before left l run next others after
+  whole = append_assoc parts-2 (need next ∷ []) (bars_of t before run l.character others l.above) ∙ append_assoc parts-1 (need after ∷ []) (need next ∷ bars_of t before run l.character others l.above)
 
   first : Adds parts-1 [] left true
   first = record { whole_is = sym (left-whole left); found = λ _. sym (left-lefts left) }
 
   module _ (two : List Due) (needs : Adds (need after ∷ []) left two true) (three : List Due) (nexts : Adds (need next ∷ []) two three true)
-      (above : List (List ℕ × Cond)) (same_above : above ≡ l.above) (four : List Due) (y : Bool) (bars : Adds (bars_of t run others above) three four y) where
-    fourth : Adds (left_with t left l run next others after) [] four y
+      (c : ℕ) (same_character : c ≡ l.character) (above : List (List ℕ × Cond)) (same_above : above ≡ l.above) (four : List Due) (y : Bool) (bars : Adds (bars_of t before run c others above) three four y) where
+    fourth : Adds (left_with t before left l run next others after) [] four y
     fourth =
         let second = adds-both parts-1 (need after ∷ []) [] left two true first needs in
         let third = adds-both parts-2 (need next ∷ []) [] two three true second nexts in
         subst (λ z. Adds z [] four y) whole
-        (adds-both parts-3 (bars_of t run others l.above) [] three four y third (subst (λ a. Adds (bars_of t run others a) three four y) same_above bars))
+        (adds-both parts-3 (bars_of t before run l.character others l.above) [] three four y third
+        (subst (λ a. Adds (bars_of t before run l.character others a) three four y) same_above
+        (subst (λ b. Adds (bars_of t before run b others above) three four y) same_character bars)))
 
-    pub bars-broken : y ≡ false → gathered (left_with t left l run next others after) ≡ None
-    bars-broken k = gathered-none (left_with t left l run next others after) [] four (subst (Adds (left_with t left l run next others after) [] four) k fourth)
+    pub bars-broken : y ≡ false → gathered (left_with t before left l run next others after) ≡ None
+    bars-broken k = gathered-none (left_with t before left l run next others after) [] four (subst (Adds (left_with t before left l run next others after) [] four) k fourth)
 
-    pub none-broken : y ≡ true → gathered (left_with t left l run next others after) ≡ Some (in_order four)
-    none-broken k = gathered-some (left_with t left l run next others after) four (subst (Adds (left_with t left l run next others after) [] four) k fourth)
+    pub none-broken : y ≡ true → gathered (left_with t before left l run next others after) ≡ Some (in_order four)
+    none-broken k = gathered-some (left_with t before left l run next others after) four (subst (Adds (left_with t before left l run next others after) [] four) k fourth)
 
     pub found-proper : y ≡ true → AllProper left → AllProper four
-    found-proper k h = subst AllProper (sym (fourth.found k)) (left_with-proper t left l run next others after h)
+    found-proper k h = subst AllProper (sym (fourth.found k)) (left_with-proper t before left l run next others after h)

@@ -2,13 +2,13 @@
 use Rattle.std.proofs.Common.{◌≡◌, ℕ, suc, ◌+◌, Bool, true, false, not, ◌&&◌, ◌||◌, List, [], ◌∷◌, ◌++◌, Option, Some, None, is_some, map, take, refl, ap, ◌∙◌, cond, arith}
 use Rattle.std.specs.List.{prefix_len}
 use Rattle.std.specs.Option.{option_map_or}
-use Rattle.brl_table.specs.declared.class.Class.{Class}
-use Rattle.brl_table.specs.declared.place.Cond.{Cond}
-use Rattle.brl_table.specs.declared.rule.Info.{Info}
-use Rattle.brl_table.specs.Choice.{folds_of_capitals}
-use Rattle.brl_table.specs.Places.{holds, none}
-use Rattle.brl_table.specs.TableView.{TableView, info_of}
-use Rattle.brl_table.specs.Text.{classes_at, fold_of, has_word_capitals, is_capital, is_defined, is_in_run}
+use Rattle.brl_rules.specs.declared.class.Class.{Class}
+use Rattle.brl_rules.specs.declared.place.Cond.{Cond}
+use Rattle.brl_rules.specs.declared.rule.Info.{Info}
+use Rattle.brl_rules.specs.Choice.{folds_of_capitals}
+use Rattle.brl_rules.specs.Places.{holds, none}
+use Rattle.brl_rules.specs.TableView.{TableView, info_of}
+use Rattle.brl_rules.specs.Text.{classes_at, fold_of, has_word_capitals, is_capital, is_defined, is_in_run}
 use Rattle.brl_dues.specs.Capitals.{alike, any_if, further, further_by, is_upper}
 
 -- ---- Flags

@@ -4,9 +4,9 @@ use Rattle.std.proofs.lemmas.List.{take_all, take_more}
 use Rattle.std.proofs.lemmas.Grind.{flat_map-append}
 use Rattle.std.specs.List.{flat_map}
 use Rattle.brl_pairs.specs.declared.step.Step.{Step}
-use Rattle.brl_table.specs.declared.rule.Rule.{Rule}
-use Rattle.brl_table.specs.Places.{after_of, before_of, holds}
-use Rattle.brl_table.specs.TableView.{TableView}
+use Rattle.brl_rules.specs.declared.rule.Rule.{Rule}
+use Rattle.brl_rules.specs.Places.{after_of, before_of, holds}
+use Rattle.brl_rules.specs.TableView.{TableView}
 use Rattle.brl_states.specs.declared.dues_state.DuesState.{DuesState}
 use Rattle.brl_dues.specs.LetterView.{LetterView}
 use Rattle.brl_dues.specs.Letters.{begins_with, cased_steps, own_step, rule_step, steps_found, with_rule}

@@ -7,16 +7,16 @@ use Rattle.std.specs.Map.{keys_of, lookup}
 use Rattle.std.proofs.lemmas.Bool.{eq-eqb, eqb-true}
 use Rattle.brl_pairs.specs.declared.step.Step.{Step}
 use Rattle.brl_pairs.specs.Runs.{IsGoodStep, IsInOrder, IsListed}
-use Rattle.brl_table.specs.declared.class.Class.{Class}
-use Rattle.brl_table.specs.declared.context.Context.{Context}
-use Rattle.brl_table.specs.declared.rule.Info.{Info}
-use Rattle.brl_table.specs.declared.rule.Rule.{Rule}
-use Rattle.brl_table.specs.Choice.{own}
-use Rattle.brl_table.specs.Indicators.{is_used, sign_order, signs_before, signs_of, used_cells}
-use Rattle.brl_table.specs.Infos.{first_info}
-use Rattle.brl_table.specs.Places.{before_of, holds}
-use Rattle.brl_table.specs.declared.signs.Sign.{Sign}
-use Rattle.brl_table.specs.TableView.{TableView, sign_cells}
+use Rattle.brl_rules.specs.declared.class.Class.{Class}
+use Rattle.brl_rules.specs.declared.context.Context.{Context}
+use Rattle.brl_rules.specs.declared.rule.Info.{Info}
+use Rattle.brl_rules.specs.declared.rule.Rule.{Rule}
+use Rattle.brl_rules.specs.Choice.{own}
+use Rattle.brl_rules.specs.Indicators.{is_used, sign_order, signs_before, signs_of, used_cells}
+use Rattle.brl_rules.specs.Infos.{first_info}
+use Rattle.brl_rules.specs.Places.{before_of, holds}
+use Rattle.brl_rules.specs.declared.signs.Sign.{Sign}
+use Rattle.brl_rules.specs.TableView.{TableView, sign_cells}
 use Rattle.brl_states.specs.declared.due.Due.{Due}
 use Rattle.brl_states.specs.declared.dues_state.DuesState.{DuesState}
 use Rattle.brl_dues.specs.Capitals.{letters}
@@ -216,7 +216,7 @@ in_order t keeps s i j x y less p q =
 -- ---- Good steps
 
 used-most : (t : TableView) (here : Context) (run : Bool) (info : Info) (sign : Sign) → Keeps t → length (used_cells t here run info sign) ≤ 16
-used-most t here run info sign keeps = at (is_used here run info sign) (keeps.signs_cells sign)
+used-most t here run info sign keeps = at (is_used t here run info sign) (keeps.signs_cells sign)
   where
     at : (b : Bool) → length (sign_cells t sign) ≤ 16 → length (cond b (sign_cells t sign) []) ≤ 16
     at true h = h

@@ -4,11 +4,11 @@ use Rattle.std.specs.List.{list_all}
 use Rattle.std.specs.Option.{option_map_or}
 use Rattle.std.proofs.lemmas.Grind.{flat_map-append}
 use Rattle.std.proofs.lemmas.List.Folds.{list_all-append}
-use Rattle.brl_table.specs.declared.place.Cond.{Cond}
-use Rattle.brl_table.specs.declared.place.Cond.TheVariants.{Any, Meets, Avoids}
-use Rattle.brl_table.specs.Places.{holds, share}
-use Rattle.brl_table.specs.TableView.{TableView}
-use Rattle.brl_table.specs.Text.{classes_of}
+use Rattle.brl_rules.specs.declared.place.Cond.{Cond}
+use Rattle.brl_rules.specs.declared.place.Cond.TheVariants.{Any, Meets, Avoids}
+use Rattle.brl_rules.specs.Places.{holds, share}
+use Rattle.brl_rules.specs.TableView.{TableView}
+use Rattle.brl_rules.specs.Text.{classes_of}
 use Rattle.brl_dues.specs.declared.carry.Carried.{Carried}
 use Rattle.brl_dues.specs.declared.carry.Carried.TheVariants.{Broken, Settled, Left}
 use Rattle.brl_states.specs.declared.due.Due.{Due}

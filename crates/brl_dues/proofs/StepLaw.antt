@@ -5,12 +5,12 @@ use Rattle.std.proofs.Common.{◌≡◌, ℕ, Bool, true, false, not, ◌&&◌, 
 use Rattle.std.specs.List.{flat_map, list_all}
 use Rattle.std.specs.declared.cmp.Ordering.{Ordering}
 use Rattle.std.specs.declared.cmp.Ordering.TheVariants.{Less, Equal, Greater}
-use Rattle.brl_table.specs.declared.class.Class.{Class}
-use Rattle.brl_table.specs.declared.rule.Rule.{Rule}
-use Rattle.brl_table.specs.Choice.{fits}
-use Rattle.brl_table.specs.Places.{holds}
-use Rattle.brl_table.specs.TableView.{TableView}
-use Rattle.brl_table.specs.Text.{classes_at, is_in_run}
+use Rattle.brl_rules.specs.declared.class.Class.{Class}
+use Rattle.brl_rules.specs.declared.rule.Rule.{Rule}
+use Rattle.brl_rules.specs.Choice.{fits}
+use Rattle.brl_rules.specs.Places.{holds}
+use Rattle.brl_rules.specs.TableView.{TableView}
+use Rattle.brl_rules.specs.Text.{classes_at, is_in_run}
 use Rattle.brl_dues.specs.declared.carry.Carried.{Carried}
 use Rattle.brl_dues.specs.declared.carry.Carried.TheVariants.{Broken, Settled, Left}
 use Rattle.brl_states.specs.declared.due.Due.{Due}
@@ -81,10 +81,10 @@ module _ (t : TableView) (u : List ℕ) where
       at true ds m e = e
       at false ds m e = refl
 
-  bars-met : (before : Class) (run : Bool) (c : ℕ) (past : List ℕ) (above : List Rule)
+  bars-met : (before : Class) (run : Bool) (c : ℕ) (past : List ℕ) → is_in_run t before (c ∷ (past ++ u)) ≡ run → (above : List Rule)
       → list_all (carried_met t u) (flat_map (bars_to t before run (c ∷ past)) above) ≡ none_fits_in t before run (c ∷ (past ++ u)) above
-  bars-met before run c past above =
-      list_all-flat_map (carried_met t u) (λ r. not (fits_in t before run (c ∷ (past ++ u)) r)) (bars_to t before run (c ∷ past)) (bars_to-met t u before run c past) above
+  bars-met before run c past same above =
+      list_all-flat_map (carried_met t u) (λ r. not (fits_in t before run (c ∷ (past ++ u)) r)) (bars_to t before run (c ∷ past)) (bars_to-met t u before run c past same) above
 
   -- what must follow, and the bars of the rules above
   next-met : (before : Class) (run : Bool) (c : ℕ) (past : List ℕ) (n : Bool) → n ≡ alike run (is_in_run t before (c ∷ (past ++ u))) → (above : List Rule)
@@ -92,7 +92,7 @@ module _ (t : TableView) (u : List ℕ) where
   next-met before run c past false e above = refl
   next-met before run c past true e above =
       let same : is_in_run t before (c ∷ (past ++ u)) ≡ run = alike-true run (is_in_run t before (c ∷ (past ++ u))) (sym e) in
-      bars-met before run c past above ∙ ap (λ b. none_fits_in t before b (c ∷ (past ++ u)) above) (sym same)
+      bars-met before run c past same above ∙ ap (λ b. none_fits_in t before b (c ∷ (past ++ u)) above) (sym same)
 
   pub step-met : (s : DuesState) (f : Form) (c : ℕ) (past : List ℕ) → f.reads ≡ c ∷ past → holds f.next (classes_at t u 0) ≡ alike f.run (is_in_run t s.before (f.reads ++ u))
       → option_met t u (next_dues t s f)

@@ -5,17 +5,17 @@ use Rattle.std.proofs.lemmas.List.{length-map}
 use Rattle.std.specs.Prelude.{slice_get}
 use Rattle.std.specs.List.{list_all, starts_with}
 use Rattle.std.specs.Cmp.{first_so, second_so}
-use Rattle.brl_table.specs.declared.class.Class.{Class}
-use Rattle.brl_table.specs.declared.context.Context.{Context}
-use Rattle.brl_table.specs.declared.rule.Rule.{Rule}
-use Rattle.brl_table.specs.Choice.{Choice, by_rule, chosen, fits, folds_of_capitals, matches, own}
-use Rattle.brl_table.specs.Indicators.{indicators, signs_before}
-use Rattle.brl_table.specs.Places.{holds, before_of, after_of}
-use Rattle.brl_table.specs.Position.{IsFirstThatFits}
-use Rattle.brl_table.specs.Rest.{translation_of_rest, TakesOneRule}
-use Rattle.brl_table.specs.TableView.{TableView}
-use Rattle.brl_table.specs.Text.{at_start, classes_at, context_behind_all, fold_of, is_defined, is_in_run}
-use Rattle.brl_table.specs.Translation.{translation}
+use Rattle.brl_rules.specs.declared.class.Class.{Class}
+use Rattle.brl_rules.specs.declared.context.Context.{Context}
+use Rattle.brl_rules.specs.declared.rule.Rule.{Rule}
+use Rattle.brl_rules.specs.Choice.{Choice, by_rule, chosen, fits, folds_of_capitals, matches, own}
+use Rattle.brl_rules.specs.Indicators.{indicators, signs_before}
+use Rattle.brl_rules.specs.Places.{holds, before_of, after_of}
+use Rattle.brl_rules.specs.Position.{IsFirstThatFits}
+use Rattle.brl_rules.specs.Rest.{translation_of_rest, TakesOneRule}
+use Rattle.brl_rules.specs.TableView.{TableView}
+use Rattle.brl_rules.specs.Text.{at_start, classes_at, context_behind_all, fold_of, is_defined, is_in_run}
+use Rattle.brl_rules.specs.Translation.{translation}
 use Rattle.brl_dues.specs.Capitals.{alike, is_upper}
 use Rattle.brl_dues.specs.Form.{Form, IsForm, folded, may_read}
 use Rattle.brl_dues.proofs.Carrying.{fits_in}

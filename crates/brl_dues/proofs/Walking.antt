@@ -3,9 +3,9 @@ use Rattle.std.proofs.Common.{◌≡◌, ℕ, Bool, true, false, ◌&&◌, ◌||
 use Rattle.std.specs.List.{flat_map, list_all, list_any}
 use Rattle.std.specs.Option.{option_map_or}
 use Rattle.brl_pairs.specs.declared.step.Step.{Step}
-use Rattle.brl_table.specs.declared.place.Cond.{Cond}
-use Rattle.brl_table.specs.TableView.{TableView}
-use Rattle.brl_table.specs.Text.{fold_of, has_word_capitals}
+use Rattle.brl_rules.specs.declared.place.Cond.{Cond}
+use Rattle.brl_rules.specs.TableView.{TableView}
+use Rattle.brl_rules.specs.Text.{fold_of, has_word_capitals}
 use Rattle.brl_dues.specs.declared.cased.Capital.{Capital}
 use Rattle.brl_states.specs.declared.due.Due.{Due}
 use Rattle.brl_states.specs.declared.dues_state.DuesState.{DuesState}
@@ -57,7 +57,7 @@ module _ (t : TableView) (s : DuesState) (l : LetterView) (number : ℕ) (run : 
   -- a step that breaks a due
   pub broken-next : left_past t (l.character ∷ others) s.dues ≡ None → (next : Cond) → next_step t s l number run others after cells next ≡ []
   broken-next e next =
-      ap (step_if t s (letter_form l number run next others after cells)) (gathered-broken t (l.character ∷ others) s.dues (need after ∷ need next ∷ bars_of t run others l.above) e)
+      ap (step_if t s (letter_form l number run next others after cells)) (gathered-broken t (l.character ∷ others) s.dues (need after ∷ need next ∷ bars_of t s.before run l.character others l.above) e)
 
   pub broken-step : left_past t (l.character ∷ others) s.dues ≡ None → letter_step t s l number run others after cells ≡ []
   broken-step e = at (further t s.before run (l.character ∷ others))
@@ -67,11 +67,11 @@ module _ (t : TableView) (s : DuesState) (l : LetterView) (number : ℕ) (run : 
       at (Some next) = broken-next e next
 
   -- a step where these dues are left of the old ones
-  pub next-left : (next : Cond) (left : List Due) (o : Option (List Due)) → left_past t (l.character ∷ others) s.dues ≡ Some left → o ≡ gathered (left_with t left l run next others after)
+  pub next-left : (next : Cond) (left : List Due) (o : Option (List Due)) → left_past t (l.character ∷ others) s.dues ≡ Some left → o ≡ gathered (left_with t s.before left l run next others after)
       → step_if t s (letter_form l number run next others after cells) o ≡ next_step t s l number run others after cells next
   next-left next left o e is =
       ap (step_if t s (letter_form l number run next others after cells))
-      (is ∙ sym (gathered-left t (l.character ∷ others) s.dues (need after ∷ need next ∷ bars_of t run others l.above) left e))
+      (is ∙ sym (gathered-left t (l.character ∷ others) s.dues (need after ∷ need next ∷ bars_of t s.before run l.character others l.above) left e))
 
 -- ---- Beginnings
 

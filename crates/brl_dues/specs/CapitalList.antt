@@ -1,8 +1,8 @@
 -- Internal. A table with its capitals, as contracts see it.
 use Rattle.std.specs.Prelude.{ℕ, ◌≡◌, Bool, true, ◌&&◌, ◌==◌, List, map}
 use Rattle.std.specs.List.{list_any}
-use Rattle.brl_table.specs.TableView.{TableView}
-use Rattle.brl_table.specs.Text.{fold_of, has_word_capitals}
+use Rattle.brl_rules.specs.TableView.{TableView}
+use Rattle.brl_rules.specs.Text.{fold_of, has_word_capitals}
 use Rattle.brl_dues.specs.declared.cased.Capital.{Capital}
 use Rattle.brl_dues.specs.Capitals.{capitals, is_upper}
 

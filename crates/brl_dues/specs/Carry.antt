@@ -1,19 +1,19 @@
 -- What is left of a due after the characters that a step reads, and what a step owes to the rules
 -- that are ranked above its own. The project's own choice.
-use Rattle.std.specs.Prelude.{ℕ, Bool, true, false, not, ◌&&◌, ◌==◌, List, [], ◌∷◌, Option, Some, None, map, if◌then◌else◌}
+use Rattle.std.specs.Prelude.{ℕ, Bool, true, false, not, ◌&&◌, ◌==◌, List, [], ◌∷◌, Option, Some, None, is_some, map, if◌then◌else◌}
 use Rattle.std.specs.List.{flat_map, list_all}
-use Rattle.brl_table.specs.declared.class.Class.{Class}
-use Rattle.brl_table.specs.declared.place.Cond.{Cond}
-use Rattle.brl_table.specs.declared.place.Cond.TheVariants.{Any, Meets, Avoids}
-use Rattle.brl_table.specs.declared.rule.Rule.{Rule}
-use Rattle.brl_table.specs.Places.{holds, before_of, after_of}
-use Rattle.brl_table.specs.TableView.{TableView}
-use Rattle.brl_table.specs.Text.{classes_of, fold_of}
+use Rattle.brl_rules.specs.declared.class.Class.{Class}
+use Rattle.brl_rules.specs.declared.place.Cond.{Cond}
+use Rattle.brl_rules.specs.declared.place.Cond.TheVariants.{Any, Meets, Avoids}
+use Rattle.brl_rules.specs.declared.rule.Rule.{Rule}
+use Rattle.brl_rules.specs.Places.{holds, before_of, after_of}
+use Rattle.brl_rules.specs.TableView.{TableView}
+use Rattle.brl_rules.specs.Text.{classes_of, fold_of}
 use Rattle.brl_dues.specs.declared.carry.Carried.{Carried}
 use Rattle.brl_dues.specs.declared.carry.Carried.TheVariants.{Broken, Settled, Left}
 use Rattle.brl_states.specs.declared.due.Due.{Due}
 use Rattle.brl_states.specs.declared.due.Due.TheVariants.{Need, Bar}
-use Rattle.brl_dues.specs.Capitals.{choices, is_upper}
+use Rattle.brl_dues.specs.Capitals.{choices, further, is_upper}
 use Rattle.brl_states.specs.Order.{in_order}
 
 -- what is left of a bar whose characters were all read: the next character doesn't meet the
@@ -63,22 +63,29 @@ carry_capitals t [] (a ∷ chars) cond = map (λ text. Left (Bar text cond)) (ch
 carry_capitals t (c ∷ past) [] cond = settled_if (not (holds cond (classes_of t c))) ∷ []
 carry_capitals t (c ∷ past) (a ∷ chars) cond = if is_upper t c && (a == fold_of t c) then carry_capitals t past chars cond else []
 
--- the same of a rule in a run of capitals or out of one
-abbrev pub bars_past : TableView → Bool → List ℕ → List ℕ → Cond → List Carried
-bars_past t run past chars cond = if run then carry_capitals t past chars cond else carry_bar t past chars cond ∷ []
+-- what is left of the bar of a rule out of a run of capitals that begins with this character in
+-- place of its first and goes on with these others, after the characters `past`: none where the rule
+-- has no such form after a character of these classes
+abbrev pub carry_out : TableView → Class → ℕ → List ℕ → List ℕ → Cond → List Carried
+carry_out t before c past chars cond = if is_some (further t before false (c ∷ chars)) then carry_bar t past chars cond ∷ [] else []
+
+-- what is left of the bars of a rule's forms that begin with this character, in a run of capitals or
+-- out of one
+abbrev pub bars_past : TableView → Class → Bool → ℕ → List ℕ → List ℕ → Cond → List Carried
+bars_past t before run c past chars cond = if run then carry_capitals t past chars cond else carry_out t before c past chars cond
 
 -- what is left of the requirement that a rule with these characters doesn't fit, in a run of
 -- capitals or out of one, after a character and those that follow it
-abbrev pub bars_after : TableView → Bool → ℕ → List ℕ → List ℕ → Cond → List Carried
-bars_after t run c past [] cond = []
-bars_after t run c past (first ∷ others) cond = if first == fold_of t c then bars_past t run past others cond else []
+abbrev pub bars_after : TableView → Class → Bool → ℕ → List ℕ → List ℕ → Cond → List Carried
+bars_after t before run c past [] cond = []
+bars_after t before run c past (first ∷ others) cond = if first == fold_of t c then bars_past t before run c past others cond else []
 
 -- what a step that reads these characters, in a run of capitals or out of one, owes to a rule that
 -- is ranked above its own
 abbrev pub bars_to : TableView → Class → Bool → List ℕ → Rule → List Carried
 bars_to t before run [] r = []
 bars_to t before run (c ∷ past) r =
-    if holds (before_of r.place) before then bars_after t run c past r.chars (after_of r.place before) else []
+    if holds (before_of r.place) before then bars_after t before run c past r.chars (after_of r.place before) else []
 
 -- ---- All dues of a step
 

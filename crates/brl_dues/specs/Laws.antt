@@ -4,8 +4,8 @@ use Rattle.std.specs.List.{Contains}
 use Rattle.std.specs.List.Sorted.{IsStrictlySortedBy}
 use Rattle.brl_pairs.specs.Runs.{IsListed}
 use Rattle.brl_pairs.specs.declared.step.Step.{Step}
-use Rattle.brl_table.specs.Choice.{chosen}
-use Rattle.brl_table.specs.TableView.{TableView}
+use Rattle.brl_rules.specs.Choice.{chosen}
+use Rattle.brl_rules.specs.TableView.{TableView}
 use Rattle.brl_dues.specs.declared.carry.Carried.{Carried}
 use Rattle.brl_dues.specs.declared.carry.Carried.TheVariants.{Broken, Left}
 use Rattle.brl_states.specs.declared.due.Due.{Due}

@@ -1,6 +1,6 @@
 -- Internal. A character that may come next, as contracts see it.
 use Rattle.std.specs.Prelude.{ℕ, List}
-use Rattle.brl_table.specs.declared.place.Cond.{Cond}
+use Rattle.brl_rules.specs.declared.place.Cond.{Cond}
 
 -- the character, its fold, and the other characters and the after-condition of each rule ranked
 -- above that begins with it

@@ -4,14 +4,14 @@ use Rattle.std.specs.Prelude.{ℕ, ◌+◌, Bool, true, false, ◌&&◌, ◌==�
 use Rattle.std.specs.List.{flat_map, list_all}
 use Rattle.std.specs.Option.{option_map_or}
 use Rattle.brl_pairs.specs.declared.step.Step.{Step}
-use Rattle.brl_table.specs.declared.class.Class.{Class}
-use Rattle.brl_table.specs.declared.place.Cond.{Cond}
-use Rattle.brl_table.specs.declared.place.Cond.TheVariants.{Any}
-use Rattle.brl_table.specs.declared.rule.Rule.{Rule}
-use Rattle.brl_table.specs.Choice.{own}
-use Rattle.brl_table.specs.Places.{holds, before_of, after_of}
-use Rattle.brl_table.specs.TableView.{TableView}
-use Rattle.brl_table.specs.Text.{classes_of, fold_of}
+use Rattle.brl_rules.specs.declared.class.Class.{Class}
+use Rattle.brl_rules.specs.declared.place.Cond.{Cond}
+use Rattle.brl_rules.specs.declared.place.Cond.TheVariants.{Any}
+use Rattle.brl_rules.specs.declared.rule.Rule.{Rule}
+use Rattle.brl_rules.specs.Choice.{own}
+use Rattle.brl_rules.specs.Places.{holds, before_of, after_of}
+use Rattle.brl_rules.specs.TableView.{TableView}
+use Rattle.brl_rules.specs.Text.{classes_of, fold_of}
 use Rattle.brl_dues.specs.declared.carry.Carried.{Carried}
 use Rattle.brl_dues.specs.declared.carry.Carried.TheVariants.{Left}
 use Rattle.brl_states.specs.declared.due.Due.{Due}
@@ -60,23 +60,23 @@ with_rule before r l =
 
 -- ---- Steps
 
--- what is left of the bars of the rules above, after these other characters
-abbrev pub bars_of : TableView → Bool → List ℕ → List (List ℕ × Cond) → List Carried
-bars_of t run others above = flat_map (λ a. bars_past t run others a.0 a.1) above
+-- what is left of the bars of the rules above, after a character and these others
+abbrev pub bars_of : TableView → Class → Bool → ℕ → List ℕ → List (List ℕ × Cond) → List Carried
+bars_of t before run c others above = flat_map (λ a. bars_past t before run c others a.0 a.1) above
 
 -- what is left after a step that reads the character and these others: of the old dues, and of what
 -- the step owes
-abbrev pub left_by : TableView → List Due → LetterView → Bool → Cond → List ℕ → Cond → List Carried
-left_by t dues l run next others after =
-    map (carry t (l.character ∷ others)) dues ++ (need after ∷ need next ∷ bars_of t run others l.above)
+abbrev pub left_by : TableView → Class → List Due → LetterView → Bool → Cond → List ℕ → Cond → List Carried
+left_by t before dues l run next others after =
+    map (carry t (l.character ∷ others)) dues ++ (need after ∷ need next ∷ bars_of t before run l.character others l.above)
 
 -- what is left of dues after these characters, and none where one is broken
 abbrev pub left_past : TableView → List ℕ → List Due → Option (List Due)
 left_past t past dues = if list_all is_whole (map (carry t past) dues) then Some (lefts (map (carry t past) dues)) else None
 
 -- what is left after a step where these dues are left of the old ones: these, and what it owes
-abbrev pub left_with : TableView → List Due → LetterView → Bool → Cond → List ℕ → Cond → List Carried
-left_with t left l run next others after = map Left left ++ (need after ∷ need next ∷ bars_of t run others l.above)
+abbrev pub left_with : TableView → Class → List Due → LetterView → Bool → Cond → List ℕ → Cond → List Carried
+left_with t before left l run next others after = map Left left ++ (need after ∷ need next ∷ bars_of t before run l.character others l.above)
 
 -- the form that reads the character and these others
 abbrev pub letter_form : LetterView → ℕ → Bool → Cond → List ℕ → Cond → List ℕ → Form
@@ -93,7 +93,7 @@ letter_form l number run next others after cells = record {
 -- the step of that form with what must follow it, if it breaks no due
 abbrev pub next_step : TableView → DuesState → LetterView → ℕ → Bool → List ℕ → Cond → List ℕ → Cond → List (Step DuesState)
 next_step t s l number run others after cells next =
-    step_if t s (letter_form l number run next others after cells) (gathered (left_by t s.dues l run next others after))
+    step_if t s (letter_form l number run next others after cells) (gathered (left_by t s.before s.dues l run next others after))
 
 -- the step of that form, if the characters can begin in a run of capitals, or out of one
 abbrev pub letter_step : TableView → DuesState → LetterView → ℕ → Bool → List ℕ → Cond → List ℕ → List (Step DuesState)

@@ -1,14 +1,16 @@
 //! The rules that are ranked above the one that a step takes.
-ghost use Rattle.std.specs.Prelude.{◌≡◌, true, IfOk, IsTrue};
-ghost use Rattle.brl_table.specs.Text.{has_word_capitals};
+ghost use Rattle.std.specs.Prelude.{◌≡◌, ◌&&◌, true, IfOk, IsTrue};
+ghost use Rattle.brl_rules.specs.Text.{has_word_capitals};
 ghost use Rattle.brl_dues.specs.Adding.{Adds};
+ghost use Rattle.brl_dues.specs.Capitals.{is_upper};
 ghost use Rattle.brl_dues.specs.Carry.{bars_past, carry_bar as bar_carried};
+ghost use Rattle.brl_rules.specs.TableView.{TableView};
 
 use crate::carry::{Carried, add, carry_bar};
 use crate::cased::CasedTable;
 use crate::runs::add_run_bars;
+use brl_rules::{Class, Cond};
 use brl_states::Due;
-use brl_table::{Cond, Table};
 use std::alloc::{AllocError, Global};
 use std::marker::Model;
 
@@ -24,7 +26,7 @@ pub struct Above<'a> {
 
 impl<'a> Model for Above<'a> {
     ghost use Rattle.std.specs.Prelude.{◌≡◌, ℕ, List, slice_get};
-    ghost use Rattle.brl_table.specs.declared.place.Cond.{Cond as CondValue};
+    ghost use Rattle.brl_rules.specs.declared.place.Cond.{Cond as CondValue};
 
     ghost Value = { List ℕ × CondValue };
 
@@ -45,34 +47,48 @@ impl<'a> Above<'a> {
         }
     }
 
-    /// Appends what is left of its bars, in a run of capitals or out of one, after the characters
-    /// `past` to the dues found so far. Returns whether none is broken.
+    /// Appends what is left of the bars of its forms that begin with a character after one of these
+    /// classes, in a run of capitals or out of one, after the characters `past` to the dues found so
+    /// far. `cased` says whether a run may begin with the character. Returns whether none is broken.
     pub fn add_bars(
         &self,
         alloc: Global,
         table: &CasedTable<'_>,
+        before: Class,
+        character: char,
+        cased: bool,
         run: bool,
         past: &[char],
         found: &mut Vec<Due>,
     ) -> Result<bool, AllocError>
-        requires { run ≡ true → IsTrue (has_word_capitals table.now) }
-        ensures { IfOk result (λ whole. Adds (bars_past table.now run past.now self.now.0 self.now.1) found.old.items found.new.items whole) }
+        requires word { run ≡ true → IsTrue (has_word_capitals table.now) }
+        requires cased { cased ≡ (has_word_capitals table.now && is_upper table.now character) }
+        ensures { IfOk result (λ whole. Adds (bars_past table.now before run character past.now self.now.0 self.now.1) found.old.items found.new.items whole) }
     {
         if run {
             return add_run_bars(alloc, table, past, self.others, self.after, found);
         }
-        add(self.carry(alloc, table.table(), past)?, found)
-    }
-
-    /// What is left of its bar out of a run of capitals after the characters `past`.
-    fn carry(&self, alloc: Global, table: &Table, past: &[char]) -> Result<Carried, AllocError>
-        ensures { IfOk result (λ carried. carried ≡ bar_carried table.now past.now self.now.0 self.now.1) }
-    {
-        if let (Some(here), Some(there)) = (past.first(), self.second) {
-            if *here != there {
-                return Ok(Carried::Settled);
+        if self.is_settled(past) {
+            return Ok(true);
+        }
+        if cased {
+            let next = table.further(before, false, character, self.others);
+            if next.is_none() {
+                return Ok(true);
             }
         }
-        carry_bar(alloc, table, past, self.others, self.after)
+        let left = carry_bar(alloc, table.table(), past, self.others, self.after)?;
+        add(left, found)
+    }
+
+    /// Whether the characters `past` begin with another one than its second, so that nothing is left
+    /// of its bar out of a run of capitals.
+    fn is_settled(&self, past: &[char]) -> bool
+        ensures { (t : TableView) → IsTrue result → bar_carried t past.now self.now.0 self.now.1 ≡ Carried.Settled }
+    {
+        match (past.first(), self.second) {
+            (Some(here), Some(second)) => *here != second,
+            _ => false,
+        }
     }
 }

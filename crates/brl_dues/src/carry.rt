@@ -1,6 +1,6 @@
 //! Dues carried past the characters that a step reads.
 ghost use Rattle.std.specs.Prelude.{◌≡◌, [], ◌∷◌, option_map, true, All, IfOk, IfSome, IsTrue, OnOk};
-ghost use Rattle.brl_table.specs.Text.{classes_of, has_word_capitals};
+ghost use Rattle.brl_rules.specs.Text.{classes_of, has_word_capitals};
 ghost use Rattle.brl_dues.specs.Adding.{Adds};
 ghost use Rattle.brl_dues.specs.Carry.{carry as carried_past, carry_bar as bar_carried, need as need_of_cond, opposed, settled_if};
 ghost use Rattle.brl_dues.specs.Letters.{bars_of, left_past};
@@ -9,8 +9,8 @@ ghost use Rattle.brl_states.specs.Order.{is_proper};
 use crate::above::Above;
 use crate::cased::CasedTable;
 use brl_cells::Chars;
+use brl_rules::{Class, Cond, Table, holds};
 use brl_states::Due;
-use brl_table::{Class, Cond, Table, holds};
 use std::alloc::{AllocError, Global};
 
 /// What is left of a due after the characters that a step reads.
@@ -147,20 +147,24 @@ pub fn add_need(cond: Cond, found: &mut Vec<Due>) -> Result<(), AllocError>
 }
 
 /// Appends what is left of the bars of the rules above, in a run of capitals or out of one, after a
-/// character and these others, to the dues found so far. Returns whether none is broken.
+/// character, which comes after one of these classes, and these others, to the dues found so far.
+/// Returns whether none is broken.
 pub fn add_bars(
     alloc: Global,
     table: &CasedTable<'_>,
+    before: Class,
+    character: char,
     run: bool,
     others: &[char],
     above: &[Above<'_>],
     found: &mut Vec<Due>,
 ) -> Result<bool, AllocError>
     requires { run ≡ true → IsTrue (has_word_capitals table.now) }
-    ensures { IfOk result (λ whole. Adds (bars_of table.now run others.now above.now) found.old.items found.new.items whole) }
+    ensures { IfOk result (λ whole. Adds (bars_of table.now before run character others.now above.now) found.old.items found.new.items whole) }
 {
+    let cased = table.may_begin_run(character);
     for rule in above {
-        if !rule.add_bars(alloc, table, run, others, found)? {
+        if !rule.add_bars(alloc, table, before, character, cased, run, others, found)? {
             return Ok(false);
         }
     }

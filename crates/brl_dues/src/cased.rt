@@ -1,14 +1,14 @@
 //! A table with its capitals.
 ghost use Rattle.std.specs.Prelude.{◌≡◌, [], ◌∷◌, ◌++◌, ◌&&◌, map, not, IfOk, IsTrue, OnOk, if◌then◌else◌};
 ghost use Rattle.std.specs.List.{flat_map, list_all};
-ghost use Rattle.brl_table.specs.Text.{has_word_capitals, is_capital as does_capital};
+ghost use Rattle.brl_rules.specs.Text.{has_word_capitals, is_capital as does_capital};
 ghost use Rattle.brl_dues.specs.Capitals.{alike, any_if as any_cond_if, capitals, choices, further as what_follows, is_upper as is_upper_in, put_capital};
 ghost use Rattle.brl_dues.specs.CapitalList.{capital_of, is_fold_of_capital, stands_for as does_stand_for};
 
 use crate::carry::class_of;
 use crate::letter::fold_of;
 use brl_cells::Chars;
-use brl_table::{Class, Cond, Table, holds};
+use brl_rules::{Class, Cond, Table, holds};
 use std::alloc::{AllocError, Global};
 use std::marker::Model;
 
@@ -28,7 +28,7 @@ pub struct CasedTable<'a> {
 }
 
 impl<'a> Model for CasedTable<'a> {
-    ghost use Rattle.brl_table.specs.TableView.{TableView};
+    ghost use Rattle.brl_rules.specs.TableView.{TableView};
     ghost use Rattle.brl_dues.specs.CapitalList.{AreCapitals};
 
     ghost Value = { TableView };

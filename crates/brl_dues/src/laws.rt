@@ -4,8 +4,8 @@ ghost use Rattle.std.specs.Prelude.{◌≡◌, ◌↔◌, ℕ, IsTrue, List, Som
 ghost use Rattle.std.specs.List.{Contains};
 ghost use Rattle.brl_pairs.specs.Runs.{IsExact, IsListed};
 ghost use Rattle.brl_pairs.specs.declared.step.Step.{Step as StepValue};
-ghost use Rattle.brl_table.specs.TableView.{TableView};
-ghost use Rattle.brl_table.specs.Text.{is_text};
+ghost use Rattle.brl_rules.specs.TableView.{TableView};
+ghost use Rattle.brl_rules.specs.Text.{is_text};
 ghost use Rattle.brl_dues.specs.Carry.{gathered};
 ghost use Rattle.brl_dues.specs.Laws.{AreGathered, OneStep};
 ghost use Rattle.brl_dues.specs.Steps.{IsStep, dues_machine, dues_steps, first_state};
@@ -14,7 +14,7 @@ ghost use Rattle.brl_dues.specs.Finite.{all_cells, all_dues, all_leads, all_stat
 ghost use Rattle.brl_states.specs.declared.due.Due.{Due as DueValue};
 ghost use Rattle.brl_states.specs.declared.dues_state.DuesState.{DuesState as StateValue};
 
-use brl_table::{Table, choice_laws, translation_laws};
+use brl_rules::{Table, choice_laws, translation_laws};
 
 /// The dues machine of a table lists exactly the steps of a state, for every value of the state
 /// type. That each is listed once, by ascending rule number, is a law of every machine.

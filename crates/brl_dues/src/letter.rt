@@ -1,12 +1,12 @@
 //! The characters that may come next in a state.
 ghost use Rattle.std.specs.Prelude.{◌≡◌, [], ◌∷◌, ◌++◌, IfOk, OnOk, map, if◌then◌else◌};
-ghost use Rattle.brl_table.specs.Text.{fold_of as fold};
+ghost use Rattle.brl_rules.specs.Text.{fold_of as fold};
 ghost use Rattle.brl_dues.specs.Letters.{lets_in as does_let_in, may_come as does_come, new_letter, new_letters};
 
 use crate::above::Above;
 use crate::carry::class_of;
+use brl_rules::{Cond, Table, holds};
 use brl_states::Due;
-use brl_table::{Cond, Table, holds};
 use std::alloc::{AllocError, Global};
 use std::marker::Model;
 

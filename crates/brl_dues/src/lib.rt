@@ -22,5 +22,6 @@ mod step;
 mod steps;
 mod walk;
 
+pub use brl_states::{Due, DueList, DuesState};
 pub use laws::{dues_law, exact_law, finite_law, gathered_law, step_law};
 pub use machine::Dues;

@@ -1,13 +1,13 @@
 //! The dues machine.
 ghost use Rattle.std.specs.Prelude.{◌≡◌};
-ghost use Rattle.brl_table.specs.Text.{is_text};
-ghost use Rattle.brl_table.specs.Translation.{translation};
+ghost use Rattle.brl_rules.specs.Text.{is_text};
+ghost use Rattle.brl_rules.specs.Translation.{translation};
 ghost use Rattle.brl_dues.specs.Due.{met_by_space};
 
 use crate::steps::find_steps;
 use brl_pairs::{Machine, Step};
+use brl_rules::{Class, Context, Table, choice_laws, holds, translation_laws};
 use brl_states::{Due, DueList, DuesState};
-use brl_table::{Class, Context, Table, choice_laws, holds, translation_laws};
 use std::alloc::{AllocError, Global};
 use std::marker::Model;
 
@@ -19,7 +19,7 @@ pub struct Dues<'a> {
 }
 
 impl<'a> Model for Dues<'a> {
-    ghost use Rattle.brl_table.specs.TableView.{TableView};
+    ghost use Rattle.brl_rules.specs.TableView.{TableView};
 
     ghost Value = { TableView };
 

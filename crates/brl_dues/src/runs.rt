@@ -1,6 +1,6 @@
 //! The bars of rules in a run of capitals.
 ghost use Rattle.std.specs.Prelude.{◌≡◌, ◌++◌, map, IfOk, IsTrue, OnOk};
-ghost use Rattle.brl_table.specs.Text.{has_word_capitals};
+ghost use Rattle.brl_rules.specs.Text.{has_word_capitals};
 ghost use Rattle.brl_dues.specs.Adding.{Adds};
 ghost use Rattle.brl_dues.specs.Capitals.{choices};
 ghost use Rattle.brl_dues.specs.Carry.{carry_capitals};
@@ -8,8 +8,8 @@ ghost use Rattle.brl_states.specs.declared.due.Due.TheVariants.{Bar};
 
 use crate::carry::{add, class_of, opposed_to};
 use crate::cased::CasedTable;
+use brl_rules::{Cond, holds};
 use brl_states::Due;
-use brl_table::{Cond, holds};
 use std::alloc::{AllocError, Global};
 
 /// Appends what is left, after the characters `past` of a run of capitals, of the bars of a rule

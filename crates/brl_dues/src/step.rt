@@ -1,8 +1,8 @@
 //! One step: what it takes, and what is due after it.
 ghost use Rattle.std.specs.Prelude.{◌≡◌, [], ◌∷◌, true, All, IfOk, IsTrue, Some};
 ghost use Rattle.std.specs.Option.{option_map_or};
-ghost use Rattle.brl_table.specs.Text.{has_word_capitals};
-ghost use Rattle.brl_table.specs.declared.place.Cond.TheVariants.{Any};
+ghost use Rattle.brl_rules.specs.Text.{has_word_capitals};
+ghost use Rattle.brl_rules.specs.declared.place.Cond.TheVariants.{Any};
 ghost use Rattle.brl_dues.specs.Capitals.{further};
 ghost use Rattle.brl_dues.specs.Carry.{gathered};
 ghost use Rattle.brl_dues.specs.Letters.{left_past, left_with, letter_step, next_step};
@@ -13,8 +13,8 @@ use crate::carry::{add_bars, add_need, dues_past};
 use crate::origin::Origin;
 use brl_cells::{Cell, Cells, Chars};
 use brl_pairs::Step;
+use brl_rules::Cond;
 use brl_states::{Due, DueList, DuesState};
-use brl_table::Cond;
 use std::alloc::{AllocError, Global};
 
 /// What a step takes with a character: the number of a rule, whether it begins in a run of
@@ -108,7 +108,7 @@ fn next_dues(
 ) -> Result<Option<DueList>, AllocError>
     requires word { taken.run ≡ true → IsTrue (has_word_capitals origin.now.table.now) }
     requires proper { All (λ due. IsTrue (is_proper due)) left.items }
-    ensures { IfOk result (λ dues. dues ≡ gathered (left_with origin.now.table.now left.items origin.now.letter.now taken.entry.run next taken.entry.others.now taken.entry.after)) }
+    ensures { IfOk result (λ dues. dues ≡ gathered (left_with origin.now.table.now origin.now.state.now.before left.items origin.now.letter.now taken.entry.run next taken.entry.others.now taken.entry.after)) }
 {
     let mut found = left;
     add_need(taken.after, &mut found)?;
@@ -117,6 +117,8 @@ fn next_dues(
     if !add_bars(
         alloc,
         origin.table,
+        origin.state.before,
+        origin.letter.character(),
         taken.run,
         taken.others,
         above,

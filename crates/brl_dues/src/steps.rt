@@ -1,9 +1,9 @@
 //! The steps of a state.
 ghost use Rattle.std.specs.Prelude.{◌≡◌, ◌<◌, [], ◌∷◌, ◌++◌, false, length, map, IfOk, IsTrue, OnOk};
 ghost use Rattle.std.specs.List.{flat_map, list_any};
-ghost use Rattle.brl_table.specs.Choice.{own};
-ghost use Rattle.brl_table.specs.Places.{before_of, holds as does_hold};
-ghost use Rattle.brl_table.specs.declared.place.Cond.TheVariants.{Any};
+ghost use Rattle.brl_rules.specs.Choice.{own};
+ghost use Rattle.brl_rules.specs.Places.{before_of, holds as does_hold};
+ghost use Rattle.brl_rules.specs.declared.place.Cond.TheVariants.{Any};
 ghost use Rattle.brl_dues.specs.Letters.{cased_steps, own_step, rule_step, with_rule};
 ghost use Rattle.brl_dues.specs.Steps.{dues_steps, is_same_step, with_steps};
 
@@ -13,8 +13,8 @@ use crate::origin::Origin;
 use crate::step::{Taken, step_with};
 use crate::walk::push_run_steps;
 use brl_pairs::Step;
+use brl_rules::{Cond, Rule, Table, holds};
 use brl_states::DuesState;
-use brl_table::{Cond, Rule, Table, holds};
 use std::alloc::{AllocError, Global};
 
 /// The steps of a state.

@@ -2,7 +2,7 @@
 //! characters are listed character by character, and a beginning that breaks a due of the state is
 //! left with all that would go on from it.
 ghost use Rattle.std.specs.Prelude.{◌≡◌, [], ◌∷◌, ◌++◌, option_map, All, IfOk, IfSome, IsTrue, OnOk, Some};
-ghost use Rattle.brl_table.specs.Text.{has_word_capitals};
+ghost use Rattle.brl_rules.specs.Text.{has_word_capitals};
 ghost use Rattle.brl_dues.specs.Letters.{left_past, run_step, run_steps};
 ghost use Rattle.brl_states.specs.Order.{is_proper};
 
@@ -10,8 +10,8 @@ use crate::carry::dues_past;
 use crate::origin::Origin;
 use crate::step::{Taken, finish_step, reads_of, what_follows};
 use brl_pairs::Step;
+use brl_rules::Table;
 use brl_states::{Due, DuesState};
-use brl_table::Table;
 use std::alloc::{AllocError, Global};
 
 /// The capitals that a step reads after its first one, as far as they are chosen, and what is left

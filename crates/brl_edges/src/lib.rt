@@ -11,7 +11,7 @@ mod laws;
 mod pairs;
 
 pub use body::Body;
-pub use brl_members::Members;
+pub use brl_members::{Members, Seed};
 pub use edge::{Edge, places_before};
 pub use laws::{different_cells_law, edges_law};
 pub use pairs::{is_missing, is_there, is_there_swapped};

@@ -9,9 +9,9 @@ use Rattle.brl_pairs.specs.declared.step.Pair.{Pair}
 use Rattle.brl_pairs.specs.declared.step.Step.{Step}
 use Rattle.brl_pairs.specs.Pairs.{GetsAhead, HasPair, IsClosed, Moves, Sets, Splits, StaysBehind, swapped}
 use Rattle.brl_pairs.specs.Runs.{Behaviour, IsExact, IsListed, IsPath, IsUnambiguous, KeepsLaws, cells_of, reads_of}
-use Rattle.brl_table.specs.TableView.{TableView}
-use Rattle.brl_table.specs.Text.{is_text}
-use Rattle.brl_table.specs.Translation.{IsClash, translation}
+use Rattle.brl_rules.specs.TableView.{TableView}
+use Rattle.brl_rules.specs.Text.{is_text}
+use Rattle.brl_rules.specs.Translation.{IsClash, translation}
 use Rattle.brl_finder.specs.Answers.{AreTwoPaths, HasTwoEndsReached, IsLimit}
 use Rattle.brl_finder.specs.Deciding.{IsClashOf, HasClash, HasTwoRuns, ListsJustReached, reached_sets}
 use Rattle.brl_finder.specs.Reached.{AtMost, Reached, ReachedPair, SamePair, SameState, start, step, split, move, other_order, Reaches}

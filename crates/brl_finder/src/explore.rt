@@ -12,6 +12,7 @@ use crate::finder::{Finder, Stop};
 use crate::outcome::Outcome;
 use crate::trail::Trail;
 use crate::worklist::Worklist;
+use brl_edges::Seed;
 use brl_failure::Failure;
 use brl_pairs::Machine;
 use brl_watch::{Unwatched, Watch, Work};
@@ -59,8 +60,14 @@ pub enum Progress<'m, M: Machine> {
 }
 
 impl<'m, M: Machine> Search<'m, M> {
-    /// The search of a machine that has found the start.
-    pub fn start(alloc: Global, machine: &'m M, limit: u64) -> Result<Progress<'m, M>, AllocError>
+    /// The search of a machine that has found the start. It finds states and pairs by hashes of this
+    /// seed, which is to be drawn from all that the machine depends on.
+    pub fn start(
+        alloc: Global,
+        machine: &'m M,
+        limit: u64,
+        seed: Seed,
+    ) -> Result<Progress<'m, M>, AllocError>
         requires { limit ≤ 4294967295 }
         ensures finished { IfOk result (IfFinished (IsOutcome (M.behaviour machine.now) limit)) }
         ensures unfinished { IfOk result (IfUnfinished (IsOf machine.now limit)) }
@@ -69,6 +76,7 @@ impl<'m, M: Machine> Search<'m, M> {
             alloc,
             machine,
             limit,
+            seed,
         };
         let trail = finder.begin()?;
         if limit == 0 {
@@ -139,16 +147,17 @@ impl<'m, M: Machine> Search<'m, M> {
 /// The most steps that a search runs before a watcher is told how far it is.
 const SLICE: u64 = 16;
 
-/// Searches a machine to the end.
+/// Searches a machine to the end, with a seed as for `Search::start`.
 pub fn search_machine<M: Machine>(
     alloc: Global,
     machine: &M,
     limit: u64,
+    seed: Seed,
 ) -> Result<Outcome<M::State>, AllocError>
     requires { limit ≤ 4294967295 }
     ensures { IfOk result (IsOutcome (M.behaviour machine.now) limit) }
 {
-    search_machine_watched(alloc, machine, limit, &mut Unwatched)
+    search_machine_watched(alloc, machine, limit, seed, &mut Unwatched)
 }
 
 /// Searches a machine as `search_machine` does, and reports its progress to `watch` before each slice
@@ -157,12 +166,13 @@ pub fn search_machine_watched<M: Machine, W: Watch>(
     alloc: Global,
     machine: &M,
     limit: u64,
+    seed: Seed,
     watch: &mut W,
 ) -> Result<Outcome<M::State>, AllocError>
     requires { limit ≤ 4294967295 }
     ensures { IfOk result (IsOutcome (M.behaviour machine.now) limit) }
 {
-    let mut progress = Search::start(alloc, machine, limit)?;
+    let mut progress = Search::start(alloc, machine, limit, seed)?;
     loop {
         match progress {
             Progress::Unfinished(search) => {

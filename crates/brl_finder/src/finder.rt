@@ -6,7 +6,7 @@ ghost use Rattle.brl_pairs.specs.Runs.{KeepsLaws};
 ghost use Rattle.brl_finder.specs.Trail.{Advances, IsActive, IsStateOrigin, IsStopped, IsTraced};
 
 use crate::trail::{StateOrigin, Trail};
-use brl_edges::{Edge, Members};
+use brl_edges::{Edge, Members, Seed};
 use brl_failure::Failure;
 use brl_pairs::Machine;
 use std::alloc::{AllocError, Global};
@@ -18,6 +18,8 @@ pub struct Finder<'m, M: Machine> {
     pub alloc: Global,
     pub machine: &'m M,
     pub limit: u64,
+    /// By which states and pairs are hashed.
+    pub seed: Seed,
 }
 
 /// Why a search stops before all is found.
@@ -37,7 +39,7 @@ impl<'m, M: Machine> Finder<'m, M> {
         ensures states { IfOk result (λ trail. trail.states ≡ (M.behaviour self.now.machine.now).start ∷ []) }
         ensures pairs { IfOk result (λ trail. trail.pairs ≡ []) }
     {
-        let mut states = Members::new(self.alloc);
+        let mut states = Members::new(self.alloc, self.seed);
         states.insert(self.machine.start())?;
         let mut state_origins = Vec::new(self.alloc);
         state_origins.push(StateOrigin {
@@ -47,7 +49,7 @@ impl<'m, M: Machine> Finder<'m, M> {
         Ok(Trail {
             states,
             state_origins,
-            pairs: Members::new(self.alloc),
+            pairs: Members::new(self.alloc, self.seed),
             pair_origins: Vec::new(self.alloc),
         })
     }

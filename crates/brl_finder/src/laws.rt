@@ -11,11 +11,11 @@ ghost use Rattle.brl_pairs.specs.declared.step.Pair.{Pair as PairValue};
 ghost use Rattle.brl_finder.specs.Answers.{AreTwoPaths, HasTwoEndsReached, IsLimit};
 ghost use Rattle.brl_finder.specs.Deciding.{IsClashOf, HasClash, HasLeadOfStep, HasTwoRuns, HoldsSteps, ListsJustReached, all_pairs, reached_sets};
 ghost use Rattle.brl_finder.specs.Reached.{AtMost, Reached, ReachedPair, SamePair, SameState};
-ghost use Rattle.brl_table.specs.Text.{is_text};
-ghost use Rattle.brl_table.specs.Translation.{IsClash, translation};
+ghost use Rattle.brl_rules.specs.Text.{is_text};
+ghost use Rattle.brl_rules.specs.Translation.{IsClash, translation};
 
 use brl_pairs::Machine;
-use brl_table::Table;
+use brl_rules::Table;
 
 /// Each reached pair of every machine has two runs from the start, which differ however they
 /// continue, and whose cells differ by the lead.

@@ -3,9 +3,9 @@ use Rattle.std.proofs.Common.{ℕ, zero, suc, ◌<◌, ◌≡◌, List, [], ◌�
 use Rattle.std.specs.Prelude.{slice_get}
 use Rattle.std.proofs.lemmas.Option.{slice_get-get_or}
 use Rattle.std.proofs.lemmas.List.{length-map, take-map, drop-map}
-use Rattle.brl_table.specs.declared.rule.Info.{Info}
-use Rattle.brl_table.specs.Infos.{AreInfosOf, first_info}
-use Rattle.brl_table.specs.TableView.{TableView, info_of}
+use Rattle.brl_rules.specs.declared.rule.Info.{Info}
+use Rattle.brl_rules.specs.Infos.{AreInfosOf, first_info}
+use Rattle.brl_rules.specs.TableView.{TableView, info_of}
 
 pub first_same : (x y : Option Info) (xs ys : List (Option Info)) → x ∷ xs ≡ y ∷ ys → x ≡ y
 first_same x y xs ys h = cc

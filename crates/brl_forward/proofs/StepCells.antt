@@ -1,8 +1,8 @@
 -- The cells of the steps, joined, are the translation.
 use Rattle.std.proofs.Common.{ℕ, zero, suc, ◌+◌, ◌≡◌, Bool, true, false, List, [], ◌∷◌, ◌++◌, length, cond, nat_lt, refl, ap}
 use Rattle.std.specs.List.{flat_map}
-use Rattle.brl_table.specs.TableView.{TableView}
-use Rattle.brl_table.specs.Translation.{chosen_at, translation_from, translation}
+use Rattle.brl_rules.specs.TableView.{TableView}
+use Rattle.brl_rules.specs.Translation.{chosen_at, translation_from, translation}
 use Rattle.brl_forward.specs.declared.steps.Traced.{Traced}
 use Rattle.brl_forward.specs.Trace.{step_at, steps_from, trace_of}
 

@@ -1,11 +1,11 @@
 -- The loop over the steps of a text.
 use Rattle.std.proofs.Common.{ℕ, zero, suc, ◌+◌, ◌<◌, ◌≤◌, ◌≡◌, Bool, true, false, List, [], ◌∷◌, ◌++◌, length, drop, refl, arith, cond, nat_lt, sym, ◌∙◌, ap, append_assoc, append-nil, length-drop}
 use Rattle.std.proofs.lemmas.Bool.Decides.{nat_tests}
-use Rattle.brl_table.specs.TableView.{TableView}
-use Rattle.brl_table.specs.declared.class.Class.{Class}
-use Rattle.brl_table.specs.Text.{classes_before}
-use Rattle.brl_table.specs.Choice.{chosen}
-use Rattle.brl_table.specs.Translation.{chosen_at}
+use Rattle.brl_rules.specs.TableView.{TableView}
+use Rattle.brl_rules.specs.declared.class.Class.{Class}
+use Rattle.brl_rules.specs.Text.{classes_before}
+use Rattle.brl_rules.specs.Choice.{chosen}
+use Rattle.brl_rules.specs.Translation.{chosen_at}
 use Rattle.brl_forward.specs.declared.steps.Traced.{Traced}
 use Rattle.brl_forward.specs.Trace.{step_at, steps_from, trace_of}
 

@@ -1,14 +1,14 @@
 -- One iteration of the loop over the rules of a text, over plain lists.
 use Rattle.std.proofs.Common.{ℕ, ◌≡◌, Bool, Some, List, [], ◌++◌, take, drop, ap, sym, ◌∙◌, append_assoc, append-nil}
 use Rattle.std.specs.Option.{option_map_or}
-use Rattle.brl_table.specs.declared.context.Context.{Context}
-use Rattle.brl_table.specs.TableView.{TableView}
-use Rattle.brl_table.specs.declared.rule.Info.{Info}
-use Rattle.brl_table.specs.Infos.{first_info}
-use Rattle.brl_table.specs.Text.{context_behind_all, is_in_run}
-use Rattle.brl_table.specs.Choice.{chosen}
-use Rattle.brl_table.specs.Indicators.{indicators, signs_before, signs_of}
-use Rattle.brl_table.specs.Rest.{translation_of_rest, TakesOneRule}
+use Rattle.brl_rules.specs.declared.context.Context.{Context}
+use Rattle.brl_rules.specs.TableView.{TableView}
+use Rattle.brl_rules.specs.declared.rule.Info.{Info}
+use Rattle.brl_rules.specs.Infos.{first_info}
+use Rattle.brl_rules.specs.Text.{context_behind_all, is_in_run}
+use Rattle.brl_rules.specs.Choice.{chosen}
+use Rattle.brl_rules.specs.Indicators.{indicators, signs_before, signs_of}
+use Rattle.brl_rules.specs.Rest.{translation_of_rest, TakesOneRule}
 
 -- the indicators before a rest, given the info of its first character
 pub signs-known : (t : TableView) (here : Context) (run : Bool) (rest : List ℕ) (info : Info) → first_info t rest ≡ Some info → run ≡ is_in_run t here.classes rest

@@ -1,8 +1,8 @@
 -- The faults of texts. They are this project's own choice: the manual says nothing of a character
 -- without a definition.
 use Rattle.std.specs.Prelude.{ℕ, not, position, List, Option, Some, None, ◌≡◌}
-use Rattle.brl_table.specs.TableView.{TableView}
-use Rattle.brl_table.specs.Text.{is_defined}
+use Rattle.brl_rules.specs.TableView.{TableView}
+use Rattle.brl_rules.specs.Text.{is_defined}
 use Rattle.brl_forward.specs.declared.fault.ConfirmFault.{ConfirmFault}
 use Rattle.brl_forward.specs.declared.fault.ConfirmFault.TheVariants as confirm
 use Rattle.brl_forward.specs.declared.fault.ForwardFault.{ForwardFault}

@@ -1,11 +1,11 @@
 -- The steps of a translation, by position in a whole text.
 use Rattle.std.specs.Prelude.{ℕ, zero, suc, ◌+◌, List, [], ◌∷◌, ◌++◌, length, drop, nat_lt, if◌then◌else◌}
-use Rattle.brl_table.specs.declared.context.Context.{Context}
-use Rattle.brl_table.specs.TableView.{TableView}
-use Rattle.brl_table.specs.Text.{context_at}
-use Rattle.brl_table.specs.Indicators.{indicators}
-use Rattle.brl_table.specs.Choice.{chosen}
-use Rattle.brl_table.specs.Translation.{chosen_at}
+use Rattle.brl_rules.specs.declared.context.Context.{Context}
+use Rattle.brl_rules.specs.TableView.{TableView}
+use Rattle.brl_rules.specs.Text.{context_at}
+use Rattle.brl_rules.specs.Indicators.{indicators}
+use Rattle.brl_rules.specs.Choice.{chosen}
+use Rattle.brl_rules.specs.Translation.{chosen_at}
 use Rattle.brl_forward.specs.declared.steps.Traced.{Traced}
 
 -- the step at the start of `rest`, which begins at position i: the chosen rule and its indicators

@@ -1,14 +1,14 @@
 //! Clashes: two different texts that are translated to the same cells.
 ghost use Rattle.std.specs.Prelude.{◌≡◌, ◌↔◌, IsTrue, ℕ, List, IfOk, IfErr, IfSome, IfNone};
-ghost use Rattle.brl_table.specs.Text.{is_text};
-ghost use Rattle.brl_table.specs.Translation.{IsClash, translation};
+ghost use Rattle.brl_rules.specs.Text.{is_text};
+ghost use Rattle.brl_rules.specs.Translation.{IsClash, translation};
 ghost use Rattle.brl_failure.specs.Failure.{IfFault};
 ghost use Rattle.brl_forward.specs.Faults.{IsFaultOfSide, IsFaultOfTwo};
 
 use crate::{ConfirmFault, Side, translate};
 use brl_cells::Cell;
 use brl_failure::Failure;
-use brl_table::Table;
+use brl_rules::Table;
 use std::alloc::Global;
 use std::marker::Model;
 

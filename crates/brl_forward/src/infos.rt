@@ -1,13 +1,13 @@
 //! The infos of the characters of a text.
 ghost use Rattle.std.specs.Prelude.{◌≡◌, IsTrue, IfOk, IfErr};
-ghost use Rattle.brl_table.specs.Infos.{AreInfosOf};
-ghost use Rattle.brl_table.specs.Text.{is_text};
+ghost use Rattle.brl_rules.specs.Infos.{AreInfosOf};
+ghost use Rattle.brl_rules.specs.Text.{is_text};
 ghost use Rattle.brl_failure.specs.Failure.{IfFault};
 ghost use Rattle.brl_forward.specs.Faults.{IsFaultOf};
 
 use crate::ForwardFault;
 use brl_failure::Failure;
-use brl_table::{Info, Table};
+use brl_rules::{Info, Table};
 use std::alloc::Global;
 
 /// The infos of the characters of a text, in order. `UnknownChar` where the table doesn't define

@@ -1,11 +1,11 @@
 //! Laws of the definitions, for proofs in the crates above. A function's contract is the law.
 ghost use Rattle.std.specs.Prelude.{◌≡◌, ◌+◌, ◌<◌, ◌∷◌, ℕ, List, length};
 ghost use Rattle.std.specs.List.{flat_map};
-ghost use Rattle.brl_table.specs.TableView.{TableView};
-ghost use Rattle.brl_table.specs.Translation.{chosen_at, translation};
+ghost use Rattle.brl_rules.specs.TableView.{TableView};
+ghost use Rattle.brl_rules.specs.Translation.{chosen_at, translation};
 ghost use Rattle.brl_forward.specs.Trace.{step_at, steps_from, trace_of};
 
-use brl_table::choice_laws;
+use brl_rules::choice_laws;
 
 /// A trace, one step at a time. From a position on it is the step there, then the steps from after
 /// the step's last character on. The cells of all steps, joined, are the translation.

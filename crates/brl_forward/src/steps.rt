@@ -1,7 +1,7 @@
 //! The steps of a text's translation.
 ghost use Rattle.std.specs.Prelude.{◌≡◌, ◌<◌, ◌≤◌, length, IsTrue, IfOk, IfErr, Some};
-ghost use Rattle.brl_table.specs.Infos.{AreInfosOf, first_info};
-ghost use Rattle.brl_table.specs.Text.{is_text};
+ghost use Rattle.brl_rules.specs.Infos.{AreInfosOf, first_info};
+ghost use Rattle.brl_rules.specs.Text.{is_text};
 ghost use Rattle.brl_failure.specs.Failure.{IfFault};
 ghost use Rattle.brl_forward.specs.Faults.{IsFaultOf};
 ghost use Rattle.brl_forward.specs.Trace.{step_before, trace_of};
@@ -10,7 +10,7 @@ use crate::ForwardFault;
 use crate::infos::infos_of;
 use brl_cells::Cells;
 use brl_failure::Failure;
-use brl_table::{Context, Info, Table, choice_laws, translation_laws};
+use brl_rules::{Context, Info, Table, choice_laws, translation_laws};
 use std::alloc::{AllocError, Global};
 
 /// A step of a translation: one rule and the indicators before it.

@@ -1,8 +1,8 @@
 //! The translation of a text to cells.
 ghost use Rattle.std.specs.Prelude.{◌≡◌, IsTrue, IfOk, IfErr};
-ghost use Rattle.brl_table.specs.Infos.{AreInfosOf};
-ghost use Rattle.brl_table.specs.Text.{is_text};
-ghost use Rattle.brl_table.specs.Translation.{translation};
+ghost use Rattle.brl_rules.specs.Infos.{AreInfosOf};
+ghost use Rattle.brl_rules.specs.Text.{is_text};
+ghost use Rattle.brl_rules.specs.Translation.{translation};
 ghost use Rattle.brl_failure.specs.Failure.{IfFault};
 ghost use Rattle.brl_forward.specs.Faults.{IsFaultOf};
 
@@ -10,7 +10,7 @@ use crate::ForwardFault;
 use crate::infos::infos_of;
 use brl_cells::Cell;
 use brl_failure::Failure;
-use brl_table::{Context, Info, Table, translation_laws};
+use brl_rules::{Context, Info, Table, translation_laws};
 use std::alloc::{AllocError, Global};
 
 /// The translation of a text to cells. `UnknownChar` where the table doesn't define a character.

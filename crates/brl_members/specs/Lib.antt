@@ -1,2 +1,3 @@
 pub mod Members
 pub mod Same
+pub mod Seed

@@ -4,7 +4,7 @@ ghost use Rattle.std.specs.List.{IsDistinct, list_any};
 ghost use Rattle.std.specs.Option.{option_copied};
 ghost use Rattle.brl_members.specs.Members.{HaveOneNumber, IsMember};
 
-use crate::Key;
+use crate::{Key, Seed};
 use indexmap::IndexSet;
 use std::alloc::{AllocError, Global};
 use std::marker::Model;
@@ -12,7 +12,7 @@ use std::marker::Model;
 /// A list without repeats that finds its members by hash. A contract sees the list.
 #[derive(Drop)]
 pub struct Members<T: Key> {
-    items: IndexSet<T>,
+    items: IndexSet<T, Seed>,
 }
 
 impl<T: Key> Model for Members<T> {
@@ -24,12 +24,12 @@ impl<T: Key> Model for Members<T> {
 }
 
 impl<T: Key> Members<T> {
-    /// No members. No memory is allocated.
-    pub fn new(alloc: Global) -> Members<T>
+    /// No members, which will be found by hashes of this seed. No memory is allocated.
+    pub fn new(alloc: Global, seed: Seed) -> Members<T>
         ensures { result ≡ [] }
     {
         Members {
-            items: IndexSet::new(alloc),
+            items: IndexSet::with_hasher(alloc, seed),
         }
     }
 

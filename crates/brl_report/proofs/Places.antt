@@ -5,9 +5,9 @@ use Rattle.std.specs.Borrow.{Bor}
 use Rattle.std.proofs.lemmas.Map.Entries.{All-lookup}
 use Rattle.std.proofs.lemmas.Option.{slice_get_past}
 use Rattle.brl_report.specs.Rows.{place_of_rule, place_text}
-use Rattle.brl_table.specs.Limits.{IsEntry, IsTable}
-use Rattle.brl_table.specs.TableView.{TableView, info_of}
-use Rattle.brl_table.specs.declared.rule.Info.{Info}
+use Rattle.brl_rules.specs.Limits.{IsEntry, IsTable}
+use Rattle.brl_rules.specs.TableView.{TableView, info_of}
+use Rattle.brl_rules.specs.declared.rule.Info.{Info}
 
 pub file-of_info : (t : TableView) → IsTable t → (c : ℕ) (info : Info) → info_of t c ≡ Some info → info.file < length t.files
 file-of_info t is c info e =

@@ -15,9 +15,9 @@ use Rattle.std.proofs.lemmas.List.{length-map, map-append, take_more}
 use Rattle.std.proofs.lemmas.List.Sorted.{answers_always, ranks_by}
 use Rattle.std.proofs.lemmas.List.Sums.{fold-append, sum_by-cons, sum_by_push}
 use denote.Param.Members.{Mut}
-use Rattle.brl_reading.specs.Reading.{dedup, insert_new}
-use Rattle.brl_reading.specs.Survey.{faulty_line_view}
-use Rattle.brl_reading.specs.declared.faulty.FaultyLine.{FaultyLine}
+use Rattle.brl_table.specs.Reading.{dedup, insert_new}
+use Rattle.brl_table.specs.Survey.{faulty_line_view}
+use Rattle.brl_table.specs.declared.faulty.FaultyLine.{FaultyLine}
 use Rattle.brl_report.specs.Survey.{AreCounts, CountView, count_among, count_cmp, opcodes_of, tally}
 
 -- ---- Whether an opcode came before

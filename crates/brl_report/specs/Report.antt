@@ -6,7 +6,7 @@ use Rattle.brl_report.specs.Rows.{step_lines}
 use Rattle.brl_report.specs.Steps.{common_prefix, report_steps}
 use Rattle.brl_report.specs.declared.row.CellColumns.TheVariants.{Joined}
 use Rattle.brl_report.specs.declared.steps.ReportStep.{ReportStep}
-use Rattle.brl_table.specs.TableView.{TableView}
+use Rattle.brl_rules.specs.TableView.{TableView}
 
 -- the lines of the texts of a clash and of their cells
 abbrev pub header : List ℕ → List ℕ → List ℕ → List ℕ

@@ -11,9 +11,9 @@ use Rattle.brl_report.specs.declared.row.CellColumns.{CellColumns}
 use Rattle.brl_report.specs.declared.row.CellColumns.TheVariants.{Joined, Parted}
 use Rattle.brl_report.specs.declared.row.Widths.{Widths}
 use Rattle.brl_report.specs.declared.steps.ReportStep.{ReportStep}
-use Rattle.brl_table.specs.TableView.{TableView, info_of}
-use Rattle.brl_table.specs.declared.rule.Info.{Info}
-use Rattle.brl_table.specs.declared.rule.Rule.{Rule}
+use Rattle.brl_rules.specs.TableView.{TableView, info_of}
+use Rattle.brl_rules.specs.declared.rule.Info.{Info}
+use Rattle.brl_rules.specs.declared.rule.Rule.{Rule}
 
 -- the columns of a line: a step's characters as they are spelled, the cells of its indicators if
 -- they have a column of their own, its cells in dots, and the location of its rule

@@ -6,7 +6,7 @@ use Rattle.std.specs.Cmp.Lexicographic.{pointwise}
 use Rattle.brl_forward.specs.Trace.{trace_of}
 use Rattle.brl_forward.specs.declared.steps.Traced.{Traced}
 use Rattle.brl_report.specs.declared.steps.ReportStep.{ReportStep}
-use Rattle.brl_table.specs.TableView.{TableView}
+use Rattle.brl_rules.specs.TableView.{TableView}
 
 -- a step with the characters that it reads
 abbrev pub report_step : List ℕ → Traced → ReportStep

@@ -7,9 +7,9 @@ use Rattle.std.specs.List.Sorted.{IsPermutation, IsSorted}
 use Rattle.std.specs.Ordering.{flip_args, nat_cmp, on, then_cmp}
 use Rattle.std.specs.Str.{bytes_eq}
 use Rattle.std.specs.declared.cmp.Ordering.{Ordering}
-use Rattle.brl_reading.specs.FaultText.{fault_text}
-use Rattle.brl_reading.specs.Reading.{dedup}
-use Rattle.brl_reading.specs.Survey.{FaultyLineView}
+use Rattle.brl_table.specs.FaultText.{fault_text}
+use Rattle.brl_table.specs.Reading.{dedup}
+use Rattle.brl_table.specs.Survey.{FaultyLineView}
 
 -- ---- How many lines there are of each opcode
 

@@ -7,7 +7,7 @@ use Rattle.std.specs.Global.{Vec}
 use Rattle.std.specs.Option.{unwrap_or}
 use Rattle.std.specs.Ordering.{nat_cmp}
 use Rattle.std.specs.Str.{bytes_eq}
-use Rattle.brl_reading.specs.Reading.{dedup}
+use Rattle.brl_table.specs.Reading.{dedup}
 
 -- the names are these opcodes, each once, and the numbers are how often each is among them
 pub record IsTally (opcodes : List (List ℕ)) (names : Vec (Bor (List ℕ))) (numbers : BTreeMap (Bor (List ℕ)) ℕ) : Type 0 where

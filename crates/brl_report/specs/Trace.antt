@@ -4,8 +4,8 @@ use Rattle.brl_report.specs.Header.{cells_line, text_line}
 use Rattle.brl_report.specs.Rows.{step_lines}
 use Rattle.brl_report.specs.Steps.{report_steps}
 use Rattle.brl_report.specs.declared.row.CellColumns.TheVariants.{Parted}
-use Rattle.brl_table.specs.TableView.{TableView}
-use Rattle.brl_table.specs.Translation.{translation}
+use Rattle.brl_rules.specs.TableView.{TableView}
+use Rattle.brl_rules.specs.Translation.{translation}
 
 -- the text, its cells, and the steps of its translation, with the cells of the indicators apart
 abbrev pub trace_text : TableView → List ℕ → List ℕ

@@ -1,13 +1,13 @@
 //! The report of a clash.
 ghost use Rattle.std.specs.Prelude.{◌≡◌, IfOk, string_bytes};
 ghost use Rattle.brl_report.specs.Report.{header, report_text};
-ghost use Rattle.brl_table.specs.Translation.{IsClash};
+ghost use Rattle.brl_rules.specs.Translation.{IsClash};
 
 use crate::header::{push_cells_line, push_text_line};
 use crate::side::push_sides;
 use crate::steps::report_steps;
 use brl_forward::Clash;
-use brl_table::Table;
+use brl_rules::Table;
 use std::alloc::{AllocError, Global};
 
 /// The lines of the texts and cells of a clash.
@@ -21,14 +21,17 @@ fn header(alloc: Global, clash: &Clash) -> Result<String, AllocError>
     Ok(text)
 }
 
+/// Why there is no report: memory runs out.
+pub type ReportFault = AllocError;
+
 /// The report of a clash of a table: its two texts and their cells, and then for each text the
 /// steps of its translation from the first one that the other text doesn't have. A step's line has
 /// its characters, its cells, and the file and line of its rule, or of the line that gave the
 /// character its cells.
 ///
 /// Every line ends with LF. Texts are spelled as in an operand of a table. The first two columns of
-/// a side are as wide as their widest entries. `AllocError` if memory runs out.
-pub fn report(alloc: Global, table: &Table, clash: &Clash) -> Result<String, AllocError>
+/// a side are as wide as their widest entries.
+pub fn report(alloc: Global, table: &Table, clash: &Clash) -> Result<String, ReportFault>
     requires { IsClash table.now clash.now.left clash.now.right clash.now.cells }
     ensures { IfOk result (λ text. string_bytes text ≡ report_text table.now clash.now.left clash.now.right clash.now.cells) }
 {

@@ -1,11 +1,11 @@
 //! How many faulty lines there are of each opcode.
 ghost use Rattle.std.specs.Prelude.{◌≡◌, ℕ, List, IfOk, count_by, map};
 ghost use Rattle.std.specs.Str.{bytes_eq};
-ghost use Rattle.brl_reading.specs.Survey.{faulty_line_view};
+ghost use Rattle.brl_table.specs.Survey.{faulty_line_view};
 ghost use Rattle.brl_report.specs.Survey.{AreCounts, count_cmp, opcodes_of};
 ghost use Rattle.brl_report.specs.Tally.{IsTally};
 
-use brl_reading::FaultyLine;
+use brl_table::FaultyLine;
 use std::alloc::{AllocError, Global};
 use std::cmp::Ordering;
 use std::collections::BTreeMap;

@@ -14,6 +14,6 @@ mod steps;
 mod survey;
 mod trace;
 
-pub use clash_report::report;
+pub use clash_report::{ReportFault, report};
 pub use survey::survey_report;
 pub use trace::trace_report;

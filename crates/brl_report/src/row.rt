@@ -17,7 +17,7 @@ ghost use Rattle.brl_report.specs.Rows.{
 use crate::steps::ReportStep;
 use brl_cells::{Cell, write_dots};
 use brl_lines::spell_chars;
-use brl_table::Table;
+use brl_rules::Table;
 use std::alloc::{AllocError, Global};
 use std::marker::Model;
 use unicode_width::UnicodeWidthStr;

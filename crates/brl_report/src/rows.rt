@@ -4,7 +4,7 @@ ghost use Rattle.brl_report.specs.Rows.{row_lines, row_of, step_lines};
 
 use crate::row::{CellColumns, Row, widths_of};
 use crate::steps::ReportStep;
-use brl_table::Table;
+use brl_rules::Table;
 use std::alloc::{AllocError, Global};
 
 /// The rows of steps.

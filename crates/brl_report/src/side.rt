@@ -5,7 +5,7 @@ ghost use Rattle.brl_report.specs.Report.{report_of, side};
 use crate::row::CellColumns;
 use crate::rows::push_steps;
 use crate::steps::{ReportStep, common_prefix};
-use brl_table::Table;
+use brl_rules::Table;
 use std::alloc::{AllocError, Global};
 
 /// Appends a side of this name to a text.

@@ -3,12 +3,12 @@ ghost use Rattle.std.specs.Prelude.{◌≡◌, IsTrue, IfErr, IfOk, take, drop};
 ghost use Rattle.brl_failure.specs.Failure.{IfFault};
 ghost use Rattle.brl_forward.specs.Faults.{IsFaultOf};
 ghost use Rattle.brl_report.specs.Steps.{are_same, common_prefix, report_step, report_steps};
-ghost use Rattle.brl_table.specs.Text.{is_text};
+ghost use Rattle.brl_rules.specs.Text.{is_text};
 
 use brl_cells::Chars;
 use brl_failure::Failure;
 use brl_forward::{ForwardFault, Traced, trace};
-use brl_table::Table;
+use brl_rules::Table;
 use std::alloc::{AllocError, Global};
 
 /// A step of a translation, with the characters that it reads.

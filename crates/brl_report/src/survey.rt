@@ -1,10 +1,10 @@
 //! The report of a survey.
 ghost use Rattle.std.specs.Prelude.{◌≡◌, ◌++◌, IfOk, OnOk, flat_map, map, string_bytes};
-ghost use Rattle.brl_reading.specs.Survey.{faulty_line_view};
+ghost use Rattle.brl_table.specs.Survey.{faulty_line_view};
 ghost use Rattle.brl_report.specs.Survey.{IsSurveyText, count_line, fault_line};
 
 use crate::counts::{OpcodeCount, counts_of};
-use brl_reading::FaultyLine;
+use brl_table::FaultyLine;
 use std::alloc::{AllocError, Global};
 
 /// The report of a survey of a number of lines, in which these faulty ones were found: the fault of

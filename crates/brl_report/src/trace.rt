@@ -3,7 +3,7 @@ ghost use Rattle.std.specs.Prelude.{◌≡◌, IfErr, IfOk, IsTrue, string_bytes
 ghost use Rattle.brl_failure.specs.Failure.{IfFault};
 ghost use Rattle.brl_forward.specs.Faults.{IsFaultOf};
 ghost use Rattle.brl_report.specs.Trace.{trace_text};
-ghost use Rattle.brl_table.specs.Text.{is_text};
+ghost use Rattle.brl_rules.specs.Text.{is_text};
 
 use crate::header::{push_cells_line, push_text_line};
 use crate::row::CellColumns;
@@ -11,7 +11,7 @@ use crate::rows::push_steps;
 use crate::steps::traced_steps;
 use brl_failure::Failure;
 use brl_forward::{ForwardFault, translate};
-use brl_table::Table;
+use brl_rules::Table;
 use std::alloc::Global;
 
 /// The report of a text: the text, its cells, and the steps of its translation. A step's line has

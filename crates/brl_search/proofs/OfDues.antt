@@ -7,7 +7,7 @@ use Rattle.brl_states.specs.declared.dues_state.DuesState.{DuesState}
 use Rattle.brl_pairs.specs.Runs.{IsListed}
 use Rattle.brl_pairs.specs.declared.step.Step.{Step}
 use Rattle.brl_finder.specs.Deciding.{HoldsSteps}
-use Rattle.brl_table.specs.TableView.{TableView}
+use Rattle.brl_rules.specs.TableView.{TableView}
 
 pub lists_hold : (t : TableView) → Contains (all_states t) first_state
     → ((s : DuesState) (x : Step DuesState) → Contains (all_states t) s → IsListed (dues_steps t s) x → Contains (all_states t) x.next)

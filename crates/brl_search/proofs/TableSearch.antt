@@ -12,9 +12,9 @@ use Rattle.brl_finder.specs.declared.outcome.Outcome.{Outcome}
 use Rattle.brl_search.specs.declared.table_search.Found.{Found}
 use Rattle.brl_search.specs.declared.table_search.Found.TheVariants.{Certified, Clashing, Limit}
 use Rattle.brl_states.specs.declared.cert.Cert.TheVariants.{Dues, Window, Word}
-use Rattle.brl_table.specs.TableView.{TableView}
-use Rattle.brl_table.specs.Text.{is_text}
-use Rattle.brl_table.specs.Translation.{IsClash, IsUnambiguous, translation}
+use Rattle.brl_rules.specs.TableView.{TableView}
+use Rattle.brl_rules.specs.Text.{is_text}
+use Rattle.brl_rules.specs.Translation.{IsClash, IsUnambiguous, translation}
 use Rattle.brl_without.specs.Itself.{unambiguous-none, without-none}
 use Rattle.brl_without.specs.LeftOut.{uses_none}
 use Rattle.brl_without.specs.Tables.{IsClashWithout, IsUnambiguousWithout}

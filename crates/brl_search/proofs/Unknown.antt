@@ -7,9 +7,9 @@ use Rattle.brl_forward.specs.Faults.{IsFaultOfTwo}
 use Rattle.brl_forward.specs.declared.fault.Side.TheVariants.{Left, Right}
 use Rattle.brl_forward.specs.declared.fault.ConfirmFault.{ConfirmFault}
 use Rattle.brl_forward.specs.declared.fault.ConfirmFault.TheVariants.{UnknownChar}
-use Rattle.brl_table.specs.TableView.{TableView}
-use Rattle.brl_table.specs.Text.{is_defined}
-use Rattle.brl_table.specs.Translation.{IsClash}
+use Rattle.brl_rules.specs.TableView.{TableView}
+use Rattle.brl_rules.specs.Text.{is_defined}
+use Rattle.brl_rules.specs.Translation.{IsClash}
 
 passes_at : (q : ℕ → Bool) (xs : List ℕ) (k : ℕ) (d : ℕ) → list_all q xs ≡ true → k < length xs → q (get_or xs k d) ≡ true
 passes_at q [] k d all less = absurd (omega arith)

@@ -9,8 +9,8 @@ use Rattle.brl_pairs.specs.Runs.{Behaviour}
 use Rattle.brl_finder.specs.Answers.{AreInOrder, HasReachedPairs, HasReachedStates, IsWithin}
 use Rattle.brl_finder.specs.Reached.{AtLeast, AtMost, Reached, ReachedPair, SamePair, SameState}
 use Rattle.brl_search.specs.Searched.{State, machine_of}
-use Rattle.brl_table.specs.TableView.{TableView}
-use Rattle.brl_table.specs.Translation.{IsClash, IsUnambiguous}
+use Rattle.brl_rules.specs.TableView.{TableView}
+use Rattle.brl_rules.specs.Translation.{IsClash, IsUnambiguous}
 use Rattle.brl_without.specs.Tables.{IsClashWithout, IsUnambiguousWithout}
 use Rattle.brl_without.specs.Without.{without}
 use Rattle.brl_search.specs.declared.table_search.Found.{Found}

@@ -6,7 +6,7 @@ use Rattle.brl_states.specs.declared.cert.Cert.{Cert as Certificate}
 use Rattle.brl_dues.specs.Steps.{dues_machine}
 use Rattle.brl_states.specs.declared.dues_state.DuesState.{DuesState}
 use Rattle.brl_pairs.specs.Runs.{Behaviour}
-use Rattle.brl_table.specs.TableView.{TableView}
+use Rattle.brl_rules.specs.TableView.{TableView}
 
 -- its states
 abbrev pub State : Type 0

@@ -11,12 +11,12 @@ ghost use Rattle.brl_pairs.specs.Pairs.{IsClosed};
 ghost use Rattle.brl_pairs.specs.declared.step.Pair.{Pair as PairValue};
 ghost use Rattle.brl_finder.specs.Deciding.{ListsJustReached, all_pairs, reached_sets};
 ghost use Rattle.brl_finder.specs.Reached.{AtMost, Reached, ReachedPair, SamePair, SameState};
-ghost use Rattle.brl_table.specs.TableView.{TableView};
-ghost use Rattle.brl_table.specs.Translation.{IsUnambiguous};
+ghost use Rattle.brl_rules.specs.TableView.{TableView};
+ghost use Rattle.brl_rules.specs.Translation.{IsUnambiguous};
 
 use brl_dues::{Dues, exact_law, finite_law};
 use brl_finder::{just_reached_law, reached_closed_law};
-use brl_table::Table;
+use brl_rules::Table;
 use std::alloc::Global;
 
 /// What the dues machine reaches comes from finite lists that depend on the table alone: states,

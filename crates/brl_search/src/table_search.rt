@@ -3,17 +3,18 @@ ghost use Rattle.std.specs.Prelude.{◌≡◌, ◌≤◌, ℕ, IfOk};
 ghost use Rattle.brl_finder.specs.Answers.{IsOutcome};
 ghost use Rattle.brl_search.specs.Found.{IfCertified, IsFound, IsFoundWithout};
 ghost use Rattle.brl_search.specs.Searched.{machine_of};
-ghost use Rattle.brl_table.specs.Translation.{IsClash, IsUnambiguous, translation};
+ghost use Rattle.brl_rules.specs.Translation.{IsClash, IsUnambiguous, translation};
 ghost use Rattle.brl_without.specs.Tables.{IsUnambiguousWithout};
 ghost use Rattle.brl_without.specs.Without.{without};
 
+use crate::seed_of;
 use brl_dues::{Dues, exact_law};
 use brl_failure::Failure;
 use brl_finder::{Outcome, same_cells_law, search_machine_watched};
 use brl_forward::{Clash, confirm};
 use brl_pairs::numbered_sets_law;
+use brl_rules::Table;
 use brl_states::{Cert, DuesState};
-use brl_table::Table;
 use brl_watch::{Unwatched, Watch};
 use brl_without::{LeftOut, Without, exact_without_law, unambiguous_without_law};
 use std::alloc::{AllocError, Global};
@@ -30,11 +31,15 @@ pub enum Found {
     Limit { states: u64, pairs: u64 },
 }
 
+/// Why a search finds nothing: memory runs out.
+pub type SearchFault = AllocError;
+
 /// Searches a table for a certificate or a clash, over its dues machine. The certificate is of
-/// version 3. Its states are in the order in which they are found, breadth first, the start first.
+/// version 3. Its states are in the order in which they are found: the start first, and then each as
+/// the next state of a step of an earlier one.
 ///
 /// `Limit` as soon as the states found, or the pairs found, are more than `limit`.
-pub fn search(alloc: Global, table: &Table, limit: u64) -> Result<Found, AllocError>
+pub fn search(alloc: Global, table: &Table, limit: u64) -> Result<Found, SearchFault>
     requires { limit ≤ 4294967295 }
     ensures found { IfOk result (IsFound table.now limit) }
     ensures unambiguous { IfOk result (IfCertified (λ _. IsUnambiguous table.now)) }
@@ -58,7 +63,8 @@ pub fn search_without<W: Watch>(
 {
     let dues = Dues::new(alloc, table);
     let machine = Without::new(&dues, left_out);
-    let outcome = search_machine_watched(alloc, &machine, limit, watch)?;
+    let seed = seed_of(alloc, table)?;
+    let outcome = search_machine_watched(alloc, &machine, limit, seed, watch)?;
     found_without(alloc, table, left_out, outcome)
 }
 

@@ -2,7 +2,7 @@
 use Rattle.std.specs.Prelude.{List}
 use Rattle.brl_states.specs.declared.due.Due.{Due}
 use Rattle.brl_states.specs.declared.dues_state.DuesState.{DuesState}
-use Rattle.brl_table.specs.declared.context.Context.{Context}
+use Rattle.brl_rules.specs.declared.context.Context.{Context}
 
 -- what a state knows of the characters before
 abbrev pub context_of : DuesState → Context

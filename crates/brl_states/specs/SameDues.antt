@@ -5,9 +5,9 @@ use Rattle.std.proofs.lemmas.Bool.Decides.{Decides-eqb, same_from_decides}
 use Rattle.std.specs.Bool.{Decides}
 use Rattle.std.specs.Cmp.{IsEquivalence, first_so, second_so}
 use Rattle.std.specs.Cmp.Lexicographic.{nat_list_eq_equiv, pointwise, same_text}
-use Rattle.brl_table.specs.declared.place.Cond.{Cond}
-use Rattle.brl_table.specs.declared.place.Cond.TheVariants.{Any, Meets, Avoids}
-use Rattle.brl_table.specs.contracts.place.CondPartialEq.TheImpl as conds
+use Rattle.brl_rules.specs.declared.place.Cond.{Cond}
+use Rattle.brl_rules.specs.declared.place.Cond.TheVariants.{Any, Meets, Avoids}
+use Rattle.brl_rules.specs.contracts.place.CondPartialEq.TheImpl as conds
 use Rattle.brl_states.specs.declared.due.Due.{Due}
 use Rattle.brl_states.specs.declared.due.Due.TheVariants.{Need, Bar}
 use Rattle.brl_states.specs.contracts.due.DuePartialEq.TheImpl as dues

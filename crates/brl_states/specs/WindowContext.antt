@@ -1,7 +1,7 @@
 -- What a state of the window machine knows of the characters before a position of a text.
 use Rattle.std.specs.Prelude.{ℕ, Bool, List}
 use Rattle.brl_states.specs.declared.window_state.WindowState.{WindowState}
-use Rattle.brl_table.specs.declared.context.Context.{Context}
+use Rattle.brl_rules.specs.declared.context.Context.{Context}
 
 -- what a state knows of the characters before
 abbrev pub context_of : WindowState → Context

@@ -3,7 +3,7 @@ ghost use Rattle.std.specs.Prelude.{◌≡◌, IfOk};
 ghost use Rattle.brl_states.specs.Order.{cond_cmp, cond_kind, cond_set, due_cmp};
 
 use brl_cells::Chars;
-use brl_table::Cond;
+use brl_rules::Cond;
 use std::alloc::{AllocError, Global};
 use std::cmp::Ordering;
 

@@ -4,7 +4,7 @@ ghost use Rattle.brl_states.specs.DuesContext.{context_of, state_in};
 
 use crate::DueList;
 use brl_members::Key;
-use brl_table::{Class, Context};
+use brl_rules::{Class, Context};
 use std::alloc::{AllocError, Global};
 
 /// What a run of a dues machine knows at a position of a text.

@@ -4,7 +4,7 @@ ghost use Rattle.brl_states.specs.WindowContext.{context_of, state_in};
 
 use brl_cells::Chars;
 use brl_members::Key;
-use brl_table::{Class, Context};
+use brl_rules::{Class, Context};
 use std::alloc::{AllocError, Global};
 
 /// What a run of a window machine knows at a position of a text.

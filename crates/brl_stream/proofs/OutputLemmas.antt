@@ -7,9 +7,9 @@ use Rattle.std.specs.Prelude.{option_map, position, IsErrAnd}
 use Rattle.std.specs.List.{list_all, position_from}
 use Rattle.std.specs.Fmt.{option_append}
 use Rattle.std.specs.Str.{chars, is_utf8, IsUtf8}
-use Rattle.brl_table.specs.TableView.{TableView}
-use Rattle.brl_table.specs.Text.{is_text, is_defined}
-use Rattle.brl_table.specs.Translation.{translation}
+use Rattle.brl_rules.specs.TableView.{TableView}
+use Rattle.brl_rules.specs.Text.{is_text, is_defined}
+use Rattle.brl_rules.specs.Translation.{translation}
 use Rattle.brl_forward.specs.Faults.{first_unknown, IsFaultOf}
 use Rattle.brl_forward.specs.declared.fault.ForwardFault.{ForwardFault}
 use Rattle.brl_forward.specs.declared.fault.ForwardFault.TheVariants as forward

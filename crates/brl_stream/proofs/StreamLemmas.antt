@@ -6,7 +6,7 @@ use Rattle.std.proofs.Math.Seq.{drop-append_seam, take-length}
 use Rattle.std.specs.Prelude.{map, IsErrAnd}
 use Rattle.std.specs.List.{concat}
 use Rattle.std.specs.Io.KnownBytes.{Appends, Consumes, IsAtEnd}
-use Rattle.brl_table.specs.TableView.{TableView}
+use Rattle.brl_rules.specs.TableView.{TableView}
 use Rattle.brl_stream.specs.InputLines.{without_return}
 use Rattle.brl_stream.specs.Output.{LineResult, at_line, decided, verdict_within, verdict, output_of, HasWritten, HasWrittenBefore, ReadsFew, DecidesBefore}
 use Rattle.brl_stream.specs.InputBuffer.{BufferView, IsRest, IsReadOn, IsWithin, HasNoFeed, HasLine, HasLongLine, IsOpen, IsTail, ReadsNext}

@@ -5,8 +5,8 @@ use Rattle.std.specs.Fmt.{option_append}
 use Rattle.std.specs.Char.{encode_utf8}
 use Rattle.std.specs.Str.{chars, is_utf8}
 use Rattle.std.specs.Io.KnownBytes.{Appends, Consumes}
-use Rattle.brl_table.specs.TableView.{TableView}
-use Rattle.brl_table.specs.Translation.{translation}
+use Rattle.brl_rules.specs.TableView.{TableView}
+use Rattle.brl_rules.specs.Translation.{translation}
 use Rattle.brl_forward.specs.Faults.{first_unknown}
 use Rattle.brl_cells.specs.Marks.{ascii_mark, unicode_mark}
 use Rattle.brl_stream.specs.InputLines.{lines_of, ended, unended, without_return}

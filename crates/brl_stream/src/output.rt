@@ -10,7 +10,7 @@ use crate::{Form, LineFault, Output, StreamFault};
 use brl_cells::{Cell, to_ascii, to_unicode};
 use brl_failure::{Failure, raise};
 use brl_forward::{ForwardFault, translate};
-use brl_table::Table;
+use brl_rules::Table;
 use std::alloc::{AllocError, Global};
 use std::str;
 

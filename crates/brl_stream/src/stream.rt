@@ -9,7 +9,7 @@ use crate::line::{Next, next_line};
 use crate::output::{Scratch, write_line};
 use crate::{Form, Input, LineFault, Output, StreamFault};
 use brl_failure::Failure;
-use brl_table::Table;
+use brl_rules::Table;
 use std::alloc::Global;
 
 /// Translates an input line by line. For each line it writes the marks in the form, then a line

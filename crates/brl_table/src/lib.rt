@@ -1,26 +1,27 @@
-//! Braille tables. A `Table` has characters with their classes (`Info`, `Class`), rules with their
-//! places (`Rule`, `Place`) and the cells of indicators (`Sign`); it is made from `TableParts`. At a
-//! position of a text it gives the indicators, by the `Context` there, and the chosen rule
-//! (`Choice`). The specs define forward translation, on which every crate above builds.
+//! Reads tables: from the lines of a table's files to the table that they define. A line is read to
+//! an `Item` by itself; a `TableBuilder` adds up the items in a first pass, and resolves the
+//! characters of rules and lists in a second one. `survey` lists the lines that have a fault by
+//! themselves. A table with its rules, classes and indicators is defined in `brl_rules`, and all of
+//! that crate is reached from here.
 #![tactic(auto)]
 
-mod choice;
-mod class;
-mod context;
-mod laws;
-mod parts;
-mod place;
-mod rule;
-mod signs;
-mod table;
-mod tree;
+mod builder;
+mod characters;
+mod faulty;
+mod files;
+mod item;
+mod line;
+mod no_table;
+mod opcode;
+mod operand;
+mod table_fault;
 
-pub use choice::Choice;
-pub use class::Class;
-pub use context::Context;
-pub use laws::{choice_laws, rank_law, signs_law, translation_laws, unambiguous_law};
-pub use parts::TableParts;
-pub use place::{Cond, Place, holds};
-pub use rule::{Info, Notice, Rule};
-pub use signs::{Sign, Signs};
-pub use table::Table;
+pub use brl_rules::{
+    Choice, Class, Cond, Context, Info, Notice, Place, Rule, Sign, Signs, Table, TableParts,
+    choice_laws, holds, rank_law, signs_law, translation_laws, unambiguous_law,
+};
+pub use builder::read_table;
+pub use faulty::{FaultyLine, survey, survey_laws};
+pub use files::{load_table, one_table_law, table_of_loaded};
+pub use no_table::NoTable;
+pub use table_fault::{TableFault, TableFaultKind};

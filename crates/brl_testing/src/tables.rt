@@ -1,8 +1,8 @@
 //! Tables whose lines are the field of a row.
 use crate::{lend, lines_of};
 use brl_lines::{Loaded, MapSource, load};
-use brl_reading::table_of_loaded;
-use brl_table::Table;
+use brl_rules::Table;
+use brl_table::table_of_loaded;
 use std::alloc::Global;
 use std::collections::BTreeMap;
 use std::test::Fail;

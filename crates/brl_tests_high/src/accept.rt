@@ -61,6 +61,7 @@ K8 Truncated line 2|uplow Aa 1;begcapsword 6-6|BRLCERT 2;
 A1 NoStart|uplow Aa 1;capsletter 6;begcapsword 6-6;endcapsword 6-3|BRLCERT 3;end 0 0;
 1 states, 0 pairs|begcapsword 6-6|BRLCERT 3;state 1 0 0;end 1 0;
 1 states, 0 pairs|endcapsword 6-6|BRLCERT 2;state 1 0;end 1 0;
+4 states, 0 pairs|letter a 1;punctuation , 2-1;endcapsword 2|BRLCERT 3;state 1 0 0;state 2 0 0;state 8 0 0;state 8 0 1;end 4 0;
 ";
 
 /// The start alone.

@@ -1,6 +1,6 @@
 //! Calls in which memory may run out, each made again in the same process.
 use crate::dues::{STEPS_OF_WORDS, WORDS, are_copied, are_steps};
-use brl_table::Table;
+use brl_rules::Table;
 use brl_testing::{mark, with_table};
 use std::alloc::Global;
 use std::rt::Files;

@@ -6,11 +6,12 @@ ghost use Rattle.brl_tests_high.specs.Certificates.{lines, three_states, three_l
 use crate::lines::bytes_of;
 use brl_cells::{Cell, Cells};
 use brl_cert::{Cert, CertFault, CertFaultKind, read_cert, write_cert};
-use brl_edges::{Body, Members};
+use brl_edges::{Body, Members, Seed};
 use brl_failure::Failure;
 use brl_pairs::Pair;
 use brl_testing::cut;
 use std::alloc::Global;
+use std::hash::{BuildHasher, Hash};
 use std::test::Fail;
 
 /// Worked certificates and faults, computed from the definitions.
@@ -193,6 +194,21 @@ fn takes_leads_of_1024_cells(rt: HostRuntime) -> Result<(), Fail> {
     Ok(())
 }
 
+/// The hash of a value by the seed of `abc`.
+fn hash_of<T: Hash + Drop>(value: T) -> u64 {
+    Seed::of(b"abc").hash_one(value)
+}
+
+/// Values from a plain program: the digest of `abc` is the standard's, and the polynomial is worked
+/// out with whole numbers.
+#[test]
+fn hashes_are_those_of_a_plain_program(rt: HostRuntime) {
+    let seed = Seed::of(b"abc");
+    assert!(rt; seed.start == 0xeacf_018f_bf16_78ba && seed.point == 0x2322_ae5d_de40_4141);
+    assert!(rt; hash_of(5u32) == 1_767_753_508_547_642_600);
+    assert!(rt; hash_of((3u8, 'A')) == 464_245_224_770_684_860);
+}
+
 /// Whether 3 and 5 are added once each.
 fn adds(members: &mut Members<u32>) -> Result<bool, Fail> {
     Ok(members.insert(3)? && !members.insert(3)? && members.insert(5)?)
@@ -212,7 +228,7 @@ fn are_3_and_5(members: &Members<u32>) -> bool {
 
 /// The members 3 and 5.
 fn states(alloc: Global) -> Result<Members<u32>, Fail> {
-    let mut states = Members::new(alloc);
+    let mut states = Members::new(alloc, Seed::of(b"members"));
     if adds(&mut states)? {
         Ok(states)
     } else {
@@ -222,7 +238,7 @@ fn states(alloc: Global) -> Result<Members<u32>, Fail> {
 
 /// One pair, from the first of two states to the second.
 fn pairs(alloc: Global) -> Result<Members<Pair<u32>>, Fail> {
-    let mut pairs = Members::new(alloc);
+    let mut pairs = Members::new(alloc, Seed::of(b"members"));
     let lead = Cells::from_slice(alloc, &[Cell(1)])?;
     let pair = Pair {
         ahead: 0,

@@ -2,10 +2,10 @@
 use brl_cells::write_dots;
 use brl_cert::{Cert, write_cert};
 use brl_dues::Dues;
-use brl_edges::{Body, Members};
+use brl_edges::{Body, Members, Seed};
 use brl_pairs::{Machine, Step};
+use brl_rules::Table;
 use brl_states::DuesState;
-use brl_table::Table;
 use brl_testing::table_of;
 use std::alloc::{AllocError, Global};
 use std::fmt::Write;
@@ -56,11 +56,23 @@ const STEPS_OF_WORD_CAPITALS: &str = "\
 4|b|12|24 0 0
 ";
 
+/// A rule of two capitals: one of them that stands alone isn't the first of two, so its step owes the
+/// rule no bar.
+const TWO_CAPITALS: &str = "uppercase A 2; always AA 3; begcapsword 12";
+
+/// The steps of its start.
+const STEPS_OF_TWO_CAPITALS: &str = "\
+0|AA|12-3|40 0 1
+1|A|12-2|40 0 0 n+32 b41*
+1|A|2|40 0 0 n-32
+";
+
 /// A certificate that lists this state alone.
 fn cert_of(alloc: Global, state: DuesState) -> Result<Cert, Fail> {
-    let mut states = Members::new(alloc);
+    let seed = Seed::of(b"members");
+    let mut states = Members::new(alloc, seed);
     states.insert(state)?;
-    match Body::from_parts(states, Members::new(alloc)) {
+    match Body::from_parts(states, Members::new(alloc, seed)) {
         Some(body) => Ok(Cert::Word(body)),
         None => Err(Fail::from("one state makes no body")),
     }
@@ -129,6 +141,7 @@ fn steps_of_starts(rt: HostRuntime) -> Result<(), Fail> {
     assert!(rt; has_steps(alloc, WORDS, STEPS_OF_WORDS)?);
     assert!(rt; has_steps(alloc, CAPITALS, STEPS_OF_CAPITALS)?);
     assert!(rt; has_steps(alloc, WORD_CAPITALS, STEPS_OF_WORD_CAPITALS)?);
+    assert!(rt; has_steps(alloc, TWO_CAPITALS, STEPS_OF_TWO_CAPITALS)?);
     assert!(rt; has_steps(alloc, "", "")?);
     Ok(())
 }

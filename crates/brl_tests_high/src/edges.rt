@@ -1,6 +1,6 @@
 //! Steps and pairs by numbers.
 use brl_cells::{Cell, Cells};
-use brl_edges::{Edge, Members, is_missing, is_there, is_there_swapped, places_before};
+use brl_edges::{Edge, Members, Seed, is_missing, is_there, is_there_swapped, places_before};
 use brl_pairs::Pair;
 use brl_testing::lend;
 use std::alloc::Global;
@@ -46,7 +46,7 @@ fn pair(alloc: Global, ahead: u32, behind: u32) -> Pair<u32> {
 
 /// The pair of the states 0 and 1.
 fn one_pair(alloc: Global) -> Result<Members<Pair<u32>>, Fail> {
-    let mut pairs = Members::new(alloc);
+    let mut pairs = Members::new(alloc, Seed::of(b"members"));
     pairs.insert(pair(alloc, 0, 1))?;
     Ok(pairs)
 }

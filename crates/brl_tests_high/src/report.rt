@@ -1,9 +1,9 @@
 //! Worked reports.
 use brl_forward::confirm;
 use brl_lines::{Line, Loaded};
-use brl_reading::survey;
 use brl_report::{report, survey_report, trace_report};
-use brl_table::Table;
+use brl_rules::Table;
+use brl_table::survey;
 use brl_testing::{agree, chars, cut, lend, lines_of, loaded_of, table_of, with_table};
 use std::alloc::Global;
 use std::test::Fail;

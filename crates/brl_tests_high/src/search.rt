@@ -3,12 +3,12 @@ use crate::lines::bytes_of;
 use brl_cert::{Cert, write_cert};
 use brl_checker::accept;
 use brl_dues::Dues;
-use brl_edges::Body;
+use brl_edges::{Body, Seed};
 use brl_finder::{Outcome, Progress, Search};
 use brl_forward::{Clash, confirm};
-use brl_search::{Found, search};
+use brl_rules::Table;
+use brl_search::{Found, search, seed_of};
 use brl_states::DuesState;
-use brl_table::Table;
 use brl_testing::{cut, table_of};
 use std::alloc::{AllocError, Global};
 use std::test::Fail;
@@ -30,6 +30,7 @@ clashing|uplow Aa 1
 certified|uplow Aa 1; uplow Bb 12; uplow Cc 14; capsletter 6; begcapsword 6-6; endcapsword 6-3
 clashing|uplow Aa 1; uplow Bb 12; uplow Cc 14; capsletter 6; begcapsword 6-6
 clashing|uplow Aa 1; capsletter 6-1; begcapsword 6
+certified: 0 pairs, 8 states|lowercase x 1; uppercase A 2; midword AA 3; begcapsword 12
 ";
 
 /// What `confirm` says of a clash's texts, in a word.
@@ -191,10 +192,11 @@ fn told_of_progress(alloc: Global, progress: &Progress<Dues>) -> Result<String, 
 fn progress_after(
     alloc: Global,
     dues: &Dues,
+    seed: Seed,
     first: u64,
     second: u64,
 ) -> Result<String, AllocError> {
-    let start = Search::start(alloc, dues, 1_000_000)?;
+    let start = Search::start(alloc, dues, 1_000_000, seed)?;
     let progress = next_slice(next_slice(start, first)?, second)?;
     told_of_progress(alloc, &progress)
 }
@@ -208,7 +210,8 @@ fn comes_to(
     second: u64,
     want: &str,
 ) -> Result<bool, AllocError> {
-    let told = progress_after(alloc, &Dues::new(alloc, table), first, second)?;
+    let seed = seed_of(alloc, table)?;
+    let told = progress_after(alloc, &Dues::new(alloc, table), seed, first, second)?;
     Ok(told.as_str().starts_with(want))
 }
 

@@ -2,7 +2,7 @@
 use crate::window::{ONE_LETTER, has_steps_of_one_letter};
 use brl_cells::{Cell, Cells, Chars};
 use brl_pairs::Machine;
-use brl_table::Table;
+use brl_rules::Table;
 use brl_testing::{mark, with_table};
 use brl_window::Window;
 use std::alloc::{AllocError, Global};

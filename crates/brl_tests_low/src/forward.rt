@@ -3,7 +3,7 @@
 use brl_cells::write_dots;
 use brl_failure::Failure;
 use brl_forward::{Clash, ConfirmFault, ForwardFault, Side, Traced, confirm, trace, translate};
-use brl_table::Table;
+use brl_rules::Table;
 use brl_testing::{agree, chars, cut, with_table};
 use std::alloc::Global;
 use std::test::Fail;

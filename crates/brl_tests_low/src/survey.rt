@@ -1,6 +1,6 @@
 //! The lines of tables that have a fault by themselves, in rows whose fields are cut at `|`.
 use brl_lines::{Line, Loaded};
-use brl_reading::{FaultyLine, survey};
+use brl_table::{FaultyLine, survey};
 use brl_testing::{agree, cut, lend, lines_of, loaded_of};
 use std::alloc::Global;
 use std::fmt::Write;

@@ -3,13 +3,13 @@ mod choices;
 mod parts;
 
 ghost use Rattle.std.specs.Prelude.{◌≡◌, ◌∷◌, [], codes};
-ghost use Rattle.brl_table.specs.Examples.{contracted, whole_marked, numbers_with_points, two_cells};
-ghost use Rattle.brl_table.specs.Translation.{translation, IsClash};
+ghost use Rattle.brl_rules.specs.Examples.{contracted, whole_marked, numbers_with_points, two_cells};
+ghost use Rattle.brl_rules.specs.Translation.{translation, IsClash};
 
 use brl_cells::{Cell, write_dots};
 use brl_lines::{Line, Loaded, Token};
-use brl_reading::read_table;
-use brl_table::{Info, Notice, Rule, Sign, Table};
+use brl_rules::{Info, Notice, Rule, Sign, Table};
+use brl_table::read_table;
 use brl_testing::{agree, cut, lend, loaded_of};
 use std::alloc::Global;
 use std::fmt::Write;

@@ -1,8 +1,8 @@
 //! Worked steps of window machines.
 use brl_cells::{Cell, Chars};
 use brl_pairs::{Machine, Step};
+use brl_rules::{Class, Table};
 use brl_states::WindowState;
-use brl_table::{Class, Table};
 use brl_testing::{agree, cut, with_table};
 use brl_window::Window;
 use std::alloc::{AllocError, Global};

@@ -4,7 +4,7 @@ use crate::files::Sealed;
 use brl_failure::Failure;
 use brl_lines::{MapSource, SourceFault};
 use brl_testing::{Broken, Closed, Listener, Refusing, cut, lines_of, one_file};
-use brl_tool::{Failed, Files, Watched, run};
+use brl_tool::{Failed, Files, Watched, prefixes_law, run};
 use std::alloc::Global;
 use std::collections::BTreeMap;
 use std::io::ErrorKind;
@@ -82,6 +82,7 @@ pub fn outcome_of<F: Files>(
     let mut reader = input;
     let mut out = Watched::new(Vec::new(alloc));
     let mut err = Listener::new(Vec::new(alloc));
+    prefixes_law(files);
     let status = run(
         alloc,
         words.as_slice(),

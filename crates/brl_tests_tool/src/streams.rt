@@ -4,7 +4,7 @@ ghost use Rattle.std.specs.Prelude.{◌≢◌};
 ghost use Rattle.brl_stream.specs.Output.{EndsBy};
 
 use brl_failure::Failure;
-use brl_table::Table;
+use brl_rules::Table;
 use brl_testing::{Full, Slow, cut, table_of};
 use brl_tool::{Form, Input, LineFault, Output, StreamFault, Watched, translate_lines};
 use std::alloc::Global;

@@ -7,12 +7,12 @@ use Rattle.brl_states.specs.declared.cert.Cert.{Cert}
 use Rattle.brl_lines.specs.Answer.{AllStay, MayGive}
 use Rattle.brl_lines.specs.Lines.{Answers}
 use Rattle.brl_lines.specs.Outcome.{AreGiven}
-use Rattle.brl_reading.specs.Files.{IsTableOf, IsTableOfFiles}
+use Rattle.brl_table.specs.Files.{IsTableOf, IsTableOfFiles}
 use Rattle.brl_search.specs.Searched.{State, certificate_of}
 use Rattle.brl_accept.specs.Judging.{IsAcceptedWithout, counted}
 use Rattle.brl_edges.specs.Body.{BodyView}
 use Rattle.brl_verdicts.proofs.OfFiles.{of_files}
-use Rattle.brl_table.specs.TableView.{TableView}
+use Rattle.brl_rules.specs.TableView.{TableView}
 use Rattle.brl_answers.proofs.DeliveryLemmas.{none_changes}
 use Rattle.brl_commands.specs.Comparing.{ComparesByFile, IsComparison}
 use Rattle.brl_answers.specs.Answers.{ByLeftOut, told_without}

@@ -1,6 +1,6 @@
 -- What a run of the program comes to. The project's own choice. `failed` says that the output failed
 -- in that run; `before` and `after` what the files may give, and `same` which paths may name one file.
-use Rattle.std.specs.Prelude.{ℕ, ◌≡◌, ◌<◌, ◌⊎◌, List, ◌++◌, map, Option, Result, Ok, Err, codes}
+use Rattle.std.specs.Prelude.{ℕ, ◌≡◌, ◌<◌, ◌⊎◌, List, ◌++◌, false, map, Option, Result, Ok, Err, codes}
 use Rattle.std.specs.Option.{option_copied}
 use Rattle.std.specs.Io.KnownBytes.{Appends}
 use Rattle.std.specs.Str.{chars}
@@ -8,17 +8,18 @@ use Rattle.brl_accept.specs.Judging.{IsAcceptedWithout, counted}
 use Rattle.brl_cert.specs.Reading.{spelling}
 use Rattle.brl_edges.specs.Body.{BodyView}
 use Rattle.brl_lines.specs.Answer.{AllStay, MayGive}
-use Rattle.brl_reading.specs.Files.{IsTableOf}
+use Rattle.brl_table.specs.Files.{IsTableOf}
 use Rattle.brl_report.specs.Report.{report_text}
 use Rattle.brl_search.specs.Searched.{State, certificate_of}
 use Rattle.brl_cells.specs.declared.form.Form.{Form}
-use Rattle.brl_table.specs.TableView.{TableView}
-use Rattle.brl_table.specs.Translation.{IsClash}
+use Rattle.brl_rules.specs.TableView.{TableView}
+use Rattle.brl_rules.specs.Translation.{IsClash}
 use Rattle.brl_commands.specs.Comparing.{ComparesByFile}
 use Rattle.brl_answers.specs.Answers.{ByLeftOut, Says, UnlessMemory, spelled_by, told_without}
 use Rattle.brl_verdicts.specs.Verdicts.{Judges, SearchesByFile, accepted_line, certified_line}
 use Rattle.brl_answers.specs.Delivery.{IsDelivered}
 use Rattle.brl_answers.specs.Files.{GivesAlso, MayBeSame, OthersStay}
+use Rattle.brl_answers.specs.Prefixes.{begins_as_answer}
 use Rattle.brl_answers.specs.Status.{code_of, status_of}
 use Rattle.brl_commands.specs.Streams.{TranslatesByFile}
 use Rattle.brl_commands.specs.Surveying.{SurveysByFiles}
@@ -27,6 +28,8 @@ use Rattle.brl_answers.specs.declared.answer.Answer.{Answer}
 use Rattle.brl_answers.specs.declared.run_fault.RunFault.{RunFault}
 use Rattle.brl_answers.specs.declared.status.Status.{Status}
 use Rattle.brl_answers.specs.declared.status.Status.TheVariants.{Done, Faulty}
+use Rattle.brl_words.specs.Replies.{IsUseFault}
+use Rattle.brl_words.specs.declared.command.NoTask.{NoTask}
 use Rattle.brl_words.specs.declared.command.Task.{Task}
 use Rattle.brl_words.specs.declared.command.Task.TheVariants as task
 use Rattle.brl_without.specs.Tables.{IsUnambiguousWithout}
@@ -86,21 +89,22 @@ Performs (task.Check path cert option) before after same input failed old new st
 Performs (task.Search path out limit option) before after same input failed old new status =
     SearchesBy before after same path.now out.now limit (option_copied option) failed old new status
 
--- the answer with help or the version
+-- The answer with help or the version. It begins as no answer of a command does.
 abbrev pub IsHelp : Result Answer RunFault → Type 0
-IsHelp outcome = UnlessMemory (λ answer. (text : List ℕ) × Says Done text answer) outcome
+IsHelp outcome = UnlessMemory (λ answer. (text : List ℕ) × (begins_as_answer text ≡ false) × Says Done text answer) outcome
 
 -- words that ask for no work were answered: with help or the version, or as a use fault
-abbrev pub Replies : MayGive → MayGive → Type 0 → Option (List ℕ) → Option (List ℕ) → Status → Type 0
-Replies before after failed old new status =
-    IsDelivered IsHelp before after failed old new status
-    ⊎ (AllStay before after × (new ≡ old) × (status ≡ Faulty))
+abbrev pub Replies : NoTask → MayGive → MayGive → Type 0 → Option (List ℕ) → Option (List ℕ) → Status → Type 0
+Replies reply before after failed old new status =
+    (¬ IsUseFault reply × IsDelivered IsHelp before after failed old new status)
+    ⊎ (IsUseFault reply × AllStay before after × (new ≡ old) × (status ≡ Faulty))
 
 -- what a run did: the task that its words ask for, or it answered words that ask for none
 abbrev pub Runs : MayGive → MayGive → MayBeSame → Option (List ℕ) → Type 0 → Option (List ℕ) → Option (List ℕ) → ℕ → Type 0
 Runs before after same input failed old new code =
     (status : Status) × (code ≡ code_of status)
-    × (((asked : Task) × Performs asked before after same input failed old new status) ⊎ Replies before after failed old new status)
+    × (((asked : Task) × Performs asked before after same input failed old new status)
+    ⊎ ((reply : NoTask) × Replies reply before after failed old new status))
 
 -- 0, 1, 2 or 3
 abbrev pub IsStatus : ℕ → Type 0

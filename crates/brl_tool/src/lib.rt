@@ -4,10 +4,12 @@
 //! an answer, in `brl_answers`.
 #![tactic(auto)]
 
+mod laws;
 mod program;
 
-pub use brl_answers::Files;
+pub use brl_answers::{Files, SinkFault};
 pub use brl_stream::{
     Failed, Form, Input, LineFault, Output, StreamFault, Watched, translate_lines,
 };
+pub use laws::prefixes_law;
 pub use program::run;

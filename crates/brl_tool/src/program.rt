@@ -7,7 +7,7 @@ ghost use Rattle.brl_tool.specs.Running.{ChecksBy, ComparesBy, IsHelp, IsStatus,
 ghost use Rattle.brl_answers.specs.declared.status.Status.TheVariants as statuses;
 
 use crate::{Files, Form, Input, Output};
-use brl_answers::{Answer, RunFault, Status, deliver};
+use brl_answers::{Answer, RunFault, Status, deliver, set_apart};
 use brl_commands::{compare_by_file, survey_by_files, trace_by_file, translate_by_file};
 use brl_verdicts::{check_by_words, search_by_words};
 use brl_watch::Watch;
@@ -221,7 +221,7 @@ fn answer_words<F: Files, O: Output, E: Write>(
     out: &mut O,
     err: &mut E,
 ) -> Status
-    ensures { Replies (F.gives files.old) (F.gives files.new) (O.failures out.new ≢ O.failures out.old)
+    ensures { Replies reply.now (F.gives files.old) (F.gives files.new) (O.failures out.new ≢ O.failures out.old)
         (O.contents out.old) (O.contents out.new) result }
 {
     if reply.is_fault() {
@@ -231,10 +231,11 @@ fn answer_words<F: Files, O: Output, E: Write>(
     deliver(alloc, help(alloc, reply), files, out, err)
 }
 
-/// The answer with help or the version.
+/// The answer with help or the version. No contract says what `clap` prints, so that its text begins
+/// as no answer of a command does is tested as the program runs.
 fn help(alloc: Global, reply: &NoTask) -> Result<Answer, RunFault>
     ensures { IsHelp result }
 {
     let text = format!(in alloc; "{reply}")?;
-    Ok(Answer::new(Status::Done, text))
+    Ok(Answer::new(Status::Done, set_apart(alloc, text)?))
 }

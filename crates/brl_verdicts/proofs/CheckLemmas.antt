@@ -11,9 +11,9 @@ use Rattle.brl_failure.specs.declared.failure.Failure.TheVariants as failures
 use Rattle.brl_lines.specs.Answer.{AllStay, Answer as FileAnswer, MayGive, GivesOneAnswer, Holds, Large, Missing, Unreadable, most_file_bytes}
 use Rattle.brl_lines.specs.declared.fault.LoadFaultKind.{LoadFaultKind}
 use Rattle.brl_lines.specs.declared.fault.LoadFaultKind.TheVariants as kinds
-use Rattle.brl_reading.specs.Files.{IsTableOf}
-use Rattle.brl_reading.specs.declared.no_table.NoTable.TheVariants as no_table
-use Rattle.brl_table.specs.TableView.{TableView}
+use Rattle.brl_table.specs.Files.{IsTableOf}
+use Rattle.brl_table.specs.declared.no_table.NoTable.TheVariants as no_table
+use Rattle.brl_rules.specs.TableView.{TableView}
 use Rattle.brl_answers.specs.Answers.{UnlessMemory}
 use Rattle.brl_verdicts.specs.Verdicts.{AcceptsGood, Checks, IsAcceptance, IsFaultOfFile, IsRefusal, LacksBytes, Tells}
 use Rattle.brl_answers.specs.declared.answer.Answer.{Answer}

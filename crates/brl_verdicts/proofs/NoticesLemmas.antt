@@ -4,8 +4,8 @@ use Rattle.std.specs.Fmt.{decimal}
 use Rattle.std.specs.Prelude.{slice_get}
 use Rattle.std.specs.Str.{encode_utf8_all}
 use Rattle.brl_lines.specs.Spelling.{text_spelling}
-use Rattle.brl_table.specs.TableView.{TableView}
-use Rattle.brl_table.specs.declared.rule.Notice.{Notice}
+use Rattle.brl_rules.specs.TableView.{TableView}
+use Rattle.brl_rules.specs.declared.rule.Notice.{Notice}
 use Rattle.brl_verdicts.specs.Notices.{notice_line}
 
 pub notice_pieces : (t : TableView) (notice : Notice) (spelled file line : List ℕ)

@@ -1,8 +1,8 @@
 -- The table of some files.
 use Rattle.std.proofs.Common.{ℕ, List}
 use Rattle.brl_lines.specs.Answer.{MayGive}
-use Rattle.brl_reading.specs.Files.{IsTableOf, IsTableOfFiles}
-use Rattle.brl_table.specs.TableView.{TableView}
+use Rattle.brl_table.specs.Files.{IsTableOf, IsTableOfFiles}
+use Rattle.brl_rules.specs.TableView.{TableView}
 
 -- the table of some files is that of its root
 pub of_files : (gives : MayGive) (path : List ℕ) (paths : List (List ℕ)) (t : TableView) → IsTableOfFiles gives path paths t → IsTableOf gives path t

@@ -7,7 +7,7 @@ use Rattle.brl_report.specs.Report.{report_text}
 use Rattle.brl_search.specs.Found.{IsFoundWithout}
 use Rattle.brl_search.specs.declared.table_search.Found.{Found}
 use Rattle.brl_search.specs.declared.table_search.Found.TheVariants as found
-use Rattle.brl_table.specs.TableView.{TableView}
+use Rattle.brl_rules.specs.TableView.{TableView}
 use Rattle.brl_answers.specs.Answers.{Says}
 use Rattle.brl_verdicts.specs.Verdicts.{IsCertificateAt, IsVerdict}
 use Rattle.brl_answers.specs.declared.answer.Answer.{Answer}

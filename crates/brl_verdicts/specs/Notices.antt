@@ -3,8 +3,8 @@ use Rattle.std.specs.Prelude.{ℕ, List, [], ◌∷◌, ◌++◌, codes, flat_ma
 use Rattle.std.specs.Str.{encode_utf8_all}
 use Rattle.brl_lines.specs.Spelling.{text_spelling}
 use Rattle.brl_report.specs.Rows.{place_text}
-use Rattle.brl_table.specs.TableView.{TableView}
-use Rattle.brl_table.specs.declared.rule.Notice.{Notice}
+use Rattle.brl_rules.specs.TableView.{TableView}
+use Rattle.brl_rules.specs.declared.rule.Notice.{Notice}
 
 -- the line of a notice: a line of the table defines this character again
 abbrev pub notice_line : TableView → Notice → List ℕ

@@ -15,11 +15,11 @@ use Rattle.brl_lines.specs.Outcome.{AreLinesOfFiles}
 use Rattle.brl_lines.specs.Tokens.{LineView}
 use Rattle.brl_lines.specs.declared.fault.LoadFaultKind.{LoadFaultKind}
 use Rattle.brl_lines.specs.declared.fault.LoadFaultKind.TheVariants as kinds
-use Rattle.brl_reading.specs.Files.{IsTableOf, IsTableOfFiles}
+use Rattle.brl_table.specs.Files.{IsTableOf, IsTableOfFiles}
 use Rattle.brl_report.specs.Report.{report_text}
 use Rattle.brl_finder.specs.Answers.{IsCertified, IsLimit}
 use Rattle.brl_search.specs.Searched.{State, certificate_of, machine_of}
-use Rattle.brl_table.specs.TableView.{TableView}
+use Rattle.brl_rules.specs.TableView.{TableView}
 use Rattle.brl_answers.specs.Files.{MayBeSame}
 use Rattle.brl_answers.specs.Status.{of_no_table}
 use Rattle.brl_answers.specs.declared.answer.Answer.{Answer}

@@ -3,7 +3,7 @@ ghost use Rattle.std.specs.Prelude.{◌≡◌, ◌<◌, IfOk, length, string_byt
 ghost use Rattle.brl_verdicts.specs.Notices.{notice_line, notice_lines};
 
 use brl_lines::spell_chars;
-use brl_table::{Notice, Table};
+use brl_rules::{Notice, Table};
 use std::alloc::{AllocError, Global};
 use std::io::Write;
 

@@ -15,11 +15,11 @@ use brl_answers::{
 use brl_cert::write_cert;
 use brl_failure::raise;
 use brl_lines::{Loaded, load};
-use brl_reading::{NoTable, table_of_loaded};
 use brl_report::report;
+use brl_rules::Table;
 use brl_search::{Found, search_without};
 use brl_states::Cert;
-use brl_table::Table;
+use brl_table::{NoTable, table_of_loaded};
 use brl_watch::Watch;
 use brl_without::{LeftOut, check_defined};
 use std::alloc::{AllocError, Global};

@@ -5,14 +5,14 @@ use Rattle.std.proofs.lemmas.Bool.{eqb-true}
 use Rattle.std.specs.List.{AllByRecursion}
 use Rattle.std.specs.Map.{lookup, keys_of}
 use Rattle.std.specs.Cmp.{first_so, second_so}
-use Rattle.brl_table.specs.declared.rule.Rule.{Rule}
-use Rattle.brl_table.specs.declared.rule.Info.{Info}
-use Rattle.brl_table.specs.declared.context.Context.{Context}
-use Rattle.brl_table.specs.Choice.{chosen}
-use Rattle.brl_table.specs.Indicators.{indicators, signs_before}
-use Rattle.brl_table.specs.Rest.{translation_of_rest}
-use Rattle.brl_table.specs.TableView.{TableView}
-use Rattle.brl_table.specs.Text.{context_behind_all, is_defined, is_text}
+use Rattle.brl_rules.specs.declared.rule.Rule.{Rule}
+use Rattle.brl_rules.specs.declared.rule.Info.{Info}
+use Rattle.brl_rules.specs.declared.context.Context.{Context}
+use Rattle.brl_rules.specs.Choice.{chosen}
+use Rattle.brl_rules.specs.Indicators.{indicators, signs_before}
+use Rattle.brl_rules.specs.Rest.{translation_of_rest}
+use Rattle.brl_rules.specs.TableView.{TableView}
+use Rattle.brl_rules.specs.Text.{context_behind_all, is_defined, is_text}
 use Rattle.brl_pairs.specs.declared.step.Step.{Step}
 use Rattle.brl_pairs.specs.Runs.{Accepts, IsPath, reads_of, cells_of}
 use Rattle.brl_states.specs.declared.window_state.WindowState.{WindowState}

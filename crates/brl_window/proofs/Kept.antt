@@ -6,17 +6,17 @@ use Rattle.std.specs.Bool.{⊤}
 use Rattle.std.specs.List.{AllByRecursion, IsDistinct}
 use Rattle.std.specs.Map.{keys_of}
 use Rattle.std.proofs.lemmas.Bool.{eq-eqb}
-use Rattle.brl_table.specs.declared.class.Class.{Class}
-use Rattle.brl_table.specs.declared.context.Context.{Context}
-use Rattle.brl_table.specs.declared.rule.Info.{Info}
-use Rattle.brl_table.specs.declared.rule.Rule.{Rule}
-use Rattle.brl_table.specs.declared.signs.Sign.{Sign}
-use Rattle.brl_table.specs.Choice.{chosen}
-use Rattle.brl_table.specs.Limits.{IsRule, IsTable}
-use Rattle.brl_table.specs.Rest.{translation_of_rest, TakesOneRule}
-use Rattle.brl_table.specs.TableView.{TableView, sign_cells}
-use Rattle.brl_table.specs.Text.{at_start}
-use Rattle.brl_table.specs.Translation.{translation}
+use Rattle.brl_rules.specs.declared.class.Class.{Class}
+use Rattle.brl_rules.specs.declared.context.Context.{Context}
+use Rattle.brl_rules.specs.declared.rule.Info.{Info}
+use Rattle.brl_rules.specs.declared.rule.Rule.{Rule}
+use Rattle.brl_rules.specs.declared.signs.Sign.{Sign}
+use Rattle.brl_rules.specs.Choice.{chosen}
+use Rattle.brl_rules.specs.Limits.{IsRule, IsTable}
+use Rattle.brl_rules.specs.Rest.{translation_of_rest, TakesOneRule}
+use Rattle.brl_rules.specs.TableView.{TableView, sign_cells}
+use Rattle.brl_rules.specs.Text.{at_start}
+use Rattle.brl_rules.specs.Translation.{translation}
 use Rattle.brl_window.specs.Windows.{longest}
 
 -- 1 to n

@@ -3,12 +3,12 @@
 use Rattle.std.proofs.Common.{ℕ, zero, suc, ◌+◌, ◌<◌, ◌≤◌, ◌≡◌, Bool, true, false, ◌&&◌, List, [], ◌∷◌, ◌++◌, length, map, refl, arith, cond, nat_eq, sym, ◌∙◌, ap}
 use Rattle.std.specs.List.{starts_with, slice_get, AllByRecursion}
 use Rattle.std.specs.Option.{option_map_or}
-use Rattle.brl_table.specs.declared.class.Class.{Class}
-use Rattle.brl_table.specs.declared.rule.Rule.{Rule}
-use Rattle.brl_table.specs.TableView.{TableView}
-use Rattle.brl_table.specs.Places.{space, holds, before_of, after_of}
-use Rattle.brl_table.specs.Choice.{by_rule, folds_of_capitals, matches, fits, first_fitting, chosen}
-use Rattle.brl_table.specs.Text.{fold_of, classes_of, classes_at, is_capital, is_in_run}
+use Rattle.brl_rules.specs.declared.class.Class.{Class}
+use Rattle.brl_rules.specs.declared.rule.Rule.{Rule}
+use Rattle.brl_rules.specs.TableView.{TableView}
+use Rattle.brl_rules.specs.Places.{space, holds, before_of, after_of}
+use Rattle.brl_rules.specs.Choice.{by_rule, folds_of_capitals, matches, fits, first_fitting, chosen}
+use Rattle.brl_rules.specs.Text.{fold_of, classes_of, classes_at, is_capital, is_in_run}
 
 -- what is asked of the known characters: more than the rule has, or all that there are
 starts_with-more : (xs ys chars : List ℕ) → length chars ≤ length xs → starts_with nat_eq (xs ++ ys) chars ≡ starts_with nat_eq xs chars

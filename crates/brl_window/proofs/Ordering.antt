@@ -6,17 +6,17 @@ use Rattle.std.specs.List.{flat_map, AllByRecursion}
 use Rattle.std.specs.Map.{lookup, keys_of}
 use Rattle.std.specs.Bool.{⊤}
 use Rattle.std.specs.Option.{option_map_or}
-use Rattle.brl_table.specs.declared.class.Class.{Class}
-use Rattle.brl_table.specs.declared.rule.Rule.{Rule}
-use Rattle.brl_table.specs.declared.rule.Info.{Info}
-use Rattle.brl_table.specs.declared.context.Context.{Context}
-use Rattle.brl_table.specs.declared.signs.Sign.TheVariants.{CapsLetter, NumSign, NoContractSign, BegCapsWord, EndCapsWord}
-use Rattle.brl_table.specs.Choice.{Choice, by_rule, chosen, own, first_fitting, fits}
-use Rattle.brl_table.specs.declared.signs.Sign.{Sign}
-use Rattle.brl_table.specs.Infos.{first_info}
-use Rattle.brl_table.specs.Indicators.{indicators, is_used, signs_of, used_cells}
-use Rattle.brl_table.specs.TableView.{TableView, sign_cells}
-use Rattle.brl_table.specs.Text.{is_defined, is_in_run}
+use Rattle.brl_rules.specs.declared.class.Class.{Class}
+use Rattle.brl_rules.specs.declared.rule.Rule.{Rule}
+use Rattle.brl_rules.specs.declared.rule.Info.{Info}
+use Rattle.brl_rules.specs.declared.context.Context.{Context}
+use Rattle.brl_rules.specs.declared.signs.Sign.TheVariants.{CapsLetter, NumSign, NoContractSign, BegCapsWord, EndCapsWord}
+use Rattle.brl_rules.specs.Choice.{Choice, by_rule, chosen, own, first_fitting, fits}
+use Rattle.brl_rules.specs.declared.signs.Sign.{Sign}
+use Rattle.brl_rules.specs.Infos.{first_info}
+use Rattle.brl_rules.specs.Indicators.{indicators, is_used, signs_of, used_cells}
+use Rattle.brl_rules.specs.TableView.{TableView, sign_cells}
+use Rattle.brl_rules.specs.Text.{is_defined, is_in_run}
 use Rattle.brl_pairs.specs.declared.step.Step.{Step}
 use Rattle.brl_pairs.specs.Runs.{IsListed, IsGoodStep, IsInOrder}
 use Rattle.brl_states.specs.declared.window_state.WindowState.{WindowState}
@@ -60,7 +60,7 @@ signs-most t here rest valid = of_info (first_info t rest)
     used info sign = used_cells t here run info sign
 
     most : (info : Info) (sign : Sign) → length (used info sign) ≤ 16
-    most info sign = used-most (is_used here run info sign) (sign_cells t sign) (valid.signs_cells sign)
+    most info sign = used-most (is_used t here run info sign) (sign_cells t sign) (valid.signs_cells sign)
 
     five : (a b c d e : List ℕ) → length a ≤ 16 → length b ≤ 16 → length c ≤ 16 → length d ≤ 16 → length e ≤ 16 → length (a ++ (b ++ (c ++ (d ++ (e ++ []))))) ≤ 80
     five a b c d e ha hb hc hd he = grind (arith, length-append)

@@ -2,8 +2,8 @@
 -- these. The project's own choice.
 use Rattle.std.specs.Prelude.{ℕ, ◌≡◌, ◌<◌, max, true, false, IsTrue, List, [], ◌++◌, length}
 use Rattle.brl_pairs.specs.declared.step.Step.{Step}
-use Rattle.brl_table.specs.TableView.{TableView}
-use Rattle.brl_table.specs.Text.{is_text}
+use Rattle.brl_rules.specs.TableView.{TableView}
+use Rattle.brl_rules.specs.Text.{is_text}
 use Rattle.brl_states.specs.declared.window_state.WindowState.{WindowState}
 use Rattle.brl_states.specs.WindowContext.{context_of}
 use Rattle.brl_window.specs.Windows.{Window, begins_defined, width, window_step}

@@ -1,7 +1,7 @@
 -- The number of steps from the start of a window machine: one for each text of 1 to `width`
 -- characters. The limit on it is this project's own.
 use Rattle.std.specs.Prelude.{ℕ, zero, suc, ◌+◌, ◌^◌, length}
-use Rattle.brl_table.specs.TableView.{TableView}
+use Rattle.brl_rules.specs.TableView.{TableView}
 use Rattle.brl_window.specs.Windows.{width}
 
 -- n + n^2 + .. + n^k

@@ -7,13 +7,13 @@ use Rattle.std.specs.List.{flat_map}
 use Rattle.std.specs.Map.{keys_of}
 use Rattle.brl_pairs.specs.Runs.{Behaviour}
 use Rattle.brl_pairs.specs.declared.step.Step.{Step}
-use Rattle.brl_table.specs.Choice.{chosen}
-use Rattle.brl_table.specs.Indicators.{indicators}
-use Rattle.brl_table.specs.TableView.{TableView}
-use Rattle.brl_table.specs.Text.{at_start, context_behind_all, is_defined, is_text}
-use Rattle.brl_table.specs.Translation.{translation}
-use Rattle.brl_table.specs.declared.context.Context.{Context}
-use Rattle.brl_table.specs.declared.rule.Rule.{Rule}
+use Rattle.brl_rules.specs.Choice.{chosen}
+use Rattle.brl_rules.specs.Indicators.{indicators}
+use Rattle.brl_rules.specs.TableView.{TableView}
+use Rattle.brl_rules.specs.Text.{at_start, context_behind_all, is_defined, is_text}
+use Rattle.brl_rules.specs.Translation.{translation}
+use Rattle.brl_rules.specs.declared.context.Context.{Context}
+use Rattle.brl_rules.specs.declared.rule.Rule.{Rule}
 use Rattle.brl_states.specs.WindowContext.{context_of, state_in}
 use Rattle.brl_states.specs.declared.window_state.WindowState.{WindowState}
 

@@ -5,4 +5,5 @@
 mod machine;
 mod steps;
 
+pub use brl_states::WindowState;
 pub use machine::{TooWide, Window, window_law};

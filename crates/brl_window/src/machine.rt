@@ -2,9 +2,9 @@
 ghost use Rattle.std.specs.Prelude.{◌≡◌, ◌↔◌, ◌<◌, ◌≤◌, IfOk, OnErr, OnOk, min};
 ghost use Rattle.brl_pairs.specs.Runs.{IsListed};
 ghost use Rattle.brl_pairs.specs.declared.step.Step.{Step as StepValue};
-ghost use Rattle.brl_table.specs.TableView.{TableView};
-ghost use Rattle.brl_table.specs.Text.{is_text};
-ghost use Rattle.brl_table.specs.Translation.{translation};
+ghost use Rattle.brl_rules.specs.TableView.{TableView};
+ghost use Rattle.brl_rules.specs.Text.{is_text};
+ghost use Rattle.brl_rules.specs.Translation.{translation};
 ghost use Rattle.brl_window.specs.Steps.{IsStep};
 ghost use Rattle.brl_window.specs.Width.{start_moves};
 ghost use Rattle.brl_window.specs.Windows.{window_steps};
@@ -13,8 +13,8 @@ ghost use Rattle.brl_states.specs.declared.window_state.WindowState.{WindowState
 use crate::steps::{find_steps, longest_rule, sort_steps};
 use brl_cells::Chars;
 use brl_pairs::{Machine, Step};
+use brl_rules::{Context, Table, choice_laws, translation_laws};
 use brl_states::WindowState;
-use brl_table::{Context, Table, choice_laws, translation_laws};
 use std::alloc::{AllocError, Global};
 use std::marker::Model;
 use thiserror::Error;
@@ -35,7 +35,7 @@ pub struct Window<'a> {
 }
 
 impl<'a> Model for Window<'a> {
-    ghost use Rattle.brl_table.specs.TableView.{TableView};
+    ghost use Rattle.brl_rules.specs.TableView.{TableView};
 
     ghost Value = { TableView };
 

@@ -6,8 +6,8 @@ ghost use Rattle.brl_window.specs.Windows.{by_rule_number, longest, steps_at, st
 
 use brl_cells::{Cells, Chars};
 use brl_pairs::Step;
+use brl_rules::{Context, Table, rank_law};
 use brl_states::WindowState;
-use brl_table::{Context, Table, rank_law};
 use std::alloc::{AllocError, Global};
 
 /// The length of the longest rule, which is the first in rank, or 1 where there is no rule.

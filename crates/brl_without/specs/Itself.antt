@@ -3,8 +3,8 @@ use Rattle.std.proofs.Common.{◌≡◌, ℕ, Bool, true, false, ◌&&◌, List,
 use Rattle.std.specs.List.{filter}
 use Rattle.brl_pairs.specs.Runs.{Behaviour}
 use Rattle.brl_pairs.specs.declared.step.Step.{Step}
-use Rattle.brl_table.specs.TableView.{TableView}
-use Rattle.brl_table.specs.Translation.{IsUnambiguous}
+use Rattle.brl_rules.specs.TableView.{TableView}
+use Rattle.brl_rules.specs.Translation.{IsUnambiguous}
 use Rattle.brl_without.specs.LeftOut.{uses_none}
 use Rattle.brl_without.specs.Parts.{part_without, whole}
 use Rattle.brl_without.specs.Tables.{IsUnambiguousWithout}

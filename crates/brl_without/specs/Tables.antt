@@ -2,9 +2,9 @@
 use Rattle.std.specs.Prelude.{◌≡◌, ℕ, IsTrue, List, [], ◌∷◌, Option, None, Some, find, not, string_bytes}
 use Rattle.std.specs.Str.{encode_utf8_all}
 use Rattle.brl_lines.specs.Spelling.{text_spelling}
-use Rattle.brl_table.specs.TableView.{TableView}
-use Rattle.brl_table.specs.Text.{is_defined, is_text}
-use Rattle.brl_table.specs.Translation.{IsClash, translation}
+use Rattle.brl_rules.specs.TableView.{TableView}
+use Rattle.brl_rules.specs.Text.{is_defined, is_text}
+use Rattle.brl_rules.specs.Translation.{IsClash, translation}
 use Rattle.brl_without.specs.LeftOut.{uses_none}
 use Rattle.brl_without.specs.declared.undefined.UndefinedLeftOut.{UndefinedLeftOut}
 

@@ -6,7 +6,7 @@ ghost use Rattle.brl_without.specs.Tables.{AreDefined, IsUndefined, first_undefi
 use crate::LeftOut;
 use brl_failure::Failure;
 use brl_lines::spell_chars;
-use brl_table::Table;
+use brl_rules::Table;
 use std::alloc::Global;
 use thiserror::Error;
 

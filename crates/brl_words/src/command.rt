@@ -55,8 +55,13 @@ pub struct NoTask {
 }
 
 impl NoTask {
+    ghost use Rattle.std.specs.Prelude.{◌↔◌, IsTrue};
+    ghost use Rattle.brl_words.specs.Replies.{IsUseFault};
+
     /// Whether the text goes to standard error. Help and the version go to standard output.
-    pub fn is_fault(&self) -> bool {
+    pub fn is_fault(&self) -> bool
+        ensures { IsTrue result ↔ IsUseFault self.now }
+    {
         self.error.use_stderr()
     }
 }

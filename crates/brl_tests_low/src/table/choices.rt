@@ -1,7 +1,7 @@
 //! Which rule a table takes in front of a text's rest, by number; and as many rules as a table may have.
 use super::shown;
 use bitflags::Flags;
-use brl_table::{Class, Context, Rule, Sign, Table, holds};
+use brl_rules::{Class, Context, Rule, Sign, Table, holds};
 use brl_testing::{agree, chars, cut, with_table};
 use std::alloc::Global;
 use std::test::Fail;

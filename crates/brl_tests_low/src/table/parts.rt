@@ -1,7 +1,7 @@
 //! A table made from parts, places and lists of characters.
 use bitflags::Flags;
 use brl_cells::{Cell, Cells, Chars};
-use brl_table::{
+use brl_rules::{
     Class, Cond, Context, Info, Notice, Place, Rule, Sign, Signs, Table, TableParts, holds,
 };
 use brl_testing::lend;

@@ -3,8 +3,8 @@ use Rattle.std.proofs.lemmas.Result.{IfErr-weaker}
 use Rattle.brl_accept.specs.Judging.{IsAcceptedWithout, IsRefusedByWithout}
 use Rattle.brl_failure.specs.Failure.{IfFault}
 use Rattle.brl_failure.specs.Raised.{if_fault-weaker}
-use Rattle.brl_reading.specs.Files.{IsTableOf}
-use Rattle.brl_table.specs.TableView.{TableView}
+use Rattle.brl_table.specs.Files.{IsTableOf}
+use Rattle.brl_rules.specs.TableView.{TableView}
 use Rattle.brl_without.specs.Tables.{IsUnambiguousWithout}
 use Rattle.brl_accept.proofs.Judged.{accepted_all, accepted_nothing, refused_by_whole}
 use Rattle.brl_accept.proofs.judge_files.judge.Goals as goal

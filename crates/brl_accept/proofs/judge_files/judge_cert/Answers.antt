@@ -9,7 +9,7 @@ use Rattle.brl_failure.specs.Failure.{Gives, IfFault, IsRaised}
 use Rattle.brl_failure.specs.Raised.{if_fault-weaker, raised_is}
 use Rattle.brl_failure.specs.declared.failure.Failure.{Failure}
 use Rattle.brl_states.specs.declared.cert.Cert.{Cert as Certificate}
-use Rattle.brl_table.specs.TableView.{TableView}
+use Rattle.brl_rules.specs.TableView.{TableView}
 use Rattle.brl_without.specs.Parts.{Part, part_without}
 use Rattle.brl_accept.proofs.Judged.{refused_as}
 use Rattle.brl_accept.proofs.judge_files.judge_cert.Goals as goal

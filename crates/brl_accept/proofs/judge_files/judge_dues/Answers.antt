@@ -9,7 +9,7 @@ use Rattle.brl_accept.proofs.Judged.{same_counts}
 use Rattle.brl_dues.specs.Steps.{dues_machine}
 use Rattle.brl_pairs.specs.Pairs.{IsClosed}
 use Rattle.brl_pairs.specs.Runs.{IsUnambiguous}
-use Rattle.brl_table.specs.TableView.{TableView}
+use Rattle.brl_rules.specs.TableView.{TableView}
 use Rattle.brl_without.specs.Parts.{part_without}
 use Rattle.brl_without.specs.Tables.{IsUnambiguousWithout}
 use Rattle.brl_without.specs.Without.{without}

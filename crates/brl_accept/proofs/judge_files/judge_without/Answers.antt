@@ -7,9 +7,9 @@ use Rattle.brl_failure.specs.Failure.{IfFault, IsRaised}
 use Rattle.brl_failure.specs.Raised.{if_err-raised, raised_is}
 use Rattle.brl_failure.specs.declared.failure.Failure.{Failure}
 use Rattle.brl_lines.specs.Answer.{MayGive}
-use Rattle.brl_reading.specs.Files.{IsFaultAt, IsTableOf}
-use Rattle.brl_reading.specs.declared.no_table.NoTable.{NoTable as NoTableFault}
-use Rattle.brl_table.specs.TableView.{TableView}
+use Rattle.brl_table.specs.Files.{IsFaultAt, IsTableOf}
+use Rattle.brl_table.specs.declared.no_table.NoTable.{NoTable as NoTableFault}
+use Rattle.brl_rules.specs.TableView.{TableView}
 use Rattle.brl_accept.proofs.Judged.{accepted_for, decided, failed_after}
 use Rattle.brl_accept.proofs.judge_files.judge_without.Goals as goal
 

@@ -6,8 +6,8 @@ use Rattle.brl_checker.proofs.alike.keep_first_two.Goals as goal
 pub loop-edge-init : goal.loop-edge-init
 loop-edge-init c = none_passed c.args.kept.now.items _ _ c.requires c.new-once.ensures c.new-twice.ensures
 
-pub loop-edge-preserved-in-Continue-branch-2 : goal.loop-edge-preserved-in-Continue-branch-2
-loop-edge-preserved-in-Continue-branch-2 c =
+pub loop-edge-preserved-in-Continue-branch-3 : goal.loop-edge-preserved-in-Continue-branch-3
+loop-edge-preserved-in-Continue-branch-3 c =
     let l = c.loop-edge in
     passed_kept l.yielded l.kept.items l.once l.twice l.invariant c.in-Some.edge (kind_of c.in-Some.edge) refl c.in_ok-count.field-0 _ _ _ c.in_ok-count.ensures c.if-branch.true c.in_ok-push.ensures.items
 

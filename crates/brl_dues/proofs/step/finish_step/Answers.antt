@@ -1,5 +1,5 @@
 use Rattle.std.proofs.Common.{[], ◌∷◌, ap, sym, ◌∙◌}
-use Rattle.brl_table.specs.declared.place.Cond.TheVariants.{Any}
+use Rattle.brl_rules.specs.declared.place.Cond.TheVariants.{Any}
 use Rattle.brl_dues.specs.Letters.{left_past, letter_form}
 use Rattle.brl_dues.specs.Steps.{step_of}
 use Rattle.brl_dues.proofs.Walking.{next-left}

@@ -1,6 +1,6 @@
 use Rattle.std.proofs.Common.{Global, Vec, [], ◌∷◌, ◌&&◌, ap, ap₂, sym, ◌∙◌}
 use Rattle.std.specs.Prelude.{option_map}
-use Rattle.brl_table.specs.Text.{has_word_capitals}
+use Rattle.brl_rules.specs.Text.{has_word_capitals}
 use Rattle.brl_states.specs.declared.due.Due.{Due}
 use Rattle.brl_dues.specs.Capitals.{is_upper}
 use Rattle.brl_dues.specs.Letters.{left_past}

@@ -1,5 +1,5 @@
 use Rattle.std.proofs.Common.{take}
-use Rattle.brl_table.specs.Infos.{AreInfosOf}
+use Rattle.brl_rules.specs.Infos.{AreInfosOf}
 use Rattle.brl_forward.proofs.infos.infos_of.Given as goal
 
 abbrev pub invariant-loop-place : goal.invariant-loop-place

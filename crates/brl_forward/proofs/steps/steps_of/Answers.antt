@@ -1,7 +1,7 @@
 use Rattle.std.proofs.Common.{◌≡◌, ◌+◌, ◌-◌, ◌<◌, ◌≤◌, ◌∙◌, ap, arith, drop, length, length-drop, refl, rules, take}
 use Rattle.std.proofs.lemmas.List.{take_rest}
-use Rattle.brl_table.specs.Infos.{first_info}
-use Rattle.brl_table.specs.Text.{context_at, context_behind_all}
+use Rattle.brl_rules.specs.Infos.{first_info}
+use Rattle.brl_rules.specs.Text.{context_at, context_behind_all}
 use Rattle.brl_forward.specs.Trace.{step_before}
 use Rattle.brl_forward.proofs.InfoLists.{first_info-at, infos-taken, length-infos}
 use Rattle.brl_forward.proofs.StepLoop.{no_more, none_yet, step_more}

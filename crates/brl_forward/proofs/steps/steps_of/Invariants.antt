@@ -1,5 +1,5 @@
 use Rattle.std.proofs.Common.{◌≡◌, ◌-◌, ◌≤◌, ◌++◌, length}
-use Rattle.brl_table.specs.Text.{context_at}
+use Rattle.brl_rules.specs.Text.{context_at}
 use Rattle.brl_forward.specs.Trace.{steps_from, trace_of}
 use Rattle.brl_forward.proofs.steps.steps_of.Given as goal
 

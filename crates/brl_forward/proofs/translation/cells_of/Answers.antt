@@ -1,8 +1,8 @@
 use Rattle.std.proofs.Common.{◌≡◌, ◌+◌, ◌-◌, ◌<◌, ◌≤◌, ◌++◌, ◌∙◌, List, ℕ, ap, arith, drop, length, length-drop, refl, rules, subst, sym, take}
 use Rattle.std.proofs.lemmas.List.{drop-drop, drop_all, take_rest}
-use Rattle.brl_table.specs.Choice.{IsChoice, chosen}
-use Rattle.brl_table.specs.Infos.{first_info}
-use Rattle.brl_table.specs.Text.{is_in_run}
+use Rattle.brl_rules.specs.Choice.{IsChoice, chosen}
+use Rattle.brl_rules.specs.Infos.{first_info}
+use Rattle.brl_rules.specs.Text.{is_in_run}
 use Rattle.brl_forward.proofs.InfoLists.{first_info-at, infos-taken, length-infos}
 use Rattle.brl_forward.proofs.TranslationLoop.{rule_more, no_more, signs-known}
 use Rattle.brl_forward.proofs.translation.cells_of.Goals as goal

@@ -1,6 +1,6 @@
 use Rattle.std.proofs.Common.{◌≡◌, ◌≤◌, ◌-◌, ◌++◌, length, drop}
-use Rattle.brl_table.specs.Translation.{translation}
-use Rattle.brl_table.specs.Rest.{translation_of_rest}
+use Rattle.brl_rules.specs.Translation.{translation}
+use Rattle.brl_rules.specs.Rest.{translation_of_rest}
 use Rattle.brl_forward.proofs.translation.cells_of.Given as goal
 
 abbrev pub invariant-loop-info : goal.invariant-loop-info

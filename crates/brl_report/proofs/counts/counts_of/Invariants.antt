@@ -1,5 +1,5 @@
 use Rattle.std.proofs.Common.{◌≡◌, map, take}
-use Rattle.brl_reading.specs.Survey.{faulty_line_view}
+use Rattle.brl_table.specs.Survey.{faulty_line_view}
 use Rattle.brl_report.specs.Survey.{count_among, opcodes_of}
 use Rattle.brl_report.proofs.counts.counts_of.Given as goal
 

@@ -7,8 +7,8 @@ use Rattle.std.specs.Str.{bytes_eq}
 use Rattle.std.proofs.lemmas.List.{map-append}
 use Rattle.std.proofs.lemmas.List.Sums.{count_by-le-length}
 use Rattle.std.proofs.lemmas.Map.Text.{btree_map_updates_str}
-use Rattle.brl_reading.specs.Reading.{dedup}
-use Rattle.brl_reading.specs.Survey.{faulty_line_view}
+use Rattle.brl_table.specs.Reading.{dedup}
+use Rattle.brl_table.specs.Survey.{faulty_line_view}
 use Rattle.brl_report.specs.Survey.{opcodes_of}
 use Rattle.brl_report.proofs.Tallies.{few-opcodes, numbers-more, opcodes-more, names-known, names-new}
 use Rattle.brl_report.proofs.counts.tally_of.Goals as goal

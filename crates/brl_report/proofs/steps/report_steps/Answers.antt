@@ -3,8 +3,8 @@ use Rattle.std.specs.Prelude.{IsTrue}
 use Rattle.brl_forward.specs.Faults.{IsFaultOf}
 use Rattle.brl_forward.specs.declared.fault.ForwardFault.{ForwardFault}
 use Rattle.brl_forward.specs.declared.fault.ForwardFault.TheVariants.{UnknownChar}
-use Rattle.brl_table.specs.TableView.{TableView}
-use Rattle.brl_table.specs.Text.{is_defined, is_text}
+use Rattle.brl_rules.specs.TableView.{TableView}
+use Rattle.brl_rules.specs.Text.{is_defined, is_text}
 use Rattle.brl_report.proofs.Known.{no_unknown}
 use Rattle.brl_report.proofs.steps.report_steps.Goals as goal
 

@@ -1,5 +1,5 @@
 use Rattle.std.proofs.Common.{◌≡◌, ◌++◌, flat_map, map, string_bytes, take}
-use Rattle.brl_reading.specs.Survey.{faulty_line_view}
+use Rattle.brl_table.specs.Survey.{faulty_line_view}
 use Rattle.brl_report.specs.Survey.{fault_line}
 use Rattle.brl_report.proofs.survey.push_faults.Given as goal
 

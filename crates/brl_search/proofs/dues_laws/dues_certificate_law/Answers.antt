@@ -5,7 +5,7 @@ use Rattle.brl_states.specs.declared.dues_state.DuesState.{DuesState}
 use Rattle.brl_pairs.specs.Pairs.{IsClosed}
 use Rattle.brl_pairs.specs.Runs.{IsExact, IsUnambiguous}
 use Rattle.brl_finder.specs.Deciding.{ListsJustReached}
-use Rattle.brl_table.specs.TableView.{TableView}
+use Rattle.brl_rules.specs.TableView.{TableView}
 use Rattle.std.proofs.Common.{subst}
 use Rattle.brl_search.proofs.dues_laws.dues_certificate_law.Goals as goal
 

@@ -1,4 +1,4 @@
-use Rattle.brl_table.specs.Translation.{translation}
+use Rattle.brl_rules.specs.Translation.{translation}
 use Rattle.brl_search.proofs.Unknown.{unknown_no_clash}
 use Rattle.brl_search.proofs.table_search.clash_of.Goals as goal
 

@@ -5,7 +5,7 @@ use Rattle.brl_pairs.specs.Pairs.{IsClosed}
 use Rattle.brl_pairs.specs.Runs.{IsExact, IsUnambiguous}
 use Rattle.brl_finder.specs.Answers.{AreTwoPaths, IsCertified, IsLimit}
 use Rattle.brl_finder.specs.Deciding.{IsClashOf}
-use Rattle.brl_table.specs.TableView.{TableView}
+use Rattle.brl_rules.specs.TableView.{TableView}
 use Rattle.brl_without.specs.Tables.{IsClashWithout, IsUnambiguousWithout}
 use Rattle.brl_without.specs.Without.{without}
 use Rattle.brl_search.proofs.TableSearch.{clash_of_machine, clash_without, none_of_machine}

@@ -3,7 +3,7 @@ use Rattle.std.proofs.lemmas.Result.{IfOk-weaker}
 use Rattle.brl_dues.specs.Steps.{dues_machine}
 use Rattle.brl_finder.specs.Answers.{IsOutcome}
 use Rattle.brl_search.specs.Found.{IsFoundWithout}
-use Rattle.brl_table.specs.TableView.{TableView}
+use Rattle.brl_rules.specs.TableView.{TableView}
 use Rattle.brl_without.specs.Without.{without}
 use Rattle.brl_search.proofs.table_search.search_without.Goals as goal
 

@@ -1,5 +1,5 @@
 use Rattle.std.proofs.Common.{refl}
-use Rattle.brl_table.specs.Translation.{translation}
+use Rattle.brl_rules.specs.Translation.{translation}
 use Rattle.brl_tests_low.proofs.table.worked_theorems.Goals as goal
 
 pub returns : goal.returns

@@ -4,8 +4,8 @@ use Rattle.brl_checker.specs.declared.checker.Accepted.{Accepted}
 use Rattle.brl_failure.specs.Failure.{IfFault}
 use Rattle.brl_failure.specs.declared.failure.Failure.TheVariants.{Memory}
 use Rattle.brl_lines.specs.Answer.{GivesOneAnswer}
-use Rattle.brl_reading.specs.Files.{IsTableOf}
-use Rattle.brl_table.specs.TableView.{TableView}
+use Rattle.brl_table.specs.Files.{IsTableOf}
+use Rattle.brl_rules.specs.TableView.{TableView}
 use Rattle.brl_without.specs.Tables.{IsUnambiguousWithout}
 use Rattle.brl_verdicts.proofs.CheckLemmas.{accepted_good, judged}
 use Rattle.brl_verdicts.proofs.check.check_by_file.Goals as goal

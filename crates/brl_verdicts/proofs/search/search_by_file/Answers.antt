@@ -10,12 +10,12 @@ use Rattle.brl_lines.specs.Outcome.{AreLinesOfFiles, CountsFailure, IsReadFailur
 use Rattle.brl_lines.specs.Tokens.{LineView}
 use Rattle.brl_lines.specs.Views.{load_fault_view}
 use Rattle.brl_lines.specs.declared.fault.LoadFault.{LoadFault}
-use Rattle.brl_reading.specs.Files.{IsFaultAt, IsTableOfFiles}
-use Rattle.brl_reading.specs.Reading.{IsFaultOf, PassesAll, table_of}
-use Rattle.brl_reading.specs.declared.no_table.NoTable.{NoTable}
-use Rattle.brl_reading.specs.declared.no_table.NoTable.TheVariants as no_table
-use Rattle.brl_reading.specs.declared.table_fault.TableFault.{TableFault}
-use Rattle.brl_table.specs.TableView.{TableView}
+use Rattle.brl_table.specs.Files.{IsFaultAt, IsTableOfFiles}
+use Rattle.brl_table.specs.Reading.{IsFaultOf, PassesAll, table_of}
+use Rattle.brl_table.specs.declared.no_table.NoTable.{NoTable}
+use Rattle.brl_table.specs.declared.no_table.NoTable.TheVariants as no_table
+use Rattle.brl_table.specs.declared.table_fault.TableFault.{TableFault}
+use Rattle.brl_rules.specs.TableView.{TableView}
 use Rattle.brl_answers.specs.Answers.{HasNoTable, load_outcome}
 use Rattle.brl_verdicts.specs.Verdicts.{IsOverwriting, IsUndefinedFault, IsVerdict, SearchesByFile}
 use Rattle.brl_answers.specs.Files.{MayBeSame}

@@ -1,5 +1,5 @@
 use Rattle.std.proofs.Common.{◌∙◌, ap, map}
-use Rattle.brl_table.specs.Text.{has_word_capitals}
+use Rattle.brl_rules.specs.Text.{has_word_capitals}
 use Rattle.brl_dues.specs.CapitalList.{capital_of}
 use Rattle.brl_dues.specs.Capitals.{capitals}
 use Rattle.brl_dues.proofs.ChoiceLoops.{put-all}

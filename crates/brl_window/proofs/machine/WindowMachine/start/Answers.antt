@@ -1,5 +1,5 @@
 use Rattle.std.proofs.Common.{subst}
-use Rattle.brl_table.specs.Limits.{IsTable}
+use Rattle.brl_rules.specs.Limits.{IsTable}
 use Rattle.brl_window.proofs.Accepting.{accepts}
 use Rattle.brl_window.proofs.Kept.{Choosing, Translating, keeps_of}
 use Rattle.brl_window.proofs.Ordering.{good_steps, in_order}

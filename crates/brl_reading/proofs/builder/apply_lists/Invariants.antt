@@ -1,9 +1,0 @@
-use Rattle.std.proofs.Common.{◌≡◌, take}
-use Rattle.brl_reading.proofs.ListSteps.{AppliesLists}
-use Rattle.brl_reading.proofs.builder.apply_lists.Given as goal
-
-abbrev pub invariant-loop-item : goal.invariant-loop-item
-invariant-loop-item l = record {
-  roles : AppliesLists l.fn.characters.infos.entries l.characters.infos.entries (take l.item-index l.items);
-  notices : l.characters.notices ≡ l.fn.characters.notices;
-}

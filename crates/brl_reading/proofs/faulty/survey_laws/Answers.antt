@@ -1,5 +1,0 @@
-use Rattle.brl_reading.proofs.SurveyLaws.{finds-first, finds-none}
-use Rattle.brl_reading.proofs.faulty.survey_laws.Goals as goal
-
-pub returns : goal.returns
-returns c = record { none = finds-none; first = finds-first }

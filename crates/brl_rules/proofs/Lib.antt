@@ -1,0 +1,16 @@
+pub mod RankWeight
+pub mod SignLists
+pub mod SortedRanking
+pub mod EntryNumbers
+pub mod Compared
+pub mod TakenLengths
+pub mod PositionAndRest
+pub mod FitsAtPosition
+pub mod ChosenRule
+pub mod UniqueRanking
+pub mod ComputedRanking
+pub mod TreeInsert
+pub mod TreeContents
+pub mod TreeWalk
+pub mod FirstInfo
+pub mod InfoContexts

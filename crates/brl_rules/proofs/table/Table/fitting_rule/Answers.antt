@@ -1,0 +1,130 @@
+use Rattle.std.proofs.Common.{rules, arith, ◌≡◌, ◌∷◌, ◌+◌, ◌++◌, ℕ, List, [], take, slice_get, IfSome, Some, None, sym, ap, ◌∙◌, append-nil, subst}
+use Rattle.std.specs.List.{find}
+use Rattle.std.specs.Option.{option_or}
+use Rattle.brl_rules.specs.Choice.{compared, place_allows_number}
+use Rattle.brl_rules.specs.Text.{fold_of, is_in_run}
+use Rattle.brl_rules.specs.Tree.{ends_at, ends_of, mark_of}
+use Rattle.brl_rules.proofs.Compared.{behind_first, behind-length, behind-mark, mark-there, mark-none}
+use Rattle.brl_rules.proofs.TreeWalk.{rest-none, rest-no_root, rest-first, rest-next, rest-no_branch, rest-end, one_more}
+use Rattle.brl_rules.proofs.table.Table.fitting_rule.Goals as goal
+
+pub returns-in_err-others : goal.returns-in_err-others
+returns-in_err-others c = c.from_residual.ensures ∙ sym (rest-none c.args.self.now c.args.before c.args.rest.now c.in_err-others.ensures.cases)
+
+pub returns-in_err-node : goal.returns-in_err-node
+returns-in_err-node c =
+    let t = c.args.self.now in
+    let rest = c.args.rest.now in
+    let others = c.in_ok-others.others.now in
+    let x = c.in_ok-others.field-0-0.now in
+    let behind = behind_first t c.args.run others in
+    let rest-is : rest ≡ x ∷ others = search rules in
+    let asked : List ℕ → Type 0 = λ rest. IfSome (slice_get rest 0) (λ first. c.args.fold ≡ fold_of t first) in
+    let fold-is : fold_of t x ≡ c.args.fold = sym (subst asked rest-is c.requires.fold) in
+    let is : compared t (is_in_run t c.args.before rest) rest ≡ c.args.fold ∷ behind =
+    ap (λ run. compared t run rest) (sym c.requires.run) ∙ ap (compared t c.args.run) rest-is ∙ ap (λ f. f ∷ behind) fold-is in
+    c.from_residual-in_err-node.ensures ∙ sym (rest-no_root t c.args.before rest c.args.fold behind is c.in_err-node.ensures.node)
+
+pub loop-character-init : goal.loop-character-init
+loop-character-init c =
+    let t = c.args.self.now in
+    let rest = c.args.rest.now in
+    let others = c.in_ok-others.others.now in
+    let x = c.in_ok-others.field-0-0.now in
+    let behind = behind_first t c.args.run others in
+    let rest-is : rest ≡ x ∷ others = search rules in
+    let asked : List ℕ → Type 0 = λ rest. IfSome (slice_get rest 0) (λ first. c.args.fold ≡ fold_of t first) in
+    let fold-is : fold_of t x ≡ c.args.fold = sym (subst asked rest-is c.requires.fold) in
+    let is : compared t (is_in_run t c.args.before rest) rest ≡ c.args.fold ∷ behind =
+    ap (λ run. compared t run rest) (sym c.requires.run) ∙ ap (compared t c.args.run) rest-is ∙ ap (λ f. f ∷ behind) fold-is in
+    record {
+      inside = omega arith;
+      node = c.in_ok-node.ensures.node;
+      best = c.rule_at-best.ensures ∙ ap (find (place_allows_number t c.args.before rest)) (c.in_ok-node.ensures.node [])
+          ∙ rest-first t c.args.before rest c.args.fold behind is;
+    }
+
+pub returns-in_default : goal.returns-in_default
+returns-in_default c =
+    let t = c.args.self.now in
+    let rest = c.args.rest.now in
+    let others = c.in_ok-others.others.now in
+    let x = c.in_ok-others.field-0-0.now in
+    let behind = behind_first t c.args.run others in
+    let rest-is : rest ≡ x ∷ others = search rules in
+    let asked : List ℕ → Type 0 = λ rest. IfSome (slice_get rest 0) (λ first. c.args.fold ≡ fold_of t first) in
+    let fold-is : fold_of t x ≡ c.args.fold = sym (subst asked rest-is c.requires.fold) in
+    let is : compared t (is_in_run t c.args.before rest) rest ≡ c.args.fold ∷ behind =
+    ap (λ run. compared t run rest) (sym c.requires.run) ∙ ap (compared t c.args.run) rest-is ∙ ap (λ f. f ∷ behind) fold-is in
+    let k = c.loop-character.character-index in
+    let none : c.mark_of.result ≡ None = search rules in
+    c.loop-character.invariant.best
+    ∙ rest-end t c.args.before rest c.args.fold behind is k
+    (mark-none behind k (sym none ∙ c.mark_of.ensures ∙ ap (mark_of t c.args.run) c.character-item.is ∙ behind-mark t c.args.run others k c.character-item.result c.loop-character.invariant.inside c.loop-character-test.true))
+
+pub returns-in_default-branch : goal.returns-in_default-branch
+returns-in_default-branch c =
+    let t = c.args.self.now in
+    let rest = c.args.rest.now in
+    let others = c.in_ok-others.others.now in
+    let x = c.in_ok-others.field-0-0.now in
+    let behind = behind_first t c.args.run others in
+    let rest-is : rest ≡ x ∷ others = search rules in
+    let asked : List ℕ → Type 0 = λ rest. IfSome (slice_get rest 0) (λ first. c.args.fold ≡ fold_of t first) in
+    let fold-is : fold_of t x ≡ c.args.fold = sym (subst asked rest-is c.requires.fold) in
+    let is : compared t (is_in_run t c.args.before rest) rest ≡ c.args.fold ∷ behind =
+    ap (λ run. compared t run rest) (sym c.requires.run) ∙ ap (compared t c.args.run) rest-is ∙ ap (λ f. f ∷ behind) fold-is in
+    let k = c.loop-character.character-index in
+    let some : c.mark_of.result ≡ Some c.in-Some.mark = search rules in
+    let next : Some c.in-Some.mark ≡ slice_get behind k =
+    sym some ∙ c.mark_of.ensures ∙ ap (mark_of t c.args.run) c.character-item.is ∙ behind-mark t c.args.run others k c.character-item.result c.loop-character.invariant.inside c.loop-character-test.true in
+    let there = mark-there behind k c.in-Some.mark next in
+    c.loop-character.invariant.best
+    ∙ rest-no_branch t c.args.before rest c.args.fold behind is k 0 there.0
+    (λ at. c.in_default-branch.ensures at ∙ c.loop-character.invariant.node (c.in-Some.mark ∷ at) ∙ ap (λ m. ends_of t.rules (c.args.fold ∷ (take k behind ++ m ∷ at))) (there.1 0))
+
+pub loop-character-preserved : goal.loop-character-preserved
+loop-character-preserved c =
+    let t = c.args.self.now in
+    let rest = c.args.rest.now in
+    let others = c.in_ok-others.others.now in
+    let x = c.in_ok-others.field-0-0.now in
+    let behind = behind_first t c.args.run others in
+    let rest-is : rest ≡ x ∷ others = search rules in
+    let asked : List ℕ → Type 0 = λ rest. IfSome (slice_get rest 0) (λ first. c.args.fold ≡ fold_of t first) in
+    let fold-is : fold_of t x ≡ c.args.fold = sym (subst asked rest-is c.requires.fold) in
+    let is : compared t (is_in_run t c.args.before rest) rest ≡ c.args.fold ∷ behind =
+    ap (λ run. compared t run rest) (sym c.requires.run) ∙ ap (compared t c.args.run) rest-is ∙ ap (λ f. f ∷ behind) fold-is in
+    let k = c.loop-character.character-index in
+    let some : c.mark_of.result ≡ Some c.in-Some.mark = search rules in
+    let next : Some c.in-Some.mark ≡ slice_get behind k =
+    sym some ∙ c.mark_of.ensures ∙ ap (mark_of t c.args.run) c.character-item.is ∙ behind-mark t c.args.run others k c.character-item.result c.loop-character.invariant.inside c.loop-character-test.true in
+    let there = mark-there behind k c.in-Some.mark next in
+    let node-is : (at : List ℕ) → ends_at c.in_Some-branch.branch.now at ≡ ends_of t.rules (c.args.fold ∷ (take (k + 1) behind ++ at)) = λ at.
+    c.in_Some-branch.ensures at ∙ c.loop-character.invariant.node (c.in-Some.mark ∷ at)
+    ∙ ap (λ m. ends_of t.rules (c.args.fold ∷ (take k behind ++ m ∷ at))) (there.1 0)
+    ∙ ap (λ cs. ends_of t.rules (c.args.fold ∷ cs)) (one_more k 0 behind at there.0) in
+    record {
+      inside = omega (arith, there.0);
+      node = node-is;
+      best =
+          c.or-best.ensures
+          ∙ ap (λ found. option_or found c.loop-character.best) (c.rule_at.ensures
+          ∙ ap (find (place_allows_number t c.args.before rest)) (node-is [] ∙ ap (λ cs. ends_of t.rules (c.args.fold ∷ cs)) (append-nil (take (k + 1) behind))))
+          ∙ rest-next t c.args.before rest c.args.fold behind is k c.loop-character.best there.0 c.in_ok-node.ensures.rank c.loop-character.invariant.best;
+    }
+
+pub returns : goal.returns
+returns c =
+    let t = c.args.self.now in
+    let rest = c.args.rest.now in
+    let others = c.in_ok-others.others.now in
+    let x = c.in_ok-others.field-0-0.now in
+    let behind = behind_first t c.args.run others in
+    let rest-is : rest ≡ x ∷ others = search rules in
+    let asked : List ℕ → Type 0 = λ rest. IfSome (slice_get rest 0) (λ first. c.args.fold ≡ fold_of t first) in
+    let fold-is : fold_of t x ≡ c.args.fold = sym (subst asked rest-is c.requires.fold) in
+    let is : compared t (is_in_run t c.args.before rest) rest ≡ c.args.fold ∷ behind =
+    ap (λ run. compared t run rest) (sym c.requires.run) ∙ ap (compared t c.args.run) rest-is ∙ ap (λ f. f ∷ behind) fold-is in
+    c.loop-character.invariant.best
+    ∙ rest-end t c.args.before rest c.args.fold behind is c.loop-character.character-index (omega (arith, behind-length t c.args.run others, c.loop-character-test.false))

@@ -1,0 +1,15 @@
+pub mod TableView
+pub mod Places
+pub mod Signs
+pub mod Text
+pub mod Infos
+pub mod Indicators
+pub mod Choice
+pub mod Translation
+pub mod Rank
+pub mod Limits
+pub mod Rest
+pub mod Position
+pub mod Views
+pub mod Examples
+pub mod Tree

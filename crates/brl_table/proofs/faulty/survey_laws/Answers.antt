@@ -1,0 +1,5 @@
+use Rattle.brl_table.proofs.SurveyLaws.{finds-first, finds-none}
+use Rattle.brl_table.proofs.faulty.survey_laws.Goals as goal
+
+pub returns : goal.returns
+returns c = record { none = finds-none; first = finds-first }

@@ -1,5 +1,0 @@
-use Rattle.brl_table.proofs.EntryNumbers.{found_number-small}
-use Rattle.brl_table.proofs.table.Table.info.Goals as goal
-
-pub returns-clause-number : goal.returns-clause-number
-returns-clause-number c = found_number-small _ c.self.invariant.table.parts.numbered c.self.invariant.table.parts.few.characters c.args.character _ c.get.ensures.value

@@ -1,0 +1,74 @@
+-- The lines of a table that have a fault by themselves. A line with a fault defines nothing, so
+-- each line is read after the good lines before it. What one line can't show, as a character of a
+-- rule that no line defines, is no part of this. The project's own choice.
+use Rattle.std.specs.Prelude.{ℕ, ◌≡◌, ◌≢◌, Bool, true, false, if◌then◌else◌, List, [], ◌∷◌, ◌++◌, flat_map, fold, take, slice_get, string_bytes, is_some, Option, Some, None}
+use Rattle.std.specs.List.{enumerate_from}
+use Rattle.std.specs.Option.{option_map_or}
+use Rattle.brl_failure.specs.Failure.{IfFault}
+use Rattle.brl_failure.specs.declared.failure.Failure.{Failure}
+use Rattle.brl_failure.specs.declared.failure.Failure.TheVariants as failures
+use Rattle.brl_lines.specs.Tokens.{LineView}
+use Rattle.brl_table.specs.FaultText.{LocatedFault, located_fault}
+use Rattle.brl_table.specs.Items.{Fault}
+use Rattle.brl_table.specs.Opcodes.{opcode_of}
+use Rattle.brl_table.specs.Reading.{fault_after, files_of, item_in, ok_of}
+use Rattle.brl_table.specs.declared.item.Item.{Item}
+use Rattle.brl_table.specs.declared.opcode.Opcode.{Opcode}
+use Rattle.brl_table.specs.declared.opcode.Opcode.TheVariants.{Noback, Nofor}
+use Rattle.brl_table.specs.declared.faulty.FaultyLine.{FaultyLine}
+
+-- ---- The fault of each line
+
+-- the items of the good lines, and that of one more line if it has no fault after them
+abbrev pub with_line : List (List ℕ) → List Item → LineView → List Item
+with_line files good line = if is_some (fault_after good line (item_in files line)) then good else good ++ ok_of (item_in files line)
+
+-- the items of the good lines: those that have no fault after the good lines before them
+abbrev pub good_items : List (List ℕ) → List LineView → List Item
+good_items files lines = fold (with_line files) [] lines
+
+-- the fault of the line at a place, after the good lines before it
+abbrev pub line_fault : List LineView → ℕ → LineView → Option Fault
+line_fault lines place line =
+    let files = files_of lines in
+    fault_after (good_items files (take place lines)) line (item_in files line)
+
+-- ---- The lines with a fault
+
+-- whether an opcode comes before a place opcode
+abbrev pub is_prefix : Option Opcode → Bool
+is_prefix (Some Noback) = true
+is_prefix (Some Nofor) = true
+is_prefix other = false
+
+-- the opcode of a line: what follows `noback` or `nofor`, if anything does, and else its first word
+abbrev pub named_opcode : LineView → List ℕ
+named_opcode line =
+    if is_prefix (opcode_of line.opcode.text) then option_map_or (λ token. token.text) (slice_get line.operands 0) line.opcode.text
+    else line.opcode.text
+
+-- a line with a fault: its opcode, and the fault
+pub record FaultyLineView : Type 0 where
+  pub opcode : List ℕ
+  pub fault : LocatedFault
+
+-- a line with a fault, as the code has it
+abbrev pub faulty_line_view : FaultyLine → FaultyLineView
+faulty_line_view faulty = record { opcode = string_bytes faulty.opcode; fault = located_fault faulty.fault }
+
+-- a line with this fault
+abbrev pub faulty_line : LineView → Fault → FaultyLineView
+faulty_line line wrong = record { opcode = named_opcode line; fault = record { fault = wrong; file = line.file; line = line.line } }
+
+-- the same as a list; empty for a line without a fault
+abbrev pub faulty_line_if : LineView → Option Fault → List FaultyLineView
+faulty_line_if line None = []
+faulty_line_if line (Some wrong) = faulty_line line wrong ∷ []
+
+-- the lines that have a fault, in order, each with its fault
+abbrev pub faulty_lines : List LineView → List FaultyLineView
+faulty_lines lines = flat_map (λ entry. faulty_line_if entry.1 (line_fault lines entry.0 entry.1)) (enumerate_from 0 lines)
+
+-- the line was found with this fault
+abbrev pub IsFaultyAs : LineView → Failure Fault → FaultyLine → Type 0
+IsFaultyAs line failure faulty = IfFault (λ wrong. faulty_line_view faulty ≡ faulty_line line wrong) failure × (failure ≢ failures.Memory)

@@ -1,0 +1,98 @@
+//! The lines of a table that have a fault by themselves.
+ghost use Rattle.std.specs.Prelude.{◌≡◌, ◌↔◌, [], List, IfOk, Some, map, slice_get, string_bytes};
+ghost use Rattle.brl_lines.specs.Tokens.{LineView};
+ghost use Rattle.brl_lines.specs.Views.{line_view};
+ghost use Rattle.brl_table.specs.Building.{AreWithinLimits, Represents};
+ghost use Rattle.brl_table.specs.FaultText.{located_fault};
+ghost use Rattle.brl_table.specs.Reading.{files_of, IsFaultOf, PassesFirst};
+ghost use Rattle.brl_table.specs.Survey.{IsFaultyAs, faulty_line_view, faulty_lines, named_opcode as opcode_by};
+ghost use Rattle.brl_table.specs.declared.table_fault.TableFault.{TableFault as Fault};
+
+use crate::TableFault;
+use crate::builder::{TableBuilder, fault_at, file_names, place_of};
+use crate::opcode::{Opcode, opcode_named};
+use crate::table_fault::WordFault;
+use brl_failure::Failure;
+use brl_lines::Line;
+use std::alloc::{AllocError, Global};
+
+/// A line of a table that has a fault by itself.
+#[derive(Debug, Drop)]
+pub struct FaultyLine {
+    /// Its opcode: what follows `noback` or `nofor`, if anything does, and else its first word.
+    pub opcode: String,
+    pub fault: TableFault,
+}
+
+/// The lines that have a fault by themselves, in order, each with its fault. These are the faults
+/// of the first pass of `read_table`. A line with a fault defines nothing: each line is read after
+/// the good lines before it. A character that a rule or a list names and that no line defines is no
+/// fault of the line by itself.
+pub fn survey(alloc: Global, lines: &[Line<'_>]) -> Result<Vec<FaultyLine>, AllocError>
+    ensures { IfOk result (λ found. map faulty_line_view found.items ≡ faulty_lines (map line_view lines.now)) }
+{
+    let files = file_names(alloc, lines)?;
+    let mut builder = TableBuilder::new(alloc);
+    find_faulty(alloc, &mut builder, files.as_slice(), lines)
+}
+
+/// The lines, of files with these names, that have a fault by themselves. The builder has none yet.
+fn find_faulty(
+    alloc: Global,
+    builder: &mut TableBuilder,
+    files: &[String],
+    lines: &[Line<'_>],
+) -> Result<Vec<FaultyLine>, AllocError>
+    requires none { builder.old.items.items ≡ [] }
+    requires represents { Represents [] builder.old.characters builder.old.signs builder.old.used }
+    requires within { AreWithinLimits builder.old.characters builder.old.signs builder.old.used }
+    requires named { map string_bytes files.now ≡ files_of (map line_view lines.now) }
+    ensures { IfOk result (λ found. map faulty_line_view found.items ≡ faulty_lines (map line_view lines.now)) }
+{
+    let mut found = Vec::new(alloc);
+    for line in lines {
+        let file = place_of(files, line.file).unwrap();
+        if let Err(failure) = builder.add(alloc, file, line) {
+            found.push(faulty_line(alloc, failure, line)?)?;
+        }
+    }
+    Ok(found)
+}
+
+/// A line with this fault.
+fn faulty_line(
+    alloc: Global,
+    failure: Failure<WordFault>,
+    line: &Line<'_>,
+) -> Result<FaultyLine, AllocError>
+    ensures { IfOk result (IsFaultyAs (line_view line.now) failure) }
+{
+    let Failure::Fault(fault) = fault_at(alloc, failure, line) else {
+        return Err(AllocError);
+    };
+    let opcode = String::from_str(alloc, named_opcode(line))?;
+    Ok(FaultyLine { opcode, fault })
+}
+
+/// The opcode of a line: what follows `noback` or `nofor`, if anything does, and else its first
+/// word.
+fn named_opcode<'a>(line: &Line<'a>) -> &'a str
+    ensures { result.now ≡ opcode_by (line_view line.now) }
+{
+    let first = line.opcode.text;
+    match opcode_named(first) {
+        Some(Opcode::Noback | Opcode::Nofor) => line
+            .operands
+            .first()
+            .map_or(first, |next| next.text),
+        _ => first,
+    }
+}
+
+/// A survey finds no line exactly where the first pass finds none. Where that finds the first fault
+/// of the lines, it is that of the first line found.
+pub fn survey_laws()
+    ensures none { (lines : List LineView) → (faulty_lines lines ≡ []) ↔ PassesFirst lines }
+    ensures first { (lines : List LineView) (found : Fault) → IsFaultOf lines found → (PassesFirst lines → ⊥) →
+        slice_get (map (λ faulty. faulty.fault) (faulty_lines lines)) 0 ≡ Some (located_fault found) }
+{}

@@ -1,0 +1,53 @@
+//! The table that files define.
+ghost use Rattle.std.specs.Prelude.{◌≡◌, ℕ, List, IfErr, IfOk};
+ghost use Rattle.brl_failure.specs.Failure.{IfFault};
+ghost use Rattle.brl_lines.specs.Answer.{AllStay, GivesOneAnswer};
+ghost use Rattle.brl_lines.specs.Outcome.{CountsFailure};
+ghost use Rattle.brl_table.specs.Files.{IsFaultAt, IsTableOf, load_outcome};
+ghost use Rattle.brl_table.specs.Reading.{IsFaultOf, PassesAll, table_of};
+ghost use Rattle.brl_table.specs.declared.no_table.NoTable.{NoTable as NoTableValue};
+ghost use Rattle.brl_rules.specs.TableView.{TableView};
+
+use crate::{NoTable, TableFault, read_table};
+use brl_failure::{Failure, raise};
+use brl_lines::{Loaded, Source, load, one_answer_law};
+use brl_rules::Table;
+use std::alloc::Global;
+
+/// The table with its root at a path: its files are loaded, and their lines are read. `Load` where
+/// a file can't be loaded, `Table` where a line is faulty. A file is reported as unreadable only
+/// where the source couldn't read it.
+pub fn load_table<S: Source>(
+    alloc: Global,
+    source: &mut S,
+    root: &str,
+) -> Result<Table, Failure<NoTable>>
+    ensures table { IfOk result (IsTableOf (S.gives source.old) root.now) }
+    ensures fault { IfErr result (IfFault (IsFaultAt (S.gives source.old) root.now)) }
+    ensures count { CountsFailure (S.faults source.old) (S.faults source.new) (load_outcome result) }
+    ensures same { AllStay (S.gives source.old) (S.gives source.new) }
+{
+    let loaded = raise(load(alloc, source, root), NoTable::Load)?;
+    raise(table_of_loaded(alloc, &loaded), NoTable::Table)
+}
+
+/// The table that the lines of loaded files define, or the fault of the first line that has one.
+pub fn table_of_loaded(alloc: Global, loaded: &Loaded) -> Result<Table, Failure<TableFault>>
+    ensures passes { IfOk result (λ _. PassesAll loaded.now.lines) }
+    ensures table { IfOk result (λ table. table ≡ table_of loaded.now.lines) }
+    ensures fault { IfErr result (IfFault (IsFaultOf loaded.now.lines)) }
+{
+    let lines = loaded.lines(alloc)?;
+    read_table(alloc, lines.as_slice())
+}
+
+/// A source with one answer for each path has at most one table at a path. Where it has one, no
+/// fault keeps it from being loaded.
+pub fn one_table_law<S: Source>(source: &S)
+    ensures table { GivesOneAnswer (S.gives source.now) → (root : List ℕ) (one other : TableView) →
+        IsTableOf (S.gives source.now) root one → IsTableOf (S.gives source.now) root other → one ≡ other }
+    ensures fault { GivesOneAnswer (S.gives source.now) → (root : List ℕ) (t : TableView) → IsTableOf (S.gives source.now) root t →
+        (fault : NoTableValue) → IsFaultAt (S.gives source.now) root fault → ⊥ }
+{
+    one_answer_law(source);
+}

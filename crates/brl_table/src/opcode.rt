@@ -1,0 +1,103 @@
+//! The opcodes of the profile. specs/Opcodes.antt has the table of them, in three parts; this code
+//! is proved to follow it.
+ghost use Rattle.std.specs.Prelude.{◌≡◌};
+ghost use Rattle.brl_table.specs.Opcodes.{character_opcodes, entry_of, opcode_of, other_opcodes, place_opcodes};
+
+use crate::item::NumericRole;
+use brl_rules::{Class, Place, Sign};
+
+/// What a line with an opcode does.
+#[derive(Clone, Copy)]
+pub enum Opcode {
+    /// Defines a character, with these classes: one character, then dots.
+    Plain(Class),
+    /// Defines a digit that begins numbers: one character, then dots.
+    Literary,
+    /// Defines an uppercase character and its lowercase one: the two characters, then dots for
+    /// both, or dots for each with a comma between them.
+    Uplow,
+    /// Gives a rule for this place: characters, then dots or `=`.
+    Placed(Place),
+    /// Comes before a place opcode, whose rule is used, since this project only translates forward.
+    Noback,
+    /// Comes before a place opcode, whose rule is checked and not used.
+    Nofor,
+    /// Is checked and not used: one character, then dots.
+    Display,
+    /// Gives an indicator its cells: dots.
+    Indicator(Sign),
+    /// Gives characters this role.
+    NumericList(NumericRole),
+    /// Is replaced by the lines of a file, so that a line that is left has no operand.
+    Include,
+}
+
+/// The opcode of a word, if it is one of the profile.
+pub fn opcode_named(word: &str) -> Option<Opcode>
+    ensures { result ≡ opcode_of word.now }
+{
+    character_opcode(word)
+        .or(place_opcode(word))
+        .or(other_opcode(word))
+}
+
+/// The opcode of a word, if its lines define characters.
+fn character_opcode(word: &str) -> Option<Opcode>
+    ensures { result ≡ entry_of character_opcodes word.now }
+{
+    match word {
+        "space" => Some(Opcode::Plain(Class::SPACE)),
+        "punctuation" => Some(Opcode::Plain(Class::PUNCTUATION)),
+        "digit" => Some(Opcode::Plain(Class::DIGIT)),
+        "letter" => Some(Opcode::Plain(Class::LETTER)),
+        "lowercase" => Some(Opcode::Plain(Class::LOWERCASE_LETTER)),
+        "uppercase" => Some(Opcode::Plain(Class::UPPERCASE_LETTER)),
+        "sign" => Some(Opcode::Plain(Class::SIGN)),
+        "math" => Some(Opcode::Plain(Class::MATH)),
+        "litdigit" => Some(Opcode::Literary),
+        "uplow" => Some(Opcode::Uplow),
+        _ => None,
+    }
+}
+
+/// The opcode of a word, if it is a place opcode.
+fn place_opcode(word: &str) -> Option<Opcode>
+    ensures { result ≡ entry_of place_opcodes word.now }
+{
+    match word {
+        "always" => Some(Opcode::Placed(Place::Always)),
+        "word" => Some(Opcode::Placed(Place::Word)),
+        "sufword" => Some(Opcode::Placed(Place::Sufword)),
+        "prfword" => Some(Opcode::Placed(Place::Prfword)),
+        "begword" => Some(Opcode::Placed(Place::Begword)),
+        "begmidword" => Some(Opcode::Placed(Place::Begmidword)),
+        "midword" => Some(Opcode::Placed(Place::Midword)),
+        "midendword" => Some(Opcode::Placed(Place::Midendword)),
+        "endword" => Some(Opcode::Placed(Place::Endword)),
+        "partword" => Some(Opcode::Placed(Place::Partword)),
+        "begnum" => Some(Opcode::Placed(Place::Begnum)),
+        "midnum" => Some(Opcode::Placed(Place::Midnum)),
+        "endnum" => Some(Opcode::Placed(Place::Endnum)),
+        _ => None,
+    }
+}
+
+/// The opcode of a word, if it is one of the others.
+fn other_opcode(word: &str) -> Option<Opcode>
+    ensures { result ≡ entry_of other_opcodes word.now }
+{
+    match word {
+        "noback" => Some(Opcode::Noback),
+        "nofor" => Some(Opcode::Nofor),
+        "display" => Some(Opcode::Display),
+        "capsletter" | "capsign" => Some(Opcode::Indicator(Sign::CapsLetter)),
+        "numsign" => Some(Opcode::Indicator(Sign::NumSign)),
+        "nocontractsign" => Some(Opcode::Indicator(Sign::NoContractSign)),
+        "begcapsword" => Some(Opcode::Indicator(Sign::BegCapsWord)),
+        "endcapsword" => Some(Opcode::Indicator(Sign::EndCapsWord)),
+        "numericmodechars" => Some(Opcode::NumericList(NumericRole::KeepsMode)),
+        "numericnocontchars" => Some(Opcode::NumericList(NumericRole::NeedsNoContractSign)),
+        "include" => Some(Opcode::Include),
+        _ => None,
+    }
+}

@@ -1,0 +1,12 @@
+//! Each call and type of the public surface, by its path: its crates are those that a caller of the
+//! library names, but for `brl_testing`, and `brl_rules` for a definition.
+#![tactic(auto)]
+
+#[cfg(test)]
+mod machines;
+#[cfg(test)]
+mod program;
+#[cfg(test)]
+mod tables;
+#[cfg(test)]
+mod verdicts;

@@ -1,0 +1,71 @@
+//! The program.
+use brl_failure::Failure;
+use brl_lines::MapSource;
+use brl_table::Table;
+use brl_testing::{Listener, one_file, table_of};
+use brl_tool::{Files, Form, SinkFault, StreamFault, Watched, run, translate_lines};
+use std::alloc::Global;
+use std::test::Fail;
+
+fn is_written(alloc: Global, files: &mut MapSource) -> bool {
+    let written: Result<(), SinkFault> = files.write(alloc, "u.ctb", b"letter a 1\n");
+    written.is_ok() && files.files.len() == 2
+}
+
+/// Whether an input is translated to this output.
+fn is_streamed(alloc: Global, table: &Table, form: Form, input: &[u8], want: &[u8]) -> bool {
+    let mut out = Watched::new(Vec::new(alloc));
+    let mut reader = Watched::new(input);
+    let done: Result<(), Failure<StreamFault>> = translate_lines(
+        alloc,
+        table,
+        form,
+        &mut reader,
+        &mut out,
+    );
+    done.is_ok() && out.device.as_slice() == want
+}
+
+fn streams(alloc: Global, table: &Table) -> bool {
+    is_streamed(alloc, table, Form::Ascii, b"a\n", b"A\n")
+        && is_streamed(alloc, table, Form::Unicode, b"a\n", "\u{2801}\n".as_bytes())
+        && !is_streamed(alloc, table, Form::Ascii, b"z\n", b"")
+}
+
+/// What the program answers these words with, and its status.
+fn answers(alloc: Global, words: &[String], files: &mut MapSource) -> bool {
+    let mut out = Watched::new(Vec::new(alloc));
+    let mut err = Listener::new(Vec::new(alloc));
+    let mut input = Watched::new(b"".as_slice());
+    let status = run(alloc, words, files, &mut input, &mut out, &mut err);
+    out.device.as_slice() == b"no clash\n".as_slice() && status == 0
+}
+
+fn words_of(alloc: Global) -> Result<Vec<String>, Fail> {
+    let mut words = Vec::new(alloc);
+    for word in ["brl", "clash", "t.ctb", "a", "b"] {
+        words.push(String::from_str(alloc, word)?)?;
+    }
+    Ok(words)
+}
+
+fn is_run(alloc: Global, files: &mut MapSource) -> Result<bool, Fail> {
+    let words = words_of(alloc)?;
+    Ok(answers(alloc, words.as_slice(), files) && is_written(alloc, files))
+}
+
+fn runs(alloc: Global) -> Result<bool, Fail> {
+    let mut files = one_file(alloc, "t.ctb", b"letter a 1\nletter b 12\n")?;
+    is_run(alloc, &mut files)
+}
+
+fn translates(alloc: Global) -> Result<bool, Fail> {
+    let table = table_of(alloc, "letter a 1")?;
+    Ok(streams(alloc, &table))
+}
+
+#[test]
+fn calls_of_the_program(rt: HostRuntime) -> Result<(), Fail> {
+    assert!(rt; runs(rt.alloc())? && translates(rt.alloc())?);
+    Ok(())
+}

@@ -1,0 +1,129 @@
+//! Certificates, the checker, the judge, the search and the report.
+ghost use Rattle.brl_rules.specs.Translation.{IsClash};
+
+use crate::tables::is_refused;
+use brl_accept::{AcceptFault, Accepted, JudgeFault, accept, judge};
+use brl_cells::Cells;
+use brl_cert::{Body, Cert, CertFault, CertPair, WriteFault, read_cert, write_cert};
+use brl_dues::{Dues, DuesState};
+use brl_failure::Failure;
+use brl_forward::Clash;
+use brl_lines::MapSource;
+use brl_report::{ReportFault, report};
+use brl_search::{Found, SearchFault, search};
+use brl_table::Table;
+use brl_testing::{one_file, table_of};
+use std::alloc::Global;
+use std::test::Fail;
+
+/// The certificate of a table of the letters `a` and `b`.
+const CERT: &[u8] = b"BRLCERT 3\nstate 1 0 0\nstate 8 0 0\nend 2 0\n";
+
+/// Whether a certificate is written with these bytes.
+fn is_written(alloc: Global, cert: &Cert) -> bool {
+    let written: Result<Vec<u8>, WriteFault> = write_cert(alloc, cert);
+    match &written {
+        Ok(bytes) => bytes.as_slice() == CERT,
+        Err(_) => false,
+    }
+}
+
+fn reads_and_writes(alloc: Global) -> bool {
+    let cert: Result<Cert, Failure<CertFault>> = read_cert(alloc, CERT);
+    match &cert {
+        Ok(cert) => is_written(alloc, cert),
+        Err(_) => false,
+    }
+}
+
+fn are_certificates(alloc: Global) -> bool {
+    let pair: CertPair = CertPair {
+        ahead: 0,
+        behind: 0,
+        lead: Cells::new(alloc),
+    };
+    reads_and_writes(alloc) && is_refused(read_cert(alloc, b"BRLCERT 9\n")) && pair.lead.is_empty()
+}
+
+/// Whether these are the numbers of that certificate.
+fn are_counts(accepted: Accepted) -> bool {
+    accepted.states == 2 && accepted.pairs == 0
+}
+
+fn accepts(alloc: Global, dues: &Dues<'_>, body: &Body<DuesState>) -> bool {
+    let accepted: Result<Accepted, Failure<AcceptFault>> = accept(alloc, dues, body);
+    match accepted {
+        Ok(accepted) => are_counts(accepted),
+        Err(_) => false,
+    }
+}
+
+/// Whether the checker accepts that certificate for a table.
+fn is_accepted(alloc: Global, table: &Table) -> bool {
+    match read_cert(alloc, CERT) {
+        Ok(Cert::Word(body)) => accepts(alloc, &Dues::new(alloc, table), &body),
+        _ => false,
+    }
+}
+
+/// Whether the judge accepts that certificate for the table of a file.
+fn is_judged(alloc: Global, files: &mut MapSource, path: &str) -> bool {
+    let judged: Result<Accepted, Failure<JudgeFault>> = judge(alloc, files, path, CERT);
+    match judged {
+        Ok(accepted) => are_counts(accepted),
+        Err(_) => false,
+    }
+}
+
+fn judges(alloc: Global) -> Result<bool, Fail> {
+    let mut files = one_file(alloc, "t.ctb", b"letter a 1\nletter b 12\n")?;
+    Ok(is_judged(alloc, &mut files, "t.ctb") && !is_judged(alloc, &mut files, "u.ctb"))
+}
+
+fn is_certified(alloc: Global, table: &Table) -> bool {
+    let found: Result<Found, SearchFault> = search(alloc, table, 1000);
+    match &found {
+        Ok(Found::Certified(cert)) => is_written(alloc, cert),
+        _ => false,
+    }
+}
+
+fn is_reported(alloc: Global, table: &Table, clash: &Clash) -> bool
+    requires { IsClash table.now clash.now.left clash.now.right clash.now.cells }
+{
+    let text: Result<String, ReportFault> = report(alloc, table, clash);
+    match &text {
+        Ok(text) => text.as_str().starts_with("left: "),
+        Err(_) => false,
+    }
+}
+
+fn has_a_report(alloc: Global, table: &Table) -> bool {
+    let found: Result<Found, SearchFault> = search(alloc, table, 1000);
+    match &found {
+        Ok(Found::Clashing(clash)) => is_reported(alloc, table, clash),
+        _ => false,
+    }
+}
+
+/// Whether the table of two letters is certified.
+fn certifies(alloc: Global) -> Result<bool, Fail> {
+    let table = table_of(alloc, "letter a 1; letter b 12")?;
+    Ok(is_accepted(alloc, &table) && is_certified(alloc, &table))
+}
+
+/// Whether the table of two letters with the same cells has a clash, and isn't accepted.
+fn finds_a_clash(alloc: Global) -> Result<bool, Fail> {
+    let table = table_of(alloc, "letter a 1; letter b 1")?;
+    Ok(!is_accepted(alloc, &table) && has_a_report(alloc, &table))
+}
+
+fn are_reached(alloc: Global) -> Result<bool, Fail> {
+    Ok(are_certificates(alloc) && judges(alloc)? && certifies(alloc)? && finds_a_clash(alloc)?)
+}
+
+#[test]
+fn calls_of_verdicts(rt: HostRuntime) -> Result<(), Fail> {
+    assert!(rt; are_reached(rt.alloc())?);
+    Ok(())
+}
