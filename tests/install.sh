@@ -9,6 +9,13 @@ mkdir "$work/clone" && cd "$work" || exit 2
 cp -R "$top/install" "$top/man" "$top/completions" clone/ || exit 2
 cat >clone/build <<END
 #!/bin/sh
+case \$* in
+    '') how='proved here' ;;
+    --quick) how='compiled here without proofs' ;;
+    --how) exec cat "$work/how" ;;
+    *) exit 2 ;;
+esac
+echo "\$how" >"$work/how"
 echo built >>"$work/builds"
 mkdir -p "$work/clone/out" && cp "$program" "$work/clone/out/brl"
 END
@@ -43,6 +50,7 @@ has_files() {
 
 mkdir place && install place
 [ "$status" = 0 ] && has_files place "$files" && [ -s builds ] || fail 'into a folder'
+[ "$(cat err)" = 'install: the program is proved here' ] || fail 'a proved program is installed'
 [ "$(place/bin/brl --version)" = "$("$program" --version)" ] || fail 'the program runs where it was installed'
 for file in $files; do
     case $file in
@@ -65,6 +73,11 @@ install place
 exec 3<&-
 [ ! -L place/share/man/man1/brl.1 ] && cmp -s place/share/zsh/site-functions/_brl "$top/completions/_brl" || fail 'what was there is replaced'
 ok 'a second time'
+
+install --compiled compiled
+[ "$status" = 0 ] && has_files compiled "$files" || fail 'without proofs'
+[ "$(cat err)" = 'install: the program is compiled here without proofs' ] || fail 'a compiled program is installed'
+ok 'without proofs'
 
 DESTDIR=$work/package
 export DESTDIR
@@ -108,6 +121,10 @@ mkdir empty
 install empty
 refused 'a program that can not be built' "the program isn't built, so nothing was installed"
 has_files empty '' || fail 'a program that can not be built: something was installed'
+printf '#!/bin/sh\n[ "$*" != --how ]\n' >clone/build
+install empty
+refused 'a program of which nothing is known' "how the program was made isn't known, so nothing was installed"
+has_files empty '' || fail 'a program of which nothing is known: it was installed'
 
 # No file may have more than one block: so the copy of the program ends early.
 printf '#!/bin/sh\n' >clone/build
