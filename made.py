@@ -1,4 +1,4 @@
-"""What is known of the program: how it was made (out/brl.how), and which sources ./test has proved (PROVED)."""
+"""What is known of the program: how it was made (out/brl.how), and which sources `./test --all` has proved (PROVED)."""
 
 import hashlib
 from collections.abc import Callable
@@ -34,15 +34,21 @@ def sealed(values: dict[str, object]) -> str:
     return f"{rows}sum {hashlib.sha256(rows.encode()).hexdigest()}\n"
 
 
-def unsealed(file: Path, names: tuple[str, ...]) -> list[str] | None:
-    """The values of these names in such a file, unless it isn't there, or was edited by hand or merged."""
+def unsealed(file: Path) -> dict[str, str] | None:
+    """The values in such a file by their names, unless it isn't there, or was edited by hand or merged."""
     try:
         text = file.read_text()
     except (OSError, UnicodeError):
         return None
     values = dict(row.split(" ", 1) for row in text.splitlines() if " " in row)
     values.pop("sum", None)
-    return list(values.values()) if sealed(values) == text and tuple(values) == names else None
+    return values if sealed(values) == text else None
+
+
+def values_in(file: Path, names: tuple[str, ...]) -> list[str] | None:
+    """The values in such a file that has these names."""
+    values = unsealed(file) or {}
+    return list(values.values()) if tuple(values) == names else None
 
 
 class Kit(NamedTuple):
@@ -65,27 +71,28 @@ class Kit(NamedTuple):
 
 
 class Record(NamedTuple):
-    """What PROVED says of the last run of ./test that passed."""
+    """What PROVED says of the last run of `./test --all` that passed: sums of the program's sources and of the tests' code."""
 
     sources: str
+    tests: str
     kit: Kit
     passed: str
     date: str
 
     def says_as(self, other: "Record") -> bool:
         """Whether another run came to the same, on whichever day, with a kit of the same logic."""
-        return (self.sources, self.kit.logic, self.passed) == (other.sources, other.kit.logic, other.passed)
+        return self._replace(kit=self.kit.logic, date="") == other._replace(kit=other.kit.logic, date="")
 
     def write(self) -> None:
         put(RECORD, lambda it: it.write_text(sealed(self._asdict())))
 
     @staticmethod
     def read() -> "Record | None":
-        values = unsealed(RECORD, Record._fields)
+        values = values_in(RECORD, Record._fields)
         if not values:
             return None
-        sources, kit, passed, date = values
-        return Record(sources, Kit.read(kit), passed, date)
+        sources, tests, kit, passed, date = values
+        return Record(sources, tests, Kit.read(kit), passed, date)
 
 
 class Standing(NamedTuple):
@@ -123,7 +130,7 @@ class How(NamedTuple):
     @staticmethod
     def read(program: Path) -> "How | None":
         """What is known of this program, unless another was made last."""
-        values = unsealed(HOW, How._fields)
+        values = values_in(HOW, How._fields)
         if not values:
             return None
         way, total, sources, kit = values

@@ -27,10 +27,16 @@ values at which all that is known there holds and a goal fails, no proof file he
 goal. It isn't printed of a function with a loop: after a loop only its invariant is known, so a right body whose
 loop needs another invariant fails at some values too.
 
-  tests/wrong_bodies.py [NAME..]                  tries those of these crates (all), over the libraries that `rt lib` builds
-  tests/wrong_bodies.py --after-ci ROOT [NAME..]  the same, over the libraries that `rt ci` has built in a copy of the sources
+tests/refused keeps of which crates all this came out as it should, with a sum of what decides it (records.py); only
+this script writes it. A run tries the crates whose sum is another, and in turn, by the day, a fifth of the others. Of
+the rest it counts what is kept.
 
-The last line is 'wrong bodies: N refused, M not'.
+  tests/wrong_bodies.py [--after-ci ROOT] [--all | NAME..]
+
+With --all it tries the bodies of all crates, and with names those of these. The libraries that they stand on are built
+first, or with --after-ci taken from a copy of the sources in which `rt ci` has built them.
+
+The last lines say how many were tried, and 'wrong bodies: N refused, M not'.
 """
 
 import os
@@ -39,6 +45,7 @@ import shutil
 import subprocess
 import sys
 import tempfile
+import time
 from concurrent.futures import ThreadPoolExecutor, as_completed
 from dataclasses import dataclass, replace
 from pathlib import Path
@@ -48,10 +55,16 @@ TOP = Path(__file__).resolve().parent.parent
 
 sys.dont_write_bytecode = True
 sys.path.insert(0, str(TOP))
+from functions import Function, function_at, function_of_line, functions_of, homes_of, modules_of, text_of
 from kit import kit
+from made import Kit
+from records import Seen, keep_refused, read_refused, sum_of_bodies
 
 # The memory that the check of one crate may take.
 CHECK_BYTES = 4_000_000_000
+
+# Into how many parts the crates are cut, of which each run tries one though nothing has changed there.
+TURNS = 5
 
 # The function whose goals aren't proved, or whose proof rests on a hole alone; a goal that a proof file doesn't prove; one that nothing proves.
 TOLD = re.compile(r"fn (?P<name>\S+): (?:not proved|no proof)(?P<why>.*)")
@@ -78,110 +91,7 @@ UNREAD = re.compile(r"(?:\./)?(?P<path>src/\S+?):(?P<line>\d+):\d+: error(?P<kin
 # The last line of a check that was asked for some functions.
 ENDED = re.compile(r"only=\d+ holes=\d+$")
 
-FUNCTION = re.compile(r"^( *)(?:[a-z()]+ )*fn (\w+)", re.MULTILINE)
 LOOP = re.compile(r"^(?!\s*//).*\b(?:for .+ in|while|loop) ", re.MULTILINE)
-
-
-def function_at(text: str, place: int) -> int | None:
-    """The place of the function around a place of formatted code, if there is one: it ends at a brace below its `fn`."""
-    for head in reversed(list(FUNCTION.finditer(text[:place]))):
-        end = re.compile(rf"^{head[1]}\}}$", re.MULTILINE).search(text, head.end())
-        if end and end.start() > place:
-            return head.start()
-    return None
-
-
-def text_of(text: str, head: int) -> str:
-    """The function with this head."""
-    indent = FUNCTION.match(text, head)[1]
-    return text[head : re.compile(rf"^{indent}\}}$", re.MULTILINE).search(text, head).end()]
-
-
-def function_of_line(text: str, line: int) -> str:
-    """The name of the function around a line, counted from 1."""
-    place = function_at(text, sum(len(it) for it in text.splitlines(keepends=True)[:line]))
-    return "" if place is None else re.search(r"fn (\w+)", text[place:])[1]
-
-
-@dataclass(frozen=True)
-class Function:
-    """A function, or a method of a type's own impl, of a formatted file, with the places of its parts there."""
-
-    path: str
-    # The modules and the type that it is in, and its name.
-    names: tuple[str, ...]
-    indent: str
-    # From its comment on, its `fn`, its name, the end of its name, the end of the brace before its body, the brace behind it.
-    begin: int
-    head: int
-    name: int
-    name_end: int
-    body: int
-    end: int
-
-    def label(self, name: str = "") -> str:
-        return "::".join((*self.names[:-1], name or self.names[-1]))
-
-    def folder(self, name: str = "") -> str:
-        return "/".join(("proofs", *self.names[:-1], name or self.names[-1]))
-
-    def call(self) -> str:
-        """A pattern of most of its calls."""
-        before = rf"\b(?:self\.|Self::|{self.names[-2]}::)" if self.indent else r"(?<![.\w])"
-        return rf"{before}{self.names[-1]}\("
-
-    def brace(self) -> int:
-        """The place behind its last brace."""
-        return self.end + len(self.indent) + 1
-
-
-def type_around(text: str, place: int) -> str | None:
-    """The type whose own impl has a method at this place, if it stands in one."""
-    heads = [it for it in re.finditer(r"^(?:pub(?:\(\w+\))? )?(?:impl|trait|mod)\b[^{]*", text, re.MULTILINE) if it.start() < place]
-    if not heads or not heads[-1][0].startswith("impl") or " for " in heads[-1][0]:
-        return None
-    found = re.match(r"impl(?:<[^{]*?>)? (\w+)", heads[-1][0])
-    return found and found[1]
-
-
-def begin_of(text: str, head: int) -> int:
-    """Where the comment and the attributes of the function with this head begin."""
-    begin = head
-    while begin:
-        line = text.rindex("\n", 0, begin - 1) + 1 if "\n" in text[: begin - 1] else 0
-        words = text[line:begin].strip()
-        if not words or not words.startswith("//") and words.endswith(("{", "}", ";")):
-            break
-        begin = line
-    return begin
-
-
-def modules_of(path: str) -> tuple[str, ...]:
-    inside = Path(path).with_suffix("").parts[1:]
-    return () if inside in (("lib",), ("main",)) else inside
-
-
-def homes_of(texts: dict[str, str]) -> dict[str, tuple[str, ...]]:
-    """The modules that types of these files stand in, where their methods are counted, wherever these stand."""
-    type_of = re.compile(r"^(?:pub(?:\(\w+\))? )?(?:struct|enum) (\w+)", re.MULTILINE)
-    return {it[1]: modules_of(path) for path, text in texts.items() for it in type_of.finditer(text)}
-
-
-def functions_of(path: str, text: str, homes: dict[str, tuple[str, ...]]) -> list[Function]:
-    """The functions and the methods of types' own impls in a file; not those that constants can call."""
-    found = []
-    for it in FUNCTION.finditer(text):
-        owner = type_around(text, it.start()) if it[1] else ""
-        end = re.compile(rf"^{it[1]}\}}$", re.MULTILINE).search(text, it.end())
-        if owner is None or len(it[1]) > 4 or not end or "const " in it[0]:
-            continue
-        body = re.compile(rf"^{it[1]}\{{$", re.MULTILINE).search(text, it.end(), end.start())
-        body = body or re.compile(r"\{$", re.MULTILINE).search(text, it.end(), end.start())
-        names = (*homes.get(owner, ()), owner, it[2]) if owner else (*modules_of(path), it[2])
-        if body and (not found or found[-1].end < it.start()):
-            places = (begin_of(text, it.start()), it.start(), it.start(2), it.end(2), body.end(), end.start())
-            found.append(Function(path, names, it[1], *places))
-    return found
 
 
 @dataclass(frozen=True)
@@ -308,6 +218,7 @@ class Trial:
         own = TOP / "crates" / crate.name
         good, bad = rt.edits_of(SimpleNamespace(folder=str(own)))
         self.failed = [f"{it}: an edit stands right in must-fail/, and its name ends in .edit" for it in bad]
+        self.total = sum_of_bodies(crate, own, Kit.of(rt))
         self.bodies = [it for it in self.read([*map(Path, good)]) if not self.is_misplaced(it, False)]
         self.rewritten = [it for it in self.read(sorted(Path(own, "must-pass").glob("*.edit"))) if not self.is_misplaced(it, True)]
 
@@ -492,38 +403,99 @@ class Trial:
         self.try_in_place(self.try_copies())
         return self
 
+    def seen(self) -> Seen | None:
+        """What is to be kept of this trial, where all came out as it should."""
+        if self.failed:
+            return None
+        today = time.strftime("%Y-%m-%d", time.gmtime())
+        return Seen(self.total, len(self.refused), self.shown_false, len(self.accepted), today)
+
+
+def in_turn(trials: list[Trial], day: int) -> set[str]:
+    """The crates whose turn it is on a day: one of some parts, which have as many bodies each as they can."""
+    parts: list[list[Trial]] = [[] for _ in range(TURNS)]
+    for it in sorted(trials, key=lambda it: (-len(it.bodies), it.crate.name)):
+        min(parts, key=lambda part: sum(len(it.bodies) for it in part)).append(it)
+    # whoever runs this every fifth day meets each part, too
+    return {it.crate.name for it in parts[(day + day // TURNS) % TURNS]}
+
+
+def to_try(trials: list[Trial], kept: dict[str, Seen]) -> list[Trial]:
+    """Those of which nothing is kept as they are now, and those whose turn it is."""
+    turn = in_turn(trials, int(time.time()) // 86_400)
+    return [it for it in trials if it.crate.name in turn or it.crate.name not in kept or kept[it.crate.name].total != it.total]
+
 
 def free_memory() -> int:
     rows = dict(row.split(":") for row in Path("/proc/meminfo").read_text().splitlines())
     return 1024 * int(rows["MemAvailable"].split()[0])
 
 
-def main(words: list[str]) -> int:
-    rt = kit()
-    if not rt:
-        sys.exit("wrong_bodies.py: this needs the command rt of the Rattle kit")
-    rt.rtlib.guarded()
-    is_after_ci = words[:1] == ["--after-ci"]
-    root = Path(words[1]).resolve() if is_after_ci else TOP
-    names = words[2:] if is_after_ci else words
-    crates = [it for it in rt.rtlib.crates_below(str(root)) if not names or it.name in names]
-    trials = [it for it in (Trial(rt, it) for it in crates) if it.bodies or it.rewritten or it.failed]
-    held = rt.rtlib.lock(crates)
-    if not is_after_ci and any(dep.build_rlib(["--jobs", "1"], anew=False) for it in trials for dep in it.crate.below()):
-        return 1
+def try_all(trials: list[Trial]) -> None:
+    """Tries these side by side, as processors and memory allow, and keeps of each what was seen."""
     lanes = max(1, min(len(os.sched_getaffinity(0)), free_memory() // CHECK_BYTES))
     with ThreadPoolExecutor(lanes) as pool:
         for ended in as_completed(pool.submit(it.run) for it in sorted(trials, key=Trial.work, reverse=True)):
             trial = ended.result()
             print(*trial.accepted, *trial.refused, *trial.failed, sep="\n", flush=True)
+            keep_refused(trial.crate.name, trial.seen())
+
+
+def report(tried: list[Trial], kept: list[Seen]) -> int:
+    """Prints the last lines, and gives how many bodies aren't as they should be."""
+    found = [Seen("", len(it.refused), it.shown_false, len(it.accepted), "") for it in tried]
+    refused, false, accepted = (sum(it) for it in zip((0, 0, 0), *((it.refused, it.false, it.accepted) for it in found + kept)))
+    missing, failed = sum(len(it.rewritten) - len(it.accepted) for it in tried), sum(len(it.failed) for it in tried)
+    by_record = sum(it.refused for it in kept)
+    print(f"right bodies: {accepted} accepted, {missing} not")
+    print(f"false at some values: {false} of {refused} refused")
+    print(f"tried: {refused - by_record + failed} bodies of {len(tried)} crates; by the record: {by_record} of {len(kept)} crates")
+    print(f"wrong bodies: {refused} refused, {failed} not")
+    return failed
+
+
+@dataclass(frozen=True)
+class Words:
+    """What this script is asked for."""
+
+    # The copy of the sources in which `rt ci` has built the libraries.
+    built: Path | None
+    is_all: bool
+    names: frozenset[str]
+
+    @staticmethod
+    def read(words: list[str]) -> "Words | None":
+        built = None
+        if words[:1] == ["--after-ci"] and len(words) > 1:
+            built, words = Path(words[1]).resolve(), words[2:]
+        is_all, names = words[:1] == ["--all"], frozenset(words)
+        wrong = len(names) > 1 if is_all else any(it.startswith("-") for it in names)
+        return None if wrong else Words(built, is_all, frozenset() if is_all else names)
+
+
+def main(words: list[str]) -> int:
+    asked = Words.read(words)
+    if not asked:
+        print(__doc__, file=sys.stderr)
+        return 2
+    rt = kit()
+    if not rt:
+        sys.exit("wrong_bodies.py: this needs the command rt of the Rattle kit")
+    rt.rtlib.guarded()
+    crates = rt.rtlib.crates_below(str(asked.built or TOP))
+    if unknown := asked.names - {it.name for it in crates}:
+        sys.exit(f"wrong_bodies.py: there is no crate {min(unknown)}")
+    chosen = [it for it in crates if it.name in asked.names] or crates
+    trials = [it for it in (Trial(rt, it) for it in chosen) if it.bodies or it.rewritten or it.failed]
+    kept = read_refused()
+    tried = trials if asked.is_all or asked.names else to_try(trials, kept)
+    held = rt.rtlib.lock([it.crate for it in tried])
+    if not asked.built and any(dep.build_rlib(["--jobs", "1"], anew=False) for it in tried for dep in it.crate.below()):
+        return 1
+    try_all(tried)
     for it in held:
         os.close(it)
-    refused, failed = sum(len(it.refused) for it in trials), sum(len(it.failed) for it in trials)
-    accepted, rewritten = sum(len(it.accepted) for it in trials), sum(len(it.rewritten) for it in trials)
-    print(f"right bodies: {accepted} accepted, {rewritten - accepted} not")
-    print(f"false at some values: {sum(it.shown_false for it in trials)} of {refused} refused")
-    print(f"wrong bodies: {refused} refused, {failed} not")
-    return 1 if failed else 0
+    return 1 if report(tried, [kept[it.crate.name] for it in trials if it not in tried]) else 0
 
 
 if __name__ == "__main__":

@@ -1,8 +1,4 @@
-//! Worked certificates: as theorems, and as bytes that are read and written.
-ghost use Rattle.std.specs.Prelude.{◌≡◌, ◌∷◌, [], codes, Ok};
-ghost use Rattle.brl_cert.specs.Reading.{spelling, reading};
-ghost use Rattle.brl_tests_high.specs.Certificates.{lines, three_states, three_lines, start_alone, faulty, AreRefused};
-
+//! Worked certificates, as bytes that are read and written.
 use crate::lines::bytes_of;
 use brl_cells::{Cell, Cells};
 use brl_cert::{Cert, CertFault, CertFaultKind, read_cert, write_cert};
@@ -13,19 +9,6 @@ use brl_testing::cut;
 use std::alloc::Global;
 use std::hash::{BuildHasher, Hash};
 use std::test::Fail;
-
-/// Worked certificates and faults, computed from the definitions.
-fn worked_theorems()
-    ensures spelled { spelling three_states ≡ lines three_lines }
-    ensures read { reading (lines three_lines) ≡ Ok three_states }
-    ensures start { reading (lines (codes "BRLCERT 1" ∷ codes "state 1 0 0 -" ∷ codes "end 1 0" ∷ [])) ≡ Ok start_alone }
-    ensures refused { AreRefused faulty }
-{}
-
-#[test]
-fn worked_examples_compute() {
-    worked_theorems();
-}
 
 /// What reading gives, and the bytes: a certificate, or the fault that they are refused with.
 const READINGS: &str = "\

@@ -3,14 +3,9 @@ mod includes;
 mod operands;
 mod sources;
 
-ghost use Rattle.std.specs.Prelude.{Some};
-ghost use Rattle.brl_lines.specs.InMemory.{answer_in};
-ghost use Rattle.brl_lines.specs.Lines.{lines_over};
-ghost use Rattle.brl_failure.specs.Failure.{GivesAs};
-ghost use Rattle.brl_lines.specs.Views.{load_fault_view};
-
+use brl_examples::load_in_memory;
 use brl_failure::Failure;
-use brl_lines::{Line, LoadFault, Loaded, MapSource, Source, files_in_memory_law, load};
+use brl_lines::{Line, LoadFault, Loaded, MapSource, Source, load};
 use brl_testing::{agree, cut, lend, lend_mut, one_file};
 use std::alloc::Global;
 use std::fmt::Write;
@@ -50,18 +45,6 @@ fn bytes_of(alloc: Global, text: &str) -> Result<Vec<u8>, Fail> {
 fn file_of(alloc: Global, text: &str) -> Result<MapSource, Fail> {
     let bytes = bytes_of(alloc, text)?;
     one_file(alloc, "t.ctb", bytes.as_slice())
-}
-
-/// Loads over files in memory. The outcome is the one that all files of the map give.
-fn load_in_memory(
-    alloc: Global,
-    source: &mut MapSource,
-    root: &str,
-) -> Result<Loaded, Failure<LoadFault>>
-    ensures { GivesAs (λ loaded. loaded.lines) load_fault_view (lines_over (λ path. Some (answer_in source.old path)) root.now) result }
-{
-    files_in_memory_law(source);
-    load(alloc, source, root)
 }
 
 /// Lines as text: `FILE:LINE OPCODE@START OPERAND@START ..;`

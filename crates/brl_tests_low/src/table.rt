@@ -1,10 +1,6 @@
-//! Worked translations as theorems, the tables and faults of lines in rows whose fields are cut at `|`, and the readers.
+//! The tables and faults of lines in rows whose fields are cut at `|`, and the readers.
 mod choices;
 mod parts;
-
-ghost use Rattle.std.specs.Prelude.{◌≡◌, ◌∷◌, [], codes};
-ghost use Rattle.brl_rules.specs.Examples.{contracted, whole_marked, numbers_with_points, two_cells};
-ghost use Rattle.brl_rules.specs.Translation.{translation, IsClash};
 
 use brl_cells::{Cell, write_dots};
 use brl_lines::{Line, Loaded, Token};
@@ -14,14 +10,6 @@ use brl_testing::{agree, cut, lend, loaded_of};
 use std::alloc::Global;
 use std::fmt::Write;
 use std::test::Fail;
-
-/// Worked translations and a clash, computed from the definitions.
-fn worked_theorems()
-    ensures contraction { translation contracted (codes "aab") ≡ 1 ∷ 9 ∷ [] }
-    ensures words { translation whole_marked (codes "b but") ≡ 48 ∷ 3 ∷ 0 ∷ 3 ∷ [] }
-    ensures numbers { translation numbers_with_points (codes "1.1") ≡ 60 ∷ 1 ∷ 50 ∷ 1 ∷ [] }
-    ensures clash { IsClash two_cells (codes "ab") (codes "x") (1 ∷ 3 ∷ []) }
-{}
 
 /// Lines, and what they define: the characters with their dots, their classes, what else is said of them and the line of their
 /// dots; the rules in rank; the indicators; the notices.
@@ -210,11 +198,6 @@ fn tables_and_faults_of_lines(rt: HostRuntime) -> Result<(), Fail> {
         agree(row, given.as_str(), want)?;
     }
     Ok(())
-}
-
-#[test]
-fn worked_translations() {
-    worked_theorems();
 }
 
 fn token(text: &str) -> Token<'_> {

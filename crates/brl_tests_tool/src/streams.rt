@@ -1,8 +1,6 @@
 //! Worked streams. In their rows fields are cut at `|`; in what is read and written `/` is a line
 //! feed, and `?` a byte that no UTF-8 has.
-ghost use Rattle.std.specs.Prelude.{◌≢◌};
-ghost use Rattle.brl_stream.specs.Output.{EndsBy};
-
+use brl_examples::translate_bytes;
 use brl_failure::Failure;
 use brl_rules::Table;
 use brl_testing::{Full, Slow, cut, table_of};
@@ -92,20 +90,6 @@ fn ends_as(
     let (answer, output) = cut(fields)?;
     let output = bytes_of(alloc, output)?;
     Ok(answer_of(alloc, outcome)?.as_str() == answer && written == output.as_slice())
-}
-
-/// Translates an input in memory to ascii. `InputFailed` never comes.
-fn translate_bytes(
-    alloc: Global,
-    table: &Table,
-    input: &[u8],
-    writer: &mut Watched<Vec<u8>>,
-) -> Result<(), Failure<StreamFault>>
-    ensures never_read { EndsBy LineFault.InputFailed result → ⊥ }
-    ensures refused { EndsBy LineFault.OutputFailed result → writer.new.failures ≢ writer.old.failures }
-{
-    let mut reader = input;
-    translate_lines(alloc, table, Form::Ascii, &mut reader, writer)
 }
 
 /// Whether an input in memory is answered so.

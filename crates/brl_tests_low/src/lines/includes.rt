@@ -1,8 +1,4 @@
 //! Worked examples of include lines: the files of a table and the lines that they come to, and refusals.
-ghost use Rattle.std.specs.Prelude.{◌≡◌, codes};
-ghost use Rattle.brl_lines.specs.Examples.{circle_refused, in_a_circle, lacking, lacking_refused, nested, nested_lines};
-ghost use Rattle.brl_lines.specs.Lines.{lines_of};
-
 use super::{bytes_of, outcome};
 use brl_failure::Failure;
 use brl_lines::{MapSource, Source, SourceFault};
@@ -11,18 +7,6 @@ use std::alloc::Global;
 use std::collections::BTreeMap;
 use std::fmt::Write;
 use std::test::Fail;
-
-/// The worked examples of the definition.
-fn examples()
-    ensures nested { lines_of nested (codes "d/t.ctb") ≡ nested_lines }
-    ensures circle { lines_of in_a_circle (codes "t.ctb") ≡ circle_refused }
-    ensures lacking { lines_of lacking (codes "t.ctb") ≡ lacking_refused }
-{}
-
-#[test]
-fn worked_examples() {
-    examples();
-}
 
 /// Files, which are cut at ` & `, a path from its text at `: `; the root; and what comes of it.
 const INCLUDES: &str = "\

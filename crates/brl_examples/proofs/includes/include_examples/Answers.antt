@@ -3,7 +3,7 @@ use Rattle.std.specs.Str.{chars, is_utf8}
 use lib.Utf8.{encode}
 use Rattle.brl_lines.specs.Lines.{follow, lines_over, text_in}
 use Rattle.brl_lines.specs.Tokens.{lines_in}
-use Rattle.brl_tests_low.proofs.lines.includes.examples.Goals as goal
+use Rattle.brl_examples.proofs.includes.include_examples.Goals as goal
 
 pub returns-clause-nested : goal.returns-clause-nested
 unfolding lines_over follow text_in lines_in is_utf8 chars encode

@@ -3,8 +3,8 @@ use Rattle.std.proofs.Common.{◌≡◌, [], ◌∷◌, Ok, refl}
 use Rattle.std.specs.Prelude.{codes}
 use Rattle.std.specs.Fmt.{digits}
 use Rattle.brl_cert.specs.Reading.{spelling, reading}
-use Rattle.brl_tests_high.specs.Certificates.{lines, three_states, three_lines, start_alone, faulty, AreRefused}
-use Rattle.brl_tests_high.proofs.cert.worked_theorems.Goals as goal
+use Rattle.brl_examples.specs.Certificates.{lines, three_states, three_lines, start_alone, faulty, AreRefused}
+use Rattle.brl_examples.proofs.certificates.certificate_examples.Goals as goal
 
 spelled : spelling three_states ≡ lines three_lines
 unfolding digits

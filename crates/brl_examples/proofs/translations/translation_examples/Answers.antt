@@ -1,6 +1,6 @@
 use Rattle.std.proofs.Common.{refl}
 use Rattle.brl_rules.specs.Translation.{translation}
-use Rattle.brl_tests_low.proofs.table.worked_theorems.Goals as goal
+use Rattle.brl_examples.proofs.translations.translation_examples.Goals as goal
 
 pub returns : goal.returns
 unfolding translation
