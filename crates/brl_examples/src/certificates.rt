@@ -1,5 +1,5 @@
 //! Worked certificates.
-ghost use Rattle.std.specs.Prelude.{◌≡◌, ◌∷◌, codes, Ok};
+ghost use Rattle.std.specs.Prelude.{◌≡◌, ◌∷◌, [], codes, Ok};
 ghost use Rattle.brl_cert.specs.Reading.{spelling, reading};
 ghost use Rattle.brl_examples.specs.Certificates.{lines, three_states, three_lines, start_alone, faulty, AreRefused};
 
