@@ -58,7 +58,7 @@ WORDS = {
 
 # Where one is used all the same, with why.
 ALLOWED = [
-    (r"(?:runs?|states?|one|pair|stays?|trails|left) behind", "the run of a pair that has given fewer cells"),
+    (r"(?:runs?|states?|stays?|as) behind", "the run of a pair that has given fewer cells"),
 ]
 
 
@@ -202,7 +202,9 @@ def other_words(it: Document) -> Faults:
         pattern = rf"(?<![\w-])(?:{word})(?![\w-])".replace(" ", r"\s+")
         for found in re.finditer(pattern, text, re.IGNORECASE):
             used = " ".join(found[0].split())
-            yield bisect(starts, found.start()) - 1, f"'{used}', for which the house has: {instead}"
+            # a field of a certificate has a name in capitals
+            if not used.isupper():
+                yield bisect(starts, found.start()) - 1, f"'{used}', for which the house has: {instead}"
 
 
 CHECKS: dict[str, Callable[[Document], Faults]] = {
