@@ -1,5 +1,5 @@
 #!/bin/sh
-# Runs the examples, and at last the commands of docs/TUTORIAL.md. Usage: tests/examples.sh PROGRAM
+# Runs the examples, and at last the commands of docs/guide/TUTORIAL.md. Usage: tests/examples.sh PROGRAM
 # examples/NAME.brf is what `translate examples/NAME.ctb` writes of examples/NAME.txt, examples/NAME.report what `clash
 # examples/NAME.ctb` writes of the two lines of examples/NAME.texts, examples/NAME.verdict what `check examples/NAME.ctb
 # examples/NAME.cert` writes, and examples/NAME.found what `search examples/NAME.ctb OUT` writes: where that is a certificate, a check
@@ -85,4 +85,4 @@ for want in *.trace; do
     same "$want" 0 trace "$name.ctb" "$text"
 done
 
-cd .. && exec tests/shown.py "$program" docs/TUTORIAL.md
+cd .. && exec tests/shown.py "$program" docs/guide/TUTORIAL.md

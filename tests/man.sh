@@ -82,7 +82,7 @@ echo "ok: the page has the commands, operands and options of the help"
 faults() {
     grep -oE '\b[A-Z][0-9] [A-Z][a-z]+[A-Za-z0-9]*' "$@" | sort -u
 }
-faults -h docs/FAULTS.md docs/CERTIFICATES.md docs/PROFILE.md >"$work/faults"
+faults -h docs/guide/FAULTS.md docs/CERTIFICATES.md docs/guide/TABLES.md >"$work/faults"
 faults "$page" | diff "$work/faults" - >"$work/diff" || fail 'the faults: < is in docs/, > in the page' "$work/diff"
 echo "ok: the page has the $(wc -l <"$work/faults") faults of docs/"
 

@@ -1,4 +1,4 @@
-"""A table, read anew by docs/PROFILE.md: for the second opinions tests/states.py and bench/foma."""
+"""A table, read anew by docs/guide/TABLES.md: for the second opinions tests/states.py and bench/foma."""
 
 import itertools
 import os
