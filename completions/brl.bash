@@ -17,6 +17,7 @@ _brl_files() {
 }
 
 _brl() {
+    # help takes one of the other commands
     local commands='translate clash trace search check survey'
     local word=${COMP_WORDS[COMP_CWORD]} command='' option='' at operands=0
     [[ $word == '=' ]] && word=''
@@ -46,6 +47,7 @@ _brl() {
         translate) options='--form --help' ;;
         search) options='--limit --without --help' ;;
         check) options='--without --help' ;;
+        help) options='' ;;
     esac
 
     COMPREPLY=()
@@ -56,10 +58,11 @@ _brl() {
     elif [[ $word == -* ]]; then
         _brl_reply < <(compgen -W "$options" -- "$word")
     elif [[ -z $command ]]; then
-        _brl_reply < <(compgen -W "$commands" -- "$word")
+        _brl_reply < <(compgen -W "$commands help" -- "$word")
     else
         case $command:$operands in
             translate:0 | clash:0 | trace:0 | search:[01] | check:[01] | survey:*) _brl_files "$word" ;;
+            help:0) _brl_reply < <(compgen -W "$commands" -- "$word") ;;
         esac
     fi
 }

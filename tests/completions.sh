@@ -98,8 +98,14 @@ for shell in bash zsh fish; do
     offers 'brl ' $(commands)
     offers 'brl -' $(options)
     offers 'brl trans' translate
+    offers 'brl h' help
     offers 'brl nothing '
-    for command in $(commands); do
+    others=$(commands | grep -vx help)
+    offers 'brl help ' $others
+    offers 'brl help tr' trace translate
+    offers 'brl help trace '
+    offers 'brl help -' $(options help)
+    for command in $others; do
         offers "brl $command -" $(options "$command")
         offers "brl $command t" table.ctb table.cert tables
         offers "brl $command o" other.txt

@@ -4,12 +4,12 @@
 below() {
     heading=$1
     shift
-    "$program" "$@" --help | awk -v heading="$heading:" '/^[^ ]/ { is_below = $0 == heading } is_below && /^ /'
+    "$program" help "$@" | awk -v heading="$heading:" '/^[^ ]/ { is_below = $0 == heading } is_below && /^ /'
 }
 
 # The commands, one a line.
 commands() {
-    below Commands | sed -n 's/^  \([a-z][a-z]*\) .*/\1/p' | grep -vx help
+    below Commands | sed -n 's/^  \([a-z][a-z]*\) .*/\1/p'
 }
 
 # The long options of a command or of brl itself, one a line.

@@ -49,6 +49,7 @@ awk '
     /^\.Cm/ { command = $2 }
     /^\.Op Fl Fl/ { options = options " --" $4 }
     command && /^\.Ar/ { operands = operands " " $2 }
+    command && /^\.Op Ar/ { operands = operands " " $3 }
 ' "$page" | tr -s ' ' | sort >"$work/synopsis"
 grep -v '^brl ' "$work/help" | diff - "$work/synopsis" >"$work/diff" || fail 'the synopsis: < is in the help, > in the page' "$work/diff"
 
@@ -70,7 +71,7 @@ awk '
         in_head = options_of($0)
         gsub(/Oo Fl Fl [a-z-]+ Ar [A-Z]+ Oc/, "")
         sub(/^\.It Cm [a-z]+/, "")
-        gsub(/ Ar| \.\.\./, "")
+        gsub(/ Op Ar| Ar| \.\.\./, "")
         operands = $0
     }
     /^\.It Fl/ { options = options options_of($0) }
@@ -78,12 +79,16 @@ awk '
 sort "$work/help" | diff - "$work/described" >"$work/diff" || fail 'the description: < is in the help, > in the page' "$work/diff"
 echo "ok: the page has the commands, operands and options of the help"
 
-# Every fault that docs/ names is there, and no other.
+# The page has the faults of FAULTS.md, and no others; and FAULTS.md has those that any document names.
 faults() {
-    grep -oE '\b[A-Z][0-9] [A-Z][a-z]+[A-Za-z0-9]*' "$@" | sort -u
+    grep -ohE '\b[A-Z][0-9] [A-Z][a-z]+[A-Za-z0-9]*' "$@" | sort -u
 }
-faults -h docs/guide/FAULTS.md docs/CERTIFICATES.md docs/guide/TABLES.md >"$work/faults"
-faults "$page" | diff "$work/faults" - >"$work/diff" || fail 'the faults: < is in docs/, > in the page' "$work/diff"
-echo "ok: the page has the $(wc -l <"$work/faults") faults of docs/"
+listed=docs/guide/FAULTS.md
+faults "$listed" >"$work/faults"
+[ "$(wc -l <"$work/faults")" -gt 3 ] || fail "the faults of $listed" "$work/faults"
+faults "$page" | diff "$work/faults" - >"$work/diff" || fail "the faults: < is in $listed, > in the page" "$work/diff"
+faults -r --include='*.md' . | comm -13 "$work/faults" - >"$work/diff"
+[ ! -s "$work/diff" ] || fail "$listed lacks faults that other documents name" "$work/diff"
+echo "ok: the page has the $(wc -l <"$work/faults") faults of $listed"
 
 tests/shown.py "$program" "$page"
