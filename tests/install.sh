@@ -6,7 +6,7 @@ set -u
 . "$(dirname "$0")/begin.sh"
 unset DESTDIR
 mkdir "$work/clone" && cd "$work" || exit 2
-cp -R "$top/install" "$top/man" "$top/completions" clone/ || exit 2
+mkdir clone/docs && cp -R "$top/install" "$top/man" "$top/completions" clone/ && cp -R "$top/docs/guide" clone/docs/ || exit 2
 cat >clone/build <<END
 #!/bin/sh
 case \$* in
@@ -39,6 +39,7 @@ install() {
 
 files='bin/brl
 share/bash-completion/completions/brl
+'$(cd "$top/docs/guide" && ls | sed 's|^|share/doc/brl/|')'
 share/fish/vendor_completions.d/brl.fish
 share/man/man1/brl.1
 share/zsh/site-functions/_brl'
@@ -60,6 +61,7 @@ for file in $files; do
     [ "$(ls -l "place/$file" | cut -c 1-10)" = "$mode" ] || fail "the permissions of $file"
 done
 cmp -s place/share/man/man1/brl.1 "$top/man/brl.1" && cmp -s place/share/zsh/site-functions/_brl "$top/completions/_brl" || fail 'the man page and the completions'
+diff -r place/share/doc/brl "$top/docs/guide" >out || fail 'the guide'
 ok 'into a folder'
 
 # There are a program that is in use, a link into the clone, and a file with another text.
@@ -89,7 +91,7 @@ ok 'below DESTDIR'
 cd place && ../clone/install >../out 2>../err --uninstall "$work/package/usr"
 status=$?
 cd ..
-[ "$status" = 0 ] && has_files package '' || fail 'to uninstall'
+[ "$status" = 0 ] && has_files package '' && [ ! -e package/usr/share/doc/brl ] || fail 'to uninstall'
 install --uninstall package/usr
 [ "$status" = 0 ] && [ ! -s out ] && [ ! -s err ] || fail 'to uninstall what is not there'
 ok 'to uninstall'

@@ -5,12 +5,17 @@ Usage: tests/shown.py PROGRAM DOCUMENT..
 
 In a document in Markdown, a block that begins with three backquotes and `console` has commands,
 each after `$ ` and followed by the lines that it prints; one that begins with three backquotes and
-`text NAME` is the whole file NAME. In a manual page, the literal displays have commands in the same
-form. All commands of a document run in one folder and one shell, in the order of the page: `cd` and
-`$?` mean what they mean to a reader. `brl` is the program that is given.
+`text NAME` is the whole file NAME. One of `diff NAME` is an edit of that file: lines that go are
+after `-`, lines that come after `+`, others after a blank; an empty line parts two places. Without
+lines that are there before, the new ones come at the end. In a manual page, the literal displays
+have commands in the same form. All commands of a document run in one folder and one shell, in the
+order of the page: `cd` and `$?` mean what they mean to a reader. `brl` is the program that is given.
+
+`tests/shown.py --edit NAME` makes such an edit, of which standard input has the lines.
 """
 
 import re
+import shlex
 import subprocess
 import sys
 import tempfile
@@ -36,6 +41,14 @@ class NewFile:
 
     name: str
     text: str
+
+
+@dataclass
+class Edit:
+    """An edit of a file, of which a document shows the lines before and after."""
+
+    name: str
+    change: str
 
 
 def blocks(path: Path) -> list[tuple[int, str, list[str]]]:
@@ -72,19 +85,35 @@ def commands(start: int, lines: list[str]) -> list[Command]:
     return found
 
 
-def steps(path: Path) -> list[Command | NewFile]:
-    """The commands and the files of a document, in its order."""
-    found: list[Command | NewFile] = []
+Step = Command | NewFile | Edit
+
+
+def steps(path: Path) -> list[Step]:
+    """The commands, files and edits of a document, in its order."""
+    found: list[Step] = []
     for start, about, lines in blocks(path):
         kind, _, name = about.partition(" ")
         if kind == "console":
             found += commands(start, lines)
         elif kind == "text" and name:
             found.append(NewFile(name, "".join(f"{it}\n" for it in lines)))
+        elif kind == "diff" and name:
+            found.append(Edit(name, "".join(f"{it}\n" for it in lines)))
     return found
 
 
-def script(all_steps: list[Command | NewFile]) -> str:
+def edited(text: str, change: str) -> str:
+    """The text of a file after an edit."""
+    for place in change.rstrip("\n").split("\n\n"):
+        rows = place.split("\n")
+        old, new = ("".join(f"{row[1:]}\n" for row in rows if row[0] in kept) for kept in ("- ", "+ "))
+        if old and f"\n{text}".count(f"\n{old}") != 1:
+            raise ValueError(f"these lines aren't there just once:\n{old}")
+        text = f"\n{text}".replace(f"\n{old}", f"\n{new}")[1:] if old else text + new
+    return text
+
+
+def script(all_steps: list[Step]) -> str:
     """One script of all steps. The status of each command is there for the next one."""
     parts = ["status=0"]
     for it in all_steps:
@@ -93,6 +122,9 @@ def script(all_steps: list[Command | NewFile]) -> str:
                 parts += ["(exit $status)", words, "status=$?", f"printf '\\n%s\\n' '{MARK}'"]
             case NewFile(name, text):
                 parts += [f"cat >{name} <<'{MARK}'", text + MARK]
+            case Edit(name, change):
+                editor = shlex.join([sys.executable, str(Path(__file__).resolve()), "--edit", name])
+                parts += [f"{editor} <<'{MARK}'", change + MARK]
     return "\n".join(parts) + "\n"
 
 
@@ -110,8 +142,8 @@ def differences(program: Path, path: Path) -> tuple[list[str], int]:
         ran = subprocess.run(["sh", "-s"], input=script(all_steps), cwd=work, env=known, text=True, stdout=subprocess.PIPE,
                              stderr=subprocess.STDOUT, timeout=300)
     # a command without output leaves the line feed before the mark alone
-    outputs = ran.stdout.split(f"\n{MARK}\n")[:-1]
-    wrong = []
+    *outputs, rest = ran.stdout.split(f"\n{MARK}\n")
+    wrong = [f"{path}: printed at the end:\n{rest}"] if rest else []
     if len(outputs) != len(shown):
         wrong.append(f"{path}: {len(shown)} commands, of which {len(outputs)} ended")
     for command, printed in zip(shown, outputs):
@@ -124,6 +156,10 @@ def main(words: list[str]) -> int:
     if len(words) < 2:
         print(__doc__, file=sys.stderr)
         return 2
+    if words[0] == "--edit":
+        file = Path(words[1])
+        file.write_text(edited(file.read_text(encoding="utf-8"), sys.stdin.read()), encoding="utf-8")
+        return 0
     program = Path(words[0]).resolve()
     for name in words[1:]:
         wrong, count = differences(program, Path(name))
