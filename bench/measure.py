@@ -23,6 +23,7 @@ MOST_SECONDS = 300
 
 def program() -> Path:
     """The program, which is made first where a source has changed. Standard error says whether it is the proved one."""
+    subprocess.run([TOP / "build", "--quick"], check=True)
     subprocess.run([TOP / "brl", "--version"], stdout=subprocess.DEVNULL, check=True)
     return TOP / "out" / "brl"
 
