@@ -3,10 +3,10 @@
 
   tests/states.py PROGRAM [--seed SEED] [--count COUNT]
 
-The machine with dues is written here anew, by docs/MACHINES.md and docs/TRANSLATION.md, and not by
-the program's code: the steps of a state are tried one by one, over all forms of all rules. Of each
-table that is made at random all reached states and pairs are found, for the texts of the table, or
-for those that don't use one of its characters. Then
+The machine with dues is written here anew, by docs/proof/MACHINES.md and docs/proof/DEFINITIONS.md,
+and not by the program's code: the steps of a state are tried one by one, over all forms of all
+rules. Of each table that is made at random all reached states and pairs are found, for the texts of
+the table, or for those that don't use one of its characters. Then
 
 - `brl search` must find a certificate or a clash where this program does;
 - the states of the certificate must be the reached states, and its pairs must be reached pairs;
