@@ -1,0 +1,30 @@
+#!/bin/sh
+# Compares what docs/proof/HEADLINE.md asks a reader to read with what tools/definitions finds, and shows that a page with
+# another clause, file or number is noticed. Usage: tests/definitions.sh
+set -u
+
+cd "$(dirname "$0")/.." || exit 2
+page=docs/proof/HEADLINE.md
+tools/definitions --check "$page" || exit 1
+
+work=$(mktemp -d)
+trap 'rm -rf "$work"' EXIT
+trap 'exit 2' HUP INT TERM
+
+# A page in which a sed script changes something is refused.
+refused() {
+    sed "$1" "$page" >"$work/page"
+    if cmp -s "$page" "$work/page" || tools/definitions --check "$work/page" >"$work/said"; then
+        echo "FAILED: a page that was changed by '$1'"
+        exit 1
+    fi
+}
+
+refused 's/ × IsUnambiguous t$//'
+refused 's/Dots 89/Dots 90/'
+refused 's/, Text [0-9]*//'
+refused '/specs\/` | Escapes/d'
+refused 's/^| together | [0-9]* files/| together | 1 files/'
+refused 's/^They name [0-9]* types/They name 1 types/'
+refused 's/^\(The whole contract .* of\) [0-9,]* lines/\1 1 lines/'
+echo "ok: a page with another clause, file or number is noticed"
