@@ -1,6 +1,7 @@
 #!/bin/sh
 # Compares what docs/proof/HEADLINE.md asks a reader to read with what tools/definitions finds, and shows that a page with
-# another clause, file or number is noticed. Usage: tests/definitions.sh
+# another clause, file or number is noticed. docs/proof/DEFINITIONS.md begins with these files, in their order. Usage:
+# tests/definitions.sh
 set -u
 
 cd "$(dirname "$0")/.." || exit 2
@@ -28,3 +29,19 @@ refused 's/^| together | [0-9]* files/| together | 1 files/'
 refused 's/^They name [0-9]* types/They name 1 types/'
 refused 's/^\(The whole contract .* of\) [0-9,]* lines/\1 1 lines/'
 echo "ok: a page with another clause, file or number is noticed"
+
+tools/definitions | awk -F '`' '/^[|] `/ {
+    split($3, cells, "|")
+    count = split(cells[2], files, ",")
+    for (i = 1; i <= count; i++) {
+        split(files[i], words, " ")
+        print $2 words[1] ".antt"
+    }
+}' >"$work/files"
+grep -o '`[a-z_]*/specs/[A-Za-z/]*\.antt`' docs/proof/DEFINITIONS.md | tr -d '`' | head -n "$(wc -l <"$work/files")" >"$work/first"
+if ! cmp -s "$work/files" "$work/first"; then
+    echo "FAILED: docs/proof/DEFINITIONS.md has another order"
+    diff "$work/files" "$work/first"
+    exit 1
+fi
+echo "ok: docs/proof/DEFINITIONS.md begins with these $(wc -l <"$work/files") files"
