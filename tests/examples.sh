@@ -1,5 +1,5 @@
 #!/bin/sh
-# Runs the examples, and at last the commands of docs/guide/. Usage: tests/examples.sh PROGRAM
+# Runs the examples, and at last the commands of README.md and of docs/guide. Usage: tests/examples.sh PROGRAM
 # examples/NAME.brf is what `translate examples/NAME.ctb` writes of examples/NAME.txt, examples/NAME.report what `clash
 # examples/NAME.ctb` writes of the two lines of examples/NAME.texts, examples/NAME.verdict what `check examples/NAME.ctb
 # examples/NAME.cert` writes, and examples/NAME.found what `search examples/NAME.ctb OUT` writes: where that is a certificate, a check
@@ -85,7 +85,7 @@ for want in *.trace; do
     same "$want" 0 trace "$name.ctb" "$text"
 done
 
-cd .. && tests/shown.py "$program" docs/guide/TUTORIAL.md || exit 1
+cd .. && tests/shown.py "$program" README.md docs/guide/TUTORIAL.md || exit 1
 for tool in git make; do
     if ! command -v "$tool" >/dev/null; then
         echo "skipped: docs/guide/RECIPES.md, since there is no $tool"
