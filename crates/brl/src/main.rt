@@ -5,8 +5,8 @@ mod words;
 
 use crate::words::words_of;
 use brl_lines::FileSource;
-use brl_tool::{Watched, run};
-use brl_watch::Console;
+use brl_progress::Console;
+use brl_tool::{Counting, run};
 use std::io::IsTerminal;
 use std::process::ExitCode;
 
@@ -25,8 +25,8 @@ fn main(rt: HostRuntime) -> ExitCode {
         alloc,
         words.as_slice(),
         &mut FileSource::new(&rt),
-        &mut Watched::new(rt.stdin()),
-        &mut Watched::new(rt.stdout()),
+        &mut Counting::new(rt.stdin()),
+        &mut Counting::new(rt.stdout()),
         &mut Console::new(&rt, err, is_terminal),
     );
     ExitCode::from(status)

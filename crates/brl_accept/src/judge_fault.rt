@@ -1,6 +1,6 @@
 //! Why a certificate isn't accepted for the table that files define.
 use brl_cert::CertFault;
-use brl_checker::AcceptFault;
+use brl_closure::AcceptFault;
 use brl_table::NoTable;
 use brl_window::TooWide;
 use brl_without::UndefinedLeftOut;

@@ -1,71 +1,70 @@
 //! The judge of a certificate for the table that files define.
 ghost use Rattle.std.specs.Prelude.{◌≡◌, ◌⊎◌, ◌↔◌, Err, IfErr, IfOk, IsTrue, Ok, OnOk};
-ghost use Rattle.brl_accept.specs.Judging.{IsAccepted, IsAcceptedFor, IsAcceptedWith, IsAcceptedWithout, IsNotProvedWith, IsProvedWith, IsRefusedBy, IsRefusedByWithout, IsRefusedFor, IsRefusedWith, IsRefusedWithout, load_outcome};
-ghost use Rattle.brl_checker.specs.declared.checker.Accepted.{Accepted as AcceptedValue};
+ghost use Rattle.brl_accept.specs.Judging.{IsAccepted, IsAcceptedWithout, IsNotProved, IsProved, IsRefusedAs, IsRefusedBy, IsRefusedByWithout, IsRefusedWithout, load_outcome};
+ghost use Rattle.brl_closure.specs.declared.check.checker.Accepted.{Accepted as AcceptedValue};
 ghost use Rattle.brl_failure.specs.Failure.{IfFault};
 ghost use Rattle.brl_failure.specs.declared.failure.Failure.TheVariants as failures;
 ghost use Rattle.brl_accept.specs.Kinds.{HasVersion};
-ghost use Rattle.brl_lines.specs.Answer.{AllStay, GivesOneAnswer};
+ghost use Rattle.brl_lines.specs.Answer.{Unchanged, IsDeterministic};
 ghost use Rattle.brl_lines.specs.Outcome.{CountsFailure};
 ghost use Rattle.brl_table.specs.Files.{IsTableOf};
 ghost use Rattle.brl_rules.specs.TableView.{TableView};
 ghost use Rattle.brl_rules.specs.Translation.{IsUnambiguous};
-ghost use Rattle.brl_without.specs.Parts.{part_without};
-ghost use Rattle.brl_without.specs.Tables.{IsUnambiguousWithout};
+ghost use Rattle.brl_without.specs.Tables.{AreDefined, IsUnambiguousWithout};
 
 use crate::JudgeFault;
 use brl_cert::{Cert, read_cert};
-use brl_checker::{Accepted, accept_watched};
+use brl_closure::{Accepted, accept_with};
 use brl_dues::Dues;
-use brl_edges::Body;
 use brl_failure::{Failure, raise};
 use brl_lines::Source;
+use brl_pairs::Body;
+use brl_progress::{NoProgress, Progress};
 use brl_rules::Table;
 use brl_states::{DuesState, WindowState};
 use brl_table::{load_table, one_table_law};
-use brl_watch::{Unwatched, Watch};
 use brl_window::{TooWide, Window};
-use brl_without::{LeftOut, Without, check_defined, unambiguous_without_law};
+use brl_without::{LeftOut, Scope, Without, check_defined, unambiguous_without_law};
 use std::alloc::Global;
 
 /// Judges the states and pairs of a certificate of version 1 for a table without some characters.
-fn judge_windows<W: Watch>(
+fn judge_windows<W: Progress>(
     alloc: Global,
     table: &Table,
     left_out: &LeftOut,
     body: &Body<WindowState>,
-    watch: &mut W,
+    progress: &mut W,
 ) -> Result<Accepted, Failure<JudgeFault>>
     ensures unambiguous { OnOk result (IsUnambiguousWithout left_out.now table.now) }
-    ensures accepted { IfOk result (IsProvedWith (part_without left_out.now) table.now (Cert.Window body.now)) }
-    ensures refused { IfErr result (IfFault (IsNotProvedWith (part_without left_out.now) table.now (Cert.Window body.now))) }
+    ensures accepted { IfOk result (IsProved left_out.now table.now (Cert.Window body.now)) }
+    ensures refused { IfErr result (IfFault (IsNotProved left_out.now table.now (Cert.Window body.now))) }
 {
     let Ok(window) = Window::new(alloc, table) else {
         return Err(Failure::Fault(JudgeFault::Wide(TooWide)));
     };
     unambiguous_without_law(&window);
     let machine = Without::new(&window, left_out);
-    let accepted = accept_watched(alloc, &machine, body, watch);
+    let accepted = accept_with(alloc, &machine, body, progress);
     raise(accepted, JudgeFault::Refused)
 }
 
 /// Judges the states and pairs of a certificate of version 2 or 3 for a table without some
 /// characters.
-fn judge_dues<W: Watch>(
+fn judge_dues<W: Progress>(
     alloc: Global,
     table: &Table,
     left_out: &LeftOut,
     body: &Body<DuesState>,
-    watch: &mut W,
+    progress: &mut W,
 ) -> Result<Accepted, Failure<JudgeFault>>
     ensures unambiguous { OnOk result (IsUnambiguousWithout left_out.now table.now) }
-    ensures accepted { IfOk result (IsProvedWith (part_without left_out.now) table.now (Cert.Word body.now)) }
-    ensures refused { IfErr result (IfFault (IsNotProvedWith (part_without left_out.now) table.now (Cert.Word body.now))) }
+    ensures accepted { IfOk result (IsProved left_out.now table.now (Cert.Word body.now)) }
+    ensures refused { IfErr result (IfFault (IsNotProved left_out.now table.now (Cert.Word body.now))) }
 {
     let dues = Dues::new(alloc, table);
     unambiguous_without_law(&dues);
     let machine = Without::new(&dues, left_out);
-    let accepted = accept_watched(alloc, &machine, body, watch);
+    let accepted = accept_with(alloc, &machine, body, progress);
     raise(accepted, JudgeFault::Refused)
 }
 
@@ -81,50 +80,51 @@ fn has_version(table: &Table, cert: &Cert) -> bool
 }
 
 /// Judges a certificate that was read, for a table without some characters.
-fn judge_read<W: Watch>(
+fn judge_read<W: Progress>(
     alloc: Global,
     table: &Table,
     left_out: &LeftOut,
     cert: &Cert,
-    watch: &mut W,
+    progress: &mut W,
 ) -> Result<Accepted, Failure<JudgeFault>>
     ensures unambiguous { OnOk result (IsUnambiguousWithout left_out.now table.now) }
-    ensures accepted { IfOk result (IsAcceptedWith (part_without left_out.now) table.now cert.now) }
-    ensures refused { IfErr result (IfFault (IsRefusedWith (part_without left_out.now) table.now cert.now)) }
+    ensures accepted { IfOk result (λ accepted. HasVersion table.now cert.now × IsProved left_out.now table.now cert.now accepted) }
+    ensures refused { IfErr result (IfFault (IsRefusedAs left_out.now table.now cert.now)) }
 {
     if !has_version(table, cert) {
         return Err(Failure::Fault(JudgeFault::OldVersion));
     }
     match cert {
-        Cert::Window(runless) => judge_windows(alloc, table, left_out, runless.body(), watch),
-        Cert::Dues(runless) => judge_dues(alloc, table, left_out, runless.body(), watch),
-        Cert::Word(body) => judge_dues(alloc, table, left_out, body, watch),
+        Cert::Window(listed) => judge_windows(alloc, table, left_out, listed.body(), progress),
+        Cert::Dues(listed) => judge_dues(alloc, table, left_out, listed.body(), progress),
+        Cert::Word(body) => judge_dues(alloc, table, left_out, body, progress),
     }
 }
 
-/// Judges the certificate that bytes spell for a table without some characters.
-fn judge_cert<W: Watch>(
+/// Judges the certificate that bytes spell for a table without some characters, which it defines.
+fn judge_cert<W: Progress>(
     alloc: Global,
     table: &Table,
     left_out: &LeftOut,
     cert: &[u8],
-    watch: &mut W,
+    progress: &mut W,
 ) -> Result<Accepted, Failure<JudgeFault>>
+    requires defined { AreDefined table.now left_out.now }
     ensures unambiguous { OnOk result (IsUnambiguousWithout left_out.now table.now) }
-    ensures accepted { IfOk result (IsAcceptedFor (part_without left_out.now) table.now cert.now) }
-    ensures refused { IfErr result (IfFault (IsRefusedFor (part_without left_out.now) table.now cert.now)) }
+    ensures accepted { IfOk result (IsAcceptedWithout left_out.now table.now cert.now) }
+    ensures refused { IfErr result (IfFault (IsRefusedWithout left_out.now table.now cert.now)) }
 {
     let cert = raise(read_cert(alloc, cert), JudgeFault::Cert)?;
-    judge_read(alloc, table, left_out, &cert, watch)
+    judge_read(alloc, table, left_out, &cert, progress)
 }
 
-/// The same, once the table defines what is left out.
-fn judge_table<W: Watch>(
+/// The same, where the table may not define what is left out.
+fn judge_table<W: Progress>(
     alloc: Global,
     table: &Table,
     left_out: &LeftOut,
     cert: &[u8],
-    watch: &mut W,
+    progress: &mut W,
 ) -> Result<Accepted, Failure<JudgeFault>>
     ensures unambiguous { OnOk result (IsUnambiguousWithout left_out.now table.now) }
     ensures accepted { IfOk result (IsAcceptedWithout left_out.now table.now cert.now) }
@@ -132,7 +132,7 @@ fn judge_table<W: Watch>(
 {
     let defined = check_defined(alloc, table, left_out);
     raise(defined, JudgeFault::NotDefined)?;
-    judge_cert(alloc, table, left_out, cert, watch)
+    judge_cert(alloc, table, left_out, cert, progress)
 }
 
 /// Judges a certificate for the table that the file at the path `root` defines. An acceptance gives
@@ -160,58 +160,54 @@ pub fn judge<S: Source>(
     ensures refused { IfErr result (IfFault (IsRefusedBy (S.gives source.old) root.now cert.now)) }
     // Where each file has one content, a certificate that deserves acceptance is accepted, unless
     // memory runs out.
-    ensures decides { GivesOneAnswer (S.gives source.old) → (t : TableView) → IsTableOf (S.gives source.old) root.now t
+    ensures decides { IsDeterministic (S.gives source.old) → (t : TableView) → IsTableOf (S.gives source.old) root.now t
         → (accepted : AcceptedValue) → IsAccepted t cert.now accepted → (result ≡ Ok accepted) ⊎ (result ≡ Err failures.Memory) }
     ensures count { CountsFailure (S.faults source.old) (S.faults source.new) (load_outcome result) }
-    ensures same { AllStay (S.gives source.old) (S.gives source.new) }
+    ensures same { Unchanged (S.gives source.old) (S.gives source.new) }
 {
-    judge_without(
-        alloc,
-        source,
-        root,
-        cert,
-        &LeftOut::none(alloc),
-        &mut Unwatched,
-    )
+    let scope = Scope {
+        left_out: &LeftOut::none(alloc),
+        progress: &mut NoProgress,
+    };
+    judge_with(alloc, source, root, cert, scope)
 }
 
 /// Judges a certificate for the table that the file at the path `root` defines, for the texts that
 /// use none of some characters. An acceptance gives the numbers of states and pairs that the
 /// certificate lists. Then any two texts over the table's other characters that the table translates
-/// to the same cells are equal, whatever their length. The watcher is told how far the check is,
-/// state by state.
+/// to the same cells are equal, whatever their length. Progress is reported state by state.
 ///
 /// Otherwise the fault is that of the first stage that refuses: those of `judge`, and after `NoTable`
 /// `NotDefined` where the table doesn't define a character that is left out. `Refused` where the
 /// certificate's states and pairs aren't closed for the machine of its version without these
 /// characters.
-pub fn judge_without<S: Source, W: Watch>(
+pub fn judge_with<S: Source, W: Progress>(
     alloc: Global,
     source: &mut S,
     root: &str,
     cert: &[u8],
-    left_out: &LeftOut,
-    watch: &mut W,
+    scope: Scope<'_, W>,
 ) -> Result<Accepted, Failure<JudgeFault>>
     // The files define a table, as the source gave them. Any two texts over its other characters that
     // it translates to the same cells are equal, whatever their length. The bytes spell a certificate
     // that proves it, with these numbers of states and pairs.
     ensures accepted { IfOk result (λ accepted. (t : TableView) × IsTableOf (S.gives source.old) root.now t
-        × IsUnambiguousWithout left_out.now t × IsAcceptedWithout left_out.now t cert.now accepted) }
+        × IsUnambiguousWithout scope.entry.left_out.now t × IsAcceptedWithout scope.entry.left_out.now t cert.now accepted) }
     // The fault is that of the first stage that refuses. Where the files define a table, the bytes
     // don't deserve acceptance for it without these characters.
-    ensures refused { IfErr result (IfFault (IsRefusedByWithout left_out.now (S.gives source.old) root.now cert.now)) }
+    ensures refused { IfErr result (IfFault (IsRefusedByWithout scope.entry.left_out.now (S.gives source.old) root.now cert.now)) }
     // Where each file has one content, a certificate that deserves acceptance is accepted, unless
     // memory runs out.
-    ensures decides { GivesOneAnswer (S.gives source.old) → (t : TableView) → IsTableOf (S.gives source.old) root.now t
-        → (accepted : AcceptedValue) → IsAcceptedWithout left_out.now t cert.now accepted
+    ensures decides { IsDeterministic (S.gives source.old) → (t : TableView) → IsTableOf (S.gives source.old) root.now t
+        → (accepted : AcceptedValue) → IsAcceptedWithout scope.entry.left_out.now t cert.now accepted
         → (result ≡ Ok accepted) ⊎ (result ≡ Err failures.Memory) }
     ensures count { CountsFailure (S.faults source.old) (S.faults source.new) (load_outcome result) }
-    ensures same { AllStay (S.gives source.old) (S.gives source.new) }
+    ensures same { Unchanged (S.gives source.old) (S.gives source.new) }
 {
+    let Scope { left_out, progress } = scope;
     one_table_law(&*source);
     let table = raise(load_table(alloc, source, root), JudgeFault::NoTable)?;
-    let judged = judge_table(alloc, &table, left_out, cert, watch);
+    let judged = judge_table(alloc, &table, left_out, cert, progress);
     drop(table);
     judged
 }

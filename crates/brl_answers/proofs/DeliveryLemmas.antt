@@ -1,6 +1,6 @@
 -- What the files are after an answer is delivered.
 use Rattle.std.proofs.Common.{◌≡◌, ◌∙◌, ℕ, List, Option, None, Some, Result, Ok, Err, IsErrAnd, refl, subst, sym}
-use Rattle.brl_lines.specs.Answer.{AllStay, MayGive}
+use Rattle.brl_lines.specs.Answer.{Unchanged, FileAnswers}
 use Rattle.brl_answers.specs.Delivery.{Delivers, Writes}
 use Rattle.brl_answers.specs.Files.{FilesAfter, IsPutInto, OthersStay}
 use Rattle.brl_answers.specs.declared.answer.Answer.{Answer}
@@ -11,8 +11,8 @@ use Rattle.brl_answers.specs.declared.status.Status.{Status}
 
 -- ---- A read before the delivery changes nothing
 
-module _ (before between after : MayGive) (same : AllStay before between) where
-  pub all_after : AllStay between after → AllStay before after
+module _ (before between after : FileAnswers) (same : Unchanged before between) where
+  pub all_after : Unchanged between after → Unchanged before after
   all_after stay = λ p a. ((λ h. (same p a).0 ((stay p a).0 h)), (λ h. (stay p a).1 ((same p a).1 h)))
 
   others_after : (path : List ℕ) → OthersStay between after path → OthersStay before after path
@@ -61,7 +61,7 @@ module _ (before between after : MayGive) (same : AllStay before between) where
 no_fault : {file : NewFile} {files : Option NewFile} → files ≡ None → files ≡ Some file → ⊥
 no_fault none some = let e = sym none ∙ some in cc
 
-pub none_changes : (before after : MayGive) (answer : Answer) (failed : Type 0) (old new : Option (List ℕ)) (written : Result Status RunFault) → answer.file ≡ None → Writes answer before after failed old new written → AllStay before after
+pub none_changes : (before after : FileAnswers) (answer : Answer) (failed : Type 0) (old new : Option (List ℕ)) (written : Result Status RunFault) → answer.file ≡ None → Writes answer before after failed old new written → Unchanged before after
 none_changes before after answer failed old new (Ok status) none (files, appends, is) = subst (FilesAfter before after) none files
 none_changes before after answer failed old new (Err OutputFailed) none (cause, files, cut) = subst (FilesAfter before after) none files
 none_changes before after answer failed old new (Err (CannotWrite named)) none (still, (file, is, put)) = absurd (no_fault none is)
@@ -78,7 +78,7 @@ none_changes before after answer failed old new (Err (WouldOverwrite named)) non
 
 -- ---- An answer whose file can't be written
 
-not_put : (before after : MayGive) (answer : Answer) (file : NewFile) (failed : Type 0) (text : Option (List ℕ)) (fault : RunFault) → answer.file ≡ Some file → IsPutInto file before after (Err fault) → Writes answer before after failed text text (Err fault)
+not_put : (before after : FileAnswers) (answer : Answer) (file : NewFile) (failed : Type 0) (text : Option (List ℕ)) (fault : RunFault) → answer.file ≡ Some file → IsPutInto file before after (Err fault) → Writes answer before after failed text text (Err fault)
 not_put before after answer file failed text (CannotWrite named) is put = (refl, (file, is, put))
 not_put before after answer file failed text Memory is put = (refl, (file, is, put))
 not_put before after answer file failed text (Load fault) is put = absurd put
@@ -93,7 +93,7 @@ not_put before after answer file failed text (WouldOverwrite named) is put = abs
 not_put before after answer file failed text OutputFailed is put = absurd put
 
 -- the same of what came back
-pub stopped_at_file : (before after : MayGive) (answer : Answer) (file : NewFile) (failed : Type 0) (text : Option (List ℕ)) (fault : RunFault) (written : Result Status RunFault) → IsErrAnd written (λ e. e ≡ fault) → answer.file ≡ Some file → IsPutInto file before after (Err fault) → Writes answer before after failed text text written
+pub stopped_at_file : (before after : FileAnswers) (answer : Answer) (file : NewFile) (failed : Type 0) (text : Option (List ℕ)) (fault : RunFault) (written : Result Status RunFault) → IsErrAnd written (λ e. e ≡ fault) → answer.file ≡ Some file → IsPutInto file before after (Err fault) → Writes answer before after failed text text written
 stopped_at_file before after answer file failed text fault (Ok status) bad is put = absurd bad
 stopped_at_file before after answer file failed text fault (Err e) same is put =
     subst (λ (f : RunFault). Writes answer before after failed text text (Err f)) (sym same) (not_put before after answer file failed text fault is put)

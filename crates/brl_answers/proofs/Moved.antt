@@ -1,7 +1,7 @@
 -- What one source gives, another may give.
 use Rattle.std.proofs.Common.{ℕ, List, [], ◌∷◌}
 use Rattle.brl_failure.specs.declared.failure.Failure.TheVariants as failures
-use Rattle.brl_lines.specs.Answer.{Answer as FileAnswer, MayGive}
+use Rattle.brl_lines.specs.Answer.{FileAnswer, FileAnswers}
 use Rattle.brl_lines.specs.Lines.{Answers}
 use Rattle.brl_lines.specs.Outcome.{AreGiven, AreLinesOf, IsLoadFault}
 use Rattle.brl_lines.specs.Tokens.{LineView}
@@ -11,7 +11,7 @@ use Rattle.brl_table.specs.declared.no_table.NoTable.{NoTable}
 use Rattle.brl_table.specs.declared.no_table.NoTable.TheVariants as no_table
 use Rattle.brl_rules.specs.TableView.{TableView}
 
-module _ (from to : MayGive) (moves : (p : List ℕ) (a : FileAnswer) → from p a → to p a) where
+module _ (from to : FileAnswers) (moves : (p : List ℕ) (a : FileAnswer) → from p a → to p a) where
   given : (answers : Answers) → AreGiven from answers → AreGiven to answers
   given [] h = tt
   given (entry ∷ others) h = (moves entry.0 entry.1 h.0, given others h.1)

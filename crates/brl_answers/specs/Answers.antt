@@ -4,7 +4,7 @@ use Rattle.std.specs.Fmt.{decimal}
 use Rattle.std.specs.Str.{encode_utf8_all}
 use Rattle.brl_failure.specs.declared.failure.Failure.{Failure}
 use Rattle.brl_failure.specs.declared.failure.Failure.TheVariants as failures
-use Rattle.brl_lines.specs.Answer.{MayGive}
+use Rattle.brl_lines.specs.Answer.{FileAnswers}
 use Rattle.brl_lines.specs.Escapes.{characters_of}
 use Rattle.brl_lines.specs.Spelling.{text_spelling}
 use Rattle.brl_lines.specs.declared.fault.LoadFault.{LoadFault}
@@ -18,8 +18,8 @@ use Rattle.brl_answers.specs.declared.run_fault.RunFault.TheVariants.{Load, Tabl
 use Rattle.brl_answers.specs.declared.status.Status.{Status}
 
 -- an answer has this status and text, and no file
-abbrev pub Says : Status → List ℕ → Answer → Type 0
-Says status text answer = (answer.status ≡ status) × (string_bytes answer.text ≡ text) × (answer.file ≡ None)
+abbrev pub HasTextAndStatus : Status → List ℕ → Answer → Type 0
+HasTextAndStatus status text answer = (answer.status ≡ status) × (string_bytes answer.text ≡ text) × (answer.file ≡ None)
 
 -- this was answered, unless memory ran out
 abbrev pub UnlessMemory : (Answer → Type 0) → Result Answer RunFault → Type 0
@@ -34,7 +34,7 @@ counts_line word states pairs = word ++ (codes ": " ++ (decimal states ++ (codes
 -- ---- The table of a file
 
 -- there is no table at a path, and this is why; memory may run out at any file
-abbrev pub HasNoTable : MayGive → List ℕ → RunFault → Type 0
+abbrev pub HasNoTable : FileAnswers → List ℕ → RunFault → Type 0
 HasNoTable gives path (Load fault) = IsFaultAt gives path (no_table.Load fault)
 HasNoTable gives path (Table fault) = IsFaultAt gives path (no_table.Table fault)
 HasNoTable gives path Memory = Unit {0}
@@ -47,7 +47,7 @@ load_outcome (Err Memory) = Err failures.Memory
 load_outcome outcome = Ok tt
 
 -- what is answered by the table of the file at a path: what the table gives, or why there is none
-abbrev pub ByTable : MayGive → List ℕ → (TableView → Result Answer RunFault → Type 0) → Result Answer RunFault → Type 0
+abbrev pub ByTable : FileAnswers → List ℕ → (TableView → Result Answer RunFault → Type 0) → Result Answer RunFault → Type 0
 ByTable gives path answers (Err (Load fault)) = HasNoTable gives path (Load fault)
 ByTable gives path answers (Err (Table fault)) = HasNoTable gives path (Table fault)
 ByTable gives path answers (Err Memory) = Unit {0}
@@ -73,6 +73,6 @@ ByLeftOut option answers outcome =
     ⊎ ((fault : RunFault) × (outcome ≡ Err fault) × IsBadLeftOut option fault)
 
 -- a line of an answer, and where characters are left out another line, which spells them
-abbrev pub told_without : List ℕ → List ℕ → List ℕ
-told_without [] line = line
-told_without (c ∷ left_out) line = line ++ (codes "without: " ++ (encode_utf8_all (text_spelling (c ∷ left_out)) ++ codes "\n"))
+abbrev pub with_left_out_line : List ℕ → List ℕ → List ℕ
+with_left_out_line [] line = line
+with_left_out_line (c ∷ left_out) line = line ++ (codes "without: " ++ (encode_utf8_all (text_spelling (c ∷ left_out)) ++ codes "\n"))

@@ -1,6 +1,6 @@
 //! The answer of a command, and how it is delivered.
 ghost use Rattle.std.specs.Prelude.{◌≡◌, ◌≢◌, IfOk, string_bytes};
-ghost use Rattle.brl_answers.specs.Answers.{Says, counts_line};
+ghost use Rattle.brl_answers.specs.Answers.{HasTextAndStatus, counts_line};
 ghost use Rattle.brl_answers.specs.Delivery.{Delivers, Writes};
 ghost use Rattle.brl_answers.specs.Files.{IsPutInto};
 
@@ -31,7 +31,7 @@ pub struct Answer {
 impl Answer {
     /// The answer with this text and status, and no file.
     pub fn new(status: Status, text: String) -> Answer
-        ensures { Says status (string_bytes text) result }
+        ensures { HasTextAndStatus status (string_bytes text) result }
     {
         Answer {
             text,

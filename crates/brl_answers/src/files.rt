@@ -1,5 +1,5 @@
 //! Files that can be written.
-use crate::replace::write_file;
+use crate::replace::replace_file;
 use brl_failure::Failure;
 use brl_lines::{FileSource, MapSource, Source};
 use brl_stream::Failed;
@@ -70,7 +70,7 @@ impl<R: rt::Files> Files for FileSource<R> {
     /// A plain file is replaced at once by a new one that was written beside it: on an error, and
     /// wherever the program is stopped, what was at `path` is still there, whole.
     fn write(&mut self, alloc: Global, path: &str, bytes: &[u8]) -> Result<(), Failure<Failed>> {
-        write_file(alloc, &self.system, path, bytes)
+        replace_file(alloc, &self.system, path, bytes)
     }
 }
 

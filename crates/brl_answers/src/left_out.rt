@@ -1,7 +1,7 @@
 //! The characters that an option leaves out.
 ghost use Rattle.std.specs.Prelude.{◌≡◌, IfErr, IfOk, Ok, encode_utf8_all, string_bytes};
 ghost use Rattle.std.specs.Option.{option_copied};
-ghost use Rattle.brl_answers.specs.Answers.{IsBadLeftOut, spelled_by, told_without};
+ghost use Rattle.brl_answers.specs.Answers.{IsBadLeftOut, spelled_by, with_left_out_line};
 
 use crate::run_fault::RunFault;
 use brl_failure::Failure;
@@ -26,8 +26,12 @@ pub fn left_out_of(alloc: Global, option: Option<&str>) -> Result<LeftOut, RunFa
 }
 
 /// A line of an answer, and where characters are left out another line, which spells them.
-pub fn tell_without(alloc: Global, line: String, left_out: &LeftOut) -> Result<String, AllocError>
-    ensures { IfOk result (λ text. string_bytes text ≡ told_without left_out.now (string_bytes line)) }
+pub fn with_left_out_line(
+    alloc: Global,
+    line: String,
+    left_out: &LeftOut,
+) -> Result<String, AllocError>
+    ensures { IfOk result (λ text. string_bytes text ≡ with_left_out_line left_out.now (string_bytes line)) }
 {
     if left_out.is_empty() {
         return Ok(line);

@@ -22,7 +22,7 @@ struct Target {
 
 /// A new file that is open for writing.
 #[derive(Drop)]
-struct NewFile<F> {
+struct Sibling<F> {
     path: String,
     file: F,
 }
@@ -30,7 +30,7 @@ struct NewFile<F> {
 /// Writes the file at a path. A plain file, also one that a link names, is replaced at once by a
 /// new one with the same permissions that was written beside it, so it stays as it was on an error.
 /// Anything else, such as a pipe, a device or a path below /dev or /proc, is written as it is.
-pub fn write_file<R: Files>(
+pub fn replace_file<R: Files>(
     alloc: Global,
     system: &R,
     path: &str,
@@ -94,7 +94,7 @@ fn replace<R: Files>(alloc: Global, system: &R, target: Target, bytes: &[u8]) ->
         let _ = File::options().write(true).open(system, path)?;
     }
     let new = new_file_beside(alloc, system, path)?;
-    let NewFile { path: beside, file } = new;
+    let Sibling { path: beside, file } = new;
     let outcome = match fill(file, permissions, bytes) {
         Ok(()) => fs::rename(system, beside.as_str(), path),
         Err(error) => Err(error),
@@ -110,11 +110,11 @@ fn new_file_beside<R: Files>(
     alloc: Global,
     system: &R,
     path: &str,
-) -> io::Result<NewFile<R::File>> {
+) -> io::Result<Sibling<R::File>> {
     for number in 1..MOST_NAMES {
         let path = format!(in alloc; "{path}.part{number}")?;
         match File::create_new(system, path.as_str()) {
-            Ok(file) => return Ok(NewFile { path, file }),
+            Ok(file) => return Ok(Sibling { path, file }),
             Err(error) if error.kind() == ErrorKind::AlreadyExists => {}
             Err(error) => return Err(error),
         }

@@ -1,6 +1,8 @@
 //! Braille cells. A `Cell` is a set of dots; `Cells` and `Chars` are lists of cells and of
 //! characters. Cells are read from dots operands, and written as these (`read_dots`, `write_dots`),
 //! in braille ASCII and in Unicode braille (`Form`, `to_ascii`, `to_unicode`).
+//!
+//! Room 1, text and tables (docs/dev/ARCHITECTURE.md). The definitions begin in `specs/Dots.antt`.
 #![tactic(auto)]
 
 mod cell;

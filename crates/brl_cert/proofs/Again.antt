@@ -10,15 +10,15 @@ use Rattle.std.proofs.lemmas.List.{append-nil}
 use Rattle.std.proofs.lemmas.List.Splits.{slice_split_at}
 use Rattle.brl_cert.specs.declared.fault.CertFaultKind.{CertFaultKind}
 use Rattle.brl_cert.specs.declared.fault.CertFaultKind.TheVariants.{Syntax, NotCanonical}
-use Rattle.brl_edges.specs.Body.{BodyView, IsPairOf, NumberPair, same_pair}
-use Rattle.brl_fields.specs.Fields.{lead}
+use Rattle.brl_pairs.specs.Body.{BodyView, IsPairOf, NumberPair, same_pair}
+use Rattle.brl_cert.specs.Fields.{lead}
 use Rattle.brl_cert.specs.declared.line.Line.{Line}
 use Rattle.brl_cert.specs.declared.line.Line.TheVariants.{State, Pair, End}
 use Rattle.brl_cert.specs.Lines.{StateFormat, count, fields_of, spelled_line, whole_line, spelled_body, lenient_line, strict_line, line_of, may_follow, is_end, add_line, body_of}
 use Rattle.brl_cells.specs.Dots.{AreCells}
 use Rattle.std.proofs.lemmas.List.Elements.{recursion_from_All}
 use Rattle.brl_cert.specs.Valid.{IsBody}
-use Rattle.brl_fields.proofs.FieldLaws.{IsAbove, Reads, ReadsCells, above_true, lower, above_joined, apart, split_joined, number_reads, lead_reads}
+use Rattle.brl_cert.proofs.FieldLaws.{IsAbove, Reads, ReadsCells, above_true, lower, above_joined, apart, split_joined, number_reads, lead_reads}
 
 -- a format of states whose spelling is read back
 pub record KeepsStates {S : Type 0} (form : StateFormat S) (IsState : S → Type 0) : Type 0 where

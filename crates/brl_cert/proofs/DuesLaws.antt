@@ -17,11 +17,12 @@ use Rattle.brl_states.specs.declared.due.Due.{Due}
 use Rattle.brl_states.specs.declared.due.Due.TheVariants.{Need, Bar}
 use Rattle.brl_states.specs.declared.dues_state.DuesState.{DuesState}
 use Rattle.brl_cert.specs.Dues.{dues_fields, lenient_any, lenient_due, lenient_dues, lenient_head, lenient_parts, lenient_set, lenient_state, lenient_word, or_else, dues_format, spelled_cond, spelled_due, word_fields, word_format}
-use Rattle.brl_fields.specs.Fields.{◌>>=◌, character, each, flag, is_char, lenient_char, number}
-use Rattle.brl_cert.specs.Valid.{HasSet, IsDue, IsDuesState, IsRunless}
-use Rattle.brl_fields.proofs.FieldLaws.{IsAbove, Reads, above_append, above_joined, all_above, each_again, each_char, flag_reads, lower, number_reads, split_joined}
+use Rattle.brl_cert.specs.Fields.{◌>>=◌, character, each, flag, is_char, lenient_char, number}
+use Rattle.brl_cert.specs.Valid.{HasSet, IsDue, IsDuesState, IsCapsFree}
+use Rattle.brl_cert.proofs.FieldLaws.{IsAbove, Reads, above_append, above_joined, all_above, each_again, each_char, flag_reads, lower, number_reads, split_joined}
 use Rattle.brl_cert.proofs.Again.{KeepsStates}
-use Rattle.brl_cert.proofs.Window.{decides, flag_itself, flips}
+use Rattle.brl_cert.proofs.Window.{decides, flips}
+use Rattle.brl_rules.proofs.Facts.{beq-itself}
 
 -- a mark isn't among the bytes
 abbrev Free : ℕ → List ℕ → Type 0
@@ -144,7 +145,7 @@ module _ (law : (dues : List Due) → AreDues dues → in_order dues ≡ dues) w
       let fine = each-Fine s.dues (recursion_from_All IsDue s.dues h.each) (recursion_from_All (λ d. IsTrue (is_proper d)) s.dues h.kept.proper) in
       rw (b.again, (flag_reads s.numeric).again, dues-again s.dues fine) (ap (λ (dues : List Due). Some (record s { dues = dues })) (law s.dues h.kept))
 
-  owing-again : (s : DuesState) → IsRunless IsDuesState (λ z. z.run) s → lenient_dues (dues_fields s) ≡ Some s
+  owing-again : (s : DuesState) → IsCapsFree IsDuesState (λ z. z.run) s → lenient_dues (dues_fields s) ≡ Some s
   owing-again s h =
       ap (λ (run : Bool). lenient_state ((number 255).spell s.before.0) (flag.spell s.numeric) run (map spelled_due s.dues)) (sym h.1) ∙ state-again s h.0
 
@@ -179,12 +180,12 @@ word-plain s h =
 -- ---- States that are equal
 
 same-state : (s : DuesState) → dues_format.same s s ≡ true
-same-state s = rw ((Decides-eqb s.before.0 s.before.0).1 refl, flag_itself s.numeric, flag_itself s.run) ((lists_equiv dues_equiv).refl s.dues)
+same-state s = rw ((Decides-eqb s.before.0 s.before.0).1 refl, beq-itself s.numeric, beq-itself s.run) ((lists_equiv dues_equiv).refl s.dues)
 
 pub DuesState-Decides : (s t : DuesState) → Decides (dues_format.same s t) (s ≡ t)
 DuesState-Decides = decides dues_format.same same_states same-state
 
-pub keeps_owing : ((dues : List Due) → AreDues dues → in_order dues ≡ dues) → KeepsStates dues_format (IsRunless IsDuesState (λ s. s.run))
+pub keeps_owing : ((dues : List Due) → AreDues dues → in_order dues ≡ dues) → KeepsStates dues_format (IsCapsFree IsDuesState (λ s. s.run))
 keeps_owing law = record { again = owing-again law; plain = λ s h. owing-plain s h.0; flips = flips dues_format.same DuesState-Decides }
 
 pub keeps_word : ((dues : List Due) → AreDues dues → in_order dues ≡ dues) → KeepsStates word_format IsDuesState

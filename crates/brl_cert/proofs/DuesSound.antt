@@ -10,8 +10,8 @@ use Rattle.brl_states.specs.declared.due.Due.{Due}
 use Rattle.brl_states.specs.declared.due.Due.TheVariants.{Need, Bar}
 use Rattle.brl_states.specs.declared.dues_state.DuesState.{DuesState}
 use Rattle.brl_cert.specs.Dues.{lenient_any, lenient_due, lenient_dues, lenient_head, lenient_parts, lenient_set, lenient_state, lenient_word, or_else, dues_format, word_format}
-use Rattle.brl_fields.specs.Fields.{◌>>=◌, each, flag, lenient_char, number}
-use Rattle.brl_cert.specs.Valid.{HasSet, IsDue, IsDuesState, IsRunless}
+use Rattle.brl_cert.specs.Fields.{◌>>=◌, each, flag, lenient_char, number}
+use Rattle.brl_cert.specs.Valid.{HasSet, IsDue, IsDuesState, IsCapsFree}
 use Rattle.brl_cert.proofs.DuesLaws.{DuesState-Decides, Fine}
 use Rattle.brl_cert.proofs.Sound.{ReadsStates, each_valid, equal_from_decides, lenient_number-small, some_if, then_some}
 
@@ -106,7 +106,7 @@ module _ (order : KeepsOrder) where
       subst (λ (s : DuesState). IsDuesState s × (s.run ≡ run)) (some_is made s z.2)
       (record { before = omega (arith, small); each = each_in_order z.0 fine; kept = in_order_kept z.0 fine }, refl)
 
-  owing_valid : (fields : List (List ℕ)) (s : DuesState) → lenient_dues fields ≡ Some s → IsRunless IsDuesState (λ z. z.run) s
+  owing_valid : (fields : List (List ℕ)) (s : DuesState) → lenient_dues fields ≡ Some s → IsCapsFree IsDuesState (λ z. z.run) s
   owing_valid [] s e = absurd cc
   owing_valid (b ∷ []) s e = absurd cc
   owing_valid (b ∷ n ∷ fields) s e = state_valid b n false fields s e
@@ -119,7 +119,7 @@ module _ (order : KeepsOrder) where
       let x = then_some (flag.lenient r) (λ run. lenient_state b n run fields) s e in
       (state_valid b n x.0 fields s x.2).0
 
-  pub reads_owing : ReadsStates dues_format (IsRunless IsDuesState (λ s. s.run))
+  pub reads_owing : ReadsStates dues_format (IsCapsFree IsDuesState (λ s. s.run))
   reads_owing = record { valid = owing_valid; equal = equal_from_decides dues_format.same DuesState-Decides }
 
   pub reads_word : ReadsStates word_format IsDuesState

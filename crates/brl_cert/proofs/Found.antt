@@ -8,7 +8,7 @@ use Rattle.std.proofs.lemmas.List.{append-nil, flat_map_more}
 use Rattle.std.proofs.lemmas.List.Splits.{join_with_byte-slice_split}
 use Rattle.brl_cert.specs.declared.fault.CertFaultKind.{CertFaultKind}
 use Rattle.brl_cert.specs.declared.fault.CertFaultKind.TheVariants.{Syntax, NotCanonical, DuplicateState, DuplicatePair, NoSuchState, WrongCount, Version}
-use Rattle.brl_edges.specs.Body.{BodyView, NumberPair, same_pair}
+use Rattle.brl_pairs.specs.Body.{BodyView, NumberPair, same_pair}
 use Rattle.std.specs.Cmp.{first_so, second_so}
 use Rattle.brl_cert.specs.declared.line.Line.{Line}
 use Rattle.brl_cert.specs.declared.line.Line.TheVariants.{State, Pair, End}
@@ -18,6 +18,7 @@ use Rattle.brl_cert.specs.Reading.{spelling, reading, certificate_of, spelled_he
 use Rattle.brl_states.specs.declared.cert.Cert.TheVariants.{Dues, Window, Word}
 use Rattle.brl_states.specs.declared.cert.Cert.{Cert as Certificate}
 use Rattle.brl_cert.specs.Window.{window_format}
+use Rattle.brl_pairs.proofs.Positions.{not_false}
 
 -- the value of a step that did not fail
 pub then_ok : {A B E : Type 0} (r : Result A E) (f : A → Result B E) (y : B) → (r >>> f) ≡ Ok y → (x : A) × (r ≡ Ok x) × (f x ≡ Ok y)
@@ -50,11 +51,7 @@ module _ {S : Type 0} (form : StateFormat S) where
       let a = guard_ok (not (may_follow body x)) Syntax (cond (bytes_eq (spelled_line form x) bytes) (Ok x) (Err NotCanonical)) line e in
       let b = need_ok (bytes_eq (spelled_line form x) bytes) NotCanonical (Ok x) line a.1 in
       let same : x ≡ line = ok_is x line b.1 in
-      subst (λ (z : Line S). (may_follow body z ≡ true) × (spelled_line form z ≡ bytes)) same (follows (may_follow body x) a.0, (bytes_eq-Decides (spelled_line form x) bytes).0 b.0)
-    where
-      follows : (b : Bool) → not b ≡ false → b ≡ true
-      follows true h = refl
-      follows false h = absurd cc
+      subst (λ (z : Line S). (may_follow body z ≡ true) × (spelled_line form z ≡ bytes)) same (not_false (may_follow body x) a.0, (bytes_eq-Decides (spelled_line form x) bytes).0 b.0)
 
   -- the lines of the body, without the end line
   abbrev pub front : BodyView S → List ℕ
@@ -66,21 +63,21 @@ module _ {S : Type 0} (form : StateFormat S) where
 
   -- what a line adds
   adds : (body : BodyView S) (line : Line S) (longer : BodyView S) → may_follow body line ≡ true → add_line form body line ≡ Ok longer → is_end line ≡ false → front longer ≡ front body ++ whole_line form line
-  adds body (State s) longer follows e open_ =
+  adds body (State s) longer not_false e open_ =
       let a = guard_ok (list_any (form.same s) body.states) DuplicateState (Ok (record { states = body.states ++ s ∷ []; pairs = body.pairs })) longer e in
-      let none : body.pairs ≡ [] = empty_is body.pairs follows in
+      let none : body.pairs ≡ [] = empty_is body.pairs not_false in
       let more : front (record { states = body.states ++ s ∷ []; pairs = body.pairs }) ≡ front body ++ whole_line form (State s) = rw none (append-nil _ ∙ sym (flat_map_more (λ (x : S). whole_line form (State x)) [] body.states s) ∙ ap (λ (b : List ℕ). b ++ whole_line form (State s)) (sym (append-nil _))) in
       subst (λ (z : BodyView S). front z ≡ front body ++ whole_line form (State s)) (ok_is _ longer a.1) more
     where
       empty_is : {A : Type 0} (xs : List A) → eqb (length xs) 0 ≡ true → xs ≡ []
       empty_is [] h = refl
       empty_is (x ∷ xs) h = absurd (omega (arith, (Decides-eqb (length (x ∷ xs)) 0).0 h))
-  adds body (Pair p) longer follows e open_ =
+  adds body (Pair p) longer not_false e open_ =
       let a = guard_ok (not (ltb p.ahead (length body.states) && ltb p.behind (length body.states))) NoSuchState (cond (list_any (same_pair p) body.pairs) (Err DuplicatePair) (Ok (record { states = body.states; pairs = body.pairs ++ p ∷ [] }))) longer e in
       let b = guard_ok (list_any (same_pair p) body.pairs) DuplicatePair (Ok (record { states = body.states; pairs = body.pairs ++ p ∷ [] })) longer a.1 in
       let more : front (record { states = body.states; pairs = body.pairs ++ p ∷ [] }) ≡ front body ++ whole_line form (Pair p) = sym (flat_map_more (λ (x : NumberPair). whole_line form (Pair x)) (flat_map (λ s. whole_line form (State s)) body.states) body.pairs p) in
       subst (λ (z : BodyView S). front z ≡ front body ++ whole_line form (Pair p)) (ok_is _ longer b.1) more
-  adds body (End s p) longer follows e open_ = cc
+  adds body (End s p) longer not_false e open_ = cc
 
   closes : (body : BodyView S) (line : Line S) (longer : BodyView S) → add_line form body line ≡ Ok longer → is_end line ≡ true → front body ++ whole_line form line ≡ spelled_body form longer
   closes body (State s) longer e end = cc
@@ -118,9 +115,9 @@ module _ {S : Type 0} (form : StateFormat S) where
       one_step : ((longer : BodyView S) → body_of form (suc n) longer (next ∷ more) ≡ Ok out → front longer ++ join_with_byte 10 (next ∷ more) ≡ spelled_body form out) → (ends : Bool) (longer : BodyView S) (line : Line S) → is_end line ≡ ends → may_follow body line ≡ true → add_line form body line ≡ Ok longer
           → cond (not ends) (body_of form (suc n) longer (next ∷ more)) (cond (eqb (length next + length more) 0) (Ok longer) (Err (at_line (suc n) Syntax))) ≡ Ok out
           → (front body ++ whole_line form line) ++ join_with_byte 10 (next ∷ more) ≡ spelled_body form out
-      one_step go false longer line is follows added rest =
-          ap (λ (b : List ℕ). b ++ join_with_byte 10 (next ∷ more)) (sym (adds body line longer follows added is)) ∙ go longer rest
-      one_step go true longer line is follows added rest =
+      one_step go false longer line is not_false added rest =
+          ap (λ (b : List ℕ). b ++ join_with_byte 10 (next ∷ more)) (sym (adds body line longer not_false added is)) ∙ go longer rest
+      one_step go true longer line is not_false added rest =
           let a = need_ok (eqb (length next + length more) 0) (at_line (suc n) Syntax) (Ok longer) out rest in
           ap (λ (b : List ℕ). (front body ++ whole_line form line) ++ b) (nothing_behind next more a.0) ∙ append-nil _ ∙ closes body line longer added is ∙ ap (λ (z : BodyView S). spelled_body form z) (ok_is longer out a.1)
 

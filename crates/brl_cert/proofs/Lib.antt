@@ -7,3 +7,9 @@ pub mod Written
 pub mod Loops
 pub mod DuesLaws
 pub mod DuesSound
+pub mod Numbers
+pub mod Each
+pub mod FieldLaws
+pub mod Lists
+pub mod Ascii
+pub mod More

@@ -6,7 +6,7 @@ use Rattle.brl_cert.specs.declared.fault.CertFaultKind.{CertFaultKind}
 use Rattle.brl_cert.specs.declared.fault.CertFaultKind.TheVariants.{Syntax, Truncated}
 use Rattle.brl_cert.specs.declared.line.Line.{Line}
 use Rattle.brl_cert.specs.Lines.{at_line, StateFormat, ◌>>>◌, placed, line_of, add_line, is_end, one_line, body_of}
-use Rattle.brl_edges.specs.Body.{BodyView}
+use Rattle.brl_pairs.specs.Body.{BodyView}
 use Rattle.brl_failure.specs.Failure.{IsFaultOf}
 use Rattle.brl_failure.specs.declared.failure.Failure.{Failure}
 use Rattle.brl_failure.specs.declared.failure.Failure.TheVariants as failures

@@ -15,8 +15,8 @@ use Rattle.brl_cells.specs.declared.fault.DotsFault.{DotsFault}
 use Rattle.brl_cells.specs.declared.fault.DotsFault.TheVariants.{TooManyCells}
 use Rattle.brl_cells.specs.Dots.{AreCells, cells_reading, parts, reading as dots_reading}
 use Rattle.brl_cert.specs.declared.fault.CertFaultKind.TheVariants.{Syntax, NotCanonical, DuplicateState, DuplicatePair, NoSuchState, WrongCount, Version}
-use Rattle.brl_edges.specs.Body.{BodyView, IsPairOf, NumberPair, same_pair}
-use Rattle.brl_fields.specs.Fields.{◌>>=◌, lenient_number, lenient_lead, is_char, lenient_char, lenient_chars, each, number, flag}
+use Rattle.brl_pairs.specs.Body.{BodyView, IsPairOf, NumberPair, same_pair}
+use Rattle.brl_cert.specs.Fields.{◌>>=◌, lenient_number, lenient_lead, is_char, lenient_char, lenient_chars, each, number, flag}
 use Rattle.brl_cert.specs.declared.line.Line.{Line}
 use Rattle.brl_cert.specs.declared.line.Line.TheVariants.{State, Pair, End}
 use Rattle.brl_cert.specs.Lines.{at_line, StateFormat, ◌>>>◌, placed, count, spelled_line, lenient_line, lenient_pair, lenient_end, strict_line, line_of, may_follow, is_end, add_line, one_line, body_of}
@@ -26,10 +26,11 @@ use Rattle.brl_cert.specs.Dues.{dues_format, word_format}
 use Rattle.brl_cert.specs.Reading.{reading, certificate_of, version_of, header_of, empty_body, written_so}
 use Rattle.brl_states.specs.declared.cert.Cert.TheVariants.{Dues, Window, Word}
 use Rattle.brl_states.specs.declared.cert.Cert.{Cert as Certificate}
-use Rattle.brl_cert.specs.Valid.{IsBody, IsRunless, IsWindowState, IsDuesState, IsCertificate}
-use Rattle.brl_fields.proofs.Ascii.{limited}
+use Rattle.brl_cert.specs.Valid.{IsBody, IsCapsFree, IsWindowState, IsDuesState, IsCertificate}
+use Rattle.brl_cert.proofs.Ascii.{limited}
 use Rattle.brl_cert.proofs.Found.{then_ok, placed_ok, guard_ok, need_ok, ok_is}
 use Rattle.brl_cert.proofs.Window.{NumberPair-Decides, WindowState-Decides, flips}
+use Rattle.brl_pairs.proofs.Positions.{not_false}
 
 -- ---- The values of fields
 
@@ -161,19 +162,15 @@ module _ {S : Type 0} (form : StateFormat S) (IsState : S → Type 0) (cells : R
   strict_valid body bytes (Some x) line valid e =
       let a = guard_ok (not (may_follow body x)) Syntax (cond (bytes_eq (spelled_line form x) bytes) (Ok x) (Err NotCanonical)) line e in
       let b = need_ok (bytes_eq (spelled_line form x) bytes) NotCanonical (Ok x) line a.1 in
-      subst (λ (z : Line S). (may_follow body z ≡ true) × IsLine IsState z) (ok_is x line b.1) (follows (may_follow body x) a.0, valid x refl)
-    where
-      follows : (b : Bool) → not b ≡ false → b ≡ true
-      follows true h = refl
-      follows false h = absurd cc
+      subst (λ (z : Line S). (may_follow body z ≡ true) × IsLine IsState z) (ok_is x line b.1) (not_false (may_follow body x) a.0, valid x refl)
 
   -- ---- Bodies
 
   -- it stays so after a line
   adds_valid : (body : BodyView S) (line : Line S) (longer : BodyView S) → IsFront form IsState body → may_follow body line ≡ true → IsLine IsState line → add_line form body line ≡ Ok longer → IsFront form IsState longer
-  adds_valid body (State s) longer front follows is e =
+  adds_valid body (State s) longer front not_false is e =
       let a = guard_ok (list_any (form.same s) body.states) DuplicateState (Ok (record { states = body.states ++ s ∷ []; pairs = body.pairs })) longer e in
-      let none : body.pairs ≡ [] = empty_is body.pairs follows in
+      let none : body.pairs ≡ [] = empty_is body.pairs not_false in
       subst (IsFront form IsState) (ok_is _ longer a.1) record {
         each_state = All-push IsState body.states s front.each_state is;
         each_pair = subst (λ (ps : List NumberPair). All (IsPairOf (length (body.states ++ s ∷ []))) ps) (sym none) (All-nil (IsPairOf (length (body.states ++ s ∷ []))));
@@ -185,7 +182,7 @@ module _ {S : Type 0} (form : StateFormat S) (IsState : S → Type 0) (cells : R
       empty_is : {A : Type 0} (xs : List A) → eqb (length xs) 0 ≡ true → xs ≡ []
       empty_is [] h = refl
       empty_is (x ∷ xs) h = absurd (omega (arith, (Decides-eqb (length (x ∷ xs)) 0).0 h))
-  adds_valid body (Pair p) longer front follows is e =
+  adds_valid body (Pair p) longer front not_false is e =
       let a = guard_ok (not (ltb p.ahead (length body.states) && ltb p.behind (length body.states))) NoSuchState (cond (list_any (same_pair p) body.pairs) (Err DuplicatePair) (Ok (record { states = body.states; pairs = body.pairs ++ p ∷ [] }))) longer e in
       let b = guard_ok (list_any (same_pair p) body.pairs) DuplicatePair (Ok (record { states = body.states; pairs = body.pairs ++ p ∷ [] })) longer a.1 in
       let within = both (ltb p.ahead (length body.states)) (ltb p.behind (length body.states)) a.0 in
@@ -202,7 +199,7 @@ module _ {S : Type 0} (form : StateFormat S) (IsState : S → Type 0) (cells : R
       both true true h = (refl, refl)
       both true false h = absurd cc
       both false b h = absurd cc
-  adds_valid body (End s p) longer front follows is e =
+  adds_valid body (End s p) longer front not_false is e =
       let a = need_ok ((eqb (length body.states) s) && (eqb (length body.pairs) p)) WrongCount (Ok body) longer e in
       subst (IsFront form IsState) (ok_is body longer a.1) front
 
@@ -264,7 +261,7 @@ equal_from_decides e decides = record {
   congr = λ x y z h. ap (λ w. e w z) ((decides x y).0 h);
 }
 
-window_valid : (fields : List (List ℕ)) (s : WindowState) → lenient_window fields ≡ Some s → IsRunless IsWindowState (λ z. z.run) s
+window_valid : (fields : List (List ℕ)) (s : WindowState) → lenient_window fields ≡ Some s → IsCapsFree IsWindowState (λ z. z.run) s
 window_valid (b ∷ n ∷ f ∷ c ∷ []) s e =
     let w = then_some ((number 255).lenient b) (λ before. flag.lenient n >>= λ numeric. flag.lenient f >>= λ ended. lenient_chars c >>= λ coming. Some (record { before = record { 0 = before }; numeric = numeric; run = false; ended = ended; coming = coming })) s e in
     let x = then_some (flag.lenient n) (λ numeric. flag.lenient f >>= λ ended. lenient_chars c >>= λ coming. Some (record { before = record { 0 = w.0 }; numeric = numeric; run = false; ended = ended; coming = coming })) s w.2 in
@@ -273,10 +270,10 @@ window_valid (b ∷ n ∷ f ∷ c ∷ []) s e =
     let made : WindowState = record { before = record { 0 = w.0 }; numeric = x.0; run = false; ended = y.0; coming = z.0 } in
     let same : made ≡ s = (let g = z.2 in cc) in
     let small : w.0 ≤ 255 = lenient_number-small 10 255 b w.0 w.1 in
-    subst (IsRunless IsWindowState (λ (s : WindowState). s.run)) same (record { before = omega (arith, small); coming = chars_valid c z.0 z.1 }, refl)
+    subst (IsCapsFree IsWindowState (λ (s : WindowState). s.run)) same (record { before = omega (arith, small); coming = chars_valid c z.0 z.1 }, refl)
 window_valid fields s e = absurd cc
 
-pub reads_windows : ReadsStates window_format (IsRunless IsWindowState (λ s. s.run))
+pub reads_windows : ReadsStates window_format (IsCapsFree IsWindowState (λ s. s.run))
 reads_windows = record { valid = window_valid; equal = equal_from_decides window_format.same WindowState-Decides }
 
 -- what is read by a version's form of states is a body in range
@@ -292,7 +289,7 @@ lines_valid form IsState cells reads wrap is parts c e =
     let d = then_ok (body_of form 2 empty_body parts) (λ body. Ok (wrap body)) c e in
     subst IsCertificate (ok_is (wrap d.0) c d.2) (is d.0 (whole_body form IsState cells reads parts d.0 d.1))
 
-module _ (cells : ReadCells) (reads_owing : ReadsStates dues_format (IsRunless IsDuesState (λ s. s.run))) (reads_word : ReadsStates word_format IsDuesState) where
+module _ (cells : ReadCells) (reads_owing : ReadsStates dues_format (IsCapsFree IsDuesState (λ s. s.run))) (reads_word : ReadsStates word_format IsDuesState) where
   version_valid : (version : ℕ) (parts : List (List ℕ)) (c : Certificate) → version_of version parts ≡ Ok c → IsCertificate c
   version_valid version parts c e = by_first (eqb version 1) e
     where
@@ -301,11 +298,11 @@ module _ (cells : ReadCells) (reads_owing : ReadsStates dues_format (IsRunless I
       by_third false e = absurd cc
 
       by_second : (b : Bool) → cond b (written_so dues_format Dues parts) (cond (eqb version 3) (written_so word_format Word parts) (Err (at_line 1 Version))) ≡ Ok c → IsCertificate c
-      by_second true e = lines_valid dues_format (IsRunless IsDuesState (λ s. s.run)) cells reads_owing Dues (λ body h. h) parts c e
+      by_second true e = lines_valid dues_format (IsCapsFree IsDuesState (λ s. s.run)) cells reads_owing Dues (λ body h. h) parts c e
       by_second false e = by_third (eqb version 3) e
 
       by_first : (b : Bool) → cond b (written_so window_format Window parts) (cond (eqb version 2) (written_so dues_format Dues parts) (cond (eqb version 3) (written_so word_format Word parts) (Err (at_line 1 Version)))) ≡ Ok c → IsCertificate c
-      by_first true e = lines_valid window_format (IsRunless IsWindowState (λ s. s.run)) cells reads_windows Window (λ body h. h) parts c e
+      by_first true e = lines_valid window_format (IsCapsFree IsWindowState (λ s. s.run)) cells reads_windows Window (λ body h. h) parts c e
       by_first false e = by_second (eqb version 2) e
 
   parts_valid : (parts : List (List ℕ)) (c : Certificate) → certificate_of parts ≡ Ok c → IsCertificate c

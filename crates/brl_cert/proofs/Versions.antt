@@ -4,15 +4,15 @@ use Rattle.std.specs.Fmt.{digits}
 use Rattle.std.proofs.lemmas.List.Splits.{slice_split_at}
 use Rattle.brl_cert.specs.declared.fault.CertFault.{CertFault}
 use Rattle.brl_cert.specs.declared.fault.CertFaultKind.{CertFaultKind}
-use Rattle.brl_edges.specs.Body.{BodyView, same_pair}
+use Rattle.brl_pairs.specs.Body.{BodyView, same_pair}
 use Rattle.brl_cert.specs.Dues.{dues_format, word_format}
 use Rattle.brl_cert.specs.Lines.{StateFormat, spelled_body, body_of, ◌>>>◌}
 use Rattle.brl_cert.specs.Window.{window_format}
 use Rattle.brl_cert.specs.Reading.{spelled_header, header_of, certificate_of, empty_body, reading, spelling, version_of, written_so}
 use Rattle.brl_states.specs.declared.cert.Cert.TheVariants.{Dues, Window, Word}
 use Rattle.brl_states.specs.declared.cert.Cert.{Cert as Certificate}
-use Rattle.brl_cert.specs.Valid.{IsBody, IsCertificate, IsDuesState, IsRunless}
-use Rattle.brl_fields.proofs.FieldLaws.{IsAbove, ReadsCells, apart, above_true}
+use Rattle.brl_cert.specs.Valid.{IsBody, IsCertificate, IsDuesState, IsCapsFree}
+use Rattle.brl_cert.proofs.FieldLaws.{IsAbove, ReadsCells, apart, above_true}
 use Rattle.brl_cert.proofs.Again.{KeepsStates, body_again, first_part}
 use Rattle.brl_cert.proofs.Window.{NumberPair-Decides, flips, keeps_windows}
 
@@ -43,7 +43,7 @@ body_is_read form keeps law wrap n heads body good =
     ∙ ap (λ (r : Result (BodyView _) CertFault). r >>> λ all. Ok (wrap all)) (body_again form keeps law (flips same_pair NumberPair-Decides) 2 body good))
 
 -- what is spelled is read
-pub spelled_is_read : ReadsCells → KeepsStates dues_format (IsRunless IsDuesState (λ s. s.run)) → KeepsStates word_format IsDuesState → (c : Certificate) → IsCertificate c → reading (spelling c) ≡ Ok c
+pub spelled_is_read : ReadsCells → KeepsStates dues_format (IsCapsFree IsDuesState (λ s. s.run)) → KeepsStates word_format IsDuesState → (c : Certificate) → IsCertificate c → reading (spelling c) ≡ Ok c
 spelled_is_read law owing word (Window body) good = body_is_read window_format keeps_windows law Window 1 first_heads body good
 spelled_is_read law owing word (Dues body) good = body_is_read dues_format owing law Dues 2 second_heads body good
 spelled_is_read law owing word (Word body) good = body_is_read word_format word law Word 3 third_heads body good

@@ -2,10 +2,10 @@
 use Rattle.std.proofs.Common.{◌≡◌, Bool, ℕ, ◌+◌, List, [], ◌∷◌, ◌++◌, sym, ap, ◌∙◌, append_assoc}
 use Rattle.std.specs.List.{join_with_byte}
 use Rattle.std.proofs.lemmas.List.{append-nil}
-use Rattle.brl_edges.specs.Body.{BodyView}
-use Rattle.brl_states.specs.Runless.{AreRunless}
+use Rattle.brl_pairs.specs.Body.{BodyView}
+use Rattle.brl_states.specs.CapsFree.{AreCapsFree}
 use Rattle.brl_cert.specs.Lines.{StateFormat, after_blanks}
-use Rattle.brl_cert.specs.Valid.{IsBody, IsRunless}
+use Rattle.brl_cert.specs.Valid.{IsBody, IsCapsFree}
 
 -- joined fields are the first one, and then each after a blank
 pub joined : (field : List ℕ) (fields : List (List ℕ)) → join_with_byte 32 (field ∷ fields) ≡ field ++ after_blanks fields
@@ -21,8 +21,8 @@ pub with_feed : (old line out new : List ℕ) → out ≡ old ++ line → new �
 with_feed old line out new first rest = rest ∙ ap (λ bytes. bytes ++ 10 ∷ []) first ∙ append_assoc old line (10 ∷ [])
 
 -- a body in range whose states no run of capitals goes to
-pub runless : {S : Type 0} (form : StateFormat S) (IsState : S → Type 0) (run : S → Bool) (body : BodyView S) → IsBody form IsState body → AreRunless run body.states → IsBody form (IsRunless IsState run) body
-runless form IsState run body is none = record {
+pub caps_free : {S : Type 0} (form : StateFormat S) (IsState : S → Type 0) (run : S → Bool) (body : BodyView S) → IsBody form IsState body → AreCapsFree run body.states → IsBody form (IsCapsFree IsState run) body
+caps_free form IsState run body is none = record {
   each_state = λ place d within. (is.each_state place d within, none place d within);
   each_pair = is.each_pair;
   each_lead = is.each_lead;

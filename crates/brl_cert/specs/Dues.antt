@@ -10,7 +10,7 @@ use Rattle.brl_states.specs.declared.due.Due.{Due}
 use Rattle.brl_states.specs.declared.due.Due.TheVariants.{Need, Bar}
 use Rattle.brl_states.specs.declared.dues_state.DuesState.{DuesState}
 use Rattle.brl_states.specs.contracts.dues_state.DuesStatePartialEq.TheImpl.{eq-value}
-use Rattle.brl_fields.specs.Fields.{◌>>=◌, each, flag, lenient_char, number}
+use Rattle.brl_cert.specs.Fields.{◌>>=◌, each, flag, lenient_char, number}
 use Rattle.brl_cert.specs.Lines.{StateFormat}
 
 -- ---- Spelling

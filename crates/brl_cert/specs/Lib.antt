@@ -3,3 +3,4 @@ pub mod Lines
 pub mod Window
 pub mod Dues
 pub mod Valid
+pub mod Fields

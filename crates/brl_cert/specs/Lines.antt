@@ -6,10 +6,10 @@ use Rattle.std.specs.List.{slice_split, join_with_byte, flat_map, list_any}
 use Rattle.brl_cert.specs.declared.fault.CertFault.{CertFault}
 use Rattle.brl_cert.specs.declared.fault.CertFaultKind.{CertFaultKind}
 use Rattle.brl_cert.specs.declared.fault.CertFaultKind.TheVariants.{Syntax, NotCanonical, DuplicateState, DuplicatePair, NoSuchState, WrongCount, Truncated}
-use Rattle.brl_edges.specs.Body.{BodyView, NumberPair, same_pair}
+use Rattle.brl_pairs.specs.Body.{BodyView, NumberPair, same_pair}
 use Rattle.brl_cert.specs.declared.line.Line.{Line}
 use Rattle.brl_cert.specs.declared.line.Line.TheVariants.{State, Pair, End}
-use Rattle.brl_fields.specs.Fields.{◌>>=◌, FieldFormat, number, lead}
+use Rattle.brl_cert.specs.Fields.{◌>>=◌, FieldFormat, number, lead}
 
 -- how a version writes states: the fields after the word state, the state of lenient fields, and
 -- when two states are equal

@@ -10,7 +10,7 @@ use Rattle.brl_states.specs.declared.cert.Cert.{Cert as Certificate}
 use Rattle.brl_states.specs.declared.cert.Cert.TheVariants.{Dues, Window, Word}
 use Rattle.brl_cert.specs.Dues.{dues_format, word_format}
 use Rattle.brl_cert.specs.Lines.{StateFormat, at_line, count, spelled_body, body_of, placed, ◌>>>◌}
-use Rattle.brl_edges.specs.Body.{BodyView}
+use Rattle.brl_pairs.specs.Body.{BodyView}
 use Rattle.brl_cert.specs.Window.{window_format}
 
 -- ---- Spelling

@@ -9,8 +9,8 @@ use Rattle.brl_states.specs.declared.due.Due.{Due}
 use Rattle.brl_states.specs.declared.due.Due.TheVariants.{Need, Bar}
 use Rattle.brl_states.specs.declared.dues_state.DuesState.{DuesState}
 use Rattle.brl_states.specs.declared.window_state.WindowState.{WindowState}
-use Rattle.brl_edges.specs.Body.{BodyView, IsPairOf, same_pair}
-use Rattle.brl_fields.specs.Fields.{is_char}
+use Rattle.brl_pairs.specs.Body.{BodyView, IsPairOf, same_pair}
+use Rattle.brl_cert.specs.Fields.{is_char}
 use Rattle.brl_cert.specs.Lines.{StateFormat}
 use Rattle.brl_cert.specs.Dues.{dues_format, word_format}
 use Rattle.brl_cert.specs.Window.{window_format}
@@ -52,11 +52,11 @@ pub record IsDuesState (s : DuesState) : Type 0 where
 
 -- the state is valid, and no run of capitals goes to it, where the second says whether one goes to a
 -- state
-abbrev pub IsRunless : {S : Type 0} → (S → Type 0) → (S → Bool) → S → Type 0
-IsRunless IsState run s = IsState s × (run s ≡ false)
+abbrev pub IsCapsFree : {S : Type 0} → (S → Type 0) → (S → Bool) → S → Type 0
+IsCapsFree IsState run s = IsState s × (run s ≡ false)
 
 -- the certificate has a spelling
 abbrev pub IsCertificate : Certificate → Type 0
-IsCertificate (Window body) = IsBody window_format (IsRunless IsWindowState (λ s. s.run)) body
-IsCertificate (Dues body) = IsBody dues_format (IsRunless IsDuesState (λ s. s.run)) body
+IsCertificate (Window body) = IsBody window_format (IsCapsFree IsWindowState (λ s. s.run)) body
+IsCertificate (Dues body) = IsBody dues_format (IsCapsFree IsDuesState (λ s. s.run)) body
 IsCertificate (Word body) = IsBody word_format IsDuesState body

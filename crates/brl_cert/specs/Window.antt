@@ -2,7 +2,7 @@
 use Rattle.std.specs.Prelude.{ℕ, false, List, [], ◌∷◌, Option, Some, None}
 use Rattle.brl_states.specs.declared.window_state.WindowState.{WindowState}
 use Rattle.brl_states.specs.contracts.window_state.WindowStatePartialEq.TheImpl.{eq-value}
-use Rattle.brl_fields.specs.Fields.{◌>>=◌, number, flag, chars}
+use Rattle.brl_cert.specs.Fields.{◌>>=◌, number, flag, chars}
 use Rattle.brl_cert.specs.Lines.{StateFormat}
 
 -- the fields of a window state

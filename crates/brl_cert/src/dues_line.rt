@@ -3,13 +3,13 @@ ghost use Rattle.std.specs.Prelude.{◌≡◌, ◌<◌, ◌++◌, ◌∷◌, [],
 ghost use Rattle.std.specs.Fmt.{digits};
 ghost use Rattle.std.specs.List.{join_with_byte};
 ghost use Rattle.brl_cert.specs.Dues.{dues_fields, lenient_any, lenient_due as due_of_field, lenient_dues, lenient_head, lenient_parts, lenient_set, lenient_state, lenient_word, spelled_cond, spelled_due, word_fields};
-ghost use Rattle.brl_fields.specs.Fields.{each, flag, is_char, number};
+ghost use Rattle.brl_cert.specs.Fields.{each, flag, is_char, number};
 ghost use Rattle.brl_cert.specs.Lines.{after_blanks};
 ghost use Rattle.brl_cert.specs.Valid.{HasSet, IsDue, IsDuesState};
 ghost use Rattle.brl_states.specs.Order.{is_proper};
 ghost use Rattle.brl_rules.specs.declared.place.Cond.TheVariants.{Meets, Avoids};
 
-use brl_fields::{
+use crate::field::{
     parts_of, push_char, push_flag, push_more, push_number, read_between_points, read_flag,
     read_number,
 };

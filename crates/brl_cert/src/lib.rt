@@ -1,21 +1,28 @@
 //! Certificates as bytes: their one spelling, and reading it. A certificate lists the states and
 //! pairs that prove a table unambiguous, so that anyone can check them.
+//!
+//! Inside, `field` has the fields of a line: numbers, flags, characters and leads. They are read
+//! leniently, and written in their one spelling.
+//!
+//! Room 4, certificates and verdicts (docs/dev/ARCHITECTURE.md). The definitions begin in
+//! `specs/Lines.antt`.
 #![tactic(auto)]
 
 mod dues_line;
 mod fault;
+mod field;
 mod line;
 mod reader;
 mod reading;
 mod version;
 mod writing;
 
-pub use brl_edges::{Body, Members, Seed};
-pub use brl_states::{Cert, Runless};
+/// A pair of a certificate, whose states are named by their numbers, from 0.
+pub type CertPair = brl_pairs::Pair<u32>;
+
+pub use brl_pairs::{Body, Members, Seed};
+pub use brl_states::{CapsFree, Cert};
 pub use fault::{CertFault, CertFaultKind};
 pub use reading::{certificate_laws, read_cert};
 pub use version::{Version, Version1, Version2, Version3};
 pub use writing::{WriteFault, write_cert};
-
-/// A pair of a certificate, whose states are named by their numbers, from 0.
-pub type CertPair = brl_pairs::Pair<u32>;

@@ -4,14 +4,13 @@ ghost use Rattle.brl_cert.specs.Lines.{HasShortLead, add_line, is_end, line_of, 
 ghost use Rattle.brl_failure.specs.Failure.{IsFaultOf};
 ghost use Rattle.brl_cert.specs.Reading.{empty_body};
 ghost use Rattle.brl_cert.specs.declared.line.Line.TheVariants as line;
-ghost use Rattle.brl_edges.specs.Body.{BodyView, IsPairOf, listed};
+ghost use Rattle.brl_pairs.specs.Body.{BodyView, IsPairOf, listed};
 
 use crate::line::{Line, read_line};
 use crate::writing::push_line;
 use crate::{CertFault, CertFaultKind, Version};
-use brl_edges::{Body, Members, Seed};
 use brl_failure::Failure;
-use brl_pairs::Pair;
+use brl_pairs::{Body, Members, Pair, Seed};
 use std::alloc::Global;
 use std::marker::Model;
 

@@ -5,20 +5,20 @@ ghost use Rattle.brl_failure.specs.Failure.{Gives, IsFaultOf};
 ghost use Rattle.brl_cert.specs.Reading.{empty_body, header_of, lenient_header, reading, spelling, version_of};
 ghost use Rattle.brl_cert.specs.Valid.{IsCertificate};
 ghost use Rattle.brl_states.specs.declared.cert.Cert.{Cert as Certificate};
-ghost use Rattle.brl_states.specs.Runless.{AreRunless};
+ghost use Rattle.brl_states.specs.CapsFree.{AreCapsFree};
 ghost use Rattle.brl_cert.specs.Dues.{dues_format};
 ghost use Rattle.brl_cert.specs.Window.{window_format};
 ghost use Rattle.brl_states.specs.declared.dues_state.DuesState.{DuesState};
-ghost use Rattle.brl_edges.specs.Body.{BodyView};
+ghost use Rattle.brl_pairs.specs.Body.{BodyView};
 ghost use Rattle.brl_states.specs.declared.window_state.WindowState.{WindowState};
 
+use crate::field::{parts_of, push_number, read_number};
 use crate::reader::Reader;
 use crate::{Cert, CertFault, CertFaultKind, Version, Version1, Version2, Version3};
 use brl_cells::{cells_are_read, spelled_cells_are_read};
-use brl_edges::{Body, Seed};
 use brl_failure::Failure;
-use brl_fields::{parts_of, push_number, read_number};
-use brl_states::{Runless, order_law};
+use brl_pairs::{Body, Seed};
+use brl_states::{CapsFree, order_law};
 use std::alloc::Global;
 
 /// The laws of certificates, for the crates above: each certificate is read from its spelling, and
@@ -34,11 +34,11 @@ pub fn certificate_laws()
 }
 
 /// The law of versions 1 and 2: no run of capitals goes to a state that is read.
-fn runless_laws()
+fn caps_free_laws()
     ensures windows { (parts : List (List ℕ)) (body : BodyView WindowState) → body_of window_format 2 empty_body parts ≡ Ok body →
-        AreRunless (λ (s : WindowState). s.run) body.states }
+        AreCapsFree (λ (s : WindowState). s.run) body.states }
     ensures dues { (parts : List (List ℕ)) (body : BodyView DuesState) → body_of dues_format 2 empty_body parts ≡ Ok body →
-        AreRunless (λ (s : DuesState). s.run) body.states }
+        AreCapsFree (λ (s : DuesState). s.run) body.states }
 {
     cells_are_read();
     order_law();
@@ -139,15 +139,15 @@ fn read_version_lines(
     requires { 1 ≤ length parts.now }
     ensures { Gives (version_of version (map (λ part. part.now) parts.now)) result }
 {
-    runless_laws();
+    caps_free_laws();
     match version {
         1 => {
             let body = read_body::<Version1>(alloc, seed, parts)?;
-            Ok(Cert::Window(Runless::new(body)))
+            Ok(Cert::Window(CapsFree::new(body)))
         }
         2 => {
             let body = read_body::<Version2>(alloc, seed, parts)?;
-            Ok(Cert::Dues(Runless::new(body)))
+            Ok(Cert::Dues(CapsFree::new(body)))
         }
         3 => Ok(Cert::Word(read_body::<Version3>(alloc, seed, parts)?)),
         _ => Err(CertFaultKind::Version.at(1)),

@@ -6,8 +6,8 @@ ghost use Rattle.brl_cert.specs.Valid.{IsDuesState, IsWindowState};
 ghost use Rattle.brl_cert.specs.Window.{lenient_window, window_format};
 
 use crate::dues_line::{push_dues, push_word, read_dues, read_word};
-use brl_fields::{push_chars, push_flag, push_number, read_chars, read_flag, read_number};
-use brl_members::Key;
+use crate::field::{push_chars, push_flag, push_number, read_chars, read_flag, read_number};
+use brl_pairs::Key;
 use brl_rules::Class;
 use brl_states::{DuesState, WindowState};
 use std::alloc::{AllocError, Global};

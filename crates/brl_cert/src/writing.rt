@@ -6,15 +6,14 @@ ghost use Rattle.brl_cert.specs.Lines.{end_fields, pair_fields, spelled_body, sp
 ghost use Rattle.brl_cert.specs.Reading.{reading, spelling};
 ghost use Rattle.brl_states.specs.declared.cert.Cert.TheVariants.{Dues, Window, Word};
 ghost use Rattle.brl_cert.specs.Valid.{IsBody};
-ghost use Rattle.brl_edges.specs.Body.{listed};
+ghost use Rattle.brl_pairs.specs.Body.{listed};
 ghost use Rattle.brl_cert.specs.declared.line.Line.TheVariants.{State};
 
+use crate::field::{push_lead, push_number};
 use crate::line::Line;
 use crate::{Cert, Version, Version1, Version2, Version3, certificate_laws};
-use brl_edges::Body;
-use brl_fields::{push_lead, push_number};
-use brl_pairs::Pair;
-use brl_states::{DuesState, Runless, WindowState};
+use brl_pairs::{Body, Pair};
+use brl_states::{CapsFree, DuesState, WindowState};
 use std::alloc::{AllocError, Global};
 
 /// Writes a state line without its line feed.
@@ -116,7 +115,7 @@ fn push_body<V: Version>(
 }
 
 /// The bytes of a certificate of version 1.
-fn write_windows(alloc: Global, body: &Runless<WindowState>) -> Result<Vec<u8>, AllocError>
+fn write_windows(alloc: Global, body: &CapsFree<WindowState>) -> Result<Vec<u8>, AllocError>
     ensures spelled { IfOk result (λ bytes. bytes.items ≡ spelling (Window body.now)) }
     ensures read_back { IfOk result (λ bytes. reading bytes.items ≡ Ok (Window body.now)) }
 {
@@ -127,7 +126,7 @@ fn write_windows(alloc: Global, body: &Runless<WindowState>) -> Result<Vec<u8>, 
 }
 
 /// The bytes of a certificate of version 2.
-fn write_dues(alloc: Global, body: &Runless<DuesState>) -> Result<Vec<u8>, AllocError>
+fn write_dues(alloc: Global, body: &CapsFree<DuesState>) -> Result<Vec<u8>, AllocError>
     ensures spelled { IfOk result (λ bytes. bytes.items ≡ spelling (Dues body.now)) }
     ensures read_back { IfOk result (λ bytes. reading bytes.items ≡ Ok (Dues body.now)) }
 {

@@ -12,20 +12,21 @@ use Rattle.brl_rules.specs.Choice.{fits, folds_of_capitals, matches}
 use Rattle.brl_rules.specs.declared.place.Cond.{Cond}
 use Rattle.brl_rules.specs.Places.{after_of, before_of, holds}
 use Rattle.brl_rules.specs.TableView.{TableView}
-use Rattle.brl_rules.specs.Text.{classes_at, fold_of, is_defined, is_in_run, is_text}
+use Rattle.brl_rules.specs.Text.{classes_at, fold_of, is_defined, is_in_caps_run, is_text}
 use Rattle.brl_states.specs.declared.due.Due.{Due}
 use Rattle.brl_states.specs.declared.dues_state.DuesState.{DuesState}
 use Rattle.brl_dues.specs.Due.{dues_met}
 use Rattle.brl_dues.specs.Capitals.{alike, further, is_upper}
-use Rattle.brl_dues.specs.Form.{Form, IsForm, folded, may_read, own_form, rule_form}
+use Rattle.brl_dues.specs.CaseForm.{CaseForm, IsForm, folded, may_read, own_form, rule_form}
 use Rattle.brl_dues.specs.Steps.{dues_machine, next_dues, step_of}
 use Rattle.brl_dues.proofs.Carrying.{fits_in}
 use Rattle.brl_dues.proofs.Choices.{starts-rest}
 use Rattle.brl_dues.proofs.Exact.{AreKnown, ends-met, path-Gives}
 use Rattle.brl_dues.proofs.Forms.{IsStep-listed}
-use Rattle.brl_dues.proofs.InRun.{alike-itself, folds-more, folds-none, further-met, some-met}
+use Rattle.brl_dues.proofs.InCapsRun.{alike-itself, folds-more, folds-none, further-met, some-met}
 use Rattle.brl_dues.proofs.StepLaw.{none_fits, option_met, step-met}
-use Rattle.brl_dues.proofs.Taking.{Choosing, Translating, fits-form, form-ReadsSome, form-agrees}
+use Rattle.brl_dues.proofs.Taking.{Choosing, fits-form, form-ReadsSome, form-agrees}
+use Rattle.brl_rules.proofs.OneByOne.{Translating}
 
 -- ---- What fits
 
@@ -79,7 +80,7 @@ matches-form t false c rest (first ∷ others) h =
 
 -- a form that is taken before a rest
 pub record Found (t : TableView) (before : Class) (rest : List ℕ) : Type 0 where
-  pub form : Form
+  pub form : CaseForm
   pub is_form : IsForm t before form
   pub left : List ℕ
   pub begins : rest ≡ form.reads ++ left
@@ -106,13 +107,13 @@ none-more t before rest (q ∷ above) r h e =
 module _ (t : TableView) (before : Class) (c : ℕ) (rest : List ℕ) (defined : is_defined t c ≡ true) where
   -- whether the rest begins in a run of capitals
   abbrev run : Bool
-  run = is_in_run t before (c ∷ rest)
+  run = is_in_caps_run t before (c ∷ rest)
 
   -- what must follow what is read, does follow
   further-found : (others left : List ℕ) → rest ≡ others ++ left → (next : Cond) × (further t before run (c ∷ others) ≡ Some next) × (holds next (classes_at t left 0) ≡ true)
   further-found others left e =
       some-met (further t before run (c ∷ others)) (classes_at t left 0)
-      (further-met t left before run c others ∙ ap (λ l. alike run (is_in_run t before (c ∷ l))) (sym e) ∙ alike-itself run)
+      (further-met t left before run c others ∙ ap (λ l. alike run (is_in_caps_run t before (c ∷ l))) (sym e) ∙ alike-itself run)
 
   found-own : none_fits t before (c ∷ rest) t.rules ≡ true → Found t before (c ∷ rest)
   found-own none =
@@ -178,7 +179,7 @@ module _ (t : TableView) (before : Class) (c : ℕ) (rest : List ℕ) (defined :
 
 -- a step whose reads begin a rest, and whose next state's dues the others meet
 pub record Steps (t : TableView) (s : DuesState) (rest : List ℕ) : Type 0 where
-  pub form : Form
+  pub form : CaseForm
   pub is_form : IsForm t s.before form
   pub dues : List Due
   pub owed : next_dues t s form ≡ Some dues

@@ -9,7 +9,7 @@ use Rattle.brl_rules.specs.declared.rule.Rule.{Rule}
 use Rattle.brl_rules.specs.Choice.{folds_of_capitals, matches}
 use Rattle.brl_rules.specs.Places.{holds, before_of, after_of, share}
 use Rattle.brl_rules.specs.TableView.{TableView}
-use Rattle.brl_rules.specs.Text.{classes_at, classes_of, fold_of, is_in_run}
+use Rattle.brl_rules.specs.Text.{classes_at, classes_of, fold_of, is_in_caps_run}
 use Rattle.brl_dues.specs.declared.carry.Carried.{Carried}
 use Rattle.brl_dues.specs.declared.carry.Carried.TheVariants.{Broken, Settled, Left}
 use Rattle.brl_states.specs.declared.due.Due.{Due}
@@ -17,8 +17,8 @@ use Rattle.brl_states.specs.declared.due.Due.TheVariants.{Need, Bar}
 use Rattle.brl_dues.specs.Capitals.{alike, choices, further, is_upper}
 use Rattle.brl_dues.specs.Carry.{opposed, settled_if, carry_bar, carry_capitals, carry_need, carry_out, carry, need, bars_after, bars_past, bars_to}
 use Rattle.brl_dues.specs.Due.{goes_on, due_met}
-use Rattle.brl_dues.proofs.Choices.{and-true, choices-met, choices-on, list_all-map, run_goes_on, starts-rest}
-use Rattle.brl_dues.proofs.InRun.{folds-more, folds-none, further-met, met_by}
+use Rattle.brl_dues.proofs.Choices.{and-true, choices-met, choices-on, list_all-map, caps_run_goes_on, starts-rest}
+use Rattle.brl_dues.proofs.InCapsRun.{folds-more, folds-none, further-met, met_by}
 
 -- a rest meets what is left
 abbrev pub carried_met : TableView → List ℕ → Carried → Bool
@@ -28,7 +28,7 @@ carried_met t rest (Left due) = due_met t rest due
 
 -- a rest goes on with the characters of a rule, in a run of capitals or out of one
 abbrev goes_on_in : TableView → Bool → List ℕ → List ℕ → Cond → Bool
-goes_on_in t run rest chars c = cond run (run_goes_on t c rest chars) (goes_on t rest chars c)
+goes_on_in t run rest chars c = cond run (caps_run_goes_on t c rest chars) (goes_on t rest chars c)
 
 -- a rule fits, in a run of capitals or out of one
 abbrev pub fits_in : TableView → Class → Bool → List ℕ → Rule → Bool
@@ -81,12 +81,12 @@ module _ (t : TableView) (u : List ℕ) where
   -- ---- The bars of a rule that is ranked above
 
   -- the bars of choices of capitals
-  barred-choices : (a : ℕ) (chars : List ℕ) (c : Cond) → list_all (carried_met t u) (map (λ text. Left (Bar text c)) (choices t (a ∷ chars))) ≡ not (run_goes_on t c u (a ∷ chars))
+  barred-choices : (a : ℕ) (chars : List ℕ) (c : Cond) → list_all (carried_met t u) (map (λ text. Left (Bar text c)) (choices t (a ∷ chars))) ≡ not (caps_run_goes_on t c u (a ∷ chars))
   barred-choices a chars c =
       list_all-map (carried_met t u) (λ text. due_met t u (Bar text c)) (λ text. Left (Bar text c)) (λ text. refl) (choices t (a ∷ chars))
       ∙ choices-on t c a chars (choices-met t c chars) u (λ text. due_met t u (Bar text c)) (λ b text. refl)
 
-  pub carry_capitals-met : (past chars : List ℕ) (c : Cond) → list_all (carried_met t u) (carry_capitals t past chars c) ≡ not (run_goes_on t c (past ++ u) chars)
+  pub carry_capitals-met : (past chars : List ℕ) (c : Cond) → list_all (carried_met t u) (carry_capitals t past chars c) ≡ not (caps_run_goes_on t c (past ++ u) chars)
   carry_capitals-met [] [] c = and-true (carried_met t u (opposed c)) ∙ opposed-met c
   carry_capitals-met [] (a ∷ chars) c = barred-choices a chars c
   carry_capitals-met (b ∷ past) [] c = and-true (carried_met t u (settled_if (not (holds c (classes_of t b))))) ∙ settled-met (not (holds c (classes_of t b)))
@@ -95,13 +95,13 @@ module _ (t : TableView) (u : List ℕ) where
       goes : Bool
       goes = holds c (classes_at t (past ++ u) (length chars))
 
-      by-fold : (f : Bool) → list_all (carried_met t u) (carry_capitals t past chars c) ≡ not (run_goes_on t c (past ++ u) chars)
+      by-fold : (f : Bool) → list_all (carried_met t u) (carry_capitals t past chars c) ≡ not (caps_run_goes_on t c (past ++ u) chars)
           → list_all (carried_met t u) (cond (true && f) (carry_capitals t past chars c) []) ≡ not ((f && starts_with nat_eq (folds_of_capitals t (past ++ u)) chars) && goes)
       by-fold true h = h
       by-fold false h = refl
 
-      at : (k : Bool) → is_upper t b ≡ k → list_all (carried_met t u) (carry_capitals t past chars c) ≡ not (run_goes_on t c (past ++ u) chars)
-          → list_all (carried_met t u) (cond (is_upper t b && nat_eq a (fold_of t b)) (carry_capitals t past chars c) []) ≡ not (run_goes_on t c (b ∷ (past ++ u)) (a ∷ chars))
+      at : (k : Bool) → is_upper t b ≡ k → list_all (carried_met t u) (carry_capitals t past chars c) ≡ not (caps_run_goes_on t c (past ++ u) chars)
+          → list_all (carried_met t u) (cond (is_upper t b && nat_eq a (fold_of t b)) (carry_capitals t past chars c) []) ≡ not (caps_run_goes_on t c (b ∷ (past ++ u)) (a ∷ chars))
       at true e h =
           ap (λ k. list_all (carried_met t u) (cond (k && nat_eq a (fold_of t b)) (carry_capitals t past chars c) [])) e ∙ by-fold (nat_eq a (fold_of t b)) h
           ∙ ap (λ w. not (starts_with nat_eq w (a ∷ chars) && goes)) (sym (folds-more t b (past ++ u) e))
@@ -110,20 +110,20 @@ module _ (t : TableView) (u : List ℕ) where
           ∙ ap (λ w. not (starts_with nat_eq w (a ∷ chars) && goes)) (sym (folds-none t b (past ++ u) e))
 
   -- a rule that has no form out of a run of capitals doesn't fit where the text isn't in one
-  none-out : (before : Class) (b : ℕ) (past chars : List ℕ) → is_in_run t before (b ∷ (past ++ u)) ≡ false → further t before false (b ∷ chars) ≡ None → starts_with nat_eq (past ++ u) chars ≡ false
+  none-out : (before : Class) (b : ℕ) (past chars : List ℕ) → is_in_caps_run t before (b ∷ (past ++ u)) ≡ false → further t before false (b ∷ chars) ≡ None → starts_with nat_eq (past ++ u) chars ≡ false
   none-out before b past chars out none = at (starts_with nat_eq (past ++ u) chars) refl
     where
       at : (k : Bool) → starts_with nat_eq (past ++ u) chars ≡ k → k ≡ false
       at false h = refl
       at true h =
           let rest = starts-rest (past ++ u) chars h in
-          let met : met_by (further t before false (b ∷ chars)) (classes_at t rest.0 0) ≡ alike false (is_in_run t before (b ∷ (chars ++ rest.0))) =
+          let met : met_by (further t before false (b ∷ chars)) (classes_at t rest.0 0) ≡ alike false (is_in_caps_run t before (b ∷ (chars ++ rest.0))) =
           further-met t rest.0 before false b chars in
-          let out_there : is_in_run t before (b ∷ (chars ++ rest.0)) ≡ false = ap (λ l. is_in_run t before (b ∷ l)) (sym rest.1) ∙ out in
+          let out_there : is_in_caps_run t before (b ∷ (chars ++ rest.0)) ≡ false = ap (λ l. is_in_caps_run t before (b ∷ l)) (sym rest.1) ∙ out in
           let no : false ≡ true = ap (λ o. met_by o (classes_at t rest.0 0)) (sym none) ∙ met ∙ ap (alike false) out_there in
           sym no
 
-  carry_out-met : (before : Class) (b : ℕ) (past chars : List ℕ) (c : Cond) → is_in_run t before (b ∷ (past ++ u)) ≡ false
+  carry_out-met : (before : Class) (b : ℕ) (past chars : List ℕ) (c : Cond) → is_in_caps_run t before (b ∷ (past ++ u)) ≡ false
       → list_all (carried_met t u) (carry_out t before b past chars c) ≡ not (goes_on t (past ++ u) chars c)
   carry_out-met before b past chars c out = at (further t before false (b ∷ chars)) refl
     where
@@ -132,12 +132,12 @@ module _ (t : TableView) (u : List ℕ) where
       at (Some next) e = and-true (carried_met t u (carry_bar t past chars c)) ∙ carry_bar-met past chars c
       at None e = ap (λ k. not (k && holds c (classes_at t (past ++ u) (length chars)))) (sym (none-out before b past chars out e))
 
-  bars_past-met : (before : Class) (run : Bool) (b : ℕ) (past chars : List ℕ) (c : Cond) → is_in_run t before (b ∷ (past ++ u)) ≡ run
+  bars_past-met : (before : Class) (run : Bool) (b : ℕ) (past chars : List ℕ) (c : Cond) → is_in_caps_run t before (b ∷ (past ++ u)) ≡ run
       → list_all (carried_met t u) (bars_past t before run b past chars c) ≡ not (goes_on_in t run (past ++ u) chars c)
   bars_past-met before true b past chars c is = carry_capitals-met past chars c
   bars_past-met before false b past chars c is = carry_out-met before b past chars c is
 
-  first-met : (before : Class) (run : Bool) (b : ℕ) (h f : Bool) (past others : List ℕ) (after : Cond) → is_in_run t before (b ∷ (past ++ u)) ≡ run
+  first-met : (before : Class) (run : Bool) (b : ℕ) (h f : Bool) (past others : List ℕ) (after : Cond) → is_in_caps_run t before (b ∷ (past ++ u)) ≡ run
       → list_all (carried_met t u) (cond h (cond f (bars_past t before run b past others after) []) []) ≡ not (h && (f && goes_on_in t run (past ++ u) others after))
   first-met before run b true true past others after is = bars_past-met before run b past others after is
   first-met before run b true false past others after is = refl
@@ -157,7 +157,7 @@ module _ (t : TableView) (u : List ℕ) where
   none true a = refl
   none false a = refl
 
-  at-chars : (before : Class) (run : Bool) (c : ℕ) (past chars : List ℕ) (h : Bool) (after : Cond) → is_in_run t before (c ∷ (past ++ u)) ≡ run
+  at-chars : (before : Class) (run : Bool) (c : ℕ) (past chars : List ℕ) (h : Bool) (after : Cond) → is_in_caps_run t before (c ∷ (past ++ u)) ≡ run
       → list_all (carried_met t u) (cond h (bars_after t before run c past chars after) [])
       ≡ not ((matches t run (c ∷ (past ++ u)) chars && h) && holds after (classes_at t (c ∷ (past ++ u)) (length chars)))
   at-chars before run c past [] h after is = none h (holds after (classes_at t (c ∷ (past ++ u)) 0))
@@ -168,6 +168,6 @@ module _ (t : TableView) (u : List ℕ) where
       first-met before false c h (nat_eq first (fold_of t c)) past others after is
       ∙ ap not (joined (nat_eq first (fold_of t c)) h (starts_with nat_eq (past ++ u) others) (holds after (classes_at t (past ++ u) (length others))))
 
-  pub bars_to-met : (before : Class) (run : Bool) (c : ℕ) (past : List ℕ) → is_in_run t before (c ∷ (past ++ u)) ≡ run → (r : Rule)
+  pub bars_to-met : (before : Class) (run : Bool) (c : ℕ) (past : List ℕ) → is_in_caps_run t before (c ∷ (past ++ u)) ≡ run → (r : Rule)
       → list_all (carried_met t u) (bars_to t before run (c ∷ past) r) ≡ not (fits_in t before run (c ∷ (past ++ u)) r)
   bars_to-met before run c past is r = at-chars before run c past r.chars (holds (before_of r.place) before) (after_of r.place before) is

@@ -13,7 +13,8 @@ use Rattle.brl_rules.specs.TableView.{TableView}
 use Rattle.brl_rules.specs.Text.{classes_at, fold_of, is_defined}
 use Rattle.brl_dues.specs.Capitals.{capitals, choices, is_upper, put_capital}
 use Rattle.brl_dues.specs.Due.{goes_on}
-use Rattle.brl_dues.proofs.InRun.{folds-more, folds-none, upper-defined}
+use Rattle.brl_dues.proofs.InCapsRun.{folds-more, folds-none, upper-defined}
+use Rattle.brl_rules.proofs.Facts.{and-false, nat_eq-sym}
 
 pub starts-rest : (rest others : List ℕ) → starts_with nat_eq rest others ≡ true → (u : List ℕ) × (rest ≡ others ++ u)
 starts-rest rest [] h = (rest, refl)
@@ -26,10 +27,6 @@ starts-rest (b ∷ rest) (a ∷ others) h =
 pub and-true : (a : Bool) → (a && true) ≡ a
 and-true true = refl
 and-true false = refl
-
-pub and-false : (a : Bool) → (a && false) ≡ false
-and-false true = refl
-and-false false = refl
 
 pub and-assoc : (a b c : Bool) → ((a && b) && c) ≡ (a && (b && c))
 and-assoc true b c = refl
@@ -51,19 +48,10 @@ list_all-true : {X : Type 0} (xs : List X) → list_all (λ (x : X). true) xs �
 list_all-true [] = refl
 list_all-true (x ∷ xs) = list_all-true xs
 
-nat_eq-sym : (a b : ℕ) → nat_eq a b ≡ nat_eq b a
-nat_eq-sym a b = at (nat_eq a b) (nat_eq b a) refl refl
-  where
-    at : (p q : Bool) → nat_eq a b ≡ p → nat_eq b a ≡ q → p ≡ q
-    at true true e k = refl
-    at true false e k = sym (eq-eqb b a (sym (eqb-true a b e))) ∙ k
-    at false true e k = sym e ∙ eq-eqb a b (sym (eqb-true b a k))
-    at false false e k = refl
-
 module _ (t : TableView) (cond_after : Cond) where
   -- whether a rest begins with capitals whose folds are these characters, and goes on so
-  abbrev pub run_goes_on : List ℕ → List ℕ → Bool
-  run_goes_on rest chars = starts_with nat_eq (folds_of_capitals t rest) chars && holds cond_after (classes_at t rest (length chars))
+  abbrev pub caps_run_goes_on : List ℕ → List ℕ → Bool
+  caps_run_goes_on rest chars = starts_with nat_eq (folds_of_capitals t rest) chars && holds cond_after (classes_at t rest (length chars))
 
   -- a test that fails of a text exactly where the rest goes on with it
   abbrev Tests : (List ℕ → Bool) → List ℕ → Type 0
@@ -151,8 +139,8 @@ module _ (t : TableView) (cond_after : Cond) where
   -- ---- All choices
 
   -- a test that fails of a choice exactly where the rest goes on with it
-  pub choices-on : (a : ℕ) (chars : List ℕ) → ((v : List ℕ) → list_all (λ text. not (goes_on t v text cond_after)) (choices t chars) ≡ not (run_goes_on v chars))
-      → (rest : List ℕ) (test : List ℕ → Bool) → Tests test rest → list_all test (choices t (a ∷ chars)) ≡ not (run_goes_on rest (a ∷ chars))
+  pub choices-on : (a : ℕ) (chars : List ℕ) → ((v : List ℕ) → list_all (λ text. not (goes_on t v text cond_after)) (choices t chars) ≡ not (caps_run_goes_on v chars))
+      → (rest : List ℕ) (test : List ℕ → Bool) → Tests test rest → list_all test (choices t (a ∷ chars)) ≡ not (caps_run_goes_on rest (a ∷ chars))
   choices-on a chars each [] test h = put-end test h a (choices t chars) (capitals t)
   choices-on a chars each (d ∷ v) test h =
       put-all test d v h a (choices t chars) t.characters ∙ at (is_upper t d) refl
@@ -165,7 +153,7 @@ module _ (t : TableView) (cond_after : Cond) where
       both false s g = refl
 
       at : (k : Bool) → is_upper t d ≡ k
-          → (not (is_defined t d && (is_upper t d && nat_eq a (fold_of t d))) || passes) ≡ not (run_goes_on (d ∷ v) (a ∷ chars))
+          → (not (is_defined t d && (is_upper t d && nat_eq a (fold_of t d))) || passes) ≡ not (caps_run_goes_on (d ∷ v) (a ∷ chars))
       at true e =
           ap₂ (λ x k. not (x && (k && nat_eq a (fold_of t d))) || passes) (upper-defined t d e) e
           ∙ ap (λ r. not (nat_eq a (fold_of t d)) || r) (each v)
@@ -176,6 +164,6 @@ module _ (t : TableView) (cond_after : Cond) where
           ∙ ap (λ b. not b || passes) (and-false (is_defined t d))
           ∙ ap (λ w. not (starts_with nat_eq w (a ∷ chars) && holds cond_after (classes_at t v (length chars)))) (sym (folds-none t d v e))
 
-  pub choices-met : (chars rest : List ℕ) → list_all (λ text. not (goes_on t rest text cond_after)) (choices t chars) ≡ not (run_goes_on rest chars)
+  pub choices-met : (chars rest : List ℕ) → list_all (λ text. not (goes_on t rest text cond_after)) (choices t chars) ≡ not (caps_run_goes_on rest chars)
   choices-met [] rest = and-true (not (goes_on t rest [] cond_after))
   choices-met (a ∷ chars) rest = choices-on a chars (choices-met chars) rest (λ text. not (goes_on t rest text cond_after)) (λ c text. refl)

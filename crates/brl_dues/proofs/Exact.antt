@@ -11,19 +11,20 @@ use Rattle.brl_rules.specs.Choice.{Choice, chosen, own}
 use Rattle.brl_rules.specs.Places.{after_of, holds}
 use Rattle.brl_rules.specs.Rest.{translation_of_rest}
 use Rattle.brl_rules.specs.TableView.{TableView}
-use Rattle.brl_rules.specs.Text.{classes_at, context_behind_all, fold_of, is_defined, is_in_run, is_text}
+use Rattle.brl_rules.specs.Text.{classes_at, context_after_all, fold_of, is_defined, is_in_caps_run, is_text}
 use Rattle.brl_states.specs.declared.due.Due.{Due}
 use Rattle.brl_states.specs.declared.due.Due.TheVariants.{Need, Bar}
 use Rattle.brl_states.specs.declared.dues_state.DuesState.{DuesState}
 use Rattle.brl_dues.specs.Due.{due_met, dues_met, met_by_space}
 use Rattle.brl_dues.specs.Capitals.{further, is_upper}
-use Rattle.brl_dues.specs.Form.{Form, IsForm, folded, may_read}
+use Rattle.brl_dues.specs.CaseForm.{CaseForm, IsForm, folded, may_read}
 use Rattle.brl_states.specs.DuesContext.{context_of}
 use Rattle.brl_dues.specs.Steps.{dues_machine, next_dues, step_of}
 use Rattle.brl_dues.proofs.Forms.{listed-IsStep, there-lt}
-use Rattle.brl_dues.proofs.InRun.{upper-defined}
+use Rattle.brl_dues.proofs.InCapsRun.{upper-defined}
 use Rattle.brl_dues.proofs.StepLaw.{none_fits, option_met, step-met}
-use Rattle.brl_dues.proofs.Taking.{Choosing, Translating, as_choice, form-ReadsSome, form-agrees, form-chosen, form-in_run, form-translation}
+use Rattle.brl_dues.proofs.Taking.{Choosing, as_choice, form-ReadsSome, form-agrees, form-chosen, form-in_caps_run, form-translation}
+use Rattle.brl_rules.proofs.OneByOne.{Translating}
 
 -- the end of a text meets the dues exactly where class space meets every need
 space-met : (t : TableView) (d : Due) → due_met t [] d ≡ met_by_space d
@@ -39,13 +40,13 @@ ends-met t (d ∷ dues) = ap₂ (λ a b. a && b) (space-met t d) (ends-met t due
 
 -- where a rest meets the dues after a step: the form is taken before it, and what the form reads
 -- and the rest meet the dues
-pub record Takes (t : TableView) (s : DuesState) (f : Form) (u : List ℕ) : Type 0 where
+pub record Takes (t : TableView) (s : DuesState) (f : CaseForm) (u : List ℕ) : Type 0 where
   pub after : holds f.after (classes_at t u 0) ≡ true
   pub next : holds f.next (classes_at t u 0) ≡ true
   pub none : none_fits t s.before (f.reads ++ u) f.above ≡ true
   pub met : dues_met t (f.reads ++ u) s.dues ≡ true
 
-pub step-back : (t : TableView) (s : DuesState) (f : Form) → IsForm t s.before f → (dues : List Due) → next_dues t s f ≡ Some dues → (u : List ℕ)
+pub step-back : (t : TableView) (s : DuesState) (f : CaseForm) → IsForm t s.before f → (dues : List Due) → next_dues t s f ≡ Some dues → (u : List ℕ)
     → dues_met t u dues ≡ true → Takes t s f u
 step-back t s f is dues left u h =
     let r = form-ReadsSome t s.before f is in
@@ -85,7 +86,7 @@ others-text : (t : TableView) (run : Bool) (c : ℕ) (others : List ℕ) → may
 others-text t true c others may h = uppers-text t others may
 others-text t false c others may h = second_so (is_defined t (fold_of t c)) (is_text t others) h
 
-pub form-text : (t : TableView) → AreKnown t → (before : Class) (f : Form) → IsForm t before f → is_text t f.reads ≡ true
+pub form-text : (t : TableView) → AreKnown t → (before : Class) (f : CaseForm) → IsForm t before f → is_text t f.reads ≡ true
 form-text t known before f (inl h) =
     let all = ap (is_text t) (sym h.chars) ∙ known-there t t.rules f.number h.rule known h.there in
     ap (is_text t) h.reads ∙ text-first t h.character h.others [] h.defined (others-text t f.run h.character h.others h.may all)
@@ -106,13 +107,13 @@ pub record Gives (t : TableView) (s : DuesState) (path : List (Step DuesState)) 
 
 -- a step of a path
 pub record Stepped (t : TableView) (s : DuesState) (x : Step DuesState) (u : List ℕ) : Type 0 where
-  pub form : Form
+  pub form : CaseForm
   pub is_form : IsForm t s.before form
   pub dues : List Due
   pub left : next_dues t s form ≡ Some dues
   pub step : x ≡ step_of t s form dues
   pub takes : Takes t s form u
-  pub in_run : is_in_run t s.before (form.reads ++ u) ≡ form.run
+  pub in_caps_run : is_in_caps_run t s.before (form.reads ++ u) ≡ form.run
   pub choice : chosen t s.before (form.reads ++ u) ≡ as_choice form
 
 pub stepped : (t : TableView) → Choosing t → (s : DuesState) (x : Step DuesState) → IsListed ((dues_machine t).steps s) x → (u : List ℕ) → dues_met t u x.next.dues ≡ true → Stepped t s x u
@@ -126,7 +127,7 @@ stepped t law s x listed u met =
       left = h.left;
       step = h.step;
       takes = takes;
-      in_run = form-in_run t s.before h.form h.is_form u takes.next;
+      in_caps_run = form-in_caps_run t s.before h.form h.is_form u takes.next;
       choice = form-chosen t law s.before h.form h.is_form u takes.after takes.next takes.none;
     }
 
@@ -137,8 +138,8 @@ path-Gives t choosing translating known s (x ∷ path) p =
     let u = reads_of path in
     let h = stepped t choosing s x p.0 u more.met in
     let reads : x.reads ≡ h.form.reads = ap (λ (y : Step DuesState). y.reads) h.step in
-    let cells = form-translation t translating (context_of s) h.form u (form-ReadsSome t s.before h.form h.is_form) h.in_run h.choice in
-    let next : context_of x.next ≡ context_behind_all t (context_of s) h.form.reads = ap (λ (y : Step DuesState). context_of y.next) h.step in
+    let cells = form-translation t translating (context_of s) h.form u (form-ReadsSome t s.before h.form h.is_form) h.in_caps_run h.choice in
+    let next : context_of x.next ≡ context_after_all t (context_of s) h.form.reads = ap (λ (y : Step DuesState). context_of y.next) h.step in
     record {
       met = ap (λ l. dues_met t (l ++ u) s.dues) reads ∙ h.takes.met;
       text = ap (λ l. is_text t (l ++ u)) reads ∙ text-join t h.form.reads u (form-text t known s.before h.form h.is_form) more.text;
@@ -149,7 +150,7 @@ path-Gives t choosing translating known s (x ∷ path) p =
 
 -- ---- One path
 
-same-next : (t : TableView) (before : Class) (f g : Form) (cs ds : List ℕ) → f.reads ≡ cs → g.reads ≡ ds → further t before f.run cs ≡ Some f.next → further t before g.run ds ≡ Some g.next
+same-next : (t : TableView) (before : Class) (f g : CaseForm) (cs ds : List ℕ) → f.reads ≡ cs → g.reads ≡ ds → further t before f.run cs ≡ Some f.next → further t before g.run ds ≡ Some g.next
     → f.reads ≡ g.reads → f.run ≡ g.run → f.next ≡ g.next
 same-next t before f g cs ds a b h k r e =
     let some : Some f.next ≡ Some g.next = sym h ∙ ap₂ (further t before) e (sym a ∙ r ∙ b) ∙ k in
@@ -157,7 +158,7 @@ same-next t before f g cs ds a b h k r e =
 
 -- forms with one number that read the same, both in a run of capitals or both out of one, are one
 -- form
-pub one-form : (t : TableView) (before : Class) (f g : Form) → IsForm t before f → IsForm t before g → f.number ≡ g.number → f.reads ≡ g.reads → f.run ≡ g.run → f ≡ g
+pub one-form : (t : TableView) (before : Class) (f g : CaseForm) → IsForm t before f → IsForm t before g → f.number ≡ g.number → f.reads ≡ g.reads → f.run ≡ g.run → f ≡ g
 one-form t before f g (inl h) (inl k) n r e =
     let some : Some h.rule ≡ Some k.rule = sym h.there ∙ ap (slice_get t.rules) n ∙ k.there in
     let rule : h.rule ≡ k.rule = cc in
@@ -174,10 +175,10 @@ one-form t before f g (inr h) (inr k) n r e =
     λ i. record { number = n i; reads = r i; run = e i; next = next i; after = after i; cells = (h.cells ∙ ap (λ c. (own t (c ∷ [])).cells) same ∙ sym k.cells) i; above = (h.above ∙ sym k.above) i }
 
 -- what two steps take is one form, where they are chosen at the same place
-pub chosen-form : (t : TableView) (before : Class) (f g : Form) → IsForm t before f → IsForm t before g → (u v : List ℕ) → f.reads ++ u ≡ g.reads ++ v → as_choice f ≡ as_choice g → f.reads ≡ g.reads
-    → is_in_run t before (f.reads ++ u) ≡ f.run → is_in_run t before (g.reads ++ v) ≡ g.run → f ≡ g
-chosen-form t before f g is also u v rest choice reads in_run in_run' =
-    one-form t before f g is also (ap (λ (c : Choice). c.number) choice) reads (sym in_run ∙ ap (is_in_run t before) rest ∙ in_run')
+pub chosen-form : (t : TableView) (before : Class) (f g : CaseForm) → IsForm t before f → IsForm t before g → (u v : List ℕ) → f.reads ++ u ≡ g.reads ++ v → as_choice f ≡ as_choice g → f.reads ≡ g.reads
+    → is_in_caps_run t before (f.reads ++ u) ≡ f.run → is_in_caps_run t before (g.reads ++ v) ≡ g.run → f ≡ g
+chosen-form t before f g is also u v rest choice reads in_caps_run in_caps_run' =
+    one-form t before f g is also (ap (λ (c : Choice). c.number) choice) reads (sym in_caps_run ∙ ap (is_in_caps_run t before) rest ∙ in_caps_run')
 
 pub same-front : (xs ys u v : List ℕ) → length xs ≡ length ys → xs ++ u ≡ ys ++ v → (xs ≡ ys) × (u ≡ v)
 same-front [] [] u v n e = (refl, e)
@@ -196,7 +197,7 @@ none-read t s x u listed e =
     let z : [] ≡ (r.character ∷ r.others) ++ u = e ∙ ap (λ l. l ++ u) (ap (λ (y : Step DuesState). y.reads) h.step ∙ r.reads) in
     cc
 
-pub one-step : (t : TableView) (s : DuesState) (x y : Step DuesState) (f g : Form) (ds es : List Due) → f ≡ g → next_dues t s f ≡ Some ds → next_dues t s g ≡ Some es
+pub one-step : (t : TableView) (s : DuesState) (x y : Step DuesState) (f g : CaseForm) (ds es : List Due) → f ≡ g → next_dues t s f ≡ Some ds → next_dues t s g ≡ Some es
     → x ≡ step_of t s f ds → y ≡ step_of t s g es → x ≡ y
 one-step t s x y f g ds es same h k a b =
     let some : Some ds ≡ Some es = sym h ∙ ap (next_dues t s) same ∙ k in
@@ -219,7 +220,7 @@ one-path t choosing translating known s s' same (x ∷ path) (y ∷ other) p q e
     let rest : h.form.reads ++ u ≡ k.form.reads ++ v = ap (λ l. l ++ u) (sym x_reads) ∙ e ∙ ap (λ l. l ++ v) y_reads in
     let choice : as_choice h.form ≡ as_choice k.form = sym h.choice ∙ ap (chosen t s.before) rest ∙ k.choice in
     let fronts = same-front h.form.reads k.form.reads u v (ap (λ (c : Choice). c.taken) choice) rest in
-    let form = chosen-form t s.before h.form k.form h.is_form k.is_form u v rest choice fronts.0 h.in_run k.in_run in
+    let form = chosen-form t s.before h.form k.form h.is_form k.is_form u v rest choice fronts.0 h.in_caps_run k.in_caps_run in
     let step = one-step t s x y h.form k.form h.dues k.dues form h.left k.left h.step k.step in
     let more = one-path t choosing translating known x.next y.next (ap (λ (z : Step DuesState). z.next) step) path other p.1 q.1 fronts.1 in
     ap (λ z. z ∷ path) step ∙ ap (λ l. y ∷ l) more

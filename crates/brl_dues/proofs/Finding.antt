@@ -23,12 +23,12 @@ use Rattle.brl_states.specs.declared.due.Due.TheVariants.{Need, Bar}
 use Rattle.brl_states.specs.declared.dues_state.DuesState.{DuesState}
 use Rattle.brl_dues.specs.Capitals.{choices, further, letters}
 use Rattle.brl_dues.specs.Carry.{bars_after, bars_past, bars_to, carry, gathered, is_whole, lefts, need, settled_if}
-use Rattle.brl_dues.specs.Form.{Form, cased, cased_if, form_if, groups_from, groups_of, own_form, own_forms, rule_form, rule_forms}
+use Rattle.brl_dues.specs.CaseForm.{CaseForm, cased, cased_if, form_if, groups_from, groups_of, own_form, own_forms, rule_form, rule_forms}
 use Rattle.brl_dues.specs.LetterView.{LetterView}
-use Rattle.brl_dues.specs.Letters.{bars_of, begins_with, cased_steps, left_by, letter_form, letter_step, may_come, new_letter, new_letters, next_step, own_step, rule_step, run_step, steps_found, with_rule}
+use Rattle.brl_dues.specs.Letters.{bars_of, begins_with, cased_steps, left_by, letter_form, letter_step, may_come, new_letter, new_letters, next_step, own_step, rule_step, caps_run_step, steps_found, with_rule}
 use Rattle.brl_states.specs.Order.{in_order}
 use Rattle.brl_dues.specs.Steps.{dues_steps, group_steps, step_if, step_of, steps_of, with_steps}
-use Rattle.brl_dues.proofs.Choices.{and-false}
+use Rattle.brl_rules.proofs.Facts.{and-false}
 
 -- ---- What the rules above ask
 
@@ -151,7 +151,7 @@ module _ (t : TableView) (s : DuesState) where
   coming = filter (may_come t s.dues) (letters t)
 
   -- the steps of a form that begins with a character
-  steps-at : (f : Form) (c : ℕ) (others : List ℕ) (above : List Rule) → f.reads ≡ c ∷ others → f.above ≡ above
+  steps-at : (f : CaseForm) (c : ℕ) (others : List ℕ) (above : List Rule) → f.reads ≡ c ∷ others → f.above ≡ above
       → steps_of t s f ≡ cond (may_come t s.dues c) (next_step t s (letter_at t s.before above c) f.number f.run others f.after f.cells f.next) []
   steps-at f c others above reads is =
       ap₂ (λ x a. step_if t s f (gathered (map (carry t x) s.dues ++ (need f.after ∷ need f.next ∷ flat_map (bars_to t s.before f.run x) a)))) reads is
@@ -173,7 +173,7 @@ module _ (t : TableView) (s : DuesState) where
   empty false = refl
 
   -- the steps of a form with what must follow it, if it can be
-  form_if-at : (form : Cond → Form) (b : Bool) (g : Cond → List (Step DuesState)) → ((next : Cond) → steps_of t s (form next) ≡ cond b (g next) []) → (o : Option Cond)
+  form_if-at : (form : Cond → CaseForm) (b : Bool) (g : Cond → List (Step DuesState)) → ((next : Cond) → steps_of t s (form next) ≡ cond b (g next) []) → (o : Option Cond)
       → flat_map (steps_of t s) (form_if form o) ≡ cond b (option_map_or g o []) []
   form_if-at form b g each None = empty b
   form_if-at form b g each (Some next) = append-nil (steps_of t s (form next)) ∙ each next
@@ -196,12 +196,12 @@ module _ (t : TableView) (s : DuesState) where
       ∙ ap₂ (λ a b. a ++ b)
       (flat_map-flat_map (steps_of t s) (λ chosen. rule_forms t s.before above r true (c ∷ chosen)) (choices t others)
       ∙ flat_map-same (λ chosen. flat_map (steps_of t s) (rule_forms t s.before above r true (c ∷ chosen)))
-      (λ chosen. cond (may_come t s.dues c) (run_step t s (letter_at t s.before above c) (length above) (after_of r.place s.before) r.cells chosen) [])
+      (λ chosen. cond (may_come t s.dues c) (caps_run_step t s (letter_at t s.before above c) (length above) (after_of r.place s.before) r.cells chosen) [])
       (λ chosen. forms-at above r true c chosen) (choices t others))
       (forms-at above r false c others)
       ∙ at (may_come t s.dues c)
     where
-      at : (b : Bool) → flat_map (λ chosen. cond b (run_step t s (letter_at t s.before above c) (length above) (after_of r.place s.before) r.cells chosen) []) (choices t others)
+      at : (b : Bool) → flat_map (λ chosen. cond b (caps_run_step t s (letter_at t s.before above c) (length above) (after_of r.place s.before) r.cells chosen) []) (choices t others)
           ++ cond b (letter_step t s (letter_at t s.before above c) (length above) false others (after_of r.place s.before) r.cells) []
           ≡ cond b (cased_steps t s (letter_at t s.before above c) (length above) others (after_of r.place s.before) r.cells) []
       at true = refl

@@ -22,7 +22,7 @@ use Rattle.brl_rules.specs.declared.rule.Info.{Info}
 use Rattle.brl_rules.specs.declared.rule.Rule.{Rule}
 use Rattle.brl_rules.specs.Places.{after_of, before_of, holds, letter, none, share, uppercase}
 use Rattle.brl_rules.specs.TableView.{TableView, info_of}
-use Rattle.brl_rules.specs.Text.{classes_of, context_behind, context_behind_all, fold_of, has_word_capitals, is_capital}
+use Rattle.brl_rules.specs.Text.{classes_of, context_after, context_after_all, fold_of, has_word_capitals, is_capital}
 use Rattle.brl_dues.specs.declared.carry.Carried.{Carried}
 use Rattle.brl_dues.specs.declared.carry.Carried.TheVariants.{Left, Settled}
 use Rattle.brl_states.specs.declared.due.Due.{Due}
@@ -31,26 +31,15 @@ use Rattle.brl_states.specs.declared.dues_state.DuesState.{DuesState}
 use Rattle.brl_dues.specs.Capitals.{any_if, capitals, choices, further, further_by, is_upper, letters, put_capital}
 use Rattle.brl_dues.specs.Carry.{bars_after, bars_past, bars_to, carry, carry_bar, carry_capitals, is_whole, left_of, lefts, need, opposed, settled_if}
 use Rattle.brl_dues.specs.Finite.{after_conds, all_cells, all_classes, all_contexts, all_dues, all_leads, all_states, bars_from, bars_with, with_classes, cells_in, endings, lists_up_to, need_conds, needs_of, texts_of}
-use Rattle.brl_dues.specs.Form.{Form, IsForm, forms, groups}
+use Rattle.brl_dues.specs.CaseForm.{CaseForm, IsForm, forms, groups}
 use Rattle.brl_states.specs.Order.{due_cmp, in_order}
 use Rattle.brl_states.specs.DuesContext.{context_of, state_in}
 use Rattle.brl_dues.specs.Steps.{IsStep, dues_steps, first_state, next_dues, owed}
 use Rattle.brl_states.proofs.DueOrder.{due_tied, due_total, from-in_order, in_order-sorted}
 use Rattle.brl_dues.proofs.Forms.{IsForm-forms, defined-in, from-put, listed-IsStep}
-use Rattle.brl_states.proofs.Listing.{IsIn, from-flat_map, in-append, in-flat_map, in-left, in-right}
-use Rattle.brl_states.proofs.Sorting.{Contains-in, in-Contains}
+use Rattle.brl_pairs.proofs.Listing.{IsIn, from-flat_map, in-append, in-flat_map, in-left, in-right, Contains-in, in-Contains, in-map, from-map}
 
 -- ---- Lists
-
-into-map : {X Y : Type 0} (g : X → Y) (x : X) (xs : List X) → IsIn x xs → IsIn (g x) (map g xs)
-into-map g x [] h = absurd h
-into-map g x (y ∷ xs) (inl e) = inl (ap g e)
-into-map g x (y ∷ xs) (inr h) = inr (into-map g x xs h)
-
-from-map : {X Y : Type 0} (g : X → Y) (y : Y) (xs : List X) → IsIn y (map g xs) → (x : X) × IsIn x xs × (y ≡ g x)
-from-map g y [] h = absurd h
-from-map g y (x ∷ xs) (inl e) = (x, inl refl, e)
-from-map g y (x ∷ xs) (inr h) = (let m = from-map g y xs h in (m.0, inr m.1, m.2))
 
 from-take : {X : Type 0} (x : X) (n : ℕ) (xs : List X) → IsIn x (take n xs) → IsIn x xs
 from-take x zero xs h = absurd h
@@ -76,7 +65,7 @@ into-lists us [] (suc n) f few = inl refl
 into-lists us (d ∷ ds) zero f few = absurd (omega (arith, few))
 into-lists us (d ∷ ds) (suc n) f few =
     inr (in-flat_map (λ x. map (λ l. x ∷ l) (lists_up_to us n)) d (d ∷ ds) us (f d (inl refl))
-    (into-map (λ l. d ∷ l) ds (lists_up_to us n) (into-lists us ds n (λ x i. f x (inr i)) (omega (arith, few)))))
+    (in-map (λ l. d ∷ l) ds (lists_up_to us n) (into-lists us ds n (λ x i. f x (inr i)) (omega (arith, few)))))
 
 from-lists : {X : Type 0} (us ds : List X) (n : ℕ) → IsIn ds (lists_up_to us n) → (d : X) → IsIn d ds → IsIn d us
 from-lists us ds zero (inl e) d i = absurd (subst (IsIn d) e i)
@@ -202,7 +191,7 @@ module _ (t : TableView) where
       (in-flat_map (bars_from t) r (Bar text c) t.rules h.ending.there
       (in-flat_map bars_with text (Bar text c) (flat_map (texts_of t) (endings r.chars))
       (in-flat_map (texts_of t) h.chars text (endings r.chars) (into-endings h.ending.front r.chars h.chars h.ending.ends) h.is_text)
-      (into-map (Bar text) c after_conds h.ending.asks)))
+      (in-map (Bar text) c after_conds h.ending.asks)))
 
   no-bar : (chars : List ℕ) (c k : Cond) → IsIn (Bar chars c) (needs_of k) → ⊥
   no-bar chars c Any h = h
@@ -313,15 +302,15 @@ module _ (t : TableView) where
 
   -- ---- Forms
 
-  form-after : (before : Class) (f : Form) → IsForm t before f → IsIn f.after need_conds
+  form-after : (before : Class) (f : CaseForm) → IsForm t before f → IsIn f.after need_conds
   form-after before f (inl h) = subst (λ z. IsIn z need_conds) (sym h.after) (after-needed (after_of h.rule.place before) (after-in h.rule.place before))
   form-after before f (inr h) = subst (λ z. IsIn z need_conds) (sym h.after) (after-needed Any (inl refl))
 
-  form-next : (before : Class) (f : Form) → IsForm t before f → IsIn f.next need_conds
+  form-next : (before : Class) (f : CaseForm) → IsForm t before f → IsIn f.next need_conds
   form-next before f (inl h) = further-in t before f.run (h.character ∷ h.others) f.next h.next
   form-next before f (inr h) = further-in t before f.run (h.character ∷ []) f.next h.next
 
-  form-above : (before : Class) (f : Form) → IsForm t before f → (r : Rule) → IsIn r f.above → IsIn r t.rules
+  form-above : (before : Class) (f : CaseForm) → IsForm t before f → (r : Rule) → IsIn r f.above → IsIn r t.rules
   form-above before f (inl h) r i = from-take r f.number t.rules (subst (IsIn r) h.above i)
   form-above before f (inr h) r i = subst (IsIn r) h.above i
 
@@ -331,7 +320,7 @@ module _ (t : TableView) where
   when-whole true xs dues e = cc
   when-whole false xs dues e = cc
 
-  left-in : (s : DuesState) (f : Form) → IsForm t s.before f → ((d : Due) → IsIn d s.dues → IsIn d (all_dues t)) → (d : Due)
+  left-in : (s : DuesState) (f : CaseForm) → IsForm t s.before f → ((d : Due) → IsIn d s.dues → IsIn d (all_dues t)) → (d : Due)
       → IsIn d (lefts (map (carry t f.reads) s.dues ++ owed t s.before f)) → IsIn d (all_dues t)
   left-in s f is old d h =
       let m = from-flat_map left_of d (map (carry t f.reads) s.dues ++ owed t s.before f) h in
@@ -346,7 +335,7 @@ module _ (t : TableView) where
             bars_to-in s.before f.run f.reads w.0 (form-above s.before f is w.0 w.1) m.0 d w.2 m.2)
       ]
 
-  next-listed : (s : DuesState) (f : Form) (dues : List Due) → IsForm t s.before f → ((d : Due) → IsIn d s.dues → IsIn d (all_dues t)) → next_dues t s f ≡ Some dues
+  next-listed : (s : DuesState) (f : CaseForm) (dues : List Due) → IsForm t s.before f → ((d : Due) → IsIn d s.dues → IsIn d (all_dues t)) → next_dues t s f ≡ Some dues
       → IsIn dues (lists_up_to (all_dues t) (length (all_dues t)))
   next-listed s f dues is old left =
       let carried = map (carry t f.reads) s.dues ++ owed t s.before f in
@@ -362,11 +351,11 @@ module _ (t : TableView) where
     where
       pick : (o : Option Info) → info_of t c ≡ o → IsIn (classes_of t c) (all_classes t)
       pick None e = inr (inl (ap (λ p. option_map_or (λ (info : Info). info.classes) p none) e))
-      pick (Some info) e = inr (inr (into-map (classes_of t) c (letters t) (defined-in t.characters c (ap is_some e))))
+      pick (Some info) e = inr (inr (in-map (classes_of t) c (letters t) (defined-in t.characters c (ap is_some e))))
 
-  behind-in : (here : Context) (cs : List ℕ) → IsIn here.classes (all_classes t) → IsIn (context_behind_all t here cs).classes (all_classes t)
+  behind-in : (here : Context) (cs : List ℕ) → IsIn here.classes (all_classes t) → IsIn (context_after_all t here cs).classes (all_classes t)
   behind-in here [] h = h
-  behind-in here (c ∷ cs) h = behind-in (context_behind t here c) cs (classes-in c)
+  behind-in here (c ∷ cs) h = behind-in (context_after t here c) cs (classes-in c)
 
   context-in : (here : Context) → IsIn here.classes (all_classes t) → IsIn here (all_contexts t)
   context-in here h = in-flat_map with_classes here.classes here (all_classes t) h (flags here.numeric here.run refl refl)
@@ -407,7 +396,7 @@ module _ (t : TableView) where
   into-states : (here : Context) (dues : List Due) → IsIn here (all_contexts t) → IsIn dues (lists_up_to (all_dues t) (length (all_dues t))) → IsIn (state_in here dues) (all_states t)
   into-states here dues h i =
       in-flat_map (λ here. map (state_in here) (lists_up_to (all_dues t) (length (all_dues t)))) here (state_in here dues) (all_contexts t) h
-      (into-map (state_in here) dues (lists_up_to (all_dues t) (length (all_dues t))) i)
+      (in-map (state_in here) dues (lists_up_to (all_dues t) (length (all_dues t))) i)
 
   first-in : IsIn first_state (all_states t)
   first-in = into-states (context_of first_state) [] (context-in (context_of first_state) (inl refl)) (into-lists (all_dues t) [] (length (all_dues t)) (λ d h. absurd h) (omega arith))
@@ -416,7 +405,7 @@ module _ (t : TableView) where
   step-in s x h is =
       let p = from-states s h in
       let old = from-lists (all_dues t) s.dues (length (all_dues t)) p.dues in
-      let behind = context_behind_all t (context_of s) is.form.reads in
+      let behind = context_after_all t (context_of s) is.form.reads in
       let here = context-in behind (behind-in (context_of s) is.form.reads (from-contexts (context_of s) p.context)) in
       subst (λ (y : Step DuesState). IsIn y.next (all_states t)) (sym is.step) (into-states behind is.dues here (next-listed s is.form is.dues is.is_form old is.left))
 
@@ -426,7 +415,7 @@ module _ (t : TableView) where
       let some = IsForm-forms t s.before is.form is.is_form in
       subst (λ (y : Step DuesState). IsIn y.cells (all_cells t)) (sym is.step)
       (in-flat_map (λ (here : Context). map (cells_in t here) (forms t here.classes)) (context_of s) (cells_in t (context_of s) is.form) (all_contexts t) p.context
-      (into-map (cells_in t (context_of s)) is.form (forms t s.before) (in-flat_map (λ group. group) some.group is.form (groups t s.before) some.there some.inside)))
+      (in-map (cells_in t (context_of s)) is.form (forms t s.before) (in-flat_map (λ group. group) some.group is.form (groups t s.before) some.there some.inside)))
 
   pub first-Contains : Contains (all_states t) first_state
   first-Contains = in-Contains first_state (all_states t) first-in

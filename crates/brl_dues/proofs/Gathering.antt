@@ -22,7 +22,7 @@ use Rattle.brl_dues.specs.Letters.{bars_of, left_past, left_with}
 use Rattle.brl_states.specs.Order.{in_order, is_proper}
 use Rattle.brl_dues.proofs.Adding.{barred}
 use Rattle.brl_dues.proofs.Forms.{from-put}
-use Rattle.brl_states.proofs.Listing.{IsIn, from-flat_map}
+use Rattle.brl_pairs.proofs.Listing.{IsIn, from-flat_map}
 
 -- ---- Proper dues
 

@@ -8,8 +8,7 @@ use Rattle.brl_dues.specs.Carry.{gathered, is_whole, lefts}
 use Rattle.brl_dues.specs.Laws.{AreGathered}
 use Rattle.brl_states.specs.Order.{in_order}
 use Rattle.brl_states.proofs.DueOrder.{from-in_order, in-in_order, in_order-sorted, is-in_order}
-use Rattle.brl_states.proofs.Listing.{IsIn}
-use Rattle.brl_states.proofs.Sorting.{Contains-in, in-Contains}
+use Rattle.brl_pairs.proofs.Listing.{IsIn, Contains-in, in-Contains}
 
 -- what is left is left by some carried due
 from-lefts : (cs : List Carried) (d : Due) → IsIn d (lefts cs) → IsIn (Left d) cs

@@ -12,53 +12,54 @@ use Rattle.brl_rules.specs.declared.context.Context.{Context}
 use Rattle.brl_rules.specs.declared.rule.Info.{Info}
 use Rattle.brl_rules.specs.declared.rule.Rule.{Rule}
 use Rattle.brl_rules.specs.Choice.{own}
-use Rattle.brl_rules.specs.Indicators.{is_used, sign_order, signs_before, signs_of, used_cells}
+use Rattle.brl_rules.specs.Indicators.{is_used, sign_order, indicators_before, indicators_of, used_cells}
 use Rattle.brl_rules.specs.Infos.{first_info}
 use Rattle.brl_rules.specs.Places.{before_of, holds}
 use Rattle.brl_rules.specs.declared.signs.Sign.{Sign}
-use Rattle.brl_rules.specs.TableView.{TableView, sign_cells}
+use Rattle.brl_rules.specs.TableView.{TableView, indicator_cells}
 use Rattle.brl_states.specs.declared.due.Due.{Due}
 use Rattle.brl_states.specs.declared.dues_state.DuesState.{DuesState}
 use Rattle.brl_dues.specs.Capitals.{letters}
-use Rattle.brl_dues.specs.Form.{Form, IsForm, cased_if, groups, groups_from, groups_of, own_forms}
+use Rattle.brl_dues.specs.CaseForm.{CaseForm, IsForm, cased_if, groups, groups_from, groups_of, own_forms}
 use Rattle.brl_states.specs.DuesContext.{context_of}
 use Rattle.brl_dues.specs.Steps.{dues_steps, group_steps, next_dues, step_of, steps_of}
-use Rattle.brl_dues.proofs.Forms.{from-cased_if, from-group, from-groups_from, from-groups_of, from-own_forms, from-step_if, in-map, listed-IsStep}
-use Rattle.brl_dues.proofs.Kept.{Keeps, Within}
-use Rattle.brl_states.proofs.Listing.{IsIn, in-append}
+use Rattle.brl_dues.proofs.Forms.{from-cased_if, from-group, from-groups_from, from-groups_of, from-own_forms, from-step_if, listed-IsStep}
+use Rattle.brl_dues.proofs.Kept.{Keeps}
 use Rattle.brl_dues.proofs.Pairwise.{Pairwise, append-Pairwise, at-Pairwise, flat_map-Pairwise, map-Pairwise, Pairwise-at, weaken-Pairwise}
 use Rattle.brl_dues.proofs.Repeats.{with_steps-differ}
 use Rattle.brl_dues.proofs.Taking.{ReadsSome, form-ReadsSome}
+use Rattle.brl_pairs.proofs.Listing.{IsIn, in-append, from-map}
+use Rattle.brl_rules.proofs.CellCounts.{Within, found-cells}
 
 -- ---- Once
 
 -- of two forms the later one has no lower number, and where it has the same it reads other
 -- characters
-pub record Later (f g : Form) : Type 0 where
+pub record Later (f g : CaseForm) : Type 0 where
   pub ascend : f.number ≤ g.number
   pub differ : f.number ≡ g.number → f.reads ≢ g.reads
 
-lower-Later : (f g : Form) → f.number < g.number → Later f g
+lower-Later : (f g : CaseForm) → f.number < g.number → Later f g
 lower-Later f g h = record { ascend = omega (arith, h); differ = λ e _. absurd (omega (arith, h, e)) }
 
 -- the same of any two forms of two groups
-abbrev LaterGroup : List Form → List Form → Type 0
-LaterGroup group later = (f g : Form) → IsIn f group → IsIn g later → Later f g
+abbrev LaterGroup : List CaseForm → List CaseForm → Type 0
+LaterGroup group later = (f g : CaseForm) → IsIn f group → IsIn g later → Later f g
 
 -- all forms of a group have one number
-abbrev HasNumber : ℕ → List Form → Type 0
-HasNumber number group = (f : Form) → IsIn f group → f.number ≡ number
+abbrev HasNumber : ℕ → List CaseForm → Type 0
+HasNumber number group = (f : CaseForm) → IsIn f group → f.number ≡ number
 
 module _ (t : TableView) (before : Class) where
   cased-Later : (above : List Rule) (r : Rule) (chars : List ℕ) (c d : ℕ) → c ≢ d → LaterGroup (cased_if t before above r chars c) (cased_if t before above r chars d)
   cased-Later above r chars c d other f g i j =
       let v = from-cased_if t before above r chars c f i in
       let w = from-cased_if t before above r chars d g j in
-      let same : f.number ≡ g.number = ap (λ (x : Form). x.number) v.is ∙ sym (ap (λ (x : Form). x.number) w.is) in
+      let same : f.number ≡ g.number = ap (λ (x : CaseForm). x.number) v.is ∙ sym (ap (λ (x : CaseForm). x.number) w.is) in
       record {
         ascend = omega (arith, same);
         differ = λ _ e. (
-            let both : c ∷ v.others ≡ d ∷ w.others = sym (ap (λ (x : Form). x.reads) v.is) ∙ e ∙ ap (λ (x : Form). x.reads) w.is in
+            let both : c ∷ v.others ≡ d ∷ w.others = sym (ap (λ (x : CaseForm). x.reads) v.is) ∙ e ∙ ap (λ (x : CaseForm). x.reads) w.is in
             let first : c ≡ d = cc in
             other first);
       }
@@ -70,11 +71,11 @@ module _ (t : TableView) (before : Class) where
       at true = map-Pairwise (λ a b. a ≢ b) LaterGroup (cased_if t before above r r.chars) (letters t) single (λ c d other. cased-Later above r r.chars c d other)
       at false = tt
 
-  number-above : (above : List Rule) (r : Rule) (g : List Form) → IsIn g (groups_of t before above r) → HasNumber (length above) g
-  number-above above r g h f i = ap (λ (x : Form). x.number) (from-groups_of t before above r g f h i).case.is
+  number-above : (above : List Rule) (r : Rule) (g : List CaseForm) → IsIn g (groups_of t before above r) → HasNumber (length above) g
+  number-above above r g h f i = ap (λ (x : CaseForm). x.number) (from-groups_of t before above r g f h i).case.is
 
   -- the number of the forms of a group of the rules
-  group-number : (above rules : List Rule) (g : List Form) → IsIn g (groups_from t before above rules) → (n : ℕ) × HasNumber n g × (length above ≤ n) × (n < length above + length rules)
+  group-number : (above rules : List Rule) (g : List CaseForm) → IsIn g (groups_from t before above rules) → (n : ℕ) × HasNumber n g × (length above ≤ n) × (n < length above + length rules)
   group-number above [] g h = absurd h
   group-number above (r ∷ rules) g h =
       let m = from-groups_from t before above (r ∷ rules) g h in
@@ -134,7 +135,7 @@ own-number t keeps i c h =
     ∙ ap (λ n. length t.rules + n) (keeps.numbered i w.0 w.1)
 
 own-has-number : (t : TableView) (before : Class) (c : ℕ) → HasNumber (own t (c ∷ [])).number (own_forms t before c)
-own-has-number t before c f i = ap (λ (x : Form). x.number) (from-own_forms t before c f i).3
+own-has-number t before c f i = ap (λ (x : CaseForm). x.number) (from-own_forms t before c f i).3
 
 own-once : (t : TableView) → Keeps t → (before : Class) → Pairwise LaterGroup (map (own_forms t before) (letters t))
 own-once t keeps before =
@@ -150,16 +151,16 @@ groups-once t keeps before =
     let low = group-number t before [] t.rules group i in
     let n = low.1 f k in
     let under = low.3 in
-    let m = in-map (own_forms t before) later (letters t) j in
+    let m = from-map (own_forms t before) later (letters t) j in
     let high = own-has-number t before m.0 g (subst (IsIn g) m.2 l) in
     lower-Later f g (omega (arith, n, under, high))))
 
 -- the forms of each group have one number
-one-number : (t : TableView) (before : Class) (group : List Form) → IsIn group (groups t before) → (n : ℕ) × HasNumber n group
+one-number : (t : TableView) (before : Class) (group : List CaseForm) → IsIn group (groups t before) → (n : ℕ) × HasNumber n group
 one-number t before group h = elim (in-append group (groups_from t before [] t.rules) (map (own_forms t before) (letters t)) h) [
   | inl k ↦ (let m = group-number t before [] t.rules group k in (m.0, m.1))
   | inr k ↦ (
-      let m = in-map (own_forms t before) group (letters t) k in
+      let m = from-map (own_forms t before) group (letters t) k in
       ((own t (m.0 ∷ [])).number, subst (HasNumber (own t (m.0 ∷ [])).number) (sym m.2) (own-has-number t before m.0)))
 ]
 
@@ -170,19 +171,19 @@ record LaterStep (x y : Step DuesState) : Type 0 where
   differ : x ≢ y
 
 -- the rule and the characters of a step of a group
-record OfForm (group : List Form) (x : Step DuesState) : Type 0 where
-  form : Form
+record OfForm (group : List CaseForm) (x : Step DuesState) : Type 0 where
+  form : CaseForm
   inside : IsIn form group
   rule : x.rule ≡ form.number
   reads : x.reads ≡ form.reads
 
-of-form : (t : TableView) (s : DuesState) (group : List Form) (x : Step DuesState) → IsIn x (group_steps t s group) → OfForm group x
+of-form : (t : TableView) (s : DuesState) (group : List CaseForm) (x : Step DuesState) → IsIn x (group_steps t s group) → OfForm group x
 of-form t s group x h =
     let k = from-group t s group x h in
     let w = from-step_if t s k.0 (next_dues t s k.0) x k.2 in
     record { form = k.0; inside = k.1; rule = ap (λ (z : Step DuesState). z.rule) w.2; reads = ap (λ (z : Step DuesState). z.reads) w.2 }
 
-group-once : (t : TableView) (s : DuesState) (group : List Form) → IsIn group (groups t s.before) → Pairwise LaterStep (group_steps t s group)
+group-once : (t : TableView) (s : DuesState) (group : List CaseForm) → IsIn group (groups t s.before) → Pairwise LaterStep (group_steps t s group)
 group-once t s group h =
     let n = one-number t s.before group h in
     weaken-Pairwise (λ a b. a ≢ b) LaterStep (group_steps t s group) (with_steps-differ [] (flat_map (steps_of t s) group) tt)
@@ -193,7 +194,7 @@ group-once t s group h =
     let b = w.rule ∙ n.1 w.form w.inside in
     record { ascend = omega (arith, a, b); differ = other }))
 
-groups-Later : (t : TableView) (s : DuesState) (group later : List Form) (x y : Step DuesState) → LaterGroup group later → IsIn x (group_steps t s group) → IsIn y (group_steps t s later) → LaterStep x y
+groups-Later : (t : TableView) (s : DuesState) (group later : List CaseForm) (x y : Step DuesState) → LaterGroup group later → IsIn x (group_steps t s group) → IsIn y (group_steps t s later) → LaterStep x y
 groups-Later t s group later x y h i j =
     let v = of-form t s group x i in
     let w = of-form t s later y j in
@@ -218,7 +219,7 @@ in_order t keeps s i j x y less p q =
 used-most : (t : TableView) (here : Context) (run : Bool) (info : Info) (sign : Sign) → Keeps t → length (used_cells t here run info sign) ≤ 16
 used-most t here run info sign keeps = at (is_used t here run info sign) (keeps.signs_cells sign)
   where
-    at : (b : Bool) → length (sign_cells t sign) ≤ 16 → length (cond b (sign_cells t sign) []) ≤ 16
+    at : (b : Bool) → length (indicator_cells t sign) ≤ 16 → length (cond b (indicator_cells t sign) []) ≤ 16
     at true h = h
     at false h = omega arith
 
@@ -231,37 +232,26 @@ many-most t here run info (sign ∷ signs) keeps =
     let long = length-append (used_cells t here run info sign) (flat_map (used_cells t here run info) signs) in
     omega (arith, one, more, long)
 
-signs-most : (t : TableView) (here : Context) (run : Bool) (rest : List ℕ) → Keeps t → length (signs_before t here run rest) ≤ 80
+signs-most : (t : TableView) (here : Context) (run : Bool) (rest : List ℕ) → Keeps t → length (indicators_before t here run rest) ≤ 80
 signs-most t here run rest keeps = at (first_info t rest)
   where
-    at : (o : Option Info) → length (option_map_or (signs_of t here run) o []) ≤ 80
+    at : (o : Option Info) → length (option_map_or (indicators_of t here run) o []) ≤ 80
     at None = omega arith
     at (Some info) = (let most = many-most t here run info sign_order keeps in omega (arith, most))
-
-found-cells : (entries : List (ℕ × Info)) (c : ℕ) → AllByRecursion (λ e. Within (length e.1.cells) 16) entries → is_some (lookup (nat_eq c) entries) ≡ true
-    → Within (length (option_map_or (λ i. i.cells) (lookup (nat_eq c) entries) [])) 512
-found-cells [] c h d = cc
-found-cells (e ∷ es) c h d = cases (nat_eq c e.0) d (found-cells es c h.1)
-  where
-    cases : (b : Bool) → is_some (cond b (Some e.1) (lookup (nat_eq c) es)) ≡ true
-        → (is_some (lookup (nat_eq c) es) ≡ true → Within (length (option_map_or (λ i. i.cells) (lookup (nat_eq c) es) [])) 512)
-        → Within (length (option_map_or (λ i. i.cells) (cond b (Some e.1) (lookup (nat_eq c) es)) [])) 512
-    cases true k more = record { some = h.0.some; room = (let few = h.0.room in omega (arith, few)) }
-    cases false k more = more k
 
 rule-cells : (rules : List Rule) (k : ℕ) (r : Rule) → AllByRecursion (λ q. Within (length q.cells) 512) rules → slice_get rules k ≡ Some r → Within (length r.cells) 512
 rule-cells [] k r h e = cc
 rule-cells (q ∷ rules) zero r h e = (let same : q ≡ r = cc in subst (λ (x : Rule). Within (length x.cells) 512) same h.0)
 rule-cells (q ∷ rules) (suc k) r h e = rule-cells rules k r h.1 e
 
-form-cells : (t : TableView) → Keeps t → (before : Class) (f : Form) → IsForm t before f → Within (length f.cells) 512
+form-cells : (t : TableView) → Keeps t → (before : Class) (f : CaseForm) → IsForm t before f → Within (length f.cells) 512
 form-cells t keeps before f (inl h) = subst (λ l. Within (length l) 512) (sym h.cells) (rule-cells t.rules f.number h.rule keeps.rule_cells h.there)
 form-cells t keeps before f (inr h) = subst (λ l. Within (length l) 512) (sym h.cells) (found-cells t.characters h.character keeps.own_cells h.defined)
 
-good-form : (t : TableView) → Keeps t → (s : DuesState) (f : Form) (dues : List Due) → ReadsSome t f → Within (length f.cells) 512 → IsGoodStep (step_of t s f dues)
+good-form : (t : TableView) → Keeps t → (s : DuesState) (f : CaseForm) (dues : List Due) → ReadsSome t f → Within (length f.cells) 512 → IsGoodStep (step_of t s f dues)
 good-form t keeps s f dues r cells =
     let signs = signs-most t (context_of s) f.run f.reads keeps in
-    let long = length-append (signs_before t (context_of s) f.run f.reads) f.cells in
+    let long = length-append (indicators_before t (context_of s) f.run f.reads) f.cells in
     let read : length f.reads ≡ length (r.character ∷ r.others) = ap length r.reads in
     record {
       some_cells = omega (arith, long, cells.some);

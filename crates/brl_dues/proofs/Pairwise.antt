@@ -3,7 +3,7 @@ use Rattle.std.proofs.Common.{◌≡◌, ℕ, zero, suc, ◌<◌, Bool, true, fa
 use Rattle.std.specs.Prelude.{slice_get, map}
 use Rattle.std.specs.Bool.{⊤}
 use Rattle.std.specs.List.{AllByRecursion, flat_map}
-use Rattle.brl_states.proofs.Listing.{IsIn, in-append, in-right, from-flat_map, at-in}
+use Rattle.brl_pairs.proofs.Listing.{IsIn, in-append, in-right, from-flat_map, at-in}
 
 abbrev pub Pairwise : {X : Type 0} → (X → X → Type 0) → List X → Type 0
 Pairwise R [] = ⊤

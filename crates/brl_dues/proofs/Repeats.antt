@@ -12,8 +12,9 @@ use Rattle.brl_states.specs.declared.dues_state.DuesState.{DuesState}
 use Rattle.brl_states.specs.SameDues.{dues_equiv}
 use Rattle.brl_states.specs.SameDuesState.{same_states}
 use Rattle.brl_dues.specs.Steps.{is_same_step, with_step, with_steps}
-use Rattle.brl_states.proofs.Listing.{IsIn, in-append, in-left, in-right}
 use Rattle.brl_dues.proofs.Pairwise.{Pairwise, append-Pairwise, between-Pairwise}
+use Rattle.brl_pairs.proofs.Listing.{IsIn, in-append, in-left, in-right}
+use Rattle.brl_rules.proofs.Facts.{beq-itself}
 
 -- ---- The same step
 
@@ -30,14 +31,10 @@ same_steps x y h =
     let next : x.next ≡ y.next = same_states x.next y.next (second_so ((rules && reads) && cells) (eq-value.it x.next y.next) h) in
     λ i. record { rule = rule i; reads = read i; cells = cell i; next = next i }
 
-bool-itself : (b : Bool) → beq b b ≡ true
-bool-itself true = refl
-bool-itself false = refl
-
 state-itself : (s : DuesState) → eq-value.it s s ≡ true
 state-itself s =
     ap₂ (λ a b. a && b) ((Decides-eqb s.before.0 s.before.0).1 refl)
-    (ap₂ (λ a b. a && b) (bool-itself s.numeric) (ap₂ (λ a b. a && b) (bool-itself s.run) ((lists_equiv dues_equiv).refl s.dues)))
+    (ap₂ (λ a b. a && b) (beq-itself s.numeric) (ap₂ (λ a b. a && b) (beq-itself s.run) ((lists_equiv dues_equiv).refl s.dues)))
 
 step-itself : (x : Step DuesState) → is_same_step x x ≡ true
 step-itself x =

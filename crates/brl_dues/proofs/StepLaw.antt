@@ -10,7 +10,7 @@ use Rattle.brl_rules.specs.declared.rule.Rule.{Rule}
 use Rattle.brl_rules.specs.Choice.{fits}
 use Rattle.brl_rules.specs.Places.{holds}
 use Rattle.brl_rules.specs.TableView.{TableView}
-use Rattle.brl_rules.specs.Text.{classes_at, is_in_run}
+use Rattle.brl_rules.specs.Text.{classes_at, is_in_caps_run}
 use Rattle.brl_dues.specs.declared.carry.Carried.{Carried}
 use Rattle.brl_dues.specs.declared.carry.Carried.TheVariants.{Broken, Settled, Left}
 use Rattle.brl_states.specs.declared.due.Due.{Due}
@@ -18,12 +18,12 @@ use Rattle.brl_states.specs.declared.dues_state.DuesState.{DuesState}
 use Rattle.brl_dues.specs.Capitals.{alike}
 use Rattle.brl_dues.specs.Carry.{bars_to, carry, gathered, is_whole, lefts}
 use Rattle.brl_dues.specs.Due.{due_met, dues_met}
-use Rattle.brl_dues.specs.Form.{Form}
+use Rattle.brl_dues.specs.CaseForm.{CaseForm}
 use Rattle.brl_states.specs.Order.{due_cmp, place, insert_due, in_order}
 use Rattle.brl_dues.specs.Steps.{next_dues, owed}
 use Rattle.brl_dues.proofs.Carrying.{bars_to-met, carried_met, carry-met, fits_in, need-met}
 use Rattle.brl_dues.proofs.Choices.{list_all-append, list_all-flat_map, list_all-map}
-use Rattle.brl_dues.proofs.InRun.{alike-true}
+use Rattle.brl_dues.proofs.InCapsRun.{alike-true}
 use Rattle.brl_states.proofs.DueOrder.{due_tied}
 
 and-swap : (a b c : Bool) → (a && (b && c)) ≡ (b && (a && c))
@@ -81,20 +81,20 @@ module _ (t : TableView) (u : List ℕ) where
       at true ds m e = e
       at false ds m e = refl
 
-  bars-met : (before : Class) (run : Bool) (c : ℕ) (past : List ℕ) → is_in_run t before (c ∷ (past ++ u)) ≡ run → (above : List Rule)
+  bars-met : (before : Class) (run : Bool) (c : ℕ) (past : List ℕ) → is_in_caps_run t before (c ∷ (past ++ u)) ≡ run → (above : List Rule)
       → list_all (carried_met t u) (flat_map (bars_to t before run (c ∷ past)) above) ≡ none_fits_in t before run (c ∷ (past ++ u)) above
   bars-met before run c past same above =
       list_all-flat_map (carried_met t u) (λ r. not (fits_in t before run (c ∷ (past ++ u)) r)) (bars_to t before run (c ∷ past)) (bars_to-met t u before run c past same) above
 
   -- what must follow, and the bars of the rules above
-  next-met : (before : Class) (run : Bool) (c : ℕ) (past : List ℕ) (n : Bool) → n ≡ alike run (is_in_run t before (c ∷ (past ++ u))) → (above : List Rule)
+  next-met : (before : Class) (run : Bool) (c : ℕ) (past : List ℕ) (n : Bool) → n ≡ alike run (is_in_caps_run t before (c ∷ (past ++ u))) → (above : List Rule)
       → (n && list_all (carried_met t u) (flat_map (bars_to t before run (c ∷ past)) above)) ≡ (n && none_fits t before (c ∷ (past ++ u)) above)
   next-met before run c past false e above = refl
   next-met before run c past true e above =
-      let same : is_in_run t before (c ∷ (past ++ u)) ≡ run = alike-true run (is_in_run t before (c ∷ (past ++ u))) (sym e) in
+      let same : is_in_caps_run t before (c ∷ (past ++ u)) ≡ run = alike-true run (is_in_caps_run t before (c ∷ (past ++ u))) (sym e) in
       bars-met before run c past same above ∙ ap (λ b. none_fits_in t before b (c ∷ (past ++ u)) above) (sym same)
 
-  pub step-met : (s : DuesState) (f : Form) (c : ℕ) (past : List ℕ) → f.reads ≡ c ∷ past → holds f.next (classes_at t u 0) ≡ alike f.run (is_in_run t s.before (f.reads ++ u))
+  pub step-met : (s : DuesState) (f : CaseForm) (c : ℕ) (past : List ℕ) → f.reads ≡ c ∷ past → holds f.next (classes_at t u 0) ≡ alike f.run (is_in_caps_run t s.before (f.reads ++ u))
       → option_met t u (next_dues t s f)
       ≡ (dues_met t (f.reads ++ u) s.dues && (holds f.after (classes_at t u 0) && (holds f.next (classes_at t u 0) && none_fits t s.before (f.reads ++ u) f.above)))
   step-met s f c past e agrees =
@@ -105,5 +105,5 @@ module _ (t : TableView) (u : List ℕ) where
       (ap₂ (λ a b. a && b) (need-met t u f.after)
       (ap (λ b. b && list_all (carried_met t u) (flat_map (bars_to t s.before f.run f.reads) f.above)) (need-met t u f.next)
       ∙ ap (λ x. holds f.next (classes_at t u 0) && list_all (carried_met t u) (flat_map (bars_to t s.before f.run x) f.above)) e
-      ∙ next-met s.before f.run c past (holds f.next (classes_at t u 0)) (agrees ∙ ap (λ x. alike f.run (is_in_run t s.before (x ++ u))) e) f.above
+      ∙ next-met s.before f.run c past (holds f.next (classes_at t u 0)) (agrees ∙ ap (λ x. alike f.run (is_in_caps_run t s.before (x ++ u))) e) f.above
       ∙ ap (λ x. holds f.next (classes_at t u 0) && none_fits t s.before (x ++ u) f.above) (sym e)))

@@ -9,18 +9,19 @@ use Rattle.brl_rules.specs.declared.class.Class.{Class}
 use Rattle.brl_rules.specs.declared.context.Context.{Context}
 use Rattle.brl_rules.specs.declared.rule.Rule.{Rule}
 use Rattle.brl_rules.specs.Choice.{Choice, by_rule, chosen, fits, folds_of_capitals, matches, own}
-use Rattle.brl_rules.specs.Indicators.{indicators, signs_before}
+use Rattle.brl_rules.specs.Indicators.{indicators, indicators_before}
 use Rattle.brl_rules.specs.Places.{holds, before_of, after_of}
 use Rattle.brl_rules.specs.Position.{IsFirstThatFits}
 use Rattle.brl_rules.specs.Rest.{translation_of_rest, TakesOneRule}
 use Rattle.brl_rules.specs.TableView.{TableView}
-use Rattle.brl_rules.specs.Text.{at_start, classes_at, context_behind_all, fold_of, is_defined, is_in_run}
+use Rattle.brl_rules.specs.Text.{at_start, classes_at, context_after_all, fold_of, is_defined, is_in_caps_run}
 use Rattle.brl_rules.specs.Translation.{translation}
 use Rattle.brl_dues.specs.Capitals.{alike, is_upper}
-use Rattle.brl_dues.specs.Form.{Form, IsForm, folded, may_read}
+use Rattle.brl_dues.specs.CaseForm.{CaseForm, IsForm, folded, may_read}
 use Rattle.brl_dues.proofs.Carrying.{fits_in}
-use Rattle.brl_dues.proofs.InRun.{alike-true, folds-more, further-met, met_by}
+use Rattle.brl_dues.proofs.InCapsRun.{alike-true, folds-more, further-met, met_by}
 use Rattle.brl_dues.proofs.StepLaw.{none_fits}
+use Rattle.brl_rules.proofs.OneByOne.{Translating}
 
 -- ---- The laws of a table's definitions
 
@@ -28,12 +29,6 @@ use Rattle.brl_dues.proofs.StepLaw.{none_fits}
 pub record Choosing (t : TableView) : Type 0 where
   pub first : (before : Class) (rest : List ℕ) (place : ℕ) (r : Rule) → IsFirstThatFits t before rest place r → chosen t before rest ≡ by_rule place r
   pub none : (before : Class) (rest : List ℕ) → ((place : ℕ) (r : Rule) → slice_get t.rules place ≡ Some r → fits t before rest r ≡ false) → chosen t before rest ≡ own t rest
-
--- a translation, one rule at a time
-pub record Translating (t : TableView) : Type 0 where
-  pub whole : (text : List ℕ) → translation t text ≡ translation_of_rest t at_start text
-  pub end : (here : Context) → translation_of_rest t here [] ≡ []
-  pub rule : (here : Context) (rest : List ℕ) → 0 < length rest → TakesOneRule t here rest
 
 -- ---- None of the rules above
 
@@ -97,35 +92,35 @@ fits-form t before run c others u r may e h =
 -- ---- The choice
 
 -- what a form reads: a character of the table first
-pub record ReadsSome (t : TableView) (f : Form) : Type 0 where
+pub record ReadsSome (t : TableView) (f : CaseForm) : Type 0 where
   pub character : ℕ
   pub others : List ℕ
   pub reads : f.reads ≡ character ∷ others
   pub defined : is_defined t character ≡ true
 
-pub form-ReadsSome : (t : TableView) (before : Class) (f : Form) → IsForm t before f → ReadsSome t f
+pub form-ReadsSome : (t : TableView) (before : Class) (f : CaseForm) → IsForm t before f → ReadsSome t f
 form-ReadsSome t before f (inl h) = record { character = h.character; others = h.others; reads = h.reads; defined = h.defined }
 form-ReadsSome t before f (inr h) = record { character = h.character; others = []; reads = h.reads; defined = h.defined }
 
 -- what a form asks to follow holds exactly where it is in a run of capitals, or out of one
-pub form-agrees : (t : TableView) (before : Class) (f : Form) → IsForm t before f → (u : List ℕ) → holds f.next (classes_at t u 0) ≡ alike f.run (is_in_run t before (f.reads ++ u))
+pub form-agrees : (t : TableView) (before : Class) (f : CaseForm) → IsForm t before f → (u : List ℕ) → holds f.next (classes_at t u 0) ≡ alike f.run (is_in_caps_run t before (f.reads ++ u))
 form-agrees t before f (inl h) u =
-    ap (λ o. met_by o (classes_at t u 0)) (sym h.next) ∙ further-met t u before f.run h.character h.others ∙ ap (λ l. alike f.run (is_in_run t before (l ++ u))) (sym h.reads)
+    ap (λ o. met_by o (classes_at t u 0)) (sym h.next) ∙ further-met t u before f.run h.character h.others ∙ ap (λ l. alike f.run (is_in_caps_run t before (l ++ u))) (sym h.reads)
 form-agrees t before f (inr h) u =
-    ap (λ o. met_by o (classes_at t u 0)) (sym h.next) ∙ further-met t u before f.run h.character [] ∙ ap (λ l. alike f.run (is_in_run t before (l ++ u))) (sym h.reads)
+    ap (λ o. met_by o (classes_at t u 0)) (sym h.next) ∙ further-met t u before f.run h.character [] ∙ ap (λ l. alike f.run (is_in_caps_run t before (l ++ u))) (sym h.reads)
 
-pub form-in_run : (t : TableView) (before : Class) (f : Form) → IsForm t before f → (u : List ℕ) → holds f.next (classes_at t u 0) ≡ true → is_in_run t before (f.reads ++ u) ≡ f.run
-form-in_run t before f is u h = alike-true f.run (is_in_run t before (f.reads ++ u)) (sym (form-agrees t before f is u) ∙ h)
+pub form-in_caps_run : (t : TableView) (before : Class) (f : CaseForm) → IsForm t before f → (u : List ℕ) → holds f.next (classes_at t u 0) ≡ true → is_in_caps_run t before (f.reads ++ u) ≡ f.run
+form-in_caps_run t before f is u h = alike-true f.run (is_in_caps_run t before (f.reads ++ u)) (sym (form-agrees t before f is u) ∙ h)
 
-abbrev pub as_choice : Form → Choice
+abbrev pub as_choice : CaseForm → Choice
 as_choice f = record { number = f.number; taken = length f.reads; cells = f.cells }
 
-pub form-chosen : (t : TableView) → Choosing t → (before : Class) (f : Form) → IsForm t before f → (u : List ℕ) → holds f.after (classes_at t u 0) ≡ true
+pub form-chosen : (t : TableView) → Choosing t → (before : Class) (f : CaseForm) → IsForm t before f → (u : List ℕ) → holds f.after (classes_at t u 0) ≡ true
     → holds f.next (classes_at t u 0) ≡ true → none_fits t before (f.reads ++ u) f.above ≡ true → chosen t before (f.reads ++ u) ≡ as_choice f
 form-chosen t law before f (inl h) u a x n =
     let rest = f.reads ++ u in
     let fitting : fits t before rest h.rule ≡ true =
-    ap (λ run. fits_in t before run rest h.rule) (form-in_run t before f (inl h) u x)
+    ap (λ run. fits_in t before run rest h.rule) (form-in_caps_run t before f (inl h) u x)
     ∙ ap (λ l. fits_in t before f.run (l ++ u) h.rule) h.reads
     ∙ fits-form t before f.run h.character h.others u h.rule h.may h.chars h.before_holds ∙ ap (λ c. holds c (classes_at t u 0)) (sym h.after) ∙ a in
     let none = λ (earlier : ℕ) (q : Rule) (lower : earlier < f.number) (is : slice_get t.rules earlier ≡ Some q).
@@ -151,26 +146,26 @@ drop-front : (xs ys : List ℕ) → drop (length xs) (xs ++ ys) ≡ ys
 drop-front [] ys = refl
 drop-front (x ∷ xs) ys = drop-front xs ys
 
-signs-front : (t : TableView) (here : Context) (f : Form) (u : List ℕ) → ReadsSome t f → is_in_run t here.classes (f.reads ++ u) ≡ f.run
-    → indicators t here (f.reads ++ u) ≡ signs_before t here f.run f.reads
+signs-front : (t : TableView) (here : Context) (f : CaseForm) (u : List ℕ) → ReadsSome t f → is_in_caps_run t here.classes (f.reads ++ u) ≡ f.run
+    → indicators t here (f.reads ++ u) ≡ indicators_before t here f.run f.reads
 signs-front t here f u r e =
     ap (λ l. indicators t here (l ++ u)) r.reads
-    ∙ ap (λ run. signs_before t here run (r.character ∷ r.others)) (ap (λ l. is_in_run t here.classes (l ++ u)) (sym r.reads) ∙ e)
-    ∙ ap (signs_before t here f.run) (sym r.reads)
+    ∙ ap (λ run. indicators_before t here run (r.character ∷ r.others)) (ap (λ l. is_in_caps_run t here.classes (l ++ u)) (sym r.reads) ∙ e)
+    ∙ ap (indicators_before t here f.run) (sym r.reads)
 
-some-rest : (t : TableView) (f : Form) (u : List ℕ) → ReadsSome t f → 0 < length (f.reads ++ u)
+some-rest : (t : TableView) (f : CaseForm) (u : List ℕ) → ReadsSome t f → 0 < length (f.reads ++ u)
 some-rest t f u r = subst (λ l. 0 < length (l ++ u)) (sym r.reads) (omega arith)
 
 -- the translation of what a form reads and a rest: the form's cells, and the translation of the
 -- rest
-pub form-translation : (t : TableView) → Translating t → (here : Context) (f : Form) (u : List ℕ) → ReadsSome t f → is_in_run t here.classes (f.reads ++ u) ≡ f.run
+pub form-translation : (t : TableView) → Translating t → (here : Context) (f : CaseForm) (u : List ℕ) → ReadsSome t f → is_in_caps_run t here.classes (f.reads ++ u) ≡ f.run
     → chosen t here.classes (f.reads ++ u) ≡ as_choice f
-    → translation_of_rest t here (f.reads ++ u) ≡ (signs_before t here f.run f.reads ++ f.cells) ++ translation_of_rest t (context_behind_all t here f.reads) u
+    → translation_of_rest t here (f.reads ++ u) ≡ (indicators_before t here f.run f.reads ++ f.cells) ++ translation_of_rest t (context_after_all t here f.reads) u
 form-translation t law here f u r run e =
     let rest = f.reads ++ u in
-    let behind = translation_of_rest t (context_behind_all t here f.reads) u in
+    let behind = translation_of_rest t (context_after_all t here f.reads) u in
     law.rule here rest (some-rest t f u r)
-    ∙ ap (λ (c : Choice). indicators t here rest ++ c.cells ++ translation_of_rest t (context_behind_all t here (take c.taken rest)) (drop c.taken rest)) e
-    ∙ ap (λ l. indicators t here rest ++ f.cells ++ translation_of_rest t (context_behind_all t here l) (drop (length f.reads) rest)) (take-front f.reads u)
-    ∙ ap (λ l. indicators t here rest ++ f.cells ++ translation_of_rest t (context_behind_all t here f.reads) l) (drop-front f.reads u)
+    ∙ ap (λ (c : Choice). indicators t here rest ++ c.cells ++ translation_of_rest t (context_after_all t here (take c.taken rest)) (drop c.taken rest)) e
+    ∙ ap (λ l. indicators t here rest ++ f.cells ++ translation_of_rest t (context_after_all t here l) (drop (length f.reads) rest)) (take-front f.reads u)
+    ∙ ap (λ l. indicators t here rest ++ f.cells ++ translation_of_rest t (context_after_all t here f.reads) l) (drop-front f.reads u)
     ∙ ap (λ l. l ++ f.cells ++ behind) (signs-front t here f u r run)

@@ -13,7 +13,7 @@ use Rattle.brl_dues.specs.CapitalList.{capital_of, is_fold_of_capital}
 use Rattle.brl_dues.specs.Capitals.{capitals, choices, further, is_upper, put_capital}
 use Rattle.brl_dues.specs.Carry.{gathered, need}
 use Rattle.brl_dues.specs.LetterView.{LetterView}
-use Rattle.brl_dues.specs.Letters.{bars_of, left_past, left_with, letter_form, letter_step, next_step, run_step, run_steps}
+use Rattle.brl_dues.specs.Letters.{bars_of, left_past, left_with, letter_form, letter_step, next_step, caps_run_step, caps_run_steps}
 use Rattle.brl_dues.specs.Steps.{step_if}
 use Rattle.brl_dues.proofs.Casing.{none-in-run}
 use Rattle.brl_dues.proofs.Finding.{flat_map-flat_map, flat_map-none, flat_map-of_map, flat_map-same}
@@ -83,55 +83,55 @@ left-further t s l begun c left o e is =
 
 module _ (t : TableView) (s : DuesState) (l : LetterView) (number : ℕ) (after : Cond) (cells : List ℕ) where
   -- nothing goes on from a beginning that breaks a due
-  pub broken-steps : (begun chars : List ℕ) → left_past t (l.character ∷ begun) s.dues ≡ None → run_steps t s l number after cells begun chars ≡ []
+  pub broken-steps : (begun chars : List ℕ) → left_past t (l.character ∷ begun) s.dues ≡ None → caps_run_steps t s l number after cells begun chars ≡ []
   broken-steps begun chars e =
-      flat_map-none (λ text. run_step t s l number after cells (begun ++ text))
+      flat_map-none (λ text. caps_run_step t s l number after cells (begun ++ text))
       (λ text. broken-step t s l number true (begun ++ text) after cells
       (left_past-append t (l.character ∷ begun) text s.dues ∙ ap (λ o. option_map_or (left_past t text) o None) e)) (choices t chars)
 
   -- there are none
-  pub nothing-on : (old : List (Step DuesState)) (begun chars : List ℕ) → run_steps t s l number after cells begun chars ≡ [] → old ≡ old ++ run_steps t s l number after cells begun chars
+  pub nothing-on : (old : List (Step DuesState)) (begun chars : List ℕ) → caps_run_steps t s l number after cells begun chars ≡ [] → old ≡ old ++ caps_run_steps t s l number after cells begun chars
   nothing-on old begun chars e = sym (append-nil old) ∙ ap (λ l. old ++ l) (sym e)
 
   -- no choice, or no run that begins with this character
-  pub no-steps : (chars : List ℕ) → list_all (is_fold_of_capital t) chars ≡ false → run_steps t s l number after cells [] chars ≡ []
-  no-steps chars h = ap (flat_map (run_step t s l number after cells)) (no-choices t chars h)
+  pub no-steps : (chars : List ℕ) → list_all (is_fold_of_capital t) chars ≡ false → caps_run_steps t s l number after cells [] chars ≡ []
+  no-steps chars h = ap (flat_map (caps_run_step t s l number after cells)) (no-choices t chars h)
 
-  pub no-run : (chars : List ℕ) → (has_word_capitals t && is_upper t l.character) ≡ false → run_steps t s l number after cells [] chars ≡ []
-  no-run chars h = flat_map-none (run_step t s l number after cells) (none-in-run t s l number after cells h) (choices t chars)
+  pub no-run : (chars : List ℕ) → (has_word_capitals t && is_upper t l.character) ≡ false → caps_run_steps t s l number after cells [] chars ≡ []
+  no-run chars h = flat_map-none (caps_run_step t s l number after cells) (none-in-run t s l number after cells h) (choices t chars)
 
   -- the steps that go on from a beginning with a capital, if it has this fold
   abbrev pub steps_after : List ℕ → ℕ → List ℕ → Capital → List (Step DuesState)
-  steps_after begun a chars capital = cond (nat_eq a capital.fold) (run_steps t s l number after cells (begun ++ capital.character ∷ []) chars) []
+  steps_after begun a chars capital = cond (nat_eq a capital.fold) (caps_run_steps t s l number after cells (begun ++ capital.character ∷ []) chars) []
 
   put-steps : (begun : List ℕ) (a : ℕ) (chars : List ℕ) (c : ℕ)
-      → flat_map (λ text. run_step t s l number after cells (begun ++ text)) (put_capital t a (choices t chars) c) ≡ steps_after begun a chars (capital_of t c)
+      → flat_map (λ text. caps_run_step t s l number after cells (begun ++ text)) (put_capital t a (choices t chars) c) ≡ steps_after begun a chars (capital_of t c)
   put-steps begun a chars c = at (nat_eq a (fold_of t c))
     where
-      at : (b : Bool) → flat_map (λ text. run_step t s l number after cells (begun ++ text)) (cond b (map (λ text. c ∷ text) (choices t chars)) [])
-          ≡ cond b (run_steps t s l number after cells (begun ++ c ∷ []) chars) []
+      at : (b : Bool) → flat_map (λ text. caps_run_step t s l number after cells (begun ++ text)) (cond b (map (λ text. c ∷ text) (choices t chars)) [])
+          ≡ cond b (caps_run_steps t s l number after cells (begun ++ c ∷ []) chars) []
       at true =
-          flat_map-of_map (λ text. run_step t s l number after cells (begun ++ text)) (λ text. c ∷ text) (choices t chars)
-          ∙ flat_map-same (λ text. run_step t s l number after cells (begun ++ (c ∷ text))) (λ text. run_step t s l number after cells ((begun ++ c ∷ []) ++ text))
-          (λ text. ap (run_step t s l number after cells) (sym (append_assoc begun (c ∷ []) text))) (choices t chars)
+          flat_map-of_map (λ text. caps_run_step t s l number after cells (begun ++ text)) (λ text. c ∷ text) (choices t chars)
+          ∙ flat_map-same (λ text. caps_run_step t s l number after cells (begun ++ (c ∷ text))) (λ text. caps_run_step t s l number after cells ((begun ++ c ∷ []) ++ text))
+          (λ text. ap (caps_run_step t s l number after cells) (sym (append_assoc begun (c ∷ []) text))) (choices t chars)
       at false = refl
 
-  pub steps-by-capital : (begun : List ℕ) (a : ℕ) (chars : List ℕ) → run_steps t s l number after cells begun (a ∷ chars) ≡ flat_map (steps_after begun a chars) (map (capital_of t) (capitals t))
+  pub steps-by-capital : (begun : List ℕ) (a : ℕ) (chars : List ℕ) → caps_run_steps t s l number after cells begun (a ∷ chars) ≡ flat_map (steps_after begun a chars) (map (capital_of t) (capitals t))
   steps-by-capital begun a chars =
-      flat_map-flat_map (λ text. run_step t s l number after cells (begun ++ text)) (put_capital t a (choices t chars)) (capitals t)
-      ∙ flat_map-same (λ c. flat_map (λ text. run_step t s l number after cells (begun ++ text)) (put_capital t a (choices t chars) c)) (λ c. steps_after begun a chars (capital_of t c))
+      flat_map-flat_map (λ text. caps_run_step t s l number after cells (begun ++ text)) (put_capital t a (choices t chars)) (capitals t)
+      ∙ flat_map-same (λ c. flat_map (λ text. caps_run_step t s l number after cells (begun ++ text)) (put_capital t a (choices t chars) c)) (λ c. steps_after begun a chars (capital_of t c))
       (put-steps begun a chars) (capitals t)
       ∙ sym (flat_map-of_map (steps_after begun a chars) (capital_of t) (capitals t))
 
   -- each capital's steps, in the loop over capitals
   module _ (begun : List ℕ) (a : ℕ) (chars : List ℕ) (capital : Capital) (now : List (Step DuesState)) where
-    pub same-fold : nat_eq a capital.fold ≡ true → (new : List (Step DuesState)) → new ≡ now ++ run_steps t s l number after cells (begun ++ capital.character ∷ []) chars
+    pub same-fold : nat_eq a capital.fold ≡ true → (new : List (Step DuesState)) → new ≡ now ++ caps_run_steps t s l number after cells (begun ++ capital.character ∷ []) chars
         → new ≡ now ++ steps_after begun a chars capital
-    same-fold h new e = e ∙ ap (λ b. now ++ cond b (run_steps t s l number after cells (begun ++ capital.character ∷ []) chars) []) (sym h)
+    same-fold h new e = e ∙ ap (λ b. now ++ cond b (caps_run_steps t s l number after cells (begun ++ capital.character ∷ []) chars) []) (sym h)
 
     pub broken-fold : left_past t (l.character ∷ (begun ++ capital.character ∷ [])) s.dues ≡ None → now ≡ now ++ steps_after begun a chars capital
     broken-fold e = sym (append-nil now) ∙ ap (λ l. now ++ l) (sym (at (nat_eq a capital.fold)))
       where
-        at : (b : Bool) → cond b (run_steps t s l number after cells (begun ++ capital.character ∷ []) chars) [] ≡ []
+        at : (b : Bool) → cond b (caps_run_steps t s l number after cells (begun ++ capital.character ∷ []) chars) [] ≡ []
         at true = broken-steps (begun ++ capital.character ∷ []) chars e
         at false = refl

@@ -7,7 +7,7 @@ use Rattle.brl_rules.specs.declared.context.Context.{Context}
 use Rattle.brl_rules.specs.declared.place.Cond.{Cond}
 use Rattle.brl_rules.specs.declared.place.Cond.TheVariants.{Any, Meets, Avoids}
 use Rattle.brl_rules.specs.declared.rule.Rule.{Rule}
-use Rattle.brl_rules.specs.Indicators.{signs_before}
+use Rattle.brl_rules.specs.Indicators.{indicators_before}
 use Rattle.brl_rules.specs.Places.{digit, gap, gap_or_letter, letter, none, space, uppercase}
 use Rattle.brl_rules.specs.TableView.{TableView}
 use Rattle.brl_rules.specs.Text.{classes_of}
@@ -16,7 +16,7 @@ use Rattle.brl_states.specs.declared.due.Due.TheVariants.{Bar}
 use Rattle.brl_states.specs.declared.dues_state.DuesState.{DuesState}
 use Rattle.brl_dues.specs.Capitals.{choices, letters}
 use Rattle.brl_dues.specs.Carry.{left_of, need, opposed}
-use Rattle.brl_dues.specs.Form.{Form, forms}
+use Rattle.brl_dues.specs.CaseForm.{CaseForm, forms}
 use Rattle.brl_states.specs.DuesContext.{state_in}
 
 -- ---- Lists
@@ -85,8 +85,8 @@ abbrev pub all_states : TableView → List DuesState
 all_states t = flat_map (λ here. map (state_in here) (lists_up_to (all_dues t) (length (all_dues t)))) (all_contexts t)
 
 -- the cells of a step that takes the form in a context
-abbrev pub cells_in : TableView → Context → Form → List ℕ
-cells_in t here f = signs_before t here f.run f.reads ++ f.cells
+abbrev pub cells_in : TableView → Context → CaseForm → List ℕ
+cells_in t here f = indicators_before t here f.run f.reads ++ f.cells
 
 -- the cells that a step may give
 abbrev pub all_cells : TableView → List (List ℕ)

@@ -19,7 +19,7 @@ use Rattle.brl_states.specs.declared.due.Due.TheVariants.{Need, Bar}
 use Rattle.brl_states.specs.declared.dues_state.DuesState.{DuesState}
 use Rattle.brl_dues.specs.Capitals.{choices, further, letters}
 use Rattle.brl_dues.specs.Carry.{bars_past, carry, gathered, is_whole, lefts, need}
-use Rattle.brl_dues.specs.Form.{Form}
+use Rattle.brl_dues.specs.CaseForm.{CaseForm}
 use Rattle.brl_dues.specs.Steps.{step_if, with_steps}
 use Rattle.brl_dues.specs.LetterView.{LetterView}
 
@@ -79,7 +79,7 @@ abbrev pub left_with : TableView → Class → List Due → LetterView → Bool 
 left_with t before left l run next others after = map Left left ++ (need after ∷ need next ∷ bars_of t before run l.character others l.above)
 
 -- the form that reads the character and these others
-abbrev pub letter_form : LetterView → ℕ → Bool → Cond → List ℕ → Cond → List ℕ → Form
+abbrev pub letter_form : LetterView → ℕ → Bool → Cond → List ℕ → Cond → List ℕ → CaseForm
 letter_form l number run next others after cells = record {
   number = number;
   reads = l.character ∷ others;
@@ -101,19 +101,19 @@ letter_step t s l number run others after cells =
     option_map_or (next_step t s l number run others after cells) (further t s.before run (l.character ∷ others)) []
 
 -- the same in a run of capitals
-abbrev pub run_step : TableView → DuesState → LetterView → ℕ → Cond → List ℕ → List ℕ → List (Step DuesState)
-run_step t s l number after cells others = letter_step t s l number true others after cells
+abbrev pub caps_run_step : TableView → DuesState → LetterView → ℕ → Cond → List ℕ → List ℕ → List (Step DuesState)
+caps_run_step t s l number after cells others = letter_step t s l number true others after cells
 
 -- the steps in a run of capitals that read the character, these capitals and others, whose folds
 -- are these characters
-abbrev pub run_steps : TableView → DuesState → LetterView → ℕ → Cond → List ℕ → List ℕ → List ℕ → List (Step DuesState)
-run_steps t s l number after cells begun chars = flat_map (λ text. run_step t s l number after cells (begun ++ text)) (choices t chars)
+abbrev pub caps_run_steps : TableView → DuesState → LetterView → ℕ → Cond → List ℕ → List ℕ → List ℕ → List (Step DuesState)
+caps_run_steps t s l number after cells begun chars = flat_map (λ text. caps_run_step t s l number after cells (begun ++ text)) (choices t chars)
 
 -- the steps of a rule with these other characters: in a run of capitals, one for each choice of
 -- capitals, and then the one out of a run
 abbrev pub cased_steps : TableView → DuesState → LetterView → ℕ → List ℕ → Cond → List ℕ → List (Step DuesState)
 cased_steps t s l number others after cells =
-    flat_map (run_step t s l number after cells) (choices t others) ++ letter_step t s l number false others after cells
+    flat_map (caps_run_step t s l number after cells) (choices t others) ++ letter_step t s l number false others after cells
 
 -- the steps of a rule with this number that begin with the character
 abbrev pub rule_step : TableView → DuesState → ℕ → Rule → LetterView → List (Step DuesState)

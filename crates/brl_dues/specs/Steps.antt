@@ -7,9 +7,9 @@ use Rattle.std.specs.List.{flat_map, list_all, list_any}
 use Rattle.brl_pairs.specs.Runs.{Behaviour}
 use Rattle.brl_pairs.specs.declared.step.Step.{Step}
 use Rattle.brl_rules.specs.declared.class.Class.{Class}
-use Rattle.brl_rules.specs.Indicators.{signs_before}
+use Rattle.brl_rules.specs.Indicators.{indicators_before}
 use Rattle.brl_rules.specs.TableView.{TableView}
-use Rattle.brl_rules.specs.Text.{at_start, context_behind_all, is_text}
+use Rattle.brl_rules.specs.Text.{at_start, context_after_all, is_text}
 use Rattle.brl_rules.specs.Translation.{translation}
 use Rattle.brl_dues.specs.declared.carry.Carried.{Carried}
 use Rattle.brl_states.specs.declared.due.Due.{Due}
@@ -17,27 +17,27 @@ use Rattle.brl_states.specs.DuesContext.{context_of, state_in}
 use Rattle.brl_states.specs.declared.dues_state.DuesState.{DuesState}
 use Rattle.brl_dues.specs.Carry.{bars_to, carry, gathered, need}
 use Rattle.brl_dues.specs.Due.{met_by_space}
-use Rattle.brl_dues.specs.Form.{Form, IsForm, groups}
+use Rattle.brl_dues.specs.CaseForm.{CaseForm, IsForm, groups}
 use Rattle.brl_states.specs.contracts.dues_state.DuesStatePartialEq.TheImpl.{eq-value}
 
 -- what a step of the form owes: the needs of its after-condition and of what must follow so that it
 -- begins in a run of capitals, or out of one, and the bars of each rule that is ranked above it
-abbrev pub owed : TableView → Class → Form → List Carried
+abbrev pub owed : TableView → Class → CaseForm → List Carried
 owed t before f = need f.after ∷ need f.next ∷ flat_map (bars_to t before f.run f.reads) f.above
 
 -- the dues after the step: what is left of the old dues after what it reads, and what it owes; none
 -- where one of these is broken
-abbrev pub next_dues : TableView → DuesState → Form → Option (List Due)
+abbrev pub next_dues : TableView → DuesState → CaseForm → Option (List Due)
 next_dues t s f = gathered (map (carry t f.reads) s.dues ++ owed t s.before f)
 
 -- the step of a form, with the dues after it
-abbrev pub step_of : TableView → DuesState → Form → List Due → Step DuesState
+abbrev pub step_of : TableView → DuesState → CaseForm → List Due → Step DuesState
 step_of t s f dues =
-    let behind = context_behind_all t (context_of s) f.reads in
+    let behind = context_after_all t (context_of s) f.reads in
     record {
       rule = f.number;
       reads = f.reads;
-      cells = signs_before t (context_of s) f.run f.reads ++ f.cells;
+      cells = indicators_before t (context_of s) f.run f.reads ++ f.cells;
       next = state_in behind dues;
     }
 
@@ -45,7 +45,7 @@ step_of t s f dues =
 
 -- a step from a state takes a form, breaks no due, and leaves the dues after it
 pub record IsStep (t : TableView) (s : DuesState) (x : Step DuesState) : Type 0 where
-  pub form : Form
+  pub form : CaseForm
   pub is_form : IsForm t s.before form
   pub dues : List Due
   pub left : next_dues t s form ≡ Some dues
@@ -54,12 +54,12 @@ pub record IsStep (t : TableView) (s : DuesState) (x : Step DuesState) : Type 0 
 -- ---- Listed
 
 -- the step with these dues after it, or none
-abbrev pub step_if : TableView → DuesState → Form → Option (List Due) → List (Step DuesState)
+abbrev pub step_if : TableView → DuesState → CaseForm → Option (List Due) → List (Step DuesState)
 step_if t s f None = []
 step_if t s f (Some dues) = step_of t s f dues ∷ []
 
 -- the step of a form, if it breaks no due
-abbrev pub steps_of : TableView → DuesState → Form → List (Step DuesState)
+abbrev pub steps_of : TableView → DuesState → CaseForm → List (Step DuesState)
 steps_of t s f = step_if t s f (next_dues t s f)
 
 -- whether two steps are the same
@@ -78,7 +78,7 @@ with_steps steps (x ∷ more) = with_steps (with_step steps x) more
 
 -- the steps of a group of forms, each once: two forms that differ by the run of capitals alone may
 -- have the same step
-abbrev pub group_steps : TableView → DuesState → List Form → List (Step DuesState)
+abbrev pub group_steps : TableView → DuesState → List CaseForm → List (Step DuesState)
 group_steps t s group = with_steps [] (flat_map (steps_of t s) group)
 
 -- the steps that the machine lists from a state: the forms by rank, those of one rule by the

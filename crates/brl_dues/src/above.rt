@@ -8,7 +8,7 @@ ghost use Rattle.brl_rules.specs.TableView.{TableView};
 
 use crate::carry::{Carried, add, carry_bar};
 use crate::cased::CasedTable;
-use crate::runs::add_run_bars;
+use crate::runs::add_caps_run_bars;
 use brl_rules::{Class, Cond};
 use brl_states::Due;
 use std::alloc::{AllocError, Global};
@@ -66,7 +66,7 @@ impl<'a> Above<'a> {
         ensures { IfOk result (λ whole. Adds (bars_past table.now before run character past.now self.now.0 self.now.1) found.old.items found.new.items whole) }
     {
         if run {
-            return add_run_bars(alloc, table, past, self.others, self.after, found);
+            return add_caps_run_bars(alloc, table, past, self.others, self.after, found);
         }
         if self.is_settled(past) {
             return Ok(true);

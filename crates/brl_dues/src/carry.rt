@@ -162,7 +162,7 @@ pub fn add_bars(
     requires { run ≡ true → IsTrue (has_word_capitals table.now) }
     ensures { IfOk result (λ whole. Adds (bars_of table.now before run character others.now above.now) found.old.items found.new.items whole) }
 {
-    let cased = table.may_begin_run(character);
+    let cased = table.may_begin_caps_run(character);
     for rule in above {
         if !rule.add_bars(alloc, table, before, character, cased, run, others, found)? {
             return Ok(false);

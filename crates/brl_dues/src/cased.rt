@@ -64,7 +64,7 @@ impl<'a> CasedTable<'a> {
 
     /// Whether a run of capitals may begin with a character: the table has word capitals, and it is
     /// a capital.
-    pub fn may_begin_run(&self, character: char) -> bool
+    pub fn may_begin_caps_run(&self, character: char) -> bool
         ensures { result ≡ (has_word_capitals self.now && is_upper_in self.now character) }
     {
         self.has_word_capitals && is_upper(self.table, character)
@@ -81,7 +81,7 @@ impl<'a> CasedTable<'a> {
     ) -> Option<Cond>
         ensures { result ≡ what_follows self.now before run (character ∷ others.now) }
     {
-        if !self.may_begin_run(character) {
+        if !self.may_begin_caps_run(character) {
             return any_if(!run);
         }
         if is_capital(before) {

@@ -8,6 +8,9 @@
 //! In a table with word capitals, a step also knows whether what it reads begins in a run of
 //! capitals. Where one capital alone doesn't decide that, there is a step for each case: one owes
 //! that a capital follows, the other that none does.
+//!
+//! Room 3, the machines of a table (docs/dev/ARCHITECTURE.md). The definitions begin in
+//! `specs/Steps.antt`.
 #![tactic(auto)]
 
 mod above;

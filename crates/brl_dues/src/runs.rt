@@ -14,7 +14,7 @@ use std::alloc::{AllocError, Global};
 
 /// Appends what is left, after the characters `past` of a run of capitals, of the bars of a rule
 /// with these characters to the dues found so far. Returns whether none is broken.
-pub fn add_run_bars(
+pub fn add_caps_run_bars(
     alloc: Global,
     table: &CasedTable<'_>,
     past: &[char],

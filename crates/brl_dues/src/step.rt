@@ -149,7 +149,7 @@ fn step_of(
 {
     let table = origin.table.table();
     let here = origin.state.context();
-    let behind = table.context_behind(here, reads.as_slice());
+    let behind = table.context_after(here, reads.as_slice());
     let mut cells = Vec::new(alloc);
     table.push_indicators(here, taken.run, reads.as_slice(), &mut cells)?;
     cells.extend_from_slice(taken.cells)?;

@@ -11,7 +11,7 @@ use crate::cased::CasedTable;
 use crate::letter::{Letter, new_letters_of};
 use crate::origin::Origin;
 use crate::step::{Taken, step_with};
-use crate::walk::push_run_steps;
+use crate::walk::push_caps_run_steps;
 use brl_pairs::Step;
 use brl_rules::{Cond, Rule, Table, holds};
 use brl_states::DuesState;
@@ -142,11 +142,11 @@ fn push_steps(
     // The steps in a run differ in what they read, since no character of a table is defined twice.
     origin.table.table().law();
     let first = listed.len();
-    push_run_steps(alloc, origin, taken, listed)?;
+    push_caps_run_steps(alloc, origin, taken, listed)?;
     let Some(step) = step_with(alloc, origin, taken)? else {
         return Ok(());
     };
-    if !is_also_in_run(&step, &listed[first..]) {
+    if !is_also_in_caps_run(&step, &listed[first..]) {
         listed.push(step)?;
     }
     Ok(())
@@ -154,11 +154,11 @@ fn push_steps(
 
 /// Whether a step out of a run of capitals is also one of those in a run. It is none of them where
 /// it reads several characters.
-fn is_also_in_run(step: &Step<DuesState>, in_run: &[Step<DuesState>]) -> bool
-    requires { 1 < length step.now.reads → list_any (is_same_step step.now) in_run.now ≡ false }
-    ensures { result ≡ list_any (is_same_step step.now) in_run.now }
+fn is_also_in_caps_run(step: &Step<DuesState>, in_caps_run: &[Step<DuesState>]) -> bool
+    requires { 1 < length step.now.reads → list_any (is_same_step step.now) in_caps_run.now ≡ false }
+    ensures { result ≡ list_any (is_same_step step.now) in_caps_run.now }
 {
-    step.reads.len() <= 1 && is_among(step, in_run)
+    step.reads.len() <= 1 && is_among(step, in_caps_run)
 }
 
 /// Whether a step is one of these.

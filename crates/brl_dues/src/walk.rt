@@ -3,7 +3,7 @@
 //! left with all that would go on from it.
 ghost use Rattle.std.specs.Prelude.{◌≡◌, [], ◌∷◌, ◌++◌, option_map, All, IfOk, IfSome, IsTrue, OnOk, Some};
 ghost use Rattle.brl_rules.specs.Text.{has_word_capitals};
-ghost use Rattle.brl_dues.specs.Letters.{left_past, run_step, run_steps};
+ghost use Rattle.brl_dues.specs.Letters.{left_past, caps_run_step, caps_run_steps};
 ghost use Rattle.brl_states.specs.Order.{is_proper};
 
 use crate::carry::dues_past;
@@ -46,17 +46,17 @@ impl Beginning {
 
 /// Appends the steps that take this in a run of capitals, one for each choice of capitals for the
 /// other characters that breaks no due.
-pub fn push_run_steps(
+pub fn push_caps_run_steps(
     alloc: Global,
     origin: &Origin<'_>,
     taken: Taken<'_>,
     listed: &mut Vec<Step<DuesState>>,
 ) -> Result<(), AllocError>
     ensures { OnOk result (listed.new.items ≡ listed.old.items
-        ++ run_steps origin.now.table.now origin.now.state.now origin.now.letter.now taken.entry.number taken.entry.after taken.entry.cells.now [] taken.entry.others.now) }
+        ++ caps_run_steps origin.now.table.now origin.now.state.now origin.now.letter.now taken.entry.number taken.entry.after taken.entry.cells.now [] taken.entry.others.now) }
 {
     let first = origin.letter.character();
-    if !origin.table.may_begin_run(first) || !origin.table.has_choices(taken.others) {
+    if !origin.table.may_begin_caps_run(first) || !origin.table.has_choices(taken.others) {
         return Ok(());
     }
     let dues = origin.state.dues.as_slice();
@@ -82,7 +82,7 @@ fn go_on(
     requires word { IsTrue (has_word_capitals origin.now.table.now) }
     requires left { left_past origin.now.table.now (origin.now.letter.now.character ∷ beginning.capitals.items) origin.now.state.now.dues ≡ Some beginning.left.items }
     ensures { OnOk result (listed.new.items ≡ listed.old.items
-        ++ run_steps origin.now.table.now origin.now.state.now origin.now.letter.now taken.entry.number taken.entry.after taken.entry.cells.now beginning.capitals.items folds.now) }
+        ++ caps_run_steps origin.now.table.now origin.now.state.now origin.now.letter.now taken.entry.number taken.entry.after taken.entry.cells.now beginning.capitals.items folds.now) }
 {
     let Some((fold, others)) = folds.split_first() else {
         return push_chosen(alloc, origin, taken, beginning, listed);
@@ -110,7 +110,7 @@ fn push_chosen(
     requires word { IsTrue (has_word_capitals origin.now.table.now) }
     requires left { left_past origin.now.table.now (origin.now.letter.now.character ∷ chosen.capitals.items) origin.now.state.now.dues ≡ Some chosen.left.items }
     ensures { OnOk result (listed.new.items ≡ listed.old.items
-        ++ run_step origin.now.table.now origin.now.state.now origin.now.letter.now taken.entry.number taken.entry.after taken.entry.cells.now chosen.capitals.items) }
+        ++ caps_run_step origin.now.table.now origin.now.state.now origin.now.letter.now taken.entry.number taken.entry.after taken.entry.cells.now chosen.capitals.items) }
 {
     let Beginning { capitals, left } = chosen;
     let taken = Taken {

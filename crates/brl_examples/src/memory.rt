@@ -9,7 +9,7 @@ ghost use Rattle.brl_stream.specs.Output.{EndsBy};
 use brl_failure::Failure;
 use brl_lines::{LoadFault, Loaded, MapSource, files_in_memory_law, load};
 use brl_rules::Table;
-use brl_stream::{Form, LineFault, StreamFault, Watched, translate_lines};
+use brl_stream::{Counting, Form, LineFault, StreamFault, translate_lines};
 use std::alloc::Global;
 
 /// Loads over files in memory. The outcome is the one that all files of the map give.
@@ -29,7 +29,7 @@ pub fn translate_bytes(
     alloc: Global,
     table: &Table,
     input: &[u8],
-    writer: &mut Watched<Vec<u8>>,
+    writer: &mut Counting<Vec<u8>>,
 ) -> Result<(), Failure<StreamFault>>
     ensures never_read { EndsBy LineFault.InputFailed result → ⊥ }
     ensures refused { EndsBy LineFault.OutputFailed result → writer.new.failures ≢ writer.old.failures }

@@ -6,12 +6,7 @@ use Rattle.std.proofs.lemmas.List.{length-map, take-map, drop-map}
 use Rattle.brl_rules.specs.declared.rule.Info.{Info}
 use Rattle.brl_rules.specs.Infos.{AreInfosOf, first_info}
 use Rattle.brl_rules.specs.TableView.{TableView, info_of}
-
-pub first_same : (x y : Option Info) (xs ys : List (Option Info)) → x ∷ xs ≡ y ∷ ys → x ≡ y
-first_same x y xs ys h = cc
-
-pub others_same : (x y : Option Info) (xs ys : List (Option Info)) → x ∷ xs ≡ y ∷ ys → xs ≡ ys
-others_same x y xs ys h = cc
+use Rattle.brl_rules.proofs.InfoContexts.{first_same, others_same}
 
 info_same : (x y : Bor Info) → Some x ≡ Some y → x ≡ y
 info_same x y h = cc

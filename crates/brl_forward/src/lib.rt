@@ -1,5 +1,8 @@
 //! Forward translation: the cells of a text (`translate`), the steps that give them (`trace`), and
 //! whether two texts clash (`confirm`).
+//!
+//! Room 1, text and tables (docs/dev/ARCHITECTURE.md). The definitions begin in
+//! `specs/Trace.antt`.
 #![tactic(auto)]
 
 mod clash;

@@ -62,7 +62,7 @@ fn steps_of(
     while let Some(info) = infos.get(start) {
         let step = step(alloc, table, here, start, info, &text[start..])?;
         let end = start + step.length;
-        here = table.context_behind_infos(here, &infos[start..end]);
+        here = table.context_after_infos(here, &infos[start..end]);
         start = end;
         steps.push(step)?;
     }
@@ -84,8 +84,8 @@ fn step(
     ensures room { IfOk result (λ step. step.length ≤ length rest.now) }
 {
     let mut cells = Vec::new(alloc);
-    let run = table.is_in_run_of(info, here.classes, rest);
-    table.push_signs(here, run, info, &mut cells)?;
+    let run = table.is_in_caps_run_of(info, here.classes, rest);
+    table.push_indicators_of(here, run, info, &mut cells)?;
     let indicators = cells.len();
     let choice = table.choice_of(info, run, here.classes, rest);
     cells.extend_from_slice(choice.cells)?;

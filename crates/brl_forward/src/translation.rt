@@ -44,12 +44,12 @@ fn cells_of(
     let mut start = 0;
     while let Some(info) = infos.get(start) {
         let rest = &text[start..];
-        let run = table.is_in_run_of(info, here.classes, rest);
-        table.push_signs(here, run, info, &mut cells)?;
+        let run = table.is_in_caps_run_of(info, here.classes, rest);
+        table.push_indicators_of(here, run, info, &mut cells)?;
         let choice = table.choice_of(info, run, here.classes, rest);
         cells.extend_from_slice(choice.cells)?;
         let end = start + choice.taken;
-        here = table.context_behind_infos(here, &infos[start..end]);
+        here = table.context_after_infos(here, &infos[start..end]);
         start = end;
     }
     Ok(cells)

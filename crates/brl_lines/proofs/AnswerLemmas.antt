@@ -6,7 +6,7 @@ use Rattle.std.specs.Str.{bytes_eq}
 use Rattle.brl_lines.proofs.FileLemmas.{kept}
 use Rattle.brl_lines.proofs.MemoryLemmas.{given-at, never_unread, read_failed_or_not}
 use Rattle.brl_lines.proofs.MoreLemmas.{lines_over-fewer, lines_over-more}
-use Rattle.brl_lines.specs.Answer.{Answer, GivesOneAnswer, MayGive, Unreadable}
+use Rattle.brl_lines.specs.Answer.{FileAnswer, IsDeterministic, FileAnswers, Unreadable}
 use Rattle.brl_lines.specs.Lines.{Answers, LocationView, Refusal, answer_at, lines_of, refusal, text_of}
 use Rattle.brl_lines.specs.Outcome.{AreGiven, AreLinesOf, IsLoadFault, IsRefusedAs}
 use Rattle.brl_lines.specs.Tokens.{LineView}
@@ -16,9 +16,9 @@ use Rattle.brl_failure.specs.declared.failure.Failure.{Failure}
 use Rattle.brl_failure.specs.declared.failure.Failure.TheVariants.{Fault, Memory}
 use Rattle.brl_lines.specs.declared.fault.LoadFaultKind.TheVariants as kinds
 
-module _ (gives : MayGive) (one : GivesOneAnswer gives) where
+module _ (gives : FileAnswers) (one : IsDeterministic gives) where
   -- answers before others of the same source change none of them
-  after_others : (answers others : Answers) (path : List ℕ) (answer : Answer) → AreGiven gives answers → gives path answer → answer_at others path ≡ Some answer
+  after_others : (answers others : Answers) (path : List ℕ) (answer : FileAnswer) → AreGiven gives answers → gives path answer → answer_at others path ≡ Some answer
       → answer_at (answers ++ others) path ≡ Some answer
   after_others [] others path answer given known h = h
   after_others (entry ∷ answers) others path answer given known h = by_test (bytes_eq path entry.0) refl (after_others answers others path answer given.1 known h)
@@ -38,7 +38,7 @@ module _ (gives : MayGive) (one : GivesOneAnswer gives) where
     together : (others : Answers) → lines_of (h.0 ++ others) root ≡ Ok lines
     together others = lines_over-more (answer_at h.0) (answer_at (h.0 ++ others)) (kept h.0 others) root (λ path place e. let no = sym h.2 ∙ e in cc) ∙ h.2
 
-    known : (others : Answers) → AreGiven gives others → (path : List ℕ) (answer : Answer) → answer_at others path ≡ Some answer → answer_at (h.0 ++ others) path ≡ Some answer
+    known : (others : Answers) → AreGiven gives others → (path : List ℕ) (answer : FileAnswer) → answer_at others path ≡ Some answer → answer_at (h.0 ++ others) path ≡ Some answer
     known others given path answer e = after_others h.0 others path answer h.1 (given-at gives others path answer given e) e
 
     pub one_list : (right : List LineView) → AreLinesOf gives root right → lines ≡ right
@@ -60,7 +60,7 @@ module _ (gives : MayGive) (one : GivesOneAnswer gives) where
         let text = lines_over-fewer (answer_at k.0) (answer_at (h.0 ++ k.0)) (known k.0 k.1) root lines (together k.0) path place k.2 in
         by_answer (answer_at (h.0 ++ k.0) path) refl text.1
       where
-        by_answer : {text : List ℕ} (a : Option Answer) → answer_at (h.0 ++ k.0) path ≡ a → text_of path place a ≡ Ok text → ⊥
+        by_answer : {text : List ℕ} (a : Option FileAnswer) → answer_at (h.0 ++ k.0) path ≡ a → text_of path place a ≡ Ok text → ⊥
         by_answer None e t = cc
         by_answer (Some a) e t =
             let is : a ≡ Unreadable = one path a Unreadable (given-at gives (h.0 ++ k.0) path a (all_given h.0 k.0 h.1 k.1) e) failed in

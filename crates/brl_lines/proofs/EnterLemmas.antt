@@ -4,7 +4,7 @@ use Rattle.std.specs.List.{list_any}
 use Rattle.std.specs.Str.{bytes_eq}
 use Rattle.brl_failure.specs.Failure.{◌>>=◌, IfFault}
 use Rattle.brl_failure.specs.declared.failure.Failure.{Failure}
-use Rattle.brl_lines.specs.Answer.{Answer, MayGive}
+use Rattle.brl_lines.specs.Answer.{FileAnswer, FileAnswers}
 use Rattle.brl_lines.specs.Files.{Files, answers_of}
 use Rattle.brl_lines.specs.Includes.{included}
 use Rattle.brl_lines.specs.Lines.{LocationView, Refusal, answer_at, expanded, follow, most_includes, refusal, text_of}
@@ -17,7 +17,7 @@ use Rattle.brl_lines.specs.declared.fault.LoadFaultKind.{LoadFaultKind}
 use Rattle.brl_lines.specs.declared.fault.LoadFaultKind.TheVariants as kinds
 use Rattle.brl_lines.proofs.ExpandLemmas.{cycle, deep, fails-for, fails-more, inside, many}
 
-module _ (gives : MayGive) (files : Files) (root : List ℕ) (chain : List (List ℕ)) (name : List ℕ) (n depth : ℕ) (file : List ℕ) (line : ℕ) (path same : List ℕ) (path_is : path ≡ included root name) (same_is : same ≡ file) where
+module _ (gives : FileAnswers) (files : Files) (root : List ℕ) (chain : List (List ℕ)) (name : List ℕ) (n depth : ℕ) (file : List ℕ) (line : ℕ) (path same : List ℕ) (path_is : path ≡ included root name) (same_is : same ≡ file) where
   abbrev place : LocationView
   place = record { file = file; line = line }
 
@@ -29,7 +29,7 @@ module _ (gives : MayGive) (files : Files) (root : List ℕ) (chain : List (List
 
   module _ (given : AreGiven gives (answers_of files)) (failure : Failure LoadFault) where
     refuses : (kind : LoadFaultKind) → (kind ≡ kinds.ReadFailed → ⊥)
-        → ((answer : List ℕ → Option Answer) → follow depth answer root chain place name n ≡ Err (refusal kind (included root name) (Some place)))
+        → ((answer : List ℕ → Option FileAnswer) → follow depth answer root chain place name n ≡ Err (refusal kind (included root name) (Some place)))
         → IfFault (λ fault. refusal kind path (Some known) ≡ load_fault_view fault) failure → Fails gives files (λ answer. follow depth answer root chain place name n) failure
     refuses kind other h k =
         fails-for gives files (λ answer. follow depth answer root chain place name n) (refusal kind path (Some known)) failure given
@@ -50,7 +50,7 @@ module _ (gives : MayGive) (files : Files) (root : List ℕ) (chain : List (List
         (λ answer. ap (λ d. follow d answer root chain place name n) none ∙ deep root chain place name n answer h (subst (λ (p : List ℕ). list_any (bytes_eq p) chain ≡ false) path_is y))
 
   module _ (h : n < most_includes) (y : list_any (bytes_eq path) chain ≡ false) (some : 0 < depth) where
-    follow-inside : (answer : List ℕ → Option Answer)
+    follow-inside : (answer : List ℕ → Option FileAnswer)
         → follow depth answer root chain place name n ≡ (text_of path (Some known) (answer path) >>= λ text. expanded (follow (depth - 1) answer root (path ∷ chain)) (lines_in path text) (n + 1))
     follow-inside answer =
         let more : depth ≡ suc (depth - 1) = omega arith in
@@ -66,7 +66,7 @@ module _ (gives : MayGive) (files : Files) (root : List ℕ) (chain : List (List
         (λ answer e extends no. follow-inside answer ∙ ap (λ (r : Result (List ℕ) Refusal). r >>= λ text. expanded (follow (depth - 1) answer root (path ∷ chain)) (lines_in path text) (n + 1)) no)
 
     -- its file has a text
-    pub file-entered : (answer : List ℕ → Option Answer) (text own : List ℕ) (paths : List (List ℕ)) → text_of path (Some known) (answer path) ≡ Ok text → own ≡ path → paths ≡ chain
+    pub file-entered : (answer : List ℕ → Option FileAnswer) (text own : List ℕ) (paths : List (List ℕ)) → text_of path (Some known) (answer path) ≡ Ok text → own ≡ path → paths ≡ chain
         → follow depth answer root chain place name n ≡ expanded (follow (depth - 1) answer root (own ∷ paths)) (lines_in own text) (n + 1)
     file-entered answer text own paths good own_is paths_are =
         follow-inside answer

@@ -6,7 +6,7 @@ use Rattle.std.specs.Str.{bytes_eq}
 use Rattle.brl_failure.specs.Failure.{◌>>=◌, IfFault}
 use Rattle.brl_failure.specs.declared.failure.Failure.{Failure}
 use Rattle.brl_failure.specs.declared.failure.Failure.TheVariants.{Fault, Memory}
-use Rattle.brl_lines.specs.Answer.{Answer, MayGive}
+use Rattle.brl_lines.specs.Answer.{FileAnswer, FileAnswers}
 use Rattle.brl_lines.specs.Files.{Files, answers_of}
 use Rattle.brl_lines.specs.Includes.{included, name_of}
 use Rattle.brl_lines.specs.Lines.{Expanded, Follow, LocationView, Refusal, answer_at, expanded, expanded_as, follow, location_of, most_includes, refusal, text_of}
@@ -103,7 +103,7 @@ rows-end follow before left n whole none so_far =
 -- ---- faults
 
 -- the definition has this fault, whatever more is known
-pub fails-for : {U : Type 0} (gives : MayGive) (files : Files) (want : (List ℕ → Option Answer) → Result U Refusal) (e : Refusal) (failure : Failure LoadFault)
+pub fails-for : {U : Type 0} (gives : FileAnswers) (files : Files) (want : (List ℕ → Option FileAnswer) → Result U Refusal) (e : Refusal) (failure : Failure LoadFault)
     → AreGiven gives (answers_of files) → want (answer_at (answers_of files)) ≡ Err e → (e.kind ≡ kinds.ReadFailed → ⊥) → IfFault (λ fault. e ≡ load_fault_view fault) failure → Fails gives files want failure
 fails-for gives files want e Memory given h other k = tt
 fails-for gives files want e (Fault fault) given h other k = record {
@@ -115,8 +115,8 @@ fails-for gives files want e (Fault fault) given h other k = record {
 }
 
 -- a fault of a step is one of the whole
-pub fails-more : {U V : Type 0} (gives : MayGive) (files : Files) (step : (List ℕ → Option Answer) → Result U Refusal) (whole : (List ℕ → Option Answer) → Result V Refusal) (failure : Failure LoadFault)
-    → ((answer : List ℕ → Option Answer) (e : Refusal) → Extends files answer → step answer ≡ Err e → whole answer ≡ Err e) → Fails gives files step failure → Fails gives files whole failure
+pub fails-more : {U V : Type 0} (gives : FileAnswers) (files : Files) (step : (List ℕ → Option FileAnswer) → Result U Refusal) (whole : (List ℕ → Option FileAnswer) → Result V Refusal) (failure : Failure LoadFault)
+    → ((answer : List ℕ → Option FileAnswer) (e : Refusal) → Extends files answer → step answer ≡ Err e → whole answer ≡ Err e) → Fails gives files step failure → Fails gives files whole failure
 fails-more gives files step whole Memory more h = tt
 fails-more gives files step whole (Fault fault) more h = record {
   answers = h.answers;
@@ -127,8 +127,8 @@ fails-more gives files step whole (Fault fault) more h = record {
 }
 
 -- a fault of a later step is one of a load that began with fewer files
-pub fails-later : {U : Type 0} (gives now : MayGive) → ((path : List ℕ) (a : Answer) → now path a → gives path a) → (old new : Files) → Grows gives old new
-    → (want : (List ℕ → Option Answer) → Result U Refusal) (failure : Failure LoadFault) → Fails now new want failure → Fails gives old want failure
+pub fails-later : {U : Type 0} (gives now : FileAnswers) → ((path : List ℕ) (a : FileAnswer) → now path a → gives path a) → (old new : Files) → Grows gives old new
+    → (want : (List ℕ → Option FileAnswer) → Result U Refusal) (failure : Failure LoadFault) → Fails now new want failure → Fails gives old want failure
 fails-later gives now stays old new grows want Memory h = tt
 fails-later gives now stays old new grows want (Fault fault) h = record {
   answers = h.answers;
@@ -150,21 +150,21 @@ module _ (root : List ℕ) (chain : List (List ℕ)) (place : LocationView) (nam
   abbrev path : List ℕ
   path = included root name
 
-  pub many : (depth : ℕ) (answer : List ℕ → Option Answer) → most_includes ≤ n → follow depth answer root chain place name n ≡ Err (refusal kinds.TooManyIncludes path (Some place))
+  pub many : (depth : ℕ) (answer : List ℕ → Option FileAnswer) → most_includes ≤ n → follow depth answer root chain place name n ≡ Err (refusal kinds.TooManyIncludes path (Some place))
   unfolding follow
   many zero answer h = rw (no_room n most_includes h) refl
   many (suc depth) answer h = rw (no_room n most_includes h) refl
 
-  pub cycle : (depth : ℕ) (answer : List ℕ → Option Answer) → n < most_includes → list_any (bytes_eq path) chain ≡ true → follow depth answer root chain place name n ≡ Err (refusal kinds.Cycle path (Some place))
+  pub cycle : (depth : ℕ) (answer : List ℕ → Option FileAnswer) → n < most_includes → list_any (bytes_eq path) chain ≡ true → follow depth answer root chain place name n ≡ Err (refusal kinds.Cycle path (Some place))
   unfolding follow
   cycle zero answer h k = rw (room n most_includes h, k) refl
   cycle (suc depth) answer h k = rw (room n most_includes h, k) refl
 
-  pub deep : (answer : List ℕ → Option Answer) → n < most_includes → list_any (bytes_eq path) chain ≡ false → follow 0 answer root chain place name n ≡ Err (refusal kinds.TooDeep path (Some place))
+  pub deep : (answer : List ℕ → Option FileAnswer) → n < most_includes → list_any (bytes_eq path) chain ≡ false → follow 0 answer root chain place name n ≡ Err (refusal kinds.TooDeep path (Some place))
   unfolding follow
   deep answer h k = rw (room n most_includes h, k) refl
 
-  pub inside : (depth : ℕ) (answer : List ℕ → Option Answer) → n < most_includes → list_any (bytes_eq path) chain ≡ false
+  pub inside : (depth : ℕ) (answer : List ℕ → Option FileAnswer) → n < most_includes → list_any (bytes_eq path) chain ≡ false
       → follow (suc depth) answer root chain place name n ≡ (text_of path (Some place) (answer path) >>= λ text. expanded (follow depth answer root (path ∷ chain)) (lines_in path text) (n + 1))
   unfolding follow
   inside depth answer h k = rw (room n most_includes h, k) refl

@@ -8,7 +8,7 @@ use Rattle.std.specs.Map.{lookup, lookup_key, values_of}
 use Rattle.std.specs.Option.{option_map_or}
 use Rattle.std.specs.Prelude.{String, slice_get, string_bytes}
 use Rattle.std.specs.Str.{IsCharBoundary, bytes_eq}
-use Rattle.brl_lines.specs.Answer.{Answer, Holds, MayGive, most_file_bytes}
+use Rattle.brl_lines.specs.Answer.{FileAnswer, Holds, FileAnswers, most_file_bytes}
 use Rattle.brl_lines.specs.Files.{Files, answer_of_file, answers_of, lines_at, path_at, paths_of, span_lines, text_at}
 use Rattle.brl_lines.specs.Lines.{Answers, LocationView, answer_at, text_of}
 use Rattle.brl_lines.specs.Outcome.{AreGiven}
@@ -37,7 +37,7 @@ paths-of-answers [] = refl
 paths-of-answers (file ∷ files) = ap (λ (paths : List (List ℕ)). string_bytes file.0 ∷ paths) (paths-of-answers files)
 
 -- answers at the end change none of those before
-pub kept : (answers others : Answers) (path : List ℕ) (a : Answer) → answer_at answers path ≡ Some a → answer_at (answers ++ others) path ≡ Some a
+pub kept : (answers others : Answers) (path : List ℕ) (a : FileAnswer) → answer_at answers path ≡ Some a → answer_at (answers ++ others) path ≡ Some a
 kept [] others path a h = absurd cc
 kept (entry ∷ answers) others path a h = by_test (bytes_eq path entry.0) h (kept answers others path a)
   where
@@ -47,7 +47,7 @@ kept (entry ∷ answers) others path a h = by_test (bytes_eq path entry.0) h (ke
     by_test false k more = more k
 
 -- an answer at the end, for a path that had none
-pub last : (answers : Answers) (path : List ℕ) (a : Answer) → answer_at answers path ≡ None → answer_at (answers ++ (path, a) ∷ []) path ≡ Some a
+pub last : (answers : Answers) (path : List ℕ) (a : FileAnswer) → answer_at answers path ≡ None → answer_at (answers ++ (path, a) ∷ []) path ≡ Some a
 last [] path a h = let same : bytes_eq path path ≡ true = (bytes_eq-Decides path path).1 refl in rw same refl
 last (entry ∷ answers) path a h = by_test (bytes_eq path entry.0) h (last answers path a)
   where
@@ -56,12 +56,12 @@ last (entry ∷ answers) path a h = by_test (bytes_eq path entry.0) h (last answ
     by_test true k more = cc
     by_test false k more = more k
 
-pub given-more : (gives : MayGive) (answers : Answers) (path : List ℕ) (a : Answer) → AreGiven gives answers → gives path a → AreGiven gives (answers ++ (path, a) ∷ [])
+pub given-more : (gives : FileAnswers) (answers : Answers) (path : List ℕ) (a : FileAnswer) → AreGiven gives answers → gives path a → AreGiven gives (answers ++ (path, a) ∷ [])
 given-more gives [] path a h k = (k, tt)
 given-more gives (entry ∷ answers) path a h k = (h.0, given-more gives answers path a h.1 k)
 
 -- what one source gave, another may give
-pub given-stays : (g h : MayGive) → ((path : List ℕ) (a : Answer) → g path a → h path a) → (answers : Answers) → AreGiven g answers → AreGiven h answers
+pub given-stays : (g h : FileAnswers) → ((path : List ℕ) (a : FileAnswer) → g path a → h path a) → (answers : Answers) → AreGiven g answers → AreGiven h answers
 given-stays g h stays [] k = tt
 given-stays g h stays (entry ∷ answers) k = (stays entry.0 entry.1 k.0, given-stays g h stays answers k.1)
 
@@ -86,7 +86,7 @@ get-last (y ∷ xs) x = get-last xs x
 
 -- ---- files that were added
 
-module _ (gives : MayGive) (old new : Files) (grows : Grows gives old new) where
+module _ (gives : FileAnswers) (old new : Files) (grows : Grows gives old new) where
   pub longer : (i : ℕ) → i < length old → i < length new
   longer i h =
       let whole : length new ≡ length old + length grows.more = ap length grows.kept ∙ length-append old grows.more in
@@ -98,7 +98,7 @@ module _ (gives : MayGive) (old new : Files) (grows : Grows gives old new) where
   pub text_at-grows : (i : ℕ) → i < length old → text_at new i ≡ text_at old i
   text_at-grows i h = ap (λ (files : Files). text_at files i) grows.kept ∙ text_at-kept old grows.more i h
 
-  pub extends-older : (answer : List ℕ → Option Answer) → Extends new answer → Extends old answer
+  pub extends-older : (answer : List ℕ → Option FileAnswer) → Extends new answer → Extends old answer
   extends-older answer h path a e =
       h path a (ap (λ (files : Files). answer_at (answers_of files) path) grows.kept ∙ ap (λ (answers : Answers). answer_at answers path) (map-append answer_of_file old grows.more)
       ∙ kept (answers_of old) (answers_of grows.more) path a e)
@@ -133,11 +133,11 @@ module _ (gives : MayGive) (old new : Files) (grows : Grows gives old new) where
       ap (λ (lines : List LineView). lines ++ lines_at new spans) (span_lines-grows span h.0) ∙ ap (λ (lines : List LineView). span_lines old span ++ lines) (lines_at-grows spans h.1)
 
 -- no files are added
-pub grows-none : (gives : MayGive) (files : Files) → AreGiven gives (answers_of files) → Grows gives files files
+pub grows-none : (gives : FileAnswers) (files : Files) → AreGiven gives (answers_of files) → Grows gives files files
 grows-none gives files given = record { more = []; kept = sym (append-nil files); given = given }
 
 -- files are added twice
-pub grows-twice : (gives now : MayGive) → ((path : List ℕ) (a : Answer) → now path a → gives path a) → (old mid new : Files) → Grows gives old mid → Grows now mid new → Grows gives old new
+pub grows-twice : (gives now : FileAnswers) → ((path : List ℕ) (a : FileAnswer) → now path a → gives path a) → (old mid new : Files) → Grows gives old mid → Grows now mid new → Grows gives old new
 grows-twice gives now stays old mid new h k = record {
   more = h.more ++ k.more;
   kept = k.kept ∙ ap (λ files. files ++ k.more) h.kept ∙ append_assoc old h.more k.more;
@@ -166,7 +166,7 @@ key_passes test (entry ∷ es) k e = by_test (test entry.0) refl e (key_passes t
 
 -- a text that the source gave is good
 module _ (files : Files) (path : List ℕ) (index : ℕ) (name : String Global) (file : CheckedFile) (at : slice_get files index ≡ Some (name, file)) (known : answer_at (answers_of files) path ≡ Some (Holds (string_bytes file.whole))) where
-  pub text-known : (answer : List ℕ → Option Answer) → Extends files answer → (place : Option LocationView) → text_of path place (answer path) ≡ Ok (text_at files index)
+  pub text-known : (answer : List ℕ → Option FileAnswer) → Extends files answer → (place : Option LocationView) → text_of path place (answer path) ≡ Ok (text_at files index)
   text-known answer h place =
       ap (text_of path place) (h path (Holds (string_bytes file.whole)) known)
       ∙ file.good path place
@@ -176,7 +176,7 @@ module _ (files : Files) (path : List ℕ) (index : ℕ) (name : String Global) 
   path-known e = ap (λ (f : Option (String Global × CheckedFile)). option_map_or (λ (g : String Global × CheckedFile). string_bytes g.0) f []) at ∙ e
 
 -- a file that was read before
-pub found-file : (gives : MayGive) (files : Files) (path : List ℕ) (index : ℕ) (name : String Global) (file : CheckedFile) → AreGiven gives (answers_of files)
+pub found-file : (gives : FileAnswers) (files : Files) (path : List ℕ) (index : ℕ) (name : String Global) (file : CheckedFile) → AreGiven gives (answers_of files)
     → slice_get files index ≡ Some (name, file) → lookup_key (λ k. bytes_eq path (string_bytes k)) files ≡ Some name → lookup (λ k. bytes_eq path (string_bytes k)) files ≡ Some file
     → Finds gives files files path index
 found-file gives files path index name file given at key value =
@@ -190,7 +190,7 @@ found-file gives files path index name file given at key value =
     }
 
 -- a file that is read now
-pub read-file : (gives : MayGive) (files new : Files) (path : List ℕ) (name : String Global) (file : CheckedFile) → AreGiven gives (answers_of files)
+pub read-file : (gives : FileAnswers) (files new : Files) (path : List ℕ) (name : String Global) (file : CheckedFile) → AreGiven gives (answers_of files)
     → answer_at (answers_of files) path ≡ None → string_bytes name ≡ path → gives path (Holds (string_bytes file.whole)) → new ≡ files ++ (name, file) ∷ []
     → Finds gives files new path (length files)
 read-file gives files new path name file given none path_is gave e =
@@ -214,7 +214,7 @@ pub not-read : (files : Files) (path : List ℕ) → None ≡ lookup (λ k. byte
 not-read files path e = answer_at-lookup files path ∙ ap (option_map (λ (f : CheckedFile). Holds (string_bytes f.whole))) (sym e)
 
 -- a file that is read now, and refused
-pub read-refused : (gives : MayGive) (files : Files) (path : List ℕ) (place : Option LocationView) → AreGiven gives (answers_of files) → answer_at (answers_of files) path ≡ None
+pub read-refused : (gives : FileAnswers) (files : Files) (path : List ℕ) (place : Option LocationView) → AreGiven gives (answers_of files) → answer_at (answers_of files) path ≡ None
     → (failure : Failure LoadFault) → Reads gives path place (Err failure) → Fails gives files (λ answer. text_of path place (answer path)) failure
 read-refused gives files path place given none Memory h = tt
 read-refused gives files path place given none (Fault fault) h = record {

@@ -3,7 +3,7 @@ use Rattle.std.proofs.Common.{◌≡◌, ℕ, List, [], ◌∷◌, ap, sym, ◌�
 use Rattle.brl_failure.specs.Failure.{◌>>=◌}
 use Rattle.brl_failure.specs.declared.failure.Failure.{Failure}
 use Rattle.brl_failure.specs.declared.failure.Failure.TheVariants.{Fault, Memory}
-use Rattle.brl_lines.specs.Answer.{Answer, MayGive}
+use Rattle.brl_lines.specs.Answer.{FileAnswer, FileAnswers}
 use Rattle.brl_lines.specs.Files.{Files}
 use Rattle.brl_lines.specs.Lines.{Refusal, expanded, follow, lines_over, text_of}
 use Rattle.brl_lines.specs.Outcome.{IsLoadFault}
@@ -11,7 +11,7 @@ use Rattle.brl_lines.specs.Steps.{Fails}
 use Rattle.brl_lines.specs.Tokens.{lines_in}
 use Rattle.brl_lines.specs.declared.fault.LoadFault.{LoadFault}
 
-module _ (answer : List ℕ → Option Answer) (root : List ℕ) where
+module _ (answer : List ℕ → Option FileAnswer) (root : List ℕ) where
   -- the root is refused
   pub root-refused : (e : Refusal) → text_of root None (answer root) ≡ Err e → lines_over answer root ≡ Err e
   unfolding lines_over
@@ -28,6 +28,6 @@ module _ (answer : List ℕ → Option Answer) (root : List ℕ) where
       ∙ ap (λ (ps : List (List ℕ)). expanded (follow 15 answer root (own ∷ ps)) (lines_in own text) 0 >>= λ found. Ok found.lines) (sym none)
 
 -- why nothing is loaded
-pub load-fault : (gives : MayGive) (files : Files) (root : List ℕ) (failure : Failure LoadFault) → Fails gives files (λ answer. lines_over answer root) failure → IsLoadFault gives root failure
+pub load-fault : (gives : FileAnswers) (files : Files) (root : List ℕ) (failure : Failure LoadFault) → Fails gives files (λ answer. lines_over answer root) failure → IsLoadFault gives root failure
 load-fault gives files root Memory h = tt
 load-fault gives files root (Fault fault) h = ((h.answers, h.given, h.fails), h.unreadable)

@@ -5,7 +5,7 @@ use Rattle.std.specs.Global.{Vec}
 use Rattle.std.specs.Prelude.{string_bytes}
 use Rattle.std.specs.Str.{IsCharBoundary}
 use Rattle.brl_failure.specs.declared.failure.Failure.{Failure}
-use Rattle.brl_lines.specs.Answer.{Answer, MayGive}
+use Rattle.brl_lines.specs.Answer.{FileAnswer, FileAnswers}
 use Rattle.brl_lines.specs.Files.{Files, chain_of, lines_at, span_lines, text_at}
 use Rattle.brl_lines.specs.Lines.{Expanded, Follow, LocationView, Refusal, expanded, follow, location_of}
 use Rattle.brl_lines.specs.Rows.{piece}
@@ -38,7 +38,7 @@ place-is line file number same f n s = ap (λ (x : List ℕ). the_place x line.l
     the_place : List ℕ → ℕ → LocationView
     the_place x k = record { file = x; line = k }
 
-module _ (gives : MayGive) (root : List ℕ) (file : OpenFile) (old : Expansion) where
+module _ (gives : FileAnswers) (root : List ℕ) (file : OpenFile) (old : Expansion) where
   abbrev text : List ℕ
   text = text_at old.files.entries file.index
 
@@ -46,10 +46,10 @@ module _ (gives : MayGive) (root : List ℕ) (file : OpenFile) (old : Expansion)
   abbrev left : ℕ → ℕ → List LineView
   left number at = lines_from (string_bytes file.path) number (piece text at (length text))
 
-  abbrev follows : (List ℕ → Option Answer) → Follow
+  abbrev follows : (List ℕ → Option FileAnswer) → Follow
   follows answer = follow file.depth_left answer root (chain_of file)
 
-  abbrev whole : (List ℕ → Option Answer) → Result Expanded Refusal
+  abbrev whole : (List ℕ → Option FileAnswer) → Result Expanded Refusal
   whole answer = after (lines_at old.files.entries old.spans.items) (lines_of_file root file old answer)
 
   -- the rows up to a place were added
@@ -59,7 +59,7 @@ module _ (gives : MayGive) (root : List ℕ) (file : OpenFile) (old : Expansion)
     pub few : number ≤ at + 1
     pub grows : Grows gives old.files.entries now.files.entries
     pub spans : AreSpans now.files.entries now.spans.items
-    pub so_far : (answer : List ℕ → Option Answer) → Extends now.files.entries answer
+    pub so_far : (answer : List ℕ → Option FileAnswer) → Extends now.files.entries answer
         → after (lines_at now.files.entries now.spans.items) (expanded (follows answer) (left number at) now.include_count) ≡ whole answer
 
   module _ (ready : IsReady gives old file) where
@@ -158,11 +158,11 @@ module _ (gives : MayGive) (root : List ℕ) (file : OpenFile) (old : Expansion)
             }
 
         -- it includes a file
-        module _ (include : IncludeLine) (e : row.kind ≡ Include include) (then : MayGive) (stays : (path : List ℕ) (a : Answer) → then path a → gives path a) where
+        module _ (include : IncludeLine) (e : row.kind ≡ Include include) (then : FileAnswers) (stays : (path : List ℕ) (a : FileAnswer) → then path a → gives path a) where
           abbrev place : LocationView
           place = record { file = string_bytes file.path; line = include.line }
 
-          refused : (answer : List ℕ → Option Answer) (d : Refusal) → Extends now.files.entries answer → lines_of_include root file include now answer ≡ Err d → lines_of_file root file old answer ≡ Err d
+          refused : (answer : List ℕ → Option FileAnswer) (d : Refusal) → Extends now.files.entries answer → lines_of_include root file include now answer ≡ Err d → lines_of_file root file old answer ≡ Err d
           refused answer d extends h =
               let kind = kind_is (Include include) e in
               after-err (lines_at old.files.entries old.spans.items) (lines_of_file root file old answer) d
@@ -179,13 +179,13 @@ module _ (gives : MayGive) (root : List ℕ) (file : OpenFile) (old : Expansion)
             both : Grows gives old.files.entries entered.files.entries
             both = grows-twice gives then stays old.files.entries now.files.entries entered.files.entries added.grows enters.grows
 
-            older : (answer : List ℕ → Option Answer) → Extends entered.files.entries answer → Extends now.files.entries answer
+            older : (answer : List ℕ → Option FileAnswer) → Extends entered.files.entries answer → Extends now.files.entries answer
             older = extends-older then now.files.entries entered.files.entries enters.grows
 
             pub inner-spans : AreSpans entered.files.entries entered.spans.items
             inner-spans = subst (AreSpans entered.files.entries) (sym enters.spans) (spans-grow then now.files.entries entered.files.entries enters.grows now.spans.items added.spans)
 
-            module _ (last : MayGive) (remains : (path : List ℕ) (a : Answer) → last path a → gives path a) where
+            module _ (last : FileAnswers) (remains : (path : List ℕ) (a : FileAnswer) → last path a → gives path a) where
               -- or its lines are
               pub refused-inner : (failure : Failure LoadFault) → Fails last entered.files.entries (lines_of_file root inner entered) failure → Fails gives old.files.entries (lines_of_file root file old) failure
               refused-inner failure h =

@@ -4,7 +4,7 @@ use Rattle.std.proofs.lemmas.Slice.Eq.{bytes_eq-Decides}
 use Rattle.std.specs.Prelude.{string_bytes}
 use Rattle.std.specs.Str.{bytes_eq}
 use Rattle.brl_failure.specs.Failure.{GivesAs}
-use Rattle.brl_lines.specs.Answer.{Answer, Holds, Large, Unreadable, MayGive, answer_of, most_file_bytes}
+use Rattle.brl_lines.specs.Answer.{FileAnswer, Holds, Large, Unreadable, FileAnswers, answer_of, most_file_bytes}
 use Rattle.brl_lines.specs.Lines.{Answers, LocationView, Refusal, answer_at, lines_of, lines_over, refusal}
 use Rattle.brl_lines.specs.Outcome.{AreGiven, AreLinesOf, IsLoadFault, IsRefusedAs}
 use Rattle.brl_lines.specs.Views.{load_fault_view}
@@ -25,9 +25,9 @@ answer_of-readable (Some bytes) e = by_test (nat_le (length bytes) most_file_byt
     by_test true f = absurd cc
     by_test false f = absurd cc
 
-module _ (gives : List ℕ → Answer → Type 0) where
+module _ (gives : List ℕ → FileAnswer → Type 0) where
   -- an answer in the map was given
-  pub given-at : (answers : Answers) (path : List ℕ) (answer : Answer) → AreGiven gives answers → answer_at answers path ≡ Some answer → gives path answer
+  pub given-at : (answers : Answers) (path : List ℕ) (answer : FileAnswer) → AreGiven gives answers → answer_at answers path ≡ Some answer → gives path answer
   given-at [] path answer h e = absurd cc
   given-at (entry ∷ others) path answer h e = by_test (bytes_eq path entry.0) refl (given-at others path answer h.1) e
     where
@@ -58,14 +58,14 @@ never_unread lines want h other path place e = other (ap (λ r. r.kind) (same (s
     same e = cc
 
 -- A load of files that can all be read comes to what the definition gives for all of them.
-module _ (all : List ℕ → Answer) (readable : (path : List ℕ) → Unreadable ≡ all path → ⊥) (root : List ℕ) where
-  abbrev gives : MayGive
+module _ (all : List ℕ → FileAnswer) (readable : (path : List ℕ) → Unreadable ≡ all path → ⊥) (root : List ℕ) where
+  abbrev gives : FileAnswers
   gives path answer = answer ≡ all path
 
-  abbrev full : List ℕ → Option Answer
+  abbrev full : List ℕ → Option FileAnswer
   full path = Some (all path)
 
-  known : (answers : Answers) → AreGiven gives answers → (path : List ℕ) (answer : Answer) → answer_at answers path ≡ Some answer → full path ≡ Some answer
+  known : (answers : Answers) → AreGiven gives answers → (path : List ℕ) (answer : FileAnswer) → answer_at answers path ≡ Some answer → full path ≡ Some answer
   known answers given path answer e = ap Some (sym (given-at gives answers path answer given e))
 
   other_kind : (want : Refusal) → (want.kind ≡ kinds.ReadFailed → ⊥) → IsRefusedAs gives root want → lines_over full root ≡ Err want

@@ -2,7 +2,7 @@
 -- fewer. Where that file is refused, its refusal takes the place of the question.
 use Rattle.std.proofs.Common.{◌≡◌, ℕ, zero, suc, ◌+◌, ◌⊎◌, inl, inr, List, [], ◌∷◌, ◌++◌, refl, ap, sym, ◌∙◌, subst, Option, Some, None, Result, Ok, Err}
 use Rattle.brl_failure.specs.Failure.{◌>>=◌}
-use Rattle.brl_lines.specs.Answer.{Answer}
+use Rattle.brl_lines.specs.Answer.{FileAnswer}
 use Rattle.brl_lines.specs.Includes.{included, name_of}
 use Rattle.brl_lines.specs.Lines.{Follow, LocationView, Refusal, allowed, expanded, expanded_as, follow, lines_over, location_of, refusal, replaced, text_of}
 use Rattle.brl_lines.specs.Tokens.{LineView, lines_in}
@@ -12,7 +12,7 @@ use Rattle.brl_lines.specs.declared.fault.LoadFaultKind.TheVariants as kinds
 same_refusal : {A : Type 0} {r s : Refusal} → ◌≡◌ {A = Result A Refusal} (Err r) (Err s) → r ≡ s
 same_refusal e = cc
 
-module _ (f g : List ℕ → Option Answer) (extends : (path : List ℕ) (answer : Answer) → f path ≡ Some answer → g path ≡ Some answer) where
+module _ (f g : List ℕ → Option FileAnswer) (extends : (path : List ℕ) (answer : FileAnswer) → f path ≡ Some answer → g path ≡ Some answer) where
   -- a file was asked for that has no answer in f; where g has it and it is refused, so is the whole
   pub record Asks {X : Type 0} (r s : Result X Refusal) : Type 0 where
     pub path : List ℕ
@@ -43,7 +43,7 @@ module _ (f g : List ℕ → Option Answer) (extends : (path : List ℕ) (answer
   stays-text : (path : List ℕ) (place : Option LocationView) → StaysOrAsks (text_of path place (f path)) (text_of path place (g path))
   stays-text path place = by_answer (f path) refl
     where
-      by_answer : (a : Option Answer) → f path ≡ a → StaysOrAsks (text_of path place a) (text_of path place (g path))
+      by_answer : (a : Option FileAnswer) → f path ≡ a → StaysOrAsks (text_of path place a) (text_of path place (g path))
       by_answer None unknown = inr (record { path = path; place = place; asked = refl; refused = λ e no. no })
       by_answer (Some a) known = inl (ap (text_of path place) (extends path a known))
 

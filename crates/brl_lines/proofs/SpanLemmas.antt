@@ -2,7 +2,7 @@
 use Rattle.std.proofs.Common.{◌≡◌, ℕ, zero, suc, ◌<◌, List, [], ◌∷◌, ◌++◌, length, refl, sym, subst, All, arith}
 use Rattle.std.specs.List.{AllByRecursion}
 use Rattle.std.specs.Prelude.{string_bytes}
-use Rattle.brl_lines.specs.Answer.{Holds, MayGive}
+use Rattle.brl_lines.specs.Answer.{Holds, FileAnswers}
 use Rattle.brl_lines.specs.Files.{Files, answers_of, lines_at, path_at, span_lines, text_at}
 use Rattle.brl_lines.specs.Outcome.{AreGiven, IsLineOfFile}
 use Rattle.brl_lines.specs.Rows.{without_mark}
@@ -30,13 +30,13 @@ pub lines_at-in_order : (files : Files) (spans : List LineSpan) → All IsInOrde
 lines_at-in_order files spans = all_of IsInOrder (lines_at files spans) (in_order files spans)
 
 -- the source gave each file
-pub gave-file : (gives : MayGive) (files : Files) (index : ℕ) → AreGiven gives (answers_of files) → index < length files
+pub gave-file : (gives : FileAnswers) (files : Files) (index : ℕ) → AreGiven gives (answers_of files) → index < length files
     → (bytes : List ℕ) × gives (path_at files index) (Holds bytes) × (without_mark bytes ≡ text_at files index)
 gave-file gives [] index given less = absurd (omega arith)
 gave-file gives (file ∷ files) zero given less = (string_bytes file.1.whole, given.0, refl)
 gave-file gives (file ∷ files) (suc index) given less = gave-file gives files index given.1 (omega arith)
 
-module _ (gives : MayGive) (files : Files) (given : AreGiven gives (answers_of files)) where
+module _ (gives : FileAnswers) (files : Files) (given : AreGiven gives (answers_of files)) where
   of_file : (span : LineSpan) → IsSpan files span → (line : LineView) → IsGood (text_at files span.file) (path_at files span.file) line → IsLineOfFile gives line
   of_file span h line good =
       let gave = gave-file gives files span.file given h.file in

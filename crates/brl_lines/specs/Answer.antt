@@ -9,41 +9,41 @@ use Rattle.brl_lines.specs.declared.source.SourceFault.{SourceFault}
 use Rattle.brl_lines.specs.declared.source.SourceFault.TheVariants as faults
 
 -- a file has these bytes, or there is none, or it has too many bytes, or it can't be read
-pub data Answer : Type 0 where
-  Holds : List ℕ → Answer
-  Missing : Answer
-  Large : Answer
-  Unreadable : Answer
+pub data FileAnswer : Type 0 where
+  Holds : List ℕ → FileAnswer
+  Missing : FileAnswer
+  Large : FileAnswer
+  Unreadable : FileAnswer
 
 -- what a source may answer for each path
-abbrev pub MayGive : Type 1
-MayGive = List ℕ → Answer → Type 0
+abbrev pub FileAnswers : Type 1
+FileAnswers = List ℕ → FileAnswer → Type 0
 
 -- it may answer the same as before
-abbrev pub AllStay : MayGive → MayGive → Type 0
-AllStay old new = (path : List ℕ) (answer : Answer) → new path answer ↔ old path answer
+abbrev pub Unchanged : FileAnswers → FileAnswers → Type 0
+Unchanged old new = (path : List ℕ) (answer : FileAnswer) → new path answer ↔ old path answer
 
 -- it has one answer at most for each path
-abbrev pub GivesOneAnswer : MayGive → Type 0
-GivesOneAnswer gives = (path : List ℕ) (one other : Answer) → gives path one → gives path other → one ≡ other
+abbrev pub IsDeterministic : FileAnswers → Type 0
+IsDeterministic gives = (path : List ℕ) (one other : FileAnswer) → gives path one → gives path other → one ≡ other
 
 -- the most bytes that a file may have
 abbrev pub most_file_bytes : ℕ
 most_file_bytes = 16777216
 
 -- the answer for a path where these bytes lie, or no file
-abbrev pub answer_of : Option (List ℕ) → Answer
+abbrev pub answer_of : Option (List ℕ) → FileAnswer
 answer_of None = Missing
 answer_of (Some bytes) = if nat_le (length bytes) most_file_bytes then Holds bytes else Large
 
 -- the answer that a fault is
-abbrev pub answer_of_fault : SourceFault → Answer
+abbrev pub answer_of_fault : SourceFault → FileAnswer
 answer_of_fault faults.NotFound = Missing
 answer_of_fault faults.TooLarge = Large
 answer_of_fault faults.Failed = Unreadable
 
 -- what a read returned is an answer that may be given, unless memory ran out
-abbrev pub IsAnswer : (Answer → Type 0) → Result (Vec ℕ) (Failure SourceFault) → Type 0
+abbrev pub IsAnswer : (FileAnswer → Type 0) → Result (Vec ℕ) (Failure SourceFault) → Type 0
 IsAnswer gives (Ok bytes) = gives (Holds bytes.items)
 IsAnswer gives (Err failure) = IfFault (λ fault. gives (answer_of_fault fault)) failure
 

@@ -3,7 +3,7 @@ use Rattle.std.specs.Prelude.{ℕ, List, [], ◌∷◌, map, slice_get, String, 
 use Rattle.std.specs.Global.{Global}
 use Rattle.std.specs.List.{flat_map}
 use Rattle.std.specs.Option.{option_map_or}
-use Rattle.brl_lines.specs.Answer.{Answer, Holds}
+use Rattle.brl_lines.specs.Answer.{FileAnswer, Holds}
 use Rattle.brl_lines.specs.Lines.{Answers}
 use Rattle.brl_lines.specs.Loaded.{LoadedView}
 use Rattle.brl_lines.specs.Rows.{piece, without_mark}
@@ -17,7 +17,7 @@ abbrev pub Files : Type 0
 Files = List (String Global × CheckedFile)
 
 -- what the source answered for a file
-abbrev pub answer_of_file : String Global × CheckedFile → List ℕ × Answer
+abbrev pub answer_of_file : String Global × CheckedFile → List ℕ × FileAnswer
 answer_of_file file = (string_bytes file.0, Holds (string_bytes file.1.whole))
 
 -- what the source answered for the files

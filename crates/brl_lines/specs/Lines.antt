@@ -7,7 +7,7 @@ use Rattle.std.specs.Prelude.{◌≡◌, ℕ, zero, suc, ◌+◌, Bool, if◌the
 use Rattle.std.specs.List.{list_any, position_from}
 use Rattle.std.specs.Str.{bytes_eq, is_utf8}
 use Rattle.brl_failure.specs.Failure.{◌>>=◌}
-use Rattle.brl_lines.specs.Answer.{Answer, Holds, Missing, Large, Unreadable, most_file_bytes}
+use Rattle.brl_lines.specs.Answer.{FileAnswer, Holds, Missing, Large, Unreadable, most_file_bytes}
 use Rattle.brl_lines.specs.Includes.{included, name_of}
 use Rattle.brl_lines.specs.Rows.{rows_of, without_mark}
 use Rattle.brl_lines.specs.Tokens.{LineView, lines_in}
@@ -34,10 +34,10 @@ refusal kind path place = record { kind = kind; path = path; place = place }
 -- device of the contracts: such a file counts as one that can't be read, so more answers never
 -- change lines that are found.
 abbrev pub Answers : Type 0
-Answers = List (List ℕ × Answer)
+Answers = List (List ℕ × FileAnswer)
 
 -- the answer for a path, where the map has one
-abbrev pub answer_at : Answers → List ℕ → Option Answer
+abbrev pub answer_at : Answers → List ℕ → Option FileAnswer
 answer_at [] path = None
 answer_at (entry ∷ others) path = if bytes_eq path entry.0 then Some entry.1 else answer_at others path
 
@@ -71,7 +71,7 @@ abbrev pub IsGood : List ℕ → Type 0
 IsGood bytes = (path : List ℕ) (place : Option LocationView) → text_in path place bytes ≡ Ok (without_mark bytes)
 
 -- the text of a file that was asked for
-abbrev pub text_of : List ℕ → Option LocationView → Option Answer → Result (List ℕ) Refusal
+abbrev pub text_of : List ℕ → Option LocationView → Option FileAnswer → Result (List ℕ) Refusal
 text_of path place (Some (Holds bytes)) = text_in path place bytes
 text_of path place (Some Missing) = Err (refusal kinds.NotFound path place)
 text_of path place (Some Large) = Err (refusal kinds.TooLarge path place)
@@ -122,7 +122,7 @@ allowed path place chain includes =
     else Ok tt
 
 -- what an include line is replaced by, where its file and the files below it may be this many deep
-unfoldable pub follow : ℕ → (List ℕ → Option Answer) → List ℕ → List (List ℕ) → Follow
+unfoldable pub follow : ℕ → (List ℕ → Option FileAnswer) → List ℕ → List (List ℕ) → Follow
 follow zero answer root chain place name includes = do
   _ ← allowed (included root name) place chain includes
   Err (refusal kinds.TooDeep (included root name) (Some place))
@@ -132,7 +132,7 @@ follow (suc depth) answer root chain place name includes = do
   expanded (follow depth answer root (included root name ∷ chain)) (lines_in (included root name) text) (includes + 1)
 
 -- the lines over what is known of each path: the root is 1 deep, and a file may be 16 deep
-unfoldable pub lines_over : (List ℕ → Option Answer) → List ℕ → Result (List LineView) Refusal
+unfoldable pub lines_over : (List ℕ → Option FileAnswer) → List ℕ → Result (List LineView) Refusal
 lines_over answer root = do
   text ← text_of root None (answer root)
   found ← expanded (follow 15 answer root (root ∷ [])) (lines_in root text) 0

@@ -4,7 +4,7 @@ use Rattle.std.specs.List.{AllByRecursion}
 use Rattle.brl_failure.specs.Failure.{IfFault}
 use Rattle.brl_failure.specs.declared.failure.Failure.{Failure}
 use Rattle.brl_failure.specs.declared.failure.Failure.TheVariants.{Fault, Memory}
-use Rattle.brl_lines.specs.Answer.{Holds, MayGive, Unreadable, failures_after}
+use Rattle.brl_lines.specs.Answer.{Holds, FileAnswers, Unreadable, failures_after}
 use Rattle.brl_lines.specs.Lines.{Answers, Refusal, lines_of}
 use Rattle.brl_lines.specs.Rows.{without_mark}
 use Rattle.brl_lines.specs.Slices.{IsCutFrom}
@@ -15,28 +15,28 @@ use Rattle.brl_lines.specs.declared.fault.LoadFaultKind.{LoadFaultKind}
 use Rattle.brl_lines.specs.declared.fault.LoadFaultKind.TheVariants as kinds
 
 -- the source may give each of these answers
-abbrev pub AreGiven : MayGive → Answers → Type 0
+abbrev pub AreGiven : FileAnswers → Answers → Type 0
 AreGiven gives answers = AllByRecursion (λ entry. gives entry.0 entry.1) answers
 
 -- the lines of the table whose root is at a path, for answers of the source
-abbrev pub AreLinesOf : MayGive → List ℕ → List LineView → Type 0
+abbrev pub AreLinesOf : FileAnswers → List ℕ → List LineView → Type 0
 AreLinesOf gives root lines = (answers : Answers) × AreGiven gives answers × (lines_of answers root ≡ Ok lines)
 
 -- the same, by answers for just the files at these paths
-abbrev pub AreLinesOfFiles : MayGive → List ℕ → List (List ℕ) → List LineView → Type 0
+abbrev pub AreLinesOfFiles : FileAnswers → List ℕ → List (List ℕ) → List LineView → Type 0
 AreLinesOfFiles gives root paths lines =
     (answers : Answers) × AreGiven gives answers × (map (λ entry. entry.0) answers ≡ paths) × (lines_of answers root ≡ Ok lines)
 
 -- the table whose root is at a path has no lines for answers of the source, and this is why
-abbrev pub IsRefusedAs : MayGive → List ℕ → Refusal → Type 0
+abbrev pub IsRefusedAs : FileAnswers → List ℕ → Refusal → Type 0
 IsRefusedAs gives root want = (answers : Answers) × AreGiven gives answers × (lines_of answers root ≡ Err want)
 
 -- a file that is refused as unreadable is one that the source may be unable to read
-abbrev pub IsReadFailure : MayGive → Refusal → Type 0
+abbrev pub IsReadFailure : FileAnswers → Refusal → Type 0
 IsReadFailure gives want = want.kind ≡ kinds.ReadFailed → gives want.path Unreadable
 
 -- why a table whose root is at a path isn't loaded; memory may run out at any file
-abbrev pub IsLoadFault : MayGive → List ℕ → Failure LoadFault → Type 0
+abbrev pub IsLoadFault : FileAnswers → List ℕ → Failure LoadFault → Type 0
 IsLoadFault gives root failure = IfFault (λ fault. IsRefusedAs gives root (load_fault_view fault) × IsReadFailure gives (load_fault_view fault)) failure
 
 -- a fault of this kind is a read of a file that failed
@@ -58,5 +58,5 @@ CountsFailure before now (Err failure) = CountsFailed before now failure
 
 -- the tokens of the line are slices of its file's text, for bytes that the source may give for that
 -- file
-abbrev pub IsLineOfFile : MayGive → LineView → Type 0
+abbrev pub IsLineOfFile : FileAnswers → LineView → Type 0
 IsLineOfFile gives line = (bytes : List ℕ) × gives line.file (Holds bytes) × IsCutFrom (without_mark bytes) line

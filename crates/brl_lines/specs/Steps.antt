@@ -4,7 +4,7 @@ use Rattle.std.specs.List.{AllByRecursion, enumerate_from, flat_map}
 use Rattle.std.specs.Str.{IsCharBoundary}
 use Rattle.brl_failure.specs.Failure.{◌>>=◌, IfFault}
 use Rattle.brl_failure.specs.declared.failure.Failure.{Failure}
-use Rattle.brl_lines.specs.Answer.{Answer, Holds, MayGive}
+use Rattle.brl_lines.specs.Answer.{FileAnswer, Holds, FileAnswers}
 use Rattle.brl_lines.specs.Files.{Files, answers_of, chain_of, lines_at, path_at, span_lines, text_at}
 use Rattle.brl_lines.specs.Includes.{name_of}
 use Rattle.brl_lines.specs.Lines.{Answers, Expanded, LocationView, Refusal, answer_at, expanded, expanded_as, follow, text_of}
@@ -69,18 +69,18 @@ IsRowAt files file number from (Some row) = IsRow files file number from row
 -- ---- steps
 
 -- answers that have those of the files
-abbrev pub Extends : Files → (List ℕ → Option Answer) → Type 0
-Extends files answer = (path : List ℕ) (a : Answer) → answer_at (answers_of files) path ≡ Some a → answer path ≡ Some a
+abbrev pub Extends : Files → (List ℕ → Option FileAnswer) → Type 0
+Extends files answer = (path : List ℕ) (a : FileAnswer) → answer_at (answers_of files) path ≡ Some a → answer path ≡ Some a
 
 -- files were added after the others, and the source gave all of them
-pub record Grows (gives : MayGive) (old new : Files) : Type 0 where
+pub record Grows (gives : FileAnswers) (old new : Files) : Type 0 where
   pub more : Files
   pub kept : new ≡ old ++ more
   pub given : AreGiven gives (answers_of new)
 
 -- the definition has this fault too, over answers that the source may give and that have those of
 -- the files
-pub record FailsAs {U : Type 0} (gives : MayGive) (files : Files) (want : (List ℕ → Option Answer) → Result U Refusal) (fault : Refusal) : Type 0 where
+pub record FailsAs {U : Type 0} (gives : FileAnswers) (files : Files) (want : (List ℕ → Option FileAnswer) → Result U Refusal) (fault : Refusal) : Type 0 where
   pub answers : Answers
   pub given : AreGiven gives answers
   pub extends : Extends files (answer_at answers)
@@ -88,46 +88,46 @@ pub record FailsAs {U : Type 0} (gives : MayGive) (files : Files) (want : (List 
   pub unreadable : IsReadFailure gives fault
 
 -- the same of the fault with which a step failed, unless memory ran out
-abbrev pub Fails : {U : Type 0} → MayGive → Files → ((List ℕ → Option Answer) → Result U Refusal) → Failure LoadFault → Type 0
+abbrev pub Fails : {U : Type 0} → FileAnswers → Files → ((List ℕ → Option FileAnswer) → Result U Refusal) → Failure LoadFault → Type 0
 Fails gives files want failure = IfFault (λ fault. FailsAs gives files want (load_fault_view fault)) failure
 
 -- the source gave the bytes of the file that is returned, or the answer for which its path is
 -- refused
-abbrev pub Reads : MayGive → List ℕ → Option LocationView → Result CheckedFile (Failure LoadFault) → Type 0
+abbrev pub Reads : FileAnswers → List ℕ → Option LocationView → Result CheckedFile (Failure LoadFault) → Type 0
 Reads gives path place (Ok file) = gives path (Holds (string_bytes file.whole))
 Reads gives path place (Err failure) =
-    IfFault (λ fault. (answer : Answer) × gives path answer × (text_of path place (Some answer) ≡ Err (load_fault_view fault)) × IsReadFailure gives (load_fault_view fault)) failure
+    IfFault (λ fault. (answer : FileAnswer) × gives path answer × (text_of path place (Some answer) ≡ Err (load_fault_view fault)) × IsReadFailure gives (load_fault_view fault)) failure
 
 -- the file with this index is the one at a path, and its text is good
-pub record Finds (gives : MayGive) (old new : Files) (path : List ℕ) (index : ℕ) : Type 0 where
+pub record Finds (gives : FileAnswers) (old new : Files) (path : List ℕ) (index : ℕ) : Type 0 where
   pub grows : Grows gives old new
   pub within : index < length new
   pub path_is : path_at new index ≡ path
-  pub text_is : (answer : List ℕ → Option Answer) → Extends new answer → (place : Option LocationView) → text_of path place (answer path) ≡ Ok (text_at new index)
+  pub text_is : (answer : List ℕ → Option FileAnswer) → Extends new answer → (place : Option LocationView) → text_of path place (answer path) ≡ Ok (text_at new index)
 
 -- the lines of a file can be added to a table that is being loaded
-pub record IsReady (gives : MayGive) (table : Expansion) (file : OpenFile) : Type 0 where
+pub record IsReady (gives : FileAnswers) (table : Expansion) (file : OpenFile) : Type 0 where
   pub given : AreGiven gives (answers_of table.files.entries)
   pub opened : IsOpen table.files.entries file
   pub spans : AreSpans table.files.entries table.spans.items
 
 -- what an include line of a file is replaced by, in a table that is being loaded
-abbrev pub lines_of_include : List ℕ → OpenFile → IncludeLine → Expansion → (List ℕ → Option Answer) → Result Expanded Refusal
+abbrev pub lines_of_include : List ℕ → OpenFile → IncludeLine → Expansion → (List ℕ → Option FileAnswer) → Result Expanded Refusal
 lines_of_include root file include table answer =
     follow file.depth_left answer root (chain_of file) (record { file = string_bytes file.path; line = include.line }) (string_bytes include.name) table.include_count
 
 -- the lines of a file, each include line replaced
-abbrev pub lines_of_file : List ℕ → OpenFile → Expansion → (List ℕ → Option Answer) → Result Expanded Refusal
+abbrev pub lines_of_file : List ℕ → OpenFile → Expansion → (List ℕ → Option FileAnswer) → Result Expanded Refusal
 lines_of_file root file table answer =
     expanded (follow file.depth_left answer root (chain_of file)) (lines_in (string_bytes file.path) (text_at table.files.entries file.index)) table.include_count
 
 -- an include line leads to a file, and is replaced by its lines
-pub record Enters (gives : MayGive) (old new : Expansion) (root : List ℕ) (file : OpenFile) (include : IncludeLine) (inner : OpenFile) : Type 0 where
+pub record Enters (gives : FileAnswers) (old new : Expansion) (root : List ℕ) (file : OpenFile) (include : IncludeLine) (inner : OpenFile) : Type 0 where
   pub grows : Grows gives old.files.entries new.files.entries
   pub spans : new.spans.items ≡ old.spans.items
   pub depth : inner.depth_left < file.depth_left
   pub opened : IsOpen new.files.entries inner
-  pub follows : (answer : List ℕ → Option Answer) → Extends new.files.entries answer
+  pub follows : (answer : List ℕ → Option FileAnswer) → Extends new.files.entries answer
       → lines_of_include root file include old answer ≡ lines_of_file root inner new answer
 
 -- lines, and others after them
@@ -138,8 +138,8 @@ after here others = do
 
 -- the lines that were added are those of the definition, over any answers that have those of the
 -- files
-pub record Expands (gives : MayGive) (old new : Expansion) (want : (List ℕ → Option Answer) → Result Expanded Refusal) : Type 0 where
+pub record Expands (gives : FileAnswers) (old new : Expansion) (want : (List ℕ → Option FileAnswer) → Result Expanded Refusal) : Type 0 where
   pub grows : Grows gives old.files.entries new.files.entries
   pub spans : AreSpans new.files.entries new.spans.items
-  pub adds : (answer : List ℕ → Option Answer) → Extends new.files.entries answer
+  pub adds : (answer : List ℕ → Option FileAnswer) → Extends new.files.entries answer
       → after (lines_at old.files.entries old.spans.items) (want answer) ≡ Ok (expanded_as (lines_at new.files.entries new.spans.items) new.include_count)

@@ -1,7 +1,7 @@
 //! The lines of a table in their order, each include line replaced by the lines of its file. A file
 //! is read when a line first leads to it.
 ghost use Rattle.std.specs.Prelude.{IfErr, IfOk};
-ghost use Rattle.brl_lines.specs.Answer.{AllStay};
+ghost use Rattle.brl_lines.specs.Answer.{Unchanged};
 ghost use Rattle.brl_lines.specs.Files.{answers_of};
 ghost use Rattle.brl_lines.specs.Outcome.{AreGiven, CountsFailure};
 ghost use Rattle.brl_lines.specs.Steps.{Enters, Expands, Fails, IsReady, lines_of_file, lines_of_include};
@@ -43,7 +43,7 @@ fn enter<S: Source>(
     ensures ok { IfOk result (Enters (S.gives source.old) table.old table.new root.now file.now include.now) }
     ensures err { IfErr result (Fails (S.gives source.old) table.old.files.entries (lines_of_include root.now file.now include.now table.old)) }
     ensures count { CountsFailure (S.faults source.old) (S.faults source.new) result }
-    ensures same { AllStay (S.gives source.old) (S.gives source.new) }
+    ensures same { Unchanged (S.gives source.old) (S.gives source.new) }
 {
     let owned = included(alloc, root, include.name.as_str())?;
     let path = owned.as_str();
@@ -83,7 +83,7 @@ pub(crate) fn expand<S: Source>(
     ensures ok { IfOk result (λ _. Expands (S.gives source.old) table.old table.new (lines_of_file root.now file.now table.old)) }
     ensures err { IfErr result (Fails (S.gives source.old) table.old.files.entries (lines_of_file root.now file.now table.old)) }
     ensures count { CountsFailure (S.faults source.old) (S.faults source.new) result }
-    ensures same { AllStay (S.gives source.old) (S.gives source.new) }
+    ensures same { Unchanged (S.gives source.old) (S.gives source.new) }
 {
     let mut number = 1u32;
     let mut at = 0;

@@ -3,7 +3,7 @@
 ghost use Rattle.std.specs.Prelude.{◌≡◌, ℕ, IfErr, IfOk, List, Result, Some};
 ghost use Rattle.brl_failure.specs.Failure.{GivesAs};
 ghost use Rattle.brl_failure.specs.declared.failure.Failure.{Failure as FailureValue};
-ghost use Rattle.brl_lines.specs.Answer.{GivesOneAnswer};
+ghost use Rattle.brl_lines.specs.Answer.{IsDeterministic};
 ghost use Rattle.brl_lines.specs.InMemory.{answer_in};
 ghost use Rattle.brl_lines.specs.Lines.{lines_over};
 ghost use Rattle.brl_lines.specs.Outcome.{AreLinesOf, IsLoadFault};
@@ -17,9 +17,9 @@ use brl_failure::Failure;
 /// A source with one answer for each path gives a table one list of lines at most; and where it
 /// gives one, only memory can keep that table from being loaded.
 pub fn one_answer_law<S: Source>(source: &S)
-    ensures lines { GivesOneAnswer (S.gives source.now) → (root : List ℕ) (left right : List LineView) →
+    ensures lines { IsDeterministic (S.gives source.now) → (root : List ℕ) (left right : List LineView) →
         AreLinesOf (S.gives source.now) root left → AreLinesOf (S.gives source.now) root right → left ≡ right }
-    ensures fault { GivesOneAnswer (S.gives source.now) → (root : List ℕ) (lines : List LineView) →
+    ensures fault { IsDeterministic (S.gives source.now) → (root : List ℕ) (lines : List LineView) →
         AreLinesOf (S.gives source.now) root lines → (failure : FailureValue LoadFaultValue) →
         IsLoadFault (S.gives source.now) root failure → failure ≡ Failure.Memory }
 {}
@@ -27,7 +27,7 @@ pub fn one_answer_law<S: Source>(source: &S)
 /// Files in memory have one answer for each path; and a load of a table over them comes to what the
 /// definition gives for all of them, unless memory runs out.
 pub fn files_in_memory_law(source: &MapSource)
-    ensures one { GivesOneAnswer (⟦<MapSource as Source>⟧.gives source.now) }
+    ensures one { IsDeterministic (⟦<MapSource as Source>⟧.gives source.now) }
     ensures told { (root : List ℕ) (outcome : Result (List LineView) (FailureValue LoadFaultValue)) →
         IfOk outcome (AreLinesOf (⟦<MapSource as Source>⟧.gives source.now) root) →
         IfErr outcome (IsLoadFault (⟦<MapSource as Source>⟧.gives source.now) root) →

@@ -4,6 +4,9 @@
 //! file system. `load` reads and checks a table's file and the files that it includes, and
 //! `Loaded::lines` gives the lines that do something, each as tokens that are slices of its file's
 //! text. `chars_of` reads the characters that a token spells.
+//!
+//! Room 1, text and tables (docs/dev/ARCHITECTURE.md). The definitions begin in
+//! `specs/Lines.antt`.
 #![tactic(auto)]
 
 mod checked_file;

@@ -1,6 +1,6 @@
 //! Reading the files of a table: each path once.
 ghost use Rattle.std.specs.Prelude.{◌≡◌, IfErr, IfOk, option_map};
-ghost use Rattle.brl_lines.specs.Answer.{AllStay};
+ghost use Rattle.brl_lines.specs.Answer.{Unchanged};
 ghost use Rattle.brl_lines.specs.Files.{answers_of};
 ghost use Rattle.brl_lines.specs.Lines.{text_of};
 ghost use Rattle.brl_lines.specs.Outcome.{AreGiven, CountsFailure};
@@ -23,7 +23,7 @@ fn read_file<S: Source>(
 ) -> Result<CheckedFile, Failure<LoadFault>>
     ensures read { Reads (S.gives source.old) path.now (option_map location_ref_view place.entry) result }
     ensures count { CountsFailure (S.faults source.old) (S.faults source.new) result }
-    ensures same { AllStay (S.gives source.old) (S.gives source.new) }
+    ensures same { Unchanged (S.gives source.old) (S.gives source.new) }
 {
     let kind = match source.read(alloc, path) {
         Ok(bytes) => return checked(alloc, path, place, bytes),
@@ -47,7 +47,7 @@ pub(crate) fn file_at<S: Source>(
     ensures ok { IfOk result (Finds (S.gives source.old) files.old.entries files.new.entries path.now) }
     ensures err { IfErr result (Fails (S.gives source.old) files.old.entries (λ answer. text_of path.now (option_map location_ref_view place.entry) (answer path.now))) }
     ensures count { CountsFailure (S.faults source.old) (S.faults source.new) result }
-    ensures same { AllStay (S.gives source.old) (S.gives source.new) }
+    ensures same { Unchanged (S.gives source.old) (S.gives source.new) }
 {
     if let Some((index, _, _)) = files.get_full(path) {
         return Ok(index);

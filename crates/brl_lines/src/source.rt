@@ -24,10 +24,10 @@ pub enum SourceFault {
 /// Gives the bytes of files by their paths.
 pub trait Source {
     ghost use Rattle.std.specs.Prelude.{◌≡◌, ℕ};
-    ghost use Rattle.brl_lines.specs.Answer.{AllStay, IsAnswer, MayGive, failures_after, read_failed};
+    ghost use Rattle.brl_lines.specs.Answer.{Unchanged, IsAnswer, FileAnswers, failures_after, read_failed};
 
     // what it may answer for a path, which reading doesn't change
-    ghost gives: { Self → MayGive };
+    ghost gives: { Self → FileAnswers };
 
     // how often it has failed
     ghost faults: { Self → ℕ };
@@ -36,7 +36,7 @@ pub trait Source {
     /// more than `MOST_FILE_BYTES`, and `Failed` where it could not be read.
     fn read(&mut self, alloc: Global, path: &str) -> Result<Vec<u8>, Failure<SourceFault>>
         ensures answer { IsAnswer (gives self.old path.now) result }
-        ensures same { AllStay (gives self.old) (gives self.new) }
+        ensures same { Unchanged (gives self.old) (gives self.new) }
         ensures count { faults self.new ≡ failures_after (faults self.old) (read_failed result) };
 
     /// How often `read` answered `Failed`. At `u64::MAX` it stays.

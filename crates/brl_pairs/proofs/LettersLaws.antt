@@ -6,7 +6,7 @@ use Rattle.std.proofs.lemmas.Bool.{eqb-true}
 use Rattle.brl_pairs.specs.declared.step.Pair.{Pair}
 use Rattle.brl_pairs.specs.declared.step.Step.{Step}
 use Rattle.brl_pairs.specs.Runs.{IsListed, IsListedAt, IsPath, IsGoodStep, IsInOrder, KeepsLaws, reads_of, cells_of}
-use Rattle.brl_pairs.specs.Pairs.{Splits, Moves, HasPair, IsClosed, numbered}
+use Rattle.brl_pairs.specs.Pairs.{Splits, Follows, HasPair, IsClosed, numbered}
 use Rattle.brl_pairs.specs.Examples.{is_letter, cells_of_letter, letter_step, letter_steps, letters, letter_states, letter_pairs, b_before_a}
 
 abbrev a_step : Step Bool
@@ -126,7 +126,7 @@ letters_split s p split =
       ]
     ]
 
-letters_move : (p q : Pair Bool) → b_before_a ≡ p → Moves letters p q → ⊥
+letters_move : (p q : Pair Bool) → b_before_a ≡ p → Follows letters p q → ⊥
 letters_move p q stored move =
     let first = begins move.step move.listed in
     let lead : 3 ∷ [] ≡ p.lead = ap (λ (z : Pair Bool). z.lead) stored in

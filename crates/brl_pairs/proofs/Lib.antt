@@ -1,3 +1,10 @@
+pub mod Lists
+pub mod Listing
 pub mod Closed
 pub mod LettersLaws
 pub mod Advancing
+pub mod Positions
+pub mod Writes
+pub mod Missing
+pub mod EdgesLaws
+pub mod PlacesLaws

@@ -2,3 +2,11 @@ pub mod Runs
 pub mod Pairs
 pub mod Examples
 pub mod Same
+pub mod Members
+pub mod SameMembers
+pub mod Seed
+pub mod Body
+pub mod Sets
+pub mod Edges
+pub mod NumberPairs
+pub mod Places

@@ -46,7 +46,7 @@ pub record GetsAhead {S : Type 0} (p : Pair S) (x : Step S) (q : Pair S) : Type 
   pub lead : x.cells ≡ p.lead ++ q.lead
 
 -- a listed step of the run behind leads from one pair to the other
-pub record Moves {S : Type 0} (m : Behaviour S) (p q : Pair S) : Type 0 where
+pub record Follows {S : Type 0} (m : Behaviour S) (p q : Pair S) : Type 0 where
   pub step : Step S
   pub listed : IsListed (m.steps p.behind) step
   pub moved : StaysBehind p step q ⊎ GetsAhead p step q
@@ -92,7 +92,7 @@ pub record IsClosed {S : Type 0} (m : Behaviour S) (sets : Sets S) : Type 0 wher
   -- each split of one of the states is among the pairs
   pub splits : (s : S) (p : Pair S) → sets.has_state s → Splits (m.steps s) p → HasPair sets p
   -- where the run behind of one of the pairs takes a step, the pair that follows is among the pairs
-  pub moves : (p q : Pair S) → sets.has_pair p → Moves m p q → HasPair sets q
+  pub moves : (p q : Pair S) → sets.has_pair p → Follows m p q → HasPair sets q
   -- none of the pairs has an empty lead and two final states
   pub ends : (p : Pair S) → sets.has_pair p → p.lead ≡ [] → IsTrue (m.ends p.ahead) → IsTrue (m.ends p.behind) → ⊥
 

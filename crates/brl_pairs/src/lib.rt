@@ -1,14 +1,39 @@
 //! The theory of unambiguous machines: machines that translate by steps, pairs of their runs, and
 //! what closed sets of states and pairs imply: no two different texts of the machine have the same
 //! translation.
+//!
+//! - `Machine` is a machine, with `Step` and `Pair`; `advance` is what becomes of a lead. The laws
+//!   state what closed sets imply.
+//! - `Members` is a list without repeats that finds its members by hash. The hashes depend on a
+//!   `Seed` that is drawn from the bytes that the members come from, so that nobody can make members
+//!   of one hash.
+//! - `Body` has states, and pairs that name two of them by their numbers. An `Edge` is a step with
+//!   the number of its next state: that is looked up once, and from then on only numbers and cells
+//!   are compared.
+//!
+//! Room 2, any machine (docs/dev/ARCHITECTURE.md). The definitions begin in `specs/Runs.antt`.
 #![tactic(auto)]
 
+mod body;
+mod edge;
+mod edge_laws;
+mod key;
 mod laws;
 mod lead;
 mod machine;
+mod members;
+mod number_pairs;
+mod seed;
 mod step;
 
+pub use body::Body;
+pub use edge::{Edge, places_before};
+pub use edge_laws::{different_cells_law, edges_law};
+pub use key::Key;
 pub use laws::{Sets, advance_law, closed_sets_law, numbered_sets_law};
 pub use lead::{Advanced, advance};
 pub use machine::Machine;
+pub use members::Members;
+pub use number_pairs::{is_missing, is_there, is_there_swapped};
+pub use seed::{Seed, SeededHasher};
 pub use step::{Pair, Step};

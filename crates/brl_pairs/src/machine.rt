@@ -2,8 +2,7 @@
 ghost use Rattle.std.specs.Prelude.{◌≡◌, IfOk};
 ghost use Rattle.brl_pairs.specs.Runs.{Behaviour, KeepsLaws};
 
-use crate::Step;
-use brl_members::Key;
+use crate::{Key, Step};
 use std::alloc::{AllocError, Global};
 
 /// A machine that translates by steps from state to state. Each of its texts has a path from the

@@ -1,6 +1,6 @@
 //! Steps of a machine, and pairs of its runs.
+use crate::Key;
 use brl_cells::{Cells, Chars};
-use brl_members::Key;
 
 /// A step of a machine.
 #[derive(Debug, Drop)]

@@ -19,27 +19,15 @@ use Rattle.brl_table.specs.Reading.{dedup, insert_new}
 use Rattle.brl_table.specs.Survey.{faulty_line_view}
 use Rattle.brl_table.specs.declared.faulty.FaultyLine.{FaultyLine}
 use Rattle.brl_report.specs.Survey.{AreCounts, CountView, count_among, count_cmp, opcodes_of, tally}
+use Rattle.brl_rules.proofs.Facts.{or-twice, or-assoc, or-false}
 
 -- ---- Whether an opcode came before
 
 same-as : (x y c : List ℕ) → bytes_eq x y ≡ true → bytes_eq c y ≡ bytes_eq c x
 same-as x y c h = ap (bytes_eq c) (sym ((bytes_decides x y).0 h))
 
-or-twice : (a b : Bool) → a || b ≡ (a || b) || a
-or-twice true b = refl
-or-twice false true = refl
-or-twice false false = refl
-
-or-assoc : (a b c : Bool) → a || (b || c) ≡ (a || b) || c
-or-assoc true b c = refl
-or-assoc false b c = refl
-
-or-nothing : (b : Bool) → b || false ≡ b
-or-nothing true = refl
-or-nothing false = refl
-
 any-put : (c x : List ℕ) (xs : List (List ℕ)) → list_any (bytes_eq c) (insert_new bytes_eq xs x) ≡ list_any (bytes_eq c) xs || bytes_eq c x
-any-put c x [] = or-nothing (bytes_eq c x)
+any-put c x [] = or-false (bytes_eq c x)
 any-put c x (y ∷ ys) = cases (bytes_eq x y) refl (any-put c x ys)
   where
     cases : (b : Bool) → bytes_eq x y ≡ b → list_any (bytes_eq c) (insert_new bytes_eq ys x) ≡ list_any (bytes_eq c) ys || bytes_eq c x
@@ -48,7 +36,7 @@ any-put c x (y ∷ ys) = cases (bytes_eq x y) refl (any-put c x ys)
     cases false e more = ap (λ b. bytes_eq c y || b) more ∙ or-assoc (bytes_eq c y) (list_any (bytes_eq c) ys) (bytes_eq c x)
 
 any-fold : (c : List ℕ) (cs xs : List (List ℕ)) → list_any (bytes_eq c) (fold (insert_new bytes_eq) xs cs) ≡ list_any (bytes_eq c) xs || list_any (bytes_eq c) cs
-any-fold c [] xs = sym (or-nothing (list_any (bytes_eq c) xs))
+any-fold c [] xs = sym (or-false (list_any (bytes_eq c) xs))
 any-fold c (x ∷ cs) xs =
     any-fold c cs (insert_new bytes_eq xs x) ∙ ap (λ b. b || list_any (bytes_eq c) cs) (any-put c x xs)
     ∙ sym (or-assoc (list_any (bytes_eq c) xs) (bytes_eq c x) (list_any (bytes_eq c) cs))

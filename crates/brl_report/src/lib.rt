@@ -2,6 +2,8 @@
 //! translation from the first one that the other text doesn't have. `trace_report` has one text,
 //! its cells and all its steps. `survey_report` has the lines of a table that have a fault by
 //! themselves.
+//!
+//! Room 5, the program (docs/dev/ARCHITECTURE.md). The definitions begin in `specs/Report.antt`.
 #![tactic(auto)]
 
 mod clash_report;

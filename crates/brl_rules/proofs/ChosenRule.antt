@@ -6,6 +6,7 @@ use Rattle.brl_rules.specs.declared.rule.Rule.{Rule}
 use Rattle.brl_rules.specs.TableView.{TableView}
 use Rattle.brl_rules.specs.Choice.{Choice, fits, by_rule, own, first_fitting, chosen}
 use Rattle.brl_rules.specs.Position.{IsFirstThatFits}
+use Rattle.brl_rules.proofs.Facts.{some_is}
 
 taken : (b : Bool) (x y z : Choice) → b ≡ true → x ≡ z → cond b x y ≡ z
 taken true x y z h e = e
@@ -14,9 +15,6 @@ taken false x y z h e = cc
 passed : (b : Bool) (x y z : Choice) → b ≡ false → y ≡ z → cond b x y ≡ z
 passed true x y z h e = cc
 passed false x y z h e = e
-
-some_is : (r q : Rule) → Some r ≡ Some q → r ≡ q
-some_is r q h = cc
 
 module _ (t : TableView) (before : Class) (rest : List ℕ) where
   at_place : (number : ℕ) (rules : List Rule) (place : ℕ) (r : Rule) → slice_get rules place ≡ Some r → fits t before rest r ≡ true

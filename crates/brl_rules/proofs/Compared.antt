@@ -8,6 +8,7 @@ use Rattle.brl_rules.specs.TableView.{TableView}
 use Rattle.brl_rules.specs.Text.{classes_of, fold_of, is_capital}
 use Rattle.brl_rules.specs.Choice.{compared, folds_of_capitals}
 use Rattle.brl_rules.specs.Tree.{mark_of}
+use Rattle.brl_rules.proofs.Facts.{and-true, same_number}
 
 -- whether a character is a capital
 abbrev pub is_cap : TableView → ℕ → Bool
@@ -74,14 +75,8 @@ behind-length t false rest = omega arith
 
 -- ---- element by element
 
-pub same : (m n : ℕ) → nat_eq m n ≡ true → m ≡ n
-same m n h = grind (arith, nat_tests)
-
 pub tested : (m n : ℕ) → m ≡ n → nat_eq m n ≡ true
 tested m n h = grind (arith, nat_tests)
-
-pub both_so : (a b : Bool) → a ≡ true → b ≡ true → (a && b) ≡ true
-both_so a b ea eb = rw (ea, eb) refl
 
 -- these are the folds of the rest's first characters, which are capitals
 pub record AreCapitals (t : TableView) (rest chars : List ℕ) : Type 0 where
@@ -100,7 +95,7 @@ capitals_from_starts t (c ∷ rest) (x ∷ chars) h = cases (is_cap t c) refl (c
         let both : nat_eq x (fold_of t c) && starts_with nat_eq (folds_of_capitals t rest) chars ≡ true =
         ap (λ l. starts_with nat_eq l (x ∷ chars)) (sym (folds-capital t c rest is)) ∙ h in
         let tail = more (second_so (nat_eq x (fold_of t c)) (starts_with nat_eq (folds_of_capitals t rest) chars) both) in
-        let head : fold_of t c ≡ x = sym (same x (fold_of t c) (first_so (nat_eq x (fold_of t c)) (starts_with nat_eq (folds_of_capitals t rest) chars) both)) in
+        let head : fold_of t c ≡ x = sym (same_number x (fold_of t c) (first_so (nat_eq x (fold_of t c)) (starts_with nat_eq (folds_of_capitals t rest) chars) both)) in
         record { room = omega (arith, tail.room); capitals = each is tail.capitals; folds = every head tail.folds }
       where
         each : is_cap t c ≡ true → ((k : ℕ) → k < length chars → is_cap t (slice_index rest k) ≡ true) → (k : ℕ) → k < length (x ∷ chars) → is_cap t (slice_index (c ∷ rest) k) ≡ true
@@ -117,7 +112,7 @@ starts_from_capitals t rest [] h = refl
 starts_from_capitals t [] (x ∷ chars) h = absurd (omega (arith, h.room))
 starts_from_capitals t (c ∷ rest) (x ∷ chars) h =
     ap (λ l. starts_with nat_eq l (x ∷ chars)) (folds-capital t c rest (h.capitals 0 (omega arith)))
-    ∙ both_so (nat_eq x (fold_of t c)) (starts_with nat_eq (folds_of_capitals t rest) chars) (tested x (fold_of t c) (sym (h.folds 0 (omega arith))))
+    ∙ and-true (nat_eq x (fold_of t c)) (starts_with nat_eq (folds_of_capitals t rest) chars) (tested x (fold_of t c) (sym (h.folds 0 (omega arith))))
     (starts_from_capitals t rest chars (record {
       room = omega (arith, h.room);
       capitals = λ k within. h.capitals (suc k) (omega (arith, within));

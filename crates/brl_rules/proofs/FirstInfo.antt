@@ -10,7 +10,7 @@ use Rattle.brl_rules.specs.declared.rule.Rule.{Rule}
 use Rattle.brl_rules.specs.TableView.{TableView, info_of}
 use Rattle.brl_rules.specs.Infos.{first_info}
 use Rattle.brl_rules.specs.Limits.{AreNumbered, IsAmong, IsRule, IsTable}
-use Rattle.brl_rules.specs.Text.{fold_of, is_in_run}
+use Rattle.brl_rules.specs.Text.{fold_of, is_in_caps_run}
 use Rattle.brl_rules.specs.Choice.{Choice, fits, own, chosen}
 use Rattle.brl_rules.proofs.Compared.{behind_first}
 use Rattle.brl_rules.proofs.EntryNumbers.{number_small}
@@ -63,7 +63,7 @@ own-undefined t c rest undefined =
 no_rule : (t : TableView) → IsTable t → (before : Class) (c : ℕ) (rest : List ℕ) → info_of t c ≡ None
     → (j : ℕ) (r : Rule) → slice_get t.rules j ≡ Some r → fits t before (c ∷ rest) r ≡ true → ⊥
 no_rule t law before c rest undefined j r there does =
-    let behind = behind_first t (is_in_run t before (c ∷ rest)) rest in
+    let behind = behind_first t (is_in_caps_run t before (c ∷ rest)) rest in
     let begins = front t before (c ∷ rest) (fold_of t c) behind refl r.chars (fits-matches t before (c ∷ rest) (fold_of t c) behind refl r does) in
     let is-rule = All-get_or (IsRule t.characters (length t.files)) t.rules j r (slice_get_within t.rules j r there) law.parts.rules in
     let is = get_or_from_slice_get t.rules j r r there in

@@ -10,15 +10,16 @@ use Rattle.brl_rules.specs.TableView.{TableView}
 use Rattle.brl_rules.specs.Places.{space, holds, before_of, after_of}
 use Rattle.brl_rules.specs.Text.{fold_of, classes_of, classes_at, classes_before}
 use Rattle.brl_rules.specs.Choice.{matches, fits, folds_of_capitals}
-use Rattle.brl_rules.specs.Position.{FitsAt, in_run_at}
-use Rattle.brl_rules.proofs.Compared.{is_cap, capitals_from_starts, starts_from_capitals, same, tested, both_so}
+use Rattle.brl_rules.specs.Position.{FitsAt, in_caps_run_at}
+use Rattle.brl_rules.proofs.Compared.{is_cap, capitals_from_starts, starts_from_capitals, tested}
+use Rattle.brl_rules.proofs.Facts.{same_number, and-true}
 use Rattle.brl_rules.proofs.TakenLengths.{matches-Takes}
 
 -- a prefix has the elements of the list
 starts_with-items : (ys xs : List ℕ) → starts_with nat_eq ys xs ≡ true → (k : ℕ) → k < length xs → slice_index ys k ≡ slice_index xs k
 starts_with-items ys [] h k within = absurd (omega (arith, within))
 starts_with-items [] (x ∷ xs) h k within = cc
-starts_with-items (y ∷ ys) (x ∷ xs) h zero within = sym (same x y (first_so (nat_eq x y) (starts_with nat_eq ys xs) h))
+starts_with-items (y ∷ ys) (x ∷ xs) h zero within = sym (same_number x y (first_so (nat_eq x y) (starts_with nat_eq ys xs) h))
 starts_with-items (y ∷ ys) (x ∷ xs) h (suc k) within =
     starts_with-items ys xs (second_so (nat_eq x y) (starts_with nat_eq ys xs) h) k (omega (arith, within))
 
@@ -27,7 +28,7 @@ items-starts_with : (ys xs : List ℕ) → length xs ≤ length ys → ((k : ℕ
 items-starts_with ys [] room h = refl
 items-starts_with [] (x ∷ xs) room h = absurd (omega (arith, room))
 items-starts_with (y ∷ ys) (x ∷ xs) room h =
-    both_so (nat_eq x y) (starts_with nat_eq ys xs) (tested x y (sym (h 0 (omega arith))))
+    and-true (nat_eq x y) (starts_with nat_eq ys xs) (tested x y (sym (h 0 (omega arith))))
     (items-starts_with ys xs (omega (arith, room)) (λ k within. h (suc k) (omega (arith, within))))
 
 -- the rest begins with the characters of a rule, element by element
@@ -54,7 +55,7 @@ items_from_matches t false (c ∷ rest) (x ∷ xs) h =
     record {
       some = takes.some;
       room = takes.room;
-      first = sym (same x (fold_of t c) (first_so (nat_eq x (fold_of t c)) (starts_with nat_eq rest xs) h));
+      first = sym (same_number x (fold_of t c) (first_so (nat_eq x (fold_of t c)) (starts_with nat_eq rest xs) h));
       others = λ run. later (λ a b. a ≡ b) c x rest xs tail;
       capitals = λ run. absurd (let e : false ≡ true = run in cc);
       folds = λ run. absurd (let e : false ≡ true = run in cc);
@@ -65,7 +66,7 @@ items_from_matches t true (c ∷ rest) (x ∷ xs) h =
     record {
       some = takes.some;
       room = takes.room;
-      first = sym (same x (fold_of t c) (first_so (nat_eq x (fold_of t c)) (starts_with nat_eq (folds_of_capitals t rest) xs) h));
+      first = sym (same_number x (fold_of t c) (first_so (nat_eq x (fold_of t c)) (starts_with nat_eq (folds_of_capitals t rest) xs) h));
       others = λ run. absurd (let e : true ≡ false = run in cc);
       capitals = λ run. later (λ a b. is_cap t a ≡ true) c x rest xs tail.capitals;
       folds = λ run. later (λ a b. fold_of t a ≡ b) c x rest xs tail.folds;
@@ -75,10 +76,10 @@ matches_from_items : (t : TableView) (run : Bool) (rest chars : List ℕ) → Ma
 matches_from_items t run rest [] h = absurd (omega (arith, h.some))
 matches_from_items t run [] (x ∷ xs) h = absurd (omega (arith, h.room))
 matches_from_items t false (c ∷ rest) (x ∷ xs) h =
-    both_so (nat_eq x (fold_of t c)) (starts_with nat_eq rest xs) (tested x (fold_of t c) (sym h.first))
+    and-true (nat_eq x (fold_of t c)) (starts_with nat_eq rest xs) (tested x (fold_of t c) (sym h.first))
     (items-starts_with rest xs (omega (arith, h.room)) (λ k within. h.others refl (suc k) (omega arith) (omega (arith, within))))
 matches_from_items t true (c ∷ rest) (x ∷ xs) h =
-    both_so (nat_eq x (fold_of t c)) (starts_with nat_eq (folds_of_capitals t rest) xs) (tested x (fold_of t c) (sym h.first))
+    and-true (nat_eq x (fold_of t c)) (starts_with nat_eq (folds_of_capitals t rest) xs) (tested x (fold_of t c) (sym h.first))
     (starts_from_capitals t rest xs (record {
       room = omega (arith, h.room);
       capitals = λ k within. h.capitals refl (suc k) (omega arith) (omega (arith, within));
@@ -96,7 +97,7 @@ classes_at-drop t i text k = ap (λ o. option_map_or (classes_of t) o space) (sl
 
 fits_at : (t : TableView) (text : List ℕ) (i : ℕ) (r : Rule) → fits t (classes_before t text i) (drop i text) r ≡ true → FitsAt t text i r
 fits_at t text i r h =
-    let run = in_run_at t text i in
+    let run = in_caps_run_at t text i in
     let m = matches t run (drop i text) r.chars in
     let b = holds (before_of r.place) (classes_before t text i) in
     let a = holds (after_of r.place (classes_before t text i)) (classes_at t (drop i text) (length r.chars)) in
@@ -106,15 +107,15 @@ fits_at t text i r h =
       room = omega (arith, items.room, items.some, length-drop i text);
       first = ap (fold_of t) (let e : i ≡ i + 0 = omega arith in ap (λ k. slice_index text k) e ∙ sym (get_or-drop i text 0 0)) ∙ items.first;
       others = λ out k some within. sym (get_or-drop i text k 0) ∙ items.others out k some within;
-      capitals = λ in_run k some within. ap (is_cap t) (sym (get_or-drop i text k 0)) ∙ items.capitals in_run k some within;
-      folds = λ in_run k some within. ap (fold_of t) (sym (get_or-drop i text k 0)) ∙ items.folds in_run k some within;
+      capitals = λ in_caps_run k some within. ap (is_cap t) (sym (get_or-drop i text k 0)) ∙ items.capitals in_caps_run k some within;
+      folds = λ in_caps_run k some within. ap (fold_of t) (sym (get_or-drop i text k 0)) ∙ items.folds in_caps_run k some within;
       before = second_so m b (first_so (m && b) a h);
       after = ap (holds (after_of r.place (classes_before t text i))) (sym (classes_at-drop t i text (length r.chars))) ∙ second_so (m && b) a h;
     }
 
 at_fits : (t : TableView) (text : List ℕ) (i : ℕ) (r : Rule) → FitsAt t text i r → fits t (classes_before t text i) (drop i text) r ≡ true
 at_fits t text i r h =
-    let run = in_run_at t text i in
+    let run = in_caps_run_at t text i in
     let m = matches t run (drop i text) r.chars in
     let b = holds (before_of r.place) (classes_before t text i) in
     let a = holds (after_of r.place (classes_before t text i)) (classes_at t (drop i text) (length r.chars)) in
@@ -124,10 +125,10 @@ at_fits t text i r h =
       room = omega (arith, h.room, h.some, length-drop i text);
       first = ap (fold_of t) (get_or-drop i text 0 0 ∙ sym (ap (λ k. slice_index text k) e)) ∙ h.first;
       others = λ out k some within. get_or-drop i text k 0 ∙ h.others out k some within;
-      capitals = λ in_run k some within. ap (is_cap t) (get_or-drop i text k 0) ∙ h.capitals in_run k some within;
-      folds = λ in_run k some within. ap (fold_of t) (get_or-drop i text k 0) ∙ h.folds in_run k some within;
+      capitals = λ in_caps_run k some within. ap (is_cap t) (get_or-drop i text k 0) ∙ h.capitals in_caps_run k some within;
+      folds = λ in_caps_run k some within. ap (fold_of t) (get_or-drop i text k 0) ∙ h.folds in_caps_run k some within;
     }) in
-    both_so (m && b) a (both_so m b stand h.before)
+    and-true (m && b) a (and-true m b stand h.before)
     (ap (holds (after_of r.place (classes_before t text i))) (classes_at-drop t i text (length r.chars)) ∙ h.after)
 
 pub fits-FitsAt : (t : TableView) (text : List ℕ) (i : ℕ) (r : Rule) → IsTrue (fits t (classes_before t text i) (drop i text) r) ↔ FitsAt t text i r

@@ -1,3 +1,4 @@
+pub mod Facts
 pub mod RankWeight
 pub mod SignLists
 pub mod SortedRanking
@@ -14,3 +15,5 @@ pub mod TreeContents
 pub mod TreeWalk
 pub mod FirstInfo
 pub mod InfoContexts
+pub mod CellCounts
+pub mod OneByOne

@@ -5,7 +5,7 @@ use Rattle.std.proofs.lemmas.Bool.Decides.{nat_tests}
 use Rattle.std.specs.List.{slice_get}
 use Rattle.brl_rules.specs.declared.context.Context.{Context}
 use Rattle.brl_rules.specs.TableView.{TableView}
-use Rattle.brl_rules.specs.Text.{at_start, classes_before, context_at, context_behind, context_behind_all}
+use Rattle.brl_rules.specs.Text.{at_start, classes_before, context_at, context_after, context_after_all}
 use Rattle.brl_rules.specs.Indicators.{indicators}
 use Rattle.brl_rules.specs.Choice.{chosen}
 use Rattle.brl_rules.specs.Translation.{indicators_at, chosen_at, translation_from, translation}
@@ -25,19 +25,19 @@ rest_from-steps t (suc n) (suc m) here (c ∷ rest) h k =
     let takes = chosen-Takes t here.classes c rest in
     let left : length (drop choice.taken (c ∷ rest)) ≤ length rest = omega (arith, length-drop choice.taken (c ∷ rest), takes.some) in
     ap (λ x. indicators t here (c ∷ rest) ++ choice.cells ++ x)
-    (rest_from-steps t n m (context_behind_all t here (take choice.taken (c ∷ rest))) (drop choice.taken (c ∷ rest)) (omega arith) (omega arith))
+    (rest_from-steps t n m (context_after_all t here (take choice.taken (c ∷ rest))) (drop choice.taken (c ∷ rest)) (omega arith) (omega arith))
 
 -- one rule
 pub translation_of_rest-rule : (t : TableView) (here : Context) (c : ℕ) (rest : List ℕ) →
     translation_of_rest t here (c ∷ rest) ≡ indicators t here (c ∷ rest) ++ (chosen t here.classes (c ∷ rest)).cells
-    ++ translation_of_rest t (context_behind_all t here (take (chosen t here.classes (c ∷ rest)).taken (c ∷ rest))) (drop (chosen t here.classes (c ∷ rest)).taken (c ∷ rest))
+    ++ translation_of_rest t (context_after_all t here (take (chosen t here.classes (c ∷ rest)).taken (c ∷ rest))) (drop (chosen t here.classes (c ∷ rest)).taken (c ∷ rest))
 unfolding translation_of_rest
 translation_of_rest-rule t here c rest =
     let choice = chosen t here.classes (c ∷ rest) in
     let takes = chosen-Takes t here.classes c rest in
     let left : length (drop choice.taken (c ∷ rest)) ≤ length rest = omega (arith, length-drop choice.taken (c ∷ rest), takes.some) in
     ap (λ x. indicators t here (c ∷ rest) ++ choice.cells ++ x)
-    (rest_from-steps t (length rest) (length (drop choice.taken (c ∷ rest))) (context_behind_all t here (take choice.taken (c ∷ rest))) (drop choice.taken (c ∷ rest)) left (omega arith))
+    (rest_from-steps t (length rest) (length (drop choice.taken (c ∷ rest))) (context_after_all t here (take choice.taken (c ∷ rest))) (drop choice.taken (c ∷ rest)) left (omega arith))
 
 pub translation_of_rest-nil : (t : TableView) (here : Context) → translation_of_rest t here [] ≡ []
 unfolding translation_of_rest
@@ -54,12 +54,12 @@ drop-next (suc i) [] x rest e = cc
 drop-next (suc i) (y ∷ ys) x rest e = drop-next i ys x rest e
 
 -- the context after xs is that of the position after them
-pub context_behind_all-at : (t : TableView) (text : List ℕ) (i : ℕ) (xs ys : List ℕ) → drop i text ≡ xs ++ ys
-    → context_at t text (i + length xs) ≡ context_behind_all t (context_at t text i) xs
-context_behind_all-at t text i [] ys e = rw add-zero refl
-context_behind_all-at t text i (x ∷ xs) ys e =
-    let here : context_at t text (suc i) ≡ context_behind t (context_at t text i) x = rw (slice_get-at i text x (xs ++ ys) e) refl in
-    let more = context_behind_all-at t text (suc i) xs ys (drop-next i text x (xs ++ ys) e) in
+pub context_after_all-at : (t : TableView) (text : List ℕ) (i : ℕ) (xs ys : List ℕ) → drop i text ≡ xs ++ ys
+    → context_at t text (i + length xs) ≡ context_after_all t (context_at t text i) xs
+context_after_all-at t text i [] ys e = rw add-zero refl
+context_after_all-at t text i (x ∷ xs) ys e =
+    let here : context_at t text (suc i) ≡ context_after t (context_at t text i) x = rw (slice_get-at i text x (xs ++ ys) e) refl in
+    let more = context_after_all-at t text (suc i) xs ys (drop-next i text x (xs ++ ys) e) in
     let place : i + suc (length xs) ≡ suc i + length xs = omega arith in
     rw (← here) (ap (context_at t text) place ∙ more)
 
@@ -89,13 +89,13 @@ step t text n i (c ∷ rest) e more =
     let takes = chosen-Takes t here.classes c rest in
     let taken : length (take choice.taken (c ∷ rest)) ≡ choice.taken = length-take-le choice.taken (c ∷ rest) takes.room in
     let split : drop i text ≡ take choice.taken (c ∷ rest) ++ drop choice.taken (c ∷ rest) = e ∙ sym (take-append-drop choice.taken (c ∷ rest)) in
-    let behind : context_at t text (i + choice.taken) ≡ context_behind_all t here (take choice.taken (c ∷ rest)) =
-    ap (λ k. context_at t text (i + k)) (sym taken) ∙ context_behind_all-at t text i (take choice.taken (c ∷ rest)) (drop choice.taken (c ∷ rest)) split in
+    let behind : context_at t text (i + choice.taken) ≡ context_after_all t here (take choice.taken (c ∷ rest)) =
+    ap (λ k. context_at t text (i + k)) (sym taken) ∙ context_after_all-at t text i (take choice.taken (c ∷ rest)) (drop choice.taken (c ∷ rest)) split in
     let left : drop (i + choice.taken) text ≡ drop choice.taken (c ∷ rest) = sym (drop-drop choice.taken i text) ∙ ap (drop choice.taken) e in
     rw (in_text i text c rest e, e)
     (ap (λ x. indicators t here (c ∷ rest) ++ choice.cells ++ x)
     (more (i + choice.taken) ∙ ap (λ h. rest_from t n h (drop (i + choice.taken) text)) behind
-    ∙ ap (rest_from t n (context_behind_all t here (take choice.taken (c ∷ rest)))) left))
+    ∙ ap (rest_from t n (context_after_all t here (take choice.taken (c ∷ rest)))) left))
 
 -- the translation from a position on is that of the rest there
 pub translation_from-rest : (t : TableView) (text : List ℕ) (n i : ℕ) → translation_from t text n i ≡ rest_from t n (context_at t text i) (drop i text)
@@ -110,15 +110,15 @@ translation-rest t text = translation_from-rest t text (length text) 0
 -- one rule, at any rest that isn't empty
 pub translation_of_rest-step : (t : TableView) (here : Context) (rest : List ℕ) → 0 < length rest →
     translation_of_rest t here rest ≡ indicators t here rest ++ (chosen t here.classes rest).cells
-    ++ translation_of_rest t (context_behind_all t here (take (chosen t here.classes rest).taken rest)) (drop (chosen t here.classes rest).taken rest)
+    ++ translation_of_rest t (context_after_all t here (take (chosen t here.classes rest).taken rest)) (drop (chosen t here.classes rest).taken rest)
 translation_of_rest-step t here [] h = absurd (omega (arith, h))
 translation_of_rest-step t here (c ∷ rest) h = translation_of_rest-rule t here c rest
 
 -- the context after the next n characters
-pub context_behind_all-take : (t : TableView) (text : List ℕ) (i n : ℕ) → n ≤ length (drop i text)
-    → context_behind_all t (context_at t text i) (take n (drop i text)) ≡ context_at t text (i + n)
-context_behind_all-take t text i n h =
-    sym (context_behind_all-at t text i (take n (drop i text)) (drop n (drop i text)) (sym (take-append-drop n (drop i text))))
+pub context_after_all-take : (t : TableView) (text : List ℕ) (i n : ℕ) → n ≤ length (drop i text)
+    → context_after_all t (context_at t text i) (take n (drop i text)) ≡ context_at t text (i + n)
+context_after_all-take t text i n h =
+    sym (context_after_all-at t text i (take n (drop i text)) (drop n (drop i text)) (sym (take-append-drop n (drop i text))))
     ∙ ap (λ k. context_at t text (i + k)) (length-take-le n (drop i text) h)
 
 -- the translation from a position on, and its one equation
@@ -136,11 +136,11 @@ translation_from-step t text i h =
     let some : 0 < length rest = omega (arith, length-drop i text) in
     let n = (chosen_at t text i).taken in
     let takes = chosen-takes t (classes_before t text i) rest some in
-    let behind : context_behind_all t here (take n rest) ≡ context_at t text (i + n) = context_behind_all-take t text i n takes.room in
+    let behind : context_after_all t here (take n rest) ≡ context_at t text (i + n) = context_after_all-take t text i n takes.room in
     let left : drop n rest ≡ drop (i + n) text = drop-drop n i text in
     let law = translation_of_rest-step t here rest some in
     let from = translation_from-at t text i in
     let on = translation_from-at t text (i + n) in
-    let same : translation_of_rest t (context_behind_all t here (take n rest)) (drop n rest) ≡ translation_of_rest t (context_at t text (i + n)) (drop (i + n) text) =
+    let same : translation_of_rest t (context_after_all t here (take n rest)) (drop n rest) ≡ translation_of_rest t (context_at t text (i + n)) (drop (i + n) text) =
     ap (λ h. translation_of_rest t h (drop n rest)) behind ∙ ap (translation_of_rest t (context_at t text (i + n))) left in
     from ∙ law ∙ ap (λ x. indicators_at t text i ++ (chosen_at t text i).cells ++ x) (same ∙ sym on)

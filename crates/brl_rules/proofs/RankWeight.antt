@@ -7,6 +7,7 @@ use Rattle.std.proofs.lemmas.List.Elements.{filter_agree}
 use Rattle.brl_rules.specs.declared.rule.Rule.{Rule}
 use Rattle.brl_rules.specs.Places.{is_placed}
 use Rattle.brl_rules.specs.Rank.{outranks, IsInRank}
+use Rattle.brl_rules.proofs.Facts.{not_below, not_above, no_less}
 
 -- twice the number of its characters, and one more where it is placed
 abbrev pub weight : Rule → ℕ
@@ -21,15 +22,12 @@ by_placing false false m n = grind (arith, nat_tests)
 pub outranks-weight : (r s : Rule) → outranks r s ≡ nat_lt (weight s) (weight r)
 outranks-weight r s = by_placing (is_placed r.place) (is_placed s.place) (length r.chars) (length s.chars)
 
-same_weight : (m n : ℕ) → (not (nat_lt m n) && not (nat_lt n m)) ≡ nat_eq m n
-same_weight m n = grind (arith, nat_tests)
-
 -- neither of two rules outranks the other where they have the same weight
 pub ties-weight : (r s : Rule) → ties outranks r s ≡ nat_eq (weight s) (weight r)
 ties-weight r s =
     ap (λ b. not b && not (outranks s r)) (outranks-weight r s)
     ∙ ap (λ b. not (nat_lt (weight s) (weight r)) && not b) (outranks-weight s r)
-    ∙ same_weight (weight s) (weight r)
+    ∙ no_less (weight s) (weight r)
 
 -- the rules of weight n
 unfoldable pub of_weight : ℕ → List Rule → List Rule
@@ -39,14 +37,8 @@ pub ties-of_weight : (r : Rule) (rules : List Rule) → filter (ties outranks r)
 unfolding of_weight
 ties-of_weight r rules = filter_agree (ties outranks r) (λ s. nat_eq (weight s) (weight r)) (ties-weight r) rules
 
-not_below : (m n : ℕ) → nat_lt m n ≡ false → n ≤ m
-not_below m n h = grind (arith, nat_tests)
-
 below : (m n : ℕ) → nat_lt m n ≡ true → m < n
 below m n h = grind (arith, nat_tests)
-
-not_above : (m n : ℕ) → n ≤ m → nat_lt m n ≡ false
-not_above m n h = grind (arith, nat_tests)
 
 -- a rule that another outranks has less weight
 pub outranked-weight : (r s : Rule) → outranks r s ≡ true → weight s < weight r

@@ -9,9 +9,10 @@ use Rattle.brl_rules.specs.declared.context.Context.{Context}
 use Rattle.brl_rules.specs.declared.rule.Info.{Info}
 use Rattle.brl_rules.specs.declared.signs.Sign.{Sign}
 use Rattle.brl_rules.specs.declared.signs.Sign.TheVariants.{CapsLetter, NumSign, NoContractSign, BegCapsWord, EndCapsWord}
-use Rattle.brl_rules.specs.Indicators.{is_used, sign_order, signs_of, used_cells}
-use Rattle.brl_rules.specs.TableView.{TableView, sign_cells}
+use Rattle.brl_rules.specs.Indicators.{is_used, sign_order, indicators_of, used_cells}
+use Rattle.brl_rules.specs.TableView.{TableView, indicator_cells}
 use Rattle.brl_rules.specs.Signs.{all_signs, by_sign, cells_at, is_same_sign, sign_number}
+use Rattle.brl_rules.proofs.Facts.{some_is}
 
 -- each indicator is at its number among them all
 at-number : (sign : Sign) → slice_get all_signs (sign_number sign) ≡ Some sign
@@ -33,18 +34,15 @@ numbered (suc (suc (suc (suc (suc n))))) small = absurd (omega (arith, small))
 number-small : (sign : Sign) → sign_number sign < length all_signs
 number-small sign = slice_get_within all_signs (sign_number sign) sign (at-number sign)
 
-inside_some : {X : Type 0} (x y : X) → Some x ≡ Some y → x ≡ y
-inside_some x y h = cc
-
 pub same-sign : (sign other : Sign) → is_same_sign sign other ≡ true → sign ≡ other
 same-sign sign other h =
     let same : sign_number sign ≡ sign_number other = (Decides-eqb (sign_number sign) (sign_number other)).0 h in
-    inside_some sign other (sym (at-number sign) ∙ ap (slice_get all_signs) same ∙ at-number other)
+    some_is sign other (sym (at-number sign) ∙ ap (slice_get all_signs) same ∙ at-number other)
 
 pub own-cells : (cells : Sign → List ℕ) (sign : Sign) → cells_at (by_sign cells) sign ≡ cells sign
 own-cells cells sign =
     let within : sign_number sign < length (map cells all_signs) = omega (arith, length-map all_signs cells, number-small sign) in
-    inside_some (cells_at (by_sign cells) sign) (cells sign)
+    some_is (cells_at (by_sign cells) sign) (cells sign)
     (sym (slice_get-get_or (map cells all_signs) (sign_number sign) [] within)
     ∙ slice_get-map cells all_signs (sign_number sign) ∙ ap (option_map cells) (at-number sign))
 
@@ -74,6 +72,6 @@ none-joined : (cells : Sign → List ℕ) (signs : List Sign) → ((sign : Sign)
 none-joined cells [] none = refl
 none-joined cells (sign ∷ signs) none = ap (λ first. first ++ flat_map cells signs) (none sign) ∙ none-joined cells signs none
 
-pub signs-none : (t : TableView) (here : Context) (run : Bool) (info : Info) → ((sign : Sign) → is_used t here run info sign ≡ false) → signs_of t here run info ≡ []
+pub signs-none : (t : TableView) (here : Context) (run : Bool) (info : Info) → ((sign : Sign) → is_used t here run info sign ≡ false) → indicators_of t here run info ≡ []
 signs-none t here run info none =
-    none-joined (used_cells t here run info) sign_order (λ sign. no-cells (is_used t here run info sign) (sign_cells t sign) (none sign))
+    none-joined (used_cells t here run info) sign_order (λ sign. no-cells (is_used t here run info sign) (indicator_cells t sign) (none sign))

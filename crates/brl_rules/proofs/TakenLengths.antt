@@ -6,7 +6,7 @@ use Rattle.brl_rules.specs.declared.rule.Rule.{Rule}
 use Rattle.brl_rules.specs.declared.class.Class.{Class}
 use Rattle.brl_rules.specs.TableView.{TableView}
 use Rattle.brl_rules.specs.Places.{holds, before_of, after_of}
-use Rattle.brl_rules.specs.Text.{classes_at, is_in_run}
+use Rattle.brl_rules.specs.Text.{classes_at, is_in_caps_run}
 use Rattle.brl_rules.specs.Choice.{Choice, compared, matches, fits, first_fitting, by_rule, chosen}
 use Rattle.brl_rules.proofs.Compared.{compared-length}
 
@@ -29,7 +29,7 @@ matches-Takes t run rest (x ∷ xs) h =
 
 pub fits-Takes : (t : TableView) (before : Class) (rest : List ℕ) (r : Rule) → fits t before rest r ≡ true → Takes (length r.chars) rest
 fits-Takes t before rest r h =
-    let run = is_in_run t before rest in
+    let run = is_in_caps_run t before rest in
     matches-Takes t run rest r.chars
     (first_so (matches t run rest r.chars) (holds (before_of r.place) before)
     (first_so (matches t run rest r.chars && holds (before_of r.place) before)

@@ -10,15 +10,10 @@ use Rattle.brl_rules.specs.declared.tree.Node.{Node}
 use Rattle.brl_rules.specs.declared.tree.Node.TheOpen.{Node-F}
 use Rattle.brl_rules.specs.declared.tree.Node.TheViews.{roll-Node, out-roll-Node}
 use Rattle.brl_rules.specs.Tree.{branch_of, ends_at}
+use Rattle.brl_rules.proofs.Facts.{not_below, same_number}
 
 other : (m x c : ℕ) → nat_eq m c ≡ true → nat_eq m x ≡ false → nat_eq x c ≡ false
 other m x c h k = grind (arith, nat_tests)
-
-not_below : (m n : ℕ) → nat_lt m n ≡ false → n ≤ m
-not_below m n h = grind (arith, nat_tests)
-
-pub same_number : (m n : ℕ) → nat_eq m n ≡ true → m ≡ n
-same_number m n h = grind (arith, nat_tests)
 
 -- a list of branches to which characters lead
 module _ {X : Type 0} (mark : X → ℕ) (f : X → List ℕ) (h : List ℕ → List ℕ) (x c : ℕ) where

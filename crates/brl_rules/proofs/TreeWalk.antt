@@ -13,12 +13,13 @@ use Rattle.brl_rules.specs.declared.rule.Info.{Info}
 use Rattle.brl_rules.specs.declared.rule.Rule.{Rule}
 use Rattle.brl_rules.specs.TableView.{TableView, info_of}
 use Rattle.brl_rules.specs.Places.{holds, before_of, after_of}
-use Rattle.brl_rules.specs.Text.{classes_at, is_in_run}
+use Rattle.brl_rules.specs.Text.{classes_at, is_in_caps_run}
 use Rattle.brl_rules.specs.Choice.{compared, matches, fits, place_allows, place_allows_number, by_rule, own, first_fitting, chosen, chosen_number}
 use Rattle.brl_rules.specs.Rank.{outranks, IsInRank}
 use Rattle.brl_rules.proofs.RankWeight.{level-length}
 use Rattle.brl_rules.specs.Tree.{is_just, numbers, ends_of}
 use Rattle.brl_rules.proofs.TakenLengths.{fits-Takes, starts_with-length}
+use Rattle.brl_rules.proofs.Facts.{some_is, same_number, not_both, nat_eq-itself, nat_eq-sym}
 
 -- ---- the first place at which a test holds
 
@@ -39,9 +40,6 @@ position-none p n (r ∷ rules) h =
     ∙ position-none p (n + 1) rules (λ k s is. h (suc k) s is)
 
 -- ---- the numbers of rules
-
-some_is : (r q : Rule) → Some r ≡ Some q → r ≡ q
-some_is r q h = cc
 
 pub find-numbers : (whole : List Rule) (just meets : Rule → Bool) (n : ℕ) (rules : List Rule) → ((k : ℕ) → slice_get whole (n + k) ≡ slice_get rules k)
     → find (λ number. option_map_or meets (slice_get whole number) false) (numbers just n rules) ≡ position_from (λ r. just r && meets r) n rules
@@ -163,15 +161,6 @@ zero-eq n = grind (arith, nat_tests)
 eq-zero : (n : ℕ) → nat_eq (suc n) 0 ≡ false
 eq-zero n = grind (arith, nat_tests)
 
-same-itself : (n : ℕ) → nat_eq n n ≡ true
-same-itself n = grind (arith, nat_tests)
-
-same-number : (m n : ℕ) → nat_eq m n ≡ true → m ≡ n
-same-number m n h = grind (arith, nat_tests)
-
-eq-flip : (m n : ℕ) → nat_eq m n ≡ nat_eq n m
-eq-flip m n = grind (arith, nat_tests)
-
 and-assoc : (a b c : Bool) → a && (b && c) ≡ (a && b) && c
 and-assoc true b c = refl
 and-assoc false b c = refl
@@ -209,9 +198,6 @@ pub not_true : (b : Bool) → (b ≡ true → ⊥) → b ≡ false
 not_true true h = absurd (h refl)
 not_true false h = refl
 
-not_both : (b : Bool) → b ≡ true → b ≡ false → ⊥
-not_both b h k = let e : true ≡ false = sym h ∙ k in cc
-
 one-le : (w : ℕ) → 1 ≤ w → nat_eq w (0 + 1) ≡ nat_le w (0 + 1)
 one-le w h = grind (arith, nat_tests)
 
@@ -220,7 +206,7 @@ some_number m n h = cc
 
 just-itself : (chars : List ℕ) → is_just chars chars ≡ true
 just-itself [] = refl
-just-itself (x ∷ chars) = ap (λ b. b && is_just chars chars) (same-itself x) ∙ just-itself chars
+just-itself (x ∷ chars) = ap (λ b. b && is_just chars chars) (nat_eq-itself x) ∙ just-itself chars
 
 -- a start of the rest with more than k characters has its character k
 longer-front : (k : ℕ) (behind others : List ℕ) (d : ℕ) → starts_with nat_eq behind others ≡ true → k < length others
@@ -234,26 +220,26 @@ longer-front (suc k) (b ∷ behind) (o ∷ others) d h more =
     ∙ longer-front k behind others d (second_so (nat_eq o b) (starts_with nat_eq behind others) h) (omega arith)
 
 -- the rest begins with these characters, as rules are compared with it
-module _ (t : TableView) (before : Class) (rest : List ℕ) (first : ℕ) (behind : List ℕ) (is : compared t (is_in_run t before rest) rest ≡ first ∷ behind) where
+module _ (t : TableView) (before : Class) (rest : List ℕ) (first : ℕ) (behind : List ℕ) (is : compared t (is_in_caps_run t before rest) rest ≡ first ∷ behind) where
   -- a rule matches where those begin with its characters
-  begins : (x : ℕ) (others : List ℕ) → matches t (is_in_run t before rest) rest (x ∷ others) ≡ nat_eq x first && starts_with nat_eq behind others
+  begins : (x : ℕ) (others : List ℕ) → matches t (is_in_caps_run t before rest) rest (x ∷ others) ≡ nat_eq x first && starts_with nat_eq behind others
   begins x others = ap (λ l. starts_with nat_eq l (x ∷ others)) is
 
   just-matches : (chars : List ℕ) (k : ℕ) → k ≤ length behind
-      → is_just chars (first ∷ take k behind) ≡ matches t (is_in_run t before rest) rest chars && nat_eq (length chars) (k + 1)
+      → is_just chars (first ∷ take k behind) ≡ matches t (is_in_caps_run t before rest) rest chars && nat_eq (length chars) (k + 1)
   just-matches [] k h = refl
   just-matches (x ∷ others) k h =
       let plus : k + 1 ≡ suc k = omega arith in
       ap (λ e. nat_eq x first && e) (just-front others behind k h)
       ∙ and-assoc (nat_eq x first) (starts_with nat_eq behind others) (nat_eq (length others) k)
       ∙ ap (λ e. e && nat_eq (length others) k) (sym (begins x others))
-      ∙ ap (λ e. matches t (is_in_run t before rest) rest (x ∷ others) && e) (sym (suc-eq (length others) k) ∙ ap (nat_eq (suc (length others))) (sym plus))
+      ∙ ap (λ e. matches t (is_in_caps_run t before rest) rest (x ∷ others) && e) (sym (suc-eq (length others) k) ∙ ap (nat_eq (suc (length others))) (sym plus))
 
   just-fits : (k : ℕ) → k ≤ length behind → (r : Rule)
       → is_just r.chars (first ∷ take k behind) && place_allows t before rest r ≡ fits t before rest r && nat_eq (length_of r) (k + 1)
   just-fits k h r =
       ap (λ e. e && place_allows t before rest r) (just-matches r.chars k h)
-      ∙ four (matches t (is_in_run t before rest) rest r.chars) (nat_eq (length_of r) (k + 1)) (holds (before_of r.place) before)
+      ∙ four (matches t (is_in_caps_run t before rest) rest r.chars) (nat_eq (length_of r) (k + 1)) (holds (before_of r.place) before)
       (holds (after_of r.place before) (classes_at t rest (length r.chars)))
 
   -- the first rule at a node whose place allows it is the first in rank of this length that fits
@@ -265,17 +251,17 @@ module _ (t : TableView) (before : Class) (rest : List ℕ) (first : ℕ) (behin
       ∙ position-agree (λ r. is_just r.chars (first ∷ take k behind) && place_allows t before rest r) (λ r. fits t before rest r && nat_eq (length_of r) (k + 1)) 0 t.rules
       (λ j r there. just-fits k h r)
 
-  pub fits-matches : (r : Rule) → fits t before rest r ≡ true → matches t (is_in_run t before rest) rest r.chars ≡ true
+  pub fits-matches : (r : Rule) → fits t before rest r ≡ true → matches t (is_in_caps_run t before rest) rest r.chars ≡ true
   fits-matches r h =
-      first_so (matches t (is_in_run t before rest) rest r.chars) (holds (before_of r.place) before)
-      (first_so (matches t (is_in_run t before rest) rest r.chars && holds (before_of r.place) before) (holds (after_of r.place before) (classes_at t rest (length r.chars))) h)
+      first_so (matches t (is_in_caps_run t before rest) rest r.chars) (holds (before_of r.place) before)
+      (first_so (matches t (is_in_caps_run t before rest) rest r.chars && holds (before_of r.place) before) (holds (after_of r.place before) (classes_at t rest (length r.chars))) h)
 
   -- the characters of a rule with which the rest begins
-  pub front : (chars : List ℕ) → matches t (is_in_run t before rest) rest chars ≡ true → (others : List ℕ) × (chars ≡ first ∷ others) × (starts_with nat_eq behind others ≡ true)
+  pub front : (chars : List ℕ) → matches t (is_in_caps_run t before rest) rest chars ≡ true → (others : List ℕ) × (chars ≡ first ∷ others) × (starts_with nat_eq behind others ≡ true)
   front [] h = cc
   front (x ∷ others) h =
       let both : nat_eq x first && starts_with nat_eq behind others ≡ true = sym (begins x others) ∙ h in
-      let x-is : x ≡ first = same-number x first (first_so (nat_eq x first) (starts_with nat_eq behind others) both) in
+      let x-is : x ≡ first = same_number x first (first_so (nat_eq x first) (starts_with nat_eq behind others) both) in
       (others, ap (λ y. y ∷ others) x-is, second_so (nat_eq x first) (starts_with nat_eq behind others) both)
 
   -- the rules of one character are at the first node
@@ -342,7 +328,7 @@ module _ (t : TableView) (before : Class) (rest : List ℕ) (first : ℕ) (behin
           by_order (inr (inr more)) =
               let at = take k behind ++ get_or behind k d ∷ drop (suc k) f.0 in
               let just : is_just r.chars (first ∷ at) ≡ true =
-              ap (λ chars. is_just chars (first ∷ at)) f.1 ∙ ap (λ b. b && is_just f.0 at) (same-itself first) ∙ longer-front k behind f.0 d f.2 more in
+              ap (λ chars. is_just chars (first ∷ at)) f.1 ∙ ap (λ b. b && is_just f.0 at) (nat_eq-itself first) ∙ longer-front k behind f.0 d f.2 more in
               let not : is_just r.chars (first ∷ at) ≡ false =
               numbers-none (λ r. is_just r.chars (first ∷ at)) 0 t.rules (sym (none (drop (suc k) f.0))) j r there in
               absurd (not_both (is_just r.chars (first ∷ at)) just not)
@@ -354,7 +340,7 @@ no-match t run (x ∷ chars) = refl
 pub rest-none : (t : TableView) (before : Class) (rest : List ℕ) → length rest ≡ 0 → position_from (fits t before rest) 0 t.rules ≡ None
 rest-none t before [] h =
     position-none (fits t before []) 0 t.rules
-    (λ j r is. ap (λ b. b && holds (before_of r.place) before && holds (after_of r.place before) (classes_at t [] (length r.chars))) (no-match t (is_in_run t before []) r.chars))
+    (λ j r is. ap (λ b. b && holds (before_of r.place) before && holds (after_of r.place before) (classes_at t [] (length r.chars))) (no-match t (is_in_caps_run t before []) r.chars))
 rest-none t before (c ∷ rest) h = absurd (omega arith)
 
 pub one_more : (k d : ℕ) (behind at : List ℕ) → k < length behind → take k behind ++ get_or behind k d ∷ at ≡ take (k + 1) behind ++ at

@@ -6,9 +6,7 @@ use Rattle.std.proofs.lemmas.Bool.Decides.{nat_tests}
 use Rattle.brl_rules.specs.declared.rule.Rule.{Rule}
 use Rattle.brl_rules.specs.Rank.{IsRanking}
 use Rattle.brl_rules.proofs.RankWeight.{weight, of_weight, ties-of_weight, IsByWeight, rank-by_weight}
-
-same : (n : ℕ) → nat_eq n n ≡ true
-same n = grind (arith, nat_tests)
+use Rattle.brl_rules.proofs.Facts.{nat_eq-itself}
 
 differ : (m n : ℕ) → m < n → nat_eq m n ≡ false
 differ m n h = grind (arith, nat_tests)
@@ -25,7 +23,7 @@ none_as_heavy n (r ∷ rules) h =
 
 first_counts : (r : Rule) (rules : List Rule) → of_weight (weight r) (r ∷ rules) ≡ r ∷ of_weight (weight r) rules
 unfolding of_weight
-first_counts r rules = rw (same (weight r)) refl
+first_counts r rules = rw (nat_eq-itself (weight r)) refl
 
 -- no rule after the first of a ranking is heavier
 at_most_first : (r : Rule) (rules : List Rule) → IsByWeight (r ∷ rules) → (k : ℕ) (d : Rule) → k < length (r ∷ rules) → weight (slice_index_or (r ∷ rules) k d) ≤ weight r
@@ -42,7 +40,7 @@ of_none n = refl
 no_cons : (r : Rule) (rules : List Rule) → r ∷ rules ≡ [] → ⊥
 no_cons r rules e = cc
 
--- the first of one ranking is no heavier than the first of another of the same rules
+-- the first of one ranking is no heavier than the first of another of the nat_eq-itself rules
 not_heavier : (x y : Rule) (xs ys : List Rule) → IsByWeight (y ∷ ys) → ((r : Rule) → of_weight (weight r) (x ∷ xs) ≡ of_weight (weight r) (y ∷ ys)) → weight y < weight x → ⊥
 not_heavier x y xs ys h agree more =
     no_cons x (of_weight (weight x) xs)
@@ -63,7 +61,7 @@ same_head x y xs ys e = cc
 same_tail : (x y : Rule) (xs ys : List Rule) → x ∷ xs ≡ y ∷ ys → xs ≡ ys
 same_tail x y xs ys e = cc
 
--- after removing the same first rule, the rules of each weight still agree
+-- after removing the nat_eq-itself first rule, the rules of each weight still agree
 tails_agree : (n : ℕ) (x : Rule) (xs ys : List Rule) → of_weight n (x ∷ xs) ≡ of_weight n (x ∷ ys) → of_weight n xs ≡ of_weight n ys
 unfolding of_weight
 tails_agree n x xs ys = by_test (nat_eq (weight x) n)

@@ -9,7 +9,7 @@ use Rattle.brl_rules.specs.declared.class.Class.{Class}
 use Rattle.brl_rules.specs.declared.rule.Rule.{Rule}
 use Rattle.brl_rules.specs.TableView.{TableView, info_of}
 use Rattle.brl_rules.specs.Places.{holds, before_of, after_of}
-use Rattle.brl_rules.specs.Text.{fold_of, classes_at, classes_of, is_capital, is_defined, is_in_run}
+use Rattle.brl_rules.specs.Text.{fold_of, classes_at, classes_of, is_capital, is_defined, is_in_caps_run}
 
 -- the folds of the capitals with which a rest begins, up to the first character that isn't one
 abbrev pub folds_of_capitals : TableView → List ℕ → List ℕ
@@ -32,7 +32,7 @@ matches t run rest (first ∷ others) = starts_with nat_eq (compared t run rest)
 -- place
 abbrev pub fits : TableView → Class → List ℕ → Rule → Bool
 fits t before rest r =
-    matches t (is_in_run t before rest) rest r.chars
+    matches t (is_in_caps_run t before rest) rest r.chars
     && holds (before_of r.place) before
     && holds (after_of r.place before) (classes_at t rest (length r.chars))
 

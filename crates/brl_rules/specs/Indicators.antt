@@ -7,10 +7,10 @@ use Rattle.brl_rules.specs.declared.context.Context.{Context}
 use Rattle.brl_rules.specs.declared.rule.Info.{Info}
 use Rattle.brl_rules.specs.declared.signs.Sign.{Sign}
 use Rattle.brl_rules.specs.declared.signs.Sign.TheVariants.{CapsLetter, NumSign, NoContractSign, BegCapsWord, EndCapsWord}
-use Rattle.brl_rules.specs.TableView.{TableView, sign_cells}
+use Rattle.brl_rules.specs.TableView.{TableView, indicator_cells}
 use Rattle.brl_rules.specs.Infos.{first_info}
 use Rattle.brl_rules.specs.Places.{letter, share}
-use Rattle.brl_rules.specs.Text.{has_word_capitals, is_capital, is_in_run}
+use Rattle.brl_rules.specs.Text.{has_word_capitals, is_capital, is_in_caps_run}
 
 -- whether a table uses an indicator before a character that is in a run of capitals, or isn't: the
 -- one after a run, which is for tables with word capitals, before a letter that isn't a capital; the
@@ -30,16 +30,16 @@ sign_order = EndCapsWord ∷ NoContractSign ∷ NumSign ∷ BegCapsWord ∷ Caps
 
 -- the cells of an indicator where it is used, else none
 abbrev pub used_cells : TableView → Context → Bool → Info → Sign → List ℕ
-used_cells t here run info sign = if is_used t here run info sign then sign_cells t sign else []
+used_cells t here run info sign = if is_used t here run info sign then indicator_cells t sign else []
 
 -- the indicators before a character
-abbrev pub signs_of : TableView → Context → Bool → Info → List ℕ
-signs_of t here run info = flat_map (used_cells t here run info) sign_order
+abbrev pub indicators_of : TableView → Context → Bool → Info → List ℕ
+indicators_of t here run info = flat_map (used_cells t here run info) sign_order
 
 -- the indicators before a rest that begins in a run of capitals, or doesn't
-abbrev pub signs_before : TableView → Context → Bool → List ℕ → List ℕ
-signs_before t here run rest = option_map_or (signs_of t here run) (first_info t rest) []
+abbrev pub indicators_before : TableView → Context → Bool → List ℕ → List ℕ
+indicators_before t here run rest = option_map_or (indicators_of t here run) (first_info t rest) []
 
 -- the indicators before a rest
 abbrev pub indicators : TableView → Context → List ℕ → List ℕ
-indicators t here rest = signs_before t here (is_in_run t here.classes rest) rest
+indicators t here rest = indicators_before t here (is_in_caps_run t here.classes rest) rest

@@ -7,7 +7,7 @@ use Rattle.std.specs.Map.{keys_of, lookup}
 use Rattle.brl_rules.specs.declared.rule.Info.{Info}
 use Rattle.brl_rules.specs.declared.rule.Rule.{Rule}
 use Rattle.brl_rules.specs.declared.signs.Sign.{Sign}
-use Rattle.brl_rules.specs.TableView.{TableView, sign_cells}
+use Rattle.brl_rules.specs.TableView.{TableView, indicator_cells}
 use Rattle.brl_rules.specs.Rank.{IsInRank}
 
 -- these entries define a character
@@ -34,7 +34,7 @@ pub record IsRule (characters : List (ℕ × Info)) (files : ℕ) (rule : Rule) 
 pub record AreFew (t : TableView) : Type 0 where
   pub characters : length t.characters ≤ 1024
   pub rules : length t.rules ≤ 4096
-  pub signs : (sign : Sign) → length (sign_cells t sign) ≤ 16
+  pub signs : (sign : Sign) → length (indicator_cells t sign) ≤ 16
 
 -- the number of an entry is its place
 abbrev pub AreNumbered : List (ℕ × Info) → Type 0

@@ -4,12 +4,12 @@ use Rattle.brl_rules.specs.declared.class.Class.{Class}
 use Rattle.brl_rules.specs.declared.rule.Rule.{Rule}
 use Rattle.brl_rules.specs.TableView.{TableView}
 use Rattle.brl_rules.specs.Places.{holds, before_of, after_of}
-use Rattle.brl_rules.specs.Text.{fold_of, classes_at, classes_before, classes_of, is_capital, is_in_run}
+use Rattle.brl_rules.specs.Text.{fold_of, classes_at, classes_before, classes_of, is_capital, is_in_caps_run}
 use Rattle.brl_rules.specs.Choice.{fits}
 
 -- whether position i is in a run of capitals
-abbrev pub in_run_at : TableView → List ℕ → ℕ → Bool
-in_run_at t text i = is_in_run t (classes_before t text i) (drop i text)
+abbrev pub in_caps_run_at : TableView → List ℕ → ℕ → Bool
+in_caps_run_at t text i = is_in_caps_run t (classes_before t text i) (drop i text)
 
 -- Rule r fits at position i: it has characters, and the text has as many from there on; its first
 -- character is the fold of the text's; its others are the text's own, or in a run of capitals the
@@ -19,9 +19,9 @@ pub record FitsAt (t : TableView) (text : List ℕ) (i : ℕ) (r : Rule) : Type 
   pub some : 1 ≤ length r.chars
   pub room : i + length r.chars ≤ length text
   pub first : fold_of t (slice_index text i) ≡ slice_index r.chars 0
-  pub others : in_run_at t text i ≡ false → (k : ℕ) → 1 ≤ k → k < length r.chars → slice_index text (i + k) ≡ slice_index r.chars k
-  pub capitals : in_run_at t text i ≡ true → (k : ℕ) → 1 ≤ k → k < length r.chars → IsTrue (is_capital (classes_of t (slice_index text (i + k))))
-  pub folds : in_run_at t text i ≡ true → (k : ℕ) → 1 ≤ k → k < length r.chars → fold_of t (slice_index text (i + k)) ≡ slice_index r.chars k
+  pub others : in_caps_run_at t text i ≡ false → (k : ℕ) → 1 ≤ k → k < length r.chars → slice_index text (i + k) ≡ slice_index r.chars k
+  pub capitals : in_caps_run_at t text i ≡ true → (k : ℕ) → 1 ≤ k → k < length r.chars → IsTrue (is_capital (classes_of t (slice_index text (i + k))))
+  pub folds : in_caps_run_at t text i ≡ true → (k : ℕ) → 1 ≤ k → k < length r.chars → fold_of t (slice_index text (i + k)) ≡ slice_index r.chars k
   pub before : IsTrue (holds (before_of r.place) (classes_before t text i))
   pub after : IsTrue (holds (after_of r.place (classes_before t text i)) (classes_at t text (i + length r.chars)))
 

@@ -3,7 +3,7 @@
 use Rattle.std.specs.Prelude.{ℕ, zero, suc, ◌≡◌, List, [], ◌∷◌, ◌++◌, length, take, drop}
 use Rattle.brl_rules.specs.declared.context.Context.{Context}
 use Rattle.brl_rules.specs.TableView.{TableView}
-use Rattle.brl_rules.specs.Text.{context_behind_all}
+use Rattle.brl_rules.specs.Text.{context_after_all}
 use Rattle.brl_rules.specs.Indicators.{indicators}
 use Rattle.brl_rules.specs.Choice.{chosen}
 
@@ -14,7 +14,7 @@ rest_from t (suc steps) here [] = []
 rest_from t (suc steps) here (c ∷ rest) =
     let choice = chosen t here.classes (c ∷ rest) in
     indicators t here (c ∷ rest) ++ choice.cells
-    ++ rest_from t steps (context_behind_all t here (take choice.taken (c ∷ rest))) (drop choice.taken (c ∷ rest))
+    ++ rest_from t steps (context_after_all t here (take choice.taken (c ∷ rest))) (drop choice.taken (c ∷ rest))
 
 -- the translation of `rest` in the context `here`
 unfoldable pub translation_of_rest : TableView → Context → List ℕ → List ℕ
@@ -26,4 +26,4 @@ TakesOneRule t here rest =
     let choice = chosen t here.classes rest in
     translation_of_rest t here rest
     ≡ indicators t here rest ++ choice.cells
-    ++ translation_of_rest t (context_behind_all t here (take choice.taken rest)) (drop choice.taken rest)
+    ++ translation_of_rest t (context_after_all t here (take choice.taken rest)) (drop choice.taken rest)

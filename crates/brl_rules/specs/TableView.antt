@@ -22,5 +22,5 @@ abbrev pub info_of : TableView → ℕ → Option Info
 info_of t c = lookup (nat_eq c) t.characters
 
 -- the cells of an indicator
-abbrev pub sign_cells : TableView → Sign → List ℕ
-sign_cells t sign = cells_at t.signs sign
+abbrev pub indicator_cells : TableView → Sign → List ℕ
+indicator_cells t sign = cells_at t.signs sign

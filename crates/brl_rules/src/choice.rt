@@ -3,7 +3,7 @@ ghost use Rattle.std.specs.Prelude.{◌≡◌, [], ◌<◌, ◌≤◌, length, s
 ghost use Rattle.std.specs.List.{find, position_from};
 ghost use Rattle.brl_rules.specs.Choice.{fits, place_allows, place_allows_number, chosen, chosen_number, IsChoice};
 ghost use Rattle.brl_rules.specs.Infos.{first_info};
-ghost use Rattle.brl_rules.specs.Text.{fold_of, is_in_run};
+ghost use Rattle.brl_rules.specs.Text.{fold_of, is_in_caps_run};
 ghost use Rattle.brl_rules.specs.Tree.{ends_at, mark_of};
 
 use crate::tree::Node;
@@ -36,7 +36,7 @@ impl Table {
         self.law();
         match self.info(rest[0]) {
             Some(info) => {
-                let run = self.is_in_run_of(info, before, rest);
+                let run = self.is_in_caps_run_of(info, before, rest);
                 self.choice_of(info, run, before, rest)
             }
             None => Choice {
@@ -57,7 +57,7 @@ impl Table {
         rest: &[char],
     ) -> Choice<'a>
         requires info { first_info self.now rest.now ≡ Some info.now }
-        requires run { run ≡ is_in_run self.now before rest.now }
+        requires run { run ≡ is_in_caps_run self.now before rest.now }
         ensures choice { IsChoice result (chosen self.now before rest.now) }
         ensures some { 0 < result.taken }
         ensures room { result.taken ≤ length rest.now }
@@ -88,7 +88,7 @@ impl Table {
         ensures { result ≡ chosen_number self.now before rest.now }
     {
         let info = self.info(*rest.first()?)?;
-        let run = self.is_in_run_of(info, before, rest);
+        let run = self.is_in_caps_run_of(info, before, rest);
         Some(self.choice_of(info, run, before, rest).number)
     }
 
@@ -96,7 +96,7 @@ impl Table {
     /// has this fold. `None` where no rule fits.
     fn fitting_rule(&self, fold: char, run: bool, before: Class, rest: &[char]) -> Option<u32>
         requires fold { IfSome (slice_get rest.now 0) (λ first. fold ≡ fold_of self.now first) }
-        requires run { run ≡ is_in_run self.now before rest.now }
+        requires run { run ≡ is_in_caps_run self.now before rest.now }
         ensures { result ≡ position_from (fits self.now before rest.now) 0 self.now.rules }
     {
         let (_, others) = rest.split_first()?;

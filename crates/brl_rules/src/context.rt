@@ -25,7 +25,7 @@ impl Table {
     ghost use Rattle.std.specs.Prelude.{◌≡◌, ℕ, List, Some};
     ghost use Rattle.brl_rules.specs.Infos.{AreInfosOf, first_info};
     ghost use Rattle.brl_rules.specs.TableView.{info_of};
-    ghost use Rattle.brl_rules.specs.Text.{are_run, context_behind, context_behind_all, has_word_capitals, is_in_run};
+    ghost use Rattle.brl_rules.specs.Text.{are_caps_run, context_after, context_after_all, has_word_capitals, is_in_caps_run};
 
     /// Whether the table has word capitals: it defines `begcapsword`.
     pub fn has_word_capitals(&self) -> bool
@@ -35,8 +35,8 @@ impl Table {
     }
 
     /// Whether two characters of these classes, in a row, make a run of capitals.
-    fn are_run(&self, first: Class, second: Class) -> bool
-        ensures { result ≡ are_run self.now first second }
+    fn are_caps_run(&self, first: Class, second: Class) -> bool
+        ensures { result ≡ are_caps_run self.now first second }
     {
         second.intersects(Class::UPPERCASE)
             && first.intersects(Class::UPPERCASE)
@@ -46,12 +46,12 @@ impl Table {
     /// Whether a rest of a text begins in a run of capitals, after a character with these classes:
     /// its first character is a capital, and so is the one before it or the one after it. Never so
     /// in a table without word capitals. `rest` is the text to its end.
-    pub fn is_in_run(&self, before: Class, rest: &[char]) -> bool
-        ensures { result ≡ is_in_run self.now before rest.now }
+    pub fn is_in_caps_run(&self, before: Class, rest: &[char]) -> bool
+        ensures { result ≡ is_in_caps_run self.now before rest.now }
     {
         match rest.first() {
             Some(first) => match self.info(*first) {
-                Some(info) => self.is_in_run_of(info, before, rest),
+                Some(info) => self.is_in_caps_run_of(info, before, rest),
                 None => false,
             },
             None => false,
@@ -59,9 +59,9 @@ impl Table {
     }
 
     /// The same, given the info of the first character.
-    pub fn is_in_run_of(&self, info: &Info, before: Class, rest: &[char]) -> bool
+    pub fn is_in_caps_run_of(&self, info: &Info, before: Class, rest: &[char]) -> bool
         requires { first_info self.now rest.now ≡ Some info.now }
-        ensures { result ≡ is_in_run self.now before rest.now }
+        ensures { result ≡ is_in_caps_run self.now before rest.now }
     {
         if !info.classes.intersects(Class::UPPERCASE) || !self.has_word_capitals() {
             return false;
@@ -70,31 +70,31 @@ impl Table {
     }
 
     /// The context after one more character, given its info.
-    pub fn context_behind_info(&self, here: Context, info: &Info) -> Context
-        ensures { (c : ℕ) → info_of self.now c ≡ Some info.now → result ≡ context_behind self.now here c }
+    pub fn context_after_info(&self, here: Context, info: &Info) -> Context
+        ensures { (c : ℕ) → info_of self.now c ≡ Some info.now → result ≡ context_after self.now here c }
     {
         Context {
             classes: info.classes,
             numeric: info.literary || info.mode && here.numeric,
-            run: self.are_run(here.classes, info.classes),
+            run: self.are_caps_run(here.classes, info.classes),
         }
     }
 
     /// The context after more characters, given their infos.
-    pub fn context_behind_infos(&self, here: Context, infos: &[&Info]) -> Context
+    pub fn context_after_infos(&self, here: Context, infos: &[&Info]) -> Context
         ensures { (chars : List ℕ) → AreInfosOf self.now chars infos.now →
-            result ≡ context_behind_all self.now here chars }
+            result ≡ context_after_all self.now here chars }
     {
         let mut context = here;
         for info in infos {
-            context = self.context_behind_info(context, info);
+            context = self.context_after_info(context, info);
         }
         context
     }
 
     /// The context after more characters.
-    pub fn context_behind(&self, here: Context, chars: &[char]) -> Context
-        ensures { result ≡ context_behind_all self.now here chars.now }
+    pub fn context_after(&self, here: Context, chars: &[char]) -> Context
+        ensures { result ≡ context_after_all self.now here chars.now }
     {
         let mut context = here;
         for character in chars {
@@ -105,10 +105,10 @@ impl Table {
 
     /// The context after one more character.
     fn behind(&self, here: Context, character: char) -> Context
-        ensures { result ≡ context_behind self.now here character }
+        ensures { result ≡ context_after self.now here character }
     {
         match self.info(character) {
-            Some(info) => self.context_behind_info(here, info),
+            Some(info) => self.context_after_info(here, info),
             None => Context {
                 classes: Class::NONE,
                 numeric: false,

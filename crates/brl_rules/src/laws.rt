@@ -11,7 +11,7 @@ ghost use Rattle.brl_rules.specs.Rest.{translation_of_rest, TakesOneRule};
 ghost use Rattle.brl_rules.specs.declared.signs.Sign.{Sign};
 ghost use Rattle.brl_rules.specs.Signs.{by_sign, cells_at, is_same_sign};
 ghost use Rattle.brl_rules.specs.TableView.{TableView};
-ghost use Rattle.brl_rules.specs.Text.{at_start, classes_before, context_at, context_behind_all};
+ghost use Rattle.brl_rules.specs.Text.{at_start, classes_before, context_at, context_after_all};
 ghost use Rattle.brl_rules.specs.Translation.{IsClash, IsUnambiguous, indicators_at, chosen_at, translation_from, translation};
 
 /// A list of the cells of each indicator gives each its own, and indicators with the same number
@@ -56,7 +56,7 @@ pub fn translation_laws()
     ensures end { (t : TableView) (here : Context) → translation_of_rest t here [] ≡ [] }
     ensures rule { (t : TableView) (here : Context) (rest : List ℕ) → 0 < length rest → TakesOneRule t here rest }
     ensures context { (t : TableView) (text : List ℕ) (i count : ℕ) → count ≤ length (drop i text) →
-        context_behind_all t (context_at t text i) (take count (drop i text)) ≡ context_at t text (i + count) }
+        context_after_all t (context_at t text i) (take count (drop i text)) ≡ context_at t text (i + count) }
 {}
 
 /// A table is unambiguous exactly where no two of its texts clash.

@@ -2,6 +2,9 @@
 //! places (`Rule`, `Place`) and the cells of indicators (`Sign`); it is made from `TableParts`. At a
 //! position of a text it gives the indicators, by the `Context` there, and the chosen rule
 //! (`Choice`). The specs define forward translation, on which every crate above builds.
+//!
+//! Room 1, text and tables (docs/dev/ARCHITECTURE.md). The definitions begin in
+//! `specs/Translation.antt`.
 #![tactic(auto)]
 
 mod choice;
@@ -22,5 +25,5 @@ pub use laws::{choice_laws, rank_law, signs_law, translation_laws, unambiguous_l
 pub use parts::TableParts;
 pub use place::{Cond, Place, holds};
 pub use rule::{Info, Notice, Rule};
-pub use signs::{Sign, Signs};
+pub use signs::{Indicators, Sign};
 pub use table::Table;

@@ -5,7 +5,7 @@ ghost use Rattle.std.specs.Map.{keys_of};
 ghost use Rattle.brl_rules.specs.Limits.{AreFew, AreNumbered, AreParts, IsAmong, IsEntry, IsRule};
 ghost use Rattle.brl_rules.specs.Views.{parts_view};
 
-use crate::{Info, Notice, Rule, Signs};
+use crate::{Indicators, Info, Notice, Rule};
 use indexmap::IndexMap;
 
 /// The parts of a table, for `Table::from_parts`.
@@ -16,7 +16,7 @@ pub struct TableParts {
     /// The used rules in the order of their lines.
     pub rules: Vec<Rule>,
     /// The cells of the indicators.
-    pub signs: Signs,
+    pub signs: Indicators,
     /// The names of the table's files, by their numbers.
     pub files: Vec<String>,
     /// The lines that define a character again, in order.

@@ -1,6 +1,6 @@
 //! The indicators, and the cells that a table gives them.
 ghost use Rattle.std.specs.Prelude.{◌≡◌, ◌<◌, ◌≤◌, ◌↔◌, ◌++◌, ℕ, Bool, false, IsTrue, OnOk, length};
-ghost use Rattle.brl_rules.specs.Indicators.{is_used, signs_before, signs_of, used_cells};
+ghost use Rattle.brl_rules.specs.Indicators.{is_used, indicators_before, indicators_of, used_cells};
 ghost use Rattle.brl_rules.specs.TableView.{TableView};
 ghost use Rattle.brl_rules.specs.declared.signs.Sign.{Sign as SignView};
 ghost use Rattle.brl_rules.specs.Signs.{cells_at, no_cells, sign_number, with_cells};
@@ -43,11 +43,11 @@ impl Sign {
 /// The cells of each indicator, none where it isn't defined. A contract sees a list of them, by the
 /// indicators' numbers.
 #[derive(Drop)]
-pub struct Signs {
+pub struct Indicators {
     cells: [Cells; Sign::COUNT],
 }
 
-impl Model for Signs {
+impl Model for Indicators {
     ghost use Rattle.std.specs.Prelude.{ℕ, List};
 
     ghost Value = { List (List ℕ) };
@@ -55,12 +55,12 @@ impl Model for Signs {
     ghost view = { λ s. s.cells };
 }
 
-impl Signs {
+impl Indicators {
     /// No indicator has cells. It takes no memory.
-    pub fn new(alloc: Global) -> Signs
+    pub fn new(alloc: Global) -> Indicators
         ensures { result ≡ no_cells }
     {
-        Signs {
+        Indicators {
             cells: array::from_fn(|_| Cells::new(alloc)),
         }
     }
@@ -97,7 +97,7 @@ impl Table {
         rest: &[char],
         cells: &mut Vec<Cell>,
     ) -> Result<(), AllocError>
-        ensures { OnOk result (cells.new.items ≡ cells.old.items ++ signs_before self.now here run rest.now) }
+        ensures { OnOk result (cells.new.items ≡ cells.old.items ++ indicators_before self.now here run rest.now) }
     {
         let Some(first) = rest.first() else {
             return Ok(());
@@ -105,19 +105,19 @@ impl Table {
         let Some(info) = self.info(*first) else {
             return Ok(());
         };
-        self.push_signs(here, run, info, cells)
+        self.push_indicators_of(here, run, info, cells)
     }
 
     /// Appends the cells of the indicators before a character with this info, which is in a run of
     /// capitals or isn't, to `cells`. After `AllocError` some of them may be there.
-    pub fn push_signs(
+    pub fn push_indicators_of(
         &self,
         here: Context,
         run: bool,
         info: &Info,
         cells: &mut Vec<Cell>,
     ) -> Result<(), AllocError>
-        ensures { OnOk result (cells.new.items ≡ cells.old.items ++ signs_of self.now here run info.now) }
+        ensures { OnOk result (cells.new.items ≡ cells.old.items ++ indicators_of self.now here run info.now) }
     {
         if !may_use_signs(here, info) {
             return Ok(());

@@ -5,7 +5,7 @@ ghost use Rattle.std.specs.Option.{option_map_or};
 ghost use Rattle.std.specs.Ordering.{is_lt};
 ghost use Rattle.brl_rules.specs.Limits.{AreParts, IsTable};
 ghost use Rattle.brl_rules.specs.Rank.{IsInRank, IsRanking, outranks};
-ghost use Rattle.brl_rules.specs.TableView.{info_of, sign_cells};
+ghost use Rattle.brl_rules.specs.TableView.{info_of, indicator_cells};
 ghost use Rattle.brl_rules.specs.Text.{classes_at as classes_there, classes_of};
 ghost use Rattle.brl_rules.specs.Tree.{ends_at, ends_of};
 ghost use Rattle.brl_rules.specs.Views.{parts_view};
@@ -126,7 +126,7 @@ impl Table {
 
     /// The cells of an indicator: none where it isn't defined.
     pub fn indicator(&self, sign: Sign) -> &[Cell]
-        ensures cells { result.now ≡ sign_cells self.now sign }
+        ensures cells { result.now ≡ indicator_cells self.now sign }
         ensures few { length result.now ≤ 16 }
     {
         self.parts.signs.cells(sign)

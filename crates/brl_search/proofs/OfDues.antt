@@ -6,7 +6,7 @@ use Rattle.brl_dues.specs.Steps.{dues_machine, dues_steps, first_state}
 use Rattle.brl_states.specs.declared.dues_state.DuesState.{DuesState}
 use Rattle.brl_pairs.specs.Runs.{IsListed}
 use Rattle.brl_pairs.specs.declared.step.Step.{Step}
-use Rattle.brl_finder.specs.Deciding.{HoldsSteps}
+use Rattle.brl_closure.specs.Deciding.{HoldsSteps}
 use Rattle.brl_rules.specs.TableView.{TableView}
 
 pub lists_hold : (t : TableView) → Contains (all_states t) first_state

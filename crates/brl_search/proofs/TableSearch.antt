@@ -4,11 +4,9 @@ use Rattle.std.specs.Cmp.{first_so, second_so}
 use Rattle.brl_dues.specs.Steps.{dues_machine}
 use Rattle.brl_forward.specs.ClashView.{ClashView}
 use Rattle.brl_pairs.specs.Runs.{Behaviour}
-use Rattle.brl_finder.specs.Answers.{IsOutcome}
-use Rattle.brl_finder.specs.Deciding.{IsClashOf}
+use Rattle.brl_closure.specs.Deciding.{IsClashOf}
 use Rattle.brl_search.specs.Found.{IfCertified, IfClashing, IsFound, IsFoundOver, IsFoundWithout}
 use Rattle.brl_search.specs.Searched.{State, machine_of}
-use Rattle.brl_finder.specs.declared.outcome.Outcome.{Outcome}
 use Rattle.brl_search.specs.declared.table_search.Found.{Found}
 use Rattle.brl_search.specs.declared.table_search.Found.TheVariants.{Certified, Clashing, Limit}
 use Rattle.brl_states.specs.declared.cert.Cert.TheVariants.{Dues, Window, Word}
@@ -85,6 +83,3 @@ found_all t limit found h =
     found-weaker (machine_of t) (IsUnambiguousWithout [] t) (IsUnambiguous t) (λ clash. IsClashWithout [] t clash.left clash.right clash.cells) (λ clash. IsClash t clash.left clash.right clash.cells) limit found
     (unambiguous-none t) (unambiguous-nothing t) (λ clash is. is.clash)
     (subst (λ (m : Behaviour State). IsFoundOver m (IsUnambiguousWithout [] t) (λ clash. IsClashWithout [] t clash.left clash.right clash.cells) limit found) (without-none (machine_of t)) h)
-
-pub outcome_nothing : (t : TableView) (limit : ℕ) (outcome : Outcome State) → IsOutcome (machine_of t) limit outcome → IsOutcome (without [] (machine_of t)) limit outcome
-outcome_nothing t limit outcome h = subst (λ (m : Behaviour State). IsOutcome m limit outcome) (sym (without-none (machine_of t))) h

@@ -1,13 +1,13 @@
 -- What a search of a table may answer. These are this project's own choice.
 use Rattle.std.specs.Prelude.{ℕ, ◌+◌, ◌<◌, ◌≤◌, ◌⊎◌, List}
-use Rattle.brl_edges.specs.Body.{BodyView}
+use Rattle.brl_pairs.specs.Body.{BodyView}
 use Rattle.brl_states.specs.declared.cert.Cert.TheVariants.{Dues, Window, Word}
 use Rattle.brl_forward.specs.ClashView.{ClashView}
-use Rattle.brl_edges.specs.Sets.{sets_of}
+use Rattle.brl_pairs.specs.Sets.{sets_of}
 use Rattle.brl_pairs.specs.Pairs.{IsClosed}
 use Rattle.brl_pairs.specs.Runs.{Behaviour}
-use Rattle.brl_finder.specs.Answers.{AreInOrder, HasReachedPairs, HasReachedStates, IsWithin}
-use Rattle.brl_finder.specs.Reached.{AtLeast, AtMost, Reached, ReachedPair, SamePair, SameState}
+use Rattle.brl_closure.specs.Answers.{AreInOrder, HasReachedPairs, HasReachedStates, IsWithin}
+use Rattle.brl_closure.specs.Reached.{AtLeast, AtMost, Reached, ReachedPair, SamePair, SameState}
 use Rattle.brl_search.specs.Searched.{State, machine_of}
 use Rattle.brl_rules.specs.TableView.{TableView}
 use Rattle.brl_rules.specs.Translation.{IsClash, IsUnambiguous}

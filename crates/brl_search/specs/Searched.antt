@@ -1,6 +1,6 @@
 -- The machine over which tables are searched, and the certificates that a search gives. Both are
 -- named here alone. The project's own choice.
-use Rattle.brl_edges.specs.Body.{BodyView}
+use Rattle.brl_pairs.specs.Body.{BodyView}
 use Rattle.brl_states.specs.declared.cert.Cert.TheVariants.{Word}
 use Rattle.brl_states.specs.declared.cert.Cert.{Cert as Certificate}
 use Rattle.brl_dues.specs.Steps.{dues_machine}

@@ -1,21 +1,21 @@
 //! What a table's dues machine reaches. Each law is the contract of a function that does nothing.
 ghost use Rattle.std.specs.Prelude.{ℕ, length};
 ghost use Rattle.std.specs.List.{Contains};
-ghost use Rattle.brl_edges.specs.Body.{BodyView};
-ghost use Rattle.brl_edges.specs.Sets.{sets_of};
+ghost use Rattle.brl_pairs.specs.Body.{BodyView};
+ghost use Rattle.brl_pairs.specs.Sets.{sets_of};
 ghost use Rattle.brl_dues.specs.Finite.{all_dues, all_leads, all_states};
 ghost use Rattle.brl_dues.specs.Steps.{dues_machine};
 ghost use Rattle.brl_states.specs.declared.due.Due.{Due as DueValue};
 ghost use Rattle.brl_states.specs.declared.dues_state.DuesState.{DuesState as StateValue};
 ghost use Rattle.brl_pairs.specs.Pairs.{IsClosed};
 ghost use Rattle.brl_pairs.specs.declared.step.Pair.{Pair as PairValue};
-ghost use Rattle.brl_finder.specs.Deciding.{ListsJustReached, all_pairs, reached_sets};
-ghost use Rattle.brl_finder.specs.Reached.{AtMost, Reached, ReachedPair, SamePair, SameState};
+ghost use Rattle.brl_closure.specs.Deciding.{ListsJustReached, all_pairs, reached_sets};
+ghost use Rattle.brl_closure.specs.Reached.{AtMost, Reached, ReachedPair, SamePair, SameState};
 ghost use Rattle.brl_rules.specs.TableView.{TableView};
 ghost use Rattle.brl_rules.specs.Translation.{IsUnambiguous};
 
+use brl_closure::{just_reached_law, reached_closed_law};
 use brl_dues::{Dues, exact_law, finite_law};
-use brl_finder::{just_reached_law, reached_closed_law};
 use brl_rules::Table;
 use std::alloc::Global;
 

@@ -1,6 +1,6 @@
 //! The seed of a table's search.
 use brl_cells::Cell;
-use brl_edges::Seed;
+use brl_pairs::Seed;
 use brl_rules::{Info, Rule, Sign, Table};
 use std::alloc::{AllocError, Global};
 

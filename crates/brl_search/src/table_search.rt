@@ -1,6 +1,6 @@
 //! The search of a table.
 ghost use Rattle.std.specs.Prelude.{◌≡◌, ◌≤◌, ℕ, IfOk};
-ghost use Rattle.brl_finder.specs.Answers.{IsOutcome};
+ghost use Rattle.brl_closure.specs.Answers.{IsOutcome};
 ghost use Rattle.brl_search.specs.Found.{IfCertified, IsFound, IsFoundWithout};
 ghost use Rattle.brl_search.specs.Searched.{machine_of};
 ghost use Rattle.brl_rules.specs.Translation.{IsClash, IsUnambiguous, translation};
@@ -8,15 +8,15 @@ ghost use Rattle.brl_without.specs.Tables.{IsUnambiguousWithout};
 ghost use Rattle.brl_without.specs.Without.{without};
 
 use crate::seed_of;
+use brl_closure::{Outcome, same_cells_law, search_machine_with};
 use brl_dues::{Dues, exact_law};
 use brl_failure::Failure;
-use brl_finder::{Outcome, same_cells_law, search_machine_watched};
 use brl_forward::{Clash, confirm};
 use brl_pairs::numbered_sets_law;
+use brl_progress::{NoProgress, Progress};
 use brl_rules::Table;
 use brl_states::{Cert, DuesState};
-use brl_watch::{Unwatched, Watch};
-use brl_without::{LeftOut, Without, exact_without_law, unambiguous_without_law};
+use brl_without::{LeftOut, Scope, Without, exact_without_law, unambiguous_without_law};
 use std::alloc::{AllocError, Global};
 
 /// What a search of a table finds.
@@ -44,44 +44,36 @@ pub fn search(alloc: Global, table: &Table, limit: u64) -> Result<Found, SearchF
     ensures found { IfOk result (IsFound table.now limit) }
     ensures unambiguous { IfOk result (IfCertified (λ _. IsUnambiguous table.now)) }
 {
-    search_without(alloc, table, limit, &LeftOut::none(alloc), &mut Unwatched)
+    let scope = Scope {
+        left_out: &LeftOut::none(alloc),
+        progress: &mut NoProgress,
+    };
+    search_with(alloc, table, limit, scope)
 }
 
 /// Searches a table for a certificate or a clash of texts that use none of some characters, over its
-/// dues machine without these. Else the same as `search`. The watcher is told how much is found,
-/// slice by slice.
-pub fn search_without<W: Watch>(
+/// dues machine without these. Else the same as `search`. What is found so far is reported slice by
+/// slice.
+pub fn search_with<P: Progress>(
     alloc: Global,
     table: &Table,
     limit: u64,
-    left_out: &LeftOut,
-    watch: &mut W,
+    scope: Scope<'_, P>,
 ) -> Result<Found, AllocError>
     requires { limit ≤ 4294967295 }
-    ensures found { IfOk result (IsFoundWithout left_out.now table.now limit) }
-    ensures unambiguous { IfOk result (IfCertified (λ _. IsUnambiguousWithout left_out.now table.now)) }
+    ensures found { IfOk result (IsFoundWithout scope.entry.left_out.now table.now limit) }
+    ensures unambiguous { IfOk result (IfCertified (λ _. IsUnambiguousWithout scope.entry.left_out.now table.now)) }
 {
+    let Scope { left_out, progress } = scope;
     let dues = Dues::new(alloc, table);
     let machine = Without::new(&dues, left_out);
     let seed = seed_of(alloc, table)?;
-    let outcome = search_machine_watched(alloc, &machine, limit, seed, watch)?;
+    let outcome = search_machine_with(alloc, &machine, limit, seed, progress)?;
     found_without(alloc, table, left_out, outcome)
 }
 
-/// What a table's search finds, from the outcome of the search of its dues machine: for a caller
-/// that runs that search in slices.
-pub fn found_of(
-    alloc: Global,
-    table: &Table,
-    outcome: Outcome<DuesState>,
-) -> Result<Found, AllocError>
-    requires { (limit : ℕ) × IsOutcome (machine_of table.now) limit outcome }
-    ensures { (limit : ℕ) → IsOutcome (machine_of table.now) limit outcome → IfOk result (IsFound table.now limit) }
-{
-    found_without(alloc, table, &LeftOut::none(alloc), outcome)
-}
-
-/// The same from the outcome of the search of its dues machine without some characters.
+/// What a table's search finds, from the outcome of the search of its dues machine without some
+/// characters: for a caller that runs that search in slices.
 pub fn found_without(
     alloc: Global,
     table: &Table,

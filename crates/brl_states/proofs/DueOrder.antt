@@ -15,7 +15,7 @@ use Rattle.brl_rules.specs.declared.place.Cond.TheVariants.{Any, Meets, Avoids}
 use Rattle.brl_states.specs.declared.due.Due.{Due}
 use Rattle.brl_states.specs.declared.due.Due.TheVariants.{Need, Bar}
 use Rattle.brl_states.specs.Order.{AreDues, cond_kind, cond_set, cond_cmp, due_kind, due_chars, due_cond, due_cmp, place, insert_due, in_order}
-use Rattle.brl_states.proofs.Listing.{IsIn}
+use Rattle.brl_pairs.proofs.Listing.{IsIn}
 
 pub cond_total : IsTotalOrder cond_cmp
 cond_total = then_total (on_total cond_kind nat_cmp_total) (on_total cond_set nat_cmp_total)

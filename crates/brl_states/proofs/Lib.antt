@@ -1,4 +1,4 @@
-pub mod Listing
+pub mod Defined
 pub mod DueOrder
 pub mod Sorting
 pub mod Ordered

@@ -4,7 +4,7 @@ use Rattle.std.specs.List.{Contains}
 use Rattle.brl_states.specs.declared.due.Due.{Due}
 use Rattle.brl_states.specs.Order.{AreDues, in_order}
 use Rattle.brl_states.proofs.DueOrder.{from-in_order, in-in_order, is-in_order}
-use Rattle.brl_states.proofs.Sorting.{Contains-in, in-Contains}
+use Rattle.brl_pairs.proofs.Listing.{Contains-in, in-Contains}
 
 pub own-order : (dues : List Due) → AreDues dues → in_order dues ≡ dues
 own-order dues h = sym (is-in_order dues dues h.ascend (λ d i. i) (λ d i. i))

@@ -22,22 +22,7 @@ use Rattle.brl_states.specs.SameDues.{dues_Decides, dues_equiv, same_dues}
 use Rattle.brl_states.specs.contracts.due.DuePartialEq.TheImpl.{eq-value}
 use Rattle.brl_states.specs.declared.due.Due.{Due}
 use Rattle.brl_states.proofs.DueOrder.{due_tied, due_total, from-in_order, in_order-sorted, is-in_order}
-use Rattle.brl_states.proofs.Listing.{IsIn}
-
--- ---- Members
-
-pub in-Contains : {X : Type 0} (x : X) (xs : List X) → IsIn x xs → Contains xs x
-in-Contains x [] h = absurd h
-in-Contains x (y ∷ ys) (inl e) = (0, omega arith, sym e)
-in-Contains x (y ∷ ys) (inr h) = (let m = in-Contains x ys h in (suc m.0, (let less = m.1 in omega (arith, less)), m.2))
-
-pub Contains-in : {X : Type 0} (x : X) (xs : List X) → Contains xs x → IsIn x xs
-Contains-in x xs h = at x xs h.0 h.1 h.2
-  where
-    at : {X : Type 0} (x : X) (xs : List X) (k : ℕ) → k < length xs → slice_index_or xs k x ≡ x → IsIn x xs
-    at x [] k less e = absurd (omega (arith, less))
-    at x (y ∷ ys) zero less e = inl (sym e)
-    at x (y ∷ ys) (suc k) less e = inr (at x ys k (omega (arith, less)) e)
+use Rattle.brl_pairs.proofs.Listing.{IsIn, in-Contains, Contains-in}
 
 -- ---- Ties
 

@@ -4,5 +4,5 @@ pub mod DuesContext
 pub mod SameDuesState
 pub mod WindowContext
 pub mod SameWindowState
-pub mod Runless
+pub mod CapsFree
 pub mod Counts

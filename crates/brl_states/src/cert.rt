@@ -2,17 +2,16 @@
 ghost use Rattle.std.specs.Prelude.{◌≡◌, length};
 ghost use Rattle.brl_states.specs.Counts.{pair_count, state_count};
 
-use crate::{DuesState, Runless, WindowState};
-use brl_edges::Body;
-use brl_members::Key;
+use crate::{CapsFree, DuesState, WindowState};
+use brl_pairs::{Body, Key};
 
 /// A certificate: states of the machine of its version, and pairs of them.
 #[derive(Drop)]
 pub enum Cert {
     /// Version 1: states of a window machine, in a table without word capitals.
-    Window(Runless<WindowState>),
+    Window(CapsFree<WindowState>),
     /// Version 2: states of a dues machine, in a table without word capitals.
-    Dues(Runless<DuesState>),
+    Dues(CapsFree<DuesState>),
     /// Version 3: states of a dues machine.
     Word(Body<DuesState>),
 }
@@ -24,8 +23,8 @@ impl Cert {
         ensures pairs { result.1 ≡ pair_count self.now }
     {
         match self {
-            Cert::Window(runless) => counts_of(runless.body()),
-            Cert::Dues(runless) => counts_of(runless.body()),
+            Cert::Window(caps_free) => counts_of(caps_free.body()),
+            Cert::Dues(caps_free) => counts_of(caps_free.body()),
             Cert::Word(body) => counts_of(body),
         }
     }

@@ -3,7 +3,7 @@ ghost use Rattle.std.specs.Prelude.{◌≡◌, IfOk};
 ghost use Rattle.brl_states.specs.DuesContext.{context_of, state_in};
 
 use crate::DueList;
-use brl_members::Key;
+use brl_pairs::Key;
 use brl_rules::{Class, Context};
 use std::alloc::{AllocError, Global};
 

@@ -3,7 +3,7 @@ ghost use Rattle.std.specs.Prelude.{◌≡◌, IfOk};
 ghost use Rattle.brl_states.specs.WindowContext.{context_of, state_in};
 
 use brl_cells::Chars;
-use brl_members::Key;
+use brl_pairs::Key;
 use brl_rules::{Class, Context};
 use std::alloc::{AllocError, Global};
 

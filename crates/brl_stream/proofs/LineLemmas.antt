@@ -6,9 +6,8 @@ use Rattle.std.specs.Prelude.{map}
 use Rattle.std.specs.List.{list_any, enumerate_from}
 use Rattle.brl_lines.specs.Rows.{rows, onto, feed_is_next}
 use Rattle.brl_stream.specs.InputLines.{is_feed, lines_of, feeds, without_return}
-
-pub not_equal : (a b : ℕ) → a ≢ b → nat_eq a b ≡ false
-not_equal a b ne = elim (eqb_tells a b) [ inl h ↦ absurd (ne h.1) | inr h ↦ h.0 ]
+use Rattle.brl_rules.proofs.Facts.{and-false}
+use Rattle.brl_lines.proofs.RowLemmas.{not_equal}
 
 or_left : (a b : Bool) → (a || b) ≡ false → a ≡ false
 or_left false b h = refl
@@ -17,10 +16,6 @@ or_left true b h = cc
 or_right : (a b : Bool) → (a || b) ≡ false → b ≡ false
 or_right false b h = h
 or_right true b h = cc
-
-and_false : (a : Bool) → (a && false) ≡ false
-and_false false = refl
-and_false true = refl
 
 -- ---- lines
 
@@ -70,19 +65,19 @@ cut-line (b ∷ c ∷ row) more h =
     let others = or_right _ _ h in
     let first : nat_eq b 10 ≡ false = or_left _ _ h in
     let second : nat_eq c 10 ≡ false = or_left _ _ others in
-    let not_end : (nat_eq b 13 && nat_eq c 10) ≡ false = rw second (and_false (nat_eq b 13)) in
+    let not_end : (nat_eq b 13 && nat_eq c 10) ≡ false = rw second (and-false (nat_eq b 13)) in
     rw (first, not_end, cut-line (c ∷ row) more others) refl
 
 cut-plain : (b : ℕ) (bs : List ℕ) → list_any is_feed (b ∷ bs) ≡ false → cut (b ∷ bs) ≡ (b ∷ bs) ∷ []
 cut-plain b [] h =
     let first : nat_eq b 10 ≡ false = or_left _ _ h in
-    let not_end : (nat_eq b 13 && false) ≡ false = and_false (nat_eq b 13) in
+    let not_end : (nat_eq b 13 && false) ≡ false = and-false (nat_eq b 13) in
     rw (first, not_end) refl
 cut-plain b (c ∷ bs) h =
     let others = or_right _ _ h in
     let first : nat_eq b 10 ≡ false = or_left _ _ h in
     let second : nat_eq c 10 ≡ false = or_left _ _ others in
-    let not_end : (nat_eq b 13 && nat_eq c 10) ≡ false = rw second (and_false (nat_eq b 13)) in
+    let not_end : (nat_eq b 13 && nat_eq c 10) ≡ false = rw second (and-false (nat_eq b 13)) in
     rw (first, not_end, cut-plain c bs others) refl
 
 -- the first line ends at the first line feed

@@ -65,12 +65,12 @@ impl Input for &[u8] {
 /// A reader or writer of the standard library with the number of its failures, modulo 2^64. An
 /// interrupted call is a failure, and so is a write that takes no byte.
 #[derive(Drop)]
-pub struct Watched<D> {
+pub struct Counting<D> {
     pub device: D,
     pub failures: u64,
 }
 
-impl<D> Watched<D> {
+impl<D> Counting<D> {
     ghost use Rattle.std.specs.Prelude.{◌≡◌};
 
     /// A device that hasn't failed yet.
@@ -78,14 +78,14 @@ impl<D> Watched<D> {
         ensures device { result.device ≡ device }
         ensures calm { result.failures ≡ 0 }
     {
-        Watched {
+        Counting {
             device,
             failures: 0,
         }
     }
 }
 
-impl<R: Read> Input for Watched<R> {
+impl<R: Read> Input for Counting<R> {
     ghost remaining = { λ s. R.remaining s.device };
 
     ghost failures = { λ s. s.failures };
@@ -101,7 +101,7 @@ impl<R: Read> Input for Watched<R> {
     }
 }
 
-impl<W: Write> Output for Watched<W> {
+impl<W: Write> Output for Counting<W> {
     ghost contents = { λ s. W.contents s.device };
 
     ghost failures = { λ s. s.failures };

@@ -19,7 +19,8 @@ use Rattle.brl_table.specs.declared.item.Definition.{Definition}
 use Rattle.brl_rules.specs.declared.rule.Info.{Info}
 use Rattle.brl_table.specs.Reading.{Listed, insert_new, dedup, about, defined_characters, defined_classes, defined_entries, first_literary, first_plain, first_uplow, defined_info, is_repeated, notice_of, notices_after, numbered}
 use Rattle.brl_table.specs.Building.{info_first, is_known, merged, none_listed, CharactersRepresent}
-use Rattle.brl_table.proofs.NumberedEntries.{absent, any-fold, eq-flip, found-numbered, is_there, length-numbered, numbered-new, numbered-old, or-false, put-known, single-fold, there}
+use Rattle.brl_table.proofs.NumberedEntries.{absent, any-fold, found-numbered, is_there, length-numbered, numbered-new, numbered-old, neither, put-known, single-fold, there}
+use Rattle.brl_rules.proofs.Facts.{not_above, nat_eq-sym}
 
 -- ---- whether a character is known
 
@@ -36,14 +37,14 @@ known-found defined listed c = found-numbered (defined_info defined listed) c 0 
 unknown-about : (defined : List Definition) (c : ℕ) → is_known defined c ≡ false → about defined c ≡ []
 unknown-about [] c h = refl
 unknown-about (d ∷ defined) c h =
-    let p = or-false (nat_eq c d.character) (is_known defined c) h in
+    let p = neither (nat_eq c d.character) (is_known defined c) h in
     rw p.0 (unknown-about defined c p.1)
 
 -- a character that isn't known has no line of any kind
 unknown-find : (kind : Definition → Bool) (defined : List Definition) (c : ℕ) → is_known defined c ≡ false → find (λ d. nat_eq c d.character && kind d) defined ≡ None
 unknown-find kind [] c h = refl
 unknown-find kind (d ∷ defined) c h =
-    let p = or-false (nat_eq c d.character) (is_known defined c) h in
+    let p = neither (nat_eq c d.character) (is_known defined c) h in
     rw p.0 (unknown-find kind defined c p.1)
 
 -- a known character without a `litdigit` line has a plain one
@@ -238,7 +239,7 @@ module _ (defined : List Definition) (d : Definition) where
   plain-added c h =
       ap is_some (find-append (λ e. nat_eq c e.character && not e.literary) defined (d ∷ []))
       ∙ ap (λ l. is_some (option_or (first_plain defined c) (given (nat_eq c d.character && not l) d))) h
-      ∙ ap (λ b. is_some (option_or (first_plain defined c) (given (b && true) d))) (eq-flip c d.character) ∙ cases (nat_eq d.character c) (first_plain defined c)
+      ∙ ap (λ b. is_some (option_or (first_plain defined c) (given (b && true) d))) (nat_eq-sym c d.character) ∙ cases (nat_eq d.character c) (first_plain defined c)
     where
       cases : (b : Bool) (plain : Option Definition) → is_some (option_or plain (given (b && true) d)) ≡ cond b true (is_some plain)
       cases true None = refl
@@ -324,9 +325,6 @@ count-entries defined listed = length-numbered (defined_info defined listed) 0 (
 
 pub above : (m n : ℕ) → m < n → nat_lt m n ≡ true
 above m n h = grind (arith, nat_tests)
-
-pub not_above : (m n : ℕ) → n ≤ m → nat_lt m n ≡ false
-not_above m n h = grind (arith, nat_tests)
 
 put-one_more : (xs : List ℕ) (c : ℕ) → length (insert_new nat_eq xs c) ≤ length xs + 1
 put-one_more [] c = omega arith

@@ -30,6 +30,7 @@ use Rattle.brl_table.specs.ItemLimits.{IsWithinLimits, IsItemWithinLimits}
 use Rattle.brl_table.specs.Reading.{item_in, items_of, ok_of, fault_after, first_pass_fault, file_number, files_of, repeats_indicator, file_place, insert_new, PassesBefore}
 use Rattle.brl_table.specs.Building.{AreWithinLimits, Represents}
 use Rattle.brl_table.proofs.ItemSteps.{fault-none}
+use Rattle.brl_rules.proofs.Facts.{some_is}
 
 -- ---- the number of a file
 
@@ -45,9 +46,6 @@ number-of path names files found number e f s =
     ap (λ o. unwrap_or o 0) (sym s ∙ f ∙ sym same) ∙ ap (λ fs. unwrap_or (file_place fs path) 0) e
 
 -- ---- a file of some lines is among theirs
-
-some_is : {X : Type 0} (x y : X) → Some x ≡ Some y → x ≡ y
-some_is x y h = cc
 
 module _ {X : Type 0} (eq : X → X → Bool) (same : (x : X) → eq x x ≡ true) where
   any-put-same : (xs : List X) (x : X) → list_any (eq x) (insert_new eq xs x) ≡ true

@@ -16,8 +16,9 @@ use Rattle.brl_failure.specs.declared.failure.Failure.TheVariants as failures
 use Rattle.brl_table.specs.Items.{Fault, fault}
 use Rattle.brl_table.specs.Reading.{are_too_many, defined_characters, definition_in, definitions, fault_after, indicated_in, repeats_indicator, opcode_in, indicator_cells, used_in, used_rules}
 use Rattle.brl_table.specs.Building.{Adds, none_listed, SignsRepresent, Represents, CharactersRepresent}
-use Rattle.brl_table.proofs.DefinitionSteps.{above, count-entries, not_above}
-use Rattle.brl_table.proofs.NumberedEntries.{or-false}
+use Rattle.brl_table.proofs.DefinitionSteps.{above, count-entries}
+use Rattle.brl_table.proofs.NumberedEntries.{neither}
+use Rattle.brl_rules.proofs.Facts.{not_below, not_above}
 
 -- a list of the cells of each indicator gives each its own
 abbrev pub GivesOwn : Type 0
@@ -110,9 +111,6 @@ signs-within own same items files item old new once limits before after few sign
     subst P (sym (ap (λ s. cells_at s sign) after ∙ own (indicator_cells (items ++ item ∷ [])) sign ∙ sign-more items item sign))
     (few-signs items same files item once limits (λ other. subst P (ap (λ s. cells_at s other) before ∙ own (indicator_cells items) other) (few other)) sign)
 
-at_most : (m n : ℕ) → nat_lt m n ≡ false → n ≤ m
-at_most m n h = grind (arith, nat_tests)
-
 module _ (items : List Item) (line : LineView) (item : Item) where
   -- a line whose item makes the items too many
   pub fault-too_many : repeats_indicator items item ≡ false → are_too_many (items ++ item ∷ []) ≡ true → fault_after items line (Ok item) ≡ Some (fault TooMany (opcode_in line item))
@@ -127,9 +125,9 @@ module _ (items : List Item) (line : LineView) (item : Item) where
     within-limits few =
         let characters_now = length (defined_characters (definitions (items ++ item ∷ []))) in
         let rules_now = length (used_rules (items ++ item ∷ [])) in
-        let tests : (nat_lt 1024 characters_now ≡ false) × (nat_lt 4096 rules_now ≡ false) = or-false (nat_lt 1024 characters_now) (nat_lt 4096 rules_now) few in
-        let characters_few : characters_now ≤ 1024 = at_most 1024 characters_now tests.0 in
-        let rules_few : rules_now ≤ 4096 = at_most 4096 rules_now tests.1 in
+        let tests : (nat_lt 1024 characters_now ≡ false) × (nat_lt 4096 rules_now ≡ false) = neither (nat_lt 1024 characters_now) (nat_lt 4096 rules_now) few in
+        let characters_few : characters_now ≤ 1024 = not_below 1024 characters_now tests.0 in
+        let rules_few : rules_now ≤ 4096 = not_below 4096 rules_now tests.1 in
         let n = count in
         let e = represents.counted in
         (omega arith, omega arith)

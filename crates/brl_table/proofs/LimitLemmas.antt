@@ -21,6 +21,7 @@ use Rattle.brl_table.specs.Reading.{definition_in, definitions, own_cells, rule_
 use Rattle.brl_table.specs.Building.{over}
 use Rattle.brl_rules.specs.Text.{fold_of, is_defined, is_text}
 use Rattle.brl_table.specs.Building.{is_known}
+use Rattle.brl_rules.proofs.Facts.{or-true}
 
 one-within : (files : ℕ) (item : Item) → IsItemWithinLimits files item → All (IsWithinLimits files) (definition_in item)
 one-within files (Defines d) limits = All-cons (IsWithinLimits files) d [] limits.limits (All-nil (IsWithinLimits files))
@@ -38,10 +39,6 @@ definitions-within files (item ∷ items) limits =
     (definitions-within files items (All-tail (IsItemWithinLimits files) item items limits))
 
 -- ---- Folds are defined
-
-or-true : (b : Bool) → b || true ≡ true
-or-true true = refl
-or-true false = refl
 
 abbrev Folded : List Definition → Definition → Type 0
 Folded defined d = is_known defined d.fold ≡ true

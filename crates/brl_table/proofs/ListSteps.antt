@@ -16,22 +16,19 @@ use Rattle.brl_table.specs.declared.item.NumericRole.TheVariants.{KeepsMode, Nee
 use Rattle.brl_rules.specs.declared.rule.Info.{Info}
 use Rattle.brl_table.specs.Reading.{Listed, chars_as, defined_characters, definitions, defined_entries, defined_info, listed_in, listed_characters}
 use Rattle.brl_table.specs.Building.{with_role, listed_with, listed_more, none_listed, HaveRoles, AreWithinLimits, CharactersRepresent}
-use Rattle.brl_table.proofs.NumberedEntries.{absent, eq-flip, found-numbered, numbered-old, numbered-same, or-nothing, single-fold}
+use Rattle.brl_table.proofs.NumberedEntries.{absent, found-numbered, numbered-old, numbered-same, single-fold}
 use Rattle.brl_table.proofs.DefinitionSteps.{count-entries}
+use Rattle.brl_rules.proofs.Facts.{nat_eq-sym, or-false, or-true}
 
 other-more : (x c : ℕ) (xs : List ℕ) → nat_eq x c ≡ false → list_any (nat_eq x) (xs ++ c ∷ []) ≡ list_any (nat_eq x) xs
-other-more x c xs h = list_any-append (nat_eq x) xs (c ∷ []) ∙ ap (λ b. list_any (nat_eq x) xs || (b || false)) h ∙ or-nothing (list_any (nat_eq x) xs)
-
-or-true : (b : Bool) → b || true ≡ true
-or-true true = refl
-or-true false = refl
+other-more x c xs h = list_any-append (nat_eq x) xs (c ∷ []) ∙ ap (λ b. list_any (nat_eq x) xs || (b || false)) h ∙ or-false (list_any (nat_eq x) xs)
 
 same-more : (c : ℕ) (xs : List ℕ) → list_any (nat_eq c) (xs ++ c ∷ []) ≡ true
 same-more c xs = list_any-append (nat_eq c) xs (c ∷ []) ∙ ap (λ b. list_any (nat_eq c) xs || (b || false)) (eq-eqb c c refl) ∙ or-true (list_any (nat_eq c) xs)
 
 any-flip : (c : ℕ) (xs : List ℕ) → list_any (λ y. nat_eq y c) xs ≡ list_any (nat_eq c) xs
 any-flip c [] = refl
-any-flip c (x ∷ xs) = ap (λ b. b || list_any (λ y. nat_eq y c) xs) (eq-flip x c) ∙ ap (λ b. nat_eq c x || b) (any-flip c xs)
+any-flip c (x ∷ xs) = ap (λ b. b || list_any (λ y. nat_eq y c) xs) (nat_eq-sym x c) ∙ ap (λ b. nat_eq c x || b) (any-flip c xs)
 
 module _ (defined : List Definition) (listed : Listed) (c : ℕ) where
   info-unlisted : (role : NumericRole) (n x : ℕ) → nat_eq x c ≡ false → defined_info defined (listed_more role (c ∷ []) listed) n x ≡ defined_info defined listed n x

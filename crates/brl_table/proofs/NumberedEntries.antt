@@ -8,19 +8,13 @@ use Rattle.std.proofs.lemmas.Bool.Decides.{nat_tests}
 use Rattle.indexmap.specs.IndexMap.{insert_entry}
 use Rattle.brl_rules.specs.declared.rule.Info.{Info}
 use Rattle.brl_table.specs.Reading.{insert_new, numbered}
+use Rattle.brl_rules.proofs.Facts.{nat_eq-sym, or-false, or-assoc, or-twice}
 
-pub eq-flip : (a b : ℕ) → nat_eq a b ≡ nat_eq b a
-eq-flip a b = grind (arith, nat_tests)
+pub neither : (a b : Bool) → a || b ≡ false → (a ≡ false) × (b ≡ false)
+neither true b h = cc
+neither false b h = (refl, h)
 
-pub or-false : (a b : Bool) → a || b ≡ false → (a ≡ false) × (b ≡ false)
-or-false true b h = cc
-or-false false b h = (refl, h)
-
-pub or-nothing : (b : Bool) → b || false ≡ b
-or-nothing true = refl
-or-nothing false = refl
-
--- ---- no character twice
+-- ---- no character or-twice
 
 abbrev pub IsSingle : List ℕ → Type 0
 IsSingle [] = Unit {0}
@@ -28,7 +22,7 @@ IsSingle (x ∷ xs) = (list_any (λ y. nat_eq y x) xs ≡ false) × IsSingle xs
 
 any-put-other : (z c : ℕ) (xs : List ℕ) → nat_eq c z ≡ false → list_any (λ y. nat_eq y z) xs ≡ false → list_any (λ y. nat_eq y z) (insert_new nat_eq xs c) ≡ false
 any-put-other z c [] h k = rw h refl
-any-put-other z c (x ∷ xs) h k = cases (nat_eq c x) (or-false (nat_eq x z) (list_any (λ y. nat_eq y z) xs) k) (any-put-other z c xs h)
+any-put-other z c (x ∷ xs) h k = cases (nat_eq c x) (neither (nat_eq x z) (list_any (λ y. nat_eq y z) xs) k) (any-put-other z c xs h)
   where
     cases : (b : Bool) → (nat_eq x z ≡ false) × (list_any (λ y. nat_eq y z) xs ≡ false) → (list_any (λ y. nat_eq y z) xs ≡ false → list_any (λ y. nat_eq y z) (insert_new nat_eq xs c) ≡ false)
         → list_any (λ y. nat_eq y z) (cond b (x ∷ xs) (x ∷ insert_new nat_eq xs c)) ≡ false
@@ -53,7 +47,7 @@ module _ (f g : ℕ → ℕ → Info) (c : ℕ) (same : (n x : ℕ) → nat_eq x
   pub numbered-same : (n : ℕ) (xs : List ℕ) → list_any (λ y. nat_eq y c) xs ≡ false → numbered f n xs ≡ numbered g n xs
   numbered-same n [] h = refl
   numbered-same n (x ∷ xs) h =
-      let p = or-false (nat_eq x c) (list_any (λ y. nat_eq y c) xs) h in
+      let p = neither (nat_eq x c) (list_any (λ y. nat_eq y c) xs) h in
       let s = same n x p.0 in
       let m = numbered-same (n + 1) xs p.1 in
       cc (s, m)
@@ -76,7 +70,7 @@ module _ (f g : ℕ → ℕ → Info) (c : ℕ) (same : (n x : ℕ) → nat_eq x
             let a : g n x ≡ update old = ap (g n) (sym q) ∙ at n ∙ ap (λ y. update (f n y)) q ∙ ap update o in
             cc (a, m)
         cases false e j more =
-            let d = same n x (sym (eq-flip c x) ∙ e) in
+            let d = same n x (sym (nat_eq-sym c x) ∙ e) in
             let m = more j in
             cc (d, m)
 
@@ -92,7 +86,7 @@ module _ (f g : ℕ → ℕ → Info) (c : ℕ) (same : (n x : ℕ) → nat_eq x
           ≡ numbered g n (cond b (x ∷ xs) (x ∷ insert_new nat_eq xs c))
       cases true e j more = cc
       cases false e j more =
-          let d = same n x (sym (eq-flip c x) ∙ e) in
+          let d = same n x (sym (nat_eq-sym c x) ∙ e) in
           let p : n + suc (length xs) ≡ n + 1 + length xs = omega arith in
           let m = ap (λ k. insert_entry nat_eq (numbered f (n + 1) xs) c (g k c)) p ∙ more j in
           cc (d, m)
@@ -107,26 +101,17 @@ pub is_there : {X : Type 0} → Option X → Bool
 is_there None = false
 is_there (Some x) = true
 
-pub or-assoc : (a b c : Bool) → a || (b || c) ≡ (a || b) || c
-or-assoc true b c = refl
-or-assoc false b c = refl
-
 pub any-put : (c x : ℕ) (xs : List ℕ) → list_any (nat_eq c) (insert_new nat_eq xs x) ≡ list_any (nat_eq c) xs || nat_eq c x
-any-put c x [] = or-nothing (nat_eq c x)
+any-put c x [] = or-false (nat_eq c x)
 any-put c x (y ∷ ys) = cases (nat_eq x y) refl (any-put c x ys)
   where
-    twice : (a b : Bool) → a || b ≡ (a || b) || a
-    twice true b = refl
-    twice false true = refl
-    twice false false = refl
-
     cases : (b : Bool) → nat_eq x y ≡ b → list_any (nat_eq c) (insert_new nat_eq ys x) ≡ list_any (nat_eq c) ys || nat_eq c x
         → list_any (nat_eq c) (cond b (y ∷ ys) (y ∷ insert_new nat_eq ys x)) ≡ (nat_eq c y || list_any (nat_eq c) ys) || nat_eq c x
-    cases true e more = rw (eqb-true x y e) (twice (nat_eq c y) (list_any (nat_eq c) ys))
+    cases true e more = rw (eqb-true x y e) (or-twice (nat_eq c y) (list_any (nat_eq c) ys))
     cases false e more = ap (λ b. nat_eq c y || b) more ∙ or-assoc (nat_eq c y) (list_any (nat_eq c) ys) (nat_eq c x)
 
 pub any-fold : (c : ℕ) (cs xs : List ℕ) → list_any (nat_eq c) (fold (insert_new nat_eq) xs cs) ≡ list_any (nat_eq c) xs || list_any (nat_eq c) cs
-any-fold c [] xs = sym (or-nothing (list_any (nat_eq c) xs))
+any-fold c [] xs = sym (or-false (list_any (nat_eq c) xs))
 any-fold c (x ∷ cs) xs =
     any-fold c cs (insert_new nat_eq xs x) ∙ ap (λ b. b || list_any (nat_eq c) cs) (any-put c x xs)
     ∙ sym (or-assoc (list_any (nat_eq c) xs) (nat_eq c x) (list_any (nat_eq c) cs))

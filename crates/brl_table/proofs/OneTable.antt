@@ -4,7 +4,7 @@ use Rattle.std.proofs.Common.{◌≡◌, ℕ, inl, inr, List, Option, length, sy
 use Rattle.std.proofs.lemmas.Option.{slice_get_within}
 use Rattle.brl_failure.specs.declared.failure.Failure.{Failure}
 use Rattle.brl_failure.specs.declared.failure.Failure.TheVariants.{Fault, Memory}
-use Rattle.brl_lines.specs.Answer.{MayGive}
+use Rattle.brl_lines.specs.Answer.{FileAnswers}
 use Rattle.brl_lines.specs.Outcome.{AreLinesOf, IsLoadFault}
 use Rattle.brl_lines.specs.Tokens.{LineView}
 use Rattle.brl_lines.specs.declared.fault.LoadFault.{LoadFault}
@@ -29,7 +29,7 @@ passes_or_faulty lines fault h passes =
       | inr second ↦ none_found _ lines h.0 h.1 _ passes.second second.1
     ]
 
-module _ (gives : MayGive) (root : List ℕ) (one_list : (left right : List LineView) → AreLinesOf gives root left → AreLinesOf gives root right → left ≡ right) where
+module _ (gives : FileAnswers) (root : List ℕ) (one_list : (left right : List LineView) → AreLinesOf gives root left → AreLinesOf gives root right → left ≡ right) where
   pub one_table : (one other : TableView) → IsTableOf gives root one → IsTableOf gives root other → one ≡ other
   one_table one other h k = h.3 ∙ ap table_of (one_list h.0 k.0 h.1 k.1) ∙ sym k.3
 

@@ -18,9 +18,7 @@ use Rattle.brl_table.specs.Items.{Fault}
 use Rattle.brl_table.specs.Reading.{reference_fault, rule_of, used_in, used_rules, IsAt}
 use Rattle.brl_table.specs.Building.{over, IsReferenceFault, IsFirstUnresolved, Resolves}
 use Rattle.brl_table.proofs.ItemSteps.{used-more}
-
-same_some : {X : Type 0} (x y : X) → Some x ≡ Some y → x ≡ y
-same_some x y h = cc
+use Rattle.brl_rules.proofs.Facts.{some_is}
 
 -- the element at a place
 pub at_place : {X : Type 0} (xs : List X) (i : ℕ) (x : X) → i < length xs → x ≡ get_or xs i x → slice_get xs i ≡ Some x
@@ -34,8 +32,8 @@ module _ (characters : List (ℕ × Info)) (lines : List Line) (items : List Ite
       → reference_fault (over characters) (line_view line) item ≡ None → reference_fault (over characters) other thing ≡ None
   here other thing there says none =
       let inside : i < length items = omega arith in
-      let e : other ≡ line_view line = same_some other (line_view line) (sym there ∙ line_there lines i line within is) in
-      let f : thing ≡ item = same_some thing item (sym says ∙ at_place items i item inside at) in
+      let e : other ≡ line_view line = some_is other (line_view line) (sym there ∙ line_there lines i line within is) in
+      let f : thing ≡ item = some_is thing item (sym says ∙ at_place items i item inside at) in
       ap (λ l. reference_fault (over characters) l thing) e ∙ ap (reference_fault (over characters) (line_view line)) f ∙ none
 
   pub resolves-next : reference_fault (over characters) (line_view line) item ≡ None → Resolves characters (map line_view lines) items i

@@ -26,9 +26,7 @@ use Rattle.brl_rules.specs.TableView.{TableView}
 use Rattle.brl_rules.specs.Text.{is_text}
 use Rattle.brl_table.proofs.LimitLemmas.{rule-within}
 use Rattle.brl_table.proofs.FirstPass.{aligned-items}
-
-inside_some : {X : Type 0} (x y : X) → Some x ≡ Some y → x ≡ y
-inside_some x y h = cc
+use Rattle.brl_rules.proofs.Facts.{some_is}
 
 -- an element at a place within the list
 at : {X : Type 0} (xs : List X) (i : ℕ) → i < length xs → (x : X) × (slice_get xs i ≡ Some x)
@@ -81,7 +79,7 @@ module _ (lines : List LineView) (items : List Item) (aligned : map Ok items ≡
 
   says : (place : ℕ) (line : LineView) (item : Item) → slice_get lines place ≡ Some line → slice_get items place ≡ Some item → item_in (files_of lines) line ≡ Ok item
   says place line item there at =
-      inside_some (item_in (files_of lines) line) (Ok item)
+      some_is (item_in (files_of lines) line) (Ok item)
       (ap (option_map (item_in (files_of lines))) (sym there) ∙ sym (slice_get-map (item_in (files_of lines)) lines place)
       ∙ ap (λ xs. slice_get xs place) (sym aligned) ∙ slice_get-map Ok items place ∙ ap (option_map Ok) at)
 

@@ -2,7 +2,7 @@
 use Rattle.std.specs.Prelude.{ℕ, ◌≡◌, List, Result, Ok, Err}
 use Rattle.brl_failure.specs.declared.failure.Failure.{Failure}
 use Rattle.brl_failure.specs.declared.failure.Failure.TheVariants as failures
-use Rattle.brl_lines.specs.Answer.{MayGive}
+use Rattle.brl_lines.specs.Answer.{FileAnswers}
 use Rattle.brl_lines.specs.Outcome.{AreLinesOf, AreLinesOfFiles, IsLoadFault}
 use Rattle.brl_lines.specs.Tokens.{LineView}
 use Rattle.brl_lines.specs.declared.fault.LoadFault.{LoadFault}
@@ -12,15 +12,15 @@ use Rattle.brl_table.specs.declared.no_table.NoTable.TheVariants.{Load, Table}
 use Rattle.brl_rules.specs.TableView.{TableView}
 
 -- the table with its root at this path: the lines of its files have no fault, and define it
-abbrev pub IsTableOf : MayGive → List ℕ → TableView → Type 0
+abbrev pub IsTableOf : FileAnswers → List ℕ → TableView → Type 0
 IsTableOf gives root t = (lines : List LineView) × AreLinesOf gives root lines × PassesAll lines × (t ≡ table_of lines)
 
 -- the same, by just the files at these paths
-abbrev pub IsTableOfFiles : MayGive → List ℕ → List (List ℕ) → TableView → Type 0
+abbrev pub IsTableOfFiles : FileAnswers → List ℕ → List (List ℕ) → TableView → Type 0
 IsTableOfFiles gives root paths t = (lines : List LineView) × AreLinesOfFiles gives root paths lines × PassesAll lines × (t ≡ table_of lines)
 
 -- why there is no table at this path: a file can't be loaded, or a line has a fault
-abbrev pub IsFaultAt : MayGive → List ℕ → NoTable → Type 0
+abbrev pub IsFaultAt : FileAnswers → List ℕ → NoTable → Type 0
 IsFaultAt gives root (Load fault) = IsLoadFault gives root (failures.Fault fault)
 IsFaultAt gives root (Table fault) = (lines : List LineView) × AreLinesOf gives root lines × IsFaultOf lines fault
 

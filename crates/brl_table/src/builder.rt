@@ -50,7 +50,7 @@ use crate::table_fault::WordFault;
 use crate::{TableFault, TableFaultKind};
 use brl_failure::Failure;
 use brl_lines::Line;
-use brl_rules::{Rule, Signs, Table, TableParts, rank_law, signs_law};
+use brl_rules::{Indicators, Rule, Table, TableParts, rank_law, signs_law};
 use std::alloc::{AllocError, Global};
 
 /// The most characters of a table.
@@ -85,7 +85,7 @@ pub(crate) struct TableBuilder {
     /// The characters that the items define.
     characters: Characters,
     /// The indicators that the items define.
-    signs: Signs,
+    signs: Indicators,
     /// The number of used rules among the items.
     used: usize,
 }
@@ -100,7 +100,7 @@ impl TableBuilder {
         TableBuilder {
             items: Vec::new(alloc),
             characters: Characters::new(alloc),
-            signs: Signs::new(alloc),
+            signs: Indicators::new(alloc),
             used: 0,
         }
     }

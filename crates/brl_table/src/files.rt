@@ -1,7 +1,7 @@
 //! The table that files define.
 ghost use Rattle.std.specs.Prelude.{◌≡◌, ℕ, List, IfErr, IfOk};
 ghost use Rattle.brl_failure.specs.Failure.{IfFault};
-ghost use Rattle.brl_lines.specs.Answer.{AllStay, GivesOneAnswer};
+ghost use Rattle.brl_lines.specs.Answer.{Unchanged, IsDeterministic};
 ghost use Rattle.brl_lines.specs.Outcome.{CountsFailure};
 ghost use Rattle.brl_table.specs.Files.{IsFaultAt, IsTableOf, load_outcome};
 ghost use Rattle.brl_table.specs.Reading.{IsFaultOf, PassesAll, table_of};
@@ -25,7 +25,7 @@ pub fn load_table<S: Source>(
     ensures table { IfOk result (IsTableOf (S.gives source.old) root.now) }
     ensures fault { IfErr result (IfFault (IsFaultAt (S.gives source.old) root.now)) }
     ensures count { CountsFailure (S.faults source.old) (S.faults source.new) (load_outcome result) }
-    ensures same { AllStay (S.gives source.old) (S.gives source.new) }
+    ensures same { Unchanged (S.gives source.old) (S.gives source.new) }
 {
     let loaded = raise(load(alloc, source, root), NoTable::Load)?;
     raise(table_of_loaded(alloc, &loaded), NoTable::Table)
@@ -44,9 +44,9 @@ pub fn table_of_loaded(alloc: Global, loaded: &Loaded) -> Result<Table, Failure<
 /// A source with one answer for each path has at most one table at a path. Where it has one, no
 /// fault keeps it from being loaded.
 pub fn one_table_law<S: Source>(source: &S)
-    ensures table { GivesOneAnswer (S.gives source.now) → (root : List ℕ) (one other : TableView) →
+    ensures table { IsDeterministic (S.gives source.now) → (root : List ℕ) (one other : TableView) →
         IsTableOf (S.gives source.now) root one → IsTableOf (S.gives source.now) root other → one ≡ other }
-    ensures fault { GivesOneAnswer (S.gives source.now) → (root : List ℕ) (t : TableView) → IsTableOf (S.gives source.now) root t →
+    ensures fault { IsDeterministic (S.gives source.now) → (root : List ℕ) (t : TableView) → IsTableOf (S.gives source.now) root t →
         (fault : NoTableValue) → IsFaultAt (S.gives source.now) root fault → ⊥ }
 {
     one_answer_law(source);

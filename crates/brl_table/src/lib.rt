@@ -3,6 +3,9 @@
 //! characters of rules and lists in a second one. `survey` lists the lines that have a fault by
 //! themselves. A table with its rules, classes and indicators is defined in `brl_rules`, and all of
 //! that crate is reached from here.
+//!
+//! Room 1, text and tables (docs/dev/ARCHITECTURE.md). The definitions begin in
+//! `specs/Reading.antt`.
 #![tactic(auto)]
 
 mod builder;
@@ -17,7 +20,7 @@ mod operand;
 mod table_fault;
 
 pub use brl_rules::{
-    Choice, Class, Cond, Context, Info, Notice, Place, Rule, Sign, Signs, Table, TableParts,
+    Choice, Class, Cond, Context, Indicators, Info, Notice, Place, Rule, Sign, Table, TableParts,
     choice_laws, holds, rank_law, signs_law, translation_laws, unambiguous_law,
 };
 pub use builder::read_table;

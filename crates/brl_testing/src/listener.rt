@@ -1,5 +1,5 @@
 //! Standard error that hears how far long work is.
-use brl_watch::{Watch, Work};
+use brl_progress::{Progress, Work};
 use std::io::{Result as IoResult, Write};
 
 /// Keeps what is written to it, and hears how far work is.
@@ -8,7 +8,7 @@ pub struct Listener {
     pub written: Vec<u8>,
     /// The last that it heard.
     pub last: Option<Work>,
-    /// How often it was told.
+    /// How often progress was reported.
     pub times: u32,
     /// How often work has ended.
     pub ends: u32,
@@ -36,8 +36,8 @@ impl Write for Listener {
     }
 }
 
-impl Watch for Listener {
-    fn tell(&mut self, work: Work) {
+impl Progress for Listener {
+    fn report(&mut self, work: Work) {
         self.last = Some(work);
         self.times = self.times.saturating_add(1);
     }

@@ -1,5 +1,5 @@
 //! Writers that fail.
-use brl_watch::{Watch, Work};
+use brl_progress::{Progress, Work};
 use std::io::{Error, ErrorKind, Result as IoResult, Write};
 
 /// Takes this many writes whole, and then no byte.
@@ -38,8 +38,8 @@ impl Write for Closed {
     }
 }
 
-impl Watch for Closed {
-    fn tell(&mut self, _work: Work) {}
+impl Progress for Closed {
+    fn report(&mut self, _work: Work) {}
 
     fn end(&mut self) {}
 }

@@ -3,7 +3,7 @@ use brl_failure::Failure;
 use brl_lines::MapSource;
 use brl_table::Table;
 use brl_testing::{Listener, one_file, table_of};
-use brl_tool::{Files, Form, SinkFault, StreamFault, Watched, run, translate_lines};
+use brl_tool::{Counting, Files, Form, SinkFault, StreamFault, run, translate_lines};
 use std::alloc::Global;
 use std::test::Fail;
 
@@ -14,8 +14,8 @@ fn is_written(alloc: Global, files: &mut MapSource) -> bool {
 
 /// Whether an input is translated to this output.
 fn is_streamed(alloc: Global, table: &Table, form: Form, input: &[u8], want: &[u8]) -> bool {
-    let mut out = Watched::new(Vec::new(alloc));
-    let mut reader = Watched::new(input);
+    let mut out = Counting::new(Vec::new(alloc));
+    let mut reader = Counting::new(input);
     let done: Result<(), Failure<StreamFault>> = translate_lines(
         alloc,
         table,
@@ -34,9 +34,9 @@ fn streams(alloc: Global, table: &Table) -> bool {
 
 /// What the program answers these words with, and its status.
 fn answers(alloc: Global, words: &[String], files: &mut MapSource) -> bool {
-    let mut out = Watched::new(Vec::new(alloc));
+    let mut out = Counting::new(Vec::new(alloc));
     let mut err = Listener::new(Vec::new(alloc));
-    let mut input = Watched::new(b"".as_slice());
+    let mut input = Counting::new(b"".as_slice());
     let status = run(alloc, words, files, &mut input, &mut out, &mut err);
     out.device.as_slice() == b"no clash\n".as_slice() && status == 0
 }

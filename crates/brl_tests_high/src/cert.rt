@@ -2,9 +2,8 @@
 use crate::lines::bytes_of;
 use brl_cells::{Cell, Cells};
 use brl_cert::{Cert, CertFault, CertFaultKind, read_cert, write_cert};
-use brl_edges::{Body, Members, Seed};
 use brl_failure::Failure;
-use brl_pairs::Pair;
+use brl_pairs::{Body, Members, Pair, Seed};
 use brl_testing::cut;
 use std::alloc::Global;
 use std::hash::{BuildHasher, Hash};

@@ -1,7 +1,6 @@
 //! Steps and pairs by numbers.
 use brl_cells::{Cell, Cells};
-use brl_edges::{Edge, Members, Seed, is_missing, is_there, is_there_swapped, places_before};
-use brl_pairs::Pair;
+use brl_pairs::{Edge, Members, Pair, Seed, is_missing, is_there, is_there_swapped, places_before};
 use brl_testing::lend;
 use std::alloc::Global;
 use std::test::Fail;

@@ -1,11 +1,10 @@
 //! Searches of worked tables.
 use crate::lines::bytes_of;
 use brl_cert::{Cert, write_cert};
-use brl_checker::accept;
+use brl_closure::{Outcome, Search, Slice, accept};
 use brl_dues::Dues;
-use brl_edges::{Body, Seed};
-use brl_finder::{Outcome, Progress, Search};
 use brl_forward::{Clash, confirm};
+use brl_pairs::{Body, Seed};
 use brl_rules::Table;
 use brl_search::{Found, search, seed_of};
 use brl_states::DuesState;
@@ -164,27 +163,27 @@ fn the_start_is_more_than_none(rt: HostRuntime) -> Result<(), Fail> {
 
 /// The search after `steps` more steps, if it isn't finished.
 fn next_slice<'m>(
-    progress: Progress<'m, Dues<'m>>,
+    progress: Slice<'m, Dues<'m>>,
     steps: u64,
-) -> Result<Progress<'m, Dues<'m>>, AllocError> {
+) -> Result<Slice<'m, Dues<'m>>, AllocError> {
     match progress {
-        Progress::Unfinished(search) => search.run(steps),
-        Progress::Finished(outcome) => Ok(Progress::Finished(outcome)),
+        Slice::Unfinished(search) => search.run(steps),
+        Slice::Finished(outcome) => Ok(Slice::Finished(outcome)),
     }
 }
 
 /// How far a search is, in words.
-fn told_of_progress(alloc: Global, progress: &Progress<Dues>) -> Result<String, AllocError> {
+fn told_of_progress(alloc: Global, progress: &Slice<Dues>) -> Result<String, AllocError> {
     match progress {
-        Progress::Unfinished(search) => {
+        Slice::Unfinished(search) => {
             let (states, pairs) = (search.state_count(), search.pair_count());
             format!(in alloc; "unfinished: {states} states, {pairs} pairs")
         }
-        Progress::Finished(Outcome::Closed(body)) => {
+        Slice::Finished(Outcome::Closed(body)) => {
             let (states, pairs) = (body.state_count(), body.pair_count());
             format!(in alloc; "closed: {states} states, {pairs} pairs")
         }
-        Progress::Finished(_) => String::from_str(alloc, "not closed"),
+        Slice::Finished(_) => String::from_str(alloc, "not closed"),
     }
 }
 

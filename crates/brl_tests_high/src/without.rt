@@ -1,18 +1,17 @@
 //! Worked tables without some of their characters.
 use crate::lines::bytes_of;
-use brl_accept::judge_without;
+use brl_accept::judge_with;
 use brl_cert::Cert;
-use brl_checker::accept;
+use brl_closure::accept;
 use brl_dues::Dues;
-use brl_edges::Body;
 use brl_forward::Clash;
-use brl_pairs::Machine;
+use brl_pairs::{Body, Machine};
+use brl_progress::NoProgress;
 use brl_rules::Table;
-use brl_search::{Found, search_without};
+use brl_search::{Found, search_with};
 use brl_states::DuesState;
 use brl_testing::{chars, cut, one_file, table_of};
-use brl_watch::Unwatched;
-use brl_without::{LeftOut, Without};
+use brl_without::{LeftOut, Scope, Without};
 use std::alloc::Global;
 use std::test::Fail;
 
@@ -79,7 +78,11 @@ fn told_of_found(
 }
 
 fn told_of_table(alloc: Global, table: &Table, left_out: &LeftOut) -> Result<String, Fail> {
-    let found = search_without(alloc, table, 1_000_000, left_out, &mut Unwatched)?;
+    let scope = Scope {
+        left_out,
+        progress: &mut NoProgress,
+    };
+    let found = search_with(alloc, table, 1_000_000, scope)?;
     told_of_found(alloc, table, left_out, &found)
 }
 
@@ -159,7 +162,11 @@ fn judged(alloc: Global, left_out: &str, lines: &str, text: &str) -> Result<Stri
     let mut source = one_file(alloc, "t.ctb", lines.as_slice())?;
     let cert = bytes_of(alloc, text)?;
     let cert = cert.as_slice();
-    let judged = judge_without(alloc, &mut source, "t.ctb", cert, &left_out, &mut Unwatched);
+    let scope = Scope {
+        left_out: &left_out,
+        progress: &mut NoProgress,
+    };
+    let judged = judge_with(alloc, &mut source, "t.ctb", cert, scope);
     match judged {
         Ok(accepted) => Ok(format!(in alloc;
             "{} states, {} pairs",

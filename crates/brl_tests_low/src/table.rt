@@ -103,7 +103,7 @@ fn table_text(alloc: Global, table: &Table) -> Result<String, Fail> {
 fn push_table(alloc: Global, text: &mut String, table: &Table) -> Result<(), Fail> {
     push_characters(alloc, text, table)?;
     push_rules(alloc, text, table)?;
-    push_signs(alloc, text, table)?;
+    push_indicators_of(alloc, text, table)?;
     push_notices(text, table.notices())
 }
 
@@ -172,7 +172,7 @@ const SIGNS: [Sign; 5] = [
     Sign::EndCapsWord,
 ];
 
-fn push_signs(alloc: Global, text: &mut String, table: &Table) -> Result<(), Fail> {
+fn push_indicators_of(alloc: Global, text: &mut String, table: &Table) -> Result<(), Fail> {
     for sign in SIGNS {
         let cells = table.indicator(sign);
         if !cells.is_empty() {

@@ -2,7 +2,7 @@
 use crate::runs::{Outcome, files_of, is_answered, words_of};
 use brl_lines::MapSource;
 use brl_testing::{Listener, cut, lines_of, mark};
-use brl_tool::{Watched, run};
+use brl_tool::{Counting, run};
 use std::alloc::Global;
 use std::rt::Files;
 use std::test::Fail;
@@ -42,7 +42,7 @@ fn marked_outcome<R: Files>(
     input: &[u8],
 ) -> Result<Outcome, Fail> {
     let mut reader = input;
-    let mut out = Watched::new(Vec::with_capacity(alloc, ROOM)?);
+    let mut out = Counting::new(Vec::with_capacity(alloc, ROOM)?);
     let mut err = Listener::new(Vec::with_capacity(alloc, ROOM)?);
     mark(system);
     let status = run(alloc, words, files, &mut reader, &mut out, &mut err);

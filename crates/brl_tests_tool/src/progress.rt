@@ -1,7 +1,7 @@
 //! How far long work is: what is told of it, and what a terminal shows.
 use crate::runs::{files_of, outcome_of};
+use brl_progress::{Console, Progress, Work};
 use brl_testing::{Listener, cut};
-use brl_watch::{Console, Watch, Work};
 use std::alloc::Global;
 use std::cell::Cell;
 use std::io::{Error, ErrorKind, Result as IoResult, Write};
@@ -91,7 +91,7 @@ fn tell<E: Write>(
     let states: u32 = states.parse()?;
     let states = u64::from(states);
     clock.time.set(time.parse().ok());
-    console.tell(Work::Search {
+    console.report(Work::Search {
         states,
         pairs: 10 * states,
     });

@@ -4,7 +4,7 @@ use crate::files::Sealed;
 use brl_failure::Failure;
 use brl_lines::{MapSource, SourceFault};
 use brl_testing::{Broken, Closed, Listener, Refusing, cut, lines_of, one_file};
-use brl_tool::{Failed, Files, Watched, prefixes_law, run};
+use brl_tool::{Counting, Failed, Files, prefixes_law, run};
 use std::alloc::Global;
 use std::collections::BTreeMap;
 use std::io::ErrorKind;
@@ -80,7 +80,7 @@ pub fn outcome_of<F: Files>(
 ) -> Result<Outcome, Fail> {
     let words = words_of(alloc, words)?;
     let mut reader = input;
-    let mut out = Watched::new(Vec::new(alloc));
+    let mut out = Counting::new(Vec::new(alloc));
     let mut err = Listener::new(Vec::new(alloc));
     prefixes_law(files);
     let status = run(
@@ -290,11 +290,11 @@ fn sources_refuse(rt: HostRuntime) -> Result<(), Fail> {
 /// What a run over a reader that fails wrote.
 fn unread_outcome(alloc: Global, files: &mut MapSource) -> Result<Outcome, Fail> {
     let words = words_of(alloc, TRANSLATE)?;
-    let mut reader = Watched::new(Broken {
+    let mut reader = Counting::new(Broken {
         bytes: 0,
         kind: ErrorKind::Other,
     });
-    let mut out = Watched::new(Vec::new(alloc));
+    let mut out = Counting::new(Vec::new(alloc));
     let mut err = Listener::new(Vec::new(alloc));
     let status = run(
         alloc,
@@ -340,7 +340,7 @@ fn is_cut_off_over(alloc: Global, files: &mut MapSource, row: &str) -> Result<bo
     let words = words_of(alloc, words)?;
     let mut err = Listener::new(Vec::new(alloc));
     let mut input = b"a\n".as_slice();
-    let mut out = Watched::new(Closed);
+    let mut out = Counting::new(Closed);
     let status = run(
         alloc,
         words.as_slice(),
@@ -379,7 +379,7 @@ brl,--nothing|2
 fn silent_status(alloc: Global, files: &mut MapSource, words: &str) -> Result<u8, Fail> {
     let words = words_of(alloc, words)?;
     let mut input = b"a\n".as_slice();
-    let mut out = Watched::new(Vec::new(alloc));
+    let mut out = Counting::new(Vec::new(alloc));
     Ok(run(
         alloc,
         words.as_slice(),

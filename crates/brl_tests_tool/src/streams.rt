@@ -4,7 +4,7 @@ use brl_examples::translate_bytes;
 use brl_failure::Failure;
 use brl_rules::Table;
 use brl_testing::{Full, Slow, cut, table_of};
-use brl_tool::{Form, Input, LineFault, Output, StreamFault, Watched, translate_lines};
+use brl_tool::{Counting, Form, Input, LineFault, Output, StreamFault, translate_lines};
 use std::alloc::Global;
 use std::io;
 use std::process::Abort;
@@ -94,7 +94,7 @@ fn ends_as(
 
 /// Whether an input in memory is answered so.
 fn is_answered(alloc: Global, table: &Table, input: &[u8], fields: &str) -> Result<bool, Fail> {
-    let mut writer = Watched::new(Vec::new(alloc));
+    let mut writer = Counting::new(Vec::new(alloc));
     let outcome = translate_bytes(alloc, table, input, &mut writer);
     ends_as(alloc, outcome, writer.device.as_slice(), fields)
 }
@@ -150,7 +150,7 @@ fn is_longest(alloc: Global, table: &Table, row: &str) -> Result<bool, Fail> {
     let length = row.parse()?;
     let input = repeated(alloc, b'a', length, b"\r\n")?;
     let output = repeated(alloc, b'A', length, b"\n")?;
-    let mut writer = Watched::new(Vec::new(alloc));
+    let mut writer = Counting::new(Vec::new(alloc));
     let outcome = translate_bytes(alloc, table, input.as_slice(), &mut writer);
     Ok(outcome == Ok(()) && writer.device.as_slice() == output.as_slice())
 }
@@ -195,10 +195,10 @@ abc a\r|U3 InputFailed at line 1|
 fn is_interrupted(alloc: Global, table: &Table, row: &str) -> Result<bool, Fail> {
     let (bytes, fields) = cut(row)?;
     let bytes = bytes_of(alloc, bytes)?;
-    let mut reader = Watched::new(Slow {
+    let mut reader = Counting::new(Slow {
         bytes: bytes.as_slice(),
     });
-    let mut writer = Watched::new(Vec::new(alloc));
+    let mut writer = Counting::new(Vec::new(alloc));
     let outcome = translate_lines(alloc, table, Form::Ascii, &mut reader, &mut writer);
     Ok(reader.failures == 1 && ends_as(alloc, outcome, writer.device.as_slice(), fields)?)
 }
@@ -216,7 +216,7 @@ fn is_cut_off(alloc: Global, table: &Table, row: &str) -> Result<bool, Fail> {
     let (input, fields) = cut(rest)?;
     let input = bytes_of(alloc, input)?;
     let mut reader = input.as_slice();
-    let mut writer = Watched::new(Full {
+    let mut writer = Counting::new(Full {
         left: writes.parse()?,
         taken: Vec::new(alloc),
     });
@@ -270,8 +270,8 @@ const COUNTED: &str = "U6 InputTooLong at line 8388609|8388608|16777216\n";
 fn is_counted(alloc: Global, table: &Table, row: &str) -> Result<bool, Fail> {
     let (answer, rest) = cut(row)?;
     let (writes, bytes) = cut(rest)?;
-    let mut reader = Watched::new(ShortLines { feed: false });
-    let mut writer = Watched::new(Count {
+    let mut reader = Counting::new(ShortLines { feed: false });
+    let mut writer = Counting::new(Count {
         writes: 0,
         bytes: 0,
     });
@@ -296,8 +296,8 @@ fn an_endless_input_ends(rt: HostRuntime) -> Result<(), Fail> {
 const ENDLESS: &str = "U5 InputLineTooLong at line 1|\n";
 
 fn is_endless(alloc: Global, table: &Table, row: &str) -> Result<bool, Fail> {
-    let mut reader = Watched::new(io::repeat(b'a'));
-    let mut writer = Watched::new(Vec::new(alloc));
+    let mut reader = Counting::new(io::repeat(b'a'));
+    let mut writer = Counting::new(Vec::new(alloc));
     let outcome = translate_lines(alloc, table, Form::Ascii, &mut reader, &mut writer);
     ends_as(alloc, outcome, writer.device.as_slice(), row)
 }

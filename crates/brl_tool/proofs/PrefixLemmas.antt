@@ -1,28 +1,28 @@
 -- The answers of commands begin as answers do.
 use Rattle.std.proofs.Common.{◌≡◌, ℕ, List, [], ◌∷◌, Ok, inl, inr, refl, subst, sym, true}
 use Rattle.std.specs.Prelude.{codes, string_bytes}
-use Rattle.brl_answers.specs.Answers.{counts_line, told_without}
+use Rattle.brl_answers.specs.Answers.{counts_line, with_left_out_line}
 use Rattle.brl_answers.specs.Files.{MayBeSame}
 use Rattle.brl_answers.specs.Prefixes.{begins_as_answer}
 use Rattle.brl_answers.specs.declared.answer.Answer.{Answer}
-use Rattle.brl_commands.specs.Comparing.{ComparesByFile}
-use Rattle.brl_commands.specs.Tracing.{TracesByFile}
-use Rattle.brl_lines.specs.Answer.{MayGive}
-use Rattle.brl_verdicts.specs.Verdicts.{Checks, SearchesByFile}
+use Rattle.brl_tool.specs.Comparing.{ComparesByFile}
+use Rattle.brl_tool.specs.Tracing.{TracesByFile}
+use Rattle.brl_lines.specs.Answer.{FileAnswers}
+use Rattle.brl_tool.specs.Verdicts.{Checks, SearchesByFile}
 
 -- a text that is one of these
 begins_as : (text line : List ℕ) → text ≡ line → begins_as_answer line ≡ true → begins_as_answer text ≡ true
 begins_as text line is begins = subst (λ t. begins_as_answer t ≡ true) (sym is) begins
 
-accepted_begins : (left_out : List ℕ) (states pairs : ℕ) → begins_as_answer (told_without left_out (counts_line (codes "accepted") states pairs)) ≡ true
+accepted_begins : (left_out : List ℕ) (states pairs : ℕ) → begins_as_answer (with_left_out_line left_out (counts_line (codes "accepted") states pairs)) ≡ true
 accepted_begins [] states pairs = refl
 accepted_begins (c ∷ left_out) states pairs = refl
 
-certified_begins : (left_out : List ℕ) (states pairs : ℕ) → begins_as_answer (told_without left_out (counts_line (codes "certified") states pairs)) ≡ true
+certified_begins : (left_out : List ℕ) (states pairs : ℕ) → begins_as_answer (with_left_out_line left_out (counts_line (codes "certified") states pairs)) ≡ true
 certified_begins [] states pairs = refl
 certified_begins (c ∷ left_out) states pairs = refl
 
-module _ (gives : MayGive) where
+module _ (gives : FileAnswers) where
   pub check_begins : (left_out path cert : List ℕ) (answer : Answer) → Checks left_out gives path cert (Ok answer) → begins_as_answer (string_bytes answer.text) ≡ true
   check_begins left_out path cert answer (bytes, holds, is) = elim is [
     | inl (t, table, none, (accepted, deserved, says)) ↦ begins_as _ _ says.1 (accepted_begins left_out accepted.states accepted.pairs)

@@ -4,25 +4,25 @@ use Rattle.std.specs.Io.KnownBytes.{Appends}
 use Rattle.std.specs.Prelude.{string_bytes}
 use Rattle.brl_cert.specs.Reading.{spelling}
 use Rattle.brl_states.specs.declared.cert.Cert.{Cert}
-use Rattle.brl_lines.specs.Answer.{AllStay, MayGive}
+use Rattle.brl_lines.specs.Answer.{Unchanged, FileAnswers}
 use Rattle.brl_lines.specs.Lines.{Answers}
 use Rattle.brl_lines.specs.Outcome.{AreGiven}
 use Rattle.brl_table.specs.Files.{IsTableOf, IsTableOfFiles}
 use Rattle.brl_search.specs.Searched.{State, certificate_of}
 use Rattle.brl_accept.specs.Judging.{IsAcceptedWithout, counted}
-use Rattle.brl_edges.specs.Body.{BodyView}
-use Rattle.brl_verdicts.proofs.OfFiles.{of_files}
+use Rattle.brl_pairs.specs.Body.{BodyView}
+use Rattle.brl_tool.proofs.OfFiles.{of_files}
 use Rattle.brl_rules.specs.TableView.{TableView}
 use Rattle.brl_answers.proofs.DeliveryLemmas.{none_changes}
-use Rattle.brl_commands.specs.Comparing.{ComparesByFile, IsComparison}
-use Rattle.brl_answers.specs.Answers.{ByLeftOut, told_without}
-use Rattle.brl_verdicts.specs.Verdicts.{Checks, IsFileOf, IsJudgement, Judges, SearchesByFile, accepted_line, certified_line}
+use Rattle.brl_tool.specs.Comparing.{ComparesByFile, IsComparison}
+use Rattle.brl_answers.specs.Answers.{ByLeftOut, with_left_out_line}
+use Rattle.brl_tool.specs.Verdicts.{Checks, IsFileOf, IsJudgement, Judges, SearchesByFile, accepted_line, certified_line}
 use Rattle.brl_answers.specs.Delivery.{Delivers}
 use Rattle.brl_answers.specs.Files.{FilesAfter, GivesAlso, MayBeSame, OthersStay}
 use Rattle.brl_tool.specs.Running.{ReportsAcceptance, ReportsCertificate, ReportsClash, ReportsRefusal}
 use Rattle.brl_answers.specs.Status.{status_of}
-use Rattle.brl_commands.specs.Surveying.{SurveysByFiles}
-use Rattle.brl_commands.specs.Tracing.{TracesByFile}
+use Rattle.brl_tool.specs.Surveying.{SurveysByFiles}
+use Rattle.brl_tool.specs.Tracing.{TracesByFile}
 use Rattle.brl_answers.specs.declared.answer.Answer.{Answer}
 use Rattle.brl_answers.specs.declared.answer.NewFile.{NewFile}
 use Rattle.brl_answers.specs.declared.run_fault.RunFault.{RunFault}
@@ -61,7 +61,7 @@ never_refuted OutputFailed e = cc
 never_refuted (CannotWrite named) e = cc
 never_refuted Memory e = cc
 
-module _ (before after : MayGive) (failed : Type 0) (old new : Option (List ℕ)) where
+module _ (before after : FileAnswers) (failed : Type 0) (old new : Option (List ℕ)) where
   -- an answer with a status that no fault has was written whole
   whole : (s : Status) → ((fault : RunFault) → status_of fault ≡ s → ⊥) → (outcome : Result Answer RunFault) (status : Status) → Delivers outcome before after failed old new status → status ≡ s
       → (answer : Answer) × (outcome ≡ Ok answer) × (answer.status ≡ s) × FilesAfter before after answer.file × Appends old new (string_bytes answer.text)
@@ -77,7 +77,7 @@ module _ (before after : MayGive) (failed : Type 0) (old new : Option (List ℕ)
     | inr (l, r, none, says) ↦ says.2
   ]
 
-  pub compare_changes_none : (path left right : List ℕ) (outcome : Result Answer RunFault) (status : Status) → ComparesByFile before path left right outcome → Delivers outcome before after failed old new status → AllStay before after
+  pub compare_changes_none : (path left right : List ℕ) (outcome : Result Answer RunFault) (status : Status) → ComparesByFile before path left right outcome → Delivers outcome before after failed old new status → Unchanged before after
   compare_changes_none path left right (Ok answer) status (t, table, is) (written, writes, e) =
       none_changes before after answer failed old new written (comparison_changes_none t left right answer is) writes
   compare_changes_none path left right (Err fault) status is (stay, still, e) = stay
@@ -116,7 +116,7 @@ module _ (before after : MayGive) (failed : Type 0) (old new : Option (List ℕ)
 
     -- an acceptance was written without these characters
     abbrev Accepts : List ℕ → Type 0
-    Accepts path = ((t : TableView) × IsTableOf before path t × IsUnambiguousWithout left_out t) × ((states pairs : ℕ) × Appends old new (told_without left_out (accepted_line states pairs)))
+    Accepts path = ((t : TableView) × IsTableOf before path t × IsUnambiguousWithout left_out t) × ((states pairs : ℕ) × Appends old new (with_left_out_line left_out (accepted_line states pairs)))
 
     judgement_changes_none : (path bytes : List ℕ) (answer : Answer) → IsJudgement left_out before path bytes answer → answer.file ≡ None
     judgement_changes_none path bytes answer is = elim is [
@@ -124,7 +124,7 @@ module _ (before after : MayGive) (failed : Type 0) (old new : Option (List ℕ)
       | inr (fault, of, refused, (rest, says)) ↦ says.2
     ]
 
-    check_changes_none : (path cert : List ℕ) (outcome : Result Answer RunFault) (status : Status) → Checks left_out before path cert outcome → Delivers outcome before after failed old new status → AllStay before after
+    check_changes_none : (path cert : List ℕ) (outcome : Result Answer RunFault) (status : Status) → Checks left_out before path cert outcome → Delivers outcome before after failed old new status → Unchanged before after
     check_changes_none path cert (Ok answer) status (bytes, holds, is) (written, writes, e) =
         none_changes before after answer failed old new written (judgement_changes_none path bytes answer is) writes
     check_changes_none path cert (Err fault) status is (stay, still, e) = stay
@@ -159,7 +159,7 @@ module _ (before after : MayGive) (failed : Type 0) (old new : Option (List ℕ)
         (t : TableView) × IsTableOf before path t × IsUnambiguousWithout left_out t
         × ((body : BodyView State) × IsAcceptedWithout left_out t (spelling (certificate_of body)) (counted (certificate_of body))
         × GivesAlso after out (spelling (certificate_of body)) × OthersStay before after out × IsTableOf after path t
-        × Appends old new (told_without left_out (certified_line (certificate_of body))))
+        × Appends old new (with_left_out_line left_out (certified_line (certificate_of body))))
 
     certificate_said : (same_file : MayBeSame) (path out : List ℕ) (limit : ℕ) (answer : Answer) → SearchesByFile left_out before same_file path out limit (Ok answer) → answer.status ≡ Done → FilesAfter before after answer.file → Appends old new (string_bytes answer.text) → Certifies path out
     certificate_said same_file path out limit answer (paths, t, table, apart, is) done files appends = elim is [
@@ -171,7 +171,7 @@ module _ (before after : MayGive) (failed : Type 0) (old new : Option (List ℕ)
     ]
 
     clash_found : (same_file : MayBeSame) (path out : List ℕ) (limit : ℕ) (answer : Answer) → SearchesByFile left_out before same_file path out limit (Ok answer) → answer.status ≡ Refuted → FilesAfter before after answer.file → Appends old new (string_bytes answer.text)
-        → ReportsClash before old new × AllStay before after
+        → ReportsClash before old new × Unchanged before after
     clash_found same_file path out limit answer (paths, t, table, apart, is) refuted files appends = elim is [
       | inl (none, (body, certified, accepted, (status, text, file, read))) ↦ let e = sym status ∙ refuted in cc
       | inr (inl (left, right, cells, clash, says)) ↦ ((path, left, right, cells, t, of_files before path paths t table, clash.clash, subst (Appends old new) says.1 appends), subst (FilesAfter before after) says.2 files)
@@ -184,7 +184,7 @@ module _ (before after : MayGive) (failed : Type 0) (old new : Option (List ℕ)
         certificate_said same_file path out limit answer (subst (SearchesByFile left_out before same_file path out limit) ok is) done files appends
 
     found_at_refuted : (same_file : MayBeSame) (path out : List ℕ) (limit : ℕ) (outcome : Result Answer RunFault) (status : Status) → SearchesByFile left_out before same_file path out limit outcome → Delivers outcome before after failed old new status → status ≡ Refuted
-        → ReportsClash before old new × AllStay before after
+        → ReportsClash before old new × Unchanged before after
     found_at_refuted same_file path out limit outcome status is delivers same =
         let (answer, ok, refuted, files, appends) = whole Refuted never_refuted outcome status delivers same in
         clash_found same_file path out limit answer (subst (SearchesByFile left_out before same_file path out limit) ok is) refuted files appends
@@ -212,10 +212,10 @@ module _ (before after : MayGive) (failed : Type 0) (old new : Option (List ℕ)
   ]
 
   -- a fault changes no file
-  stays_at_fault : (outcome : Result Answer RunFault) (status : Status) (fault : RunFault) → outcome ≡ Err fault → Delivers outcome before after failed old new status → AllStay before after
+  stays_at_fault : (outcome : Result Answer RunFault) (status : Status) (fault : RunFault) → outcome ≡ Err fault → Delivers outcome before after failed old new status → Unchanged before after
   stays_at_fault outcome status fault is delivers = (subst (λ (o : Result Answer RunFault). Delivers o before after failed old new status) is delivers).0
 
-  pub check_stays : (option : Option (List ℕ)) (path cert : List ℕ) (outcome : Result Answer RunFault) (status : Status) → ByLeftOut option (λ left_out. Judges left_out before path cert) outcome → Delivers outcome before after failed old new status → AllStay before after
+  pub check_stays : (option : Option (List ℕ)) (path cert : List ℕ) (outcome : Result Answer RunFault) (status : Status) → ByLeftOut option (λ left_out. Judges left_out before path cert) outcome → Delivers outcome before after failed old new status → Unchanged before after
   check_stays option path cert outcome status is delivers = elim is [
     | inl (left_out, spelled, judges) ↦ check_changes_none left_out path cert outcome status judges.checks delivers
     | inr (fault, e, bad) ↦ stays_at_fault outcome status fault e delivers
@@ -230,7 +230,7 @@ module _ (before after : MayGive) (failed : Type 0) (old new : Option (List ℕ)
   ]
 
   pub found_by : (option : Option (List ℕ)) (same_file : MayBeSame) (path out : List ℕ) (limit : ℕ) (outcome : Result Answer RunFault) (status : Status) → ByLeftOut option (λ left_out. SearchesByFile left_out before same_file path out limit) outcome → Delivers outcome before after failed old new status → status ≡ Refuted
-      → ReportsClash before old new × AllStay before after
+      → ReportsClash before old new × Unchanged before after
   found_by option same_file path out limit outcome status is delivers same = elim is [
     | inl (left_out, spelled, searched) ↦ found_at_refuted left_out same_file path out limit outcome status searched delivers same
     | inr (fault, e, bad) ↦ absurd (no_option Refuted never_refuted outcome status fault e delivers same)
@@ -238,7 +238,7 @@ module _ (before after : MayGive) (failed : Type 0) (old new : Option (List ℕ)
 
   -- ---- `brl survey`
 
-  pub survey_changes_none : (paths : List (List ℕ)) (outcome : Result Answer RunFault) (status : Status) → SurveysByFiles before paths outcome → Delivers outcome before after failed old new status → AllStay before after
+  pub survey_changes_none : (paths : List (List ℕ)) (outcome : Result Answer RunFault) (status : Status) → SurveysByFiles before paths outcome → Delivers outcome before after failed old new status → Unchanged before after
   survey_changes_none paths (Ok answer) status (parts, named, are, says) (written, writes, e) = none_changes before after answer failed old new written says.2 writes
   survey_changes_none paths (Err fault) status is (stay, still, e) = stay
 
@@ -256,7 +256,7 @@ module _ (before after : MayGive) (failed : Type 0) (old new : Option (List ℕ)
 
   -- ---- `brl trace`
 
-  pub trace_changes_none : (path text : List ℕ) (outcome : Result Answer RunFault) (status : Status) → TracesByFile before path text outcome → Delivers outcome before after failed old new status → AllStay before after
+  pub trace_changes_none : (path text : List ℕ) (outcome : Result Answer RunFault) (status : Status) → TracesByFile before path text outcome → Delivers outcome before after failed old new status → Unchanged before after
   trace_changes_none path text (Ok answer) status (t, table, (known, says)) (written, writes, e) = none_changes before after answer failed old new written says.2 writes
   trace_changes_none path text (Err fault) status is (stay, still, e) = stay
 

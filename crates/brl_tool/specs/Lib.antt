@@ -1,1 +1,7 @@
 pub mod Running
+pub mod Comparing
+pub mod Streams
+pub mod Surveying
+pub mod Tracing
+pub mod Verdicts
+pub mod Notices

@@ -2,9 +2,9 @@
 ghost use Rattle.std.specs.Prelude.{◌≡◌, ℕ, List, Ok, string_bytes, true};
 ghost use Rattle.brl_answers.specs.Prefixes.{begins_as_answer};
 ghost use Rattle.brl_answers.specs.declared.answer.Answer.{Answer};
-ghost use Rattle.brl_commands.specs.Comparing.{ComparesByFile};
-ghost use Rattle.brl_commands.specs.Tracing.{TracesByFile};
-ghost use Rattle.brl_verdicts.specs.Verdicts.{Checks, SearchesByFile};
+ghost use Rattle.brl_tool.specs.Comparing.{ComparesByFile};
+ghost use Rattle.brl_tool.specs.Tracing.{TracesByFile};
+ghost use Rattle.brl_tool.specs.Verdicts.{Checks, SearchesByFile};
 
 use crate::Files;
 

@@ -1,15 +1,32 @@
 //! `run`, the program over any files and streams.
 //!
-//! What its commands do is in `brl_commands` and `brl_verdicts`, and what all but `translate` come to,
-//! an answer, in `brl_answers`.
+//! `program` has what each command's words lead to. `translate`, `clash`, `trace` and `survey` do the
+//! work of these commands by the files of a table, `search` and `check` that of theirs, and `notices`
+//! writes the notices of a table that is searched. What all but `translate` give is an answer
+//! (brl_answers).
+//!
+//! Room 5, the program (docs/dev/ARCHITECTURE.md). The definitions begin in `specs/Running.antt`.
 #![tactic(auto)]
 
+mod check;
+mod clash;
 mod laws;
+mod notices;
 mod program;
+mod search;
+mod survey;
+mod trace;
+mod translate;
 
 pub use brl_answers::{Files, SinkFault};
 pub use brl_stream::{
-    Failed, Form, Input, LineFault, Output, StreamFault, Watched, translate_lines,
+    Counting, Failed, Form, Input, LineFault, Output, StreamFault, translate_lines,
 };
+pub use check::check_by_words;
+pub use clash::compare_by_file;
 pub use laws::prefixes_law;
 pub use program::run;
+pub use search::search_by_words;
+pub use survey::survey_by_files;
+pub use trace::trace_by_file;
+pub use translate::translate_by_file;

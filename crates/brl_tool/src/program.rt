@@ -2,16 +2,20 @@
 ghost use Rattle.std.specs.Prelude.{◌≡◌, ◌≢◌, ◌⊎◌, map};
 ghost use Rattle.std.specs.Option.{option_copied};
 ghost use Rattle.std.specs.Str.{chars};
-ghost use Rattle.brl_lines.specs.Answer.{AllStay};
+ghost use Rattle.brl_lines.specs.Answer.{Unchanged};
 ghost use Rattle.brl_tool.specs.Running.{ChecksBy, ComparesBy, IsHelp, IsStatus, Performs, Replies, ReportsAcceptance, ReportsCertificate, ReportsClash, ReportsRefusal, Runs, SearchesBy, SurveysBy, TracesBy, TranslatesBy};
 ghost use Rattle.brl_answers.specs.declared.status.Status.TheVariants as statuses;
 
+use crate::check::check_by_words;
+use crate::clash::compare_by_file;
+use crate::search::search_by_words;
+use crate::survey::survey_by_files;
+use crate::trace::trace_by_file;
+use crate::translate::translate_by_file;
 use crate::{Files, Form, Input, Output};
 use brl_answers::{Answer, RunFault, Status, deliver, set_apart};
-use brl_commands::{compare_by_file, survey_by_files, trace_by_file, translate_by_file};
-use brl_verdicts::{check_by_words, search_by_words};
-use brl_watch::Watch;
-use brl_words::{NoTask, Task, task_of};
+use brl_cli::{NotATask, Task, task_of};
+use brl_progress::Progress;
 use std::alloc::Global;
 use std::io::Write;
 
@@ -32,7 +36,7 @@ use std::io::Write;
 ///
 /// A file is written only where a search found a certificate: that file and no other. A file of the
 /// searched table is refused as the file for the certificate before the search.
-pub fn run<F: Files, I: Input, O: Output, E: Write + Watch>(
+pub fn run<F: Files, I: Input, O: Output, E: Write + Progress>(
     alloc: Global,
     words: &[String],
     files: &mut F,
@@ -45,7 +49,7 @@ pub fn run<F: Files, I: Input, O: Output, E: Write + Watch>(
         (O.failures out.new ≢ O.failures out.old) (O.contents out.old) (O.contents out.new) result }
     ensures clash { result ≡ 1 → ReportsClash (F.gives files.old) (O.contents out.old) (O.contents out.new)
         ⊎ ReportsRefusal (O.contents out.old) (O.contents out.new) }
-    ensures same { result ≡ 1 → AllStay (F.gives files.old) (F.gives files.new) }
+    ensures same { result ≡ 1 → Unchanged (F.gives files.old) (F.gives files.new) }
 {
     match task_of(alloc, words) {
         Ok(task) => perform(alloc, task, files, input, out, err).code(),
@@ -54,7 +58,7 @@ pub fn run<F: Files, I: Input, O: Output, E: Write + Watch>(
 }
 
 /// Does a task.
-fn perform<F: Files, I: Input, O: Output, E: Write + Watch>(
+fn perform<F: Files, I: Input, O: Output, E: Write + Progress>(
     alloc: Global,
     task: Task<'_>,
     files: &mut F,
@@ -66,7 +70,7 @@ fn perform<F: Files, I: Input, O: Output, E: Write + Watch>(
         (O.failures out.new ≢ O.failures out.old) (O.contents out.old) (O.contents out.new) result }
     ensures clash { result ≡ statuses.Refuted → ReportsClash (F.gives files.old) (O.contents out.old) (O.contents out.new)
         ⊎ ReportsRefusal (O.contents out.old) (O.contents out.new) }
-    ensures same { result ≡ statuses.Refuted → AllStay (F.gives files.old) (F.gives files.new) }
+    ensures same { result ≡ statuses.Refuted → Unchanged (F.gives files.old) (F.gives files.new) }
 {
     match task {
         Task::Translate { table, form } => translate(alloc, files, table, form, input, out, err),
@@ -99,7 +103,7 @@ fn translate<F: Files, I: Input, O: Output, E: Write>(
 ) -> Status
     ensures translates { TranslatesBy (F.gives files.old) table.now form (I.remaining input.old) (O.contents out.old)
         (O.contents out.new) result }
-    ensures same { AllStay (F.gives files.old) (F.gives files.new) }
+    ensures same { Unchanged (F.gives files.old) (F.gives files.new) }
 {
     match translate_by_file(alloc, files, table, form, input, out) {
         Ok(()) => Status::Done,
@@ -120,14 +124,14 @@ fn compare<F: Files, O: Output, E: Write>(
     ensures compares { ComparesBy (F.gives files.old) (F.gives files.new) table.now (chars left.now) (chars right.now)
         (O.failures out.new ≢ O.failures out.old) (O.contents out.old) (O.contents out.new) result }
     ensures clash { result ≡ statuses.Refuted → ReportsClash (F.gives files.old) (O.contents out.old) (O.contents out.new) }
-    ensures same { AllStay (F.gives files.old) (F.gives files.new) }
+    ensures same { Unchanged (F.gives files.old) (F.gives files.new) }
 {
     let answer = compare_by_file(alloc, files, table, left, right);
     deliver(alloc, answer, files, out, err)
 }
 
 /// `brl check`.
-fn check<F: Files, O: Output, E: Write + Watch>(
+fn check<F: Files, O: Output, E: Write + Progress>(
     alloc: Global,
     files: &mut F,
     table: &str,
@@ -143,7 +147,7 @@ fn check<F: Files, O: Output, E: Write + Watch>(
     ensures accepted { result ≡ statuses.Done → ReportsAcceptance (F.gives files.old) table.now (option_copied without.entry)
         (O.contents out.old) (O.contents out.new) }
     ensures refused { result ≡ statuses.Refuted → ReportsRefusal (O.contents out.old) (O.contents out.new) }
-    ensures same { AllStay (F.gives files.old) (F.gives files.new) }
+    ensures same { Unchanged (F.gives files.old) (F.gives files.new) }
 {
     let answer = check_by_words(alloc, files, table, cert, without, err);
     err.end();
@@ -151,7 +155,7 @@ fn check<F: Files, O: Output, E: Write + Watch>(
 }
 
 /// `brl search`.
-fn search<F: Files, O: Output, E: Write + Watch>(
+fn search<F: Files, O: Output, E: Write + Progress>(
     alloc: Global,
     files: &mut F,
     table: &str,
@@ -169,7 +173,7 @@ fn search<F: Files, O: Output, E: Write + Watch>(
         (option_copied without.entry) (O.contents out.old) (O.contents out.new) }
     ensures clash { result ≡ statuses.Refuted → ReportsClash (F.gives files.old) (O.contents out.old) (O.contents out.new) }
     // Where two texts clash, no file is written.
-    ensures same { result ≡ statuses.Refuted → AllStay (F.gives files.old) (F.gives files.new) }
+    ensures same { result ≡ statuses.Refuted → Unchanged (F.gives files.old) (F.gives files.new) }
 {
     let answer = search_by_words(alloc, files, table, cert, limit, without, err);
     err.end();
@@ -188,7 +192,7 @@ fn survey<F: Files, O: Output, E: Write>(
         (O.failures out.new ≢ O.failures out.old) (O.contents out.old) (O.contents out.new) result }
     // It gives no verdict.
     ensures verdict { result ≢ statuses.Refuted }
-    ensures same { AllStay (F.gives files.old) (F.gives files.new) }
+    ensures same { Unchanged (F.gives files.old) (F.gives files.new) }
 {
     let answer = survey_by_files(alloc, files, tables, err);
     deliver(alloc, answer, files, out, err)
@@ -206,7 +210,7 @@ fn trace<F: Files, O: Output, E: Write>(
     ensures traces { TracesBy (F.gives files.old) (F.gives files.new) table.now (chars text.now)
         (O.failures out.new ≢ O.failures out.old) (O.contents out.old) (O.contents out.new) result }
     ensures verdict { result ≢ statuses.Refuted }
-    ensures same { AllStay (F.gives files.old) (F.gives files.new) }
+    ensures same { Unchanged (F.gives files.old) (F.gives files.new) }
 {
     let answer = trace_by_file(alloc, files, table, text);
     deliver(alloc, answer, files, out, err)
@@ -216,7 +220,7 @@ fn trace<F: Files, O: Output, E: Write>(
 /// standard error.
 fn answer_words<F: Files, O: Output, E: Write>(
     alloc: Global,
-    reply: &NoTask,
+    reply: &NotATask,
     files: &mut F,
     out: &mut O,
     err: &mut E,
@@ -233,7 +237,7 @@ fn answer_words<F: Files, O: Output, E: Write>(
 
 /// The answer with help or the version. No contract says what `clap` prints, so that its text begins
 /// as no answer of a command does is tested as the program runs.
-fn help(alloc: Global, reply: &NoTask) -> Result<Answer, RunFault>
+fn help(alloc: Global, reply: &NotATask) -> Result<Answer, RunFault>
     ensures { IsHelp result }
 {
     let text = format!(in alloc; "{reply}")?;

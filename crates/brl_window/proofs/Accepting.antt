@@ -9,18 +9,20 @@ use Rattle.brl_rules.specs.declared.rule.Rule.{Rule}
 use Rattle.brl_rules.specs.declared.rule.Info.{Info}
 use Rattle.brl_rules.specs.declared.context.Context.{Context}
 use Rattle.brl_rules.specs.Choice.{chosen}
-use Rattle.brl_rules.specs.Indicators.{indicators, signs_before}
+use Rattle.brl_rules.specs.Indicators.{indicators, indicators_before}
 use Rattle.brl_rules.specs.Rest.{translation_of_rest}
 use Rattle.brl_rules.specs.TableView.{TableView}
-use Rattle.brl_rules.specs.Text.{context_behind_all, is_defined, is_text}
+use Rattle.brl_rules.specs.Text.{context_after_all, is_defined, is_text}
 use Rattle.brl_pairs.specs.declared.step.Step.{Step}
 use Rattle.brl_pairs.specs.Runs.{Accepts, IsPath, reads_of, cells_of}
 use Rattle.brl_states.specs.declared.window_state.WindowState.{WindowState}
 use Rattle.brl_states.specs.WindowContext.{context_of}
 use Rattle.brl_window.specs.Windows.{longest, width, Window, windows_on, windows, window_step, steps_at, steps_found, window_steps, first_state, window_machine}
-use Rattle.brl_window.proofs.Kept.{Choosing, Translating, chosen-Takes}
-use Rattle.brl_window.proofs.Listing.{IsIn, in-flat_map, in-at, in-by_rule_number}
+use Rattle.brl_window.proofs.Kept.{Choosing, chosen-Takes}
+use Rattle.brl_window.proofs.Listing.{in-by_rule_number}
 use Rattle.brl_window.proofs.Longer.{chosen-more, run-more}
+use Rattle.brl_pairs.proofs.Listing.{IsIn, in-flat_map, in-at}
+use Rattle.brl_rules.proofs.OneByOne.{Translating}
 
 -- rules are no longer than the longest
 longest-AllByRecursion : (rules : List Rule) (n : ℕ) → longest rules < n → AllByRecursion (λ r. length r.chars < n) rules
@@ -130,7 +132,7 @@ same-signs : (t : TableView) (here : Context) (b : Bool) (x : ℕ) (xs left : Li
     → indicators t here (x ∷ (xs ++ left)) ≡ indicators t here (x ∷ xs)
 same-signs t here true x xs left all enough = ap (λ l. indicators t here (x ∷ l)) (ap (λ l. xs ++ l) (all refl) ∙ append-nil xs)
 same-signs t here false x xs left all enough =
-    ap (λ run. signs_before t here run (x ∷ xs)) (run-more t here.classes x xs left (omega (arith, enough refl, longest-some t.rules)))
+    ap (λ run. indicators_before t here run (x ∷ xs)) (run-more t here.classes x xs left (omega (arith, enough refl, longest-some t.rules)))
 
 same-step : (t : TableView) → Choosing t → (here : Context) (b : Bool) (x : ℕ) (xs left : List ℕ) → (b ≡ true → left ≡ []) → (b ≡ false → longest t.rules < length (x ∷ xs))
     → Steps t here (x ∷ (xs ++ left)) (record { known = x ∷ xs; ended = b }) left
@@ -189,7 +191,7 @@ path-at t choosing translating n s b x xs left on short defined is_one all enoug
     let still : AreDefined t more = all-behind (λ c. is_defined t c ≡ true) (take taken rest) more (subst (AreDefined t) (sym (take-append-drop taken rest)) defined) in
     let path = on step.next more shorter knows still in
     let law = translating.rule here rest (omega arith) in
-    let behind : context_behind_all t here (take taken rest) ≡ context_of step.next = ap (context_behind_all t here) same.taken in
+    let behind : context_after_all t here (take taken rest) ≡ context_of step.next = ap (context_after_all t here) same.taken in
     let cells : step.cells ≡ indicators t here rest ++ (chosen t here.classes rest).cells =
     ap (λ signs. signs ++ (chosen t here.classes w.known).cells) (sym same.signs) ∙ ap (λ c. indicators t here rest ++ c.cells) (sym same.choice) in (
       step ∷ path.0,

@@ -14,15 +14,12 @@ use Rattle.brl_rules.specs.declared.signs.Sign.{Sign}
 use Rattle.brl_rules.specs.Choice.{chosen}
 use Rattle.brl_rules.specs.Limits.{IsRule, IsTable}
 use Rattle.brl_rules.specs.Rest.{translation_of_rest, TakesOneRule}
-use Rattle.brl_rules.specs.TableView.{TableView, sign_cells}
+use Rattle.brl_rules.specs.TableView.{TableView, indicator_cells}
 use Rattle.brl_rules.specs.Text.{at_start}
 use Rattle.brl_rules.specs.Translation.{translation}
 use Rattle.brl_window.specs.Windows.{longest}
-
--- 1 to n
-pub record Within (m n : ℕ) : Type 0 where
-  pub some : 1 ≤ m
-  pub room : m ≤ n
+use Rattle.brl_rules.proofs.Facts.{each, all_unequal}
+use Rattle.brl_rules.proofs.CellCounts.{Within}
 
 -- no member is listed twice
 abbrev pub AreDistinct : {X : Type 0} → List X → Type 0
@@ -33,18 +30,7 @@ pub record Keeps (t : TableView) : Type 0 where
   pub single : AreDistinct (keys_of t.characters)
   pub own_cells : AllByRecursion (λ e. Within (length e.1.cells) 16) t.characters
   pub rule_cells : AllByRecursion (λ r. Within (length r.cells) 512) t.rules
-  pub signs_cells : (sign : Sign) → length (sign_cells t sign) ≤ 16
-
-each : {X : Type 0} (P : X → Type 0) (xs : List X) → ((k : ℕ) (d : X) → k < length xs → P (slice_index_or xs k d)) → AllByRecursion P xs
-each P [] h = tt
-each P (x ∷ xs) h = (h 0 x (omega arith), each P xs (λ k d within. h (suc k) d (omega (arith, within))))
-
-unequal : (m n : ℕ) → nat_eq m n ≡ false → m ≢ n
-unequal m n h e = (let k = eq-eqb m n e in cc)
-
-all_unequal : (x : ℕ) (ys : List ℕ) → AllByRecursion (λ y. nat_eq x y ≡ false) ys → AllByRecursion (λ y. x ≢ y) ys
-all_unequal x [] h = tt
-all_unequal x (y ∷ ys) h = (unequal x y h.0, all_unequal x ys h.1)
+  pub signs_cells : (sign : Sign) → length (indicator_cells t sign) ≤ 16
 
 distinct : (xs : List ℕ) → IsDistinct nat_eq xs → AreDistinct xs
 unfolding IsDistinct
@@ -97,9 +83,3 @@ chosen-Takes t law before c rest = record {
   some = law.some before (c ∷ rest) (omega arith);
   room = law.room before (c ∷ rest) (omega arith);
 }
-
--- a translation, one rule at a time
-pub record Translating (t : TableView) : Type 0 where
-  pub whole : (text : List ℕ) → translation t text ≡ translation_of_rest t at_start text
-  pub end : (here : Context) → translation_of_rest t here [] ≡ []
-  pub rule : (here : Context) (rest : List ℕ) → 0 < length rest → TakesOneRule t here rest

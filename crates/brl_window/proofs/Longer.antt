@@ -8,7 +8,7 @@ use Rattle.brl_rules.specs.declared.rule.Rule.{Rule}
 use Rattle.brl_rules.specs.TableView.{TableView}
 use Rattle.brl_rules.specs.Places.{space, holds, before_of, after_of}
 use Rattle.brl_rules.specs.Choice.{by_rule, folds_of_capitals, matches, fits, first_fitting, chosen}
-use Rattle.brl_rules.specs.Text.{fold_of, classes_of, classes_at, is_capital, is_in_run}
+use Rattle.brl_rules.specs.Text.{fold_of, classes_of, classes_at, is_capital, is_in_caps_run}
 
 -- what is asked of the known characters: more than the rule has, or all that there are
 starts_with-more : (xs ys chars : List ℕ) → length chars ≤ length xs → starts_with nat_eq (xs ++ ys) chars ≡ starts_with nat_eq xs chars
@@ -41,15 +41,15 @@ matches-more t false x xs ys (c ∷ cs) h = ap (λ b. nat_eq c (fold_of t x) && 
 matches-more t true x xs ys (c ∷ cs) h = ap (λ b. nat_eq c (fold_of t x) && b) (folds-more t xs ys cs (omega (arith, h)))
 
 -- whether these begin in a run of capitals, by two of them
-pub run-more : (t : TableView) (before : Class) (x : ℕ) (xs ys : List ℕ) → 2 ≤ length (x ∷ xs) → is_in_run t before (x ∷ (xs ++ ys)) ≡ is_in_run t before (x ∷ xs)
+pub run-more : (t : TableView) (before : Class) (x : ℕ) (xs ys : List ℕ) → 2 ≤ length (x ∷ xs) → is_in_caps_run t before (x ∷ (xs ++ ys)) ≡ is_in_caps_run t before (x ∷ xs)
 run-more t before x [] ys h = absurd (omega (arith, h))
 run-more t before x (y ∷ xs) ys h = refl
 
 fits-more : (t : TableView) (before : Class) (x : ℕ) (xs ys : List ℕ) (r : Rule) → 2 ≤ length (x ∷ xs) → length r.chars < length (x ∷ xs)
     → fits t before (x ∷ (xs ++ ys)) r ≡ fits t before (x ∷ xs) r
 fits-more t before x xs ys r two h =
-    let run = is_in_run t before (x ∷ xs) in
-    let m : matches t (is_in_run t before (x ∷ (xs ++ ys))) (x ∷ (xs ++ ys)) r.chars ≡ matches t run (x ∷ xs) r.chars =
+    let run = is_in_caps_run t before (x ∷ xs) in
+    let m : matches t (is_in_caps_run t before (x ∷ (xs ++ ys))) (x ∷ (xs ++ ys)) r.chars ≡ matches t run (x ∷ xs) r.chars =
     ap (λ run. matches t run (x ∷ (xs ++ ys)) r.chars) (run-more t before x xs ys two) ∙ matches-more t run x xs ys r.chars h in
     let g : classes_at t (x ∷ (xs ++ ys)) (length r.chars) ≡ classes_at t (x ∷ xs) (length r.chars) =
     ap (λ o. option_map_or (classes_of t) o space) (slice_get-more (x ∷ xs) ys (length r.chars) h) in

@@ -14,31 +14,22 @@ use Rattle.brl_rules.specs.declared.signs.Sign.TheVariants.{CapsLetter, NumSign,
 use Rattle.brl_rules.specs.Choice.{Choice, by_rule, chosen, own, first_fitting, fits}
 use Rattle.brl_rules.specs.declared.signs.Sign.{Sign}
 use Rattle.brl_rules.specs.Infos.{first_info}
-use Rattle.brl_rules.specs.Indicators.{indicators, is_used, signs_of, used_cells}
-use Rattle.brl_rules.specs.TableView.{TableView, sign_cells}
-use Rattle.brl_rules.specs.Text.{is_defined, is_in_run}
+use Rattle.brl_rules.specs.Indicators.{indicators, is_used, indicators_of, used_cells}
+use Rattle.brl_rules.specs.TableView.{TableView, indicator_cells}
+use Rattle.brl_rules.specs.Text.{is_defined, is_in_caps_run}
 use Rattle.brl_pairs.specs.declared.step.Step.{Step}
 use Rattle.brl_pairs.specs.Runs.{IsListed, IsGoodStep, IsInOrder}
 use Rattle.brl_states.specs.declared.window_state.WindowState.{WindowState}
 use Rattle.brl_states.specs.WindowContext.{context_of}
 use Rattle.brl_window.specs.Windows.{width, Window, windows_on, windows, window_step, begins_defined, steps_at, put_in, by_rule_number, steps_found, window_steps}
-use Rattle.brl_window.proofs.Kept.{AreDistinct, Within, Keeps, Choosing, chosen-Takes}
-use Rattle.brl_window.proofs.Listing.{IsIn, in-append, from-flat_map, at-in, from-by_rule_number}
+use Rattle.brl_window.proofs.Kept.{AreDistinct, Keeps, Choosing, chosen-Takes}
+use Rattle.brl_window.proofs.Listing.{from-by_rule_number}
+use Rattle.brl_pairs.proofs.Listing.{IsIn, in-append, from-flat_map, at-in}
+use Rattle.brl_rules.proofs.CellCounts.{Within, found-cells}
 
 cond-Within : (b : Bool) (x y : Choice) → Within (length x.cells) 512 → Within (length y.cells) 512 → Within (length (cond b x y).cells) 512
 cond-Within true x y h k = h
 cond-Within false x y h k = k
-
-found-cells : (entries : List (ℕ × Info)) (c : ℕ) → AllByRecursion (λ e. Within (length e.1.cells) 16) entries → is_some (lookup (nat_eq c) entries) ≡ true
-    → Within (length (option_map_or (λ i. i.cells) (lookup (nat_eq c) entries) [])) 512
-found-cells [] c h d = cc
-found-cells (e ∷ es) c h d = cases (nat_eq c e.0) d (found-cells es c h.1)
-  where
-    cases : (b : Bool) → is_some (cond b (Some e.1) (lookup (nat_eq c) es)) ≡ true
-        → (is_some (lookup (nat_eq c) es) ≡ true → Within (length (option_map_or (λ i. i.cells) (lookup (nat_eq c) es) [])) 512)
-        → Within (length (option_map_or (λ i. i.cells) (cond b (Some e.1) (lookup (nat_eq c) es)) [])) 512
-    cases true k more = record { some = h.0.some; room = (let few = h.0.room in omega (arith, few)) }
-    cases false k more = more k
 
 first-Within : (t : TableView) (before : Class) (c : ℕ) (rest : List ℕ) (n : ℕ) (rules : List Rule) → AllByRecursion (λ r. Within (length r.cells) 512) rules
     → Within (length (own t (c ∷ rest)).cells) 512 → Within (length (first_fitting t before (c ∷ rest) n rules).cells) 512
@@ -54,18 +45,18 @@ signs-most : (t : TableView) (here : Context) (rest : List ℕ) → Keeps t → 
 signs-most t here rest valid = of_info (first_info t rest)
   where
     run : Bool
-    run = is_in_run t here.classes rest
+    run = is_in_caps_run t here.classes rest
 
     used : Info → Sign → List ℕ
     used info sign = used_cells t here run info sign
 
     most : (info : Info) (sign : Sign) → length (used info sign) ≤ 16
-    most info sign = used-most (is_used t here run info sign) (sign_cells t sign) (valid.signs_cells sign)
+    most info sign = used-most (is_used t here run info sign) (indicator_cells t sign) (valid.signs_cells sign)
 
     five : (a b c d e : List ℕ) → length a ≤ 16 → length b ≤ 16 → length c ≤ 16 → length d ≤ 16 → length e ≤ 16 → length (a ++ (b ++ (c ++ (d ++ (e ++ []))))) ≤ 80
     five a b c d e ha hb hc hd he = grind (arith, length-append)
 
-    of_info : (info : Option Info) → length (option_map_or (signs_of t here run) info []) ≤ 80
+    of_info : (info : Option Info) → length (option_map_or (indicators_of t here run) info []) ≤ 80
     of_info None = omega arith
     of_info (Some info) = five (used info EndCapsWord) (used info NoContractSign) (used info NumSign) (used info BegCapsWord) (used info CapsLetter) (most info EndCapsWord) (most info NoContractSign) (most info NumSign) (most info BegCapsWord) (most info CapsLetter)
 

@@ -17,6 +17,7 @@ use Rattle.brl_window.proofs.Ordering.{IsAscending, by_rule_number-ascending}
 use Rattle.brl_pairs.specs.declared.step.Step.{Step}
 use Rattle.brl_states.specs.declared.window_state.WindowState.{WindowState}
 use Rattle.brl_window.specs.Windows.{first_state, put_in, by_rule_number}
+use Rattle.brl_rules.proofs.Facts.{not_below, no_less}
 
 three : (m n : ℕ) → (m < n) ⊎ ((n < m) ⊎ (m ≡ n))
 three m n = grind arith
@@ -91,19 +92,13 @@ module _ {S : Type 0} where
 
 -- ---- A stable sort
 
-not_below : (m n : ℕ) → nat_lt m n ≡ false → n ≤ m
-not_below m n h = grind (arith, nat_tests)
-
-same_number : (m n : ℕ) → (not (nat_lt m n) && not (nat_lt n m)) ≡ nat_eq m n
-same_number m n = grind (arith, nat_tests)
-
 -- some step of this rule
 step_of : ℕ → Step WindowState
 step_of n = record { rule = n; reads = []; cells = []; next = first_state }
 
 ties-rule : (n : ℕ) (x : Step WindowState) → ties (λ (a : Step WindowState) b. nat_lt a.rule b.rule) (step_of n) x ≡ nat_eq n x.rule
 unfolding step_of
-ties-rule n x = same_number n x.rule
+ties-rule n x = no_less n x.rule
 
 ascending : (xs : List (Step WindowState)) → ((i j : ℕ) (d : Step WindowState) → i < j → j < length xs → (slice_index_or xs i d).rule ≤ (slice_index_or xs j d).rule) → IsAscending xs
 ascending [] h = tt

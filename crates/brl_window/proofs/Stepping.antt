@@ -16,7 +16,10 @@ use Rattle.brl_window.specs.Steps.{IsWindow, IsStep}
 use Rattle.brl_states.specs.WindowContext.{context_of}
 use Rattle.brl_window.specs.Windows.{Window, begins_defined, steps_at, steps_found, width, window_step, window_steps, windows, windows_on}
 use Rattle.brl_window.proofs.Accepting.{defined-in}
-use Rattle.brl_window.proofs.Listing.{IsIn, at-in, from-by_rule_number, from-flat_map, in-at, in-by_rule_number, in-flat_map}
+use Rattle.brl_window.proofs.Listing.{from-by_rule_number, in-by_rule_number}
+use Rattle.brl_pairs.proofs.Listing.{IsIn, at-in, from-flat_map, in-at, in-flat_map}
+use Rattle.brl_rules.proofs.Facts.{and-true, not_both}
+use Rattle.brl_states.proofs.Defined.{in-defined}
 
 -- all of these are among the letters
 abbrev AreLetters : List ℕ → List ℕ → Type 0
@@ -33,9 +36,6 @@ record GoesOn (letters : List ℕ) (n : ℕ) (known : List ℕ) (w : Window) : T
 flag : Window → Bool
 flag w = w.ended
 
-not_ended : (b : Bool) → b ≡ true → b ≡ false → ⊥
-not_ended b e f = cc
-
 windows_on-GoesOn : (letters : List ℕ) (n : ℕ) (known : List ℕ) (w : Window) → IsIn w (windows_on letters n known) → GoesOn letters n known w
 windows_on-GoesOn letters zero known w (inl e) =
     let on : w.ended ≡ false = ap (λ (v : Window). v.ended) e in
@@ -44,7 +44,7 @@ windows_on-GoesOn letters zero known w (inl e) =
       begins = ap (λ (v : Window). v.known) e ∙ sym (append-nil known);
       letters_all = tt;
       enough = λ h. refl;
-      fewer = λ h. absurd (not_ended w.ended h on);
+      fewer = λ h. absurd (not_both w.ended h on);
     }
 windows_on-GoesOn letters zero known w (inr h) = absurd h
 windows_on-GoesOn letters (suc n) known w (inl e) =
@@ -53,7 +53,7 @@ windows_on-GoesOn letters (suc n) known w (inl e) =
       more = [];
       begins = ap (λ (v : Window). v.known) e ∙ sym (append-nil known);
       letters_all = tt;
-      enough = λ h. absurd (not_ended w.ended over h);
+      enough = λ h. absurd (not_both w.ended over h);
       fewer = λ h. omega arith;
     }
 windows_on-GoesOn letters (suc n) known w (inr h) =
@@ -84,22 +84,9 @@ GoesOn-in letters (suc n) known (c ∷ more) ended all enough fewer =
     inr (in-flat_map (λ x. windows_on letters n (known ++ x ∷ [])) c (record { known = known ++ c ∷ more; ended = ended }) letters all.0
     (subst (λ l. IsIn (record { known = l; ended = ended }) (windows_on letters n (known ++ c ∷ []))) (append_assoc known (c ∷ []) more) here))
 
--- a character of the alphabet is one that the table defines
-in-defined : (entries : List (ℕ × Info)) (c : ℕ) → IsIn c (keys_of entries) → is_some (lookup (nat_eq c) entries) ≡ true
-in-defined [] c h = absurd h
-in-defined (e ∷ entries) c (inl same) = ap (λ b. is_some (cond b (Some e.1) (lookup (nat_eq c) entries))) (eq-eqb c e.0 same)
-in-defined (e ∷ entries) c (inr h) = cases (nat_eq c e.0) (in-defined entries c h)
-  where
-    cases : (b : Bool) → is_some (lookup (nat_eq c) entries) ≡ true → is_some (cond b (Some e.1) (lookup (nat_eq c) entries)) ≡ true
-    cases true k = refl
-    cases false k = k
-
-and : (a b : Bool) → a ≡ true → b ≡ true → (a && b) ≡ true
-and a b h k = ap (λ c. c && b) h ∙ k
-
 letters-text : (t : TableView) (more : List ℕ) → AreLetters (keys_of t.characters) more → is_text t more ≡ true
 letters-text t [] h = refl
-letters-text t (c ∷ more) h = and (is_defined t c) (is_text t more) (in-defined t.characters c h.0) (letters-text t more h.1)
+letters-text t (c ∷ more) h = and-true (is_defined t c) (is_text t more) (in-defined t.characters c h.0) (letters-text t more h.1)
 
 text-letters : (t : TableView) (more : List ℕ) → is_text t more ≡ true → AreLetters (keys_of t.characters) more
 text-letters t [] h = tt
@@ -118,8 +105,8 @@ windows-IsWindow t s w = at s.ended refl
       begins = ap (λ (v : Window). v.known) h ∙ sym (append-nil s.coming);
       defined = refl;
       no_more = λ _. (refl, ap (λ (v : Window). v.ended) h);
-      enough = λ f. absurd (not_ended s.ended e f);
-      fewer = λ f. absurd (not_ended s.ended e f);
+      enough = λ f. absurd (not_both s.ended e f);
+      fewer = λ f. absurd (not_both s.ended e f);
     }
     at false e h =
         let on = windows_on-GoesOn (keys_of t.characters) (width t - length s.coming) s.coming w h in
@@ -128,7 +115,7 @@ windows-IsWindow t s w = at s.ended refl
           more = on.more;
           begins = on.begins;
           defined = letters-text t on.more on.letters_all;
-          no_more = λ f. absurd (not_ended s.ended f e);
+          no_more = λ f. absurd (not_both s.ended f e);
           enough = λ _ f. (let size = on.enough f in omega (arith, size, long));
           fewer = λ _ f. (let size = on.fewer f in omega (arith, size, long));
         }

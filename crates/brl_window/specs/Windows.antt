@@ -10,7 +10,7 @@ use Rattle.brl_pairs.specs.declared.step.Step.{Step}
 use Rattle.brl_rules.specs.Choice.{chosen}
 use Rattle.brl_rules.specs.Indicators.{indicators}
 use Rattle.brl_rules.specs.TableView.{TableView}
-use Rattle.brl_rules.specs.Text.{at_start, context_behind_all, is_defined, is_text}
+use Rattle.brl_rules.specs.Text.{at_start, context_after_all, is_defined, is_text}
 use Rattle.brl_rules.specs.Translation.{translation}
 use Rattle.brl_rules.specs.declared.context.Context.{Context}
 use Rattle.brl_rules.specs.declared.rule.Rule.{Rule}
@@ -53,7 +53,7 @@ windows t s =
 abbrev pub window_step : TableView → Context → Window → Step WindowState
 window_step t here w =
     let choice = chosen t here.classes w.known in
-    let behind = context_behind_all t here (take choice.taken w.known) in
+    let behind = context_after_all t here (take choice.taken w.known) in
     record {
       rule = choice.number;
       reads = take choice.taken w.known;

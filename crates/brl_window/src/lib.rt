@@ -1,5 +1,8 @@
 //! The window machine of a table. A state knows some of the characters to come, as many as decide
 //! which rule the table chooses.
+//!
+//! Room 3, the machines of a table (docs/dev/ARCHITECTURE.md). The definitions begin in
+//! `specs/Windows.antt`.
 #![tactic(auto)]
 
 mod machine;

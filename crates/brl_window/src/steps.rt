@@ -105,9 +105,9 @@ fn step_of(
 {
     let choice = table.choice(here.classes, known);
     let (reads, coming) = known.split_at(choice.taken);
-    let behind = table.context_behind(here, reads);
+    let behind = table.context_after(here, reads);
     let mut cells = Vec::new(alloc);
-    let run = table.is_in_run(here.classes, known);
+    let run = table.is_in_caps_run(here.classes, known);
     table.push_indicators(here, run, known, &mut cells)?;
     cells.extend_from_slice(choice.cells)?;
     Ok(Step {

@@ -6,7 +6,6 @@ use Rattle.brl_pairs.specs.declared.step.Step.{Step}
 use Rattle.brl_rules.specs.TableView.{TableView}
 use Rattle.brl_rules.specs.Translation.{IsUnambiguous}
 use Rattle.brl_without.specs.LeftOut.{uses_none}
-use Rattle.brl_without.specs.Parts.{part_without, whole}
 use Rattle.brl_without.specs.Tables.{IsUnambiguousWithout}
 use Rattle.brl_without.specs.Without.{without}
 
@@ -33,10 +32,6 @@ without-none {S = S} m = λ i. record {
   is_text = λ text. and-true (m.is_text text) (uses_none [] text) (uses_none-none text) i;
   translation = m.translation;
 }
-
--- without no characters the part is the whole
-pub part_without-none : part_without [] ≡ whole
-part_without-none = λ i S m. without-none m i
 
 -- ---- Tables
 

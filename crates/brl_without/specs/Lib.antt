@@ -1,5 +1,4 @@
 pub mod LeftOut
 pub mod Without
 pub mod Tables
-pub mod Parts
 pub mod Itself

@@ -1,12 +1,16 @@
 //! Machines without some characters: what is left of a machine for the texts that don't use them. So
 //! a table's question can be decided for the texts over its other characters.
 //!
-//! `Without` is such a machine, over any other one; `LeftOut` has the characters. The laws state that
+//! `Without` is such a machine, over any other one; `LeftOut` has the characters, and `Scope` the
+//! options of a search or a check. The laws state that
 //! it keeps what a search and a checker need.
+//!
+//! Room 2, any machine (docs/dev/ARCHITECTURE.md). The definitions begin in `specs/Without.antt`.
 #![tactic(auto)]
 
 mod laws;
 mod left_out;
+mod scope;
 mod undefined;
 mod without;
 
@@ -14,5 +18,6 @@ pub use laws::{
     closed_without_law, exact_without_law, nothing_left_out_law, unambiguous_without_law,
 };
 pub use left_out::LeftOut;
+pub use scope::Scope;
 pub use undefined::{UndefinedLeftOut, check_defined};
 pub use without::Without;

@@ -4,8 +4,7 @@ ghost use Rattle.std.specs.List.{filter};
 ghost use Rattle.brl_without.specs.LeftOut.{uses_none};
 
 use crate::LeftOut;
-use brl_members::Key;
-use brl_pairs::{Machine, Step};
+use brl_pairs::{Key, Machine, Step};
 use std::alloc::{AllocError, Global};
 use std::marker::Model;
 

@@ -24,7 +24,7 @@ a|aba|3
 /// The number of the rule that a table takes between two texts, or nothing.
 fn chosen(alloc: Global, table: &Table, before: &str, rest: &str) -> Result<String, Fail> {
     let before = chars(alloc, before)?;
-    let here = table.context_behind(Context::START, before.as_slice());
+    let here = table.context_after(Context::START, before.as_slice());
     let rest = chars(alloc, rest)?;
     match table.choose(here.classes, rest.as_slice()) {
         Some(number) => Ok(format!(in alloc; "{number}")?),
@@ -127,7 +127,7 @@ fn is_capital(table: &Table, character: Option<&char>) -> bool {
 }
 
 /// Whether a rest begins in a run of capitals.
-fn begins_in_run(table: &Table, before: Class, rest: &[char]) -> bool {
+fn begins_in_caps_run(table: &Table, before: Class, rest: &[char]) -> bool {
     let is_beside = before.intersects(Class::UPPERCASE) || is_capital(table, rest.get(1));
     !table.indicator(Sign::BegCapsWord).is_empty() && is_capital(table, rest.first()) && is_beside
 }
@@ -160,7 +160,7 @@ fn may_stand(table: &Table, before: Class, rest: &[char], rule: &Rule) -> bool {
 fn plainly_chosen(table: &Table, before: Class, rest: &[char]) -> Option<u32> {
     let info = table.info(*rest.first()?)?;
     for (place, rule) in table.rules_in_rank().iter().enumerate() {
-        let begins = if begins_in_run(table, before, rest) {
+        let begins = if begins_in_caps_run(table, before, rest) {
             begins_with_capitals(table, rest, rule.chars.as_slice())
         } else {
             begins_with(rest, info.fold, rule)

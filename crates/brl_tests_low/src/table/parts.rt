@@ -2,7 +2,7 @@
 use bitflags::Flags;
 use brl_cells::{Cell, Cells, Chars};
 use brl_rules::{
-    Class, Cond, Context, Info, Notice, Place, Rule, Sign, Signs, Table, TableParts, holds,
+    Class, Cond, Context, Indicators, Info, Notice, Place, Rule, Sign, Table, TableParts, holds,
 };
 use brl_testing::lend;
 use indexmap::IndexMap;
@@ -18,7 +18,7 @@ fn no_parts(alloc: Global) -> TableParts {
     TableParts {
         characters: IndexMap::new(alloc),
         rules: Vec::new(alloc),
-        signs: Signs::new(alloc),
+        signs: Indicators::new(alloc),
         files: Vec::new(alloc),
         notices: Vec::new(alloc),
     }
@@ -123,7 +123,7 @@ fn choices_of_a_table(rt: HostRuntime) -> Result<(), Fail> {
 
 /// Whether `a` is a letter after the start, and no indicator comes before the next one.
 fn needs_no_indicator(alloc: Global, table: &Table) -> Result<bool, Fail> {
-    let here = table.context_behind(Context::START, &['a']);
+    let here = table.context_after(Context::START, &['a']);
     let mut cells = Vec::new(alloc);
     table.push_indicators(here, false, &['a'], &mut cells)?;
     Ok(here.classes == Class::LETTER && cells.is_empty())

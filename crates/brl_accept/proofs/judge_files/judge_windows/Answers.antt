@@ -1,16 +1,15 @@
 use Rattle.std.proofs.Common.{◌≡◌, ◌∙◌, List, ℕ, length, sym, subst, subst₂}
-use Rattle.brl_accept.specs.Judging.{IsNotProvedWith, IsProvedWith, counted}
-use Rattle.brl_checker.specs.Refusals.{IsRefused}
-use Rattle.brl_checker.specs.declared.checker.Accepted.{Accepted}
+use Rattle.brl_accept.specs.Judging.{IsNotProved, IsProved, counted}
+use Rattle.brl_closure.specs.Refusals.{IsRefused}
+use Rattle.brl_closure.specs.declared.check.checker.Accepted.{Accepted}
 use Rattle.brl_states.specs.declared.cert.Cert.TheVariants.{Window}
-use Rattle.brl_edges.specs.Sets.{sets_of}
+use Rattle.brl_pairs.specs.Sets.{sets_of}
 use Rattle.brl_failure.specs.Raised.{if_err-raised, if_ok-both, if_ok-raised}
 use Rattle.brl_accept.proofs.Judged.{same_counts}
 use Rattle.brl_window.specs.Windows.{window_machine}
 use Rattle.brl_pairs.specs.Pairs.{IsClosed}
 use Rattle.brl_pairs.specs.Runs.{IsUnambiguous}
 use Rattle.brl_rules.specs.TableView.{TableView}
-use Rattle.brl_without.specs.Parts.{part_without}
 use Rattle.brl_without.specs.Tables.{IsUnambiguousWithout}
 use Rattle.brl_without.specs.Without.{without}
 use Rattle.brl_accept.proofs.judge_files.judge_windows.Goals as goal
@@ -18,7 +17,7 @@ use Rattle.brl_accept.proofs.judge_files.judge_windows.Goals as goal
 pub returns-clause-unambiguous : goal.returns-clause-unambiguous
 returns-clause-unambiguous g c =
     let left_out = c.args.left_out.now in
-    if_ok-raised _ (λ (accepted : Accepted). IsUnambiguous (without c.new-machine.result.left_out (window_machine c.new-machine.result.machine))) (λ (accepted : Accepted). IsUnambiguousWithout left_out c.args.table.now) c.accept_watched-accepted.result c.raise.result c.raise.ensures c.accept_watched-accepted.ensures.unambiguous
+    if_ok-raised _ (λ (accepted : Accepted). IsUnambiguous (without c.new-machine.result.left_out (window_machine c.new-machine.result.machine))) (λ (accepted : Accepted). IsUnambiguousWithout left_out c.args.table.now) c.accept_with-accepted.result c.raise.result c.raise.ensures c.accept_with-accepted.ensures.unambiguous
     (λ accepted single.
     subst (IsUnambiguousWithout left_out) c.in-Ok.ensures.table
     ((c.unambiguous_without_law.ensures left_out).0
@@ -29,9 +28,9 @@ returns-clause-accepted g c =
     let body = c.args.body.now in
     let left_out = c.args.left_out.now in
     let m = c.new-machine.result in
-    if_ok-raised _ _ (IsProvedWith (part_without left_out) c.args.table.now (Window body)) c.accept_watched-accepted.result c.raise.result c.raise.ensures
-    (if_ok-both (λ (accepted : Accepted). IsClosed (without m.left_out (window_machine m.machine)) (sets_of body)) (λ (accepted : Accepted). (accepted.states ≡ length body.states) × (accepted.pairs ≡ length body.pairs)) c.accept_watched-accepted.result c.accept_watched-accepted.ensures.closed
-    (if_ok-both (λ (accepted : Accepted). accepted.states ≡ length body.states) (λ (accepted : Accepted). accepted.pairs ≡ length body.pairs) c.accept_watched-accepted.result c.accept_watched-accepted.ensures.states c.accept_watched-accepted.ensures.pairs))
+    if_ok-raised _ _ (IsProved left_out c.args.table.now (Window body)) c.accept_with-accepted.result c.raise.result c.raise.ensures
+    (if_ok-both (λ (accepted : Accepted). IsClosed (without m.left_out (window_machine m.machine)) (sets_of body)) (λ (accepted : Accepted). (accepted.states ≡ length body.states) × (accepted.pairs ≡ length body.pairs)) c.accept_with-accepted.result c.accept_with-accepted.ensures.closed
+    (if_ok-both (λ (accepted : Accepted). accepted.states ≡ length body.states) (λ (accepted : Accepted). accepted.pairs ≡ length body.pairs) c.accept_with-accepted.result c.accept_with-accepted.ensures.states c.accept_with-accepted.ensures.pairs))
     (λ accepted h. (
       c.in-Ok.ensures.ok,
       subst₂ (λ (cs : List ℕ) (t : TableView). IsClosed (without cs (window_machine t)) (sets_of body)) c.new-machine.ensures.left_out (c.new-machine.ensures.machine ∙ c.in-Ok.ensures.table) h.0,
@@ -41,8 +40,8 @@ returns-clause-accepted g c =
 pub returns-clause-refused : goal.returns-clause-refused
 returns-clause-refused g c =
     let body = c.args.body.now in
-    let part = part_without c.args.left_out.now in
-    if_err-raised _ _ (IsNotProvedWith part c.args.table.now (Window body)) c.accept_watched-accepted.result c.raise.result c.raise.ensures c.accept_watched-accepted.ensures.refused
+    let left_out = c.args.left_out.now in
+    if_err-raised _ _ (IsNotProved left_out c.args.table.now (Window body)) c.accept_with-accepted.result c.raise.result c.raise.ensures c.accept_with-accepted.ensures.refused
     (λ fault other is h.
-    subst (IsNotProvedWith part c.args.table.now (Window body)) (sym is)
+    subst (IsNotProved left_out c.args.table.now (Window body)) (sym is)
     (c.in-Ok.ensures.ok, subst₂ (λ (cs : List ℕ) (t : TableView). IsRefused (without cs (window_machine t)) body fault) c.new-machine.ensures.left_out (c.new-machine.ensures.machine ∙ c.in-Ok.ensures.table) h))

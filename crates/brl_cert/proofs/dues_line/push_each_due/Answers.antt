@@ -4,7 +4,7 @@ use Rattle.brl_states.specs.declared.due.Due.{Due}
 use Rattle.std.proofs.lemmas.List.Folds.{flat_map-map}
 use Rattle.brl_cert.specs.Dues.{spelled_due}
 use Rattle.brl_cert.specs.Valid.{IsDue}
-use Rattle.brl_fields.proofs.More.{one_more, all_more}
+use Rattle.brl_cert.proofs.More.{one_more, all_more}
 use Rattle.brl_cert.proofs.dues_line.push_each_due.Goals as goal
 
 pub loop-due-preserved : goal.loop-due-preserved

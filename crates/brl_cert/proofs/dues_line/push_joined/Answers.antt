@@ -1,6 +1,6 @@
 use Rattle.std.proofs.Common.{◌++◌, ◌∙◌, ap, arith}
-use Rattle.brl_fields.proofs.More.{some_joined}
-use Rattle.brl_fields.proofs.Lists.{chars_spelled}
+use Rattle.brl_cert.proofs.More.{some_joined}
+use Rattle.brl_cert.proofs.Lists.{chars_spelled}
 use Rattle.brl_cert.proofs.dues_line.push_joined.Goals as goal
 
 pub returns-clause-written : goal.returns-clause-written

@@ -3,7 +3,7 @@ use Rattle.std.specs.Prelude.{IfSome}
 use Rattle.std.proofs.lemmas.List.Elements.{All-push}
 use Rattle.brl_cert.specs.Dues.{lenient_due}
 use Rattle.brl_states.specs.Order.{is_proper}
-use Rattle.brl_fields.proofs.Each.{each_more, each_none}
+use Rattle.brl_cert.proofs.Each.{each_more, each_none}
 use Rattle.brl_cert.proofs.dues_line.read_each_due.Goals as goal
 
 pub returns-in_default-clause-dues : goal.returns-in_default-clause-dues

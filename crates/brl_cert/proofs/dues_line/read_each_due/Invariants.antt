@@ -1,6 +1,6 @@
 use Rattle.std.proofs.Common.{◌≡◌, map, take, All, IsTrue, Some}
 use Rattle.brl_cert.specs.Dues.{lenient_due}
-use Rattle.brl_fields.specs.Fields.{each}
+use Rattle.brl_cert.specs.Fields.{each}
 use Rattle.brl_states.specs.Order.{is_proper}
 use Rattle.brl_cert.proofs.dues_line.read_each_due.Given as goal
 

@@ -1,7 +1,7 @@
 use Rattle.std.proofs.Common.{◌∷◌, ◌++◌, [], arith}
 use Rattle.std.specs.Prelude.{codes}
 use Rattle.std.specs.List.{join_with_byte}
-use Rattle.brl_fields.proofs.More.{one_more, all_more}
+use Rattle.brl_cert.proofs.More.{one_more, all_more}
 use Rattle.brl_cert.proofs.Written.{with_feed}
 use Rattle.brl_cert.proofs.writing.push_states.Goals as goal
 

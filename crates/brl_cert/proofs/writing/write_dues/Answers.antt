@@ -1,13 +1,13 @@
 use Rattle.std.proofs.Common.{◌≡◌, ◌++◌, ap, ◌∙◌, Ok, subst}
 use Rattle.std.specs.Fmt.{digits}
-use Rattle.brl_edges.specs.Body.{BodyView}
+use Rattle.brl_pairs.specs.Body.{BodyView}
 use Rattle.brl_states.specs.declared.cert.Cert.TheVariants.{Dues}
 use Rattle.brl_states.specs.declared.dues_state.DuesState.{DuesState}
 use Rattle.brl_cert.specs.Lines.{spelled_body}
 use Rattle.brl_cert.specs.Reading.{reading, spelling}
 use Rattle.brl_cert.specs.Valid.{IsDuesState}
 use Rattle.brl_cert.specs.Dues.{dues_format}
-use Rattle.brl_cert.proofs.Written.{runless}
+use Rattle.brl_cert.proofs.Written.{caps_free}
 use Rattle.brl_cert.proofs.writing.write_dues.Goals as goal
 
 pub returns-clause-spelled : goal.returns-clause-spelled
@@ -22,4 +22,4 @@ returns-clause-read_back c =
     let body = c.body.result.now in
     subst (λ (b : BodyView DuesState). reading c.push_body.new.out.items ≡ Ok (Dues b)) c.body.ensures.body
     (ap reading (c.in_ok-push_body.ensures.written ∙ ap (λ front. front ++ spelled_body dues_format body) c.in_ok-out.ensures.items)
-    ∙ c.certificate_laws.ensures.read_back (Dues body) (runless dues_format IsDuesState (λ s. s.run) body c.in_ok-push_body.ensures.in_range c.body.ensures.runless))
+    ∙ c.certificate_laws.ensures.read_back (Dues body) (caps_free dues_format IsDuesState (λ s. s.run) body c.in_ok-push_body.ensures.in_range c.body.ensures.caps_free))

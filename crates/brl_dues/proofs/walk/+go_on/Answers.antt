@@ -4,7 +4,7 @@ use Rattle.std.specs.Prelude.{option_map}
 use Rattle.brl_pairs.specs.declared.step.Step.{Step}
 use Rattle.brl_states.specs.declared.dues_state.DuesState.{DuesState}
 use Rattle.brl_dues.specs.declared.walk.Beginning.{Beginning}
-use Rattle.brl_dues.specs.Letters.{left_past, run_steps}
+use Rattle.brl_dues.specs.Letters.{left_past, caps_run_steps}
 use Rattle.brl_dues.proofs.Loops.{own-next}
 use Rattle.brl_dues.proofs.Walking.{broken-fold, left-further, same-fold, steps-by-capital, steps_after}
 use Rattle.brl_dues.proofs.walk.+go_on.Goals as goal
@@ -16,7 +16,7 @@ loop-capital-init t c =
     ap (λ l. c.args.listed.now.items ++ flat_map (steps_after o.table.now o.state.now o.letter.now c.args.taken.number c.args.taken.after c.args.taken.cells.now c.args.beginning.capitals.items c.in-Some.fold.now c.in-Some.others.now) l)
     c.capitals-capital-items.ensures
     ∙ ap (λ l. c.args.listed.now.items ++ l)
-    (sym (ap (run_steps o.table.now o.state.now o.letter.now c.args.taken.number c.args.taken.after c.args.taken.cells.now c.args.beginning.capitals.items) c.in-Some.ensures.cases.0
+    (sym (ap (caps_run_steps o.table.now o.state.now o.letter.now c.args.taken.number c.args.taken.after c.args.taken.cells.now c.args.beginning.capitals.items) c.in-Some.ensures.cases.0
     ∙ steps-by-capital o.table.now o.state.now o.letter.now c.args.taken.number c.args.taken.after c.args.taken.cells.now c.args.beginning.capitals.items c.in-Some.fold.now c.in-Some.others.now))
 
 pub go_on-requires : goal.go_on-requires
@@ -42,7 +42,7 @@ loop-capital-preserved t c =
     let items = c.capitals-capital-items.result.now in
     let capital = get_or items c.loop-capital.capital-index (record { character = 0; fold = 0 }) in
     let next = own-next (steps_after o.table.now o.state.now o.letter.now c.args.taken.number c.args.taken.after c.args.taken.cells.now begun c.in-Some.fold.now c.in-Some.others.now) items c.loop-capital.capital-index (record { character = 0; fold = 0 })
-    c.loop-capital.listed.items c.match-branch-2.listed.items (c.args.listed.now.items ++ run_steps o.table.now o.state.now o.letter.now c.args.taken.number c.args.taken.after c.args.taken.cells.now begun c.args.folds.now) c.loop-capital-test.true c.loop-capital.invariant in
+    c.loop-capital.listed.items c.match-branch-2.listed.items (c.args.listed.now.items ++ caps_run_steps o.table.now o.state.now o.letter.now c.args.taken.number c.args.taken.after c.args.taken.cells.now begun c.args.folds.now) c.loop-capital-test.true c.loop-capital.invariant in
     elim c.match-branch-2.branch [
       | in-Some-2+in_ok-go_on w ↦ (
           let longer = w.in-Some-2.longer in
@@ -52,7 +52,7 @@ loop-capital-preserved t c =
           (same-fold o.table.now o.state.now o.letter.now c.args.taken.number c.args.taken.after c.args.taken.cells.now begun c.in-Some.fold.now c.in-Some.others.now capital c.loop-capital.listed.items
           (eq-eqb c.in-Some.fold.now capital.fold (sym c.if-capital-fold.false)) c.match-branch-2.listed.items
           (same ∙ w.in_ok-go_on.ensures
-          ∙ ap (λ l. c.loop-capital.listed.items ++ run_steps o.table.now o.state.now o.letter.now c.args.taken.number c.args.taken.after c.args.taken.cells.now l c.in-Some.others.now) capitals)))
+          ∙ ap (λ l. c.loop-capital.listed.items ++ caps_run_steps o.table.now o.state.now o.letter.now c.args.taken.number c.args.taken.after c.args.taken.cells.now l c.in-Some.others.now) capitals)))
       | in_default-2 w ↦ (
           let same : c.match-branch-2.listed.items ≡ c.loop-capital.listed.items = ap (λ (v : Vec (Step DuesState) Global). v.items) w.listed-is in
           next

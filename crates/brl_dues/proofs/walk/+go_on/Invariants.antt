@@ -1,6 +1,6 @@
 use Rattle.std.proofs.Common.{◌≡◌, ◌++◌, drop, length}
 use Rattle.std.specs.List.{flat_map}
-use Rattle.brl_dues.specs.Letters.{run_steps}
+use Rattle.brl_dues.specs.Letters.{caps_run_steps}
 use Rattle.brl_dues.proofs.Walking.{steps_after}
 use Rattle.brl_dues.proofs.walk.+go_on.Given as goal
 
@@ -12,4 +12,4 @@ abbrev pub invariant-loop-capital : goal.invariant-loop-capital
 invariant-loop-capital l =
     l.listed.items
     ++ flat_map (steps_after l.origin.table.now l.origin.state.now l.origin.letter.now l.taken.number l.taken.after l.taken.cells.now l.beginning.capitals.items l.fold l.others) (drop l.capital-index l.capital-items)
-    ≡ l.fn.listed.items ++ run_steps l.origin.table.now l.origin.state.now l.origin.letter.now l.taken.number l.taken.after l.taken.cells.now l.beginning.capitals.items l.folds
+    ≡ l.fn.listed.items ++ caps_run_steps l.origin.table.now l.origin.state.now l.origin.letter.now l.taken.number l.taken.after l.taken.cells.now l.beginning.capitals.items l.folds

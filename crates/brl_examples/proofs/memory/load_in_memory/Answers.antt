@@ -1,7 +1,7 @@
 use Rattle.std.proofs.Common.{Ok, Err, Result, List, IfOk, IfErr, ℕ}
 use Rattle.brl_failure.specs.Failure.{GivesAs}
 use Rattle.brl_failure.specs.declared.failure.Failure.{Failure}
-use Rattle.brl_lines.specs.Answer.{MayGive}
+use Rattle.brl_lines.specs.Answer.{FileAnswers}
 use Rattle.brl_lines.specs.Lines.{Refusal}
 use Rattle.brl_lines.specs.Loaded.{LoadedView}
 use Rattle.brl_lines.specs.Outcome.{AreLinesOf, AreLinesOfFiles, IsLoadFault}
@@ -11,7 +11,7 @@ use Rattle.brl_lines.specs.declared.fault.LoadFault.{LoadFault}
 use Rattle.brl_examples.proofs.memory.load_in_memory.Goals as goal
 
 -- where a loading of lines gives an answer, so does one that gives its paths too
-gives_lines_of_loaded : (gives : MayGive) (root : List ℕ) (want : Result (List LineView) Refusal)
+gives_lines_of_loaded : (gives : FileAnswers) (root : List ℕ) (want : Result (List LineView) Refusal)
     → ((outcome : Result (List LineView) (Failure LoadFault)) → IfOk outcome (AreLinesOf gives root) → IfErr outcome (IsLoadFault gives root)
     → GivesAs (λ lines. lines) load_fault_view want outcome)
     → (outcome : Result LoadedView (Failure LoadFault))

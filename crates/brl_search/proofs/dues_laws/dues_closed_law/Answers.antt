@@ -2,7 +2,7 @@ use Rattle.std.proofs.Common.{subst}
 use Rattle.brl_dues.specs.Steps.{dues_machine}
 use Rattle.brl_pairs.specs.Pairs.{IsClosed}
 use Rattle.brl_pairs.specs.Runs.{IsExact, IsUnambiguous}
-use Rattle.brl_finder.specs.Deciding.{reached_sets}
+use Rattle.brl_closure.specs.Deciding.{reached_sets}
 use Rattle.brl_rules.specs.TableView.{TableView}
 use Rattle.brl_search.proofs.dues_laws.dues_closed_law.Goals as goal
 

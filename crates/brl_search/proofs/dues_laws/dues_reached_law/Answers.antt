@@ -1,6 +1,6 @@
 use Rattle.brl_dues.specs.Finite.{all_leads, all_states}
 use Rattle.brl_dues.specs.Steps.{dues_machine}
-use Rattle.brl_finder.proofs.Listed.{few_pairs, few_states, lead_listed, pair_listed, state_listed}
+use Rattle.brl_closure.proofs.Listed.{few_pairs, few_states, lead_listed, pair_listed, state_listed}
 use Rattle.brl_search.proofs.OfDues.{lists_hold}
 use Rattle.brl_search.proofs.dues_laws.dues_reached_law.Goals as goal
 

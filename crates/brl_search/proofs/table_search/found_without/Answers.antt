@@ -1,15 +1,15 @@
 use Rattle.std.proofs.Common.{◌≡◌, ◌∙◌, ℕ, List, slice_get, subst, subst₂, sym}
 use Rattle.brl_dues.specs.Steps.{dues_machine}
-use Rattle.brl_edges.specs.Sets.{pair_at, sets_of}
+use Rattle.brl_pairs.specs.Sets.{pair_at, sets_of}
 use Rattle.brl_pairs.specs.Pairs.{IsClosed}
 use Rattle.brl_pairs.specs.Runs.{IsExact, IsUnambiguous}
-use Rattle.brl_finder.specs.Answers.{AreTwoPaths, IsCertified, IsLimit}
-use Rattle.brl_finder.specs.Deciding.{IsClashOf}
+use Rattle.brl_closure.specs.Answers.{AreTwoPaths, IsCertified, IsLimit}
+use Rattle.brl_closure.specs.Deciding.{IsClashOf}
 use Rattle.brl_rules.specs.TableView.{TableView}
 use Rattle.brl_without.specs.Tables.{IsClashWithout, IsUnambiguousWithout}
 use Rattle.brl_without.specs.Without.{without}
 use Rattle.brl_search.proofs.TableSearch.{clash_of_machine, clash_without, none_of_machine}
-use Rattle.brl_finder.proofs.TwoRuns.{no_limit}
+use Rattle.brl_closure.proofs.TwoRuns.{no_limit}
 use Rattle.brl_search.proofs.table_search.found_without.Goals as goal
 
 -- two paths with the same cells show a clash of the machine without some characters

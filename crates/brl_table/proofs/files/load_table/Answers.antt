@@ -3,7 +3,7 @@ use Rattle.brl_failure.specs.Failure.{IsRaised}
 use Rattle.brl_failure.specs.Raised.{if_err-raised, if_ok-both, if_ok-raised, raised_is}
 use Rattle.brl_failure.specs.declared.failure.Failure.{Failure}
 use Rattle.brl_failure.specs.declared.failure.Failure.TheVariants as failures
-use Rattle.brl_lines.specs.Answer.{MayGive}
+use Rattle.brl_lines.specs.Answer.{FileAnswers}
 use Rattle.brl_lines.specs.Loaded.{LoadedView}
 use Rattle.brl_lines.specs.Outcome.{AreLinesOf, AreLinesOfFiles, CountsFailure}
 use Rattle.brl_lines.specs.declared.fault.LoadFault.{LoadFault}
@@ -16,7 +16,7 @@ use Rattle.brl_rules.specs.TableView.{TableView}
 use Rattle.brl_table.proofs.files.load_table.Goals as goal
 
 -- where the files were loaded, their lines are those of the table
-lines_given : (gives : MayGive) (root : List ℕ) (step : Result LoadedView (Failure LoadFault)) (loaded : LoadedView) → step ≡ Ok loaded
+lines_given : (gives : FileAnswers) (root : List ℕ) (step : Result LoadedView (Failure LoadFault)) (loaded : LoadedView) → step ≡ Ok loaded
     → IfOk step (λ found. AreLinesOfFiles gives root found.paths found.lines) → AreLinesOf gives root loaded.lines
 lines_given gives root step loaded e h =
     let are = subst (λ (r : Result LoadedView (Failure LoadFault)). IfOk r (λ found. AreLinesOfFiles gives root found.paths found.lines)) e h in

@@ -1,6 +1,6 @@
 use Rattle.std.proofs.Common.{◌≢◌, subst, sym}
 use Rattle.brl_tool.specs.Running.{Performs}
-use Rattle.brl_words.specs.declared.command.Task.{Task}
+use Rattle.brl_cli.specs.declared.command.Task.{Task}
 use Rattle.brl_tool.proofs.program.perform.Goals as goal
 
 pub returns-in-Search-clause-performs : goal.returns-in-Search-clause-performs

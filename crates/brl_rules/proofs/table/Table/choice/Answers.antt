@@ -8,7 +8,7 @@ pub choice_of-requires : goal.choice_of-requires
 choice_of-requires c = record {
   info = first_info-got c.args.self.now c.args.rest.now c.index-rest-0.result c.requires
       ∙ ap (info_of c.args.self.now) (sym c.index-rest-0.is) ∙ sym c.in-Some.ensures.value;
-  run = c.is_in_run_of-run.ensures;
+  run = c.is_in_caps_run_of-run.ensures;
 }
 
 pub returns-in-None-clause-choice : goal.returns-in-None-clause-choice

@@ -6,7 +6,7 @@ use Rattle.brl_rules.proofs.table.Table.choose.Goals as goal
 pub choice_of-requires : goal.choice_of-requires
 choice_of-requires c = record {
   info = first_info-there c.args.self.now c.args.rest.now c.in_ok-first.field-0.now (sym c.in_ok-first.ensures.value) ∙ sym c.in_ok-info.ensures.value;
-  run = c.is_in_run_of-run.ensures;
+  run = c.is_in_caps_run_of-run.ensures;
 }
 
 pub returns : goal.returns

@@ -2,7 +2,7 @@ use Rattle.std.proofs.Common.{rules, arith, ◌≡◌, ◌∷◌, ◌+◌, ◌++
 use Rattle.std.specs.List.{find}
 use Rattle.std.specs.Option.{option_or}
 use Rattle.brl_rules.specs.Choice.{compared, place_allows_number}
-use Rattle.brl_rules.specs.Text.{fold_of, is_in_run}
+use Rattle.brl_rules.specs.Text.{fold_of, is_in_caps_run}
 use Rattle.brl_rules.specs.Tree.{ends_at, ends_of, mark_of}
 use Rattle.brl_rules.proofs.Compared.{behind_first, behind-length, behind-mark, mark-there, mark-none}
 use Rattle.brl_rules.proofs.TreeWalk.{rest-none, rest-no_root, rest-first, rest-next, rest-no_branch, rest-end, one_more}
@@ -21,7 +21,7 @@ returns-in_err-node c =
     let rest-is : rest ≡ x ∷ others = search rules in
     let asked : List ℕ → Type 0 = λ rest. IfSome (slice_get rest 0) (λ first. c.args.fold ≡ fold_of t first) in
     let fold-is : fold_of t x ≡ c.args.fold = sym (subst asked rest-is c.requires.fold) in
-    let is : compared t (is_in_run t c.args.before rest) rest ≡ c.args.fold ∷ behind =
+    let is : compared t (is_in_caps_run t c.args.before rest) rest ≡ c.args.fold ∷ behind =
     ap (λ run. compared t run rest) (sym c.requires.run) ∙ ap (compared t c.args.run) rest-is ∙ ap (λ f. f ∷ behind) fold-is in
     c.from_residual-in_err-node.ensures ∙ sym (rest-no_root t c.args.before rest c.args.fold behind is c.in_err-node.ensures.node)
 
@@ -35,7 +35,7 @@ loop-character-init c =
     let rest-is : rest ≡ x ∷ others = search rules in
     let asked : List ℕ → Type 0 = λ rest. IfSome (slice_get rest 0) (λ first. c.args.fold ≡ fold_of t first) in
     let fold-is : fold_of t x ≡ c.args.fold = sym (subst asked rest-is c.requires.fold) in
-    let is : compared t (is_in_run t c.args.before rest) rest ≡ c.args.fold ∷ behind =
+    let is : compared t (is_in_caps_run t c.args.before rest) rest ≡ c.args.fold ∷ behind =
     ap (λ run. compared t run rest) (sym c.requires.run) ∙ ap (compared t c.args.run) rest-is ∙ ap (λ f. f ∷ behind) fold-is in
     record {
       inside = omega arith;
@@ -54,7 +54,7 @@ returns-in_default c =
     let rest-is : rest ≡ x ∷ others = search rules in
     let asked : List ℕ → Type 0 = λ rest. IfSome (slice_get rest 0) (λ first. c.args.fold ≡ fold_of t first) in
     let fold-is : fold_of t x ≡ c.args.fold = sym (subst asked rest-is c.requires.fold) in
-    let is : compared t (is_in_run t c.args.before rest) rest ≡ c.args.fold ∷ behind =
+    let is : compared t (is_in_caps_run t c.args.before rest) rest ≡ c.args.fold ∷ behind =
     ap (λ run. compared t run rest) (sym c.requires.run) ∙ ap (compared t c.args.run) rest-is ∙ ap (λ f. f ∷ behind) fold-is in
     let k = c.loop-character.character-index in
     let none : c.mark_of.result ≡ None = search rules in
@@ -72,7 +72,7 @@ returns-in_default-branch c =
     let rest-is : rest ≡ x ∷ others = search rules in
     let asked : List ℕ → Type 0 = λ rest. IfSome (slice_get rest 0) (λ first. c.args.fold ≡ fold_of t first) in
     let fold-is : fold_of t x ≡ c.args.fold = sym (subst asked rest-is c.requires.fold) in
-    let is : compared t (is_in_run t c.args.before rest) rest ≡ c.args.fold ∷ behind =
+    let is : compared t (is_in_caps_run t c.args.before rest) rest ≡ c.args.fold ∷ behind =
     ap (λ run. compared t run rest) (sym c.requires.run) ∙ ap (compared t c.args.run) rest-is ∙ ap (λ f. f ∷ behind) fold-is in
     let k = c.loop-character.character-index in
     let some : c.mark_of.result ≡ Some c.in-Some.mark = search rules in
@@ -93,7 +93,7 @@ loop-character-preserved c =
     let rest-is : rest ≡ x ∷ others = search rules in
     let asked : List ℕ → Type 0 = λ rest. IfSome (slice_get rest 0) (λ first. c.args.fold ≡ fold_of t first) in
     let fold-is : fold_of t x ≡ c.args.fold = sym (subst asked rest-is c.requires.fold) in
-    let is : compared t (is_in_run t c.args.before rest) rest ≡ c.args.fold ∷ behind =
+    let is : compared t (is_in_caps_run t c.args.before rest) rest ≡ c.args.fold ∷ behind =
     ap (λ run. compared t run rest) (sym c.requires.run) ∙ ap (compared t c.args.run) rest-is ∙ ap (λ f. f ∷ behind) fold-is in
     let k = c.loop-character.character-index in
     let some : c.mark_of.result ≡ Some c.in-Some.mark = search rules in
@@ -124,7 +124,7 @@ returns c =
     let rest-is : rest ≡ x ∷ others = search rules in
     let asked : List ℕ → Type 0 = λ rest. IfSome (slice_get rest 0) (λ first. c.args.fold ≡ fold_of t first) in
     let fold-is : fold_of t x ≡ c.args.fold = sym (subst asked rest-is c.requires.fold) in
-    let is : compared t (is_in_run t c.args.before rest) rest ≡ c.args.fold ∷ behind =
+    let is : compared t (is_in_caps_run t c.args.before rest) rest ≡ c.args.fold ∷ behind =
     ap (λ run. compared t run rest) (sym c.requires.run) ∙ ap (compared t c.args.run) rest-is ∙ ap (λ f. f ∷ behind) fold-is in
     c.loop-character.invariant.best
     ∙ rest-end t c.args.before rest c.args.fold behind is c.loop-character.character-index (omega (arith, behind-length t c.args.run others, c.loop-character-test.false))

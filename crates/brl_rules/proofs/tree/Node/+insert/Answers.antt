@@ -3,8 +3,9 @@ use Rattle.brl_rules.specs.declared.tree.Node.{Node}
 use Rattle.brl_rules.specs.declared.tree.Node.TheViews.{out-Node}
 use Rattle.brl_rules.specs.Tree.{branch_of, ends_at, with_rule}
 use Rattle.std.proofs.lemmas.List.Quantifiers.{position-Some}
-use Rattle.brl_rules.proofs.TreeInsert.{by_layer, found-set, found-push, find-none, same_number}
+use Rattle.brl_rules.proofs.TreeInsert.{by_layer, found-set, found-push, find-none}
 use Rattle.brl_rules.proofs.tree.Node.+insert.Goals as goal
+use Rattle.brl_rules.proofs.Facts.{same_number}
 
 pub returns-in_ok-insert-in-Some-place_of-clause-ends :
     goal.returns-in_ok-insert-in-Some-place_of-clause-ends

@@ -1,9 +1,10 @@
 use Rattle.std.proofs.Common.{subst}
 use Rattle.brl_rules.specs.Limits.{IsTable}
 use Rattle.brl_window.proofs.Accepting.{accepts}
-use Rattle.brl_window.proofs.Kept.{Choosing, Translating, keeps_of}
+use Rattle.brl_window.proofs.Kept.{Choosing, keeps_of}
 use Rattle.brl_window.proofs.Ordering.{good_steps, in_order}
 use Rattle.brl_window.proofs.machine.WindowMachine.start.Goals as goal
+use Rattle.brl_rules.proofs.OneByOne.{Translating}
 
 pub returns-clause-laws : goal.returns-clause-laws
 returns-clause-laws c =

@@ -1,0 +1,195 @@
+//! Fields of a line: reading them leniently, and writing their one spelling.
+ghost use Rattle.std.specs.Prelude.{◌≡◌, ◌<◌, ◌≤◌, ◌^◌, ◌++◌, ◌∷◌, ◌==◌, length, map, IfOk, IfSome, OnOk, All, true, false};
+ghost use Rattle.std.specs.Char.{digit_value};
+ghost use Rattle.std.specs.Fmt.{decimal, digits};
+ghost use Rattle.std.specs.List.{flat_map, slice_split};
+ghost use Rattle.brl_cells.specs.Dots.{AreCells};
+ghost use Rattle.brl_cert.specs.Fields.{each, is_char, lenient_char, lenient_chars, lenient_flag, lenient_lead, lenient_number, spelled_chars, spelled_flag, spelled_lead};
+
+use brl_cells::{Cell, Cells, Chars, read_dots, write_dots};
+use brl_failure::Failure;
+use std::alloc::{AllocError, Global};
+
+/// The value of a digit in any radix to 36, and 36 for any other byte.
+fn digit_of(byte: u8) -> u64
+    ensures { result ≡ digit_value byte }
+{
+    match byte {
+        b'0'..=b'9' => (byte - b'0') as u64,
+        b'A'..=b'Z' => (byte - b'A') as u64 + 10,
+        b'a'..=b'z' => (byte - b'a') as u64 + 10,
+        _ => 36,
+    }
+}
+
+/// The number that a lenient field spells in this radix, if it is at most `greatest`.
+pub fn read_number(field: &[u8], radix: u64, greatest: u64) -> Option<u64>
+    requires radix_from { 1 ≤ radix }
+    requires radix_to { radix ≤ 16 }
+    requires greatest { greatest < 2 ^ 32 }
+    ensures number { result ≡ lenient_number radix greatest field.now }
+    ensures limited { IfSome result (λ number. number ≤ greatest) }
+{
+    if field.is_empty() {
+        return None;
+    }
+    let mut value = 0u64;
+    for byte in field {
+        let digit = digit_of(*byte);
+        if digit >= radix {
+            return None;
+        }
+        value = value * radix + digit;
+        if value > greatest {
+            return None;
+        }
+    }
+    Some(value)
+}
+
+/// The flag of a field.
+pub fn read_flag(field: &[u8]) -> Option<bool>
+    ensures { result ≡ lenient_flag field.now }
+{
+    match field {
+        [b'0'] => Some(false),
+        [b'1'] => Some(true),
+        _ => None,
+    }
+}
+
+/// The character of a lenient field.
+pub fn read_char(field: &[u8]) -> Option<char>
+    ensures { result ≡ lenient_char field.now }
+{
+    match read_number(field, 16, 0x10FFFF) {
+        Some(number) => char::from_u32(number as u32),
+        None => None,
+    }
+}
+
+/// The parts of bytes between marks.
+pub fn parts_of(alloc: Global, bytes: &[u8], mark: u8) -> Result<Vec<&[u8]>, AllocError>
+    ensures { IfOk result (λ parts. map (λ part. part.now) parts.items ≡ slice_split (λ b. b == mark) bytes.now) }
+{
+    bytes.split(|byte| *byte == mark).collect(alloc)
+}
+
+/// The characters of lenient parts, if each part spells one.
+fn read_each(alloc: Global, parts: &[&[u8]]) -> Result<Option<Chars>, AllocError>
+    ensures { IfOk result (λ chars. chars ≡ each lenient_char (map (λ part. part.now) parts.now)) }
+{
+    let mut characters = Vec::new(alloc);
+    for part in parts {
+        let Some(character) = read_char(part) else {
+            return Ok(None);
+        };
+        characters.push(character)?;
+    }
+    Ok(Some(Chars::from_vec(characters)))
+}
+
+/// The characters of lenient parts between points, if each part spells one.
+pub fn read_between_points(alloc: Global, bytes: &[u8]) -> Result<Option<Chars>, AllocError>
+    ensures { IfOk result (λ chars. chars ≡ each lenient_char (slice_split (λ b. b == 46) bytes.now)) }
+{
+    let parts = parts_of(alloc, bytes, b'.')?;
+    read_each(alloc, parts.as_slice())
+}
+
+/// The characters of a lenient field.
+pub fn read_chars(alloc: Global, field: &[u8]) -> Result<Option<Chars>, AllocError>
+    ensures { IfOk result (λ chars. chars ≡ lenient_chars field.now) }
+{
+    if field == b"-".as_slice() {
+        return Ok(Some(Chars::from_vec(Vec::new(alloc))));
+    }
+    read_between_points(alloc, field)
+}
+
+/// The lead of a lenient field.
+pub fn read_lead(alloc: Global, field: &[u8]) -> Result<Option<Cells>, AllocError>
+    ensures lead { IfOk result (λ cells. cells ≡ lenient_lead field.now) }
+    ensures limited { IfOk result (λ found. IfSome found (λ cells. length cells ≤ 1024)) }
+{
+    if field == b"-".as_slice() {
+        return Ok(Some(Cells::new(alloc)));
+    }
+    let Ok(text) = str::from_utf8(field) else {
+        return Ok(None);
+    };
+    match read_dots(alloc, text, 1024) {
+        Ok(cells) => Ok(Some(cells)),
+        Err(Failure::Fault(_)) => Ok(None),
+        Err(Failure::Memory) => Err(AllocError),
+    }
+}
+
+/// Writes a number.
+pub fn push_number(alloc: Global, out: &mut Vec<u8>, number: u32) -> Result<(), AllocError>
+    ensures { OnOk result (out.new.items ≡ out.old.items ++ decimal number) }
+{
+    let text = number.to_string(alloc)?;
+    out.extend_from_slice(text.as_bytes())?;
+    Ok(())
+}
+
+/// Writes a flag.
+pub fn push_flag(out: &mut Vec<u8>, flag: bool) -> Result<(), AllocError>
+    ensures { OnOk result (out.new.items ≡ out.old.items ++ spelled_flag flag) }
+{
+    out.push(if flag { b'1' } else { b'0' })?;
+    Ok(())
+}
+
+/// Writes a character by its code point.
+pub fn push_char(alloc: Global, out: &mut Vec<u8>, character: char) -> Result<(), AllocError>
+    ensures written { OnOk result (out.new.items ≡ out.old.items ++ digits 16 false character) }
+    ensures in_range { is_char character ≡ true }
+{
+    let number = character as u32;
+    let text = format!(in alloc; "{number:x}")?;
+    out.extend_from_slice(text.as_bytes())?;
+    Ok(())
+}
+
+/// Writes characters, each after a point.
+pub fn push_more(alloc: Global, out: &mut Vec<u8>, characters: &[char]) -> Result<(), AllocError>
+    ensures written { OnOk result (out.new.items ≡ out.old.items ++ flat_map (λ c. 46 ∷ digits 16 false c) characters.now) }
+    ensures in_range { OnOk result (All (λ c. is_char c ≡ true) characters.now) }
+{
+    for character in characters {
+        out.push(b'.')?;
+        push_char(alloc, out, *character)?;
+    }
+    Ok(())
+}
+
+/// Writes characters.
+pub fn push_chars(alloc: Global, out: &mut Vec<u8>, characters: &[char]) -> Result<(), AllocError>
+    ensures written { OnOk result (out.new.items ≡ out.old.items ++ spelled_chars characters.now) }
+    ensures in_range { OnOk result (All (λ c. is_char c ≡ true) characters.now) }
+{
+    match characters {
+        [] => out.push(b'-')?,
+        [first, rest @ ..] => {
+            push_char(alloc, out, *first)?;
+            push_more(alloc, out, rest)?;
+        }
+    }
+    Ok(())
+}
+
+/// Writes a lead.
+pub fn push_lead(alloc: Global, out: &mut Vec<u8>, lead: &[Cell]) -> Result<(), AllocError>
+    ensures written { OnOk result (out.new.items ≡ out.old.items ++ spelled_lead lead.now) }
+    ensures in_range { OnOk result (AreCells lead.now) }
+{
+    let dots = write_dots(alloc, lead)?;
+    if lead.is_empty() {
+        out.push(b'-')?;
+    } else {
+        out.extend_from_slice(dots.as_bytes())?;
+    }
+    Ok(())
+}

@@ -1,6 +1,0 @@
-pub mod Refusals
-pub mod Least
-pub mod Steps
-pub mod Alike
-pub mod SameKind
-pub mod Pass

@@ -1,0 +1,558 @@
+//! The words of the command line.
+use brl_cells::Form;
+use clap::error::{Error, ErrorKind};
+use clap::{Arg, ArgAction, ArgMatches, Command, value_parser};
+use std::alloc::{AllocError, Global};
+use std::fmt;
+
+/// What the words ask for.
+#[derive(Drop)]
+pub enum Task<'a> {
+    /// Translate the input to this form by the table whose file is at this path.
+    Translate {
+        table: &'a str,
+        form: Form,
+    },
+    /// Compare two texts by the table whose file is at this path.
+    Clash {
+        table: &'a str,
+        left: &'a str,
+        right: &'a str,
+    },
+    /// Check the certificate in the file at one path for the table whose file is at another, for the
+    /// texts that use none of the characters that `without` spells.
+    Check {
+        table: &'a str,
+        cert: &'a str,
+        without: Option<&'a str>,
+    },
+    /// Search the table whose file is at one path, for the texts that use none of the characters that
+    /// `without` spells, and write a certificate to the file at another. At most `limit` states and
+    /// `limit` pairs may be found.
+    Search {
+        table: &'a str,
+        cert: &'a str,
+        limit: u32,
+        without: Option<&'a str>,
+    },
+    /// List the lines of tables that are outside the profile or faulty. Their files are at these
+    /// paths.
+    Survey {
+        tables: Vec<&'a str>,
+    },
+    /// Show the steps of a text's translation by the table whose file is at this path.
+    Trace {
+        table: &'a str,
+        text: &'a str,
+    },
+}
+
+/// Why the words ask for no work: a use fault, or help or the version that was asked for, or memory
+/// ran out. It is shown as the text that belongs to it.
+#[derive(Drop)]
+pub struct NotATask {
+    error: Error,
+}
+
+impl NotATask {
+    ghost use Rattle.std.specs.Prelude.{◌↔◌, IsTrue};
+    ghost use Rattle.brl_cli.specs.Replies.{IsUseFault};
+
+    /// Whether the text goes to standard error. Help and the version go to standard output.
+    pub fn is_fault(&self) -> bool
+        ensures { IsTrue result ↔ IsUseFault self.now }
+    {
+        self.error.use_stderr()
+    }
+}
+
+impl fmt::Display for NotATask {
+    fn fmt<W: fmt::Write>(&self, f: &mut fmt::Formatter<W>) -> fmt::Result {
+        write!(f, "{}", self.error)
+    }
+}
+
+/// The program's version, which `--version` prints.
+const VERSION: &str = "0.1.0";
+
+/// The name of Braille ASCII on the command line.
+const ASCII: &str = "ascii";
+
+/// The name of Unicode braille on the command line.
+const UNICODE: &str = "unicode";
+
+/// The names that `--form` takes.
+const FORMS: [&str; 2] = [ASCII, UNICODE];
+
+/// What follows the options in `brl --help`.
+const STATUSES: &str = "Exit status:
+  0  the work was done; of two texts: they don't clash; of a certificate: it is accepted;
+     of a search: it found a certificate
+  1  two texts clash; a certificate is refused
+  2  the words, a file, the table, a text, the input or the output had a fault, which standard error names in one line
+  3  there was not enough memory, a search decided nothing, or a table is too wide for a certificate of version 1
+
+'brl COMMAND --help' says more of a command, with an example.";
+
+/// An operand of a command. Each must be there.
+#[derive(Clone, Copy)]
+struct Operand {
+    id: &'static str,
+    name: &'static str,
+    help: &'static str,
+    /// Whether it may come several times.
+    several: bool,
+}
+
+/// The operand of the files of tables.
+const TABLES: Operand = Operand {
+    id: "tables",
+    name: "TABLE",
+    help: "The files of tables",
+    several: true,
+};
+
+/// The operand of the table's file.
+const TABLE: Operand = Operand {
+    id: "table",
+    name: "TABLE",
+    help: "The table's file",
+    several: false,
+};
+
+/// The options of a command.
+#[derive(Clone, Copy)]
+enum Options {
+    /// How cells are written.
+    Form,
+    /// Which characters are left out.
+    Without,
+    /// How much a search may find, and which characters are left out.
+    Search,
+}
+
+/// A command, as its help shows it.
+#[derive(Clone, Copy)]
+struct CommandHelp {
+    name: &'static str,
+    /// What `brl --help` says of it.
+    about: &'static str,
+    /// What its own help says above the usage.
+    long_about: &'static str,
+    /// What follows the options there.
+    example: &'static str,
+    choice: Option<Options>,
+    operands: &'static [Operand],
+}
+
+/// `brl translate`.
+const TRANSLATE: CommandHelp = CommandHelp {
+    name: "translate",
+    about: "Translates text into braille by a liblouis table",
+    long_about: "Translates text into braille by a liblouis table
+
+Reads standard input line by line and writes the cells of each line to standard
+output, as North American Braille ASCII or as Unicode braille. A line is written
+before the next is translated. The first fault ends the work: standard error
+names it with its line, and the lines before it have been written.",
+    example: "A table is a UTF-8 file. A line defines a character: an opcode (as letter,
+digit, punctuation or space), the character (\\s is a blank) and its dots (0 is
+the blank cell, - joins cells). Or it has a rule: where in a word it applies (as
+always, word or endword), characters and dots. Or it includes another file. A
+line that begins with # is a comment.
+
+Example, a table of four characters and a text:
+  printf '%s\\n' 'space \\s 0' 'letter a 1' 'letter b 12' 'letter c 14' > first.ctb
+  echo 'abc a' | brl translate first.ctb
+
+It prints:
+  ABC A",
+    choice: Some(Options::Form),
+    operands: &[TABLE],
+};
+
+/// `brl clash`.
+const CLASH: CommandHelp = CommandHelp {
+    name: "clash",
+    about: "Says whether two texts look alike in braille",
+    long_about: "Says whether two texts look alike in braille
+
+Translates both texts by a liblouis table. Where they differ and give the same
+cells, they clash: standard output gets their report, and the exit status is 1.
+Else it gets 'no clash', and the status is 0.
+
+The report has the texts and their cells, and then of each text the steps of its
+translation from where the two diverge: the characters, their cells, and the
+file and line of the rule. A blank is written \\s, a backslash \\\\, and control
+characters as in a table, so that each text can be copied into one. In LEFT and
+RIGHT a blank is a blank, and a backslash one: write these for \\s and \\\\.",
+    example: "Example, a table in which x looks like ab:
+  printf '%s\\n' 'letter a 1' 'letter b 12' 'letter x 1-12' > alike.ctb
+  brl clash alike.ctb ab x
+
+It prints:
+  left: ab
+  right: x
+  cells: 1-12
+  left from 0:
+    a  1   alike.ctb:1
+    b  12  alike.ctb:2
+  right from 0:
+    x  1-12  alike.ctb:3",
+    choice: None,
+    operands: &[
+        TABLE,
+        Operand {
+            id: "left",
+            name: "LEFT",
+            help: "A text",
+            several: false,
+        },
+        Operand {
+            id: "right",
+            name: "RIGHT",
+            help: "Another text",
+            several: false,
+        },
+    ],
+};
+
+/// `brl check`.
+const CHECK: CommandHelp = CommandHelp {
+    name: "check",
+    about: "Says whether a certificate proves a table unambiguous",
+    long_about: "Says whether a certificate proves a table unambiguous
+
+A certificate lists states and pairs of states. Where it is accepted, standard
+output gets how many there are, and no two different texts over the table's
+characters give the same cells, however long they are. Whoever made the
+certificate need not be trusted. Else standard output gets why it is refused,
+and the exit status is 1; a refusal doesn't say that two texts look alike.
+
+With --without it is judged for the texts that use none of CHARS, and a second
+line of an acceptance names these. CHARS are spelled as in a table.",
+    example: "Example, a table of one letter and its certificate:
+  printf 'letter a 1\\n' > a.ctb
+  printf 'BRLCERT 1\\nstate 1 0 0 -\\nstate 8 0 0 61\\nstate 8 0 1 -\\n' > a.cert
+  printf 'pair 1 2 -\\nend 3 1\\n' >> a.cert
+  brl check a.ctb a.cert
+
+It prints:
+  accepted: 3 states, 1 pairs",
+    choice: Some(Options::Without),
+    operands: &[
+        TABLE,
+        Operand {
+            id: "cert",
+            name: "CERT",
+            help: "The certificate's file",
+            several: false,
+        },
+    ],
+};
+
+/// `brl search`.
+const SEARCH: CommandHelp = CommandHelp {
+    name: "search",
+    about: "Decides whether any two texts look alike by a table",
+    long_about: "Decides whether any two texts look alike by a table
+
+Searches for a certificate that no two different texts over the table's
+characters give the same cells, however long they are. Where there is one, it is
+written to OUT, and standard output gets how many states and pairs it lists;
+'brl check' accepts it. Where two texts clash, standard output gets their report,
+the exit status is 1, and OUT isn't written. Where more than N states or more
+than N pairs are found, nothing is decided, and the status is 3.
+
+With --without only texts that use none of CHARS are looked at, and a second
+line names these; 'brl check' with the same option accepts the certificate.
+CHARS are spelled as in a table: \\s is a blank, \\x00a0 a no-break space.",
+    example: "Example, a table of two letters:
+  printf '%s\\n' 'letter a 1' 'letter b 12' > ab.ctb
+  brl search ab.ctb ab.cert
+  brl check ab.ctb ab.cert
+
+It prints:
+  certified: 2 states, 0 pairs
+  accepted: 2 states, 0 pairs",
+    choice: Some(Options::Search),
+    operands: &[
+        TABLE,
+        Operand {
+            id: "out",
+            name: "OUT",
+            help: "The file that gets a certificate",
+            several: false,
+        },
+    ],
+};
+
+/// `brl survey`.
+const SURVEY: CommandHelp = CommandHelp {
+    name: "survey",
+    about: "Lists the lines of tables that are outside the profile or faulty",
+    long_about: "Lists the lines of tables that are outside the profile or faulty
+
+Reads each TABLE with the files that it includes, and each line by itself: a
+faulty line defines nothing, and the lines after it are read all the same.
+Standard output gets the fault of each faulty line, how many of these lines
+there are of each opcode, and how many lines are read. Comments, blank lines and
+lines that include a file aren't counted. With several TABLEs the lines of each
+come after its name; one that can't be loaded is named on standard error, the
+others are surveyed, and the exit status is 2.
+
+Faulty lines don't change the exit status. A character that a rule or a list
+names and no line defines isn't looked for. A survey gives no verdict on
+ambiguity.",
+    example: "Example, a table in which one of four lines is read:
+  printf '%s\\n' 'letter a 1' 'pass2 @1 @2' 'letter b 9' 'pass2 @2 @3' > far.ctb
+  brl survey far.ctb
+
+It prints:
+  B1 OutsideProfile pass2 at far.ctb:2
+  B4 BadDots 9 at far.ctb:3
+  B1 OutsideProfile pass2 at far.ctb:4
+  opcode pass2: 2
+  opcode letter: 1
+  1 of 4 lines are read
+  no verdict: a survey doesn't decide whether two texts have the same cells",
+    choice: None,
+    operands: &[TABLES],
+};
+
+/// `brl trace`.
+const TRACE: CommandHelp = CommandHelp {
+    name: "trace",
+    about: "Shows the steps of a text's translation",
+    long_about: "Shows the steps of a text's translation
+
+Translates the text by a liblouis table. Standard output gets the text, its cells,
+and a line for each step: the characters that it reads, the cells of the
+indicators before them (- for none), the cells of the rule, and the file and line
+of the rule. A blank is written \\s, a backslash \\\\, and control characters as in
+a table. In TEXT a blank is a blank, and a backslash one: write these for \\s and
+\\\\ of a report.",
+    example: "Example, a table of a letter, its capital and a digit:
+  printf '%s\\n' 'uplow Aa 1' 'capsletter 6' 'litdigit 1 1' 'numsign 3456' > steps.ctb
+  brl trace steps.ctb Aa1
+
+It prints:
+  text: Aa1
+  cells: 6-1-1-3456-1
+    A  6     1  steps.ctb:1
+    a  -     1  steps.ctb:1
+    1  3456  1  steps.ctb:3",
+    choice: None,
+    operands: &[
+        TABLE,
+        Operand {
+            id: "text",
+            name: "TEXT",
+            help: "A text",
+            several: false,
+        },
+    ],
+};
+
+/// The commands of `brl`.
+static HELPS: [CommandHelp; 6] = [TRANSLATE, CLASH, CHECK, SEARCH, SURVEY, TRACE];
+
+/// How many states, and how many pairs, a search may find where the words give no limit.
+const USUAL_LIMIT: &str = "1000000";
+
+/// An operand that must be there.
+fn required_argument<'a>(alloc: Global, operand: Operand) -> Arg<'a> {
+    let argument = Arg::new(alloc, operand.id)
+        .value_name(operand.name)
+        .help(operand.help)
+        .required(true);
+    if operand.several {
+        argument.num_args(1..).action(ArgAction::Append)
+    } else {
+        argument
+    }
+}
+
+/// The option of how cells are written.
+fn form_option<'a>(alloc: Global) -> Arg<'a> {
+    Arg::new(alloc, "form")
+        .long("form")
+        .value_name("FORM")
+        .help("How cells are written")
+        .value_parser(FORMS.as_slice())
+        .default_value(ASCII)
+}
+
+/// The option of how much a search may find.
+fn limit_option<'a>(alloc: Global) -> Arg<'a> {
+    Arg::new(alloc, "limit")
+        .long("limit")
+        .value_name("N")
+        .help("How many states, and how many pairs, may be found")
+        .value_parser(value_parser!(u32))
+        .default_value(USUAL_LIMIT)
+}
+
+/// The option of which characters are left out.
+fn without_option<'a>(alloc: Global) -> Arg<'a> {
+    Arg::new(alloc, "without")
+        .long("without")
+        .value_name("CHARS")
+        .help("Look only at texts that use none of these characters")
+}
+
+/// The arguments of a command: its options, if any, and its operands.
+fn arguments<'a>(alloc: Global, page: &CommandHelp) -> Result<Vec<Arg<'a>>, AllocError> {
+    let mut arguments = Vec::new(alloc);
+    match page.choice {
+        Some(Options::Form) => arguments.push(form_option(alloc))?,
+        Some(Options::Without) => arguments.push(without_option(alloc))?,
+        Some(Options::Search) => {
+            arguments.push(limit_option(alloc))?;
+            arguments.push(without_option(alloc))?;
+        }
+        None => {}
+    }
+    for operand in page.operands {
+        arguments.push(required_argument(alloc, *operand))?;
+    }
+    Ok(arguments)
+}
+
+/// The command line of a command.
+fn page_command<'a>(alloc: Global, page: &CommandHelp) -> Result<Command<'a>, AllocError> {
+    let arguments = arguments(alloc, page)?;
+    Command::new(alloc, page.name)
+        .about(page.about)
+        .long_about(page.long_about)
+        .after_help(page.example)
+        .args(arguments)
+}
+
+/// The command lines of all commands, in the order in which `brl --help` shows them.
+fn page_commands<'a>(alloc: Global) -> Result<Vec<Command<'a>>, AllocError> {
+    let mut commands = Vec::new(alloc);
+    for page in &HELPS {
+        commands.push(page_command(alloc, page)?)?;
+    }
+    Ok(commands)
+}
+
+/// The command line of `brl`.
+fn whole_command<'a>(alloc: Global) -> Result<Command<'a>, AllocError> {
+    let commands = page_commands(alloc)?;
+    Command::new(alloc, "brl")
+        .version(VERSION)
+        .about(
+            "Translates text into braille by liblouis tables, and decides whether texts look alike",
+        )
+        .after_help(STATUSES)
+        .subcommand_required(true)
+        .arg_required_else_help(true)
+        .subcommands(commands)
+}
+
+/// What the words ask for; the first is the program's name.
+pub fn task_of<'a>(alloc: Global, words: &'a [String]) -> Result<Task<'a>, NotATask> {
+    match read_words(alloc, words) {
+        Ok(task) => Ok(task),
+        Err(error) => Err(NotATask { error }),
+    }
+}
+
+/// The task of the words; an error has the text that answers them.
+fn read_words<'a>(alloc: Global, words: &'a [String]) -> Result<Task<'a>, Error> {
+    let mut command = whole_command(alloc)?;
+    read_by(alloc, &mut command, words)
+}
+
+/// The same by a command line.
+fn read_by<'a>(
+    alloc: Global,
+    command: &mut Command<'a>,
+    words: &'a [String],
+) -> Result<Task<'a>, Error> {
+    let matches = command.try_get_matches_from_mut(words)?;
+    match found_task(alloc, &matches)? {
+        Some(task) => Ok(task),
+        None => Err(command.error(ErrorKind::MissingSubcommand, "no command was given")?),
+    }
+}
+
+/// The task of words that were read, if they name a command.
+fn found_task<'a>(alloc: Global, matches: &ArgMatches<'a>) -> Result<Option<Task<'a>>, AllocError> {
+    match matches.subcommand() {
+        Some(("survey", found)) => survey_task(alloc, found),
+        Some((name, found)) => Ok(task_of_one_table(name, found)),
+        None => Ok(None),
+    }
+}
+
+/// The task of the words behind `survey`.
+fn survey_task<'a>(alloc: Global, found: &ArgMatches<'a>) -> Result<Option<Task<'a>>, AllocError> {
+    let Some(tables) = found.get_strs("tables") else {
+        return Ok(None);
+    };
+    let tables = Vec::from_slice(alloc, tables)?;
+    Ok(Some(Task::Survey { tables }))
+}
+
+/// The task of the words behind the name of another command.
+fn task_of_one_table<'a>(name: &str, found: &ArgMatches<'a>) -> Option<Task<'a>> {
+    let table = found.get_str("table")?;
+    match name {
+        "translate" => translate_task(table, found),
+        "clash" => clash_task(table, found),
+        "check" => check_task(table, found),
+        "search" => search_task(table, found),
+        "trace" => trace_task(table, found),
+        _ => None,
+    }
+}
+
+fn translate_task<'a>(table: &'a str, found: &ArgMatches<'a>) -> Option<Task<'a>> {
+    let form = form_of(found.get_str("form")?)?;
+    Some(Task::Translate { table, form })
+}
+
+fn clash_task<'a>(table: &'a str, found: &ArgMatches<'a>) -> Option<Task<'a>> {
+    let left = found.get_str("left")?;
+    let right = found.get_str("right")?;
+    Some(Task::Clash { table, left, right })
+}
+
+fn check_task<'a>(table: &'a str, found: &ArgMatches<'a>) -> Option<Task<'a>> {
+    let cert = found.get_str("cert")?;
+    let without = found.get_str("without");
+    Some(Task::Check {
+        table,
+        cert,
+        without,
+    })
+}
+
+fn search_task<'a>(table: &'a str, found: &ArgMatches<'a>) -> Option<Task<'a>> {
+    let cert = found.get_str("out")?;
+    let limit = found.get_one("limit")?;
+    let without = found.get_str("without");
+    Some(Task::Search {
+        table,
+        cert,
+        limit,
+        without,
+    })
+}
+
+fn trace_task<'a>(table: &'a str, found: &ArgMatches<'a>) -> Option<Task<'a>> {
+    let text = found.get_str("text")?;
+    Some(Task::Trace { table, text })
+}
+
+/// The form of this name.
+fn form_of(name: &str) -> Option<Form> {
+    match name {
+        ASCII => Some(Form::Ascii),
+        UNICODE => Some(Form::Unicode),
+        _ => None,
+    }
+}

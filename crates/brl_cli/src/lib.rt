@@ -1,0 +1,8 @@
+//! The words of the command line: what they ask for.
+//!
+//! Room 5, the program (docs/dev/ARCHITECTURE.md). The definitions begin in `specs/Replies.antt`.
+#![tactic(auto)]
+
+mod command;
+
+pub use command::{NotATask, Task, task_of};

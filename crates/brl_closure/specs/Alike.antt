@@ -1,0 +1,51 @@
+-- Internal. The edges of a state that decide which pairs are missing: the first two of each kind.
+-- Two edges of one kind have the same cells and the same next state.
+use Rattle.std.specs.Prelude.{◌≡◌, ◌++◌, ◌∷◌, [], ℕ, ◌<◌, ◌⊎◌, Bool, true, false, List, length, Some, slice_get}
+use Rattle.brl_pairs.specs.Members.{IsMember}
+use Rattle.brl_closure.specs.declared.check.kinds.Kind.{Kind}
+use Rattle.brl_pairs.specs.Edges.{AreEdges}
+use Rattle.brl_pairs.specs.declared.edge.Edge.{Edge}
+use Rattle.brl_pairs.specs.Runs.{Behaviour}
+
+-- the kind of an edge
+abbrev pub kind_of : Edge → Kind
+kind_of x = record { next = x.next; cells = x.cells }
+
+-- the edge at this place is of this kind
+pub record IsOfKind (edges : List Edge) (kind : Kind) (place : ℕ) : Type 0 where
+  pub edge : Edge
+  pub at : slice_get edges place ≡ Some edge
+  pub has_kind : kind_of edge ≡ kind
+
+-- the edges at two places are of this kind
+pub record HasTwo (edges : List Edge) (kind : Kind) : Type 0 where
+  pub first : ℕ
+  pub second : ℕ
+  pub in_order : first < second
+  pub first_is : IsOfKind edges kind first
+  pub second_is : IsOfKind edges kind second
+
+-- A kind is counted: it becomes the last of those that are there once, or where it is there already of
+-- those that are there twice, if it isn't there either. The answer says whether it was added.
+abbrev pub IsCounted : Kind → List Kind → List Kind → List Kind → List Kind → Bool → Type 0
+IsCounted kind once twice once' twice' added =
+    ((added ≡ true) × (once' ≡ once ++ kind ∷ []) × (twice' ≡ twice))
+    ⊎ (((added ≡ true) × IsMember once kind × (once' ≡ once) × (twice' ≡ twice ++ kind ∷ []))
+    ⊎ ((added ≡ false) × IsMember twice kind × (once' ≡ once) × (twice' ≡ twice)))
+
+-- The kept edges are these edges in their order, and each edge that isn't kept has two kept ones of
+-- its kind before it.
+pub record AreFirstTwo (edges kept : List Edge) : Type 0 where
+  -- the place of each kept edge among the edges
+  pub origin : ℕ → ℕ
+  pub same : (place : ℕ) (x : Edge) → slice_get kept place ≡ Some x → slice_get edges (origin place) ≡ Some x
+  pub ascend : (i j : ℕ) → i < j → j < length kept → origin i < origin j
+  -- each edge is kept, or two of its kind before it are
+  pub each : (place : ℕ) (x : Edge) → slice_get edges place ≡ Some x
+      → ((k : ℕ) × (slice_get kept k ≡ Some x) × (origin k ≡ place)) ⊎ ((two : HasTwo kept (kind_of x)) × (origin two.second < place))
+
+-- these are the first two of each kind, and maybe more, of the edges of the state with this number
+pub record AreFirstTwoAt {S : Type 0} (m : Behaviour S) (states : List S) (number : ℕ) (kept : List Edge) : Type 0 where
+  pub edges : List Edge
+  pub are_edges : AreEdges m states number edges
+  pub first_two : AreFirstTwo edges kept

@@ -1,0 +1,14 @@
+pub mod Refusals
+pub mod Least
+pub mod Steps
+pub mod Alike
+pub mod SameKind
+pub mod Pass
+pub mod Answers
+pub mod Reached
+pub mod Deciding
+pub mod SearchView
+pub mod Trail
+pub mod Edges
+pub mod Worklist
+pub mod Path

@@ -1,0 +1,29 @@
+-- Internal. What a pass over the edges of one state finds.
+use Rattle.std.specs.Prelude.{ℕ, ◌≡◌, ◌<◌, List, Some, slice_get}
+use Rattle.brl_pairs.specs.declared.edge.Edge.{Edge}
+
+-- an edge of this rule has the property
+pub record HasOfRule (Has : Edge → Type 0) (edges : List Edge) (rule : ℕ) : Type 0 where
+  pub place : ℕ
+  pub edge : Edge
+  pub at : slice_get edges place ≡ Some edge
+  pub has_rule : edge.rule ≡ rule
+  pub has : Has edge
+
+-- an edge of this rule, before this place, has the property
+pub record HasBefore (Has : Edge → Type 0) (edges : List Edge) (end rule : ℕ) : Type 0 where
+  pub found : HasOfRule Has edges rule
+  pub before : found.place < end
+
+-- two edges of these rules, in this order, have the property
+pub record HasOfRules (Has : Edge → Edge → Type 0) (edges : List Edge) (first second : ℕ) : Type 0 where
+  pub i : ℕ
+  pub j : ℕ
+  pub earlier : Edge
+  pub later : Edge
+  pub in_order : i < j
+  pub earlier_at : slice_get edges i ≡ Some earlier
+  pub later_at : slice_get edges j ≡ Some later
+  pub has_first : earlier.rule ≡ first
+  pub has_second : later.rule ≡ second
+  pub has : Has earlier later

@@ -1,0 +1,14 @@
+//! The check of a machine's states and pairs: it accepts exactly those that are closed, and names the
+//! first thing that is missing where they aren't.
+//!
+//! `accept` checks states and pairs; `accept_with` also reports its progress.
+mod checker;
+mod edges;
+mod fault;
+mod kinds;
+mod missing;
+mod pairs_by_state;
+mod pass;
+
+pub use checker::{Accepted, accept, accept_with};
+pub use fault::AcceptFault;

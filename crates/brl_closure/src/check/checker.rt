@@ -1,0 +1,134 @@
+//! The checker of a machine's states and pairs.
+ghost use Rattle.std.specs.Prelude.{◌≡◌, ℕ, IfErr, IfOk, OnOk, length};
+ghost use Rattle.brl_closure.specs.Refusals.{HasStart, HasTwoEnds, IsRefused, MissesNoPair, MissesNoSplit, MissesNoState};
+ghost use Rattle.brl_failure.specs.Failure.{IfFault};
+ghost use Rattle.brl_pairs.specs.Sets.{sets_of};
+ghost use Rattle.brl_pairs.specs.Pairs.{IsClosed};
+ghost use Rattle.brl_pairs.specs.Runs.{IsUnambiguous, KeepsLaws};
+
+use crate::AcceptFault;
+use crate::check::missing::has_two_ends_at;
+use crate::check::pass::find_missing;
+use brl_failure::Failure;
+use brl_pairs::{Body, Machine, numbered_sets_law};
+use brl_progress::{NoProgress, Progress};
+use std::alloc::Global;
+
+/// The numbers of states and pairs of a certificate that was accepted.
+#[derive(Clone, Copy, PartialEq, Eq, Debug)]
+pub struct Accepted {
+    pub states: u32,
+    pub pairs: u32,
+}
+
+/// Checks that no state, no split and no pair is missing.
+fn check_missing<M: Machine, W: Progress>(
+    alloc: Global,
+    machine: &M,
+    body: &Body<M::State>,
+    watch: &mut W,
+) -> Result<(), Failure<AcceptFault>>
+    requires laws { KeepsLaws (M.behaviour machine.now) }
+    requires start { HasStart (M.behaviour machine.now) body.now }
+    ensures steps { OnOk result (MissesNoState (M.behaviour machine.now) body.now) }
+    ensures splits { OnOk result (MissesNoSplit (M.behaviour machine.now) body.now) }
+    ensures moves { OnOk result (MissesNoPair (M.behaviour machine.now) body.now) }
+    ensures refused { IfErr result (IfFault (IsRefused (M.behaviour machine.now) body.now)) }
+{
+    let missing = find_missing(alloc, machine, body, watch)?;
+    if let Some(split) = missing.split {
+        return Err(Failure::Fault(AcceptFault::SplitMissing {
+            state: split.state,
+            lesser: split.lesser,
+            greater: split.greater,
+        }));
+    }
+    if let Some(least) = missing.pair {
+        return Err(Failure::Fault(AcceptFault::PairMissing {
+            pair: least.pair,
+            rule: least.rule,
+        }));
+    }
+    Ok(())
+}
+
+/// Checks that none of the pairs has an empty lead and two final states.
+fn check_ends<M: Machine>(machine: &M, body: &Body<M::State>) -> Result<(), Failure<AcceptFault>>
+    requires start { HasStart (M.behaviour machine.now) body.now }
+    requires steps { MissesNoState (M.behaviour machine.now) body.now }
+    requires splits { MissesNoSplit (M.behaviour machine.now) body.now }
+    requires moves { MissesNoPair (M.behaviour machine.now) body.now }
+    ensures complete { OnOk result ((number : ℕ) → HasTwoEnds (M.behaviour machine.now) body.now number → ⊥) }
+    ensures refused { IfErr result (IfFault (IsRefused (M.behaviour machine.now) body.now)) }
+{
+    for number in 0..body.pair_count() {
+        if has_two_ends_at(machine, body, number as usize) {
+            return Err(Failure::Fault(AcceptFault::BothEnd { pair: number }));
+        }
+    }
+    Ok(())
+}
+
+/// Checks that the states and pairs are closed.
+fn check<M: Machine, W: Progress>(
+    alloc: Global,
+    machine: &M,
+    body: &Body<M::State>,
+    watch: &mut W,
+) -> Result<(), Failure<AcceptFault>>
+    ensures closed { OnOk result (IsClosed (M.behaviour machine.now) (sets_of body.now)) }
+    ensures refused { IfErr result (IfFault (IsRefused (M.behaviour machine.now) body.now)) }
+{
+    if !body.has_state(&machine.start()) {
+        return Err(Failure::Fault(AcceptFault::NoStart));
+    }
+    check_missing(alloc, machine, body, watch)?;
+    check_ends(machine, body)
+}
+
+/// Accepts states and pairs for a machine exactly where they are closed, and returns their numbers.
+/// Then the machine translates no two different texts, of any length, to the same cells.
+///
+/// Otherwise the fault is the first of `NoStart`, `StateMissing`, `SplitMissing`, `PairMissing` and
+/// `BothEnd` that applies. It names the least state or pair to which it applies, and then the least
+/// rules, of two rules the lesser one first.
+pub fn accept<M: Machine>(
+    alloc: Global,
+    machine: &M,
+    body: &Body<M::State>,
+) -> Result<Accepted, Failure<AcceptFault>>
+    // The states and pairs are closed.
+    ensures closed { OnOk result (IsClosed (M.behaviour machine.now) (sets_of body.now)) }
+    // Two texts of the machine that are translated to the same cells are equal.
+    ensures unambiguous { OnOk result (IsUnambiguous (M.behaviour machine.now)) }
+    ensures states { IfOk result (λ accepted. accepted.states ≡ length body.now.states) }
+    ensures pairs { IfOk result (λ accepted. accepted.pairs ≡ length body.now.pairs) }
+    // The fault applies, and it is the first one, with the least numbers.
+    ensures refused { IfErr result (IfFault (IsRefused (M.behaviour machine.now) body.now)) }
+    // States and pairs that are refused are not closed.
+    ensures not_closed { IfErr result (IfFault (λ _. IsClosed (M.behaviour machine.now) (sets_of body.now) → ⊥)) }
+{
+    accept_with(alloc, machine, body, &mut NoProgress)
+}
+
+/// Checks states and pairs as `accept` does, and reports its progress to `watch` after each state.
+pub fn accept_with<M: Machine, W: Progress>(
+    alloc: Global,
+    machine: &M,
+    body: &Body<M::State>,
+    watch: &mut W,
+) -> Result<Accepted, Failure<AcceptFault>>
+    ensures closed { OnOk result (IsClosed (M.behaviour machine.now) (sets_of body.now)) }
+    ensures unambiguous { OnOk result (IsUnambiguous (M.behaviour machine.now)) }
+    ensures states { IfOk result (λ accepted. accepted.states ≡ length body.now.states) }
+    ensures pairs { IfOk result (λ accepted. accepted.pairs ≡ length body.now.pairs) }
+    ensures refused { IfErr result (IfFault (IsRefused (M.behaviour machine.now) body.now)) }
+    ensures not_closed { IfErr result (IfFault (λ _. IsClosed (M.behaviour machine.now) (sets_of body.now) → ⊥)) }
+{
+    numbered_sets_law(machine);
+    check(alloc, machine, body, watch)?;
+    Ok(Accepted {
+        states: body.state_count(),
+        pairs: body.pair_count(),
+    })
+}

@@ -1,0 +1,182 @@
+//! The pairs that are missing from a body, found by the edges of one state at a time.
+ghost use Rattle.std.specs.Prelude.{◌≡◌, ◌<◌, ◌↔◌, [], IfOk, IsTrue, Some, length, slice_get};
+ghost use Rattle.brl_closure.specs.Alike.{AreFirstTwoAt};
+ghost use Rattle.brl_closure.specs.Least.{IsLeastFound, IsLeastPairFound, lesser_of};
+ghost use Rattle.brl_closure.specs.Pass.{AreFirstTwoBehind, IsSplitFound};
+ghost use Rattle.brl_closure.specs.Refusals.{HasTwoEnds, MissesPair};
+ghost use Rattle.brl_closure.specs.Steps.{HasBefore, HasOfRule, HasOfRules};
+ghost use Rattle.brl_pairs.specs.Edges.{AreInOrder, HaveCells};
+ghost use Rattle.brl_pairs.specs.NumberPairs.{IsMissing};
+ghost use Rattle.brl_pairs.specs.Places.{ArePlacesBefore};
+ghost use Rattle.brl_pairs.specs.declared.edge.Edge.{Edge as EdgeValue};
+
+use brl_cells::Cell;
+use brl_pairs::{
+    Body, Edge, Machine, Members, Pair, different_cells_law, edges_law, is_missing, places_before,
+};
+use std::alloc::{AllocError, Global};
+
+/// A state two of whose steps, of these rules, split into a pair that isn't listed.
+#[derive(Clone, Copy)]
+pub struct MissingSplit {
+    pub state: u32,
+    pub lesser: u32,
+    pub greater: u32,
+}
+
+/// A pair from which a step of this rule leads to one that isn't listed.
+#[derive(Clone, Copy)]
+pub struct MissingPair {
+    pub pair: u32,
+    pub rule: u32,
+}
+
+/// The least rule of the edges that lead the run behind to a missing pair. The other run is ahead
+/// by this lead, in the state with the number `ahead`.
+fn missing_pair(
+    alloc: Global,
+    pairs: &Members<Pair<u32>>,
+    ahead: u32,
+    lead: &[Cell],
+    edges: &[Edge],
+) -> Result<Option<u32>, AllocError>
+    requires { AreInOrder edges.now }
+    ensures { IfOk result (IsLeastFound (HasOfRule (IsMissing pairs.now ahead lead.now) edges.now)) }
+{
+    for edge in edges {
+        if is_missing(alloc, pairs, ahead, lead, edge)? {
+            return Ok(Some(edge.rule));
+        }
+    }
+    Ok(None)
+}
+
+/// The least rule of the edges before the second one that split with it into a missing pair. Only
+/// edges with the same first cell can split. They are tried from the last to the first, so the last
+/// one found has the least rule.
+fn missing_split_with(
+    alloc: Global,
+    pairs: &Members<Pair<u32>>,
+    edges: &[Edge],
+    before: &[usize],
+    second: usize,
+) -> Result<Option<u32>, AllocError>
+    requires in_order { AreInOrder edges.now }
+    requires cells { HaveCells edges.now }
+    requires before { ArePlacesBefore edges.now before.now }
+    requires within { second < length edges.now }
+    ensures { IfOk result (λ found. (later : EdgeValue) → slice_get edges.now second ≡ Some later
+        → IsLeastFound (HasBefore (λ earlier. IsMissing pairs.now earlier.next earlier.cells later) edges.now second) found) }
+{
+    different_cells_law();
+    let later = &edges[second];
+    let mut least = None;
+    let mut place = before[second];
+    while place > 0 {
+        let first = place - 1;
+        let earlier = &edges[first];
+        let lead = earlier.cells.as_slice();
+        let missing = is_missing(alloc, pairs, earlier.next, lead, later)?;
+        if missing {
+            least = Some(earlier.rule);
+        }
+        place = before[first];
+    }
+    Ok(least)
+}
+
+/// The lexicographically smaller of two options, where `None` is no candidate.
+fn lesser(one: Option<(u32, u32)>, other: Option<(u32, u32)>) -> Option<(u32, u32)>
+    ensures { result ≡ lesser_of one other }
+{
+    match (one, other) {
+        (Some(one), Some(other)) => {
+            if other.0 < one.0 || (other.0 == one.0 && other.1 < one.1) {
+                Some(other)
+            } else {
+                Some(one)
+            }
+        }
+        (None, other) => other,
+        (one, None) => one,
+    }
+}
+
+/// The least rules of two edges that split into a missing pair.
+fn missing_split(
+    alloc: Global,
+    pairs: &Members<Pair<u32>>,
+    edges: &[Edge],
+) -> Result<Option<(u32, u32)>, AllocError>
+    requires in_order { AreInOrder edges.now }
+    requires cells { HaveCells edges.now }
+    ensures { IfOk result (IsLeastPairFound (HasOfRules (λ earlier. IsMissing pairs.now earlier.next earlier.cells) edges.now)) }
+{
+    let before = places_before(alloc, edges)?;
+    let mut best = None;
+    for (second, later) in edges.iter().enumerate() {
+        let found = missing_split_with(alloc, pairs, edges, before.as_slice(), second)?;
+        best = lesser(best, found.map(|first| (first, later.rule)));
+    }
+    Ok(best)
+}
+
+/// The least rules of two steps from the state with this number that split into a missing pair, by
+/// the first two edges of each kind of that state.
+pub fn missing_split_at<M: Machine>(
+    alloc: Global,
+    machine: &M,
+    body: &Body<M::State>,
+    edges: &[Edge],
+    state: u32,
+) -> Result<Option<MissingSplit>, AllocError>
+    requires edges { AreFirstTwoAt (M.behaviour machine.now) body.now.states state edges.now }
+    ensures { IfOk result (IsSplitFound (M.behaviour machine.now) body.now state) }
+{
+    edges_law(machine);
+    body.law();
+    let Some((lesser, greater)) = missing_split(alloc, body.pairs(), edges)? else {
+        return Ok(None);
+    };
+    Ok(Some(MissingSplit {
+        state,
+        lesser,
+        greater,
+    }))
+}
+
+/// The least rule of a step that leads from the pair with this number to a missing pair, by the
+/// first two edges of each kind of the state of its run behind.
+pub fn missing_pair_at<M: Machine>(
+    alloc: Global,
+    machine: &M,
+    body: &Body<M::State>,
+    edges: &[Edge],
+    number: usize,
+) -> Result<Option<u32>, AllocError>
+    requires number { number < length body.now.pairs }
+    requires edges { AreFirstTwoBehind (M.behaviour machine.now) body.now number edges.now }
+    ensures { IfOk result (IsLeastFound (MissesPair (M.behaviour machine.now) body.now number)) }
+{
+    edges_law(machine);
+    body.law();
+    let pair = &body.pairs().as_slice()[number];
+    missing_pair(alloc, body.pairs(), pair.ahead, pair.lead.as_slice(), edges)
+}
+
+/// Whether a lead is empty and both states are final.
+fn both_end<M: Machine>(machine: &M, ahead: &M::State, behind: &M::State, lead: &[Cell]) -> bool
+    ensures { IsTrue result ↔ ((lead.now ≡ []) × IsTrue ((M.behaviour machine.now).ends ahead.now) × IsTrue ((M.behaviour machine.now).ends behind.now)) }
+{
+    lead.is_empty() && machine.ends(ahead) && machine.ends(behind)
+}
+
+/// Whether the pair with this number has an empty lead and two final states.
+pub fn has_two_ends_at<M: Machine>(machine: &M, body: &Body<M::State>, number: usize) -> bool
+    requires number { number < length body.now.pairs }
+    ensures { IsTrue result ↔ HasTwoEnds (M.behaviour machine.now) body.now number }
+{
+    let pair = &body.pairs().as_slice()[number];
+    let (ahead, behind) = body.states_of(pair);
+    both_end(machine, ahead, behind, pair.lead.as_slice())
+}

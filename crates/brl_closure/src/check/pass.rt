@@ -1,0 +1,139 @@
+//! The pass over the states, with the edges of one state at a time.
+ghost use Rattle.std.specs.Prelude.{◌+◌, ◌<◌, ◌↔◌, IfErr, IfOk, IsTrue, MatchOption, OnOk, length};
+ghost use Rattle.brl_closure.specs.Alike.{AreFirstTwoAt};
+ghost use Rattle.brl_closure.specs.Pass.{ArePairsBehind, IsMissingBelow, IsPairFound};
+ghost use Rattle.brl_closure.specs.Refusals.{HasStart, IsRefused, MissesNoState};
+ghost use Rattle.brl_failure.specs.Failure.{IfFault};
+ghost use Rattle.brl_pairs.specs.Runs.{KeepsLaws};
+
+use crate::AcceptFault;
+use crate::check::edges::edges_of;
+use crate::check::kinds::first_two_of_each_kind;
+use crate::check::missing::{MissingPair, MissingSplit, missing_pair_at, missing_split_at};
+use crate::check::pairs_by_state::{PairsByTrailingState, pairs_by_trailing_state};
+use brl_failure::Failure;
+use brl_pairs::{Body, Edge, Key, Machine};
+use brl_progress::{Progress, Work};
+use std::alloc::{AllocError, Global};
+
+/// What is missing at the states that were passed: the least split, or where no split is missing
+/// the least pair.
+#[derive(Clone, Copy)]
+pub struct Missing {
+    pub split: Option<MissingSplit>,
+    pub pair: Option<MissingPair>,
+}
+
+/// Whether a pair comes before the least one that is missing so far, if one is.
+fn comes_before(number: u32, least: Option<MissingPair>) -> bool
+    ensures { IsTrue result ↔ MatchOption least (Unit {0}) (λ missing. number < missing.pair) }
+{
+    match least {
+        Some(missing) => number < missing.pair,
+        None => true,
+    }
+}
+
+/// The least missing pair, once the pairs whose run behind is in one more state are tried too. They
+/// are tried in their order, and only before the least one so far.
+fn missing_pair_after<M: Machine>(
+    alloc: Global,
+    machine: &M,
+    body: &Body<M::State>,
+    behind: &PairsByTrailingState,
+    edges: &[Edge],
+    state: u32,
+    least: Option<MissingPair>,
+) -> Result<Option<MissingPair>, AllocError>
+    requires behind { ArePairsBehind (length body.now.states) body.now.pairs behind.now }
+    requires within { state < length body.now.states }
+    requires edges { AreFirstTwoAt (M.behaviour machine.now) body.now.states state edges.now }
+    requires least { IsPairFound (M.behaviour machine.now) body.now state least }
+    ensures { IfOk result (IsPairFound (M.behaviour machine.now) body.now (state + 1)) }
+{
+    let mut place = behind.first[state as usize];
+    while let Some(number) = place {
+        if !comes_before(number, least) {
+            return Ok(least);
+        }
+        let missing = missing_pair_at(alloc, machine, body, edges, number as usize)?;
+        if let Some(rule) = missing {
+            return Ok(Some(MissingPair { pair: number, rule }));
+        }
+        place = behind.next[number as usize];
+    }
+    Ok(least)
+}
+
+/// What is missing, once one more state is passed. A missing split is named before any missing pair,
+/// so nothing more is looked for after it.
+fn missing_after<M: Machine>(
+    alloc: Global,
+    machine: &M,
+    body: &Body<M::State>,
+    behind: &PairsByTrailingState,
+    edges: &[Edge],
+    state: u32,
+    missing: Missing,
+) -> Result<Missing, AllocError>
+    requires behind { ArePairsBehind (length body.now.states) body.now.pairs behind.now }
+    requires within { state < length body.now.states }
+    requires edges { AreFirstTwoAt (M.behaviour machine.now) body.now.states state edges.now }
+    requires missing { IsMissingBelow (M.behaviour machine.now) body.now state missing }
+    ensures { IfOk result (IsMissingBelow (M.behaviour machine.now) body.now (state + 1)) }
+{
+    if missing.split.is_some() {
+        return Ok(missing);
+    }
+    let split = missing_split_at(alloc, machine, body, edges, state)?;
+    if split.is_some() {
+        return Ok(Missing { split, pair: None });
+    }
+    let pair = missing_pair_after(alloc, machine, body, behind, edges, state, missing.pair)?;
+    Ok(Missing { split, pair })
+}
+
+/// What is missing, by one pass over the states that holds the edges of one state at a time. A
+/// watcher is told of each state. The fault is the first step that leads to no state of the body.
+pub fn find_missing<M: Machine, W: Progress>(
+    alloc: Global,
+    machine: &M,
+    body: &Body<M::State>,
+    watch: &mut W,
+) -> Result<Missing, Failure<AcceptFault>>
+    requires laws { KeepsLaws (M.behaviour machine.now) }
+    requires start { HasStart (M.behaviour machine.now) body.now }
+    ensures missing { IfOk result (IsMissingBelow (M.behaviour machine.now) body.now (length body.now.states)) }
+    ensures complete { OnOk result (MissesNoState (M.behaviour machine.now) body.now) }
+    ensures refused { IfErr result (IfFault (IsRefused (M.behaviour machine.now) body.now)) }
+{
+    let behind = pairs_by_trailing_state(alloc, body)?;
+    let mut missing = Missing {
+        split: None,
+        pair: None,
+    };
+    for state in 0..body.state_count() {
+        watch.report(work_at(body, state));
+        let edges = edges_of(alloc, machine, body, state as usize)?;
+        let kept = first_two_of_each_kind(alloc, edges)?;
+        missing = missing_after(
+            alloc,
+            machine,
+            body,
+            &behind,
+            kept.as_slice(),
+            state,
+            missing,
+        )?;
+    }
+    Ok(missing)
+}
+
+/// How far the pass is at the state with this number.
+fn work_at<S: Key>(body: &Body<S>, state: u32) -> Work {
+    Work::Check {
+        passed: u64::from(state),
+        states: u64::from(body.state_count()),
+        pairs: u64::from(body.pair_count()),
+    }
+}

@@ -1,0 +1,17 @@
+//! Closed sets of states and pairs of any machine: `check` decides whether given sets are closed, and
+//! `search` finds closed sets, or two texts with the same cells.
+//!
+//! A machine with closed sets translates no two different texts, of any length, to the same cells.
+//!
+//! Room 2, any machine (docs/dev/ARCHITECTURE.md). The definitions begin in `specs/Refusals.antt`.
+#![tactic(auto)]
+
+mod check;
+mod search;
+
+pub use check::{AcceptFault, Accepted, accept, accept_with};
+pub use search::{
+    Outcome, Search, Slice, clash_law, just_reached_law, lead_law, no_limit_law,
+    reached_closed_law, reached_listed_law, same_cells_law, search_machine, search_machine_with,
+    short_lead_law, two_ends_law, two_runs_law,
+};

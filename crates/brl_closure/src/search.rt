@@ -1,0 +1,25 @@
+//! The search of any machine. From its start, states and pairs of states are found until they are
+//! closed, until two texts with the same cells are found, or until there are more of them than a
+//! limit allows.
+//!
+//! - `search_machine` searches a machine and returns an `Outcome`. A `Search` does the same in
+//!   slices: it runs for a number of steps at a time, and returns its `Slice`.
+//! - Inside, a `Finder` finds the states and pairs of a machine, a `Trail` keeps them and how each
+//!   was found, and a `Worklist` has what is left to do.
+//! - The laws state what is reached, and that the search decides.
+mod explore;
+mod finder;
+mod laws;
+mod outcome;
+mod pairs;
+mod successors;
+mod texts;
+mod trail;
+mod worklist;
+
+pub use explore::{Search, Slice, search_machine, search_machine_with};
+pub use laws::{
+    clash_law, just_reached_law, lead_law, no_limit_law, reached_closed_law, reached_listed_law,
+    same_cells_law, short_lead_law, two_ends_law, two_runs_law,
+};
+pub use outcome::Outcome;

@@ -1,0 +1,140 @@
+//! The two texts of a pair with an empty lead and two final states.
+ghost use Rattle.std.specs.Prelude.{◌≡◌, ◌<◌, [], ◌++◌, length, IfOk, OnOk, Some, reverse, slice_get};
+ghost use Rattle.brl_pairs.specs.Body.{NumberPair};
+ghost use Rattle.brl_pairs.specs.Runs.{KeepsLaws};
+ghost use Rattle.brl_pairs.specs.declared.step.Step.{Step as StepValue};
+ghost use Rattle.brl_closure.specs.Answers.{AreTwoPaths};
+ghost use Rattle.brl_closure.specs.Trail.{HasTwoEndsAt, IsTraced, TakesStep};
+ghost use Rattle.brl_closure.specs.Path.{HasStepAt, HasStepBehind, IsTextTo, SplitContinues};
+
+use crate::search::finder::Finder;
+use crate::search::trail::{PairOrigin, Trail};
+use brl_pairs::Machine;
+use std::alloc::AllocError;
+use std::mem;
+
+/// Two texts.
+#[derive(Drop)]
+pub struct Texts {
+    pub left: Vec<char>,
+    pub right: Vec<char>,
+}
+
+impl<'m, M: Machine> Finder<'m, M> {
+    /// Appends what a step of a state reads to a text, the last character first.
+    fn push_reads(
+        &self,
+        states: &[M::State],
+        number: usize,
+        place: usize,
+        text: &mut Vec<char>,
+    ) -> Result<(), AllocError>
+        requires { HasStepAt (M.behaviour self.now.machine.now) states.now number place }
+        ensures { OnOk result ((x : StepValue M.State) → TakesStep (M.behaviour self.now.machine.now) states.now number place x →
+            text.new.items ≡ text.old.items ++ reverse x.reads) }
+    {
+        let listed = self.machine.moves(self.alloc, &states[number])?;
+        let mut reads = Vec::from_slice(self.alloc, listed[place].reads.as_slice())?;
+        reads.reverse();
+        text.extend_from_slice(reads.as_slice())
+    }
+
+    /// A text that leads from the start to the state with this number, the last character first.
+    fn text_to(&self, trail: &Trail<M::State>, number: usize) -> Result<Vec<char>, AllocError>
+        requires traced { IsTraced (M.behaviour self.now.machine.now) trail.now }
+        requires within { number < length trail.now.states }
+        ensures { IfOk result (λ text. IsTextTo (M.behaviour self.now.machine.now) trail.now.states (M.behaviour self.now.machine.now).start number text.items) }
+    {
+        let mut text = Vec::new(self.alloc);
+        let mut state = number;
+        while state > 0 {
+            let origin = trail.state_origins[state];
+            let states = trail.states.as_slice();
+            self.push_reads(states, origin.parent, origin.place, &mut text)?;
+            state = origin.parent;
+        }
+        Ok(text)
+    }
+
+    /// Appends what a step of a pair's run behind reads to a text, the last character first.
+    fn push_behind(
+        &self,
+        trail: &Trail<M::State>,
+        pair: usize,
+        place: usize,
+        text: &mut Vec<char>,
+    ) -> Result<(), AllocError>
+        requires { HasStepBehind (M.behaviour self.now.machine.now) trail.now.states trail.now.pairs pair place }
+        ensures { OnOk result ((q : NumberPair) (x : StepValue M.State) → slice_get trail.now.pairs pair ≡ Some q →
+            TakesStep (M.behaviour self.now.machine.now) trail.now.states q.behind place x → text.new.items ≡ text.old.items ++ reverse x.reads) }
+    {
+        let behind = trail.pairs.as_slice()[pair].behind as usize;
+        self.push_reads(trail.states.as_slice(), behind, place, text)
+    }
+
+    /// The two texts of a split, from the texts that continue it, the last character first.
+    fn texts_of_split(
+        &self,
+        trail: &Trail<M::State>,
+        state: usize,
+        longer: usize,
+        shorter: usize,
+        texts: Texts,
+    ) -> Result<Texts, AllocError>
+        requires laws { KeepsLaws (M.behaviour self.now.machine.now) }
+        requires traced { IsTraced (M.behaviour self.now.machine.now) trail.now }
+        requires continues { SplitContinues (M.behaviour self.now.machine.now) trail.now.states state longer shorter texts.left.items texts.right.items }
+        ensures { IfOk result (λ texts. AreTwoPaths (M.behaviour self.now.machine.now) texts.left.items texts.right.items) }
+    {
+        let Texts {
+            left: mut left,
+            right: mut right,
+        } = texts;
+        let states = trail.states.as_slice();
+        self.push_reads(states, state, longer, &mut left)?;
+        self.push_reads(states, state, shorter, &mut right)?;
+        let before = self.text_to(trail, state)?;
+        left.extend_from_slice(before.as_slice())?;
+        right.extend_from_slice(before.as_slice())?;
+        left.reverse();
+        right.reverse();
+        Ok(Texts { left, right })
+    }
+
+    /// The texts that two different paths with the same cells read: those by which a pair with an
+    /// empty lead and two final states was found.
+    pub fn texts_of(&self, trail: &Trail<M::State>, number: usize) -> Result<Texts, AllocError>
+        requires laws { KeepsLaws (M.behaviour self.now.machine.now) }
+        requires traced { IsTraced (M.behaviour self.now.machine.now) trail.now }
+        requires ends { HasTwoEndsAt (M.behaviour self.now.machine.now) trail.now.states trail.now.pairs number }
+        ensures { IfOk result (λ texts. AreTwoPaths (M.behaviour self.now.machine.now) texts.left.items texts.right.items) }
+    {
+        let mut ahead = Vec::new(self.alloc);
+        let mut behind = Vec::new(self.alloc);
+        let mut found = number;
+        loop {
+            match trail.pair_origins[found] {
+                PairOrigin::Still { pair, place } => {
+                    self.push_behind(trail, pair, place, &mut behind)?;
+                    found = pair;
+                }
+                PairOrigin::Swapped { pair, place } => {
+                    self.push_behind(trail, pair, place, &mut ahead)?;
+                    mem::swap(&mut ahead, &mut behind);
+                    found = pair;
+                }
+                PairOrigin::Split {
+                    state,
+                    longer,
+                    shorter,
+                } => {
+                    let texts = Texts {
+                        left: ahead,
+                        right: behind,
+                    };
+                    return self.texts_of_split(trail, state, longer, shorter, texts);
+                }
+            }
+        }
+    }
+}

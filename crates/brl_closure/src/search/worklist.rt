@@ -1,0 +1,73 @@
+//! What is left to do in a search.
+ghost use Rattle.std.specs.Prelude.{◌≡◌, ◌+◌, ◌<◌, ◌≤◌, ◌∷◌, ℕ, All, [], length, IfNone, IfSome, OnOk, OnSome};
+ghost use Rattle.std.specs.BinaryHeap.{heap_items, heap_len};
+ghost use Rattle.std.specs.List.Sorted.{IsPermutation};
+ghost use Rattle.std.specs.declared.cmp.Reverse.{Reverse as ReverseValue};
+ghost use Rattle.brl_closure.specs.Worklist.{IsItemOf, IsQueued, NoneIsReady};
+
+use brl_pairs::{Edge, Members, Pair};
+use std::alloc::{AllocError, Global};
+use std::cmp::Reverse;
+use std::collections::BinaryHeap;
+
+/// What is left to do in a search: states to be expanded, and pairs to be walked.
+#[derive(Drop)]
+pub struct Worklist {
+    /// The edges of each state that has been expanded. The other states are expanded in the order
+    /// in which they were found.
+    pub expanded: Vec<Vec<Edge>>,
+    /// The pairs to be walked, each with the number of its state behind: that with the least comes
+    /// first.
+    pub queue: BinaryHeap<Reverse<(u32, usize)>>,
+}
+
+impl Worklist {
+    /// Nothing is done, and no pair is known.
+    pub fn new(alloc: Global) -> Worklist
+        ensures expanded { result.expanded.items ≡ [] }
+        ensures queue { heap_items result.queue ≡ [] }
+    {
+        Worklist {
+            expanded: Vec::new(alloc),
+            queue: BinaryHeap::new(alloc),
+        }
+    }
+
+    /// Takes out the queued pair that comes first, where its state behind has been expanded: then
+    /// the states of all its successors are known.
+    pub fn pop_ready(&mut self) -> Option<usize>
+        ensures expanded { self.new.expanded ≡ self.old.expanded }
+        ensures first { IfSome result (λ number. (first : ReverseValue (ℕ × ℕ)) × (first.0.1 ≡ number) × (first.0.0 < length self.old.expanded.items)
+            × IsPermutation (heap_items self.old.queue) (first ∷ heap_items self.new.queue)) }
+        ensures count { OnSome result (heap_len self.new.queue + 1 ≡ heap_len self.old.queue) }
+        ensures none { IfNone result (NoneIsReady self.old) }
+        ensures same { IfNone result (self.new ≡ self.old) }
+    {
+        let behind = self.queue.peek()?.0.0;
+        if behind as usize >= self.expanded.len() {
+            return None;
+        }
+        let first = self.queue.pop()?;
+        Some(first.0.1)
+    }
+
+    /// Queues the pairs numbered `from` and up.
+    pub fn enqueue_from(
+        &mut self,
+        pairs: &Members<Pair<u32>>,
+        from: usize,
+    ) -> Result<(), AllocError>
+        requires { from ≤ length pairs.now }
+        ensures expanded { self.new.expanded ≡ self.old.expanded }
+        ensures new { OnOk result ((n : ℕ) → from ≤ n → n < length pairs.now → IsQueued n (heap_items self.new.queue)) }
+        ensures old { OnOk result ((n : ℕ) → IsQueued n (heap_items self.old.queue) → IsQueued n (heap_items self.new.queue)) }
+        ensures items { OnOk result (All (IsItemOf pairs.now) (heap_items self.old.queue) → All (IsItemOf pairs.now) (heap_items self.new.queue)) }
+        ensures count { OnOk result (heap_len self.new.queue + from ≡ heap_len self.old.queue + length pairs.now) }
+    {
+        for number in from..pairs.len() {
+            let behind = pairs.as_slice()[number].behind;
+            self.queue.push(Reverse((behind, number)))?;
+        }
+        Ok(())
+    }
+}

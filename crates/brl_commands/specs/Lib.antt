@@ -1,4 +1,0 @@
-pub mod Comparing
-pub mod Streams
-pub mod Surveying
-pub mod Tracing

@@ -1,4 +1,0 @@
-pub mod Lists
-pub mod Missing
-pub mod EdgesLaws
-pub mod PlacesLaws

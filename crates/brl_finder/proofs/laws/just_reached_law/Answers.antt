@@ -1,5 +1,0 @@
-use Rattle.brl_finder.proofs.TwoRuns.{listed_closed}
-use Rattle.brl_finder.proofs.laws.just_reached_law.Goals as goal
-
-pub returns : goal.returns
-returns g c exact single body just = listed_closed _ c.start.ensures.laws exact single body just

@@ -1,5 +1,0 @@
-use Rattle.brl_finder.proofs.TwoRuns.{reached_closed}
-use Rattle.brl_finder.proofs.laws.reached_closed_law.Goals as goal
-
-pub returns : goal.returns
-returns g c exact single = reached_closed _ c.start.ensures.laws exact single

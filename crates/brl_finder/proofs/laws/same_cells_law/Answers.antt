@@ -1,5 +1,0 @@
-use Rattle.brl_finder.proofs.TwoRuns.{same_cells_from_paths}
-use Rattle.brl_finder.proofs.laws.same_cells_law.Goals as goal
-
-pub returns : goal.returns
-returns g c exact left right paths = same_cells_from_paths _ exact left right paths

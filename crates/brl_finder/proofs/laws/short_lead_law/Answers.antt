@@ -1,5 +1,0 @@
-use Rattle.brl_finder.proofs.Listed.{short_lead}
-use Rattle.brl_finder.proofs.laws.short_lead_law.Goals as goal
-
-pub returns : goal.returns
-returns g c p reached = short_lead _ c.start.ensures.laws reached

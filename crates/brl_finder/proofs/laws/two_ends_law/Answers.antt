@@ -1,5 +1,0 @@
-use Rattle.brl_finder.proofs.TwoRuns.{clash_from_ends}
-use Rattle.brl_finder.proofs.laws.two_ends_law.Goals as goal
-
-pub returns : goal.returns
-returns g c exact ends = clash_from_ends _ c.start.ensures.laws exact ends

@@ -1,5 +1,0 @@
-use Rattle.brl_finder.proofs.TwoRuns.{two_runs}
-use Rattle.brl_finder.proofs.laws.two_runs_law.Goals as goal
-
-pub returns : goal.returns
-returns g c p reached = two_runs _ c.start.ensures.laws reached

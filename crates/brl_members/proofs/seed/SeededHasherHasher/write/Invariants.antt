@@ -1,7 +1,0 @@
-use Rattle.std.proofs.Common.{◌≡◌, take}
-use Rattle.std.specs.List.{fold}
-use Rattle.brl_members.specs.Seed.{after_number}
-use Rattle.brl_members.proofs.seed.SeededHasherHasher.write.Given as goal
-
-abbrev pub invariant-loop-byte : goal.invariant-loop-byte
-invariant-loop-byte l = l.self ≡ fold after_number l.initial.self (take l.byte-index l.bytes)

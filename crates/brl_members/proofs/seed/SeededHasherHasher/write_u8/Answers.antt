@@ -1,6 +1,0 @@
-use Rattle.std.proofs.Common.{sym, ◌∙◌}
-use Rattle.brl_members.proofs.Writes.{after_write-u8}
-use Rattle.brl_members.proofs.seed.SeededHasherHasher.write_u8.Goals as goal
-
-pub returns : goal.returns
-returns c = c.add.ensures ∙ sym (after_write-u8 c.args.self.now c.args.i)

@@ -1,0 +1,60 @@
+-- What `brl survey` answers. The project's own choice.
+use Rattle.std.specs.Prelude.{ℕ, ◌≡◌, All, Bool, if◌then◌else◌, nat_lt, List, [], ◌++◌, codes, flat_map, is_some, length, map, Option, None, Some, Result}
+use Rattle.std.specs.List.{list_all}
+use Rattle.std.specs.Option.{option_map_or}
+use Rattle.brl_failure.specs.declared.failure.Failure.TheVariants as failures
+use Rattle.brl_lines.specs.Answer.{FileAnswers}
+use Rattle.brl_lines.specs.Outcome.{AreLinesOf, IsLoadFault}
+use Rattle.brl_lines.specs.Tokens.{LineView}
+use Rattle.brl_lines.specs.declared.fault.LoadFault.{LoadFault}
+use Rattle.brl_table.specs.Survey.{faulty_lines}
+use Rattle.brl_report.specs.Survey.{IsSurveyText}
+use Rattle.brl_answers.specs.Answers.{HasTextAndStatus, UnlessMemory}
+use Rattle.brl_answers.specs.declared.answer.Answer.{Answer}
+use Rattle.brl_answers.specs.declared.run_fault.RunFault.{RunFault}
+use Rattle.brl_answers.specs.declared.status.Status.{Status}
+use Rattle.brl_answers.specs.declared.status.Status.TheVariants.{Done, Faulty}
+
+-- the text is the report of a survey of the lines of the table at a path
+abbrev pub IsReportAt : FileAnswers → List ℕ → List ℕ → Type 0
+IsReportAt gives path text = (lines : List LineView) × AreLinesOf gives path lines × IsSurveyText (faulty_lines lines) (length lines) text
+
+-- a table of a survey: its path, and its report if it can be loaded
+pub record Part : Type 0 where
+  pub path : List ℕ
+  pub report : Option (List ℕ)
+
+-- the report is that of the table at a path, or the table can't be loaded
+abbrev pub IsReportIfLoaded : FileAnswers → List ℕ → Option (List ℕ) → Type 0
+IsReportIfLoaded gives path (Some text) = IsReportAt gives path text
+IsReportIfLoaded gives path None = (fault : LoadFault) × IsLoadFault gives path (failures.Fault fault)
+
+-- the same of a part
+abbrev pub IsPart : FileAnswers → Part → Type 0
+IsPart gives part = IsReportIfLoaded gives part.path part.report
+
+-- a report; where there are several tables, after a line with the path
+abbrev pub part_text : Bool → List ℕ → List ℕ → List ℕ
+part_text several path report = (if several then codes "table: " ++ path ++ codes "\n" else []) ++ report
+
+-- the text of a part; empty for a table that can't be loaded
+abbrev pub text_of_part : Bool → Part → List ℕ
+text_of_part several part = option_map_or (part_text several part.path) part.report []
+
+-- the status: that of a fault where a table can't be loaded
+abbrev pub survey_status : List Part → Status
+survey_status parts = if list_all (λ part. is_some part.report) parts then Done else Faulty
+
+-- the last line of a survey
+abbrev pub no_verdict : List ℕ
+no_verdict = codes "no verdict: a survey doesn't decide whether two texts have the same cells\n"
+
+-- the answer of a survey of the tables at these paths: a part for each, in order, and a last line
+abbrev pub IsSurvey : FileAnswers → List (List ℕ) → Answer → Type 0
+IsSurvey gives paths answer =
+    (parts : List Part) × (map (λ part. part.path) parts ≡ paths) × All (IsPart gives) parts
+    × HasTextAndStatus (survey_status parts) (flat_map (text_of_part (nat_lt 1 (length paths))) parts ++ no_verdict) answer
+
+-- the tables at these paths were surveyed
+abbrev pub SurveysByFiles : FileAnswers → List (List ℕ) → Result Answer RunFault → Type 0
+SurveysByFiles gives paths outcome = UnlessMemory (IsSurvey gives paths) outcome

@@ -1,0 +1,172 @@
+//! `brl search`: whether two texts of a table clash.
+ghost use Rattle.std.specs.Prelude.{◌≡◌, ◌≢◌, ℕ, All, IfErr, IfOk, OnOk};
+ghost use Rattle.brl_lines.specs.Answer.{Unchanged};
+ghost use Rattle.brl_lines.specs.Outcome.{CountsFailure};
+ghost use Rattle.std.specs.Option.{option_copied};
+ghost use Rattle.brl_answers.specs.Answers.{ByLeftOut, load_outcome};
+ghost use Rattle.brl_tool.specs.Verdicts.{IsCertificateAt, IsOverwriting, IsUndefinedFault, IsVerdict, SearchesByFile};
+ghost use Rattle.brl_search.specs.Found.{IsFoundWithout};
+ghost use Rattle.brl_without.specs.Tables.{AreDefined};
+
+use crate::notices::write_notices;
+use brl_answers::{
+    Answer, Files, NewFile, RunFault, Status, counts_text, left_out_of, with_left_out_line,
+};
+use brl_cert::write_cert;
+use brl_failure::raise;
+use brl_lines::{Loaded, load};
+use brl_progress::Progress;
+use brl_report::report;
+use brl_rules::Table;
+use brl_search::{Found, search_with};
+use brl_states::Cert;
+use brl_table::{NoTable, table_of_loaded};
+use brl_without::{LeftOut, Scope, check_defined};
+use std::alloc::{AllocError, Global};
+use std::io::Write;
+
+/// Searches the table whose file is at a path, without the characters that the option leaves out. What
+/// it spells is read first. Standard error is told how far the search is.
+pub fn search_by_words<F: Files, E: Write + Progress>(
+    alloc: Global,
+    files: &mut F,
+    path: &str,
+    out: &str,
+    limit: u32,
+    option: Option<&str>,
+    err: &mut E,
+) -> Result<Answer, RunFault>
+    ensures searches { ByLeftOut (option_copied option.entry)
+        (λ left_out. SearchesByFile left_out (F.gives files.old) F.same_file path.now out.now limit) result }
+    ensures count { CountsFailure (F.faults files.old) (F.faults files.new) (load_outcome result) }
+    ensures same { Unchanged (F.gives files.old) (F.gives files.new) }
+{
+    let left_out = left_out_of(alloc, option)?;
+    search_by_file(alloc, files, path, out, limit, &left_out, err)
+}
+
+/// Searches the table whose file is at a path, without the characters that are left out, until more
+/// than `limit` states or pairs are found. The answer is a certificate for the file at `out`, with its
+/// numbers; or the report of a clash; or the numbers at which the limit was passed. Before the search
+/// standard error gets the table's notices, and it is told how far the search is. `WouldOverwrite` where `out` names one of the table's
+/// files; `NotDefined` where the table doesn't define a character that is left out.
+pub fn search_by_file<F: Files, E: Write + Progress>(
+    alloc: Global,
+    files: &mut F,
+    path: &str,
+    out: &str,
+    limit: u32,
+    left_out: &LeftOut,
+    err: &mut E,
+) -> Result<Answer, RunFault>
+    ensures searches { SearchesByFile left_out.now (F.gives files.old) F.same_file path.now out.now limit result }
+    ensures count { CountsFailure (F.faults files.old) (F.faults files.new) (load_outcome result) }
+    ensures same { Unchanged (F.gives files.old) (F.gives files.new) }
+{
+    let loaded = raise(load(alloc, files, path), NoTable::Load)?;
+    refuse_file_of_table(alloc, files, &loaded, out)?;
+    let table = raise(table_of_loaded(alloc, &loaded), NoTable::Table)?;
+    drop(loaded);
+    let answer = search_defined(alloc, &table, out, limit, left_out, err);
+    drop(table);
+    answer
+}
+
+/// Refuses a file for the certificate that is one of a table's files.
+fn refuse_file_of_table<F: Files>(
+    alloc: Global,
+    files: &F,
+    loaded: &Loaded,
+    out: &str,
+) -> Result<(), RunFault>
+    ensures apart { OnOk result (All (λ one. one ≢ out.now) loaded.now.paths) }
+    ensures refused { IfErr result (IsOverwriting F.same_file loaded.now.paths out.now) }
+{
+    for path in loaded.paths(alloc)? {
+        if files.is_same_file(path, out) {
+            return Err(RunFault::WouldOverwrite(String::from_str(alloc, path)?));
+        }
+    }
+    Ok(())
+}
+
+/// Searches a table, once it defines what is left out.
+fn search_defined<E: Write + Progress>(
+    alloc: Global,
+    table: &Table,
+    out: &str,
+    limit: u32,
+    left_out: &LeftOut,
+    err: &mut E,
+) -> Result<Answer, RunFault>
+    ensures verdict { IfOk result (IsVerdict left_out.now table.now out.now limit) }
+    ensures fault { IfErr result (IsUndefinedFault table.now left_out.now) }
+{
+    check_defined(alloc, table, left_out)?;
+    Ok(search_table(alloc, table, out, limit, left_out, err)?)
+}
+
+/// Writes a table's notices, and searches it without the characters that are left out.
+fn search_table<E: Write + Progress>(
+    alloc: Global,
+    table: &Table,
+    out: &str,
+    limit: u32,
+    left_out: &LeftOut,
+    err: &mut E,
+) -> Result<Answer, AllocError>
+    requires { AreDefined table.now left_out.now }
+    ensures { IfOk result (IsVerdict left_out.now table.now out.now limit) }
+{
+    write_notices(alloc, table, err)?;
+    let scope = Scope {
+        left_out,
+        progress: err,
+    };
+    let found = search_with(alloc, table, u64::from(limit), scope)?;
+    answer_found(alloc, table, out, left_out, &found)
+}
+
+/// The answer with what was found of a table without the characters that are left out.
+fn answer_found(
+    alloc: Global,
+    table: &Table,
+    out: &str,
+    left_out: &LeftOut,
+    found: &Found,
+) -> Result<Answer, AllocError>
+    requires defined { AreDefined table.now left_out.now }
+    requires found { (limit : ℕ) × IsFoundWithout left_out.now table.now limit found.now }
+    ensures { (limit : ℕ) → IsFoundWithout left_out.now table.now limit found.now →
+        IfOk result (IsVerdict left_out.now table.now out.now limit) }
+{
+    match found {
+        Found::Certified(cert) => certificate(alloc, cert, out, left_out),
+        Found::Clashing(clash) => Ok(Answer::new(Status::Refuted, report(alloc, table, clash)?)),
+        Found::Limit { states, pairs } => {
+            let text = counts_text(alloc, "limit", *states, *pairs)?;
+            Ok(Answer::new(Status::Undecided, text))
+        }
+    }
+}
+
+/// The answer with a certificate for the file at a path.
+fn certificate(
+    alloc: Global,
+    cert: &Cert,
+    path: &str,
+    left_out: &LeftOut,
+) -> Result<Answer, AllocError>
+    ensures { IfOk result (IsCertificateAt left_out.now path.now cert.now) }
+{
+    let bytes = write_cert(alloc, cert)?;
+    let path = String::from_str(alloc, path)?;
+    let (states, pairs) = cert.counts();
+    let line = counts_text(alloc, "certified", states as u64, pairs as u64)?;
+    let text = with_left_out_line(alloc, line, left_out)?;
+    Ok(Answer {
+        text,
+        status: Status::Done,
+        file: Some(NewFile { path, bytes }),
+    })
+}

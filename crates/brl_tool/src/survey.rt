@@ -1,0 +1,86 @@
+//! `brl survey`: the lines of tables that are outside the profile or faulty.
+ghost use Rattle.std.specs.Prelude.{◌≡◌, ◌++◌, IfErr, IfOk, OnOk, length, map, string_bytes};
+ghost use Rattle.brl_lines.specs.Answer.{Unchanged};
+ghost use Rattle.brl_lines.specs.Outcome.{CountsFailure, IsLoadFault};
+ghost use Rattle.brl_table.specs.Survey.{faulty_lines};
+ghost use Rattle.brl_report.specs.Survey.{IsSurveyText};
+ghost use Rattle.brl_tool.specs.Surveying.{IsReportAt, SurveysByFiles, part_text};
+ghost use Rattle.brl_answers.specs.declared.status.Status.TheVariants as statuses;
+
+use brl_answers::{Answer, RunFault, Status};
+use brl_failure::Failure;
+use brl_lines::{LoadFault, Loaded, Source, load};
+use brl_report::survey_report;
+use brl_table::survey;
+use std::alloc::{AllocError, Global};
+use std::io::Write;
+
+/// Surveys the tables whose files are at these paths. The answer has the report of each table that
+/// can be loaded, after a line that names it where there are several paths, and then a line that
+/// there is no verdict. Standard error gets a line for each table that can't be loaded; then the
+/// status is that of a fault.
+pub fn survey_by_files<S: Source, E: Write>(
+    alloc: Global,
+    source: &mut S,
+    paths: &[&str],
+    err: &mut E,
+) -> Result<Answer, RunFault>
+    ensures surveys { SurveysByFiles (S.gives source.old) (map (λ path. path.now) paths.now) result }
+    ensures same { Unchanged (S.gives source.old) (S.gives source.new) }
+{
+    let several = paths.len() > 1;
+    let mut text = String::new(alloc);
+    let mut status = Status::Done;
+    for path in paths {
+        match report_at(alloc, source, path) {
+            Ok(report) => push_part(&mut text, several, path, report.as_str())?,
+            Err(Failure::Fault(fault)) => status = refuse_table(fault, err),
+            Err(Failure::Memory) => return Err(RunFault::Memory),
+        }
+    }
+    text.push_str("no verdict: a survey doesn't decide whether two texts have the same cells\n")?;
+    Ok(Answer::new(status, text))
+}
+
+/// Writes the line of a table that can't be loaded to standard error. Answers the status.
+fn refuse_table<E: Write>(fault: LoadFault, err: &mut E) -> Status
+    ensures { result ≡ statuses.Faulty }
+{
+    RunFault::Load(fault).report(err)
+}
+
+/// Appends the report of the table at a path, after a line with the path if there are several.
+fn push_part(text: &mut String, several: bool, path: &str, report: &str) -> Result<(), AllocError>
+    ensures { OnOk result (string_bytes text.new ≡ string_bytes text.old ++ part_text several path.now report.now) }
+{
+    if several {
+        text.push_str("table: ")?;
+        text.push_str(path)?;
+        text.push('\n')?;
+    }
+    text.push_str(report)
+}
+
+/// The report of the table whose file is at a path.
+fn report_at<S: Source>(
+    alloc: Global,
+    source: &mut S,
+    path: &str,
+) -> Result<String, Failure<LoadFault>>
+    ensures report { IfOk result (λ text. IsReportAt (S.gives source.old) path.now (string_bytes text)) }
+    ensures fault { IfErr result (IsLoadFault (S.gives source.old) path.now) }
+    ensures count { CountsFailure (S.faults source.old) (S.faults source.new) result }
+    ensures same { Unchanged (S.gives source.old) (S.gives source.new) }
+{
+    let loaded = load(alloc, source, path)?;
+    Ok(report_of(alloc, &loaded)?)
+}
+
+/// The report of loaded files.
+fn report_of(alloc: Global, loaded: &Loaded) -> Result<String, AllocError>
+    ensures { IfOk result (λ text. IsSurveyText (faulty_lines loaded.now.lines) (length loaded.now.lines) (string_bytes text)) }
+{
+    let lines = loaded.lines(alloc)?;
+    let found = survey(alloc, lines.as_slice())?;
+    survey_report(alloc, found.as_slice(), lines.len())
+}

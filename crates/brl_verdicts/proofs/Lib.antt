@@ -1,4 +1,0 @@
-pub mod CheckLemmas
-pub mod NoticesLemmas
-pub mod OfFiles
-pub mod SearchLemmas

@@ -1,9 +1,0 @@
--- What words that ask for no work ask for. The project's own choice.
-use Rattle.std.specs.Prelude.{◌≢◌}
-use Rattle.clap.specs.Values.{kind_of}
-use Rattle.clap.specs.declared.error.kind.ErrorKind.TheVariants.{DisplayHelp, DisplayVersion}
-use Rattle.brl_words.specs.declared.command.NoTask.{NoTask}
-
--- the words ask for neither help nor the version
-abbrev pub IsUseFault : NoTask → Type 0
-IsUseFault reply = (kind_of reply.error ≢ DisplayHelp) × (kind_of reply.error ≢ DisplayVersion)
