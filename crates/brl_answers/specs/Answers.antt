@@ -1,5 +1,5 @@
 -- What commands answer. The project's own choice.
-use Rattle.std.specs.Prelude.{ℕ, ◌≡◌, ◌⊎◌, List, [], ◌∷◌, ◌++◌, Option, None, Some, Result, Ok, Err, codes, string_bytes}
+use Rattle.std.specs.Prelude.{ℕ, ◌≡◌, ◌⊎◌, List, [], ◌∷◌, ◌++◌, Option, None, Some, Result, Ok, Err, codes, flat_map, string_bytes}
 use Rattle.std.specs.Fmt.{decimal}
 use Rattle.std.specs.Str.{encode_utf8_all}
 use Rattle.brl_failure.specs.declared.failure.Failure.{Failure}
@@ -72,7 +72,15 @@ ByLeftOut option answers outcome =
     ((left_out : List ℕ) × (spelled_by option ≡ Ok left_out) × answers left_out outcome)
     ⊎ ((fault : RunFault) × (outcome ≡ Err fault) × IsBadLeftOut option fault)
 
--- a line of an answer, and where characters are left out another line, which spells them
+-- a character, spelled after a blank
+abbrev pub apart : ℕ → List ℕ
+apart c = codes " " ++ encode_utf8_all (text_spelling (c ∷ []))
+
+-- characters, each spelled after a blank
+abbrev pub spelled_apart : List ℕ → List ℕ
+spelled_apart characters = flat_map apart characters
+
+-- a line of an answer, and where characters are left out another line, which spells them one by one
 abbrev pub with_left_out_line : List ℕ → List ℕ → List ℕ
 with_left_out_line [] line = line
-with_left_out_line (c ∷ left_out) line = line ++ (codes "without: " ++ (encode_utf8_all (text_spelling (c ∷ left_out)) ++ codes "\n"))
+with_left_out_line (c ∷ left_out) line = line ++ (codes "without:" ++ (spelled_apart (c ∷ left_out) ++ codes "\n"))

@@ -1,5 +1,5 @@
 -- How an answer is delivered: its file first, and then its text. The project's own choice.
-use Rattle.std.specs.Prelude.{ℕ, ◌≡◌, List, ◌++◌, Option, Some, Result, Ok, Err, string_bytes}
+use Rattle.std.specs.Prelude.{ℕ, ◌≡◌, ◌≢◌, List, ◌++◌, Option, Some, Result, Ok, Err, string_bytes}
 use Rattle.std.specs.Io.KnownBytes.{Appends}
 use Rattle.brl_lines.specs.Answer.{Unchanged, FileAnswers}
 use Rattle.brl_answers.specs.Files.{FilesAfter, IsPutInto}
@@ -10,17 +10,41 @@ use Rattle.brl_answers.specs.declared.run_fault.RunFault.{RunFault}
 use Rattle.brl_answers.specs.declared.run_fault.RunFault.TheVariants.{OutputFailed}
 use Rattle.brl_answers.specs.declared.status.Status.{Status}
 
--- An answer was written: its file, and all of its text; or the output failed (`failed` says that it
--- failed in that call), and has some first bytes of the text; or its file couldn't be written, and
--- the output has nothing of it.
-abbrev pub Writes : Answer → FileAnswers → FileAnswers → Type 0 → Option (List ℕ) → Option (List ℕ) → Result Status RunFault → Type 0
-Writes answer before after failed old new (Ok status) =
-    FilesAfter before after answer.file × Appends old new (string_bytes answer.text) × (status ≡ answer.status)
-Writes answer before after failed old new (Err OutputFailed) =
-    failed × FilesAfter before after answer.file
-    × ((front rest : List ℕ) × (string_bytes answer.text ≡ front ++ rest) × Appends old new front)
-Writes answer before after failed old new (Err fault) =
-    (new ≡ old) × ((file : NewFile) × (answer.file ≡ Some file) × IsPutInto file before after (Err fault))
+-- the files and the output at one time
+pub record World : Type 1 where
+  -- what the files may give
+  pub gives : FileAnswers
+  -- how often the output failed so far
+  pub failures : ℕ
+  -- what was written to it so far, where that is known
+  pub contents : Option (List ℕ)
+
+-- the world with these
+abbrev pub world : FileAnswers → ℕ → Option (List ℕ) → World
+world gives failures contents = record { gives = gives; failures = failures; contents = contents }
+
+-- no file changes
+abbrev pub KeepsFiles : World → World → Type 0
+KeepsFiles before after = Unchanged before.gives after.gives
+
+-- this text is written
+abbrev pub Prints : World → World → List ℕ → Type 0
+Prints before after text = Appends before.contents after.contents text
+
+-- nothing is written
+abbrev pub PrintsNothing : World → World → Type 0
+PrintsNothing before after = after.contents ≡ before.contents
+
+-- An answer was written: its file, and all of its text; or the output failed, and has some first
+-- bytes of the text; or its file couldn't be written, and the output has nothing of it.
+abbrev pub Writes : Answer → World → World → Result Status RunFault → Type 0
+Writes answer before after (Ok status) =
+    FilesAfter before.gives after.gives answer.file × Prints before after (string_bytes answer.text) × (status ≡ answer.status)
+Writes answer before after (Err OutputFailed) =
+    (after.failures ≢ before.failures) × FilesAfter before.gives after.gives answer.file
+    × ((front rest : List ℕ) × (string_bytes answer.text ≡ front ++ rest) × Prints before after front)
+Writes answer before after (Err fault) =
+    PrintsNothing before after × ((file : NewFile) × (answer.file ≡ Some file) × IsPutInto file before.gives after.gives (Err fault))
 
 -- the status after work that ended so
 abbrev pub status_after : Result Status RunFault → Status
@@ -28,13 +52,11 @@ status_after (Ok status) = status
 status_after (Err fault) = status_of fault
 
 -- What a command came to was delivered: an answer was written, or there is a fault, and nothing was.
-abbrev pub Delivers : Result Answer RunFault → FileAnswers → FileAnswers → Type 0 → Option (List ℕ) → Option (List ℕ) → Status → Type 0
-Delivers (Ok answer) before after failed old new status =
-    (written : Result Status RunFault) × Writes answer before after failed old new written × (status ≡ status_after written)
-Delivers (Err fault) before after failed old new status =
-    Unchanged before after × (new ≡ old) × (status ≡ status_of fault)
+abbrev pub Delivers : Result Answer RunFault → World → World → Status → Type 0
+Delivers (Ok answer) before after status =
+    (written : Result Status RunFault) × Writes answer before after written × (status ≡ status_after written)
+Delivers (Err fault) before after status = KeepsFiles before after × PrintsNothing before after × (status ≡ status_of fault)
 
 -- a command came to what it promises, and that was delivered
-abbrev pub IsDelivered : (Result Answer RunFault → Type 0) → FileAnswers → FileAnswers → Type 0 → Option (List ℕ) → Option (List ℕ) → Status → Type 0
-IsDelivered promises before after failed old new status =
-    (outcome : Result Answer RunFault) × promises outcome × Delivers outcome before after failed old new status
+abbrev pub IsDelivered : (Result Answer RunFault → Type 0) → World → World → Status → Type 0
+IsDelivered promises before after status = (outcome : Result Answer RunFault) × promises outcome × Delivers outcome before after status

@@ -2,16 +2,12 @@
 use Rattle.std.specs.Prelude.{ℕ}
 use Rattle.brl_failure.specs.declared.failure.Failure.{Failure}
 use Rattle.brl_failure.specs.declared.failure.Failure.TheVariants as failures
-use Rattle.brl_forward.specs.declared.fault.ConfirmFault.{ConfirmFault}
-use Rattle.brl_forward.specs.declared.fault.ForwardFault.{ForwardFault}
 use Rattle.brl_table.specs.declared.no_table.NoTable.{NoTable}
 use Rattle.brl_table.specs.declared.no_table.NoTable.TheVariants as no_table
-use Rattle.brl_stream.specs.declared.fault.StreamFault.{StreamFault}
 use Rattle.brl_answers.specs.declared.run_fault.RunFault.{RunFault}
-use Rattle.brl_answers.specs.declared.run_fault.RunFault.TheVariants.{Load, Table, Stream, Confirm, Text, Wide, Memory, NotDefined}
+use Rattle.brl_answers.specs.declared.run_fault.RunFault.TheVariants.{Load, Table, Wide, Memory}
 use Rattle.brl_answers.specs.declared.status.Status.{Status}
 use Rattle.brl_answers.specs.declared.status.Status.TheVariants.{Done, Refuted, Faulty, Undecided}
-use Rattle.brl_without.specs.declared.undefined.UndefinedLeftOut.{UndefinedLeftOut}
 
 -- the number of a status
 abbrev pub code_of : Status → ℕ
@@ -27,27 +23,11 @@ status_of (Wide fault) = Undecided
 status_of fault = Faulty
 
 -- the fault of the program where there is no table
-abbrev pub of_no_table : Failure NoTable → RunFault
-of_no_table (failures.Fault (no_table.Load fault)) = Load fault
-of_no_table (failures.Fault (no_table.Table fault)) = Table fault
-of_no_table failures.Memory = Memory
+abbrev pub of_no_table : NoTable → RunFault
+of_no_table (no_table.Load fault) = Load fault
+of_no_table (no_table.Table fault) = Table fault
 
--- the fault of the program where a stream isn't translated to its end
-abbrev pub of_stream : Failure StreamFault → RunFault
-of_stream (failures.Fault fault) = Stream fault
-of_stream failures.Memory = Memory
-
--- the fault of the program where two texts can't be compared
-abbrev pub of_confirm : Failure ConfirmFault → RunFault
-of_confirm (failures.Fault fault) = Confirm fault
-of_confirm failures.Memory = Memory
-
--- the fault of the program where a text can't be traced
-abbrev pub of_forward : Failure ForwardFault → RunFault
-of_forward (failures.Fault fault) = Text fault
-of_forward failures.Memory = Memory
-
--- the fault of the program where a table doesn't define what is left out
-abbrev pub of_undefined : Failure UndefinedLeftOut → RunFault
-of_undefined (failures.Fault fault) = NotDefined fault
-of_undefined failures.Memory = Memory
+-- the fault of the program after a failure, whose fault becomes the program's
+abbrev pub of_failure : {E : Type 0} → (E → RunFault) → Failure E → RunFault
+of_failure run_fault (failures.Fault fault) = run_fault fault
+of_failure run_fault failures.Memory = Memory

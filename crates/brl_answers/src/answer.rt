@@ -1,7 +1,7 @@
 //! The answer of a command, and how it is delivered.
 ghost use Rattle.std.specs.Prelude.{◌≡◌, ◌≢◌, IfOk, string_bytes};
 ghost use Rattle.brl_answers.specs.Answers.{HasTextAndStatus, counts_line};
-ghost use Rattle.brl_answers.specs.Delivery.{Delivers, Writes};
+ghost use Rattle.brl_answers.specs.Delivery.{Delivers, Writes, world};
 ghost use Rattle.brl_answers.specs.Files.{IsPutInto};
 
 use crate::Files;
@@ -68,8 +68,8 @@ fn write_answer<F: Files, O: Output>(
     files: &mut F,
     out: &mut O,
 ) -> Result<Status, RunFault>
-    ensures { Writes answer (F.gives files.old) (F.gives files.new) (O.failures out.new ≢ O.failures out.old)
-        (O.contents out.old) (O.contents out.new) result }
+    ensures { Writes answer (world (F.gives files.old) (O.failures out.old) (O.contents out.old))
+        (world (F.gives files.new) (O.failures out.new) (O.contents out.new)) result }
 {
     let Answer { text, status, file } = answer;
     if let Some(file) = file {
@@ -88,8 +88,8 @@ pub fn deliver<F: Files, O: Output, E: Write>(
     out: &mut O,
     err: &mut E,
 ) -> Status
-    ensures { Delivers outcome (F.gives files.old) (F.gives files.new) (O.failures out.new ≢ O.failures out.old)
-        (O.contents out.old) (O.contents out.new) result }
+    ensures { Delivers outcome (world (F.gives files.old) (O.failures out.old) (O.contents out.old))
+        (world (F.gives files.new) (O.failures out.new) (O.contents out.new)) result }
 {
     let answer = match outcome {
         Ok(answer) => answer,

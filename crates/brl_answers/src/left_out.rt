@@ -1,7 +1,7 @@
 //! The characters that an option leaves out.
-ghost use Rattle.std.specs.Prelude.{◌≡◌, IfErr, IfOk, Ok, encode_utf8_all, string_bytes};
+ghost use Rattle.std.specs.Prelude.{◌≡◌, IfErr, IfOk, Ok, string_bytes};
 ghost use Rattle.std.specs.Option.{option_copied};
-ghost use Rattle.brl_answers.specs.Answers.{IsBadLeftOut, spelled_by, with_left_out_line};
+ghost use Rattle.brl_answers.specs.Answers.{IsBadLeftOut, apart, spelled_apart, spelled_by, with_left_out_line};
 
 use crate::run_fault::RunFault;
 use brl_failure::Failure;
@@ -25,7 +25,27 @@ pub fn left_out_of(alloc: Global, option: Option<&str>) -> Result<LeftOut, RunFa
     }
 }
 
-/// A line of an answer, and where characters are left out another line, which spells them.
+/// A character, spelled after a blank.
+fn apart_text(alloc: Global, character: char) -> Result<String, AllocError>
+    ensures { IfOk result (λ text. string_bytes text ≡ apart character) }
+{
+    let spelled = spell_chars(alloc, &[character])?;
+    format!(in alloc; " {spelled}")
+}
+
+/// Characters, each spelled after a blank.
+fn spell_apart(alloc: Global, characters: &[char]) -> Result<String, AllocError>
+    ensures { IfOk result (λ text. string_bytes text ≡ spelled_apart characters.now) }
+{
+    let mut text = String::new(alloc);
+    for character in characters {
+        text.push_str(apart_text(alloc, *character)?.as_str())?;
+    }
+    Ok(text)
+}
+
+/// A line of an answer, and where characters are left out another line, which spells them one by one,
+/// so that `a-z` isn't read as a range.
 pub fn with_left_out_line(
     alloc: Global,
     line: String,
@@ -36,6 +56,6 @@ pub fn with_left_out_line(
     if left_out.is_empty() {
         return Ok(line);
     }
-    let spelled = spell_chars(alloc, left_out.as_slice())?;
-    format!(in alloc; "{line}without: {spelled}\n")
+    let spelled = spell_apart(alloc, left_out.as_slice())?;
+    format!(in alloc; "{line}without:{spelled}\n")
 }

@@ -19,5 +19,5 @@ pub use answer::{Answer, NewFile, counts_text, deliver};
 pub use files::{Files, SinkFault};
 pub use left_out::{left_out_of, with_left_out_line};
 pub use prefixes::set_apart;
-pub use run_fault::RunFault;
+pub use run_fault::{EndsRun, RunFault};
 pub use status::Status;

@@ -89,73 +89,101 @@ impl From<AllocError> for RunFault {
     }
 }
 
-impl From<Failure<NoTable>> for RunFault {
+/// A fault of a step, which ends the work as a fault of the program.
+pub trait EndsRun {
     ghost use Rattle.std.specs.Prelude.{◌≡◌};
+    ghost use Rattle.brl_answers.specs.declared.run_fault.RunFault.{RunFault};
+
+    // the fault of the program
+    ghost run_fault: { Self → RunFault };
+
+    fn into_run_fault(self) -> RunFault
+        ensures { result ≡ run_fault self };
+}
+
+impl<E: EndsRun> From<Failure<E>> for RunFault {
+    ghost use Rattle.std.specs.Prelude.{◌≡◌};
+    ghost use Rattle.brl_answers.specs.Status.{of_failure};
+
+    ghost from_gives = { λ failure fault. fault ≡ of_failure E.run_fault failure };
+
+    fn from(failure: Failure<E>) -> RunFault {
+        match failure {
+            Failure::Fault(fault) => fault.into_run_fault(),
+            Failure::Memory => RunFault::Memory,
+        }
+    }
+}
+
+impl EndsRun for LoadFault {
+    ghost use Rattle.brl_answers.specs.declared.run_fault.RunFault.TheVariants.{Load};
+
+    ghost run_fault = { λ fault. Load fault };
+
+    fn into_run_fault(self) -> RunFault {
+        RunFault::Load(self)
+    }
+}
+
+impl EndsRun for TableFault {
+    ghost use Rattle.brl_answers.specs.declared.run_fault.RunFault.TheVariants.{Table};
+
+    ghost run_fault = { λ fault. Table fault };
+
+    fn into_run_fault(self) -> RunFault {
+        RunFault::Table(self)
+    }
+}
+
+impl EndsRun for StreamFault {
+    ghost use Rattle.brl_answers.specs.declared.run_fault.RunFault.TheVariants.{Stream};
+
+    ghost run_fault = { λ fault. Stream fault };
+
+    fn into_run_fault(self) -> RunFault {
+        RunFault::Stream(self)
+    }
+}
+
+impl EndsRun for ConfirmFault {
+    ghost use Rattle.brl_answers.specs.declared.run_fault.RunFault.TheVariants.{Confirm};
+
+    ghost run_fault = { λ fault. Confirm fault };
+
+    fn into_run_fault(self) -> RunFault {
+        RunFault::Confirm(self)
+    }
+}
+
+impl EndsRun for ForwardFault {
+    ghost use Rattle.brl_answers.specs.declared.run_fault.RunFault.TheVariants.{Text};
+
+    ghost run_fault = { λ fault. Text fault };
+
+    fn into_run_fault(self) -> RunFault {
+        RunFault::Text(self)
+    }
+}
+
+impl EndsRun for UndefinedLeftOut {
+    ghost use Rattle.brl_answers.specs.declared.run_fault.RunFault.TheVariants.{NotDefined};
+
+    ghost run_fault = { λ fault. NotDefined fault };
+
+    fn into_run_fault(self) -> RunFault {
+        RunFault::NotDefined(self)
+    }
+}
+
+impl EndsRun for NoTable {
     ghost use Rattle.brl_answers.specs.Status.{of_no_table};
 
-    ghost from_gives = { λ failure fault. fault ≡ of_no_table failure };
+    ghost run_fault = { λ fault. of_no_table fault };
 
-    fn from(failure: Failure<NoTable>) -> RunFault {
-        match failure {
-            Failure::Fault(NoTable::Load(fault)) => RunFault::Load(fault),
-            Failure::Fault(NoTable::Table(fault)) => RunFault::Table(fault),
-            Failure::Memory => RunFault::Memory,
-        }
-    }
-}
-
-impl From<Failure<StreamFault>> for RunFault {
-    ghost use Rattle.std.specs.Prelude.{◌≡◌};
-    ghost use Rattle.brl_answers.specs.Status.{of_stream};
-
-    ghost from_gives = { λ failure fault. fault ≡ of_stream failure };
-
-    fn from(failure: Failure<StreamFault>) -> RunFault {
-        match failure {
-            Failure::Fault(fault) => RunFault::Stream(fault),
-            Failure::Memory => RunFault::Memory,
-        }
-    }
-}
-
-impl From<Failure<ConfirmFault>> for RunFault {
-    ghost use Rattle.std.specs.Prelude.{◌≡◌};
-    ghost use Rattle.brl_answers.specs.Status.{of_confirm};
-
-    ghost from_gives = { λ failure fault. fault ≡ of_confirm failure };
-
-    fn from(failure: Failure<ConfirmFault>) -> RunFault {
-        match failure {
-            Failure::Fault(fault) => RunFault::Confirm(fault),
-            Failure::Memory => RunFault::Memory,
-        }
-    }
-}
-
-impl From<Failure<ForwardFault>> for RunFault {
-    ghost use Rattle.std.specs.Prelude.{◌≡◌};
-    ghost use Rattle.brl_answers.specs.Status.{of_forward};
-
-    ghost from_gives = { λ failure fault. fault ≡ of_forward failure };
-
-    fn from(failure: Failure<ForwardFault>) -> RunFault {
-        match failure {
-            Failure::Fault(fault) => RunFault::Text(fault),
-            Failure::Memory => RunFault::Memory,
-        }
-    }
-}
-
-impl From<Failure<UndefinedLeftOut>> for RunFault {
-    ghost use Rattle.std.specs.Prelude.{◌≡◌};
-    ghost use Rattle.brl_answers.specs.Status.{of_undefined};
-
-    ghost from_gives = { λ failure fault. fault ≡ of_undefined failure };
-
-    fn from(failure: Failure<UndefinedLeftOut>) -> RunFault {
-        match failure {
-            Failure::Fault(fault) => RunFault::NotDefined(fault),
-            Failure::Memory => RunFault::Memory,
+    fn into_run_fault(self) -> RunFault {
+        match self {
+            NoTable::Load(fault) => RunFault::Load(fault),
+            NoTable::Table(fault) => RunFault::Table(fault),
         }
     }
 }

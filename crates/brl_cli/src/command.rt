@@ -9,38 +9,41 @@ use std::fmt;
 #[derive(Drop)]
 pub enum Task<'a> {
     /// Translate the input to this form by the table whose file is at this path.
-    Translate {
-        table: &'a str,
-        form: Form,
-    },
-    /// Compare two texts by the table whose file is at this path.
+    Translate { table: &'a str, form: Form },
+    /// Answer a question.
+    Ask(Question<'a>),
+}
+
+/// What is answered by one text.
+#[derive(Drop)]
+pub enum Question<'a> {
+    /// Whether two texts clash by the table whose file is at this path.
     Clash {
         table: &'a str,
         left: &'a str,
         right: &'a str,
     },
-    /// Check the certificate in the file at one path for the table whose file is at another, for the
-    /// texts that use none of the characters that `without` spells.
+    /// Whether the certificate in the file at one path is one for the table whose file is at another,
+    /// for the texts that use none of the characters that `without` spells.
     Check {
         table: &'a str,
         cert: &'a str,
         without: Option<&'a str>,
     },
-    /// Search the table whose file is at one path, for the texts that use none of the characters that
-    /// `without` spells, and write a certificate to the file at another. At most `limit` states and
-    /// `limit` pairs may be found.
+    /// Whether two texts clash by the table whose file is at one path, of the texts that use none of
+    /// the characters that `without` spells. A certificate goes to the file at the other path. At most
+    /// `limit` states and `limit` pairs may be found.
     Search {
         table: &'a str,
         cert: &'a str,
         limit: u32,
         without: Option<&'a str>,
     },
-    /// List the lines of tables that are outside the profile or faulty. Their files are at these
-    /// paths.
+    /// Which lines of tables are outside the profile or faulty. Their files are at these paths.
     Survey {
         tables: Vec<&'a str>,
     },
-    /// Show the steps of a text's translation by the table whose file is at this path.
+    /// What the steps of a text's translation are by the table whose file is at this path.
     Trace {
         table: &'a str,
         text: &'a str,
@@ -482,70 +485,72 @@ fn read_by<'a>(
 /// The task of words that were read, if they name a command.
 fn found_task<'a>(alloc: Global, matches: &ArgMatches<'a>) -> Result<Option<Task<'a>>, AllocError> {
     match matches.subcommand() {
-        Some(("survey", found)) => survey_task(alloc, found),
-        Some((name, found)) => Ok(task_of_one_table(name, found)),
+        Some(("translate", found)) => Ok(translate_task(found)),
+        Some(("survey", found)) => Ok(survey_question(alloc, found)?.map(Task::Ask)),
+        Some((name, found)) => Ok(question_of_one_table(name, found).map(Task::Ask)),
         None => Ok(None),
     }
 }
 
-/// The task of the words behind `survey`.
-fn survey_task<'a>(alloc: Global, found: &ArgMatches<'a>) -> Result<Option<Task<'a>>, AllocError> {
-    let Some(tables) = found.get_strs("tables") else {
-        return Ok(None);
-    };
-    let tables = Vec::from_slice(alloc, tables)?;
-    Ok(Some(Task::Survey { tables }))
-}
-
-/// The task of the words behind the name of another command.
-fn task_of_one_table<'a>(name: &str, found: &ArgMatches<'a>) -> Option<Task<'a>> {
+/// The task of the words after `translate`.
+fn translate_task<'a>(found: &ArgMatches<'a>) -> Option<Task<'a>> {
     let table = found.get_str("table")?;
-    match name {
-        "translate" => translate_task(table, found),
-        "clash" => clash_task(table, found),
-        "check" => check_task(table, found),
-        "search" => search_task(table, found),
-        "trace" => trace_task(table, found),
-        _ => None,
-    }
-}
-
-fn translate_task<'a>(table: &'a str, found: &ArgMatches<'a>) -> Option<Task<'a>> {
     let form = form_of(found.get_str("form")?)?;
     Some(Task::Translate { table, form })
 }
 
-fn clash_task<'a>(table: &'a str, found: &ArgMatches<'a>) -> Option<Task<'a>> {
+/// The question of the words after `survey`.
+fn survey_question<'a>(
+    alloc: Global,
+    found: &ArgMatches<'a>,
+) -> Result<Option<Question<'a>>, AllocError> {
+    let Some(tables) = found.get_strs("tables") else {
+        return Ok(None);
+    };
+    let tables = Vec::from_slice(alloc, tables)?;
+    Ok(Some(Question::Survey { tables }))
+}
+
+/// The question of the words after the name of another command.
+fn question_of_one_table<'a>(name: &str, found: &ArgMatches<'a>) -> Option<Question<'a>> {
+    let table = found.get_str("table")?;
+    match name {
+        "clash" => clash_question(table, found),
+        "check" => check_question(table, found),
+        "search" => search_question(table, found),
+        "trace" => trace_question(table, found),
+        _ => None,
+    }
+}
+
+fn clash_question<'a>(table: &'a str, found: &ArgMatches<'a>) -> Option<Question<'a>> {
     let left = found.get_str("left")?;
     let right = found.get_str("right")?;
-    Some(Task::Clash { table, left, right })
+    Some(Question::Clash { table, left, right })
 }
 
-fn check_task<'a>(table: &'a str, found: &ArgMatches<'a>) -> Option<Task<'a>> {
+fn check_question<'a>(table: &'a str, found: &ArgMatches<'a>) -> Option<Question<'a>> {
     let cert = found.get_str("cert")?;
     let without = found.get_str("without");
-    Some(Task::Check {
+    Some(Question::Check {
         table,
         cert,
         without,
     })
 }
 
-fn search_task<'a>(table: &'a str, found: &ArgMatches<'a>) -> Option<Task<'a>> {
-    let cert = found.get_str("out")?;
-    let limit = found.get_one("limit")?;
-    let without = found.get_str("without");
-    Some(Task::Search {
+fn search_question<'a>(table: &'a str, found: &ArgMatches<'a>) -> Option<Question<'a>> {
+    Some(Question::Search {
         table,
-        cert,
-        limit,
-        without,
+        cert: found.get_str("out")?,
+        limit: found.get_one("limit")?,
+        without: found.get_str("without"),
     })
 }
 
-fn trace_task<'a>(table: &'a str, found: &ArgMatches<'a>) -> Option<Task<'a>> {
+fn trace_question<'a>(table: &'a str, found: &ArgMatches<'a>) -> Option<Question<'a>> {
     let text = found.get_str("text")?;
-    Some(Task::Trace { table, text })
+    Some(Question::Trace { table, text })
 }
 
 /// The form of this name.

@@ -196,11 +196,12 @@ pub const WITHOUT: &str = "\
 t.ctb: space \\s 0; space \\x00a0 0; letter a 1; letter b 12|brl,search,t.ctb,o,--without,\\x00a0||certified: 2 states, 0 pairs; without: \u{a0}||0
 t.ctb: space \\s 0; space \\x00a0 0; letter a 1; letter b 12|brl,search,t.ctb,o,--without,\\s||certified: 2 states, 0 pairs; without: \\s||0
 t.ctb: space \\s 0; space \\x00a0 0; letter a 1; letter b 12; letter x 1-12|brl,search,t.ctb,o,--without,\\x00a0||left: x; right: ab; cells: 1-12; left from 0:;   x  1-12  t.ctb:5; right from 0:;   a  1   t.ctb:3;   b  12  t.ctb:4||1
-t.ctb: space \\s 0; space \\x00a0 0; letter a 1; letter b 12; letter x 1-12|brl,search,t.ctb,o,--without,x\\x00a0||certified: 2 states, 0 pairs; without: x\u{a0}||0
+t.ctb: space \\s 0; space \\x00a0 0; letter a 1; letter b 12; letter x 1-12|brl,search,t.ctb,o,--without,x\\x00a0||certified: 2 states, 0 pairs; without: x \u{a0}||0
 t.ctb: letter a 1; letter b 12; letter c 14; letter d 145; always abc 145|brl,search,t.ctb,o,--without,b||certified: 3 states, 0 pairs; without: b||0
 t.ctb: letter a 1|brl,search,t.ctb,o,--without,a||certified: 1 states, 0 pairs; without: a||0
-t.ctb: letter a 1; letter b 12|brl,search,t.ctb,o,--without,ba||certified: 1 states, 0 pairs; without: ba||0
-t.ctb: letter a 1; letter b 12|brl,search,t.ctb,o,--without,aa||certified: 2 states, 0 pairs; without: aa||0
+t.ctb: letter a 1; letter b 12|brl,search,t.ctb,o,--without,ba||certified: 1 states, 0 pairs; without: b a||0
+t.ctb: letter a 1; letter b 12|brl,search,t.ctb,o,--without,aa||certified: 2 states, 0 pairs; without: a a||0
+t.ctb: letter a 1; letter - 36; letter z 1356|brl,search,t.ctb,o,--without,a-z||certified: 1 states, 0 pairs; without: a - z||0
 t.ctb: letter a 1|brl,search,t.ctb,o,--without,||certified: 2 states, 0 pairs||0
 t.ctb: letter a 1; letter b 12; letter x 1-12|brl,search,t.ctb,o,--limit,0,--without,x||limit: 1 states, 0 pairs||3
 t.ctb: letter a 1|brl,search,t.ctb,o,--without,b|||U8 UndefinedLeftOut b|2

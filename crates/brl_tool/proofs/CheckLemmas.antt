@@ -18,7 +18,7 @@ use Rattle.brl_answers.specs.Answers.{UnlessMemory}
 use Rattle.brl_tool.specs.Verdicts.{AcceptsGood, Checks, IsAcceptance, IsFaultOfFile, IsRefusal, LacksBytes, Renders}
 use Rattle.brl_answers.specs.declared.answer.Answer.{Answer}
 use Rattle.brl_answers.specs.declared.run_fault.RunFault.{RunFault}
-use Rattle.brl_answers.specs.declared.run_fault.RunFault.TheVariants.{Load, Table, Stream, Confirm, Text, Wide, WouldOverwrite, OutputFailed, CannotWrite, Memory, BadLeftOut, NotDefined}
+use Rattle.brl_answers.specs.declared.run_fault.RunFault.TheVariants.{Load, Table, Wide, Memory, NotDefined}
 use Rattle.brl_without.specs.Tables.{IsUnambiguousWithout}
 use Rattle.brl_answers.proofs.Moved.{fault_moved, table_moved}
 
@@ -49,17 +49,7 @@ module _ (left_out : List ℕ) (gives after : FileAnswers) (same : Unchanged giv
   unless : (is : Answer → Type 0) (result : Result Answer RunFault) → UnlessMemory is result → ((answer : Answer) → is answer → Checks left_out gives path cert (Ok answer)) → Checks left_out gives path cert result
   unless is (Ok answer) h then = then answer h
   unless is (Err Memory) h then = inr (bytes, holds, tt)
-  unless is (Err (Load fault)) h then = absurd h
-  unless is (Err (Table fault)) h then = absurd h
-  unless is (Err (Stream fault)) h then = absurd h
-  unless is (Err (Confirm fault)) h then = absurd h
-  unless is (Err (Text fault)) h then = absurd h
-  unless is (Err (Wide fault)) h then = absurd h
-  unless is (Err (BadLeftOut named)) h then = absurd h
-  unless is (Err (NotDefined fault)) h then = absurd h
-  unless is (Err (WouldOverwrite named)) h then = absurd h
-  unless is (Err OutputFailed) h then = absurd h
-  unless is (Err (CannotWrite named)) h then = absurd h
+  unless is (Err fault) h then = absurd h
 
   -- a fault is answered as it is
   as_it_is : (fault : RunFault) (result : Result Answer RunFault) → Checks left_out gives path cert (Err fault) → result ≡ Err fault → Checks left_out gives path cert result
@@ -125,14 +115,5 @@ has_bytes left_out gives path cert fault h one bytes there short t table accepte
 
     by_fault : (fault : RunFault) → IsFaultOfFile gives cert fault → fault ≡ Memory
     by_fault (Load found) k = absurd (lacks found.kind k.2)
-    by_fault (Table fault) k = absurd k
-    by_fault (Stream fault) k = absurd k
-    by_fault (Confirm fault) k = absurd k
-    by_fault (Text fault) k = absurd k
-    by_fault (Wide fault) k = absurd k
-    by_fault (BadLeftOut named) k = absurd k
-    by_fault (NotDefined fault) k = absurd k
-    by_fault (WouldOverwrite named) k = absurd k
-    by_fault OutputFailed k = absurd k
-    by_fault (CannotWrite named) k = absurd k
     by_fault Memory k = refl
+    by_fault fault k = absurd k

@@ -1,269 +1,160 @@
 -- What the status says of what was delivered.
 use Rattle.std.proofs.Common.{◌≡◌, ◌≢◌, ◌∙◌, ℕ, suc, Bool, true, false, cond, List, [], ◌∷◌, All, arith, map, inl, inr, Option, None, Some, Result, Ok, Err, refl, subst, sym}
-use Rattle.std.specs.Io.KnownBytes.{Appends}
+use Rattle.std.specs.Option.{option_copied}
 use Rattle.std.specs.Prelude.{string_bytes}
+use Rattle.std.specs.Str.{chars}
 use Rattle.brl_cert.specs.Reading.{spelling}
 use Rattle.brl_states.specs.declared.cert.Cert.{Cert}
-use Rattle.brl_lines.specs.Answer.{Unchanged, FileAnswers}
-use Rattle.brl_lines.specs.Lines.{Answers}
+use Rattle.brl_lines.specs.Answer.{FileAnswers}
+use Rattle.brl_lines.specs.Lines.{Answers as Given}
 use Rattle.brl_lines.specs.Outcome.{AreGiven}
 use Rattle.brl_table.specs.Files.{IsTableOf, IsTableOfFiles}
-use Rattle.brl_search.specs.Searched.{State, certificate_of}
-use Rattle.brl_accept.specs.Judging.{IsAcceptedWithout, counted}
-use Rattle.brl_pairs.specs.Body.{BodyView}
+use Rattle.brl_search.specs.Searched.{certificate_of}
 use Rattle.brl_tool.proofs.OfFiles.{of_files}
 use Rattle.brl_rules.specs.TableView.{TableView}
 use Rattle.brl_answers.proofs.DeliveryLemmas.{none_changes}
-use Rattle.brl_tool.specs.Comparing.{ComparesByFile, IsComparison}
-use Rattle.brl_answers.specs.Answers.{ByLeftOut, with_left_out_line}
-use Rattle.brl_tool.specs.Verdicts.{Checks, IsFileOf, IsJudgement, Judges, SearchesByFile, accepted_line, certified_line}
-use Rattle.brl_answers.specs.Delivery.{Delivers}
+use Rattle.brl_tool.specs.Comparing.{IsComparison}
+use Rattle.brl_tool.specs.Verdicts.{IsFileOf, IsJudgement, Judges, SearchesByFile}
+use Rattle.brl_answers.specs.Answers.{ByLeftOut, spelled_by}
+use Rattle.brl_answers.specs.Delivery.{Delivers, World, KeepsFiles, Prints}
 use Rattle.brl_answers.specs.Files.{FilesAfter, GivesAlso, MayBeSame, OthersStay}
-use Rattle.brl_tool.specs.Running.{ReportsAcceptance, ReportsCertificate, ReportsClash, ReportsRefusal}
+use Rattle.brl_tool.specs.Running.{Answers, Asks, KeepsFilesUnlessSearched, MeansDone, MeansRefuted}
 use Rattle.brl_answers.specs.Status.{status_of}
-use Rattle.brl_tool.specs.Surveying.{SurveysByFiles}
-use Rattle.brl_tool.specs.Tracing.{TracesByFile}
 use Rattle.brl_answers.specs.declared.answer.Answer.{Answer}
 use Rattle.brl_answers.specs.declared.answer.NewFile.{NewFile}
 use Rattle.brl_answers.specs.declared.run_fault.RunFault.{RunFault}
-use Rattle.brl_answers.specs.declared.run_fault.RunFault.TheVariants.{Load, Table, Stream, Confirm, Text, Wide, WouldOverwrite, OutputFailed, CannotWrite, Memory, BadLeftOut, NotDefined}
+use Rattle.brl_answers.specs.declared.run_fault.RunFault.TheVariants.{Wide, Memory}
 use Rattle.brl_answers.specs.declared.status.Status.{Status}
 use Rattle.brl_answers.specs.declared.status.Status.TheVariants.{Done, Faulty, Refuted}
-use Rattle.brl_without.specs.Tables.{IsUnambiguousWithout}
+use Rattle.brl_cli.specs.declared.command.Question.{Question}
+use Rattle.brl_cli.specs.declared.command.Question.TheVariants as question
 
 -- ---- No fault has the status of work that was done
 
 never_done : (fault : RunFault) → status_of fault ≡ Done → ⊥
-never_done (Load fault) e = cc
-never_done (Table fault) e = cc
-never_done (Stream fault) e = cc
-never_done (Confirm fault) e = cc
-never_done (Text fault) e = cc
-never_done (Wide fault) e = cc
-never_done (BadLeftOut named) e = cc
-never_done (NotDefined fault) e = cc
-never_done (WouldOverwrite named) e = cc
-never_done OutputFailed e = cc
-never_done (CannotWrite named) e = cc
 never_done Memory e = cc
+never_done (Wide fault) e = cc
+never_done fault e = cc
 
 never_refuted : (fault : RunFault) → status_of fault ≡ Refuted → ⊥
-never_refuted (Load fault) e = cc
-never_refuted (Table fault) e = cc
-never_refuted (Stream fault) e = cc
-never_refuted (Confirm fault) e = cc
-never_refuted (Text fault) e = cc
-never_refuted (Wide fault) e = cc
-never_refuted (BadLeftOut named) e = cc
-never_refuted (NotDefined fault) e = cc
-never_refuted (WouldOverwrite named) e = cc
-never_refuted OutputFailed e = cc
-never_refuted (CannotWrite named) e = cc
 never_refuted Memory e = cc
+never_refuted (Wide fault) e = cc
+never_refuted fault e = cc
 
-module _ (before after : FileAnswers) (failed : Type 0) (old new : Option (List ℕ)) where
+unrefuted : (loaded : Bool) → cond loaded Done Faulty ≡ Refuted → ⊥
+unrefuted true e = cc
+unrefuted false e = cc
+
+-- what an option leaves out is known where there is an answer
+left_out_by : (option : Option (List ℕ)) (promises : List ℕ → Result Answer RunFault → Type 0) (answer : Answer) → ByLeftOut option promises (Ok answer)
+    → (left_out : List ℕ) × (spelled_by option ≡ Ok left_out) × promises left_out (Ok answer)
+left_out_by option promises answer is = elim is [
+  | inl known ↦ known
+  | inr (fault, e, bad) ↦ absurd cc
+]
+
+module _ (before after : World) (same_file : MayBeSame) where
   -- an answer with a status that no fault has was written whole
-  whole : (s : Status) → ((fault : RunFault) → status_of fault ≡ s → ⊥) → (outcome : Result Answer RunFault) (status : Status) → Delivers outcome before after failed old new status → status ≡ s
-      → (answer : Answer) × (outcome ≡ Ok answer) × (answer.status ≡ s) × FilesAfter before after answer.file × Appends old new (string_bytes answer.text)
-  whole s never (Ok answer) status (Ok written, (files, appends, is), e) same = (answer, refl, sym is ∙ (sym e ∙ same), files, appends)
+  whole : (s : Status) → ((fault : RunFault) → status_of fault ≡ s → ⊥) → (outcome : Result Answer RunFault) (status : Status) → Delivers outcome before after status → status ≡ s
+      → (answer : Answer) × (outcome ≡ Ok answer) × (answer.status ≡ s) × FilesAfter before.gives after.gives answer.file × Prints before after (string_bytes answer.text)
+  whole s never (Ok answer) status (Ok written, (files, prints, is), e) same = (answer, refl, sym is ∙ (sym e ∙ same), files, prints)
   whole s never (Ok answer) status (Err fault, writes, e) same = absurd (never fault (sym e ∙ same))
   whole s never (Err fault) status (stay, still, e) same = absurd (never fault (sym e ∙ same))
 
-  -- ---- `brl clash`
-
-  comparison_changes_none : (t : TableView) (left right : List ℕ) (answer : Answer) → IsComparison t left right answer → answer.file ≡ None
-  comparison_changes_none t left right answer is = elim is [
-    | inl (cells, clash, says) ↦ says.2
-    | inr (l, r, none, says) ↦ says.2
-  ]
-
-  pub compare_changes_none : (path left right : List ℕ) (outcome : Result Answer RunFault) (status : Status) → ComparesByFile before path left right outcome → Delivers outcome before after failed old new status → Unchanged before after
-  compare_changes_none path left right (Ok answer) status (t, table, is) (written, writes, e) =
-      none_changes before after answer failed old new written (comparison_changes_none t left right answer is) writes
-  compare_changes_none path left right (Err fault) status is (stay, still, e) = stay
-
-  clash_said : (path left right : List ℕ) (answer : Answer) → ComparesByFile before path left right (Ok answer) → answer.status ≡ Refuted → Appends old new (string_bytes answer.text) → ReportsClash before old new
-  clash_said path left right answer (t, table, is) refuted appends = elim is [
-    | inl (cells, clash, says) ↦ (path, left, right, cells, t, table, clash, subst (Appends old new) says.1 appends)
-    | inr (l, r, none, says) ↦ let e = sym says.0 ∙ refuted in cc
-  ]
-
-  pub clash_at_refuted : (path left right : List ℕ) (outcome : Result Answer RunFault) (status : Status) → ComparesByFile before path left right outcome → Delivers outcome before after failed old new status → status ≡ Refuted → ReportsClash before old new
-  clash_at_refuted path left right outcome status is delivers same =
-      let (answer, ok, refuted, files, appends) = whole Refuted never_refuted outcome status delivers same in
-      clash_said path left right answer (subst (ComparesByFile before path left right) ok is) refuted appends
-
   -- ---- A file that is written
 
-  file_written : (cert : Cert) (out : List ℕ) (file : Option NewFile) → IsFileOf cert out file → FilesAfter before after file → GivesAlso after out (spelling cert) × OthersStay before after out
+  file_written : (cert : Cert) (out : List ℕ) (file : Option NewFile) → IsFileOf cert out file → FilesAfter before.gives after.gives file → GivesAlso after.gives out (spelling cert) × OthersStay before.gives after.gives out
   file_written cert out None is files = absurd is
   file_written cert out (Some file) (path, bytes) (gives, others) =
-      (subst (λ (p : List ℕ). GivesAlso after p (spelling cert)) path (subst (GivesAlso after (string_bytes file.path)) bytes gives), subst (OthersStay before after) path others)
+      (subst (λ (p : List ℕ). GivesAlso after.gives p (spelling cert)) path (subst (GivesAlso after.gives (string_bytes file.path)) bytes gives), subst (OthersStay before.gives after.gives) path others)
 
   -- answers for other files are given after a file is written
-  answers_stay : (out : List ℕ) → OthersStay before after out → (answers : Answers) → All (λ one. one ≢ out) (map (λ entry. entry.0) answers) → AreGiven before answers → AreGiven after answers
+  answers_stay : (out : List ℕ) → OthersStay before.gives after.gives out → (answers : Given) → All (λ one. one ≢ out) (map (λ entry. entry.0) answers) → AreGiven before.gives answers → AreGiven after.gives answers
   answers_stay out others [] apart given = tt
   answers_stay out others (entry ∷ answers) apart given =
       ((others entry.0 entry.1 (apart 0 [] (omega arith))).1 given.0, answers_stay out others answers (λ k d l. apart (suc k) d (omega arith)) given.1)
 
   -- a table stays where a file is written that is none of its files
-  table_stays : (path out : List ℕ) (paths : List (List ℕ)) (t : TableView) → IsTableOfFiles before path paths t → All (λ one. one ≢ out) paths → OthersStay before after out → IsTableOf after path t
+  table_stays : (path out : List ℕ) (paths : List (List ℕ)) (t : TableView) → IsTableOfFiles before.gives path paths t → All (λ one. one ≢ out) paths → OthersStay before.gives after.gives out → IsTableOf after.gives path t
   table_stays path out paths t (lines, (answers, given, are, lines_are), passes, is) apart others =
       (lines, (answers, answers_stay out others answers (subst (All (λ one. one ≢ out)) (sym are) apart) given, lines_are), passes, is)
 
-  module _ (left_out : List ℕ) where
-    -- ---- `brl check`
+  -- ---- What an answer means that was written whole
 
-    -- an acceptance was written without these characters
-    abbrev Accepts : List ℕ → Type 0
-    Accepts path = ((t : TableView) × IsTableOf before path t × IsUnambiguousWithout left_out t) × ((states pairs : ℕ) × Appends old new (with_left_out_line left_out (accepted_line states pairs)))
+  abbrev Means : Question → Answer → Type 0
+  Means asked answer = FilesAfter before.gives after.gives answer.file → Prints before after (string_bytes answer.text)
+      → (answer.status ≡ Done → MeansDone asked before after) × (answer.status ≡ Refuted → MeansRefuted asked before after × KeepsFiles before after)
 
-    judgement_changes_none : (path bytes : List ℕ) (answer : Answer) → IsJudgement left_out before path bytes answer → answer.file ≡ None
-    judgement_changes_none path bytes answer is = elim is [
-      | inl (t, table, none, (accepted, deserved, says)) ↦ says.2
-      | inr (fault, of, refused, (rest, says)) ↦ says.2
-    ]
+  abbrev IsAnswerTo : Question → Answer → Type 0
+  IsAnswerTo asked answer = Answers asked before.gives same_file (Ok answer)
 
-    check_changes_none : (path cert : List ℕ) (outcome : Result Answer RunFault) (status : Status) → Checks left_out before path cert outcome → Delivers outcome before after failed old new status → Unchanged before after
-    check_changes_none path cert (Ok answer) status (bytes, holds, is) (written, writes, e) =
-        none_changes before after answer failed old new written (judgement_changes_none path bytes answer is) writes
-    check_changes_none path cert (Err fault) status is (stay, still, e) = stay
+  means : (asked : Question) (answer : Answer) → IsAnswerTo asked answer → Means asked answer
+  means (question.Clash path left right) answer (t, table, is) files prints = elim is [
+    | inl (cells, clash, says) ↦
+        ((λ done. tt), (λ refuted. ((path.now, chars left.now, chars right.now, cells, t, table, clash, subst (Prints before after) says.1 prints), subst (FilesAfter before.gives after.gives) says.2 files)))
+    | inr (l, r, none, says) ↦ ((λ done. tt), (λ refuted. let e = sym says.0 ∙ refuted in cc))
+  ]
+  means (question.Survey paths) answer (parts, named, are, says) files prints = ((λ done. tt), (λ refuted. absurd (unrefuted _ (sym says.0 ∙ refuted))))
+  means (question.Trace path text) answer (t, table, (known, says)) files prints = ((λ done. tt), (λ refuted. let e = sym says.0 ∙ refuted in cc))
+  means (question.Check path cert option) answer is files prints =
+      let (left_out, spelled, judges) = left_out_by (option_copied option) (λ left_out. Judges left_out before.gives path.now cert.now) answer is in
+      let (bytes, holds, judged) = judges.checks in
+      elim judged [
+        | inl (t, table, none, (accepted, deserved, says)) ↦
+            ((λ done. (left_out, spelled, (t, table, none), (accepted.states, accepted.pairs, subst (Prints before after) says.1 prints))), (λ refuted. let e = sym says.0 ∙ refuted in cc))
+        | inr (fault, of, refused, (rest, says)) ↦
+            ((λ done. let e = sym says.0 ∙ done in cc), (λ refuted. ((rest, subst (Prints before after) says.1 prints), subst (FilesAfter before.gives after.gives) says.2 files)))
+      ]
+  means (question.Search path out limit option) answer is files prints =
+      let (left_out, spelled, searched) = left_out_by (option_copied option) (λ left_out. SearchesByFile left_out before.gives same_file path.now out.now limit) answer is in
+      let (paths, t, table, apart, verdict) = searched in
+      elim verdict [
+        | inl (none, (body, certified, accepted, (status, text, file, read))) ↦ (
+          (λ done. let (gives, others) = file_written (certificate_of body) out.now answer.file file files in
+              (left_out, spelled, t, of_files before.gives path.now paths t table, none, (body, accepted, gives, others, table_stays path.now out.now paths t table apart others, subst (Prints before after) text prints))),
+          (λ refuted. let e = sym status ∙ refuted in cc),
+        )
+        | inr (inl (left, right, cells, clash, says)) ↦ (
+          (λ done. let e = sym says.0 ∙ done in cc),
+          (λ refuted. ((path.now, left, right, cells, t, of_files before.gives path.now paths t table, clash.clash, subst (Prints before after) says.1 prints), subst (FilesAfter before.gives after.gives) says.2 files)),
+        )
+        | inr (inr (states, pairs, limit_is, says)) ↦ ((λ done. let e = sym says.0 ∙ done in cc), (λ refuted. let e = sym says.0 ∙ refuted in cc))
+      ]
 
-    acceptance_said : (path cert : List ℕ) (answer : Answer) → Checks left_out before path cert (Ok answer) → answer.status ≡ Done → Appends old new (string_bytes answer.text) → Accepts path
-    acceptance_said path cert answer (bytes, holds, is) done appends = elim is [
-      | inl (t, table, none, (accepted, deserved, says)) ↦ ((t, table, none), (accepted.states, accepted.pairs, subst (Appends old new) says.1 appends))
-      | inr (fault, of, refused, (rest, says)) ↦ let e = sym says.0 ∙ done in cc
-    ]
+  -- ---- Only a search has a file to write
 
-    refusal_said : (path cert : List ℕ) (answer : Answer) → Checks left_out before path cert (Ok answer) → answer.status ≡ Refuted → Appends old new (string_bytes answer.text) → ReportsRefusal old new
-    refusal_said path cert answer (bytes, holds, is) refuted appends = elim is [
-      | inl (t, table, none, (accepted, deserved, says)) ↦ let e = sym says.0 ∙ refuted in cc
-      | inr (fault, of, refused, (rest, says)) ↦ (rest, subst (Appends old new) says.1 appends)
-    ]
-
-    accepted_at_done : (path cert : List ℕ) (outcome : Result Answer RunFault) (status : Status) → Checks left_out before path cert outcome → Delivers outcome before after failed old new status → status ≡ Done → Accepts path
-    accepted_at_done path cert outcome status is delivers same =
-        let (answer, ok, done, files, appends) = whole Done never_done outcome status delivers same in
-        acceptance_said path cert answer (subst (Checks left_out before path cert) ok is) done appends
-
-    refused_at_refuted : (path cert : List ℕ) (outcome : Result Answer RunFault) (status : Status) → Checks left_out before path cert outcome → Delivers outcome before after failed old new status → status ≡ Refuted → ReportsRefusal old new
-    refused_at_refuted path cert outcome status is delivers same =
-        let (answer, ok, refuted, files, appends) = whole Refuted never_refuted outcome status delivers same in
-        refusal_said path cert answer (subst (Checks left_out before path cert) ok is) refuted appends
-
-    -- ---- `brl search`
-
-    -- a certificate was written without these characters
-    abbrev Certifies : List ℕ → List ℕ → Type 0
-    Certifies path out =
-        (t : TableView) × IsTableOf before path t × IsUnambiguousWithout left_out t
-        × ((body : BodyView State) × IsAcceptedWithout left_out t (spelling (certificate_of body)) (counted (certificate_of body))
-        × GivesAlso after out (spelling (certificate_of body)) × OthersStay before after out × IsTableOf after path t
-        × Appends old new (with_left_out_line left_out (certified_line (certificate_of body))))
-
-    certificate_said : (same_file : MayBeSame) (path out : List ℕ) (limit : ℕ) (answer : Answer) → SearchesByFile left_out before same_file path out limit (Ok answer) → answer.status ≡ Done → FilesAfter before after answer.file → Appends old new (string_bytes answer.text) → Certifies path out
-    certificate_said same_file path out limit answer (paths, t, table, apart, is) done files appends = elim is [
-      | inl (none, (body, certified, accepted, (status, text, file, read))) ↦
-          let (gives, others) = file_written (certificate_of body) out answer.file file files in
-          (t, of_files before path paths t table, none, (body, accepted, gives, others, table_stays path out paths t table apart others, subst (Appends old new) text appends))
-      | inr (inl (left, right, cells, clash, says)) ↦ let e = sym says.0 ∙ done in cc
-      | inr (inr (states, pairs, limit_is, says)) ↦ let e = sym says.0 ∙ done in cc
-    ]
-
-    clash_found : (same_file : MayBeSame) (path out : List ℕ) (limit : ℕ) (answer : Answer) → SearchesByFile left_out before same_file path out limit (Ok answer) → answer.status ≡ Refuted → FilesAfter before after answer.file → Appends old new (string_bytes answer.text)
-        → ReportsClash before old new × Unchanged before after
-    clash_found same_file path out limit answer (paths, t, table, apart, is) refuted files appends = elim is [
-      | inl (none, (body, certified, accepted, (status, text, file, read))) ↦ let e = sym status ∙ refuted in cc
-      | inr (inl (left, right, cells, clash, says)) ↦ ((path, left, right, cells, t, of_files before path paths t table, clash.clash, subst (Appends old new) says.1 appends), subst (FilesAfter before after) says.2 files)
-      | inr (inr (states, pairs, limit_is, says)) ↦ let e = sym says.0 ∙ refuted in cc
-    ]
-
-    certified_at_done : (same_file : MayBeSame) (path out : List ℕ) (limit : ℕ) (outcome : Result Answer RunFault) (status : Status) → SearchesByFile left_out before same_file path out limit outcome → Delivers outcome before after failed old new status → status ≡ Done → Certifies path out
-    certified_at_done same_file path out limit outcome status is delivers same =
-        let (answer, ok, done, files, appends) = whole Done never_done outcome status delivers same in
-        certificate_said same_file path out limit answer (subst (SearchesByFile left_out before same_file path out limit) ok is) done files appends
-
-    found_at_refuted : (same_file : MayBeSame) (path out : List ℕ) (limit : ℕ) (outcome : Result Answer RunFault) (status : Status) → SearchesByFile left_out before same_file path out limit outcome → Delivers outcome before after failed old new status → status ≡ Refuted
-        → ReportsClash before old new × Unchanged before after
-    found_at_refuted same_file path out limit outcome status is delivers same =
-        let (answer, ok, refuted, files, appends) = whole Refuted never_refuted outcome status delivers same in
-        clash_found same_file path out limit answer (subst (SearchesByFile left_out before same_file path out limit) ok is) refuted files appends
-
-  -- ---- What an option leaves out
-
-  -- a fault of the option has no status that no fault has
-  no_option : (s : Status) → ((fault : RunFault) → status_of fault ≡ s → ⊥) → (outcome : Result Answer RunFault) (status : Status) (fault : RunFault) → outcome ≡ Err fault → Delivers outcome before after failed old new status → status ≡ s → ⊥
-  no_option s never outcome status fault is delivers same =
-      let (stay, still, e) = subst (λ (o : Result Answer RunFault). Delivers o before after failed old new status) is delivers in
-      never fault (sym e ∙ same)
-
-  pub accepted_by : (option : Option (List ℕ)) (path cert : List ℕ) (outcome : Result Answer RunFault) (status : Status) → ByLeftOut option (λ left_out. Judges left_out before path cert) outcome → Delivers outcome before after failed old new status → status ≡ Done → ReportsAcceptance before path option old new
-  accepted_by option path cert outcome status is delivers same = elim is [
-    | inl (left_out, spelled, judges) ↦
-        let (table, line) = accepted_at_done left_out path cert outcome status judges.checks delivers same in
-        (left_out, spelled, table, line)
-    | inr (fault, e, bad) ↦ absurd (no_option Done never_done outcome status fault e delivers same)
+  comparison_has_none : (t : TableView) (left right : List ℕ) (answer : Answer) → IsComparison t left right answer → answer.file ≡ None
+  comparison_has_none t left right answer is = elim is [
+    | inl (cells, clash, says) ↦ says.2
+    | inr (l, r, none, says) ↦ says.2
   ]
 
-  pub refused_by : (option : Option (List ℕ)) (path cert : List ℕ) (outcome : Result Answer RunFault) (status : Status) → ByLeftOut option (λ left_out. Judges left_out before path cert) outcome → Delivers outcome before after failed old new status → status ≡ Refuted → ReportsRefusal old new
-  refused_by option path cert outcome status is delivers same = elim is [
-    | inl (left_out, spelled, judges) ↦ refused_at_refuted left_out path cert outcome status judges.checks delivers same
-    | inr (fault, e, bad) ↦ absurd (no_option Refuted never_refuted outcome status fault e delivers same)
+  judgement_has_none : (left_out path bytes : List ℕ) (answer : Answer) → IsJudgement left_out before.gives path bytes answer → answer.file ≡ None
+  judgement_has_none left_out path bytes answer is = elim is [
+    | inl (t, table, none, (accepted, deserved, says)) ↦ says.2
+    | inr (fault, of, refused, (rest, says)) ↦ says.2
   ]
 
-  -- a fault changes no file
-  stays_at_fault : (outcome : Result Answer RunFault) (status : Status) (fault : RunFault) → outcome ≡ Err fault → Delivers outcome before after failed old new status → Unchanged before after
-  stays_at_fault outcome status fault is delivers = (subst (λ (o : Result Answer RunFault). Delivers o before after failed old new status) is delivers).0
+  keeps : (asked : Question) (outcome : Result Answer RunFault) (status : Status) → Answers asked before.gives same_file outcome → Delivers outcome before after status → KeepsFilesUnlessSearched asked before after
+  keeps (question.Search path out limit option) outcome status is delivers = tt
+  keeps (question.Clash path left right) (Ok answer) status (t, table, is) (written, writes, e) =
+      none_changes before after answer written (comparison_has_none t (chars left.now) (chars right.now) answer is) writes
+  keeps (question.Survey paths) (Ok answer) status (parts, named, are, says) (written, writes, e) = none_changes before after answer written says.2 writes
+  keeps (question.Trace path text) (Ok answer) status (t, table, (known, says)) (written, writes, e) = none_changes before after answer written says.2 writes
+  keeps (question.Check path cert option) (Ok answer) status is (written, writes, e) =
+      let (left_out, spelled, judges) = left_out_by (option_copied option) (λ left_out. Judges left_out before.gives path.now cert.now) answer is in
+      none_changes before after answer written (judgement_has_none left_out path.now judges.checks.0 answer judges.checks.2) writes
+  keeps asked (Err fault) status is (stay, still, e) = stay
 
-  pub check_stays : (option : Option (List ℕ)) (path cert : List ℕ) (outcome : Result Answer RunFault) (status : Status) → ByLeftOut option (λ left_out. Judges left_out before path cert) outcome → Delivers outcome before after failed old new status → Unchanged before after
-  check_stays option path cert outcome status is delivers = elim is [
-    | inl (left_out, spelled, judges) ↦ check_changes_none left_out path cert outcome status judges.checks delivers
-    | inr (fault, e, bad) ↦ stays_at_fault outcome status fault e delivers
-  ]
-
-  pub certified_by : (option : Option (List ℕ)) (same_file : MayBeSame) (path out : List ℕ) (limit : ℕ) (outcome : Result Answer RunFault) (status : Status) → ByLeftOut option (λ left_out. SearchesByFile left_out before same_file path out limit) outcome → Delivers outcome before after failed old new status → status ≡ Done → ReportsCertificate before after path out option old new
-  certified_by option same_file path out limit outcome status is delivers same = elim is [
-    | inl (left_out, spelled, searched) ↦
-        let (t, table, none, more) = certified_at_done left_out same_file path out limit outcome status searched delivers same in
-        (left_out, spelled, t, table, none, more)
-    | inr (fault, e, bad) ↦ absurd (no_option Done never_done outcome status fault e delivers same)
-  ]
-
-  pub found_by : (option : Option (List ℕ)) (same_file : MayBeSame) (path out : List ℕ) (limit : ℕ) (outcome : Result Answer RunFault) (status : Status) → ByLeftOut option (λ left_out. SearchesByFile left_out before same_file path out limit) outcome → Delivers outcome before after failed old new status → status ≡ Refuted
-      → ReportsClash before old new × Unchanged before after
-  found_by option same_file path out limit outcome status is delivers same = elim is [
-    | inl (left_out, spelled, searched) ↦ found_at_refuted left_out same_file path out limit outcome status searched delivers same
-    | inr (fault, e, bad) ↦ absurd (no_option Refuted never_refuted outcome status fault e delivers same)
-  ]
-
-  -- ---- `brl survey`
-
-  pub survey_changes_none : (paths : List (List ℕ)) (outcome : Result Answer RunFault) (status : Status) → SurveysByFiles before paths outcome → Delivers outcome before after failed old new status → Unchanged before after
-  survey_changes_none paths (Ok answer) status (parts, named, are, says) (written, writes, e) = none_changes before after answer failed old new written says.2 writes
-  survey_changes_none paths (Err fault) status is (stay, still, e) = stay
-
-  unrefuted : (loaded : Bool) → cond loaded Done Faulty ≡ Refuted → ⊥
-  unrefuted true e = cc
-  unrefuted false e = cc
-
-  survey_said : (paths : List (List ℕ)) (answer : Answer) → SurveysByFiles before paths (Ok answer) → answer.status ≡ Refuted → ⊥
-  survey_said paths answer (parts, named, are, says) refuted = unrefuted _ (sym says.0 ∙ refuted)
-
-  pub survey_unrefuted : (paths : List (List ℕ)) (outcome : Result Answer RunFault) (status : Status) → SurveysByFiles before paths outcome → Delivers outcome before after failed old new status → status ≡ Refuted → ⊥
-  survey_unrefuted paths outcome status is delivers same =
-      let (answer, ok, refuted, files, appends) = whole Refuted never_refuted outcome status delivers same in
-      survey_said paths answer (subst (SurveysByFiles before paths) ok is) refuted
-
-  -- ---- `brl trace`
-
-  pub trace_changes_none : (path text : List ℕ) (outcome : Result Answer RunFault) (status : Status) → TracesByFile before path text outcome → Delivers outcome before after failed old new status → Unchanged before after
-  trace_changes_none path text (Ok answer) status (t, table, (known, says)) (written, writes, e) = none_changes before after answer failed old new written says.2 writes
-  trace_changes_none path text (Err fault) status is (stay, still, e) = stay
-
-  trace_said : (path text : List ℕ) (answer : Answer) → TracesByFile before path text (Ok answer) → answer.status ≡ Refuted → ⊥
-  trace_said path text answer (t, table, (known, says)) refuted = let e = sym says.0 ∙ refuted in cc
-
-  pub trace_unrefuted : (path text : List ℕ) (outcome : Result Answer RunFault) (status : Status) → TracesByFile before path text outcome → Delivers outcome before after failed old new status → status ≡ Refuted → ⊥
-  trace_unrefuted path text outcome status is delivers same =
-      let (answer, ok, refuted, files, appends) = whole Refuted never_refuted outcome status delivers same in
-      trace_said path text answer (subst (TracesByFile before path text) ok is) refuted
+  -- the answer to a question was delivered
+  pub asks : (asked : Question) (outcome : Result Answer RunFault) (status : Status) → Answers asked before.gives same_file outcome → Delivers outcome before after status → Asks asked same_file before after status
+  asks asked outcome status is delivers = record {
+    delivered = (outcome, is, delivers);
+    files = keeps asked outcome status is delivers;
+    done = λ same.
+        let (answer, ok, done, files, prints) = whole Done never_done outcome status delivers same in
+        (means asked answer (subst (Answers asked before.gives same_file) ok is) files prints).0 done;
+    refuted = λ same.
+        let (answer, ok, refuted, files, prints) = whole Refuted never_refuted outcome status delivers same in
+        (means asked answer (subst (Answers asked before.gives same_file) ok is) files prints).1 refuted;
+  }

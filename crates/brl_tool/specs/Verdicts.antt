@@ -91,7 +91,7 @@ Checks left_out gives path cert (Err fault) =
 -- what is answered for each outcome of the judge
 abbrev pub Renders : List ℕ → Result Accepted (Failure JudgeFault) → Result Answer RunFault → Type 0
 Renders left_out (Ok accepted) outcome = UnlessMemory (IsAcceptance left_out accepted) outcome
-Renders left_out (Err (failures.Fault (judge.NoTable fault))) outcome = outcome ≡ Err (of_no_table (failures.Fault fault))
+Renders left_out (Err (failures.Fault (judge.NoTable fault))) outcome = outcome ≡ Err (of_no_table fault)
 Renders left_out (Err (failures.Fault (judge.NotDefined fault))) outcome = outcome ≡ Err (NotDefined fault)
 Renders left_out (Err (failures.Fault (judge.Wide fault))) outcome = outcome ≡ Err (Wide fault)
 Renders left_out (Err (failures.Fault fault)) outcome = UnlessMemory IsRefusal outcome

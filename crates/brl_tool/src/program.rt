@@ -1,10 +1,8 @@
 //! The program over any files and streams.
-ghost use Rattle.std.specs.Prelude.{◌≡◌, ◌≢◌, ◌⊎◌, map};
-ghost use Rattle.std.specs.Option.{option_copied};
-ghost use Rattle.std.specs.Str.{chars};
+ghost use Rattle.std.specs.Prelude.{◌≡◌, ◌≢◌, ◌⊎◌};
 ghost use Rattle.brl_lines.specs.Answer.{Unchanged};
-ghost use Rattle.brl_tool.specs.Running.{ChecksBy, ComparesBy, IsHelp, IsStatus, Performs, Replies, ReportsAcceptance, ReportsCertificate, ReportsClash, ReportsRefusal, Runs, SearchesBy, SurveysBy, TracesBy, TranslatesBy};
-ghost use Rattle.brl_answers.specs.declared.status.Status.TheVariants as statuses;
+ghost use Rattle.brl_answers.specs.Delivery.{world};
+ghost use Rattle.brl_tool.specs.Running.{Answers, Asks, IsHelp, IsStatus, Performs, Replies, ReportsClash, ReportsRefusal, Runs, Translates};
 
 use crate::check::check_by_words;
 use crate::clash::compare_by_file;
@@ -14,7 +12,7 @@ use crate::trace::trace_by_file;
 use crate::translate::translate_by_file;
 use crate::{Files, Form, Input, Output};
 use brl_answers::{Answer, RunFault, Status, deliver, set_apart};
-use brl_cli::{NotATask, Task, task_of};
+use brl_cli::{NotATask, Question, Task, task_of};
 use brl_progress::Progress;
 use std::alloc::Global;
 use std::io::Write;
@@ -45,10 +43,11 @@ pub fn run<F: Files, I: Input, O: Output, E: Write + Progress>(
     err: &mut E,
 ) -> u8
     ensures status { IsStatus result }
-    ensures runs { Runs (F.gives files.old) (F.gives files.new) F.same_file (I.remaining input.old)
-        (O.failures out.new ≢ O.failures out.old) (O.contents out.old) (O.contents out.new) result }
-    ensures clash { result ≡ 1 → ReportsClash (F.gives files.old) (O.contents out.old) (O.contents out.new)
-        ⊎ ReportsRefusal (O.contents out.old) (O.contents out.new) }
+    ensures runs { Runs F.same_file (I.remaining input.old) (world (F.gives files.old) (O.failures out.old) (O.contents out.old))
+        (world (F.gives files.new) (O.failures out.new) (O.contents out.new)) result }
+    ensures clash { let before = world (F.gives files.old) (O.failures out.old) (O.contents out.old) in
+        let after = world (F.gives files.new) (O.failures out.new) (O.contents out.new) in
+        result ≡ 1 → ReportsClash before after ⊎ ReportsRefusal before after }
     ensures same { result ≡ 1 → Unchanged (F.gives files.old) (F.gives files.new) }
 {
     match task_of(alloc, words) {
@@ -66,28 +65,12 @@ fn perform<F: Files, I: Input, O: Output, E: Write + Progress>(
     out: &mut O,
     err: &mut E,
 ) -> Status
-    ensures performs { Performs task.entry (F.gives files.old) (F.gives files.new) F.same_file (I.remaining input.old)
-        (O.failures out.new ≢ O.failures out.old) (O.contents out.old) (O.contents out.new) result }
-    ensures clash { result ≡ statuses.Refuted → ReportsClash (F.gives files.old) (O.contents out.old) (O.contents out.new)
-        ⊎ ReportsRefusal (O.contents out.old) (O.contents out.new) }
-    ensures same { result ≡ statuses.Refuted → Unchanged (F.gives files.old) (F.gives files.new) }
+    ensures { Performs task.entry F.same_file (I.remaining input.old) (world (F.gives files.old) (O.failures out.old) (O.contents out.old))
+        (world (F.gives files.new) (O.failures out.new) (O.contents out.new)) result }
 {
     match task {
         Task::Translate { table, form } => translate(alloc, files, table, form, input, out, err),
-        Task::Clash { table, left, right } => compare(alloc, files, table, left, right, out, err),
-        Task::Survey { tables } => survey(alloc, files, tables.as_slice(), out, err),
-        Task::Trace { table, text } => trace(alloc, files, table, text, out, err),
-        Task::Check {
-            table,
-            cert,
-            without,
-        } => check(alloc, files, table, cert, without, out, err),
-        Task::Search {
-            table,
-            cert,
-            limit,
-            without,
-        } => search(alloc, files, table, cert, limit, without, out, err),
+        Task::Ask(question) => ask(alloc, question, files, out, err),
     }
 }
 
@@ -101,9 +84,8 @@ fn translate<F: Files, I: Input, O: Output, E: Write>(
     out: &mut O,
     err: &mut E,
 ) -> Status
-    ensures translates { TranslatesBy (F.gives files.old) table.now form (I.remaining input.old) (O.contents out.old)
-        (O.contents out.new) result }
-    ensures same { Unchanged (F.gives files.old) (F.gives files.new) }
+    ensures { Translates table.now form (I.remaining input.old) (world (F.gives files.old) (O.failures out.old) (O.contents out.old))
+        (world (F.gives files.new) (O.failures out.new) (O.contents out.new)) result }
 {
     match translate_by_file(alloc, files, table, form, input, out) {
         Ok(()) => Status::Done,
@@ -111,109 +93,48 @@ fn translate<F: Files, I: Input, O: Output, E: Write>(
     }
 }
 
-/// `brl clash`.
-fn compare<F: Files, O: Output, E: Write>(
+/// Answers a question, and delivers the answer. The work has ended before that.
+fn ask<F: Files, O: Output, E: Write + Progress>(
     alloc: Global,
+    question: Question<'_>,
     files: &mut F,
-    table: &str,
-    left: &str,
-    right: &str,
     out: &mut O,
     err: &mut E,
 ) -> Status
-    ensures compares { ComparesBy (F.gives files.old) (F.gives files.new) table.now (chars left.now) (chars right.now)
-        (O.failures out.new ≢ O.failures out.old) (O.contents out.old) (O.contents out.new) result }
-    ensures clash { result ≡ statuses.Refuted → ReportsClash (F.gives files.old) (O.contents out.old) (O.contents out.new) }
-    ensures same { Unchanged (F.gives files.old) (F.gives files.new) }
+    ensures { Asks question.entry F.same_file (world (F.gives files.old) (O.failures out.old) (O.contents out.old))
+        (world (F.gives files.new) (O.failures out.new) (O.contents out.new)) result }
 {
-    let answer = compare_by_file(alloc, files, table, left, right);
-    deliver(alloc, answer, files, out, err)
-}
-
-/// `brl check`.
-fn check<F: Files, O: Output, E: Write + Progress>(
-    alloc: Global,
-    files: &mut F,
-    table: &str,
-    cert: &str,
-    without: Option<&str>,
-    out: &mut O,
-    err: &mut E,
-) -> Status
-    ensures checks { ChecksBy (F.gives files.old) (F.gives files.new) table.now cert.now (option_copied without.entry)
-        (O.failures out.new ≢ O.failures out.old) (O.contents out.old) (O.contents out.new) result }
-    // Where it accepts, no two different texts of the table that use no character that is left out are
-    // translated to the same cells.
-    ensures accepted { result ≡ statuses.Done → ReportsAcceptance (F.gives files.old) table.now (option_copied without.entry)
-        (O.contents out.old) (O.contents out.new) }
-    ensures refused { result ≡ statuses.Refuted → ReportsRefusal (O.contents out.old) (O.contents out.new) }
-    ensures same { Unchanged (F.gives files.old) (F.gives files.new) }
-{
-    let answer = check_by_words(alloc, files, table, cert, without, err);
+    let outcome = answer(alloc, question, files, err);
     err.end();
-    deliver(alloc, answer, files, out, err)
+    deliver(alloc, outcome, files, out, err)
 }
 
-/// `brl search`.
-fn search<F: Files, O: Output, E: Write + Progress>(
+/// The answer to a question.
+fn answer<F: Files, E: Write + Progress>(
     alloc: Global,
+    question: Question<'_>,
     files: &mut F,
-    table: &str,
-    cert: &str,
-    limit: u32,
-    without: Option<&str>,
-    out: &mut O,
     err: &mut E,
-) -> Status
-    ensures searches { SearchesBy (F.gives files.old) (F.gives files.new) F.same_file table.now cert.now limit (option_copied without.entry)
-        (O.failures out.new ≢ O.failures out.old) (O.contents out.old) (O.contents out.new) result }
-    // Where it finds a certificate, no two texts of the table that use no character that is left out
-    // clash, the certificate is written, and the table's files stay.
-    ensures certified { result ≡ statuses.Done → ReportsCertificate (F.gives files.old) (F.gives files.new) table.now cert.now
-        (option_copied without.entry) (O.contents out.old) (O.contents out.new) }
-    ensures clash { result ≡ statuses.Refuted → ReportsClash (F.gives files.old) (O.contents out.old) (O.contents out.new) }
-    // Where two texts clash, no file is written.
-    ensures same { result ≡ statuses.Refuted → Unchanged (F.gives files.old) (F.gives files.new) }
-{
-    let answer = search_by_words(alloc, files, table, cert, limit, without, err);
-    err.end();
-    deliver(alloc, answer, files, out, err)
-}
-
-/// `brl survey`.
-fn survey<F: Files, O: Output, E: Write>(
-    alloc: Global,
-    files: &mut F,
-    tables: &[&str],
-    out: &mut O,
-    err: &mut E,
-) -> Status
-    ensures surveys { SurveysBy (F.gives files.old) (F.gives files.new) (map (λ path. path.now) tables.now)
-        (O.failures out.new ≢ O.failures out.old) (O.contents out.old) (O.contents out.new) result }
-    // It gives no verdict.
-    ensures verdict { result ≢ statuses.Refuted }
+) -> Result<Answer, RunFault>
+    ensures answers { Answers question.entry (F.gives files.old) F.same_file result }
     ensures same { Unchanged (F.gives files.old) (F.gives files.new) }
 {
-    let answer = survey_by_files(alloc, files, tables, err);
-    deliver(alloc, answer, files, out, err)
-}
-
-/// `brl trace`.
-fn trace<F: Files, O: Output, E: Write>(
-    alloc: Global,
-    files: &mut F,
-    table: &str,
-    text: &str,
-    out: &mut O,
-    err: &mut E,
-) -> Status
-    ensures traces { TracesBy (F.gives files.old) (F.gives files.new) table.now (chars text.now)
-        (O.failures out.new ≢ O.failures out.old) (O.contents out.old) (O.contents out.new) result }
-    ensures verdict { result ≢ statuses.Refuted }
-    ensures same { Unchanged (F.gives files.old) (F.gives files.new) }
-{
-    let answer = trace_by_file(alloc, files, table, text);
-    deliver(alloc, answer, files, out, err)
+    match question {
+        Question::Clash { table, left, right } => compare_by_file(alloc, files, table, left, right),
+        Question::Survey { tables } => survey_by_files(alloc, files, tables.as_slice(), err),
+        Question::Trace { table, text } => trace_by_file(alloc, files, table, text),
+        Question::Check {
+            table,
+            cert,
+            without,
+        } => check_by_words(alloc, files, table, cert, without, err),
+        Question::Search {
+            table,
+            cert,
+            limit,
+            without,
+        } => search_by_words(alloc, files, table, cert, limit, without, err),
+    }
 }
 
 /// Answers words that ask for no work: help and the version go to standard output, a use fault to
@@ -225,8 +146,8 @@ fn answer_words<F: Files, O: Output, E: Write>(
     out: &mut O,
     err: &mut E,
 ) -> Status
-    ensures { Replies reply.now (F.gives files.old) (F.gives files.new) (O.failures out.new ≢ O.failures out.old)
-        (O.contents out.old) (O.contents out.new) result }
+    ensures { Replies reply.now (world (F.gives files.old) (O.failures out.old) (O.contents out.old))
+        (world (F.gives files.new) (O.failures out.new) (O.contents out.new)) result }
 {
     if reply.is_fault() {
         let _ = write!(err, "{reply}");

@@ -13,14 +13,13 @@ use brl_answers::{
     Answer, Files, NewFile, RunFault, Status, counts_text, left_out_of, with_left_out_line,
 };
 use brl_cert::write_cert;
-use brl_failure::raise;
 use brl_lines::{Loaded, load};
 use brl_progress::Progress;
 use brl_report::report;
 use brl_rules::Table;
 use brl_search::{Found, search_with};
 use brl_states::Cert;
-use brl_table::{NoTable, table_of_loaded};
+use brl_table::table_of_loaded;
 use brl_without::{LeftOut, Scope, check_defined};
 use std::alloc::{AllocError, Global};
 use std::io::Write;
@@ -63,9 +62,9 @@ pub fn search_by_file<F: Files, E: Write + Progress>(
     ensures count { CountsFailure (F.faults files.old) (F.faults files.new) (load_outcome result) }
     ensures same { Unchanged (F.gives files.old) (F.gives files.new) }
 {
-    let loaded = raise(load(alloc, files, path), NoTable::Load)?;
+    let loaded = load(alloc, files, path)?;
     refuse_file_of_table(alloc, files, &loaded, out)?;
-    let table = raise(table_of_loaded(alloc, &loaded), NoTable::Table)?;
+    let table = table_of_loaded(alloc, &loaded)?;
     drop(loaded);
     let answer = search_defined(alloc, &table, out, limit, left_out, err);
     drop(table);
