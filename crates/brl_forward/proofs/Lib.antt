@@ -1,4 +1,4 @@
-pub mod TranslationLoop
+pub mod WalkLemmas
 pub mod UnknownChars
 pub mod StepLoop
 pub mod StepCells

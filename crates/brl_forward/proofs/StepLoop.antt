@@ -51,6 +51,16 @@ first takes t text (suc n) i h k =
     (ap (λ zs. step_at t text i ∷ zs)
     (steps_from-enough takes t text n (suc n) (i + (chosen_at t text i).taken) (omega (arith, h, k, some)) (omega (arith, h, k, some))))
 
+-- the step with these fields
+abbrev made : ℕ → ℕ → ℕ → ℕ → List ℕ → Traced
+made s r n i c = record { start = s; rule = r; length = n; indicators = i; cells = c }
+
+-- steps with the same fields
+pub same_step : (x y : Traced) → x.start ≡ y.start → x.rule ≡ y.rule → x.length ≡ y.length → x.indicators ≡ y.indicators → x.cells ≡ y.cells → x ≡ y
+same_step x y start rule length indicators cells =
+    ap (λ s. made s x.rule x.length x.indicators x.cells) start ∙ ap (λ r. made y.start r x.length x.indicators x.cells) rule ∙ ap (λ n. made y.start y.rule n x.indicators x.cells) length
+    ∙ ap (λ i. made y.start y.rule y.length i x.cells) indicators ∙ ap (λ c. made y.start y.rule y.length y.indicators c) cells
+
 -- one iteration of the loop
 pub step_more : TakesSome → (t : TableView) (text : List ℕ) (i j : ℕ) (done more total : List Traced) (x : Traced) → i < length text → x ≡ step_at t text i → j ≡ i + x.length → more ≡ done ++ x ∷ []
     → done ++ steps_from t text (length text) i ≡ total → more ++ steps_from t text (length text) j ≡ total

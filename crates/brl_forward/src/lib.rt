@@ -11,6 +11,7 @@ mod infos;
 mod laws;
 mod steps;
 mod translation;
+mod walk;
 
 pub use clash::{Clash, confirm};
 pub use fault::{ConfirmFault, ForwardFault, Side};

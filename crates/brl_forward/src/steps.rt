@@ -1,16 +1,17 @@
 //! The steps of a text's translation.
-ghost use Rattle.std.specs.Prelude.{◌≡◌, ◌<◌, ◌≤◌, length, IsTrue, IfOk, IfErr, Some};
-ghost use Rattle.brl_rules.specs.Infos.{AreInfosOf, first_info};
+ghost use Rattle.std.specs.Prelude.{◌≡◌, ◌+◌, ◌<◌, IsTrue, IfOk, IfErr};
+ghost use Rattle.brl_rules.specs.Infos.{AreInfosOf};
 ghost use Rattle.brl_rules.specs.Text.{is_text};
 ghost use Rattle.brl_failure.specs.Failure.{IfFault};
 ghost use Rattle.brl_forward.specs.Faults.{IsFaultOf};
-ghost use Rattle.brl_forward.specs.Trace.{step_before, trace_of};
+ghost use Rattle.brl_forward.specs.Trace.{trace_of};
 
 use crate::ForwardFault;
 use crate::infos::infos_of;
-use brl_cells::Cells;
+use crate::walk::{Position, Taken, take_step};
+use brl_cells::{Cell, Cells};
 use brl_failure::Failure;
-use brl_rules::{Context, Info, Table, choice_laws, translation_laws};
+use brl_rules::{Info, Table, choice_laws};
 use std::alloc::{AllocError, Global};
 
 /// A step of a translation: one rule and the indicators before it.
@@ -55,45 +56,36 @@ fn steps_of(
     ensures { IfOk result (λ steps. steps.items ≡ trace_of table.now text.now) }
 {
     choice_laws();
-    translation_laws();
     let mut steps = Vec::new(alloc);
-    let mut here = Context::START;
-    let mut start = 0;
-    while let Some(info) = infos.get(start) {
-        let step = step(alloc, table, here, start, info, &text[start..])?;
-        let end = start + step.length;
-        here = table.context_after_infos(here, &infos[start..end]);
-        start = end;
-        steps.push(step)?;
+    let mut cells = Vec::new(alloc);
+    let mut at = Position::START;
+    while let Some(step) = take_step(table, text, infos, at, &mut cells)? {
+        steps.push(traced_step(alloc, at.start, step, cells.as_slice())?)?;
+        cells.clear();
+        at = step.next;
     }
     Ok(steps)
 }
 
-/// The step at the start of `rest`, given the position and the info of its first character.
-fn step(
+/// A step that was taken at a position, with its cells.
+fn traced_step(
     alloc: Global,
-    table: &Table,
-    here: Context,
     start: usize,
-    info: &Info,
-    rest: &[char],
+    step: Taken,
+    cells: &[Cell],
 ) -> Result<Traced, AllocError>
-    requires { first_info table.now rest.now ≡ Some info.now }
-    ensures step { IfOk result (λ step. step ≡ step_before table.now here start rest.now) }
-    ensures some { IfOk result (λ step. 0 < step.length) }
-    ensures room { IfOk result (λ step. step.length ≤ length rest.now) }
+    requires { start < step.next.start }
+    ensures start { IfOk result (λ traced. traced.start ≡ start) }
+    ensures rule { IfOk result (λ traced. traced.rule ≡ step.rule) }
+    ensures length { IfOk result (λ traced. start + traced.length ≡ step.next.start) }
+    ensures indicators { IfOk result (λ traced. traced.indicators ≡ step.indicators) }
+    ensures cells { IfOk result (λ traced. traced.cells ≡ cells.now) }
 {
-    let mut cells = Vec::new(alloc);
-    let run = table.is_in_caps_run_of(info, here.classes, rest);
-    table.push_indicators_of(here, run, info, &mut cells)?;
-    let indicators = cells.len();
-    let choice = table.choice_of(info, run, here.classes, rest);
-    cells.extend_from_slice(choice.cells)?;
     Ok(Traced {
         start,
-        rule: choice.number,
-        length: choice.taken,
-        indicators,
-        cells: Cells::from_slice(alloc, cells.as_slice())?,
+        rule: step.rule,
+        length: step.next.start - start,
+        indicators: step.indicators,
+        cells: Cells::from_slice(alloc, cells)?,
     })
 }

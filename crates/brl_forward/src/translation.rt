@@ -8,9 +8,10 @@ ghost use Rattle.brl_forward.specs.Faults.{IsFaultOf};
 
 use crate::ForwardFault;
 use crate::infos::infos_of;
+use crate::walk::{Position, take_step};
 use brl_cells::Cell;
 use brl_failure::Failure;
-use brl_rules::{Context, Info, Table, translation_laws};
+use brl_rules::{Info, Table, translation_laws};
 use std::alloc::{AllocError, Global};
 
 /// The translation of a text to cells. `UnknownChar` where the table doesn't define a character.
@@ -27,8 +28,7 @@ pub fn translate(
     Ok(cells_of(alloc, table, text, infos.as_slice())?)
 }
 
-/// The cells of a text, given the infos of its characters: at each position the indicators, then
-/// the cells of the rule that is chosen there.
+/// The cells of a text, given the infos of its characters.
 fn cells_of(
     alloc: Global,
     table: &Table,
@@ -40,17 +40,9 @@ fn cells_of(
 {
     translation_laws();
     let mut cells = Vec::with_capacity(alloc, text.len())?;
-    let mut here = Context::START;
-    let mut start = 0;
-    while let Some(info) = infos.get(start) {
-        let rest = &text[start..];
-        let run = table.is_in_caps_run_of(info, here.classes, rest);
-        table.push_indicators_of(here, run, info, &mut cells)?;
-        let choice = table.choice_of(info, run, here.classes, rest);
-        cells.extend_from_slice(choice.cells)?;
-        let end = start + choice.taken;
-        here = table.context_after_infos(here, &infos[start..end]);
-        start = end;
+    let mut at = Position::START;
+    while let Some(step) = take_step(table, text, infos, at, &mut cells)? {
+        at = step.next;
     }
     Ok(cells)
 }

@@ -1,51 +1,34 @@
-use Rattle.std.proofs.Common.{◌≡◌, ◌+◌, ◌-◌, ◌<◌, ◌≤◌, ◌∙◌, ap, arith, drop, length, length-drop, refl, rules, take}
-use Rattle.std.proofs.lemmas.List.{take_rest}
-use Rattle.brl_rules.specs.Infos.{first_info}
-use Rattle.brl_rules.specs.Text.{context_at, context_after_all}
-use Rattle.brl_forward.specs.Trace.{step_before}
-use Rattle.brl_forward.proofs.InfoLists.{first_info-at, infos-taken, length-infos}
-use Rattle.brl_forward.proofs.StepLoop.{no_more, none_yet, step_more}
+use Rattle.std.proofs.Common.{◌≡◌, ◌≤◌, ◌++◌, ◌∙◌, Some, IfSome, ap, arith, length, refl, rules, sym, subst}
+use Rattle.brl_forward.specs.Trace.{step_at}
+use Rattle.brl_forward.specs.Walk.{Takes}
+use Rattle.brl_forward.proofs.StepLoop.{no_more, none_yet, same_step, step_more}
 use Rattle.brl_forward.proofs.steps.steps_of.Goals as goal
 
-pub loop-info-init : goal.loop-info-init
-loop-info-init c = record { so_far = rw c.new-steps.ensures.items (none_yet c.args.table.now c.args.text.now); here = refl; within = omega arith }
+pub loop-cells-init : goal.loop-cells-init
+loop-cells-init c = record {
+  at = (refl, omega arith);
+  none = c.new-cells.ensures.items;
+  so_far = rw c.new-steps.ensures.items (none_yet c.args.table.now c.args.text.now);
+}
 
-pub step-requires : goal.step-requires
-step-requires c =
-    ap (first_info c.args.table.now) (take_rest c.args.text.now c.loop-info.start)
-    ∙ first_info-at c.args.table.now c.args.text.now c.args.infos.now c.loop-info.start c.in-Some.info.now c.requires c.in-Some.ensures.lookup.3.0 c.in-Some.ensures.lookup.1
-
-pub slice_bounds-context_after_infos-end : goal.slice_bounds-context_after_infos-end
-slice_bounds-context_after_infos-end c =
-    let room : c.in_ok-step.step.length ≤ length (drop c.loop-info.start c.args.text.now) =
-    omega (arith, c.in_ok-step.ensures.room, ap length (take_rest c.args.text.now c.loop-info.start)) in
-    let within : c.loop-info.start + c.in_ok-step.step.length ≤ length c.args.infos.now =
-    omega (arith, room, length-drop c.loop-info.start c.args.text.now, c.loop-info.invariant.within, length-infos c.args.table.now c.args.text.now c.args.infos.now c.requires) in
-    within
-
-pub loop-info-preserved : goal.loop-info-preserved
-loop-info-preserved c =
+pub loop-cells-preserved : goal.loop-cells-preserved
+loop-cells-preserved c =
     let t = c.args.table.now in
     let text = c.args.text.now in
-    let start = c.loop-info.start in
-    let n = c.in_ok-step.step.length in
-    let rest = drop start text in
-    let room : n ≤ length rest = omega (arith, c.in_ok-step.ensures.room, ap length (take_rest text start)) in
-    let within : start < length text = omega (arith, c.in-Some.ensures.lookup.3.0, length-infos t text c.args.infos.now c.requires) in
-    let taken : start + n - start ≡ n = omega arith in
+    let start = c.loop-cells.at.start in
+    let step = c.in-Some.step in
+    let x = c.in_ok-traced_step.field-0 in
+    let takes : Takes t text c.loop-cells.at c.loop-cells.cells.items c.take_step.new.cells.items step = rw c.in-Some.is at c.in_ok-step.ensures.taken in
+    let cells = c.in_ok-traced_step.ensures.cells ∙ c.as_slice.ensures.value ∙ takes.cells ∙ ap (λ cells. cells ++ (step_at t text start).cells) c.loop-cells.invariant.none in
+    let same : x ≡ step_at t text start = same_step x (step_at t text start) c.in_ok-traced_step.ensures.start (c.in_ok-traced_step.ensures.rule ∙ takes.rule)
+    (omega (arith, c.in_ok-traced_step.ensures.length, takes.end)) (c.in_ok-traced_step.ensures.indicators ∙ takes.indicators) cells in
     record {
-      so_far = step_more c.choice_laws.ensures.some t text start (start + n) _ _ _ c.in_ok-step.step within
-          (c.in_ok-step.ensures.step ∙ ap (λ here. step_before t here start (take (length text - start) rest)) c.loop-info.invariant.here ∙ ap (step_before t (context_at t text start) start) (take_rest text start))
-          refl c.in_ok-push.ensures.items c.loop-info.invariant.so_far;
-      here =
-          c.context_after_infos-here.ensures (take n rest) (infos-taken t text c.args.infos.now start n (start + n - start) c.requires taken)
-          ∙ ap (λ here. context_after_all t here (take n rest)) c.loop-info.invariant.here
-          ∙ c.translation_laws.ensures.context t text start n room;
-      within = omega (arith, room, length-drop start text, c.loop-info.invariant.within);
+      at = takes.next;
+      none = c.clear.ensures.items;
+      so_far = step_more c.choice_laws.ensures.some t text start step.next.start c.loop-cells.steps.items c.push.new.self.items _ x takes.within same (sym c.in_ok-traced_step.ensures.length) c.in_ok-push.ensures.items c.loop-cells.invariant.so_far;
     }
 
 pub returns : goal.returns
 returns c =
-    let ended : length c.args.infos.now ≤ c.loop-info.start = search rules in
-    let past : length c.args.text.now ≤ c.loop-info.start = omega (arith, ended, length-infos c.args.table.now c.args.text.now c.args.infos.now c.requires) in
-    no_more c.args.table.now c.args.text.now c.loop-info.start _ _ past c.loop-info.invariant.so_far
+    let past : length c.args.text.now ≤ c.loop-cells.at.start = search rules in
+    no_more c.args.table.now c.args.text.now c.loop-cells.at.start _ _ past c.loop-cells.invariant.so_far

@@ -1,0 +1,55 @@
+use Rattle.std.proofs.Common.{◌≡◌, ◌+◌, ◌-◌, ◌<◌, ◌≤◌, ◌++◌, ◌∙◌, List, ℕ, ap, append_assoc, arith, drop, length, length-append, length-drop, subst, sym, take}
+use Rattle.std.proofs.lemmas.List.{take_rest}
+use Rattle.brl_rules.specs.Choice.{IsChoice, chosen}
+use Rattle.brl_rules.specs.Indicators.{indicators}
+use Rattle.brl_rules.specs.Infos.{first_info}
+use Rattle.brl_rules.specs.Text.{context_after_all, context_at, is_in_caps_run}
+use Rattle.brl_forward.specs.Trace.{step_at, step_before}
+use Rattle.brl_forward.proofs.InfoLists.{first_info-at, infos-taken, length-infos}
+use Rattle.brl_forward.proofs.WalkLemmas.{signs-known}
+use Rattle.brl_forward.proofs.walk.take_step.Goals as goal
+
+pub is_in_caps_run_of-run-requires : goal.is_in_caps_run_of-run-requires
+is_in_caps_run_of-run-requires c =
+    ap (first_info c.args.table.now) (take_rest c.args.text.now c.args.at.start)
+    ∙ first_info-at c.args.table.now c.args.text.now c.args.infos.now c.args.at.start c.in-Some.info.now c.requires.infos c.in-Some.ensures.lookup.3.0 c.in-Some.ensures.lookup.1
+
+pub choice_of-choice-requires-clause-info : goal.choice_of-choice-requires-clause-info
+choice_of-choice-requires-clause-info c =
+    ap (first_info c.args.table.now) (take_rest c.args.text.now c.args.at.start)
+    ∙ first_info-at c.args.table.now c.args.text.now c.args.infos.now c.args.at.start c.in-Some.info.now c.requires.infos c.in-Some.ensures.lookup.3.0 c.in-Some.ensures.lookup.1
+
+pub returns-clause-taken : goal.returns-clause-taken
+returns-clause-taken c =
+    let t = c.args.table.now in
+    let text = c.args.text.now in
+    let start = c.args.at.start in
+    let here = c.args.at.here in
+    let old = c.args.cells.now.items in
+    let n = c.choice_of-choice.result.taken in
+    let rest = drop start text in
+    let known = first_info-at t text c.args.infos.now start c.in-Some.info.now c.requires.infos c.in-Some.ensures.lookup.3.0 c.in-Some.ensures.lookup.1 in
+    let choice = subst (λ (rest : List ℕ). IsChoice c.choice_of-choice.result (chosen t here.classes rest)) (take_rest text start) c.choice_of-choice.ensures.choice in
+    let room : n ≤ length rest = omega (arith, c.choice_of-choice.ensures.room, ap length (take_rest text start)) in
+    let within : start < length text = omega (arith, c.in-Some.ensures.lookup.3.0, length-infos t text c.args.infos.now c.requires.infos) in
+    let taken : start + n - start ≡ n = omega arith in
+    let in_caps_run = c.is_in_caps_run_of-run.ensures ∙ ap (is_in_caps_run t here.classes) (take_rest text start) in
+    let signs = c.in_ok-push_indicators_of.ensures ∙ ap (λ signs. old ++ signs) (signs-known t here _ rest c.in-Some.info.now.now known in_caps_run) in
+    let step = ap (λ here. step_before t here start rest) c.requires.at.0 in
+    let lengths = ap length signs ∙ length-append old (indicators t here rest) in
+    record {
+      within = within;
+      rule = choice.number ∙ ap (λ s. s.rule) step;
+      indicators = omega (arith, lengths, c.len.ensures, c.len-before.ensures) ∙ ap (λ s. s.indicators) step;
+      cells =
+          c.in_ok-extend_from_slice.ensures.items ∙ ap (λ cells. cells ++ c.choice_of-choice.result.cells.now) signs ∙ append_assoc old (indicators t here rest) c.choice_of-choice.result.cells.now
+          ∙ ap (λ cells. old ++ (indicators t here rest ++ cells)) choice.cells ∙ ap (λ s. old ++ s.cells) step;
+      end = ap (λ count. start + count) (choice.taken ∙ ap (λ s. s.length) step);
+      some = omega (arith, c.choice_of-choice.ensures.some);
+      next = (
+        c.context_after_infos-here.ensures (take n rest) (infos-taken t text c.args.infos.now start n (start + n - start) c.requires.infos taken)
+        ∙ ap (λ here. context_after_all t here (take n rest)) c.requires.at.0
+        ∙ c.translation_laws.ensures.context t text start n room,
+        omega (arith, room, within, length-drop start text),
+      );
+    }
