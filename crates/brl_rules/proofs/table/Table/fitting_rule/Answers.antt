@@ -1,12 +1,21 @@
-use Rattle.std.proofs.Common.{rules, arith, ◌≡◌, ◌∷◌, ◌+◌, ◌++◌, ℕ, List, [], take, slice_get, IfSome, Some, None, sym, ap, ◌∙◌, append-nil, subst}
+use Rattle.std.proofs.Common.{rules, arith, Bool, ◌≡◌, ◌∷◌, ◌+◌, ◌++◌, ℕ, List, [], take, slice_get, IfSome, Some, None, sym, ap, ◌∙◌, append-nil, subst}
 use Rattle.std.specs.List.{find}
 use Rattle.std.specs.Option.{option_or}
 use Rattle.brl_rules.specs.Choice.{compared, place_allows_number}
+use Rattle.brl_rules.specs.declared.class.Class.{Class}
+use Rattle.brl_rules.specs.TableView.{TableView}
 use Rattle.brl_rules.specs.Text.{fold_of, is_in_caps_run}
 use Rattle.brl_rules.specs.Tree.{ends_at, ends_of, mark_of}
 use Rattle.brl_rules.proofs.Compared.{behind_first, behind-length, behind-mark, mark-there, mark-none}
 use Rattle.brl_rules.proofs.TreeWalk.{rest-none, rest-no_root, rest-first, rest-next, rest-no_branch, rest-end, one_more}
 use Rattle.brl_rules.proofs.table.Table.fitting_rule.Goals as goal
+
+-- what rules are compared with, where the first character and its fold are apart
+compared-is : (t : TableView) (before : Class) (rest others : List ℕ) (x fold : ℕ) (run : Bool) → rest ≡ x ∷ others → IfSome (slice_get rest 0) (λ first. fold ≡ fold_of t first) → run ≡ is_in_caps_run t before rest
+    → compared t (is_in_caps_run t before rest) rest ≡ fold ∷ behind_first t run others
+compared-is t before rest others x fold run rest-is asked run-is =
+    let fold-is : fold_of t x ≡ fold = sym (subst (λ (rest : List ℕ). IfSome (slice_get rest 0) (λ first. fold ≡ fold_of t first)) rest-is asked) in
+    ap (λ run. compared t run rest) (sym run-is) ∙ ap (compared t run) rest-is ∙ ap (λ f. f ∷ behind_first t run others) fold-is
 
 pub returns-in_err-others : goal.returns-in_err-others
 returns-in_err-others c = c.from_residual.ensures ∙ sym (rest-none c.args.self.now c.args.before c.args.rest.now c.in_err-others.ensures.cases)
@@ -16,13 +25,8 @@ returns-in_err-node c =
     let t = c.args.self.now in
     let rest = c.args.rest.now in
     let others = c.in_ok-others.others.now in
-    let x = c.in_ok-others.field-0-0.now in
     let behind = behind_first t c.args.run others in
-    let rest-is : rest ≡ x ∷ others = search rules in
-    let asked : List ℕ → Type 0 = λ rest. IfSome (slice_get rest 0) (λ first. c.args.fold ≡ fold_of t first) in
-    let fold-is : fold_of t x ≡ c.args.fold = sym (subst asked rest-is c.requires.fold) in
-    let is : compared t (is_in_caps_run t c.args.before rest) rest ≡ c.args.fold ∷ behind =
-    ap (λ run. compared t run rest) (sym c.requires.run) ∙ ap (compared t c.args.run) rest-is ∙ ap (λ f. f ∷ behind) fold-is in
+    let is = compared-is t c.args.before rest others c.in_ok-others.field-0-0.now c.args.fold c.args.run (search rules) c.requires.fold c.requires.run in
     c.from_residual-in_err-node.ensures ∙ sym (rest-no_root t c.args.before rest c.args.fold behind is c.in_err-node.ensures.node)
 
 pub loop-character-init : goal.loop-character-init
@@ -30,13 +34,8 @@ loop-character-init c =
     let t = c.args.self.now in
     let rest = c.args.rest.now in
     let others = c.in_ok-others.others.now in
-    let x = c.in_ok-others.field-0-0.now in
     let behind = behind_first t c.args.run others in
-    let rest-is : rest ≡ x ∷ others = search rules in
-    let asked : List ℕ → Type 0 = λ rest. IfSome (slice_get rest 0) (λ first. c.args.fold ≡ fold_of t first) in
-    let fold-is : fold_of t x ≡ c.args.fold = sym (subst asked rest-is c.requires.fold) in
-    let is : compared t (is_in_caps_run t c.args.before rest) rest ≡ c.args.fold ∷ behind =
-    ap (λ run. compared t run rest) (sym c.requires.run) ∙ ap (compared t c.args.run) rest-is ∙ ap (λ f. f ∷ behind) fold-is in
+    let is = compared-is t c.args.before rest others c.in_ok-others.field-0-0.now c.args.fold c.args.run (search rules) c.requires.fold c.requires.run in
     record {
       inside = omega arith;
       node = c.in_ok-node.ensures.node;
@@ -49,13 +48,8 @@ returns-in_default c =
     let t = c.args.self.now in
     let rest = c.args.rest.now in
     let others = c.in_ok-others.others.now in
-    let x = c.in_ok-others.field-0-0.now in
     let behind = behind_first t c.args.run others in
-    let rest-is : rest ≡ x ∷ others = search rules in
-    let asked : List ℕ → Type 0 = λ rest. IfSome (slice_get rest 0) (λ first. c.args.fold ≡ fold_of t first) in
-    let fold-is : fold_of t x ≡ c.args.fold = sym (subst asked rest-is c.requires.fold) in
-    let is : compared t (is_in_caps_run t c.args.before rest) rest ≡ c.args.fold ∷ behind =
-    ap (λ run. compared t run rest) (sym c.requires.run) ∙ ap (compared t c.args.run) rest-is ∙ ap (λ f. f ∷ behind) fold-is in
+    let is = compared-is t c.args.before rest others c.in_ok-others.field-0-0.now c.args.fold c.args.run (search rules) c.requires.fold c.requires.run in
     let k = c.loop-character.character-index in
     let none : c.mark_of.result ≡ None = search rules in
     c.loop-character.invariant.best
@@ -67,13 +61,8 @@ returns-in_default-branch c =
     let t = c.args.self.now in
     let rest = c.args.rest.now in
     let others = c.in_ok-others.others.now in
-    let x = c.in_ok-others.field-0-0.now in
     let behind = behind_first t c.args.run others in
-    let rest-is : rest ≡ x ∷ others = search rules in
-    let asked : List ℕ → Type 0 = λ rest. IfSome (slice_get rest 0) (λ first. c.args.fold ≡ fold_of t first) in
-    let fold-is : fold_of t x ≡ c.args.fold = sym (subst asked rest-is c.requires.fold) in
-    let is : compared t (is_in_caps_run t c.args.before rest) rest ≡ c.args.fold ∷ behind =
-    ap (λ run. compared t run rest) (sym c.requires.run) ∙ ap (compared t c.args.run) rest-is ∙ ap (λ f. f ∷ behind) fold-is in
+    let is = compared-is t c.args.before rest others c.in_ok-others.field-0-0.now c.args.fold c.args.run (search rules) c.requires.fold c.requires.run in
     let k = c.loop-character.character-index in
     let some : c.mark_of.result ≡ Some c.in-Some.mark = search rules in
     let next : Some c.in-Some.mark ≡ slice_get behind k =
@@ -88,13 +77,8 @@ loop-character-preserved c =
     let t = c.args.self.now in
     let rest = c.args.rest.now in
     let others = c.in_ok-others.others.now in
-    let x = c.in_ok-others.field-0-0.now in
     let behind = behind_first t c.args.run others in
-    let rest-is : rest ≡ x ∷ others = search rules in
-    let asked : List ℕ → Type 0 = λ rest. IfSome (slice_get rest 0) (λ first. c.args.fold ≡ fold_of t first) in
-    let fold-is : fold_of t x ≡ c.args.fold = sym (subst asked rest-is c.requires.fold) in
-    let is : compared t (is_in_caps_run t c.args.before rest) rest ≡ c.args.fold ∷ behind =
-    ap (λ run. compared t run rest) (sym c.requires.run) ∙ ap (compared t c.args.run) rest-is ∙ ap (λ f. f ∷ behind) fold-is in
+    let is = compared-is t c.args.before rest others c.in_ok-others.field-0-0.now c.args.fold c.args.run (search rules) c.requires.fold c.requires.run in
     let k = c.loop-character.character-index in
     let some : c.mark_of.result ≡ Some c.in-Some.mark = search rules in
     let next : Some c.in-Some.mark ≡ slice_get behind k =
@@ -119,12 +103,7 @@ returns c =
     let t = c.args.self.now in
     let rest = c.args.rest.now in
     let others = c.in_ok-others.others.now in
-    let x = c.in_ok-others.field-0-0.now in
     let behind = behind_first t c.args.run others in
-    let rest-is : rest ≡ x ∷ others = search rules in
-    let asked : List ℕ → Type 0 = λ rest. IfSome (slice_get rest 0) (λ first. c.args.fold ≡ fold_of t first) in
-    let fold-is : fold_of t x ≡ c.args.fold = sym (subst asked rest-is c.requires.fold) in
-    let is : compared t (is_in_caps_run t c.args.before rest) rest ≡ c.args.fold ∷ behind =
-    ap (λ run. compared t run rest) (sym c.requires.run) ∙ ap (compared t c.args.run) rest-is ∙ ap (λ f. f ∷ behind) fold-is in
+    let is = compared-is t c.args.before rest others c.in_ok-others.field-0-0.now c.args.fold c.args.run (search rules) c.requires.fold c.requires.run in
     c.loop-character.invariant.best
     ∙ rest-end t c.args.before rest c.args.fold behind is c.loop-character.character-index (omega (arith, behind-length t c.args.run others, c.loop-character-test.false))
