@@ -1,5 +1,5 @@
-//! The tests of the crates below certificates: each crate's own module. They stand here so that no library is proved once more
-//! with its tests.
+//! Tests of texts and tables: cells, lines, rules, tables, translation, and the lines of tables that
+//! have a fault by themselves. They are apart, so that no library is proved once more with its tests.
 #![tactic(auto)]
 
 #[cfg(test)]
@@ -11,10 +11,6 @@ mod forward;
 #[cfg(test)]
 mod lines;
 #[cfg(test)]
-mod pairs;
-#[cfg(test)]
 mod survey;
 #[cfg(test)]
 mod table;
-#[cfg(test)]
-mod window;
