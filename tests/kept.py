@@ -147,6 +147,21 @@ def kept_files(room: Path) -> list[str]:
     return wrong + ([] if records.read_refused() == {"low": first} else ["one is taken away"])
 
 
+def forgotten(room: Path) -> list[str]:
+    """What is wrong in what is forgotten of crates that are gone."""
+    records.REFUSED = room / "refused"
+    first, second = Seen("a" * 64, 3, 1, 0, "2026-01-01"), Seen("b" * 64, 4, 0, 1, "2026-01-02")
+    records.keep_refused("low", first)
+    records.keep_refused("gone", second)
+    both = records.REFUSED.read_text()
+    records.forget_others(["gone", "low", "new"])
+    wrong = [] if records.REFUSED.read_text() == both else ["none is gone"]
+    records.forget_others(["low", "new"])
+    wrong += [] if records.read_refused() == {"low": first} else ["one is gone"]
+    records.forget_others([])
+    return wrong + ([] if records.read_refused() == {} else ["all are gone"])
+
+
 def main() -> int:
     rt = kit()
     if not rt:
@@ -158,6 +173,7 @@ def main() -> int:
             "each crate's turn comes": turns,
             "crates that aren't as kept are tried": chosen,
             "an edited file counts for nothing": lambda: kept_files(Path(room)),
+            "a crate that is gone is forgotten": lambda: forgotten(Path(room)),
         }
         for name, run in cases.items():
             wrong = run()

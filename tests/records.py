@@ -91,8 +91,19 @@ def read_refused() -> dict[str, Seen]:
     return found
 
 
+def write_refused(rows: dict[str, Seen]) -> None:
+    kept = {name: " ".join(map(str, it)) for name, it in sorted(rows.items())}
+    put(REFUSED, lambda it: it.write_text(sealed(kept)))
+
+
 def keep_refused(name: str, seen: Seen | None) -> None:
     """Keeps what was seen of a crate, or that nothing is known of it."""
-    rows = read_refused() | {name: seen}
-    kept = {name: " ".join(map(str, it)) for name, it in sorted(rows.items()) if it}
-    put(REFUSED, lambda it: it.write_text(sealed(kept)))
+    others = {other: it for other, it in read_refused().items() if other != name}
+    write_refused(others | ({name: seen} if seen else {}))
+
+
+def forget_others(names: Iterable[str]) -> None:
+    """Keeps nothing of other crates than these: they are gone, or have no bodies to be tried."""
+    rows, wanted = read_refused(), set(names)
+    if not rows.keys() <= wanted:
+        write_refused({name: it for name, it in rows.items() if name in wanted})

@@ -29,7 +29,7 @@ loop needs another invariant fails at some values too.
 
 tests/refused keeps of which crates all this came out as it should, with a sum of what decides it (records.py); only
 this script writes it. A run tries the crates whose sum is another, and in turn, by the day, a fifth of the others. Of
-the rest it counts what is kept.
+the rest it counts what is kept; of crates that are gone it keeps nothing.
 
   tests/wrong_bodies.py [--after-ci ROOT] [--all | NAME..]
 
@@ -58,7 +58,7 @@ sys.path.insert(0, str(TOP))
 from functions import Function, function_at, function_of_line, functions_of, homes_of, modules_of, text_of
 from kit import kit
 from made import Kit
-from records import Seen, keep_refused, read_refused, sum_of_bodies
+from records import Seen, forget_others, keep_refused, read_refused, sum_of_bodies
 
 # The memory that the check of one crate may take.
 CHECK_BYTES = 4_000_000_000
@@ -487,6 +487,8 @@ def main(words: list[str]) -> int:
         sys.exit(f"wrong_bodies.py: there is no crate {min(unknown)}")
     chosen = [it for it in crates if it.name in asked.names] or crates
     trials = [it for it in (Trial(rt, it) for it in chosen) if it.bodies or it.rewritten or it.failed]
+    if not asked.names:
+        forget_others(it.crate.name for it in trials)
     kept = read_refused()
     tried = trials if asked.is_all or asked.names else to_try(trials, kept)
     held = rt.rtlib.lock([it.crate for it in tried])

@@ -1,10 +1,6 @@
 //! Calls in which memory may run out, each made again in the same process.
-use crate::window::{ONE_LETTER, has_steps_of_one_letter};
 use brl_cells::{Cell, Cells, Chars};
-use brl_pairs::Machine;
-use brl_rules::Table;
-use brl_testing::{mark, with_table};
-use brl_window::Window;
+use brl_testing::mark;
 use std::alloc::{AllocError, Global};
 use std::rt::Files;
 use std::test::Fail;
@@ -44,24 +40,5 @@ fn are_lists_copied<R: Files>(system: &R, alloc: Global) -> Result<bool, AllocEr
 #[test]
 fn copies(rt: HostRuntime) -> Result<(), Fail> {
     assert!(rt; are_lists_copied(&rt, rt.alloc())?);
-    Ok(())
-}
-
-/// Whether a window machine has the moves of the table of one letter, and copies of its states.
-fn has_moves<R: Files>(system: &R, alloc: Global, window: &Window) -> Result<bool, AllocError> {
-    mark(system);
-    let first = has_steps_of_one_letter(alloc, window).unwrap_or(true);
-    mark(system);
-    Ok(first && has_steps_of_one_letter(alloc, window)?)
-}
-
-fn has_machine<R: Files>(system: &R, alloc: Global, table: &Table) -> Result<bool, Fail> {
-    Ok(has_moves(system, alloc, &Window::new(alloc, table)?)?)
-}
-
-#[test]
-fn moves(rt: HostRuntime) -> Result<(), Fail> {
-    let alloc = rt.alloc();
-    assert!(rt; with_table(alloc, ONE_LETTER, |table| has_machine(&rt, alloc, table))?);
     Ok(())
 }

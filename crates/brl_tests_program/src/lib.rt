@@ -1,4 +1,5 @@
-//! Worked runs of the program, and of translation line by line. It has tests alone.
+//! Tests of the program: its runs over files, streams and words in memory, the streams that it
+//! translates, its reports, and how far it says that its work is.
 #![tactic(auto)]
 
 #[cfg(test)]
@@ -11,6 +12,8 @@ mod checks;
 mod files;
 #[cfg(test)]
 mod progress;
+#[cfg(test)]
+mod report;
 #[cfg(test)]
 mod runs;
 #[cfg(test)]

@@ -1,4 +1,5 @@
-//! Tests of the certificates, the checker, the search and the report, over their public items.
+//! Tests of machines: their pairs, states and steps, closed sets, machines without some characters,
+//! certificates, what is accepted, and the search.
 #![tactic(auto)]
 
 #[cfg(test)]
@@ -14,8 +15,10 @@ mod edges;
 #[cfg(test)]
 mod lines;
 #[cfg(test)]
-mod report;
+mod pairs;
 #[cfg(test)]
 mod search;
+#[cfg(test)]
+mod window;
 #[cfg(test)]
 mod without;

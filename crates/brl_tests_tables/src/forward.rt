@@ -1,4 +1,4 @@
-//! Worked translations, clashes and traces: rows whose fields are cut at `|`. More of them stand in brl_tests_tool, by what the
+//! Worked translations, clashes and traces: rows whose fields are cut at `|`. More of them stand in brl_tests_program, by what the
 //! program prints.
 use brl_cells::write_dots;
 use brl_failure::Failure;
