@@ -73,14 +73,14 @@ ByLeftOut option answers outcome =
     ⊎ ((fault : RunFault) × (outcome ≡ Err fault) × IsBadLeftOut option fault)
 
 -- a character, spelled after a blank
-abbrev pub apart : ℕ → List ℕ
-apart c = codes " " ++ encode_utf8_all (text_spelling (c ∷ []))
+abbrev pub spelled_after_blank : ℕ → List ℕ
+spelled_after_blank c = codes " " ++ encode_utf8_all (text_spelling (c ∷ []))
 
 -- characters, each spelled after a blank
-abbrev pub spelled_apart : List ℕ → List ℕ
-spelled_apart characters = flat_map apart characters
+abbrev pub spelled_one_by_one : List ℕ → List ℕ
+spelled_one_by_one characters = flat_map spelled_after_blank characters
 
 -- a line of an answer, and where characters are left out another line, which spells them one by one
 abbrev pub with_left_out_line : List ℕ → List ℕ → List ℕ
 with_left_out_line [] line = line
-with_left_out_line (c ∷ left_out) line = line ++ (codes "without:" ++ (spelled_apart (c ∷ left_out) ++ codes "\n"))
+with_left_out_line (c ∷ left_out) line = line ++ (codes "without:" ++ (spelled_one_by_one (c ∷ left_out) ++ codes "\n"))

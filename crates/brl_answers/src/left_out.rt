@@ -1,7 +1,7 @@
 //! The characters that an option leaves out.
 ghost use Rattle.std.specs.Prelude.{◌≡◌, IfErr, IfOk, Ok, string_bytes};
 ghost use Rattle.std.specs.Option.{option_copied};
-ghost use Rattle.brl_answers.specs.Answers.{IsBadLeftOut, apart, spelled_apart, spelled_by, with_left_out_line};
+ghost use Rattle.brl_answers.specs.Answers.{IsBadLeftOut, spelled_after_blank, spelled_by, spelled_one_by_one, with_left_out_line};
 
 use crate::run_fault::RunFault;
 use brl_failure::Failure;
@@ -26,20 +26,20 @@ pub fn left_out_of(alloc: Global, option: Option<&str>) -> Result<LeftOut, RunFa
 }
 
 /// A character, spelled after a blank.
-fn apart_text(alloc: Global, character: char) -> Result<String, AllocError>
-    ensures { IfOk result (λ text. string_bytes text ≡ apart character) }
+fn spell_after_blank(alloc: Global, character: char) -> Result<String, AllocError>
+    ensures { IfOk result (λ text. string_bytes text ≡ spelled_after_blank character) }
 {
     let spelled = spell_chars(alloc, &[character])?;
     format!(in alloc; " {spelled}")
 }
 
 /// Characters, each spelled after a blank.
-fn spell_apart(alloc: Global, characters: &[char]) -> Result<String, AllocError>
-    ensures { IfOk result (λ text. string_bytes text ≡ spelled_apart characters.now) }
+fn spell_one_by_one(alloc: Global, characters: &[char]) -> Result<String, AllocError>
+    ensures { IfOk result (λ text. string_bytes text ≡ spelled_one_by_one characters.now) }
 {
     let mut text = String::new(alloc);
     for character in characters {
-        text.push_str(apart_text(alloc, *character)?.as_str())?;
+        text.push_str(spell_after_blank(alloc, *character)?.as_str())?;
     }
     Ok(text)
 }
@@ -56,6 +56,6 @@ pub fn with_left_out_line(
     if left_out.is_empty() {
         return Ok(line);
     }
-    let spelled = spell_apart(alloc, left_out.as_slice())?;
+    let spelled = spell_one_by_one(alloc, left_out.as_slice())?;
     format!(in alloc; "{line}without:{spelled}\n")
 }

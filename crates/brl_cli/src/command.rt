@@ -267,9 +267,10 @@ written to OUT, and standard output gets how many states and pairs it lists;
 the exit status is 1, and OUT isn't written. Where more than N states or more
 than N pairs are found, nothing is decided, and the status is 3.
 
-With --without only texts that use none of CHARS are looked at, and a second
-line names these; 'brl check' with the same option accepts the certificate.
-CHARS are spelled as in a table: \\s is a blank, \\x00a0 a no-break space.",
+With --without only texts that use none of CHARS are searched, and a second line
+after 'certified' names these; 'brl check' with the same option accepts the
+certificate. CHARS are spelled as in a table: \\s is a blank, \\x00a0 a no-break
+space.",
     example: "Example, a table of two letters:
   printf '%s\\n' 'letter a 1' 'letter b 12' > ab.ctb
   brl search ab.ctb ab.cert

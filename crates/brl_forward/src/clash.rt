@@ -5,11 +5,12 @@ ghost use Rattle.brl_rules.specs.Translation.{IsClash, translation};
 ghost use Rattle.brl_failure.specs.Failure.{IfFault};
 ghost use Rattle.brl_forward.specs.Faults.{IsFaultOfSide, IsFaultOfTwo};
 
+use crate::translation::translate_known;
 use crate::{ConfirmFault, Side, translate};
 use brl_cells::Cell;
 use brl_failure::Failure;
 use brl_rules::Table;
-use std::alloc::Global;
+use std::alloc::{AllocError, Global};
 use std::marker::Model;
 
 /// Two texts that a table translates to the same cells. A contract sees a `ClashView`.
@@ -78,6 +79,22 @@ pub fn confirm(
         right: right.to_vec(alloc)?,
         cells,
     }))
+}
+
+/// The clash of two texts that are known to clash. One of them is translated, for the cells.
+pub fn clash_of(
+    alloc: Global,
+    table: &Table,
+    left: Vec<char>,
+    right: Vec<char>,
+) -> Result<Clash, AllocError>
+    requires { IsClash table.now left.items right.items (translation table.now left.items) }
+    ensures left { IfOk result (λ clash. clash.left ≡ left.items) }
+    ensures right { IfOk result (λ clash. clash.right ≡ right.items) }
+    ensures clash { IfOk result (λ clash. IsClash table.now clash.left clash.right clash.cells) }
+{
+    let cells = translate_known(alloc, table, left.as_slice())?;
+    Ok(Clash { left, right, cells })
 }
 
 /// The cells of one of two texts.

@@ -8,7 +8,7 @@ ghost use Rattle.brl_forward.specs.Faults.{IsFaultOf};
 use crate::ForwardFault;
 use brl_failure::Failure;
 use brl_rules::{Info, Table};
-use std::alloc::Global;
+use std::alloc::{AllocError, Global};
 
 /// The infos of the characters of a text, in order. `UnknownChar` where the table doesn't define
 /// one of them.
@@ -27,6 +27,22 @@ pub(crate) fn infos_of<'a>(
             Some(info) => infos.push(info)?,
             None => return Err(Failure::Fault(ForwardFault::UnknownChar(place))),
         }
+    }
+    Ok(infos)
+}
+
+/// The infos of the characters of a text that are all defined, in order.
+pub(crate) fn known_infos_of<'a>(
+    alloc: Global,
+    table: &'a Table,
+    text: &[char],
+) -> Result<Vec<&'a Info>, AllocError>
+    requires { IsTrue (is_text table.now text.now) }
+    ensures { IfOk result (λ infos. AreInfosOf table.now text.now infos.items) }
+{
+    let mut infos = Vec::with_capacity(alloc, text.len())?;
+    for character in text {
+        infos.push(table.info(*character).unwrap())?;
     }
     Ok(infos)
 }

@@ -13,7 +13,7 @@ mod steps;
 mod translation;
 mod walk;
 
-pub use clash::{Clash, confirm};
+pub use clash::{Clash, clash_of, confirm};
 pub use fault::{ConfirmFault, ForwardFault, Side};
 pub use laws::trace_laws;
 pub use steps::{Traced, trace};

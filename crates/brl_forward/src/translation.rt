@@ -7,7 +7,7 @@ ghost use Rattle.brl_failure.specs.Failure.{IfFault};
 ghost use Rattle.brl_forward.specs.Faults.{IsFaultOf};
 
 use crate::ForwardFault;
-use crate::infos::infos_of;
+use crate::infos::{infos_of, known_infos_of};
 use crate::walk::{Position, take_step};
 use brl_cells::Cell;
 use brl_failure::Failure;
@@ -26,6 +26,19 @@ pub fn translate(
 {
     let infos = infos_of(alloc, table, text)?;
     Ok(cells_of(alloc, table, text, infos.as_slice())?)
+}
+
+/// The translation of a text whose characters are all defined.
+pub(crate) fn translate_known(
+    alloc: Global,
+    table: &Table,
+    text: &[char],
+) -> Result<Vec<Cell>, AllocError>
+    requires { IsTrue (is_text table.now text.now) }
+    ensures { IfOk result (λ cells. cells.items ≡ translation table.now text.now) }
+{
+    let infos = known_infos_of(alloc, table, text)?;
+    cells_of(alloc, table, text, infos.as_slice())
 }
 
 /// The cells of a text, given the infos of its characters.

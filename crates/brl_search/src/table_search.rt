@@ -1,17 +1,16 @@
 //! The search of a table.
-ghost use Rattle.std.specs.Prelude.{◌≡◌, ◌≤◌, ℕ, IfOk};
+ghost use Rattle.std.specs.Prelude.{◌≤◌, ℕ, IfOk};
 ghost use Rattle.brl_closure.specs.Answers.{IsOutcome};
 ghost use Rattle.brl_search.specs.Found.{IfCertified, IsFound, IsFoundWithout};
 ghost use Rattle.brl_search.specs.Searched.{machine_of};
-ghost use Rattle.brl_rules.specs.Translation.{IsClash, IsUnambiguous, translation};
+ghost use Rattle.brl_rules.specs.Translation.{IsUnambiguous};
 ghost use Rattle.brl_without.specs.Tables.{IsUnambiguousWithout};
 ghost use Rattle.brl_without.specs.Without.{without};
 
 use crate::seed_of;
 use brl_closure::{Outcome, same_cells_law, search_machine_with};
 use brl_dues::{Dues, exact_law};
-use brl_failure::Failure;
-use brl_forward::{Clash, confirm};
+use brl_forward::{Clash, clash_of};
 use brl_pairs::numbered_sets_law;
 use brl_progress::{NoProgress, Progress};
 use brl_rules::Table;
@@ -96,29 +95,9 @@ pub fn found_without(
         }
         Outcome::BothEnd { left, right } => {
             same_cells_law(&machine);
-            let clash = clash_of(alloc, table, left.as_slice(), right.as_slice())?;
+            let clash = clash_of(alloc, table, left, right)?;
             Ok(Found::Clashing(clash))
         }
         Outcome::Limit { states, pairs } => Ok(Found::Limit { states, pairs }),
-    }
-}
-
-/// The clash of two texts that clash.
-fn clash_of(
-    alloc: Global,
-    table: &Table,
-    left: &[char],
-    right: &[char],
-) -> Result<Clash, AllocError>
-    requires { IsClash table.now left.now right.now (translation table.now left.now) }
-    ensures left { IfOk result (λ clash. clash.left ≡ left.now) }
-    ensures right { IfOk result (λ clash. clash.right ≡ right.now) }
-    ensures clash { IfOk result (λ clash. IsClash table.now clash.left clash.right clash.cells) }
-{
-    match confirm(alloc, table, left, right) {
-        Ok(Some(clash)) => Ok(clash),
-        Err(Failure::Memory) => Err(AllocError),
-        Ok(None) => unreachable!(),
-        Err(Failure::Fault(_)) => unreachable!(),
     }
 }

@@ -48,8 +48,8 @@ returns-clause-taken c =
       some = omega (arith, c.choice_of-choice.ensures.some);
       next = (
         c.context_after_infos-here.ensures (take n rest) (infos-taken t text c.args.infos.now start n (start + n - start) c.requires.infos taken)
-        ∙ ap (λ here. context_after_all t here (take n rest)) c.requires.at.0
-        ∙ c.translation_laws.ensures.context t text start n room,
+            ∙ ap (λ here. context_after_all t here (take n rest)) c.requires.at.0
+            ∙ c.translation_laws.ensures.context t text start n room,
         omega (arith, room, within, length-drop start text),
       );
     }

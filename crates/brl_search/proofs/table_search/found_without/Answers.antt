@@ -29,9 +29,8 @@ clash_of-requires c =
     let left = c.in-BothEnd.left.items in
     let right = c.in-BothEnd.right.items in
     let paths : AreTwoPaths (without left_out (dues_machine t)) left right = (rw c.in-BothEnd.is at c.requires.1).0 in
-    rw (c.as_slice.ensures.value, c.as_slice-in-BothEnd.ensures.value)
-    (clash_of_machine left_out t left right
-    (shows c.new-machine.result.left_out left_out c.new-machine.result.machine c.new-dues.result t left right c.new-machine.ensures.left_out c.new-machine.ensures.machine c.new-dues.ensures.table c.exact_law.ensures (c.exact_without_law.ensures left_out) c.same_cells_law.ensures paths))
+    clash_of_machine left_out t left right
+    (shows c.new-machine.result.left_out left_out c.new-machine.result.machine c.new-dues.result t left right c.new-machine.ensures.left_out c.new-machine.ensures.machine c.new-dues.ensures.table c.exact_law.ensures (c.exact_without_law.ensures left_out) c.same_cells_law.ensures paths)
 
 pub returns-in-Closed : goal.returns-in-Closed
 returns-in-Closed c limit outcome =
@@ -71,7 +70,7 @@ returns-in_ok-clash-in-BothEnd c limit outcome =
     let paths : AreTwoPaths (without left_out (dues_machine t)) left right = (rw c.in-BothEnd.is at outcome).0 in
     let shown = shows c.new-machine.result.left_out left_out c.new-machine.result.machine c.new-dues.result t left right c.new-machine.ensures.left_out c.new-machine.ensures.machine c.new-dues.ensures.table c.exact_law.ensures (c.exact_without_law.ensures left_out) c.same_cells_law.ensures paths in
     let clash : IsClashWithout left_out t found.left found.right found.cells =
-    clash_without left_out t left right found (c.in_ok-clash-in-BothEnd.ensures.left ∙ c.as_slice.ensures.value) (c.in_ok-clash-in-BothEnd.ensures.right ∙ c.as_slice-in-BothEnd.ensures.value)
+    clash_without left_out t left right found c.in_ok-clash-in-BothEnd.ensures.left c.in_ok-clash-in-BothEnd.ensures.right
     (none_of_machine left_out t left right shown) c.in_ok-clash-in-BothEnd.ensures.clash in
     record {
       closed = tt;

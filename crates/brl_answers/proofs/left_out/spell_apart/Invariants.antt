@@ -1,8 +1,0 @@
-use Rattle.std.proofs.Common.{◌≡◌, take}
-use Rattle.std.specs.Prelude.{flat_map, string_bytes}
-use Rattle.brl_answers.specs.Answers.{apart}
-use Rattle.brl_answers.proofs.left_out.spell_apart.Given as goal
-
--- the characters so far are spelled
-abbrev pub invariant-loop-character : goal.invariant-loop-character
-invariant-loop-character l = string_bytes l.text ≡ flat_map apart (take l.character-index l.characters)
