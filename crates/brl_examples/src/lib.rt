@@ -1,6 +1,7 @@
-//! Worked examples of the definitions, as theorems: includes, translations and a clash, certificates
-//! and their faults, and a machine of two letters that is shown to be unambiguous. `load_in_memory` and
-//! `translate_bytes` are calls over memory, with what their callers know more of them than of files.
+//! Worked examples of the definitions, as theorems: includes, translations and a clash,
+//! certificates and their faults, and a machine of two letters that is shown to be unambiguous.
+//! `load_in_memory` and `translate_bytes` are calls over memory, with what their callers know more
+//! of them than of files.
 #![tactic(auto)]
 
 mod certificates;

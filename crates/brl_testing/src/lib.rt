@@ -1,6 +1,6 @@
-//! What the tests of several crates share: rows of text with what is given and what is to come of it,
-//! what their fields have, tables of lines, sources, readers and writers that fail, and a writer that
-//! hears how far work is. No crate of the program uses it.
+//! What the tests of several crates share: rows of text with what is given and what is to come of
+//! it, what their fields have, tables of lines, sources, readers and writers that fail, and a
+//! writer that hears how far work is. No crate of the program uses it.
 #![tactic(auto)]
 
 mod fields;

@@ -1,8 +1,8 @@
 //! Rows of text, each with what is given and what is to come of it.
 //!
-//! A row is a line. Its fields are cut at `|`, and the last one says what is to come of the others: it
-//! is the rest of the row, which may have `|`, too. What a field has is written in one way everywhere
-//! (`fields`).
+//! A row is a line. Its fields are cut at `|`, and the last one says what is to come of the others:
+//! it is the rest of the row, which may have `|`, too. What a field has is written in one way
+//! everywhere (`fields`).
 use std::alloc::Global;
 use std::test::Fail;
 
@@ -26,8 +26,8 @@ pub fn agree(row: &str, given: &str, want: &str) -> Result<(), Fail> {
     Err(Fail::new(format_args!("at {row}: {given}")))
 }
 
-/// Fails at the first row of which this doesn't hold: where `given` and `want` of the other functions
-/// aren't enough, as for texts that only begin so.
+/// Fails at the first row of which this doesn't hold: where `given` and `want` of the other
+/// functions aren't enough, as for texts that only begin so.
 pub fn check_rows<F: Fn(Global, &str) -> Result<bool, Fail>>(
     alloc: Global,
     rows: &str,

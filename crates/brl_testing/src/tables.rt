@@ -43,8 +43,8 @@ pub fn with_table<T, F: FnOnce(&Table) -> Result<T, Fail>>(
     lend(table_of(alloc, lines)?, answer)
 }
 
-/// Fails at the first row whose third field isn't what is given of the table of its first and of the
-/// second.
+/// Fails at the first row whose third field isn't what is given of the table of its first and of
+/// the second.
 pub fn for_tables_of_3<F: Fn(Global, &Table, &str) -> Result<String, Fail>>(
     alloc: Global,
     rows: &str,
@@ -57,8 +57,8 @@ pub fn for_tables_of_3<F: Fn(Global, &Table, &str) -> Result<String, Fail>>(
     })
 }
 
-/// Fails at the first row whose fourth field isn't what is given of the table of its first and of the
-/// next two.
+/// Fails at the first row whose fourth field isn't what is given of the table of its first and of
+/// the next two.
 pub fn for_tables_of_4<F: Fn(Global, &Table, &str, &str) -> Result<String, Fail>>(
     alloc: Global,
     rows: &str,

@@ -113,7 +113,8 @@ BRLCERT 2;state 1 0 b61+3 b61*;end 1 0;|K3 NotCanonical line 2
 BRLCERT 2;state 1 0 b61-3 b61+4;end 1 0;|K3 NotCanonical line 2
 ";
 
-/// What reading the bytes of a field gives. A certificate counts where it is written as the same bytes.
+/// What reading the bytes of a field gives. A certificate counts where it is written as the same
+/// bytes.
 fn read(alloc: Global, field: &str) -> Result<String, Fail> {
     let bytes = bytes_of(alloc, field)?;
     match read_cert(alloc, bytes.as_slice()) {

@@ -60,7 +60,8 @@ fn are_copied(
     Ok(true)
 }
 
-/// Whether the start of a window machine has the steps of the table of one letter, and copies are equal.
+/// Whether the start of a window machine has the steps of the table of one letter, and copies are
+/// equal.
 pub fn has_steps_of_one_letter(alloc: Global, window: &Window) -> Result<bool, AllocError> {
     let start = window.start();
     let steps = window.moves(alloc, &start)?;
@@ -87,8 +88,8 @@ fn steps_of_one_letter(rt: HostRuntime) -> Result<(), Fail> {
     Ok(())
 }
 
-/// How many characters a table has, the length of its rule, 0 where it has none, and how many moves the
-/// start of its window machine has.
+/// How many characters a table has, the length of its rule, 0 where it has none, and how many moves
+/// the start of its window machine has.
 const MOVES: &str = "\
 4|5|5460
 4|6|too wide
@@ -97,7 +98,8 @@ const MOVES: &str = "\
 0|0|0
 ";
 
-/// The lines of a table of a blank and letters, `characters` in all, with a rule of `rule` times `a`.
+/// The lines of a table of a blank and letters, `characters` in all, with a rule of `rule` times
+/// `a`.
 fn lines_of_table(alloc: Global, characters: u32, rule: usize) -> Result<String, Fail> {
     let mut lines = String::from_str(alloc, "#")?;
     for number in 0..characters {
@@ -132,8 +134,8 @@ fn moves_of_the_start(rt: HostRuntime) -> Result<(), Fail> {
     for_rows_of_3(rt.alloc(), MOVES, moves_of)
 }
 
-/// The characters that a state knows, whether its text ends after them, and how many steps it has in the
-/// table of one letter.
+/// The characters that a state knows, whether its text ends after them, and how many steps it has
+/// in the table of one letter.
 const KNOWN: &str = "\
 |ends|0
 a|ends|1

@@ -54,8 +54,8 @@ fn marked_outcome<R: Files>(
     })
 }
 
-/// Whether a run says that memory ran out in it: with nothing written where it did so while the words
-/// were read, which may then be a use fault.
+/// Whether a run says that memory ran out in it: with nothing written where it did so while the
+/// words were read, which may then be a use fault.
 fn is_out_of_memory(outcome: &Outcome) -> bool {
     outcome.status == 3 || outcome.status == 2 && outcome.out.is_empty()
 }

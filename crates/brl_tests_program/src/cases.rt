@@ -1,7 +1,7 @@
 //! What the program answers.
 
-/// Files, the words, the lines of an input, those that are written to standard output and to standard
-/// error, and the status.
+/// Files, the words, the lines of an input, those that are written to standard output and to
+/// standard error, and the status.
 pub const TRANSLATIONS: &str = "\
 t.ctb: space \\s 0; letter a 1; letter b 12; letter c 14|brl,translate,t.ctb|abc a|ABC A||0
 t.ctb: space \\s 0; letter a 1; letter b 12; letter c 14|brl,translate,t.ctb||||0

@@ -8,8 +8,8 @@ use std::io::{Error, ErrorKind, Result as IoResult, Write};
 use std::test::Fail;
 use std::time::{Clock, Duration};
 
-/// The files and the words of a run; how often it reports its work; how often it reports that work has
-/// ended; and the last report.
+/// The files and the words of a run; how often it reports its work; how often it reports that work
+/// has ended; and the last report.
 const TOLD: &str = "\
 t.ctb: letter a 1; letter b 12|brl,search,t.ctb,o|1|1|searching: 1 states, 0 pairs
 t.ctb: letter a 1; letter b 1|brl,search,t.ctb,o|1|1|searching: 1 states, 0 pairs

@@ -103,7 +103,8 @@ fn worked_traces(rt: HostRuntime) -> Result<(), Fail> {
     for_tables_of_3(rt.alloc(), TRACES, traced)
 }
 
-/// Whether the translation and the trace of `az` have a fault at the `z`, and comparisons have one at a character of either text.
+/// Whether the translation and the trace of `az` have a fault at the `z`, and comparisons have one
+/// at a character of either text.
 fn are_unknown(alloc: Global, table: &Table) -> bool {
     let unknown = Some(Failure::Fault(ForwardFault::UnknownChar(1)));
     let left = Some(Failure::Fault(ConfirmFault::UnknownChar(Side::Left, 0)));

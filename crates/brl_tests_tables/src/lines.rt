@@ -84,8 +84,8 @@ fn lines_of_texts(rt: HostRuntime) -> Result<(), Fail> {
     for_rows_of_2(rt.alloc(), TEXTS, lines_of_text)
 }
 
-/// The text before a run of letters, how many letters there are, the text after them, and what comes of
-/// the table.
+/// The text before a run of letters, how many letters there are, the text after them, and what
+/// comes of the table.
 const LONG_LINES: &str = "\
 |2048||loaded
 |2048|;|loaded

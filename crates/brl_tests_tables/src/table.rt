@@ -11,8 +11,8 @@ use std::alloc::Global;
 use std::fmt::Write;
 use std::test::Fail;
 
-/// Lines, and what they define: the characters with their dots, their classes, what else is defined of
-/// them and the line of their dots; the rules in rank; the indicators; the notices.
+/// Lines, and what they define: the characters with their dots, their classes, what else is defined
+/// of them and the line of their dots; the rules in rank; the indicators; the notices.
 const TABLES: &str = "\
 letter a 1; punctuation a 12|a 1 10 at 1;again a at 2;
 space a 1; digit b 1; lowercase c 1; uppercase d 1; sign e 1; math f 1|a 1 1 at 1;b 1 4 at 2;c 1 24 at 3;d 1 40 at 4;e 1 64 at 5;f 1 128 at 6;

@@ -1,4 +1,5 @@
-//! Worked examples of include lines: the files of a table and the lines that they give, and refusals.
+//! Worked examples of include lines: the files of a table and the lines that they give, and
+//! refusals.
 use super::outcome;
 use brl_failure::Failure;
 use brl_lines::{MapSource, Source, SourceFault};
@@ -170,7 +171,8 @@ const FAILING: &str = "\
 /// Three files; the first includes the second, and that one the third.
 const THREE_FILES: &str = "t.ctb: include u.ctb & u.ctb: include v.ctb & v.ctb: letter a 1";
 
-/// Whether a read that fails gives this outcome, and the table is loaded when it is asked for again.
+/// Whether a read that fails gives this outcome, and the table is loaded when it is asked for
+/// again.
 fn fails_once(alloc: Global, source: &mut Watched, want: &str) -> Result<bool, Fail> {
     let first = watched_outcome(alloc, source, "t.ctb")?;
     let second = outcome(alloc, source, "t.ctb")?;

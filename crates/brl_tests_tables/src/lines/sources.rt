@@ -130,7 +130,8 @@ fn readers_that_fail(rt: HostRuntime) {
     assert!(rt; fault_of(rt.alloc(), 16_777_217, ErrorKind::Other) == too_large);
 }
 
-/// Whether paths without a file are refused, and only the one that can't be read counts as a failure.
+/// Whether paths without a file are refused, and only the one that can't be read counts as a
+/// failure.
 fn are_refused<S: Source>(alloc: Global, source: &mut S) -> bool {
     source.read(alloc, "no_such_file.ctb").err() == Some(Failure::Fault(SourceFault::NotFound))
         && source.failures() == 0
