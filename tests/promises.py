@@ -7,7 +7,8 @@ PROMISES.md has a row for each public function with a clause, and names its clau
 dash is a clause without a name. Its rows of types name a ghost fact of each, and those of private
 functions one of their clauses. DEFINITIONS.md names each file of specs/ once, but for those that
 begin with "Internal." and the lists of modules. In all documents, what is written `crate::name` or
-`crate::Type::name` is exported by that crate. A failed comparison ends with status 1.
+`crate::Type::name` is exported by that crate. The example at the head of each of six crates is the
+body of a function that a test of brl_tests_calls calls. A failed comparison ends with status 1.
 """
 
 import re
@@ -15,11 +16,16 @@ import sys
 from collections import Counter
 from collections.abc import Iterator
 from pathlib import Path
+from textwrap import dedent
 from typing import NamedTuple
 
 TOP = Path(__file__).resolve().parent.parent
 CRATES = TOP / "crates"
 PROMISES, DEFINITIONS = (TOP / "docs" / "proof" / it for it in ("PROMISES.md", "DEFINITIONS.md"))
+
+# The crates that a caller of the library names first, and the functions that their examples are the bodies of.
+OUTWARD = ("brl_table", "brl_forward", "brl_cert", "brl_accept", "brl_search", "brl_stream")
+EXAMPLES = CRATES / "brl_tests_calls" / "src" / "examples.rt"
 
 # The crates whose calls are promised to nobody: the program's `main`, and tests.
 OTHERS = re.compile(r"brl|brl_test.*")
@@ -159,16 +165,36 @@ def wrong_names(crates: dict[str, Crate]) -> Iterator[str]:
                 yield f"{page.relative_to(TOP)}: {crate}::{path} isn't exported"
 
 
+def wrong_examples() -> Iterator[str]:
+    """How the examples at the heads of crates differ from the functions that a test calls."""
+    text = EXAMPLES.read_text()
+    bodies = dict(re.findall(r"^fn example_of_(\w+)\(.*?\{\n(.*?)^\}", text, re.MULTILINE | re.DOTALL))
+    for crate in OUTWARD:
+        head = re.match(r"(?://!.*\n)+", (CRATES / crate / "src" / "lib.rt").read_text())
+        shown = re.findall(r"^//! ```\n((?://!.*\n)*?)//! ```$", head[0] if head else "", re.MULTILINE)
+        body = bodies.pop(crate.removeprefix("brl_"), None)
+        if [re.sub("^//! ?", "", it, flags=re.MULTILINE) for it in shown] != [dedent(body or "")]:
+            yield f"{crate}: the example at its head isn't the body of a function of {EXAMPLES.relative_to(TOP)}"
+        elif len(re.findall(rf"\bexample_of_{crate.removeprefix('brl_')}\(", text)) < 2:
+            yield f"{crate}: nothing calls its example"
+    yield from (f"example_of_{it}: no crate shows it" for it in bodies)
+
+
 def main() -> int:
     crates = {it.name: Crate(it.name) for it in sorted(CRATES.iterdir()) if it.is_dir()}
     page = PROMISES.read_text()
     wrong = [*wrong_promises(crates, page), *wrong_types(crates, page), *wrong_parts(crates, page)]
     wrong += [*wrong_definitions(), *wrong_names(crates)]
+    examples = list(wrong_examples())
     if wrong:
         print("FAILED: docs/proof/", *wrong, sep="\n")
-        return 1
-    print("ok: docs/proof/ has the public functions with their clauses, and the files of definitions")
-    return 0
+    else:
+        print("ok: docs/proof/ has the public functions with their clauses, and the files of definitions")
+    if examples:
+        print("FAILED: examples", *examples, sep="\n")
+    else:
+        print(f"ok: {len(OUTWARD)} crates show an example that a test runs")
+    return 1 if wrong or examples else 0
 
 
 if __name__ == "__main__":

@@ -2,10 +2,19 @@
 //! an accepted certificate translates no two different texts, of any length, to the same cells.
 //!
 //! `judge` reads a table and a certificate and checks the one against the other; `judge_with` does
-//! so for the texts that don't use some characters.
+//! so for the texts that don't use some characters. `Accepted` has the numbers of states and pairs,
+//! `JudgeFault` is the first refusal.
 //!
-//! Room 4, certificates and verdicts (docs/dev/ARCHITECTURE.md). The definitions begin in
-//! `specs/Judging.antt`.
+//! From files whose `t.ctb` has the lines `letter a 1` and `letter b 12`:
+//!
+//! ```
+//! let cert = b"BRLCERT 3\nstate 1 0 0\nstate 8 0 0\nend 2 0\n";
+//! let accepted = judge(alloc, files, "t.ctb", cert)?;
+//! Ok(accepted.states == 2 && accepted.pairs == 0)
+//! ```
+//!
+//! Room 4, certificates and verdicts (docs/dev/ARCHITECTURE.md): it uses rooms 1 to 3 and
+//! `brl_cert`, and no part of `brl_search`. The definitions begin in `specs/Judging.antt`.
 #![tactic(auto)]
 
 mod judge_fault;

@@ -1,11 +1,21 @@
 //! Certificates as bytes: their one spelling, and reading it. A certificate lists the states and
 //! pairs that prove a table unambiguous, so that anyone can check them.
 //!
-//! Inside, `field` has the fields of a line: numbers, flags, characters and leads. They are read
-//! leniently, and written in their one spelling.
+//! Its types are `Cert`, a certificate, with its `Body` of states and pairs, and `CertFault`, the
+//! first faulty line. Inside, `field` has the fields of a line: numbers, flags, characters and
+//! leads. They are read leniently, and written in their one spelling.
 //!
-//! Room 4, certificates and verdicts (docs/dev/ARCHITECTURE.md). The definitions begin in
-//! `specs/Lines.antt`.
+//! The certificate of the empty table:
+//!
+//! ```
+//! let bytes = b"BRLCERT 3\nstate 1 0 0\nend 1 0\n";
+//! let cert = read_cert(alloc, bytes)?;
+//! let written = write_cert(alloc, &cert)?;
+//! Ok(written.as_slice() == bytes.as_slice())
+//! ```
+//!
+//! Room 4, certificates and verdicts (docs/dev/ARCHITECTURE.md): it uses rooms 1 to 3, and no other
+//! crate of its room. The definitions begin in `specs/Lines.antt`.
 #![tactic(auto)]
 
 mod dues_line;

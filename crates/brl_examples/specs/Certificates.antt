@@ -32,6 +32,26 @@ front = codes "BRLCERT 1" ∷ codes "state 1 0 0 -" ∷ codes "state 8 0 0 61" �
 abbrev pub three_lines : List (List ℕ)
 three_lines = front ++ codes "end 3 1" ∷ []
 
+-- the bytes of these lines with another header
+abbrev pub with_header : List ℕ → List ℕ
+with_header line = lines (line ∷ codes "state 1 0 0 -" ∷ codes "state 8 0 0 61" ∷ codes "state 8 0 1 -" ∷ codes "pair 1 2 -" ∷ codes "end 3 1" ∷ [])
+
+-- the same with another first state
+abbrev pub with_start : List ℕ → List ℕ
+with_start line = lines (codes "BRLCERT 1" ∷ line ∷ codes "state 8 0 0 61" ∷ codes "state 8 0 1 -" ∷ codes "pair 1 2 -" ∷ codes "end 3 1" ∷ [])
+
+-- the same with another second state
+abbrev pub with_state : List ℕ → List ℕ
+with_state line = lines (codes "BRLCERT 1" ∷ codes "state 1 0 0 -" ∷ line ∷ codes "state 8 0 1 -" ∷ codes "pair 1 2 -" ∷ codes "end 3 1" ∷ [])
+
+-- the same with another pair
+abbrev pub with_pair : List ℕ → List ℕ
+with_pair line = lines (codes "BRLCERT 1" ∷ codes "state 1 0 0 -" ∷ codes "state 8 0 0 61" ∷ codes "state 8 0 1 -" ∷ line ∷ codes "end 3 1" ∷ [])
+
+-- the same with another end line
+abbrev pub with_end : List ℕ → List ℕ
+with_end line = lines (codes "BRLCERT 1" ∷ codes "state 1 0 0 -" ∷ codes "state 8 0 0 61" ∷ codes "state 8 0 1 -" ∷ codes "pair 1 2 -" ∷ line ∷ [])
+
 -- the start alone, which certifies the empty table
 abbrev pub start_alone : Certificate
 start_alone = Window (record { states = state 1 false [] ∷ []; pairs = [] })
@@ -51,54 +71,54 @@ faulty =
     row [] Truncated 1
     -- a last line without its line feed
     ∷ row (lines front ++ codes "end 3 ") Truncated 6
-    -- a byte behind the end line
+    -- a byte after the end line
     ∷ row (lines three_lines ++ codes "x") Syntax 7
     -- the end line is missing
-    ∷ row (lines (codes "BRLCERT 1" ∷ codes "state 1 0 0 -" ∷ codes "state 8 0 0 61" ∷ codes "state 8 0 1 -" ∷ codes "pair 1 2 -" ∷ [])) Truncated 6
+    ∷ row (lines front) Truncated 6
     -- a number with a leading zero
-    ∷ row (lines (codes "BRLCERT 1" ∷ codes "state 01 0 0 -" ∷ codes "state 8 0 0 61" ∷ codes "state 8 0 1 -" ∷ codes "pair 1 2 -" ∷ codes "end 3 1" ∷ [])) NotCanonical 2
+    ∷ row (with_start (codes "state 01 0 0 -")) NotCanonical 2
     -- a character with a leading zero
-    ∷ row (lines (codes "BRLCERT 1" ∷ codes "state 1 0 0 -" ∷ codes "state 8 0 0 061" ∷ codes "state 8 0 1 -" ∷ codes "pair 1 2 -" ∷ codes "end 3 1" ∷ [])) NotCanonical 3
+    ∷ row (with_state (codes "state 8 0 0 061")) NotCanonical 3
     -- a capital hexadecimal digit
-    ∷ row (lines (codes "BRLCERT 1" ∷ codes "state 1 0 0 -" ∷ codes "state 8 0 0 6A" ∷ codes "state 8 0 1 -" ∷ codes "pair 1 2 -" ∷ codes "end 3 1" ∷ [])) NotCanonical 3
+    ∷ row (with_state (codes "state 8 0 0 6A")) NotCanonical 3
     -- a number that is no character
-    ∷ row (lines (codes "BRLCERT 1" ∷ codes "state 1 0 0 -" ∷ codes "state 8 0 0 d800" ∷ codes "state 8 0 1 -" ∷ codes "pair 1 2 -" ∷ codes "end 3 1" ∷ [])) Syntax 3
+    ∷ row (with_state (codes "state 8 0 0 d800")) Syntax 3
     -- a flag of two digits
-    ∷ row (lines (codes "BRLCERT 1" ∷ codes "state 1 0 0 -" ∷ codes "state 8 00 0 61" ∷ codes "state 8 0 1 -" ∷ codes "pair 1 2 -" ∷ codes "end 3 1" ∷ [])) Syntax 3
+    ∷ row (with_state (codes "state 8 00 0 61")) Syntax 3
     -- a set of classes over 255
-    ∷ row (lines (codes "BRLCERT 1" ∷ codes "state 1 0 0 -" ∷ codes "state 256 0 0 61" ∷ codes "state 8 0 1 -" ∷ codes "pair 1 2 -" ∷ codes "end 3 1" ∷ [])) Syntax 3
+    ∷ row (with_state (codes "state 256 0 0 61")) Syntax 3
     -- two blanks between fields
-    ∷ row (lines (codes "BRLCERT 1" ∷ codes "state 1 0 0 -" ∷ codes "state 8  0 0 61" ∷ codes "state 8 0 1 -" ∷ codes "pair 1 2 -" ∷ codes "end 3 1" ∷ [])) Syntax 3
+    ∷ row (with_state (codes "state 8  0 0 61")) Syntax 3
     -- a state twice
     ∷ row (lines (codes "BRLCERT 1" ∷ codes "state 1 0 0 -" ∷ codes "state 8 0 0 61" ∷ codes "state 8 0 0 61" ∷ codes "state 8 0 1 -" ∷ codes "pair 1 2 -" ∷ codes "end 3 1" ∷ [])) DuplicateState 4
     -- a pair twice
     ∷ row (lines (codes "BRLCERT 1" ∷ codes "state 1 0 0 -" ∷ codes "state 8 0 0 61" ∷ codes "state 8 0 1 -" ∷ codes "pair 1 2 -" ∷ codes "pair 1 2 -" ∷ codes "end 3 1" ∷ [])) DuplicatePair 6
     -- a pair of a state that is not there
-    ∷ row (lines (codes "BRLCERT 1" ∷ codes "state 1 0 0 -" ∷ codes "state 8 0 0 61" ∷ codes "state 8 0 1 -" ∷ codes "pair 1 3 -" ∷ codes "end 3 1" ∷ [])) NoSuchState 5
+    ∷ row (with_pair (codes "pair 1 3 -")) NoSuchState 5
     -- such a pair twice: the state is missed first
     ∷ row (lines (codes "BRLCERT 1" ∷ codes "state 1 0 0 -" ∷ codes "state 8 0 0 61" ∷ codes "state 8 0 1 -" ∷ codes "pair 1 3 -" ∷ codes "pair 1 3 -" ∷ codes "end 3 1" ∷ [])) NoSuchState 5
     -- dots out of order
-    ∷ row (lines (codes "BRLCERT 1" ∷ codes "state 1 0 0 -" ∷ codes "state 8 0 0 61" ∷ codes "state 8 0 1 -" ∷ codes "pair 1 2 21" ∷ codes "end 3 1" ∷ [])) NotCanonical 5
+    ∷ row (with_pair (codes "pair 1 2 21")) NotCanonical 5
     -- a dot twice
-    ∷ row (lines (codes "BRLCERT 1" ∷ codes "state 1 0 0 -" ∷ codes "state 8 0 0 61" ∷ codes "state 8 0 1 -" ∷ codes "pair 1 2 11" ∷ codes "end 3 1" ∷ [])) Syntax 5
+    ∷ row (with_pair (codes "pair 1 2 11")) Syntax 5
     -- a number of a state over its range
-    ∷ row (lines (codes "BRLCERT 1" ∷ codes "state 1 0 0 -" ∷ codes "state 8 0 0 61" ∷ codes "state 8 0 1 -" ∷ codes "pair 4294967296 0 -" ∷ codes "end 3 1" ∷ [])) Syntax 5
+    ∷ row (with_pair (codes "pair 4294967296 0 -")) Syntax 5
     -- another number of pairs
-    ∷ row (lines (codes "BRLCERT 1" ∷ codes "state 1 0 0 -" ∷ codes "state 8 0 0 61" ∷ codes "state 8 0 1 -" ∷ codes "pair 1 2 -" ∷ codes "end 3 2" ∷ [])) WrongCount 6
-    -- a blank behind the end line
-    ∷ row (lines (codes "BRLCERT 1" ∷ codes "state 1 0 0 -" ∷ codes "state 8 0 0 61" ∷ codes "state 8 0 1 -" ∷ codes "pair 1 2 -" ∷ codes "end 3 1 " ∷ [])) Syntax 6
-    -- a state behind a pair
+    ∷ row (with_end (codes "end 3 2")) WrongCount 6
+    -- a blank after the end line
+    ∷ row (with_end (codes "end 3 1 ")) Syntax 6
+    -- a state after a pair
     ∷ row (lines (codes "BRLCERT 1" ∷ codes "state 1 0 0 -" ∷ codes "state 8 0 0 61" ∷ codes "state 8 0 1 -" ∷ codes "pair 1 2 -" ∷ codes "state 9 0 0 -" ∷ codes "end 3 1" ∷ [])) Syntax 6
-    -- a line behind the end line
+    -- a line after the end line
     ∷ row (lines (codes "BRLCERT 1" ∷ codes "state 1 0 0 -" ∷ codes "state 8 0 0 61" ∷ codes "state 8 0 1 -" ∷ codes "pair 1 2 -" ∷ codes "end 3 1" ∷ codes "" ∷ [])) Syntax 7
     -- states of another version than the header's
-    ∷ row (lines (codes "BRLCERT 2" ∷ codes "state 1 0 0 -" ∷ codes "state 8 0 0 61" ∷ codes "state 8 0 1 -" ∷ codes "pair 1 2 -" ∷ codes "end 3 1" ∷ [])) Syntax 2
+    ∷ row (with_header (codes "BRLCERT 2")) Syntax 2
     -- a version that is not known
-    ∷ row (lines (codes "BRLCERT 9" ∷ codes "state 1 0 0 -" ∷ codes "state 8 0 0 61" ∷ codes "state 8 0 1 -" ∷ codes "pair 1 2 -" ∷ codes "end 3 1" ∷ [])) Version 1
-    -- a version with a leading zero: its spelling is looked at first
-    ∷ row (lines (codes "BRLCERT 09" ∷ codes "state 1 0 0 -" ∷ codes "state 8 0 0 61" ∷ codes "state 8 0 1 -" ∷ codes "pair 1 2 -" ∷ codes "end 3 1" ∷ [])) NotCanonical 1
+    ∷ row (with_header (codes "BRLCERT 9")) Version 1
+    -- a version with a leading zero: its spelling is tested first
+    ∷ row (with_header (codes "BRLCERT 09")) NotCanonical 1
     -- a version over its range
-    ∷ row (lines (codes "BRLCERT 4294967296" ∷ codes "state 1 0 0 -" ∷ codes "state 8 0 0 61" ∷ codes "state 8 0 1 -" ∷ codes "pair 1 2 -" ∷ codes "end 3 1" ∷ [])) Syntax 1
+    ∷ row (with_header (codes "BRLCERT 4294967296")) Syntax 1
     ∷ []
 
 -- each row is refused as it says

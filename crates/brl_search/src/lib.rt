@@ -1,13 +1,24 @@
 //! The search of a table for a certificate or a clash.
 //!
-//! - `search` searches a table and returns what it `Found`. `search_with` has options: the characters
-//!   that the texts don't use, and who hears how far the search is.
+//! - `search` searches a table and returns what it `Found`. `search_with` has options: the
+//!   characters that the texts don't use, and who hears how far the search is.
 //! - `found_without` makes what is found from the outcome of the machine's search.
 //! - `seed_of` is the seed by which the search hashes what it finds.
 //! - The laws state what is reached of the table's dues machine.
 //!
-//! Room 4, certificates and verdicts (docs/dev/ARCHITECTURE.md). The definitions begin in
-//! `specs/Found.antt`.
+//! By a table of the lines `letter a 1` and `letter b 12`, with at most a million states and as
+//! many pairs:
+//!
+//! ```
+//! match search(alloc, table, 1_000_000)? {
+//!     Found::Certified(cert) => Ok(write_cert(alloc, &cert)?.starts_with(b"BRLCERT 3\n")),
+//!     Found::Clashing(clash) => Ok(clash.left() == clash.right()),
+//!     Found::Limit { .. } => Ok(false),
+//! }
+//! ```
+//!
+//! Room 4, certificates and verdicts (docs/dev/ARCHITECTURE.md): it uses rooms 1 to 3, and no other
+//! crate of its room. The definitions begin in `specs/Found.antt`.
 #![tactic(auto)]
 
 mod dues_laws;

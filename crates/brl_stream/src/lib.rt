@@ -1,8 +1,18 @@
 //! Streams: the input of a reader is translated line by line, and written to a writer. `Input` and
 //! `Output` are the reader and the writer, which `Counting` makes of those of the standard library;
-//! `translate_lines` does the work.
+//! `translate_lines` does the work. `StreamFault` is the first fault, with its line, from 1.
 //!
-//! Room 5, the program (docs/dev/ARCHITECTURE.md). The definitions begin in `specs/Output.antt`.
+//! By a table of the lines `letter a 1` and `letter b 12`:
+//!
+//! ```
+//! let mut reader = b"ab\n".as_slice();
+//! let mut writer = Counting::new(Vec::new(alloc));
+//! translate_lines(alloc, table, Form::Ascii, &mut reader, &mut writer)?;
+//! Ok(writer.device.as_slice() == b"AB\n".as_slice())
+//! ```
+//!
+//! Room 5, the program (docs/dev/ARCHITECTURE.md): it uses crates of room 1 alone. The definitions
+//! begin in `specs/Output.antt`.
 #![tactic(auto)]
 
 mod buffer;

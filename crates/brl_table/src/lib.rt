@@ -1,11 +1,21 @@
-//! Reads tables: from the lines of a table's files to the table that they define. A line is read to
-//! an `Item` by itself; a `TableBuilder` adds up the items in a first pass, and resolves the
-//! characters of rules and lists in a second one. `survey` lists the lines that have a fault by
-//! themselves. A table with its rules, classes and indicators is defined in `brl_rules`, and all of
-//! that crate is reached from here.
+//! Reads tables: from the lines of a table's files to the table that they define.
 //!
-//! Room 1, text and tables (docs/dev/ARCHITECTURE.md). The definitions begin in
-//! `specs/Reading.antt`.
+//! A line is read to an `Item` by itself; a `TableBuilder` adds up the items in a first pass, and
+//! resolves the characters of rules and lists in a second one. `survey` lists the lines that have a
+//! fault by themselves. `TableFault` is why lines define no table, `NoTable` why files define none.
+//! A table with its rules, classes and indicators is defined in `brl_rules`, and all of that crate
+//! is reached from here: `Table`, `Rule`, `Info`, `Class`.
+//!
+//! From files whose `t.ctb` has the lines `letter a 1` and `letter b 12`:
+//!
+//! ```
+//! let table = load_table(alloc, files, "t.ctb")?;
+//! let is_letter = table.info('b').is_some();
+//! Ok(is_letter && table.char_count() == 2 && table.rules_in_rank().is_empty())
+//! ```
+//!
+//! Room 1, text and tables (docs/dev/ARCHITECTURE.md): it uses crates of this room alone. The
+//! definitions begin in `specs/Reading.antt`.
 #![tactic(auto)]
 
 mod builder;

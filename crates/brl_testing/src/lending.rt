@@ -1,5 +1,5 @@
-//! Values that a test lends. The proof of a function grows with what it owns at each of its exits, so a test makes a table, a
-//! source or a list where it lends it, and owns nothing.
+//! Values that a test lends. The proof of a function grows with what it owns at each of its exits,
+//! so a test makes a table, a source or a list where it lends it, and owns nothing.
 ghost use Rattle.std.specs.Fn.{FnOnceReturnsAt, FnOnceReturnsAtMut};
 
 /// What a function answers for a value, which is dropped afterwards.

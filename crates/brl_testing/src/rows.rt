@@ -1,28 +1,21 @@
-//! Fields of rows.
+//! Rows of text, each with what is given and what is to come of it.
+//!
+//! A row is a line. Its fields are cut at `|`, and the last one says what is to come of the others:
+//! it is the rest of the row, which may have `|`, too. What a field has is written in one way
+//! everywhere (`fields`).
 use std::alloc::Global;
 use std::test::Fail;
 
-/// The first field of a row, and the fields after it. Fields are cut at `|`.
+/// The first field of a row, and the fields after it.
 pub fn cut(row: &str) -> Result<(&str, &str), Fail> {
     Ok(row.split_once('|').ok_or("a field is missing")?)
 }
 
-/// The lines of a field, which are cut at `; `, each with its LF. The empty field has no line.
-pub fn lines_of(alloc: Global, field: &str) -> Result<String, Fail> {
-    let mut text = String::new(alloc);
-    if field.is_empty() {
-        return Ok(text);
-    }
-    for line in field.split("; ") {
-        text.push_str(line)?;
-        text.push('\n')?;
-    }
-    Ok(text)
-}
-
-/// The characters of a text.
-pub fn chars(alloc: Global, text: &str) -> Result<Vec<char>, Fail> {
-    Ok(text.chars().collect(alloc)?)
+/// The first two fields of a row, and the fields after them.
+fn cut_twice(row: &str) -> Result<(&str, &str, &str), Fail> {
+    let (first, rest) = cut(row)?;
+    let (second, rest) = cut(rest)?;
+    Ok((first, second, rest))
 }
 
 /// Fails a test at a row where another text is given than is wanted.
@@ -31,4 +24,78 @@ pub fn agree(row: &str, given: &str, want: &str) -> Result<(), Fail> {
         return Ok(());
     }
     Err(Fail::new(format_args!("at {row}: {given}")))
+}
+
+/// Fails at the first row of which this doesn't hold: where `given` and `want` of the other
+/// functions aren't enough, as for texts that only begin so.
+pub fn check_rows<F: Fn(Global, &str) -> Result<bool, Fail>>(
+    alloc: Global,
+    rows: &str,
+    holds: F,
+) -> Result<(), Fail>
+    requires { F.IsAlwaysCallable holds }
+{
+    for row in rows.lines() {
+        if !holds(alloc, row)? {
+            return Err(Fail::new(format_args!("at {row}")));
+        }
+    }
+    Ok(())
+}
+
+/// Fails at the first row whose second field isn't what is given of the first.
+pub fn for_rows_of_2<F: Fn(Global, &str) -> Result<String, Fail>>(
+    alloc: Global,
+    rows: &str,
+    given: F,
+) -> Result<(), Fail>
+    requires { F.IsAlwaysCallable given }
+{
+    agree_at_rows(rows, |row| {
+        let (first, want) = cut(row)?;
+        Ok((given(alloc, first)?, want))
+    })
+}
+
+/// Fails at the first row whose third field isn't what is given of the first two.
+pub fn for_rows_of_3<F: Fn(Global, &str, &str) -> Result<String, Fail>>(
+    alloc: Global,
+    rows: &str,
+    given: F,
+) -> Result<(), Fail>
+    requires { F.IsAlwaysCallable given }
+{
+    agree_at_rows(rows, |row| {
+        let (first, second, want) = cut_twice(row)?;
+        Ok((given(alloc, first, second)?, want))
+    })
+}
+
+/// Fails at the first row whose fourth field isn't what is given of the first three.
+pub fn for_rows_of_4<F: Fn(Global, &str, &str, &str) -> Result<String, Fail>>(
+    alloc: Global,
+    rows: &str,
+    given: F,
+) -> Result<(), Fail>
+    requires { F.IsAlwaysCallable given }
+{
+    agree_at_rows(rows, |row| {
+        let (first, second, rest) = cut_twice(row)?;
+        let (third, want) = cut(rest)?;
+        Ok((given(alloc, first, second, third)?, want))
+    })
+}
+
+/// Fails at the first row whose two texts, what is given and what is wanted, differ.
+fn agree_at_rows<F: Fn(&str) -> Result<(String, &str), Fail>>(
+    rows: &str,
+    texts: F,
+) -> Result<(), Fail>
+    requires { F.IsAlwaysCallable texts }
+{
+    for row in rows.lines() {
+        let (given, want) = texts(row)?;
+        agree(row, given.as_str(), want)?;
+    }
+    Ok(())
 }

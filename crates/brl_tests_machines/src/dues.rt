@@ -55,8 +55,8 @@ const STEPS_OF_WORD_CAPITALS: &str = "\
 4|b|12|24 0 0
 ";
 
-/// A rule of two capitals: one of them that stands alone isn't the first of two, so its step owes the
-/// rule no bar.
+/// A rule of two capitals: one of them that stands alone isn't the first of two, so its step owes
+/// the rule no bar.
 const TWO_CAPITALS: &str = "uppercase A 2; always AA 3; begcapsword 12";
 
 /// The steps of its start.

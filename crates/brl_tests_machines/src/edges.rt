@@ -50,7 +50,8 @@ fn one_pair(alloc: Global) -> Result<Members<Pair<u32>>, Fail> {
     Ok(pairs)
 }
 
-/// Whether the pair is found in both orders, and by the step to state 1 alone where state 0 is ahead by its cells.
+/// Whether the pair is found in both orders, and by the step to state 1 alone where state 0 is
+/// ahead by its cells.
 fn is_found(alloc: Global, pairs: &Members<Pair<u32>>) -> Result<bool, Fail> {
     let lead = [Cell(1), Cell(2)];
     let there = lend(

@@ -13,8 +13,6 @@ mod dues;
 #[cfg(test)]
 mod edges;
 #[cfg(test)]
-mod lines;
-#[cfg(test)]
 mod pairs;
 #[cfg(test)]
 mod search;

@@ -2,7 +2,7 @@
 use brl_cells::{Cell, Cells, read_dots, write_dots};
 use brl_examples::{Letters, letters_are_unambiguous, numbered_letters_are_unambiguous};
 use brl_pairs::{Advanced, Machine, Pair, Step, advance, advance_law};
-use brl_testing::{agree, cut};
+use brl_testing::for_rows_of_3;
 use std::alloc::{AllocError, Global};
 use std::test::Fail;
 
@@ -98,11 +98,5 @@ fn advanced(alloc: Global, lead: &str, cells: &str) -> Result<String, Fail> {
 
 #[test]
 fn worked_leads(rt: HostRuntime) -> Result<(), Fail> {
-    for row in LEADS.lines() {
-        let (lead, rest) = cut(row)?;
-        let (cells, want) = cut(rest)?;
-        let given = advanced(rt.alloc(), lead, cells)?;
-        agree(row, given.as_str(), want)?;
-    }
-    Ok(())
+    for_rows_of_3(rt.alloc(), LEADS, advanced)
 }

@@ -1,5 +1,5 @@
 //! Searches of worked tables.
-use crate::lines::bytes_of;
+use crate::accept::answer_text;
 use brl_cert::{Cert, write_cert};
 use brl_closure::{Outcome, Search, Slice, accept};
 use brl_dues::Dues;
@@ -8,28 +8,28 @@ use brl_pairs::{Body, Seed};
 use brl_rules::Table;
 use brl_search::{Found, search, seed_of};
 use brl_states::DuesState;
-use brl_testing::{cut, table_of};
+use brl_testing::{check_rows, cut, field_of_bytes, for_rows_of_2, table_of};
 use std::alloc::{AllocError, Global};
 use std::test::Fail;
 
-/// What is found with the program's limit, or what that begins with, and the table's lines.
+/// A table's lines, and what is found with the program's limit, or a part of it.
 const SEARCHES: &str = "\
-certified: 1 pairs, 3 states|letter a 1; letter b 12; letter x 1-12; always ab 14
-certified: 0 pairs, 2 states|letter a 1; letter b 12
-certified|letter a 1; letter a 12
-certified|space \\s 0; letter b 12; letter u 136; letter t 2345; word but 12; word b 56-12
-certified: 0 pairs, 6 states|letter a 1; letter b 12; always ab 14; word ab 15
-certified|letter a 1; litdigit 1 1; numsign 3456; nocontractsign 56; numericnocontchars a
-certified: 0 pairs|space \\s 0; letter a 1; letter b 12; letter c 14; always abcabc 25
-clashing|letter a 1; letter b 12; letter x 1-12
-clashing|letter a 1; letter b 12; letter c 14; always ab 14
-clashing|space \\s 0; letter b 12; letter u 136; letter t 2345; word but 12
-clashing|letter a 1; litdigit 1 1; numsign 3456
-clashing|uplow Aa 1
-certified|uplow Aa 1; uplow Bb 12; uplow Cc 14; capsletter 6; begcapsword 6-6; endcapsword 6-3
-clashing|uplow Aa 1; uplow Bb 12; uplow Cc 14; capsletter 6; begcapsword 6-6
-clashing|uplow Aa 1; capsletter 6-1; begcapsword 6
-certified: 0 pairs, 8 states|lowercase x 1; uppercase A 2; midword AA 3; begcapsword 12
+letter a 1; letter b 12; letter x 1-12; always ab 14|certified: 3 states, 1 pairs
+letter a 1; letter b 12|certified: 2 states, 0 pairs
+letter a 1; letter a 12|certified
+space \\s 0; letter b 12; letter u 136; letter t 2345; word but 12; word b 56-12|certified
+letter a 1; letter b 12; always ab 14; word ab 15|certified: 6 states, 0 pairs
+letter a 1; litdigit 1 1; numsign 3456; nocontractsign 56; numericnocontchars a|certified
+space \\s 0; letter a 1; letter b 12; letter c 14; always abcabc 25| states, 0 pairs
+letter a 1; letter b 12; letter x 1-12|clashing
+letter a 1; letter b 12; letter c 14; always ab 14|clashing
+space \\s 0; letter b 12; letter u 136; letter t 2345; word but 12|clashing
+letter a 1; litdigit 1 1; numsign 3456|clashing
+uplow Aa 1|clashing
+uplow Aa 1; uplow Bb 12; uplow Cc 14; capsletter 6; begcapsword 6-6; endcapsword 6-3|certified
+uplow Aa 1; uplow Bb 12; uplow Cc 14; capsletter 6; begcapsword 6-6|clashing
+uplow Aa 1; capsletter 6-1; begcapsword 6|clashing
+lowercase x 1; uppercase A 2; midword AA 3; begcapsword 12|certified: 8 states, 0 pairs
 ";
 
 /// What `confirm` says of a clash's texts, in a word.
@@ -52,21 +52,16 @@ fn word_of_same(same: &Clash, clash: &Clash) -> &'static str {
     }
 }
 
-/// The certificate that is found, and the table's lines.
+/// A table's lines, and the bytes of the certificate that is found.
 const CERTIFICATES: &str = "\
-BRLCERT 3;state 1 0 0;end 1 0;|
-BRLCERT 3;state 1 0 0;state 8 0 0;end 2 0;|letter a 1; letter b 12
+|BRLCERT 3;state 1 0 0;end 1 0;
+letter a 1; letter b 12|BRLCERT 3;state 1 0 0;state 8 0 0;end 2 0;
 ";
 
 /// What the checker answers for these states and pairs.
 fn told_of_body(alloc: Global, table: &Table, body: &Body<DuesState>) -> Result<String, Fail> {
-    match accept(alloc, &Dues::new(alloc, table), body) {
-        Ok(accepted) => Ok(format!(in alloc;
-            "certified: {} pairs, {} states",
-            accepted.pairs, accepted.states
-        )?),
-        Err(fault) => Ok(fault.to_string(alloc)?),
-    }
+    let answer = answer_text(alloc, accept(alloc, &Dues::new(alloc, table), body))?;
+    Ok(format!(in alloc; "certified: {answer}")?)
 }
 
 fn told_of_cert(alloc: Global, table: &Table, cert: &Cert) -> Result<String, Fail> {
@@ -101,23 +96,20 @@ fn told_of(alloc: Global, lines: &str, limit: u32) -> Result<String, Fail> {
     told_of_table(alloc, &table, limit)
 }
 
-/// Whether what a search of the table of these lines with this limit finds begins with these words.
+/// Whether what a search of the table of these lines with this limit finds has these words.
 fn finds(alloc: Global, lines: &str, limit: u32, want: &str) -> Result<bool, Fail> {
-    Ok(told_of(alloc, lines, limit)?.as_str().starts_with(want))
+    Ok(told_of(alloc, lines, limit)?.as_str().contains(want))
 }
 
-/// Whether a row's first field is found.
+/// Whether a row's second field is found.
 fn is_found(alloc: Global, row: &str) -> Result<bool, Fail> {
-    let (want, lines) = cut(row)?;
+    let (lines, want) = cut(row)?;
     finds(alloc, lines, 1_000_000, want)
 }
 
 #[test]
 fn worked_tables(rt: HostRuntime) -> Result<(), Fail> {
-    for row in SEARCHES.lines() {
-        assert!(rt; is_found(rt.alloc(), row)?, "at {row}");
-    }
-    Ok(())
+    check_rows(rt.alloc(), SEARCHES, is_found)
 }
 
 /// The bytes of the certificate that was found; none where none was.
@@ -134,24 +126,15 @@ fn certificate(alloc: Global, table: &Table) -> Result<Vec<u8>, AllocError> {
     certificate_of_found(alloc, &found)
 }
 
-fn certificate_of(alloc: Global, lines: &str) -> Result<Vec<u8>, Fail> {
+/// The certificate of the table of a field, as a field of bytes.
+fn certificate_of(alloc: Global, lines: &str) -> Result<String, Fail> {
     let table = table_of(alloc, lines)?;
-    Ok(certificate(alloc, &table)?)
-}
-
-/// Whether a row's first field is the certificate that is found.
-fn is_certificate(alloc: Global, row: &str) -> Result<bool, Fail> {
-    let (want, lines) = cut(row)?;
-    let bytes = certificate_of(alloc, lines)?;
-    Ok(bytes.as_slice() == bytes_of(alloc, want)?.as_slice())
+    field_of_bytes(alloc, certificate(alloc, &table)?.as_slice())
 }
 
 #[test]
 fn worked_certificates(rt: HostRuntime) -> Result<(), Fail> {
-    for row in CERTIFICATES.lines() {
-        assert!(rt; is_certificate(rt.alloc(), row)?, "at {row}");
-    }
-    Ok(())
+    for_rows_of_2(rt.alloc(), CERTIFICATES, certificate_of)
 }
 
 #[test]

@@ -3,7 +3,7 @@ use brl_cells::{Cell, Chars};
 use brl_pairs::{Machine, Step};
 use brl_rules::{Class, Table};
 use brl_states::WindowState;
-use brl_testing::{agree, cut, with_table};
+use brl_testing::{for_rows_of_3, with_table};
 use brl_window::Window;
 use std::alloc::{AllocError, Global};
 use std::fmt::Write;
@@ -60,7 +60,8 @@ fn are_copied(
     Ok(true)
 }
 
-/// Whether the start of a window machine has the steps of the table of one letter, and copies are equal.
+/// Whether the start of a window machine has the steps of the table of one letter, and copies are
+/// equal.
 pub fn has_steps_of_one_letter(alloc: Global, window: &Window) -> Result<bool, AllocError> {
     let start = window.start();
     let steps = window.moves(alloc, &start)?;
@@ -78,18 +79,17 @@ fn is_window_of_one_letter(alloc: Global, table: &Table) -> Result<bool, Fail> {
 #[test]
 fn steps_of_one_letter(rt: HostRuntime) -> Result<(), Fail> {
     let alloc = rt.alloc();
-    assert!(rt;
-        with_table(
-            alloc,
-            ONE_LETTER,
-            |table| is_window_of_one_letter(alloc, table)
-        )?
-    );
+    let has_steps = with_table(
+        alloc,
+        ONE_LETTER,
+        |table| is_window_of_one_letter(alloc, table),
+    )?;
+    assert!(rt; has_steps);
     Ok(())
 }
 
-/// How many characters a table has, the length of its rule, 0 where it has none, and how many moves the start of its window
-/// machine has.
+/// How many characters a table has, the length of its rule, 0 where it has none, and how many moves
+/// the start of its window machine has.
 const MOVES: &str = "\
 4|5|5460
 4|6|too wide
@@ -98,7 +98,8 @@ const MOVES: &str = "\
 0|0|0
 ";
 
-/// The lines of a table of a blank and letters, `characters` in all, with a rule of `rule` times `a`.
+/// The lines of a table of a blank and letters, `characters` in all, with a rule of `rule` times
+/// `a`.
 fn lines_of_table(alloc: Global, characters: u32, rule: usize) -> Result<String, Fail> {
     let mut lines = String::from_str(alloc, "#")?;
     for number in 0..characters {
@@ -130,16 +131,11 @@ fn moves_of(alloc: Global, characters: &str, rule: &str) -> Result<String, Fail>
 
 #[test]
 fn moves_of_the_start(rt: HostRuntime) -> Result<(), Fail> {
-    for row in MOVES.lines() {
-        let (characters, rest) = cut(row)?;
-        let (rule, want) = cut(rest)?;
-        let given = moves_of(rt.alloc(), characters, rule)?;
-        agree(row, given.as_str(), want)?;
-    }
-    Ok(())
+    for_rows_of_3(rt.alloc(), MOVES, moves_of)
 }
 
-/// The characters that a state knows, whether its text ends after them, and how many steps it has in the table of one letter.
+/// The characters that a state knows, whether its text ends after them, and how many steps it has
+/// in the table of one letter.
 const KNOWN: &str = "\
 |ends|0
 a|ends|1
@@ -167,18 +163,12 @@ fn count_steps(alloc: Global, table: &Table, state: &WindowState) -> Result<Stri
     Ok(format!(in alloc; "{}", steps.len())?)
 }
 
-fn steps_of(alloc: Global, state: &WindowState) -> Result<String, Fail> {
-    with_table(alloc, ONE_LETTER, |table| count_steps(alloc, table, state))
+fn steps_of(alloc: Global, coming: &str, end: &str) -> Result<String, Fail> {
+    let state = state_of(alloc, coming, end == "ends")?;
+    with_table(alloc, ONE_LETTER, |table| count_steps(alloc, table, &state))
 }
 
 #[test]
 fn steps_of_any_state(rt: HostRuntime) -> Result<(), Fail> {
-    for row in KNOWN.lines() {
-        let (coming, rest) = cut(row)?;
-        let (end, want) = cut(rest)?;
-        let state = state_of(rt.alloc(), coming, end == "ends")?;
-        let given = steps_of(rt.alloc(), &state)?;
-        agree(row, given.as_str(), want)?;
-    }
-    Ok(())
+    for_rows_of_3(rt.alloc(), KNOWN, steps_of)
 }

@@ -1,7 +1,7 @@
 //! Runs in which memory may run out, each made again in the same process.
-use crate::runs::{Outcome, files_of, is_answered, words_of};
+use crate::runs::{Outcome, is_answered};
 use brl_lines::MapSource;
-use brl_testing::{Listener, cut, lines_of, mark};
+use brl_testing::{Listener, check_rows, cut, files_of, lines_of, mark, words_of};
 use brl_tool::{Counting, run};
 use std::alloc::Global;
 use std::rt::Files;
@@ -54,15 +54,15 @@ fn marked_outcome<R: Files>(
     })
 }
 
-/// Whether a run says that memory ran out in it: with nothing written where it did so while the words
-/// were read, which may then be a use fault.
+/// Whether a run says that memory ran out in it: with nothing written where it did so while the
+/// words were read, which may then be a use fault.
 fn is_out_of_memory(outcome: &Outcome) -> bool {
     outcome.status == 3 || outcome.status == 2 && outcome.out.is_empty()
 }
 
 /// Whether a run has its answer, or memory ran out in it.
 fn may_be(alloc: Global, outcome: &Outcome, fields: &str) -> Result<bool, Fail> {
-    Ok(is_out_of_memory(outcome) || outcome.is_told(alloc, fields)?)
+    Ok(is_out_of_memory(outcome) || outcome.fields(alloc)?.as_str() == fields)
 }
 
 /// Whether a run over files has its answer, or memory runs out in it; and whether it has its answer
@@ -89,11 +89,9 @@ fn is_answered_again<R: Files>(
 
 #[test]
 fn runs(rt: HostRuntime) -> Result<(), Fail> {
-    let alloc = rt.alloc();
-    for row in ROWS.lines() {
+    check_rows(rt.alloc(), ROWS, |alloc, row| {
         let (files, rest) = cut(row)?;
         let mut files = files_of(alloc, files)?;
-        assert!(rt; is_answered_again(&rt, alloc, &mut files, rest)?, "{row}");
-    }
-    Ok(())
+        is_answered_again(&rt, alloc, &mut files, rest)
+    })
 }

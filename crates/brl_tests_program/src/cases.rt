@@ -1,8 +1,7 @@
-//! What the program answers, in rows whose fields are cut at `|`.
+//! What the program answers.
 
-/// Files, the words, an input, what is written to standard output and to standard error, and the
-/// status. Files are cut at ` & `, a path from its lines at `: `, words at `,`, and the lines of a field
-/// at `; `. An empty field has no line.
+/// Files, the words, the lines of an input, those that are written to standard output and to
+/// standard error, and the status.
 pub const TRANSLATIONS: &str = "\
 t.ctb: space \\s 0; letter a 1; letter b 12; letter c 14|brl,translate,t.ctb|abc a|ABC A||0
 t.ctb: space \\s 0; letter a 1; letter b 12; letter c 14|brl,translate,t.ctb||||0

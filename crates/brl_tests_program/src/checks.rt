@@ -1,23 +1,15 @@
 //! Worked runs of `brl check` that rows can't spell.
 use crate::cases::CHECK;
-use crate::runs::{files_of, is_answered, repeated};
-use brl_lines::MapSource;
+use crate::runs::{is_answered, repeated};
+use brl_testing::{add_file, files_of};
 use std::alloc::Global;
 use std::fmt::Write;
 use std::test::Fail;
 
-/// Adds a certificate of this many bytes.
-fn add_cert(alloc: Global, count: usize, source: &mut MapSource) -> Result<(), Fail> {
-    let path = String::from_str(alloc, "c")?;
-    let bytes = repeated(alloc, b'x', count)?;
-    source.files.insert(path, bytes)?;
-    Ok(())
-}
-
 /// Whether the check of a certificate of this many bytes is answered so.
 fn is_sized(alloc: Global, count: usize, fields: &str) -> Result<bool, Fail> {
     let mut source = files_of(alloc, "t.ctb: #")?;
-    add_cert(alloc, count, &mut source)?;
+    add_file(alloc, &mut source, "c", repeated(alloc, b'x', count)?)?;
     is_answered(alloc, CHECK, &mut source, b"", fields)
 }
 

@@ -1,15 +1,15 @@
-//! How far long work is: what is told of it, and what a terminal shows.
-use crate::runs::{files_of, outcome_of};
+//! How far long work is: what is reported of it, and what a terminal shows.
+use crate::runs::outcome_of;
 use brl_progress::{Console, Progress, Work};
-use brl_testing::{Listener, cut};
+use brl_testing::{Listener, files_of, for_rows_of_2, for_rows_of_3};
 use std::alloc::Global;
 use std::cell::Cell;
 use std::io::{Error, ErrorKind, Result as IoResult, Write};
 use std::test::Fail;
 use std::time::{Clock, Duration};
 
-/// The files and the words of a run; how often it tells of its work; how often it says that work has
-/// ended; and the last that it tells.
+/// The files and the words of a run; how often it reports its work; how often it reports that work
+/// has ended; and the last report.
 const TOLD: &str = "\
 t.ctb: letter a 1; letter b 12|brl,search,t.ctb,o|1|1|searching: 1 states, 0 pairs
 t.ctb: letter a 1; letter b 1|brl,search,t.ctb,o|1|1|searching: 1 states, 0 pairs
@@ -22,7 +22,7 @@ t.ctb: letter a 1|brl,trace,t.ctb,a|0|0|
 ";
 
 /// The numbers and the last work that a run's standard error heard, as in a row.
-fn told_of(alloc: Global, heard: &Listener) -> Result<String, Fail> {
+fn heard_by(alloc: Global, heard: &Listener) -> Result<String, Fail> {
     let (times, ends) = (heard.times, heard.ends);
     match heard.last {
         Some(work) => Ok(format!(in alloc; "{times}|{ends}|{work}")?),
@@ -30,20 +30,15 @@ fn told_of(alloc: Global, heard: &Listener) -> Result<String, Fail> {
     }
 }
 
-/// Whether a run tells what its row says.
-fn is_told(alloc: Global, row: &str) -> Result<bool, Fail> {
-    let (files, rest) = cut(row)?;
-    let (words, want) = cut(rest)?;
+/// What the standard error of a run heard.
+fn heard_of(alloc: Global, files: &str, words: &str) -> Result<String, Fail> {
     let outcome = outcome_of(alloc, words, &mut files_of(alloc, files)?, b"")?;
-    Ok(told_of(alloc, &outcome.err)?.as_str() == want)
+    heard_by(alloc, &outcome.err)
 }
 
 #[test]
 fn searches_and_checks_tell_how_far_they_are(rt: HostRuntime) -> Result<(), Fail> {
-    for row in TOLD.lines() {
-        assert!(rt; is_told(rt.alloc(), row)?, "at {row}");
-    }
-    Ok(())
+    for_rows_of_3(rt.alloc(), TOLD, heard_of)
 }
 
 /// A clock that is set by hand, in milliseconds; without a time it fails.
@@ -124,18 +119,15 @@ fn shown_by(alloc: Global, words: &str, is_terminal: bool) -> Result<Vec<u8>, Fa
     Ok(console.into_stream())
 }
 
-/// Whether a terminal shows what its row says.
-fn is_shown(alloc: Global, row: &str) -> Result<bool, Fail> {
-    let (words, want) = cut(row)?;
-    Ok(shown_by(alloc, words, true)?.as_slice() == want.as_bytes())
+/// What a terminal shows.
+fn shown(alloc: Global, words: &str) -> Result<String, Fail> {
+    let written = shown_by(alloc, words, true)?;
+    Ok(String::from_str(alloc, std::str::from_utf8(written.as_slice())?)?)
 }
 
 #[test]
 fn a_terminal_shows_how_far_long_work_is(rt: HostRuntime) -> Result<(), Fail> {
-    for row in SHOWN.lines() {
-        assert!(rt; is_shown(rt.alloc(), row)?, "at {row}");
-    }
-    Ok(())
+    for_rows_of_2(rt.alloc(), SHOWN, shown)
 }
 
 /// Whether another stream gets what is said and nothing else.

@@ -1,10 +1,12 @@
 //! Worked reports.
 use brl_forward::confirm;
-use brl_lines::{Line, Loaded};
+use brl_lines::Line;
 use brl_report::{report, survey_report, trace_report};
 use brl_rules::Table;
 use brl_table::survey;
-use brl_testing::{agree, chars, cut, lend, lines_of, loaded_of, table_of, with_table};
+use brl_testing::{
+    chars, field_of, for_rows_of_2, for_tables_of_3, for_tables_of_4, lend, with_lines,
+};
 use std::alloc::Global;
 use std::test::Fail;
 
@@ -22,32 +24,16 @@ fn report_of(alloc: Global, table: &Table, left: &[char], right: &[char]) -> Res
     }
 }
 
-fn reported_by(alloc: Global, table: &Table, left: &str, right: &str) -> Result<String, Fail> {
+fn reported(alloc: Global, table: &Table, left: &str, right: &str) -> Result<String, Fail> {
     let left = chars(alloc, left)?;
     let right = chars(alloc, right)?;
-    report_of(alloc, table, left.as_slice(), right.as_slice())
-}
-
-fn reported(alloc: Global, lines: &str, left: &str, right: &str) -> Result<String, Fail> {
-    let table = table_of(alloc, lines)?;
-    reported_by(alloc, &table, left, right)
-}
-
-/// Whether the report of a row is the one of its last field.
-fn is_reported(alloc: Global, row: &str) -> Result<bool, Fail> {
-    let (lines, rest) = cut(row)?;
-    let (left, rest) = cut(rest)?;
-    let (right, want) = cut(rest)?;
-    let given = reported(alloc, lines, left, right)?;
-    Ok(given.as_str() == lines_of(alloc, want)?.as_str())
+    let text = report_of(alloc, table, left.as_slice(), right.as_slice())?;
+    field_of(alloc, text.as_str())
 }
 
 #[test]
 fn worked_reports(rt: HostRuntime) -> Result<(), Fail> {
-    for row in REPORTS.lines() {
-        assert!(rt; is_reported(rt.alloc(), row)?, "at {row}");
-    }
-    Ok(())
+    for_tables_of_4(rt.alloc(), REPORTS, reported)
 }
 
 /// A table's lines, a text and the lines of its report.
@@ -60,24 +46,14 @@ space \\s 0; punctuation \\\\ 12| \\|text: \\s\\\\; cells: 0-12;   \\s  -  0   t
 letter \u{56fd} 1; letter b 12|\u{56fd}b|text: \u{56fd}b; cells: 1-12;   \u{56fd}  -  1   t.ctb:1;   b   -  12  t.ctb:2
 ";
 
-fn traced_by(alloc: Global, table: &Table, text: &str) -> Result<String, Fail> {
+fn traced(alloc: Global, table: &Table, text: &str) -> Result<String, Fail> {
     let text = chars(alloc, text)?;
-    Ok(trace_report(alloc, table, text.as_slice())?)
-}
-
-fn check_trace(alloc: Global, row: &str) -> Result<(), Fail> {
-    let (lines, rest) = cut(row)?;
-    let (text, want) = cut(rest)?;
-    let given = with_table(alloc, lines, |table| traced_by(alloc, table, text))?;
-    agree(row, given.as_str(), lines_of(alloc, want)?.as_str())
+    field_of(alloc, trace_report(alloc, table, text.as_slice())?.as_str())
 }
 
 #[test]
 fn worked_traces(rt: HostRuntime) -> Result<(), Fail> {
-    for row in TRACES.lines() {
-        check_trace(rt.alloc(), row)?;
-    }
-    Ok(())
+    for_tables_of_3(rt.alloc(), TRACES, traced)
 }
 
 /// Lines, and those of the report of their survey.
@@ -90,26 +66,17 @@ b x; a x; b y; c z; a w; b q|B1 OutsideProfile b at t.ctb:1; B1 OutsideProfile a
 ";
 
 fn surveyed_lines(alloc: Global, lines: &[Line<'_>]) -> Result<String, Fail> {
-    lend(survey(alloc, lines)?, |found| {
-        Ok(survey_report(alloc, found.as_slice(), lines.len())?)
-    })
+    let text = lend(survey(alloc, lines)?, |found| {
+        survey_report(alloc, found.as_slice(), lines.len())
+    })?;
+    field_of(alloc, text.as_str())
 }
 
-fn surveyed(alloc: Global, loaded: &Loaded) -> Result<String, Fail> {
-    let lines = loaded.lines(alloc)?;
-    surveyed_lines(alloc, lines.as_slice())
-}
-
-fn check_survey(alloc: Global, row: &str) -> Result<(), Fail> {
-    let (lines, want) = cut(row)?;
-    let given = lend(loaded_of(alloc, lines)?, |loaded| surveyed(alloc, loaded))?;
-    agree(row, given.as_str(), lines_of(alloc, want)?.as_str())
+fn surveyed(alloc: Global, field: &str) -> Result<String, Fail> {
+    with_lines(alloc, field, |lines| surveyed_lines(alloc, lines))
 }
 
 #[test]
 fn worked_surveys(rt: HostRuntime) -> Result<(), Fail> {
-    for row in SURVEYS.lines() {
-        check_survey(rt.alloc(), row)?;
-    }
-    Ok(())
+    for_rows_of_2(rt.alloc(), SURVEYS, surveyed)
 }

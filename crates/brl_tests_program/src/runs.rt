@@ -3,48 +3,14 @@ use crate::cases;
 use crate::files::Sealed;
 use brl_failure::Failure;
 use brl_lines::{MapSource, SourceFault};
-use brl_testing::{Broken, Closed, Listener, Refusing, cut, lines_of, one_file};
-use brl_tool::{Counting, Failed, Files, prefixes_law, run};
+use brl_testing::{
+    Broken, Closed, Listener, Refusing, check_rows, cut, field_of, files_of, for_rows_of_2,
+    for_rows_of_4, lines_of, no_files, one_file, words_of,
+};
+use brl_tool::{Counting, Failed, Files, Input, prefixes_law, run};
 use std::alloc::Global;
-use std::collections::BTreeMap;
 use std::io::ErrorKind;
-use std::process::Abort;
 use std::test::Fail;
-
-/// Adds the file of a field.
-fn add_file(alloc: Global, field: &str, source: &mut MapSource) -> Result<(), Fail> {
-    let (path, lines) = field.split_once(": ").ok_or("a path is missing")?;
-    let path = String::from_str(alloc, path)?;
-    let bytes = Vec::from_slice(alloc, lines_of(alloc, lines)?.as_bytes())?;
-    source.files.insert(path, bytes)?;
-    Ok(())
-}
-
-fn add_files(alloc: Global, field: &str, source: &mut MapSource) -> Result<(), Fail> {
-    if field.is_empty() {
-        return Ok(());
-    }
-    for file in field.split(" & ") {
-        add_file(alloc, file, source)?;
-    }
-    Ok(())
-}
-
-/// The files of a field.
-pub fn files_of(alloc: Global, field: &str) -> Result<MapSource, Fail> {
-    let mut source = MapSource::new(BTreeMap::new(alloc));
-    add_files(alloc, field, &mut source)?;
-    Ok(source)
-}
-
-/// The words of a field.
-pub fn words_of(alloc: Global, field: &str) -> Result<Vec<String>, Fail> {
-    let mut words = Vec::new(alloc);
-    for word in field.split(',') {
-        words.push(String::from_str(alloc, word)?)?;
-    }
-    Ok(words)
-}
 
 /// What a run wrote, and its status.
 #[derive(Drop)]
@@ -60,14 +26,11 @@ impl Outcome {
         self.out.as_slice() == out && self.err.written.as_slice() == err && self.status == status
     }
 
-    /// Whether the lines of two fields were written, with the status of a third.
-    pub fn is_told(&self, alloc: Global, fields: &str) -> Result<bool, Fail> {
-        let (out, rest) = cut(fields)?;
-        let (err, status) = cut(rest)?;
-        let status = status.parse()?;
-        let out = lines_of(alloc, out)?;
-        let err = lines_of(alloc, err)?;
-        Ok(self.is(out.as_bytes(), err.as_bytes(), status))
+    /// The lines that were written, as two fields, and the status as a third.
+    pub fn fields(&self, alloc: Global) -> Result<String, Fail> {
+        let out = field_of(alloc, std::str::from_utf8(self.out.as_slice())?)?;
+        let err = field_of(alloc, std::str::from_utf8(self.err.written.as_slice())?)?;
+        Ok(format!(in alloc; "{out}|{err}|{}", self.status)?)
     }
 }
 
@@ -78,19 +41,21 @@ pub fn outcome_of<F: Files>(
     files: &mut F,
     input: &[u8],
 ) -> Result<Outcome, Fail> {
-    let words = words_of(alloc, words)?;
     let mut reader = input;
+    outcome_of_reader(alloc, words, files, &mut reader)
+}
+
+fn outcome_of_reader<F: Files, I: Input>(
+    alloc: Global,
+    words: &str,
+    files: &mut F,
+    reader: &mut I,
+) -> Result<Outcome, Fail> {
+    let words = words_of(alloc, words)?;
     let mut out = Counting::new(Vec::new(alloc));
     let mut err = Listener::new(Vec::new(alloc));
     prefixes_law(files);
-    let status = run(
-        alloc,
-        words.as_slice(),
-        files,
-        &mut reader,
-        &mut out,
-        &mut err,
-    );
+    let status = run(alloc, words.as_slice(), files, reader, &mut out, &mut err);
     Ok(Outcome {
         out: out.device,
         err,
@@ -106,40 +71,33 @@ pub fn is_answered<F: Files>(
     input: &[u8],
     fields: &str,
 ) -> Result<bool, Fail> {
-    outcome_of(alloc, words, files, input)?.is_told(alloc, fields)
+    let outcome = outcome_of(alloc, words, files, input)?;
+    Ok(outcome.fields(alloc)?.as_str() == fields)
 }
 
-/// Whether a run over files is answered as the rest of its row says.
-fn is_row_answered(alloc: Global, files: &mut MapSource, row: &str) -> Result<bool, Fail> {
-    let (words, rest) = cut(row)?;
-    let (input, fields) = cut(rest)?;
+/// The answer of a run over the files, the words and the input of three fields.
+fn answer_of(alloc: Global, files: &str, words: &str, input: &str) -> Result<String, Fail> {
+    let mut files = files_of(alloc, files)?;
     let input = lines_of(alloc, input)?;
-    is_answered(alloc, words, files, input.as_bytes(), fields)
-}
-
-/// Whether a run is answered as its row says.
-fn is_worked(alloc: Global, row: &str) -> Result<bool, Fail> {
-    let (files, rest) = cut(row)?;
-    is_row_answered(alloc, &mut files_of(alloc, files)?, rest)
-}
-
-fn check_rows(rt: &impl Abort, alloc: Global, rows: &str) -> Result<(), Fail> {
-    for row in rows.lines() {
-        assert!(rt; is_worked(alloc, row)?, "{row}");
-    }
-    Ok(())
+    outcome_of(alloc, words, &mut files, input.as_bytes())?.fields(alloc)
 }
 
 #[test]
 fn worked_runs(rt: HostRuntime) -> Result<(), Fail> {
-    check_rows(&rt, rt.alloc(), cases::TRANSLATIONS)?;
-    check_rows(&rt, rt.alloc(), cases::INCLUDES)?;
-    check_rows(&rt, rt.alloc(), cases::COMPARISONS)?;
-    check_rows(&rt, rt.alloc(), cases::CHECKS)?;
-    check_rows(&rt, rt.alloc(), cases::SEARCHES)?;
-    check_rows(&rt, rt.alloc(), cases::SURVEYS)?;
-    check_rows(&rt, rt.alloc(), cases::TRACES)?;
-    check_rows(&rt, rt.alloc(), cases::WITHOUT)
+    let alloc = rt.alloc();
+    for rows in [
+        cases::TRANSLATIONS,
+        cases::INCLUDES,
+        cases::COMPARISONS,
+        cases::CHECKS,
+        cases::SEARCHES,
+        cases::SURVEYS,
+        cases::TRACES,
+        cases::WITHOUT,
+    ] {
+        for_rows_of_4(alloc, rows, answer_of)?;
+    }
+    Ok(())
 }
 
 /// Whether what was written has a text that isn't empty; of the empty text, whether nothing was
@@ -164,16 +122,13 @@ fn has_texts(outcome: &Outcome, fields: &str) -> Result<bool, Fail> {
 /// Whether words are answered as their row says.
 fn is_request_answered(alloc: Global, row: &str) -> Result<bool, Fail> {
     let (words, fields) = cut(row)?;
-    let outcome = outcome_of(alloc, words, &mut files_of(alloc, "")?, b"")?;
+    let outcome = outcome_of(alloc, words, &mut no_files(alloc), b"")?;
     has_texts(&outcome, fields)
 }
 
 #[test]
 fn words_are_answered(rt: HostRuntime) -> Result<(), Fail> {
-    for row in cases::REQUESTS.lines() {
-        assert!(rt; is_request_answered(rt.alloc(), row)?, "{row}");
-    }
-    Ok(())
+    check_rows(rt.alloc(), cases::REQUESTS, is_request_answered)
 }
 
 /// The words that translate by the table `t.ctb`.
@@ -212,7 +167,7 @@ fn a_table_has_4096_rules(rt: HostRuntime) -> Result<(), Fail> {
     Ok(())
 }
 
-/// So many times a byte.
+/// This many times a byte.
 pub fn repeated(alloc: Global, byte: u8, count: usize) -> Result<Vec<u8>, Fail> {
     Ok(vec![in alloc; byte; count]?)
 }
@@ -269,52 +224,23 @@ fn is_refused(alloc: Global, refusal: Failure<SourceFault>, fields: &str) -> Res
 #[test]
 fn sources_refuse(rt: HostRuntime) -> Result<(), Fail> {
     let alloc = rt.alloc();
-    assert!(rt;
-        is_refused(
-            alloc,
-            Failure::Fault(SourceFault::Failed),
-            "|L2 ReadFailed t.ctb|2"
-        )?
-    );
-    assert!(rt;
-        is_refused(
-            alloc,
-            Failure::Fault(SourceFault::TooLarge),
-            "|L9 TooLarge t.ctb|2"
-        )?
-    );
+    let failed = Failure::Fault(SourceFault::Failed);
+    assert!(rt; is_refused(alloc, failed, "|L2 ReadFailed t.ctb|2")?);
+    let too_large = Failure::Fault(SourceFault::TooLarge);
+    assert!(rt; is_refused(alloc, too_large, "|L9 TooLarge t.ctb|2")?);
     assert!(rt; is_refused(alloc, Failure::Memory, "|Memory|3")?);
     Ok(())
-}
-
-/// What a run over a reader that fails wrote.
-fn unread_outcome(alloc: Global, files: &mut MapSource) -> Result<Outcome, Fail> {
-    let words = words_of(alloc, TRANSLATE)?;
-    let mut reader = Counting::new(Broken {
-        bytes: 0,
-        kind: ErrorKind::Other,
-    });
-    let mut out = Counting::new(Vec::new(alloc));
-    let mut err = Listener::new(Vec::new(alloc));
-    let status = run(
-        alloc,
-        words.as_slice(),
-        files,
-        &mut reader,
-        &mut out,
-        &mut err,
-    );
-    Ok(Outcome {
-        out: out.device,
-        err,
-        status,
-    })
 }
 
 /// Whether a run over a reader that fails is answered so.
 fn is_unread(alloc: Global, fields: &str) -> Result<bool, Fail> {
     let mut files = one_file(alloc, "t.ctb", b"letter a 1")?;
-    unread_outcome(alloc, &mut files)?.is_told(alloc, fields)
+    let mut reader = Counting::new(Broken {
+        bytes: 0,
+        kind: ErrorKind::Other,
+    });
+    let outcome = outcome_of_reader(alloc, TRANSLATE, &mut files, &mut reader)?;
+    Ok(outcome.fields(alloc)?.as_str() == fields)
 }
 
 #[test]
@@ -323,47 +249,33 @@ fn the_input_fails(rt: HostRuntime) -> Result<(), Fail> {
     Ok(())
 }
 
-/// The words, and the fault of their run where standard output refuses each write.
+/// The words, what is written to standard error, and the status of their run where standard output
+/// refuses each write.
 const WITHOUT_OUTPUT: &str = "\
-brl,translate,t.ctb|U4 OutputFailed at line 1
-brl,clash,t.ctb,ab,x|U4 OutputFailed
-brl,clash,t.ctb,a,b|U4 OutputFailed
-brl,search,t.ctb,o|U4 OutputFailed
-brl,--help|U4 OutputFailed
-brl,--version|U4 OutputFailed
+brl,translate,t.ctb|U4 OutputFailed at line 1|2
+brl,clash,t.ctb,ab,x|U4 OutputFailed|2
+brl,clash,t.ctb,a,b|U4 OutputFailed|2
+brl,search,t.ctb,o|U4 OutputFailed|2
+brl,--help|U4 OutputFailed|2
+brl,--version|U4 OutputFailed|2
 ";
 
-/// Whether a run over files whose standard output refuses each write answers the fault of its row,
-/// with status 2.
-fn is_cut_off_over(alloc: Global, files: &mut MapSource, row: &str) -> Result<bool, Fail> {
-    let (words, fault) = cut(row)?;
+/// The answer of such a run over a table of three letters.
+fn answer_without_output(alloc: Global, words: &str) -> Result<String, Fail> {
     let words = words_of(alloc, words)?;
+    let mut files = one_file(alloc, "t.ctb", b"letter a 1\nletter b 12\nletter x 1-12\n")?;
     let mut err = Listener::new(Vec::new(alloc));
     let mut input = b"a\n".as_slice();
     let mut out = Counting::new(Closed);
-    let status = run(
-        alloc,
-        words.as_slice(),
-        files,
-        &mut input,
-        &mut out,
-        &mut err,
-    );
-    Ok(status == 2 && err.written.as_slice() == lines_of(alloc, fault)?.as_bytes())
-}
-
-/// Whether such a run over a table of three letters does.
-fn is_cut_off(alloc: Global, row: &str) -> Result<bool, Fail> {
-    let table = b"letter a 1\nletter b 12\nletter x 1-12\n";
-    is_cut_off_over(alloc, &mut one_file(alloc, "t.ctb", table)?, row)
+    let words = words.as_slice();
+    let status = run(alloc, words, &mut files, &mut input, &mut out, &mut err);
+    let err = field_of(alloc, std::str::from_utf8(err.written.as_slice())?)?;
+    Ok(format!(in alloc; "{err}|{status}")?)
 }
 
 #[test]
 fn the_output_fails(rt: HostRuntime) -> Result<(), Fail> {
-    for row in WITHOUT_OUTPUT.lines() {
-        assert!(rt; is_cut_off(rt.alloc(), row)?, "{row}");
-    }
-    Ok(())
+    for_rows_of_2(rt.alloc(), WITHOUT_OUTPUT, answer_without_output)
 }
 
 /// The words, and the status of their run where standard error refuses each write.
@@ -375,33 +287,18 @@ brl,search,t.ctb,o|0
 brl,--nothing|2
 ";
 
-/// The status of a run over files whose standard error refuses each write.
-fn silent_status(alloc: Global, files: &mut MapSource, words: &str) -> Result<u8, Fail> {
+/// The status of such a run over a table of one letter.
+fn silent_status(alloc: Global, words: &str) -> Result<String, Fail> {
     let words = words_of(alloc, words)?;
+    let mut files = one_file(alloc, "t.ctb", b"letter a 1")?;
     let mut input = b"a\n".as_slice();
     let mut out = Counting::new(Vec::new(alloc));
-    Ok(run(
-        alloc,
-        words.as_slice(),
-        files,
-        &mut input,
-        &mut out,
-        &mut Closed,
-    ))
-}
-
-/// Whether a run whose standard error refuses each write has the status of its row.
-fn is_silent(alloc: Global, row: &str) -> Result<bool, Fail> {
-    let (words, status) = cut(row)?;
-    let status: u8 = status.parse()?;
-    let mut files = one_file(alloc, "t.ctb", b"letter a 1")?;
-    Ok(silent_status(alloc, &mut files, words)? == status)
+    let words = words.as_slice();
+    let status = run(alloc, words, &mut files, &mut input, &mut out, &mut Closed);
+    Ok(format!(in alloc; "{status}")?)
 }
 
 #[test]
 fn standard_error_refuses(rt: HostRuntime) -> Result<(), Fail> {
-    for row in SILENT.lines() {
-        assert!(rt; is_silent(rt.alloc(), row)?, "{row}");
-    }
-    Ok(())
+    for_rows_of_2(rt.alloc(), SILENT, silent_status)
 }

@@ -1,10 +1,10 @@
 //! Worked runs of `brl search`: what it writes is checked, and what it reports is compared.
 use crate::cases;
 use crate::files::Sealed;
-use crate::runs::{Outcome, files_of, is_answered, outcome_of};
+use crate::runs::{is_answered, outcome_of};
 use brl_failure::Failure;
 use brl_lines::MapSource;
-use brl_testing::{cut, lines_of};
+use brl_testing::{check_rows, cut, files_of, lines_of};
 use brl_tool::Failed;
 use std::alloc::Global;
 use std::test::Fail;
@@ -70,10 +70,7 @@ fn is_certified(alloc: Global, row: &str) -> Result<bool, Fail> {
 
 #[test]
 fn certificates_are_accepted(rt: HostRuntime) -> Result<(), Fail> {
-    for row in cases::CERTIFIED.lines() {
-        assert!(rt; is_certified(rt.alloc(), row)?, "{row}");
-    }
-    Ok(())
+    check_rows(rt.alloc(), cases::CERTIFIED, is_certified)
 }
 
 /// Whether an outcome is a clash, which is found.
@@ -90,10 +87,7 @@ fn is_clashing(alloc: Global, lines: &str) -> Result<bool, Fail> {
 
 #[test]
 fn clashes_are_reported(rt: HostRuntime) -> Result<(), Fail> {
-    for lines in cases::CLASHING.lines() {
-        assert!(rt; is_clashing(rt.alloc(), lines)?, "{lines}");
-    }
-    Ok(())
+    check_rows(rt.alloc(), cases::CLASHING, is_clashing)
 }
 
 /// One of five dots operands.

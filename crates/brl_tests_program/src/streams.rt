@@ -1,233 +1,17 @@
-//! Worked streams. In their rows fields are cut at `|`; in what is read and written `/` is a line
-//! feed, and `?` a byte that no UTF-8 has.
+//! Worked streams. What is read and written are fields of bytes.
 use brl_examples::translate_bytes;
 use brl_failure::Failure;
 use brl_rules::Table;
-use brl_testing::{Full, Slow, cut, table_of};
+use brl_testing::{
+    Full, Slow, agree, bytes_of, field_of_bytes, for_rows_of_2, for_rows_of_3, with_table,
+};
 use brl_tool::{Counting, Form, Input, LineFault, Output, StreamFault, translate_lines};
 use std::alloc::Global;
 use std::io;
-use std::process::Abort;
 use std::test::Fail;
 
 /// The lines of the table that translates every stream.
 const LINES: &str = "space \\s 0; letter a 1; letter b 12; letter c 14; letter q 17";
-
-/// What a row is tried on.
-#[derive(Clone, Copy)]
-enum Device {
-    /// An input in memory.
-    Memory,
-    /// A line of this many letters.
-    LongestLine,
-    /// A line of this many letters with this end, after another line.
-    LongLine,
-    /// A reader that gives its bytes one at a time, and then fails.
-    Slow,
-    /// A writer that takes this many writes.
-    Full,
-    /// A reader of short lines without end.
-    ShortLines,
-    /// A reader of one line without end.
-    EndlessLine,
-}
-
-impl Device {
-    /// Whether the stream of a row ends as the row says.
-    fn is_answered(self, alloc: Global, row: &str) -> Result<bool, Fail> {
-        let table = table_of(alloc, LINES)?;
-        self.is_answered_by(alloc, &table, row)
-    }
-
-    fn is_answered_by(self, alloc: Global, table: &Table, row: &str) -> Result<bool, Fail> {
-        match self {
-            Device::Memory => is_translated(alloc, table, row),
-            Device::LongestLine => is_longest(alloc, table, row),
-            Device::LongLine => is_too_long(alloc, table, row),
-            Device::Slow => is_interrupted(alloc, table, row),
-            Device::Full => is_cut_off(alloc, table, row),
-            Device::ShortLines => is_counted(alloc, table, row),
-            Device::EndlessLine => is_endless(alloc, table, row),
-        }
-    }
-}
-
-fn check_rows(rt: &impl Abort, alloc: Global, device: Device, rows: &str) -> Result<(), Fail> {
-    for row in rows.lines() {
-        assert!(rt; device.is_answered(alloc, row)?, "{row}");
-    }
-    Ok(())
-}
-
-/// The bytes of a field.
-fn bytes_of(alloc: Global, field: &str) -> Result<Vec<u8>, Fail> {
-    let mut bytes = Vec::new(alloc);
-    for byte in field.bytes() {
-        bytes.push(match byte {
-            b'/' => b'\n',
-            b'?' => 0xff,
-            other => other,
-        })?;
-    }
-    Ok(bytes)
-}
-
-/// What a stream answers: the text of its fault, or nothing where it was translated to its end.
-fn answer_of(alloc: Global, outcome: Result<(), Failure<StreamFault>>) -> Result<String, Fail> {
-    match outcome {
-        Ok(()) => Ok(String::new(alloc)),
-        Err(fault) => Ok(fault.to_string(alloc)?),
-    }
-}
-
-/// Whether a stream answers this, and has written this.
-fn ends_as(
-    alloc: Global,
-    outcome: Result<(), Failure<StreamFault>>,
-    written: &[u8],
-    fields: &str,
-) -> Result<bool, Fail> {
-    let (answer, output) = cut(fields)?;
-    let output = bytes_of(alloc, output)?;
-    Ok(answer_of(alloc, outcome)?.as_str() == answer && written == output.as_slice())
-}
-
-/// Whether an input in memory is answered so.
-fn is_answered(alloc: Global, table: &Table, input: &[u8], fields: &str) -> Result<bool, Fail> {
-    let mut writer = Counting::new(Vec::new(alloc));
-    let outcome = translate_bytes(alloc, table, input, &mut writer);
-    ends_as(alloc, outcome, writer.device.as_slice(), fields)
-}
-
-/// The input, what is answered, and what is written.
-const TRANSLATED: &str = "\
-abc a/||ABC A/
-abc a\r/||ABC A/
-abc a||ABC A/
-||
-/\r/||//
-a//b c/c||A//B C/C/
-";
-
-fn is_translated(alloc: Global, table: &Table, row: &str) -> Result<bool, Fail> {
-    let (input, fields) = cut(row)?;
-    let input = bytes_of(alloc, input)?;
-    is_answered(alloc, table, input.as_slice(), fields)
-}
-
-#[test]
-fn lines_are_translated(rt: HostRuntime) -> Result<(), Fail> {
-    check_rows(&rt, rt.alloc(), Device::Memory, TRANSLATED)
-}
-
-/// The same of inputs with a fault.
-const FAULTY: &str = "\
-az|F1 UnknownChar 1 at line 1|
-a/b z/c|F1 UnknownChar 2 at line 2|A/
-q|U1 NoAscii at line 1|
-a/b/c q/z/|U1 NoAscii at line 3|A/B/
-qz|F1 UnknownChar 1 at line 1|
-?|U2 InputNotUtf8 at line 1|
-z?|U2 InputNotUtf8 at line 1|
-a\r|F1 UnknownChar 1 at line 1|
-\u{feff}a|F1 UnknownChar 0 at line 1|
-";
-
-#[test]
-fn the_first_fault_ends_a_stream(rt: HostRuntime) -> Result<(), Fail> {
-    check_rows(&rt, rt.alloc(), Device::Memory, FAULTY)
-}
-
-/// This many times a byte, and then these bytes.
-fn repeated(alloc: Global, byte: u8, count: usize, end: &[u8]) -> Result<Vec<u8>, Fail> {
-    let mut bytes = vec![in alloc; byte; count]?;
-    bytes.extend_from_slice(end)?;
-    Ok(bytes)
-}
-
-/// Whether a line of this many letters is translated.
-fn is_longest(alloc: Global, table: &Table, row: &str) -> Result<bool, Fail> {
-    let length = row.parse()?;
-    let input = repeated(alloc, b'a', length, b"\r\n")?;
-    let output = repeated(alloc, b'A', length, b"\n")?;
-    let mut writer = Counting::new(Vec::new(alloc));
-    let outcome = translate_bytes(alloc, table, input.as_slice(), &mut writer);
-    Ok(outcome == Ok(()) && writer.device.as_slice() == output.as_slice())
-}
-
-#[test]
-fn a_line_has_65536_bytes(rt: HostRuntime) -> Result<(), Fail> {
-    check_rows(&rt, rt.alloc(), Device::LongestLine, "65536")
-}
-
-/// The end of the second line, how many letters it has before that, what is answered, and what is
-/// written.
-const TOO_LONG: &str = "\
-|65537|U5 InputLineTooLong at line 2|B/
-/|65537|U5 InputLineTooLong at line 2|B/
-\r/|65537|U5 InputLineTooLong at line 2|B/
-\r|65536|U5 InputLineTooLong at line 2|B/
-";
-
-fn is_too_long(alloc: Global, table: &Table, row: &str) -> Result<bool, Fail> {
-    let (end, rest) = cut(row)?;
-    let (length, fields) = cut(rest)?;
-    let end = bytes_of(alloc, end)?;
-    let line = repeated(alloc, b'a', length.parse()?, end.as_slice())?;
-    let mut input = Vec::from_slice(alloc, b"b\n")?;
-    input.extend_from_slice(line.as_slice())?;
-    is_answered(alloc, table, input.as_slice(), fields)
-}
-
-#[test]
-fn a_line_has_no_more_bytes(rt: HostRuntime) -> Result<(), Fail> {
-    check_rows(&rt, rt.alloc(), Device::LongLine, TOO_LONG)
-}
-
-/// The bytes that the reader gives, what is answered, and what is written.
-const INTERRUPTED: &str = "\
-abc a\r/|U3 InputFailed at line 2|ABC A/
-abc a/a|U3 InputFailed at line 2|ABC A/
-abc a\r|U3 InputFailed at line 1|
-|U3 InputFailed at line 1|
-";
-
-fn is_interrupted(alloc: Global, table: &Table, row: &str) -> Result<bool, Fail> {
-    let (bytes, fields) = cut(row)?;
-    let bytes = bytes_of(alloc, bytes)?;
-    let mut reader = Counting::new(Slow {
-        bytes: bytes.as_slice(),
-    });
-    let mut writer = Counting::new(Vec::new(alloc));
-    let outcome = translate_lines(alloc, table, Form::Ascii, &mut reader, &mut writer);
-    Ok(reader.failures == 1 && ends_as(alloc, outcome, writer.device.as_slice(), fields)?)
-}
-
-#[test]
-fn a_reader_fails(rt: HostRuntime) -> Result<(), Fail> {
-    check_rows(&rt, rt.alloc(), Device::Slow, INTERRUPTED)
-}
-
-/// How many writes the writer takes, the input, what is answered, and what is written.
-const CUT_OFF: &str = "1|abc a/b/c/|U4 OutputFailed at line 2|ABC A/\n";
-
-fn is_cut_off(alloc: Global, table: &Table, row: &str) -> Result<bool, Fail> {
-    let (writes, rest) = cut(row)?;
-    let (input, fields) = cut(rest)?;
-    let input = bytes_of(alloc, input)?;
-    let mut reader = input.as_slice();
-    let mut writer = Counting::new(Full {
-        left: writes.parse()?,
-        taken: Vec::new(alloc),
-    });
-    let outcome = translate_lines(alloc, table, Form::Ascii, &mut reader, &mut writer);
-    Ok(writer.failures == 1 && ends_as(alloc, outcome, writer.device.taken.as_slice(), fields)?)
-}
-
-#[test]
-fn a_writer_fails(rt: HostRuntime) -> Result<(), Fail> {
-    check_rows(&rt, rt.alloc(), Device::Full, CUT_OFF)
-}
 
 /// Gives lines of one character without end.
 #[derive(Drop)]
@@ -264,47 +48,217 @@ impl io::Write for Count {
     }
 }
 
-/// What is answered, and how many writes and bytes were written.
-const COUNTED: &str = "U6 InputTooLong at line 8388609|8388608|16777216\n";
+/// What a stream answers: the text of its fault, or nothing where it was translated to its end.
+fn answer_of(alloc: Global, outcome: Result<(), Failure<StreamFault>>) -> Result<String, Fail> {
+    match outcome {
+        Ok(()) => Ok(String::new(alloc)),
+        Err(fault) => Ok(fault.to_string(alloc)?),
+    }
+}
 
-fn is_counted(alloc: Global, table: &Table, row: &str) -> Result<bool, Fail> {
-    let (answer, rest) = cut(row)?;
-    let (writes, bytes) = cut(rest)?;
+/// What a stream answers, and what it has written, as two fields.
+fn answer_and_output(
+    alloc: Global,
+    outcome: Result<(), Failure<StreamFault>>,
+    written: &[u8],
+) -> Result<String, Fail> {
+    let answer = answer_of(alloc, outcome)?;
+    let output = field_of_bytes(alloc, written)?;
+    Ok(format!(in alloc; "{answer}|{output}")?)
+}
+
+/// The same of an input in memory.
+fn translated_by(alloc: Global, table: &Table, input: &[u8]) -> Result<String, Fail> {
+    let mut writer = Counting::new(Vec::new(alloc));
+    let outcome = translate_bytes(alloc, table, input, &mut writer);
+    answer_and_output(alloc, outcome, writer.device.as_slice())
+}
+
+fn translated_bytes(alloc: Global, input: &[u8]) -> Result<String, Fail> {
+    with_table(alloc, LINES, |table| translated_by(alloc, table, input))
+}
+
+/// The input, what is answered, and what is written.
+const TRANSLATED: &str = "\
+abc a;||ABC A;
+abc a\r;||ABC A;
+abc a||ABC A;
+||
+;\r;||;;
+a;;b c;c||A;;B C;C;
+";
+
+/// The same of an input that is a field.
+fn translated(alloc: Global, input: &str) -> Result<String, Fail> {
+    translated_bytes(alloc, bytes_of(alloc, input)?.as_slice())
+}
+
+#[test]
+fn lines_are_translated(rt: HostRuntime) -> Result<(), Fail> {
+    for_rows_of_2(rt.alloc(), TRANSLATED, translated)
+}
+
+/// The same of inputs with a fault.
+const FAULTY: &str = "\
+az|F1 UnknownChar 1 at line 1|
+a;b z;c|F1 UnknownChar 2 at line 2|A;
+q|U1 NoAscii at line 1|
+a;b;c q;z;|U1 NoAscii at line 3|A;B;
+qz|F1 UnknownChar 1 at line 1|
+!|U2 InputNotUtf8 at line 1|
+z!|U2 InputNotUtf8 at line 1|
+a\r|F1 UnknownChar 1 at line 1|
+\u{feff}a|F1 UnknownChar 0 at line 1|
+";
+
+#[test]
+fn the_first_fault_ends_a_stream(rt: HostRuntime) -> Result<(), Fail> {
+    for_rows_of_2(rt.alloc(), FAULTY, translated)
+}
+
+/// This many times a byte, and then these bytes.
+fn repeated(alloc: Global, byte: u8, count: usize, end: &[u8]) -> Result<Vec<u8>, Fail> {
+    let mut bytes = vec![in alloc; byte; count]?;
+    bytes.extend_from_slice(end)?;
+    Ok(bytes)
+}
+
+/// Whether a line of this many letters is translated.
+fn is_long_line_translated(alloc: Global, length: usize) -> Result<bool, Fail> {
+    let input = repeated(alloc, b'a', length, b"\r\n")?;
+    let output = repeated(alloc, b'A', length, b"\n")?;
+    let want = answer_and_output(alloc, Ok(()), output.as_slice())?;
+    Ok(translated_bytes(alloc, input.as_slice())?.as_str() == want.as_str())
+}
+
+#[test]
+fn a_line_has_65536_bytes(rt: HostRuntime) -> Result<(), Fail> {
+    assert!(rt; is_long_line_translated(rt.alloc(), 65_536)?);
+    Ok(())
+}
+
+/// The end of the second line, how many letters it has before that, what is answered, and what is
+/// written.
+const TOO_LONG: &str = "\
+|65537|U5 InputLineTooLong at line 2|B;
+;|65537|U5 InputLineTooLong at line 2|B;
+\r;|65537|U5 InputLineTooLong at line 2|B;
+\r|65536|U5 InputLineTooLong at line 2|B;
+";
+
+fn long_line_answer(alloc: Global, end: &str, letters: &str) -> Result<String, Fail> {
+    let end = bytes_of(alloc, end)?;
+    let line = repeated(alloc, b'a', letters.parse()?, end.as_slice())?;
+    let mut input = Vec::from_slice(alloc, b"b\n")?;
+    input.extend_from_slice(line.as_slice())?;
+    translated_bytes(alloc, input.as_slice())
+}
+
+#[test]
+fn a_line_has_no_more_bytes(rt: HostRuntime) -> Result<(), Fail> {
+    for_rows_of_3(rt.alloc(), TOO_LONG, long_line_answer)
+}
+
+/// The bytes that the reader gives, what is answered, and what is written.
+const INTERRUPTED: &str = "\
+abc a\r;|U3 InputFailed at line 2|ABC A;
+abc a;a|U3 InputFailed at line 2|ABC A;
+abc a\r|U3 InputFailed at line 1|
+|U3 InputFailed at line 1|
+";
+
+fn read_slowly(alloc: Global, table: &Table, bytes: &[u8]) -> Result<String, Fail> {
+    let mut reader = Counting::new(Slow { bytes });
+    let mut writer = Counting::new(Vec::new(alloc));
+    let outcome = translate_lines(alloc, table, Form::Ascii, &mut reader, &mut writer);
+    if reader.failures != 1 {
+        return Err(Fail::from("the reader hasn't failed once"));
+    }
+    answer_and_output(alloc, outcome, writer.device.as_slice())
+}
+
+fn slow_reader_answer(alloc: Global, bytes: &str) -> Result<String, Fail> {
+    let bytes = bytes_of(alloc, bytes)?;
+    with_table(
+        alloc,
+        LINES,
+        |table| read_slowly(alloc, table, bytes.as_slice()),
+    )
+}
+
+#[test]
+fn a_reader_fails(rt: HostRuntime) -> Result<(), Fail> {
+    for_rows_of_2(rt.alloc(), INTERRUPTED, slow_reader_answer)
+}
+
+/// How many writes the writer takes, the input, what is answered, and what is written.
+const CUT_OFF: &str = "1|abc a;b;c;|U4 OutputFailed at line 2|ABC A;\n";
+
+fn written_until_full(
+    alloc: Global,
+    table: &Table,
+    writes: u32,
+    input: &[u8],
+) -> Result<String, Fail> {
+    let mut reader = input;
+    let mut writer = Counting::new(Full {
+        left: writes,
+        taken: Vec::new(alloc),
+    });
+    let outcome = translate_lines(alloc, table, Form::Ascii, &mut reader, &mut writer);
+    if writer.failures != 1 {
+        return Err(Fail::from("the writer hasn't failed once"));
+    }
+    answer_and_output(alloc, outcome, writer.device.taken.as_slice())
+}
+
+fn full_writer_answer(alloc: Global, writes: &str, input: &str) -> Result<String, Fail> {
+    let writes = writes.parse()?;
+    let input = bytes_of(alloc, input)?;
+    with_table(alloc, LINES, |table| {
+        written_until_full(alloc, table, writes, input.as_slice())
+    })
+}
+
+#[test]
+fn a_writer_fails(rt: HostRuntime) -> Result<(), Fail> {
+    for_rows_of_3(rt.alloc(), CUT_OFF, full_writer_answer)
+}
+
+/// What is answered to an input without end, and how many writes and bytes were written.
+fn short_lines_answer(alloc: Global, table: &Table) -> Result<String, Fail> {
     let mut reader = Counting::new(ShortLines { feed: false });
     let mut writer = Counting::new(Count {
         writes: 0,
         bytes: 0,
     });
     let outcome = translate_lines(alloc, table, Form::Ascii, &mut reader, &mut writer);
-    let Count {
-        writes: taken,
-        bytes: held,
-    } = writer.device;
-    Ok(
-        answer_of(alloc, outcome)?.as_str() == answer
-            && taken == writes.parse()?
-            && held == bytes.parse()?,
-    )
+    let answer = answer_of(alloc, outcome)?;
+    let Count { writes, bytes } = writer.device;
+    Ok(format!(in alloc; "{answer}|{writes}|{bytes}")?)
 }
 
 #[test]
 fn an_endless_input_ends(rt: HostRuntime) -> Result<(), Fail> {
-    check_rows(&rt, rt.alloc(), Device::ShortLines, COUNTED)
+    let alloc = rt.alloc();
+    let given = with_table(alloc, LINES, |table| short_lines_answer(alloc, table))?;
+    let want = "U6 InputTooLong at line 8388609|8388608|16777216";
+    agree("short lines", given.as_str(), want)
 }
 
-/// What is answered, and what is written.
-const ENDLESS: &str = "U5 InputLineTooLong at line 1|\n";
-
-fn is_endless(alloc: Global, table: &Table, row: &str) -> Result<bool, Fail> {
+/// What is answered to a line without end, and what is written.
+fn endless_line_answer(alloc: Global, table: &Table) -> Result<String, Fail> {
     let mut reader = Counting::new(io::repeat(b'a'));
     let mut writer = Counting::new(Vec::new(alloc));
     let outcome = translate_lines(alloc, table, Form::Ascii, &mut reader, &mut writer);
-    ends_as(alloc, outcome, writer.device.as_slice(), row)
+    answer_and_output(alloc, outcome, writer.device.as_slice())
 }
 
 #[test]
 fn an_endless_line_ends(rt: HostRuntime) -> Result<(), Fail> {
-    check_rows(&rt, rt.alloc(), Device::EndlessLine, ENDLESS)
+    let alloc = rt.alloc();
+    let given = with_table(alloc, LINES, |table| endless_line_answer(alloc, table))?;
+    agree("one line", given.as_str(), "U5 InputLineTooLong at line 1|")
 }
 
 /// Whether a fault at line 3 is printed so.

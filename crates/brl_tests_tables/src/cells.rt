@@ -1,7 +1,7 @@
-//! Worked cells, their spellings and their marks. Fields of rows are cut at `|`, and a cell is its number.
+//! Worked cells, their spellings and their marks. In rows a cell is its number, in hexadecimal.
 use brl_cells::{Cell, Cells, DotsFault, read_dots, to_ascii, to_unicode, write_dots};
 use brl_failure::Failure;
-use brl_testing::{agree, cut, lend};
+use brl_testing::{agree, check_rows, cut, for_rows_of_2, for_rows_of_3, lend, numbers_of};
 use std::alloc::Global;
 use std::fmt::Write;
 use std::test::Fail;
@@ -12,9 +12,9 @@ const READ: &str = "\
 1|1
 0|0
 1-12|1,3
-2345|30
-17|65
-87654321|255
+2345|1e
+17|41
+87654321|ff
 1-1-1-1-1-1-1-1-1-1-1-1-1-1-1-1|1,1,1,1,1,1,1,1,1,1,1,1,1,1,1,1
 ";
 
@@ -23,54 +23,39 @@ const WRITTEN: &str = "\
 |
 0|0
 3,0|12-0
-60,1|3456-1
-255|12345678
+3c,1|3456-1
+ff|12345678
 ";
 
-/// The cells of a field.
+/// The cells whose numbers are a field.
 fn cells_of(alloc: Global, field: &str) -> Result<Vec<Cell>, Fail> {
     let mut cells = Vec::new(alloc);
-    if !field.is_empty() {
-        push_cells(&mut cells, field)?;
+    for number in &numbers_of(alloc, field)? {
+        cells.push(Cell(u8::try_from(*number)?))?;
     }
     Ok(cells)
 }
 
-fn push_cells(cells: &mut Vec<Cell>, field: &str) -> Result<(), Fail> {
-    for number in field.split(',') {
-        cells.push(Cell(number.parse()?))?;
-    }
-    Ok(())
-}
-
-/// Whether a dots operand is read as these cells.
-fn is_read(alloc: Global, dots: &str, cells: &[Cell]) -> Result<bool, Fail> {
-    Ok(read_dots(alloc, dots, 16)?.as_slice() == cells)
+/// Whether a row's dots operand is read as its cells.
+fn is_read(alloc: Global, row: &str) -> Result<bool, Fail> {
+    let (dots, cells) = cut(row)?;
+    let cells = cells_of(alloc, cells)?;
+    Ok(read_dots(alloc, dots, 16)?.as_slice() == cells.as_slice())
 }
 
 #[test]
 fn dots_are_read(rt: HostRuntime) -> Result<(), Fail> {
-    for row in READ.lines() {
-        let (dots, cells) = cut(row)?;
-        let cells = cells_of(rt.alloc(), cells)?;
-        assert!(rt; is_read(rt.alloc(), dots, cells.as_slice())?, "at {row}");
-    }
-    Ok(())
+    check_rows(rt.alloc(), READ, is_read)
 }
 
-/// Whether cells are written as this dots operand.
-fn is_written(alloc: Global, cells: &[Cell], dots: &str) -> Result<bool, Fail> {
-    Ok(write_dots(alloc, cells)?.as_str() == dots)
+/// The dots operand that is written for the cells of a field.
+fn written(alloc: Global, field: &str) -> Result<String, Fail> {
+    Ok(write_dots(alloc, cells_of(alloc, field)?.as_slice())?)
 }
 
 #[test]
 fn dots_are_written(rt: HostRuntime) -> Result<(), Fail> {
-    for row in WRITTEN.lines() {
-        let (cells, dots) = cut(row)?;
-        let cells = cells_of(rt.alloc(), cells)?;
-        assert!(rt; is_written(rt.alloc(), cells.as_slice(), dots)?, "at {row}");
-    }
-    Ok(())
+    for_rows_of_2(rt.alloc(), WRITTEN, written)
 }
 
 /// Texts that are no dots operands, the most cells that are taken, 16 or 1, and the fault.
@@ -101,13 +86,7 @@ fn fault_of(alloc: Global, text: &str, most: &str) -> Result<String, Fail> {
 
 #[test]
 fn the_first_fault_decides(rt: HostRuntime) -> Result<(), Fail> {
-    for row in FAULTS.lines() {
-        let (text, rest) = cut(row)?;
-        let (most, fault) = cut(rest)?;
-        let given = fault_of(rt.alloc(), text, most)?;
-        agree(row, given.as_str(), fault)?;
-    }
-    Ok(())
+    for_rows_of_3(rt.alloc(), FAULTS, fault_of)
 }
 
 /// Writes the faults as they are printed, each with a comma.
@@ -133,30 +112,38 @@ fn faults_are_printed_by_code_and_name(rt: HostRuntime) -> Result<(), Fail> {
     agree("faults", text.as_str(), want)
 }
 
-#[test]
-fn cells_have_marks(rt: HostRuntime) {
-    let cases = [
-        (0, Some(b' ')),
-        (1, Some(b'A')),
-        (3, Some(b'B')),
-        (9, Some(b'C')),
-        (15, Some(b'P')),
-        (16, Some(b'"')),
-        (31, Some(b'Q')),
-        (32, Some(b',')),
-        (47, Some(b'&')),
-        (48, Some(b';')),
-        (51, Some(b'\\')),
-        (60, Some(b'#')),
-        (63, Some(b'=')),
-        (64, None),
-        (65, None),
-        (128, None),
-        (255, None),
-    ];
-    for (cell, mark) in cases {
-        assert!(rt; to_ascii(Cell(cell)) == mark, "at {cell}");
+/// Cells and their marks in Braille ASCII, or nothing for a cell that has none.
+const MARKS: &str = "\
+0|\u{20}
+1|A
+3|B
+9|C
+f|P
+10|\"
+1f|Q
+20|,
+2f|&
+30|;
+33|\\
+3c|#
+3f|=
+40|
+41|
+80|
+ff|
+";
+
+/// The mark of a cell, or nothing.
+fn mark_of(alloc: Global, cell: &str) -> Result<String, Fail> {
+    match to_ascii(Cell(u8::from_str_radix(cell, 16)?)) {
+        Some(mark) => Ok(format!(in alloc; "{}", char::from(mark))?),
+        None => Ok(String::new(alloc)),
     }
+}
+
+#[test]
+fn cells_have_marks(rt: HostRuntime) -> Result<(), Fail> {
+    for_rows_of_2(rt.alloc(), MARKS, mark_of)
 }
 
 #[test]

@@ -1,10 +1,10 @@
-//! Worked translations, clashes and traces: rows whose fields are cut at `|`. More of them stand in brl_tests_program, by what the
+//! Worked translations, clashes and traces. More of them are in `brl_tests_program`, by what the
 //! program prints.
 use brl_cells::write_dots;
 use brl_failure::Failure;
 use brl_forward::{Clash, ConfirmFault, ForwardFault, Side, Traced, confirm, trace, translate};
 use brl_rules::Table;
-use brl_testing::{agree, chars, cut, with_table};
+use brl_testing::{agree, chars, for_tables_of_3, for_tables_of_4, with_table};
 use std::alloc::Global;
 use std::test::Fail;
 
@@ -47,19 +47,9 @@ fn translated(alloc: Global, table: &Table, text: &str) -> Result<String, Fail> 
     Ok(write_dots(alloc, cells.as_slice())?)
 }
 
-fn translation_of(alloc: Global, lines: &str, text: &str) -> Result<String, Fail> {
-    with_table(alloc, lines, |table| translated(alloc, table, text))
-}
-
 #[test]
 fn worked_translations(rt: HostRuntime) -> Result<(), Fail> {
-    for row in TRANSLATIONS.lines() {
-        let (lines, rest) = cut(row)?;
-        let (text, dots) = cut(rest)?;
-        let given = translation_of(rt.alloc(), lines, text)?;
-        agree(row, given.as_str(), dots)?;
-    }
-    Ok(())
+    for_tables_of_3(rt.alloc(), TRANSLATIONS, translated)
 }
 
 /// The dots of a clash of two texts, or nothing where there is none. Its texts are theirs.
@@ -80,20 +70,9 @@ fn clash_text(alloc: Global, clash: &Clash, left: &[char], right: &[char]) -> Re
     Ok(write_dots(alloc, clash.cells())?)
 }
 
-fn clash_of(alloc: Global, lines: &str, left: &str, right: &str) -> Result<String, Fail> {
-    with_table(alloc, lines, |table| clashing(alloc, table, left, right))
-}
-
 #[test]
 fn worked_clashes(rt: HostRuntime) -> Result<(), Fail> {
-    for row in CLASHES.lines() {
-        let (lines, rest) = cut(row)?;
-        let (left, rest) = cut(rest)?;
-        let (right, dots) = cut(rest)?;
-        let given = clash_of(rt.alloc(), lines, left, right)?;
-        agree(row, given.as_str(), dots)?;
-    }
-    Ok(())
+    for_tables_of_4(rt.alloc(), CLASHES, clashing)
 }
 
 /// A step's fields, as rows of traces have them.
@@ -119,22 +98,13 @@ fn traced(alloc: Global, table: &Table, text: &str) -> Result<String, Fail> {
     steps_text(alloc, steps.as_slice())
 }
 
-fn trace_of(alloc: Global, lines: &str, text: &str) -> Result<String, Fail> {
-    with_table(alloc, lines, |table| traced(alloc, table, text))
-}
-
 #[test]
 fn worked_traces(rt: HostRuntime) -> Result<(), Fail> {
-    for row in TRACES.lines() {
-        let (lines, rest) = cut(row)?;
-        let (text, want) = cut(rest)?;
-        let given = trace_of(rt.alloc(), lines, text)?;
-        agree(row, given.as_str(), want)?;
-    }
-    Ok(())
+    for_tables_of_3(rt.alloc(), TRACES, traced)
 }
 
-/// Whether the translation and the trace of `az` have a fault at the `z`, and comparisons have one at a character of either text.
+/// Whether the translation and the trace of `az` have a fault at the `z`, and comparisons have one
+/// at a character of either text.
 fn are_unknown(alloc: Global, table: &Table) -> bool {
     let unknown = Some(Failure::Fault(ForwardFault::UnknownChar(1)));
     let left = Some(Failure::Fault(ConfirmFault::UnknownChar(Side::Left, 0)));

@@ -1,4 +1,4 @@
-//! Worked texts and their lines. Fields of rows are cut at `|`; in a text `;` stands for LF, and `!` for a byte that no UTF-8 has.
+//! Worked texts, which are fields of bytes, and their lines.
 mod includes;
 mod operands;
 mod sources;
@@ -6,7 +6,7 @@ mod sources;
 use brl_examples::load_in_memory;
 use brl_failure::Failure;
 use brl_lines::{Line, LoadFault, Loaded, MapSource, Source, load};
-use brl_testing::{agree, cut, lend, lend_mut, one_file};
+use brl_testing::{bytes_of, for_rows_of_2, for_rows_of_4, lend, lend_mut, one_file};
 use std::alloc::Global;
 use std::fmt::Write;
 use std::test::Fail;
@@ -27,19 +27,6 @@ include;letter a 1|t.ctb:1 include@0;t.ctb:2 letter@8 a@15 1@17;
 letter \u{e9} 1 comment|t.ctb:1 letter@0 \u{e9}@7 1@10 comment@12;
 x|t.ctb:1 x@0;
 ";
-
-/// The bytes of a text.
-fn bytes_of(alloc: Global, text: &str) -> Result<Vec<u8>, Fail> {
-    let mut bytes = Vec::from_slice(alloc, text.as_bytes())?;
-    for byte in bytes.as_mut_slice() {
-        *byte = match *byte {
-            b';' => b'\n',
-            b'!' => 0xff,
-            other => other,
-        };
-    }
-    Ok(bytes)
-}
 
 /// The file `t.ctb` with a text.
 fn file_of(alloc: Global, text: &str) -> Result<MapSource, Fail> {
@@ -94,15 +81,11 @@ fn lines_of_text(alloc: Global, text: &str) -> Result<String, Fail> {
 
 #[test]
 fn lines_of_texts(rt: HostRuntime) -> Result<(), Fail> {
-    for row in TEXTS.lines() {
-        let (text, want) = cut(row)?;
-        let given = lines_of_text(rt.alloc(), text)?;
-        agree(row, given.as_str(), want)?;
-    }
-    Ok(())
+    for_rows_of_2(rt.alloc(), TEXTS, lines_of_text)
 }
 
-/// The text before a run of letters, how many letters there are, the text after them, and what comes of the table.
+/// The text before a run of letters, how many letters there are, the text after them, and what
+/// comes of the table.
 const LONG_LINES: &str = "\
 |2048||loaded
 |2048|;|loaded
@@ -121,7 +104,8 @@ fn refused<S: Source>(alloc: Global, source: &mut S) -> Result<String, Fail> {
     }
 }
 
-fn long_line(alloc: Global, before: &str, letters: usize, after: &str) -> Result<String, Fail> {
+fn long_line(alloc: Global, before: &str, letters: &str, after: &str) -> Result<String, Fail> {
+    let letters: usize = letters.parse()?;
     let text = format!(in alloc; "{before}{:a>letters$}{after}", "")?;
     let source = file_of(alloc, text.as_str())?;
     lend_mut(source, |source| refused(alloc, source))
@@ -129,12 +113,5 @@ fn long_line(alloc: Global, before: &str, letters: usize, after: &str) -> Result
 
 #[test]
 fn long_lines(rt: HostRuntime) -> Result<(), Fail> {
-    for row in LONG_LINES.lines() {
-        let (before, rest) = cut(row)?;
-        let (letters, rest) = cut(rest)?;
-        let (after, want) = cut(rest)?;
-        let given = long_line(rt.alloc(), before, letters.parse()?, after)?;
-        agree(row, given.as_str(), want)?;
-    }
-    Ok(())
+    for_rows_of_4(rt.alloc(), LONG_LINES, long_line)
 }

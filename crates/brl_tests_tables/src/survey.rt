@@ -1,7 +1,7 @@
-//! The lines of tables that have a fault by themselves, in rows whose fields are cut at `|`.
-use brl_lines::{Line, Loaded};
+//! The lines of tables that have a fault by themselves.
+use brl_lines::Line;
 use brl_table::{FaultyLine, survey};
-use brl_testing::{agree, cut, lend, lines_of, loaded_of};
+use brl_testing::{field_of, for_rows_of_2, lend, with_lines};
 use std::alloc::Global;
 use std::fmt::Write;
 use std::test::Fail;
@@ -40,31 +40,10 @@ fn surveyed_lines(alloc: Global, lines: &[Line<'_>]) -> Result<String, Fail> {
     )
 }
 
-fn surveyed_loaded(alloc: Global, loaded: &Loaded) -> Result<String, Fail> {
-    let lines = loaded.lines(alloc)?;
-    surveyed_lines(alloc, lines.as_slice())
-}
-
 /// The faulty lines among those of a field.
-fn surveyed(alloc: Global, lines: &str) -> Result<String, Fail> {
-    lend(
-        loaded_of(alloc, lines)?,
-        |loaded| surveyed_loaded(alloc, loaded),
-    )
-}
-
-fn check_row(alloc: Global, row: &str) -> Result<(), Fail> {
-    let (lines, want) = cut(row)?;
-    let given = surveyed(alloc, lines)?;
-    agree(row, given.as_str(), lines_of(alloc, want)?.as_str())
-}
-
-#[test]
-fn faulty_lines(rt: HostRuntime) -> Result<(), Fail> {
-    for row in SURVEYS.lines() {
-        check_row(rt.alloc(), row)?;
-    }
-    Ok(())
+fn surveyed(alloc: Global, field: &str) -> Result<String, Fail> {
+    let text = with_lines(alloc, field, |lines| surveyed_lines(alloc, lines))?;
+    field_of(alloc, text.as_str())
 }
 
 /// The lines of 1,026 letters, and then two lines for the first of them.
@@ -83,8 +62,13 @@ fn are_last_faulty(alloc: Global) -> Result<bool, Fail> {
     let given = surveyed(alloc, lines.as_str())?;
     Ok(
         given.as_str()
-            == "letter B8 TooMany letter at t.ctb:1025\nletter B8 TooMany letter at t.ctb:1026\n",
+            == "letter B8 TooMany letter at t.ctb:1025; letter B8 TooMany letter at t.ctb:1026",
     )
+}
+
+#[test]
+fn faulty_lines(rt: HostRuntime) -> Result<(), Fail> {
+    for_rows_of_2(rt.alloc(), SURVEYS, surveyed)
 }
 
 #[test]

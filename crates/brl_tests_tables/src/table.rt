@@ -1,18 +1,18 @@
-//! The tables and faults of lines in rows whose fields are cut at `|`, and the readers.
+//! The tables and the faults of lines.
 mod choices;
 mod parts;
 
 use brl_cells::{Cell, write_dots};
-use brl_lines::{Line, Loaded, Token};
+use brl_lines::{Line, Token};
 use brl_rules::{Info, Notice, Rule, Sign, Table};
 use brl_table::read_table;
-use brl_testing::{agree, cut, lend, loaded_of};
+use brl_testing::{agree, for_rows_of_2, lend, with_lines};
 use std::alloc::Global;
 use std::fmt::Write;
 use std::test::Fail;
 
-/// Lines, and what they define: the characters with their dots, their classes, what else is said of them and the line of their
-/// dots; the rules in rank; the indicators; the notices.
+/// Lines, and what they define: the characters with their dots, their classes, what else is defined
+/// of them and the line of their dots; the rules in rank; the indicators; the notices.
 const TABLES: &str = "\
 letter a 1; punctuation a 12|a 1 10 at 1;again a at 2;
 space a 1; digit b 1; lowercase c 1; uppercase d 1; sign e 1; math f 1|a 1 1 at 1;b 1 4 at 2;c 1 24 at 3;d 1 40 at 4;e 1 64 at 5;f 1 128 at 6;
@@ -75,16 +75,8 @@ capsletter 9|B4 BadDots 9 at t.ctb:1
 ";
 
 /// What the lines of a field define, or their fault.
-fn shown(alloc: Global, lines: &str) -> Result<String, Fail> {
-    lend(
-        loaded_of(alloc, lines)?,
-        |loaded| shown_loaded(alloc, loaded),
-    )
-}
-
-fn shown_loaded(alloc: Global, loaded: &Loaded) -> Result<String, Fail> {
-    let lines = loaded.lines(alloc)?;
-    shown_lines(alloc, lines.as_slice())
+fn shown(alloc: Global, field: &str) -> Result<String, Fail> {
+    with_lines(alloc, field, |lines| shown_lines(alloc, lines))
 }
 
 fn shown_lines(alloc: Global, lines: &[Line<'_>]) -> Result<String, Fail> {
@@ -192,12 +184,8 @@ fn push_notices(text: &mut String, notices: &[Notice]) -> Result<(), Fail> {
 
 #[test]
 fn tables_and_faults_of_lines(rt: HostRuntime) -> Result<(), Fail> {
-    for row in TABLES.lines().chain(FAULTS.lines()) {
-        let (lines, want) = cut(row)?;
-        let given = shown(rt.alloc(), lines)?;
-        agree(row, given.as_str(), want)?;
-    }
-    Ok(())
+    for_rows_of_2(rt.alloc(), TABLES, shown)?;
+    for_rows_of_2(rt.alloc(), FAULTS, shown)
 }
 
 fn token(text: &str) -> Token<'_> {

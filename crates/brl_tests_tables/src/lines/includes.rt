@@ -1,14 +1,16 @@
-//! Worked examples of include lines: the files of a table and the lines that they come to, and refusals.
-use super::{bytes_of, outcome};
+//! Worked examples of include lines: the files of a table and the lines that they give, and
+//! refusals.
+use super::outcome;
 use brl_failure::Failure;
 use brl_lines::{MapSource, Source, SourceFault};
-use brl_testing::{agree, cut};
+use brl_testing::{
+    add_file, add_files_of_bytes, agree, bytes_of, check_rows, cut, for_rows_of_3, no_files,
+};
 use std::alloc::Global;
-use std::collections::BTreeMap;
 use std::fmt::Write;
 use std::test::Fail;
 
-/// Files, which are cut at ` & `, a path from its text at `: `; the root; and what comes of it.
+/// Files of bytes, the root, and what comes of it.
 const INCLUDES: &str = "\
 d/t.ctb: include u.ctb & d/u.ctb: include v/w.ctb & d/v/w.ctb: include x.ctb & d/x.ctb: letter a 1|d/t.ctb|d/x.ctb:1 letter@0 a@7 1@9;
 d/t.ctb: include /v.ctb & /v.ctb: letter a 1|d/t.ctb|/v.ctb:1 letter@0 a@7 1@9;
@@ -26,45 +28,21 @@ t: include u & u: include v;include w & v: !|t|L3 NotUtf8 v at u:1
 t: include u & u: include v;!|t|L3 NotUtf8 u at t:1
 ";
 
-/// Adds a file to files in memory.
-fn add(alloc: Global, files: &mut MapSource, path: &str, text: &str) -> Result<(), Fail> {
-    let bytes = bytes_of(alloc, text)?;
-    files.files.insert(String::from_str(alloc, path)?, bytes)?;
-    Ok(())
-}
-
-/// Adds the files of a field.
-fn add_files(alloc: Global, files: &mut MapSource, field: &str) -> Result<(), Fail> {
-    if field.is_empty() {
-        return Ok(());
-    }
-    for file in field.split(" & ") {
-        let (path, text) = file.split_once(": ").ok_or("a path is missing")?;
-        add(alloc, files, path, text)?;
-    }
-    Ok(())
-}
-
-fn no_files(alloc: Global) -> MapSource {
-    MapSource::new(BTreeMap::new(alloc))
+/// Adds a file with the bytes of a field.
+fn add(alloc: Global, files: &mut MapSource, path: &str, field: &str) -> Result<(), Fail> {
+    add_file(alloc, files, path, bytes_of(alloc, field)?)
 }
 
 /// What comes of the table at a root.
 fn included(alloc: Global, field: &str, root: &str) -> Result<String, Fail> {
     let mut files = no_files(alloc);
-    add_files(alloc, &mut files, field)?;
+    add_files_of_bytes(alloc, field, &mut files)?;
     outcome(alloc, &mut files, root)
 }
 
 #[test]
 fn includes(rt: HostRuntime) -> Result<(), Fail> {
-    for row in INCLUDES.lines() {
-        let (files, rest) = cut(row)?;
-        let (root, want) = cut(rest)?;
-        let given = included(rt.alloc(), files, root)?;
-        agree(row, given.as_str(), want)?;
-    }
-    Ok(())
+    for_rows_of_3(rt.alloc(), INCLUDES, included)
 }
 
 /// Files in memory. Each read is counted, and one of them may fail, the first being 1.
@@ -129,7 +107,7 @@ const MANY_LINES: &str = "\
 1023|include u|L1 NotFound u at t.ctb:1024 after 3 reads, 0 failed
 ";
 
-/// So many lines `include e`, and a text after them.
+/// This many lines `include e`, and a text after them.
 fn include_lines(alloc: Global, count: usize, after: &str) -> Result<String, Fail> {
     let mut text = String::new(alloc);
     for _ in 0..count {
@@ -139,8 +117,8 @@ fn include_lines(alloc: Global, count: usize, after: &str) -> Result<String, Fai
     Ok(text)
 }
 
-fn many_included(alloc: Global, count: usize, after: &str) -> Result<String, Fail> {
-    let text = include_lines(alloc, count, after)?;
+fn many_included(alloc: Global, count: &str, after: &str) -> Result<String, Fail> {
+    let text = include_lines(alloc, count.parse()?, after)?;
     let mut source = Watched::new(alloc, 0);
     add(alloc, &mut source.files, "t.ctb", text.as_str())?;
     add(alloc, &mut source.files, "e", "")?;
@@ -149,13 +127,7 @@ fn many_included(alloc: Global, count: usize, after: &str) -> Result<String, Fai
 
 #[test]
 fn many_include_lines(rt: HostRuntime) -> Result<(), Fail> {
-    for row in MANY_LINES.lines() {
-        let (count, rest) = cut(row)?;
-        let (after, want) = cut(rest)?;
-        let given = many_included(rt.alloc(), count.parse()?, after)?;
-        agree(row, given.as_str(), want)?;
-    }
-    Ok(())
+    for_rows_of_3(rt.alloc(), MANY_LINES, many_included)
 }
 
 /// The number of the last file, its line, and what comes of the table `c1`.
@@ -178,21 +150,15 @@ fn add_chain(alloc: Global, files: &mut MapSource, last: usize, line: &str) -> R
     add(alloc, files, path.as_str(), line)
 }
 
-fn deep_included(alloc: Global, last: usize, line: &str) -> Result<String, Fail> {
+fn deep_included(alloc: Global, last: &str, line: &str) -> Result<String, Fail> {
     let mut source = Watched::new(alloc, 0);
-    add_chain(alloc, &mut source.files, last, line)?;
+    add_chain(alloc, &mut source.files, last.parse()?, line)?;
     watched_outcome(alloc, &mut source, "c1")
 }
 
 #[test]
 fn deep_files(rt: HostRuntime) -> Result<(), Fail> {
-    for row in DEEP_FILES.lines() {
-        let (last, rest) = cut(row)?;
-        let (line, want) = cut(rest)?;
-        let given = deep_included(rt.alloc(), last.parse()?, line)?;
-        agree(row, given.as_str(), want)?;
-    }
-    Ok(())
+    for_rows_of_3(rt.alloc(), DEEP_FILES, deep_included)
 }
 
 /// The read that fails, and what comes of the table.
@@ -205,7 +171,8 @@ const FAILING: &str = "\
 /// Three files; the first includes the second, and that one the third.
 const THREE_FILES: &str = "t.ctb: include u.ctb & u.ctb: include v.ctb & v.ctb: letter a 1";
 
-/// Whether a read that fails gives this outcome, and the table is loaded when it is asked for again.
+/// Whether a read that fails gives this outcome, and the table is loaded when it is asked for
+/// again.
 fn fails_once(alloc: Global, source: &mut Watched, want: &str) -> Result<bool, Fail> {
     let first = watched_outcome(alloc, source, "t.ctb")?;
     let second = outcome(alloc, source, "t.ctb")?;
@@ -218,7 +185,7 @@ fn fails_once(alloc: Global, source: &mut Watched, want: &str) -> Result<bool, F
 
 fn read_fails_once(alloc: Global, read: usize, want: &str) -> Result<bool, Fail> {
     let mut source = Watched::new(alloc, read);
-    add_files(alloc, &mut source.files, THREE_FILES)?;
+    add_files_of_bytes(alloc, THREE_FILES, &mut source.files)?;
     fails_once(alloc, &mut source, want)
 }
 
@@ -230,18 +197,14 @@ fn is_failing(alloc: Global, row: &str) -> Result<bool, Fail> {
 
 #[test]
 fn a_read_that_fails_once(rt: HostRuntime) -> Result<(), Fail> {
-    for row in FAILING.lines() {
-        assert!(rt; is_failing(rt.alloc(), row)?, "at {row}");
-    }
-    Ok(())
+    check_rows(rt.alloc(), FAILING, is_failing)
 }
 
 /// How often a byte stands in the file `u`, which the table includes, and what comes of the table.
 fn included_bytes(alloc: Global, byte: u8, count: usize) -> Result<String, Fail> {
     let mut files = no_files(alloc);
     add(alloc, &mut files, "t", "include u")?;
-    let bytes = vec![in alloc; byte; count]?;
-    files.files.insert(String::from_str(alloc, "u")?, bytes)?;
+    add_file(alloc, &mut files, "u", vec![in alloc; byte; count]?)?;
     outcome(alloc, &mut files, "t")
 }
 

@@ -2,7 +2,7 @@
 use super::{file_of, refused};
 use brl_failure::Failure;
 use brl_lines::{FileSource, Source, SourceFault, read_whole};
-use brl_testing::{Broken, Refusing, agree, cut, lend_mut, one_file};
+use brl_testing::{Broken, Refusing, agree, for_rows_of_2, lend_mut, one_file};
 use std::alloc::Global;
 use std::io::{ErrorKind, Read};
 use std::path::{Path, PathBuf};
@@ -83,16 +83,15 @@ const LARGE: &str = "\
 16777216|loaded
 ";
 
+/// What comes of a table of this many line feeds.
+fn line_feeds(alloc: Global, count: &str) -> Result<String, Fail> {
+    let count = count.parse()?;
+    refused(alloc, &mut LineFeeds { count })
+}
+
 #[test]
 fn files_that_are_too_large(rt: HostRuntime) -> Result<(), Fail> {
-    for row in LARGE.lines() {
-        let (count, want) = cut(row)?;
-        let mut source = LineFeeds {
-            count: count.parse()?,
-        };
-        agree(row, refused(rt.alloc(), &mut source)?.as_str(), want)?;
-    }
-    Ok(())
+    for_rows_of_2(rt.alloc(), LARGE, line_feeds)
 }
 
 #[test]
@@ -131,7 +130,8 @@ fn readers_that_fail(rt: HostRuntime) {
     assert!(rt; fault_of(rt.alloc(), 16_777_217, ErrorKind::Other) == too_large);
 }
 
-/// Whether paths without a file are refused, and only the one that can't be read counts as a failure.
+/// Whether paths without a file are refused, and only the one that can't be read counts as a
+/// failure.
 fn are_refused<S: Source>(alloc: Global, source: &mut S) -> bool {
     source.read(alloc, "no_such_file.ctb").err() == Some(Failure::Fault(SourceFault::NotFound))
         && source.failures() == 0

@@ -1,8 +1,8 @@
-//! Which rule a table takes in front of a text's rest, by number; and as many rules as a table may have.
+//! Which rule a table takes before a text's rest, by number; and as many rules as a table may have.
 use super::shown;
 use bitflags::Flags;
 use brl_rules::{Class, Context, Rule, Sign, Table, holds};
-use brl_testing::{agree, chars, cut, with_table};
+use brl_testing::{agree, chars, for_rows_of_3, with_table};
 use std::alloc::Global;
 use std::test::Fail;
 
@@ -36,15 +36,13 @@ fn chosen_of(alloc: Global, lines: &str, before: &str, rest: &str) -> Result<Str
     with_table(alloc, lines, |table| chosen(alloc, table, before, rest))
 }
 
+fn chosen_of_one_string(alloc: Global, before: &str, rest: &str) -> Result<String, Fail> {
+    chosen_of(alloc, ONE_STRING, before, rest)
+}
+
 #[test]
 fn choices_by_number(rt: HostRuntime) -> Result<(), Fail> {
-    for row in CHOICES.lines() {
-        let (before, rest) = cut(row)?;
-        let (rest, want) = cut(rest)?;
-        let given = chosen_of(rt.alloc(), ONE_STRING, before, rest)?;
-        agree(row, given.as_str(), want)?;
-    }
-    Ok(())
+    for_rows_of_3(rt.alloc(), CHOICES, chosen_of_one_string)
 }
 
 /// The lines of a table with this many rules of the same characters.

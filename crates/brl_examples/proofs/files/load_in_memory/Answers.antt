@@ -8,7 +8,7 @@ use Rattle.brl_lines.specs.Outcome.{AreLinesOf, AreLinesOfFiles, IsLoadFault}
 use Rattle.brl_lines.specs.Tokens.{LineView}
 use Rattle.brl_lines.specs.Views.{load_fault_view}
 use Rattle.brl_lines.specs.declared.fault.LoadFault.{LoadFault}
-use Rattle.brl_examples.proofs.memory.load_in_memory.Goals as goal
+use Rattle.brl_examples.proofs.files.load_in_memory.Goals as goal
 
 -- where a loading of lines gives an answer, so does one that gives its paths too
 gives_lines_of_loaded : (gives : FileAnswers) (root : List ℕ) (want : Result (List LineView) Refusal)
