@@ -8,3 +8,8 @@ pub mod Writes
 pub mod Missing
 pub mod EdgesLaws
 pub mod PlacesLaws
+pub mod CellOrder
+pub mod SortedLaws
+pub mod Matching
+pub mod Unmatched
+pub mod Numbered

@@ -10,3 +10,4 @@ pub mod Sets
 pub mod Edges
 pub mod NumberPairs
 pub mod Places
+pub mod Sorted

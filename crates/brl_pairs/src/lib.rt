@@ -24,6 +24,7 @@ mod machine;
 mod members;
 mod number_pairs;
 mod seed;
+mod sorted;
 mod step;
 
 pub use body::Body;
@@ -36,4 +37,5 @@ pub use machine::Machine;
 pub use members::Members;
 pub use number_pairs::{is_missing, is_there, is_there_swapped};
 pub use seed::{Seed, SeededHasher};
+pub use sorted::{SortedEdge, cells_of, matches, sort_by_cells, sort_edges};
 pub use step::{Pair, Step};
