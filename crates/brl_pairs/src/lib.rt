@@ -37,5 +37,5 @@ pub use machine::Machine;
 pub use members::Members;
 pub use number_pairs::{is_missing, is_there, is_there_swapped};
 pub use seed::{Seed, SeededHasher};
-pub use sorted::{SortedEdge, cells_of, matches, sort_by_cells, sort_edges};
+pub use sorted::{SortedEdge, as_u32, cells_of, matches, sort_by_cells, sort_edges};
 pub use step::{Pair, Step};

@@ -1,0 +1,105 @@
+-- The least rule of the edges that have a property, where edges with it match a lead: the rule of the
+-- first one of those that match.
+use Rattle.std.proofs.Common.{◌≡◌, ℕ, ◌+◌, ◌<◌, ◌≤◌, List, inl, inr, length, Some, slice_get, refl, sym, ◌∙◌, ap, subst, arith}
+use Rattle.std.proofs.lemmas.Bool.{cases_eq, cases_lt}
+use Rattle.std.proofs.lemmas.Option.{get_or_from_slice_get, slice_get_within}
+use Rattle.brl_closure.specs.Least.{IsLeast}
+use Rattle.brl_closure.specs.Sorted.{AreFound}
+use Rattle.brl_closure.specs.Steps.{HasBefore, HasOfRule}
+use Rattle.brl_pairs.specs.Body.{NumberPair}
+use Rattle.brl_pairs.specs.Edges.{AreInOrder}
+use Rattle.brl_pairs.specs.NumberPairs.{IsMissing}
+use Rattle.brl_pairs.specs.Sorted.{AreMatches, DoMatch, IsSortedOf, cells_of, or_none}
+use Rattle.brl_pairs.specs.declared.edge.Edge.{Edge}
+use Rattle.brl_pairs.specs.declared.sorted.SortedEdge.{SortedEdge}
+use Rattle.brl_pairs.proofs.Lists.{same_place}
+use Rattle.brl_pairs.proofs.Numbered.{contained, place_of}
+
+-- an edge that leads to a missing pair matches the lead
+pub missing_matches : (pairs : List NumberPair) (ahead : ℕ) (lead : List ℕ) (e : Edge) → IsMissing pairs ahead lead e → DoMatch lead e.cells
+missing_matches pairs ahead lead e (inl gap) = inl (gap.rest, gap.longer)
+missing_matches pairs ahead lead e (inr gap) = inr (gap.rest, gap.shorter)
+
+-- what is looked up among the sorted edges
+pub found_of_sorted : (cells : List (List ℕ)) (edges : List Edge) (sorted : List SortedEdge) → IsSortedOf cells edges sorted → (lead : List ℕ) (found : List SortedEdge) → AreMatches cells sorted lead found → AreFound edges lead found
+found_of_sorted cells edges sorted h lead found those = record {
+  only = λ k x at. (
+      let is = those.those.only x (contained found k x at) in
+      let own = h.by_numbers.only x is.0 in
+      (own.edge, own.at, subst (DoMatch lead) (ap or_none own.same_cells) is.1));
+  all = λ place e at m. (
+      let x = h.by_numbers.all place e at in
+      let own = h.by_numbers.only x.0 x.1 in
+      let same : own.edge ≡ e = same_place edges place own.edge e (ap (slice_get edges) (sym x.2) ∙ own.at) at in
+      let own_cells : cells_of cells x.0 ≡ e.cells = ap or_none own.same_cells ∙ ap (λ (z : Edge). z.cells) same in
+      let k = place_of found x.0 (those.those.all x.0 x.1 (subst (DoMatch lead) (sym own_cells) m)) in
+      (k.0, x.0, k.1, x.2));
+  ascending = those.ascending;
+}
+
+-- none of the edges that were found before this one has the property
+abbrev pub NoneAmong : (Edge → Type 0) → List Edge → List SortedEdge → ℕ → Type 0
+NoneAmong Has edges found n = (k : ℕ) (x : SortedEdge) (e : Edge) → k < n → slice_get found k ≡ Some x → slice_get edges x.place ≡ Some e → Has e → ⊥
+
+module _ (Has : Edge → Type 0) (edges : List Edge) (lead : List ℕ) (found : List SortedEdge) (h : AreFound edges lead found) (match : (e : Edge) → Has e → DoMatch lead e.cells) where
+  pub one_more_without : (n : ℕ) (x : SortedEdge) (e : Edge) → NoneAmong Has edges found n → slice_get found n ≡ Some x → slice_get edges x.place ≡ Some e → (Has e → ⊥) → NoneAmong Has edges found (n + 1)
+  one_more_without n x e none x_at e_at without k y f less y_at f_at =
+      elim (cases_eq k n) [
+        | inl here ↦ (
+            let same : x ≡ y = same_place found n x y x_at (ap (slice_get found) (sym here) ∙ y_at) in
+            let edge : e ≡ f = same_place edges y.place e f (ap (λ (z : SortedEdge). slice_get edges z.place) (sym same) ∙ e_at) f_at in
+            λ has. without (subst Has (sym edge) has))
+        | inr apart ↦ none k y f (omega (arith, less, apart)) y_at f_at
+      ]
+
+  ascend : (i j : ℕ) (x y : SortedEdge) → i ≤ j → slice_get found i ≡ Some x → slice_get found j ≡ Some y → x.place ≤ y.place
+  ascend i j x y le x_at y_at =
+      let up = h.ascending i j x le (slice_get_within found j y y_at) in
+      let first = ap (λ (z : SortedEdge). z.place) (get_or_from_slice_get found i x x x_at) in
+      let second = ap (λ (z : SortedEdge). z.place) (get_or_from_slice_get found j y x y_at) in
+      omega (arith, up, first, second)
+
+  -- an edge with the property is not before the first that was found with it
+  not_before : (n : ℕ) (x : SortedEdge) → slice_get found n ≡ Some x → NoneAmong Has edges found n → (place : ℕ) (f : Edge) → slice_get edges place ≡ Some f → Has f → x.place ≤ place
+  not_before n x x_at none place f f_at has =
+      let y = h.all place f f_at (match f has) in
+      elim (cases_lt y.0 n) [
+        | inl less ↦ absurd (none y.0 y.1 f less y.2 (ap (slice_get edges) y.3 ∙ f_at) has)
+        | inr more ↦ (let le = ascend n y.0 x y.1 more x_at y.2 in omega (arith, le, y.3))
+      ]
+
+  least_rule : AreInOrder edges → (n : ℕ) (x : SortedEdge) (e : Edge) → slice_get found n ≡ Some x → slice_get edges x.place ≡ Some e → NoneAmong Has edges found n → (place : ℕ) (f : Edge) → slice_get edges place ≡ Some f → Has f → e.rule ≤ f.rule
+  least_rule in_order n x e x_at e_at none place f f_at has =
+      let le = not_before n x x_at none place f f_at has in
+      elim (cases_eq x.place place) [
+        | inl same ↦ (let rules : e.rule ≡ f.rule = ap (λ (z : Edge). z.rule) (same_place edges place e f (ap (slice_get edges) (sym same) ∙ e_at) f_at) in omega (arith, rules))
+        | inr apart ↦ in_order x.place place e f (omega (arith, le, apart)) e_at f_at
+      ]
+
+  -- ---- Of all edges
+
+  pub least_of_all : AreInOrder edges → (n : ℕ) (x : SortedEdge) (e : Edge) → slice_get found n ≡ Some x → slice_get edges x.place ≡ Some e → NoneAmong Has edges found n → Has e → IsLeast (HasOfRule Has edges) e.rule
+  least_of_all in_order n x e x_at e_at none has = record {
+    has = record { place = x.place; edge = e; at = e_at; has_rule = refl; has = has };
+    below_all = λ rule f. subst (λ (r : ℕ). e.rule ≤ r) f.has_rule (least_rule in_order n x e x_at e_at none f.place f.edge f.at f.has);
+  }
+
+  pub none_of_all : (n : ℕ) → length found ≤ n → NoneAmong Has edges found n → (rule : ℕ) → HasOfRule Has edges rule → ⊥
+  none_of_all n all none rule f =
+      let y = h.all f.place f.edge f.at (match f.edge f.has) in
+      let within : y.0 < length found = slice_get_within found y.0 y.1 y.2 in
+      none y.0 y.1 f.edge (omega (arith, within, all)) y.2 (ap (slice_get edges) y.3 ∙ f.at) f.has
+
+  -- ---- Of those before a place
+
+  pub least_before : AreInOrder edges → (end n : ℕ) (x : SortedEdge) (e : Edge) → x.place < end → slice_get found n ≡ Some x → slice_get edges x.place ≡ Some e → NoneAmong Has edges found n → Has e → IsLeast (HasBefore Has edges end) e.rule
+  least_before in_order end n x e before x_at e_at none has = record {
+    has = record { found = record { place = x.place; edge = e; at = e_at; has_rule = refl; has = has }; before = before };
+    below_all = λ rule f. subst (λ (r : ℕ). e.rule ≤ r) f.found.has_rule (least_rule in_order n x e x_at e_at none f.found.place f.found.edge f.found.at f.found.has);
+  }
+
+  pub none_before : (end n : ℕ) (x : SortedEdge) → slice_get found n ≡ Some x → end ≤ x.place → NoneAmong Has edges found n → (rule : ℕ) → HasBefore Has edges end rule → ⊥
+  none_before end n x x_at past none rule f =
+      let le = not_before n x x_at none f.found.place f.found.edge f.found.at f.found.has in
+      let less : f.found.place < end = f.before in
+      omega (arith, le, less, past)
