@@ -13,3 +13,4 @@ pub mod SortedLaws
 pub mod Matching
 pub mod Unmatched
 pub mod Numbered
+pub mod SplitsLaws

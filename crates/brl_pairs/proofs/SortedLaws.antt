@@ -14,7 +14,7 @@ use Rattle.brl_pairs.proofs.CellOrder.{weak_order}
 
 module _ (cells : List (List ℕ)) (sorted : List SortedEdge) (ascending : AreAscending cells sorted) where
   -- a later edge has no cells that come before
-  far : (i j : ℕ) (d : SortedEdge) → i ≤ j → j < length sorted → is_before (cells_of cells (get_or sorted j d)) (cells_of cells (get_or sorted i d)) ≡ false
+  pub far : (i j : ℕ) (d : SortedEdge) → i ≤ j → j < length sorted → is_before (cells_of cells (get_or sorted j d)) (cells_of cells (get_or sorted i d)) ≡ false
   far i j d le within = sorted_far (λ a b. is_before (cells_of cells a) (cells_of cells b)) (ranks_by nat_list_cmp_total (cells_of cells)) sorted ascending i j d le within
 
   -- the edges whose cells come before given ones are first

@@ -11,3 +11,4 @@ pub mod Edges
 pub mod NumberPairs
 pub mod Places
 pub mod Sorted
+pub mod Splits

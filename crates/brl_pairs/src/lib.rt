@@ -25,6 +25,7 @@ mod members;
 mod number_pairs;
 mod seed;
 mod sorted;
+mod splits;
 mod step;
 
 pub use body::Body;
@@ -38,4 +39,5 @@ pub use members::Members;
 pub use number_pairs::{is_missing, is_there, is_there_swapped};
 pub use seed::{Seed, SeededHasher};
 pub use sorted::{SortedEdge, as_u32, cells_of, matches, sort_by_cells, sort_edges};
+pub use splits::{Splits, earlier_splits, splits_of};
 pub use step::{Pair, Step};

@@ -67,13 +67,9 @@ fn missing_split_with(
 {
     let listed = edges.edges();
     let later = &listed[second];
-    let found = edges.matches(alloc, later.cells.as_slice())?;
+    let found = edges.earlier(alloc, second)?;
     for matching in found.as_slice() {
-        let first = matching.place as usize;
-        if first >= second {
-            return Ok(None);
-        }
-        let earlier = &listed[first];
+        let earlier = &listed[matching.place as usize];
         let lead = earlier.cells.as_slice();
         if is_missing(alloc, pairs, earlier.next, lead, later)? {
             return Ok(Some(earlier.rule));

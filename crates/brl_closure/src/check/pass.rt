@@ -118,15 +118,7 @@ pub fn find_missing<M: Machine, W: Progress>(
         let edges = edges_of(alloc, machine, body, state as usize)?;
         let kept = first_two_of_each_kind(alloc, edges)?;
         let sorted = Sorted::new(alloc, kept)?;
-        missing = missing_after(
-            alloc,
-            machine,
-            body,
-            &behind,
-            &sorted,
-            state,
-            missing,
-        )?;
+        missing = missing_after(alloc, machine, body, &behind, &sorted, state, missing)?;
     }
     Ok(missing)
 }

@@ -4,6 +4,7 @@ ghost use Rattle.brl_pairs.specs.Body.{NumberPair};
 ghost use Rattle.brl_pairs.specs.Edges.{AreEdges};
 ghost use Rattle.brl_pairs.specs.NumberPairs.{IsFollowed};
 ghost use Rattle.brl_pairs.specs.Sorted.{AreSortedEdges, IsSortedOf};
+ghost use Rattle.brl_pairs.specs.Splits.{AreSplits};
 ghost use Rattle.brl_pairs.specs.declared.edge.Edge.{Edge as EdgeValue};
 ghost use Rattle.brl_failure.specs.Failure.{IfFault};
 ghost use Rattle.brl_closure.specs.Edges.{AreKeptEdges, IsExpanded, IsWalked};
@@ -14,11 +15,14 @@ use crate::search::finder::{Finder, Stop};
 use crate::search::trail::{Origins, PairOrigin, Trail};
 use brl_cells::Cells;
 use brl_failure::Failure;
-use brl_pairs::{Edge, Machine, Members, Pair, SortedEdge, cells_of, matches, sort_edges};
+use brl_pairs::{
+    Edge, Machine, Members, Pair, SortedEdge, Splits, cells_of, earlier_splits, matches,
+    sort_edges, splits_of,
+};
 use std::alloc::AllocError;
 
 impl<'m, M: Machine> Finder<'m, M> {
-    /// Adds the split of two steps of a state, if the first is before the second.
+    /// Adds the split of two steps of a state.
     fn find_split(
         &self,
         trail: &mut Trail<M::State>,
@@ -29,15 +33,13 @@ impl<'m, M: Machine> Finder<'m, M> {
     ) -> Result<(), Failure<Stop>>
         requires active { IsActive M.behaviour self.now trail.old }
         requires edges { AreEdges (M.behaviour self.now.machine.now) trail.old.states number edges.now }
+        requires in_order { first < second }
         requires within { second < length edges.now }
-        ensures followed { OnOk result ((x y : EdgeValue) → first < second → slice_get edges.now first ≡ Some x
+        ensures followed { OnOk result ((x y : EdgeValue) → slice_get edges.now first ≡ Some x
             → slice_get edges.now second ≡ Some y → IsFollowed trail.new.pairs x.next x.cells y) }
         ensures advances { OnOk result (Advances M.behaviour self.now trail.old trail.new) }
         ensures stopped { IfErr result (IfFault (IsStopped M.behaviour self.now trail.new)) }
     {
-        if first >= second {
-            return Ok(());
-        }
         let origins = Origins {
             still: PairOrigin::Split {
                 state: number,
@@ -65,18 +67,20 @@ impl<'m, M: Machine> Finder<'m, M> {
         edges: &[Edge],
         cells: &[Cells],
         sorted: &[SortedEdge],
+        splits: &Splits,
         second: usize,
     ) -> Result<(), Failure<Stop>>
         requires active { IsActive M.behaviour self.now trail.old }
         requires edges { AreEdges (M.behaviour self.now.machine.now) trail.old.states number edges.now }
         requires sorted { IsSortedOf cells.now edges.now sorted.now }
+        requires splits { AreSplits cells.now sorted.now splits.now }
         requires within { second < length edges.now }
         ensures followed { OnOk result ((i : ℕ) (x y : EdgeValue) → i < second → slice_get edges.now i ≡ Some x
             → slice_get edges.now second ≡ Some y → IsFollowed trail.new.pairs x.next x.cells y) }
         ensures advances { OnOk result (Advances M.behaviour self.now trail.old trail.new) }
         ensures stopped { IfErr result (IfFault (IsStopped M.behaviour self.now trail.new)) }
     {
-        let found = matches(self.alloc, cells, sorted, edges[second].cells.as_slice())?;
+        let found = earlier_splits(self.alloc, cells, sorted, splits, second)?;
         let mut left = found.len();
         while left > 0 {
             left -= 1;
@@ -102,8 +106,9 @@ impl<'m, M: Machine> Finder<'m, M> {
         ensures advances { OnOk result (Advances M.behaviour self.now trail.old trail.new) }
         ensures stopped { IfErr result (IfFault (IsStopped M.behaviour self.now trail.new)) }
     {
+        let splits = splits_of(self.alloc, cells, sorted, edges.len())?;
         for second in 0..edges.len() {
-            self.find_splits_of(trail, number, edges, cells, sorted, second)?;
+            self.find_splits_of(trail, number, edges, cells, sorted, &splits, second)?;
         }
         Ok(())
     }

@@ -3,9 +3,10 @@ use Rattle.std.proofs.lemmas.Bool.{cases_eq}
 use Rattle.std.proofs.lemmas.Option.{slice_get_read, slice_get_within}
 use Rattle.brl_pairs.specs.declared.edge.Edge.{Edge}
 use Rattle.brl_pairs.specs.Sorted.{DoMatch}
-use Rattle.brl_pairs.proofs.Lists.{read_at, same_place}
-use Rattle.brl_pairs.proofs.Numbered.{found_or_unmatched}
-use Rattle.brl_pairs.proofs.Unmatched.{match_back, unmatched_followed}
+use Rattle.brl_pairs.proofs.Lists.{inside, same_place}
+use Rattle.brl_pairs.proofs.Numbered.{contained}
+use Rattle.brl_pairs.proofs.Unmatched.{match_back, match_or_not, unmatched_followed}
+use Rattle.brl_closure.proofs.FirstFound.{found_of_earlier}
 use Rattle.brl_closure.proofs.Edges.{edges_more}
 use Rattle.brl_closure.proofs.There.{followed_more}
 use Rattle.brl_closure.proofs.Additions.{advances_refl, advances_trans}
@@ -22,6 +23,19 @@ pub find_split-requires-clause-edges : goal.find_split-requires-clause-edges
 find_split-requires-clause-edges g c =
     edges_more (g.M.Machine.behaviour c.args.self.now.machine.now) c.args.trail.now.states c.loop-left.trail.states c.loop-left.invariant.advances.1.states c.args.number c.args.edges.now c.requires.edges
 
+pub earlier_splits-requires-clause-there : goal.earlier_splits-requires-clause-there
+earlier_splits-requires-clause-there g c =
+    let a = c.args in
+    let e = inside a.edges.now a.second c.requires.within in
+    c.requires.sorted.by_numbers.all a.second e.0 e.1
+
+pub find_split-requires-clause-in_order : goal.find_split-requires-clause-in_order
+find_split-requires-clause-in_order g c =
+    let found = c.in_ok-found.found.items in
+    let before : c.loop-left.left ≤ length found = c.loop-left.invariant.within in
+    let one = slice_get_read found (length found) (c.loop-left.left - 1) c.index.result.now refl (omega (arith, before)) c.index.ensures in
+    (c.in_ok-found.ensures.3.only c.index.result.now (contained found (c.loop-left.left - 1) c.index.result.now one)).2
+
 pub loop-left-preserved : goal.loop-left-preserved
 loop-left-preserved g c =
     let found = c.in_ok-found.found.items in
@@ -31,22 +45,23 @@ loop-left-preserved g c =
     record {
       advances = advances_trans g.M.Machine.behaviour c.args.self.now c.args.trail.now c.loop-left.trail c.find_split.new.trail c.loop-left.invariant.advances c.in_ok-find_split.ensures.advances;
       within = omega (arith, before);
-      followed = λ k s x y low at less x_at y_at. elim (cases_eq k here) [
+      followed = λ k s x y low at x_at y_at. elim (cases_eq k here) [
         | inl is ↦ (
             let same : c.index.result.now ≡ s = same_place found here c.index.result.now s one (ap (slice_get found) (sym is) ∙ at) in
-            c.in_ok-find_split.ensures.followed x y (rw same less) (rw same x_at) y_at)
+            c.in_ok-find_split.ensures.followed x y (rw same x_at) y_at)
         | inr apart ↦ followed_more c.loop-left.trail.pairs c.find_split.new.trail.pairs c.in_ok-find_split.ensures.advances.1.pairs x.next x.cells y
-            (c.loop-left.invariant.followed k s x y (omega (arith, low, apart)) at less x_at y_at)
+            (c.loop-left.invariant.followed k s x y (omega (arith, low, apart)) at x_at y_at)
       ];
     }
 
 pub returns-clause-followed : goal.returns-clause-followed
 returns-clause-followed g c i x y less x_at y_at =
     let a = c.args in
-    let e = c.index-edges-second.result in
-    let e_at = read_at a.edges.now a.edges.now a.second e refl c.requires.within c.index-edges-second.is in
-    let same : e ≡ y = same_place a.edges.now a.second e y e_at y_at in
-    elim (found_or_unmatched a.cells.now a.edges.now a.sorted.now c.requires.sorted c.as_slice.result.now c.in_ok-found.found.items c.in_ok-found.ensures i x x_at) [
-      | inl f ↦ c.loop-left.invariant.followed f.0 f.1 x y (omega arith) f.2 (omega (arith, f.3)) (ap (slice_get a.edges.now) f.3 ∙ x_at) y_at
-      | inr other ↦ unmatched_followed c.loop-left.trail.pairs x.next x.cells y (λ m. other (subst (λ (own : List ℕ). DoMatch own x.cells) (sym (c.as_slice.ensures ∙ ap (λ (z : Edge). z.cells) (sym c.index-edges-second.is ∙ same))) (match_back x.cells y.cells m)))
+    let those = c.in_ok-found.ensures in
+    let found = found_of_earlier a.cells.now a.edges.now a.sorted.now c.requires.sorted a.second y y_at those.0 those.1 those.2 c.in_ok-found.found.items those.3 in
+    elim (match_or_not y.cells x.cells) [
+      | inl m ↦ (
+          let f = found.all i x less x_at m in
+          c.loop-left.invariant.followed f.0 f.1 x y (omega arith) f.2 (ap (slice_get a.edges.now) f.3 ∙ x_at) y_at)
+      | inr other ↦ unmatched_followed c.loop-left.trail.pairs x.next x.cells y (λ m. other (match_back x.cells y.cells m))
     ]
