@@ -1,7 +1,6 @@
 pub mod Open
 pub mod LeastLaws
 pub mod LeastRule
-pub mod FirstFound
 pub mod LeastSplit
 pub mod MissingLaws
 pub mod FirstTwo

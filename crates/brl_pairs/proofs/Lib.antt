@@ -7,7 +7,6 @@ pub mod Positions
 pub mod Writes
 pub mod Missing
 pub mod EdgesLaws
-pub mod PlacesLaws
 pub mod CellOrder
 pub mod SortedLaws
 pub mod Matching

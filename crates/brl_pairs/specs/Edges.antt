@@ -25,7 +25,3 @@ pub record AreEdges {S : Type 0} (m : Behaviour S) (states : List S) (number : �
 -- the edges ascend by rule number
 abbrev pub AreInOrder : List Edge → Type 0
 AreInOrder edges = (i j : ℕ) (x y : Edge) → i < j → slice_get edges i ≡ Some x → slice_get edges j ≡ Some y → x.rule ≤ y.rule
-
--- each edge has a cell
-abbrev pub HaveCells : List Edge → Type 0
-HaveCells edges = (place : ℕ) (e : Edge) → slice_get edges place ≡ Some e → 1 ≤ length e.cells

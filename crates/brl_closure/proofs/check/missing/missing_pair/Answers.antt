@@ -1,8 +1,7 @@
 use Rattle.std.proofs.Common.{◌<◌, length, get_or, sym, ap, subst, arith}
 use Rattle.std.proofs.lemmas.Option.{slice_get-get_or, slice_get_within}
 use Rattle.brl_closure.specs.Sorted.{AreFound}
-use Rattle.brl_closure.proofs.FirstFound.{least_before, least_of_all, missing_matches, none_before, none_of_all, one_more_without}
-use Rattle.brl_closure.proofs.LeastRule.{refuted}
+use Rattle.brl_closure.proofs.LeastRule.{least_before, least_of_all, missing_matches, none_before, none_of_all, one_more_without, refuted}
 use Rattle.brl_pairs.specs.NumberPairs.{IsMissing}
 use Rattle.brl_pairs.specs.declared.edge.Edge.{Edge}
 use Rattle.brl_pairs.proofs.Lists.{read_at}

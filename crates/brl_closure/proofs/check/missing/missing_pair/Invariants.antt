@@ -1,4 +1,4 @@
-use Rattle.brl_closure.proofs.FirstFound.{NoneAmong}
+use Rattle.brl_closure.proofs.LeastRule.{NoneAmong}
 use Rattle.brl_pairs.specs.NumberPairs.{IsMissing}
 use Rattle.brl_closure.proofs.check.missing.missing_pair.Given as goal
 

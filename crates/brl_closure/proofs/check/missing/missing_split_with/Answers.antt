@@ -1,10 +1,9 @@
-use Rattle.std.proofs.Common.{◌≡◌, ◌↔◌, ◌<◌, ◌≤◌, ℕ, IsTrue, List, length, get_or, sym, ap, subst, arith}
+use Rattle.std.proofs.Common.{◌↔◌, ◌<◌, ℕ, IsTrue, List, length, get_or, sym, ap, subst, arith}
 use Rattle.std.proofs.lemmas.Option.{slice_get-get_or, slice_get_within}
 use Rattle.brl_closure.specs.Least.{IsLeast}
 use Rattle.brl_closure.specs.Sorted.{AreFound}
 use Rattle.brl_closure.specs.Steps.{HasBefore}
-use Rattle.brl_closure.proofs.FirstFound.{least_before, missing_matches, none_before, one_more_without}
-use Rattle.brl_closure.proofs.LeastRule.{refuted}
+use Rattle.brl_closure.proofs.LeastRule.{least_before, missing_matches, none_before, one_more_without, refuted}
 use Rattle.brl_pairs.specs.NumberPairs.{IsMissing}
 use Rattle.brl_pairs.specs.Sorted.{DoMatch}
 use Rattle.brl_pairs.specs.declared.edge.Edge.{Edge}

@@ -1,4 +1,4 @@
-use Rattle.std.proofs.Common.{◌≡◌, ◌<◌, List, ℕ, length, slice_get, sym, ap, ◌∙◌, subst, arith}
+use Rattle.std.proofs.Common.{List, ℕ, length, sym, ap, subst, arith}
 use Rattle.std.specs.Prelude.{Contains}
 use Rattle.std.proofs.lemmas.Result.{IfOk-weaker}
 use Rattle.brl_pairs.specs.Sorted.{IsSortedOf, cells_of}
@@ -6,7 +6,7 @@ use Rattle.brl_pairs.specs.Splits.{AreEarlier}
 use Rattle.brl_pairs.specs.declared.edge.Edge.{Edge}
 use Rattle.brl_pairs.specs.declared.sorted.SortedEdge.{SortedEdge}
 use Rattle.brl_pairs.proofs.Lists.{inside}
-use Rattle.brl_closure.proofs.FirstFound.{found_of_earlier}
+use Rattle.brl_closure.proofs.LeastRule.{found_of_earlier}
 use Rattle.brl_closure.proofs.check.sorted.Sorted.earlier.Goals as goal
 
 pub earlier_splits-requires-clause-ascending : goal.earlier_splits-requires-clause-ascending

@@ -3,7 +3,7 @@ use Rattle.std.proofs.lemmas.Result.{IfOk-weaker}
 use Rattle.brl_pairs.specs.Sorted.{AreMatches, IsSortedOf}
 use Rattle.brl_pairs.specs.declared.edge.Edge.{Edge}
 use Rattle.brl_pairs.specs.declared.sorted.SortedEdge.{SortedEdge}
-use Rattle.brl_closure.proofs.FirstFound.{found_of_sorted}
+use Rattle.brl_closure.proofs.LeastRule.{found_of_sorted}
 use Rattle.brl_closure.proofs.check.sorted.Sorted.matches.Goals as goal
 
 pub matches-requires : goal.matches-requires

@@ -1,12 +1,10 @@
-use Rattle.std.proofs.Common.{◌≡◌, ◌-◌, ◌<◌, ◌≤◌, ℕ, List, length, slice_get, inl, inr, refl, sym, ap, ◌∙◌, subst, arith}
+use Rattle.std.proofs.Common.{◌≡◌, ◌-◌, ◌<◌, ◌≤◌, length, slice_get, inl, inr, refl, sym, ap, ◌∙◌, arith}
 use Rattle.std.proofs.lemmas.Bool.{cases_eq}
 use Rattle.std.proofs.lemmas.Option.{slice_get_read, slice_get_within}
-use Rattle.brl_pairs.specs.declared.edge.Edge.{Edge}
-use Rattle.brl_pairs.specs.Sorted.{DoMatch}
 use Rattle.brl_pairs.proofs.Lists.{inside, same_place}
 use Rattle.brl_pairs.proofs.Numbered.{contained}
 use Rattle.brl_pairs.proofs.Unmatched.{match_back, match_or_not, unmatched_followed}
-use Rattle.brl_closure.proofs.FirstFound.{found_of_earlier}
+use Rattle.brl_closure.proofs.LeastRule.{found_of_earlier}
 use Rattle.brl_closure.proofs.Edges.{edges_more}
 use Rattle.brl_closure.proofs.There.{followed_more}
 use Rattle.brl_closure.proofs.Additions.{advances_refl, advances_trans}
