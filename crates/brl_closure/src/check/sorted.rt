@@ -60,7 +60,7 @@ impl Sorted {
     {
         let mut cells = Vec::new(alloc);
         let numbered = number_own(alloc, edges.as_slice(), &mut cells)?;
-        let sorted = sort_by_cells(alloc, cells.as_slice(), numbered)?;
+        let sorted = sort_by_cells(cells.as_slice(), numbered);
         let splits = splits_of(alloc, cells.as_slice(), sorted.as_slice(), edges.len())?;
         Ok(Sorted {
             edges,
