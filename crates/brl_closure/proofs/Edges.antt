@@ -7,6 +7,10 @@ use Rattle.brl_pairs.specs.Runs.{Behaviour, IsListedAt, KeepsLaws}
 use Rattle.brl_pairs.specs.declared.edge.Edge.{Edge}
 use Rattle.brl_closure.specs.declared.search.trail.PairOrigin.TheVariants.{Split, Still, Swapped}
 use Rattle.brl_pairs.specs.Edges.{IsEdge, AreFirstEdges, AreEdges}
+use Rattle.brl_pairs.specs.Sorted.{AreMatches, AreSortedEdges, IsSortedOf, cells_of, or_none}
+use Rattle.brl_pairs.specs.declared.sorted.SortedEdge.{SortedEdge}
+use Rattle.brl_pairs.proofs.Numbered.{contained, still_sorted}
+use Rattle.brl_pairs.specs.NumberPairs.{IsFollowed}
 use Rattle.brl_closure.specs.Edges.{FitsFollowing, Explains, IsExpanded, IsWalked}
 use Rattle.brl_closure.specs.SearchView.{Stays}
 use Rattle.brl_closure.specs.Trail.{IsSplitOf, TakesStep}
@@ -66,7 +70,7 @@ module _ {S : Type 0} (m : Behaviour S) (laws : KeepsLaws m) (states : List S) w
       omega arith
 
   pub fits_following : (number : ℕ) (edges : List Edge) → AreEdges m states number edges → (place : ℕ) (e : Edge) → slice_get edges place ≡ Some e
-      → (ahead : ℕ) (lead : List ℕ) → ahead < length states → length lead ≤ 1024 → FitsFollowing (length states) ahead lead e
+      → (ahead : ℕ) (lead : List ℕ) → ahead < length states → length lead ≤ 1024 → FitsFollowing (length states) ahead lead e.next e.cells
   fits_following number edges h place e at ahead lead there short =
       let x = step_of number edges h place e at in
       record {
@@ -76,7 +80,7 @@ module _ {S : Type 0} (m : Behaviour S) (laws : KeepsLaws m) (states : List S) w
         short_cells = short_cells_of number place e x;
       }
 
-  pub fits_splitting : (number : ℕ) (edges : List Edge) → AreEdges m states number edges → (i j : ℕ) (x y : Edge) → slice_get edges i ≡ Some x → slice_get edges j ≡ Some y → FitsFollowing (length states) x.next x.cells y
+  pub fits_splitting : (number : ℕ) (edges : List Edge) → AreEdges m states number edges → (i j : ℕ) (x y : Edge) → slice_get edges i ≡ Some x → slice_get edges j ≡ Some y → FitsFollowing (length states) x.next x.cells y.next y.cells
   fits_splitting number edges h i j x y x_at y_at =
       let s = step_of number edges h i x x_at in
       fits_following number edges h j y y_at x.next x.cells (slice_get_within states x.next s.step.next s.is_edge.next) (short_cells_of number i x s)
@@ -95,7 +99,7 @@ module _ {S : Type 0} (m : Behaviour S) (laws : KeepsLaws m) (states : List S) w
   }
 
   pub explains_split : (pairs : List NumberPair) (number : ℕ) (edges : List Edge) → AreEdges m states number edges → (i j : ℕ) (x y : Edge) → i < j → slice_get edges i ≡ Some x → slice_get edges j ≡ Some y
-      → Explains m states pairs x.next x.cells y (record { still = Split number i j; swapped = Split number j i })
+      → Explains m states pairs x.next x.cells y.next y.cells (record { still = Split number i j; swapped = Split number j i })
   explains_split pairs number edges h i j x y less x_at y_at =
       let a = step_of number edges h i x x_at in
       let b = step_of number edges h j y y_at in
@@ -105,7 +109,7 @@ module _ {S : Type 0} (m : Behaviour S) (laws : KeepsLaws m) (states : List S) w
       }
 
   pub explains_move : (pairs : List NumberPair) (n : ℕ) (q : NumberPair) → slice_get pairs n ≡ Some q → (edges : List Edge) → AreEdges m states q.behind edges → (place : ℕ) (e : Edge) → slice_get edges place ≡ Some e
-      → Explains m states pairs q.ahead q.lead e (record { still = Still n place; swapped = Swapped n place })
+      → Explains m states pairs q.ahead q.lead e.next e.cells (record { still = Still n place; swapped = Swapped n place })
   explains_move pairs n q q_at edges h place e at =
       let x = step_of q.behind edges h place e at in
       record {
@@ -134,6 +138,26 @@ module _ {S : Type 0} (m : Behaviour S) (laws : KeepsLaws m) (states : List S) w
         );
       }
 
+-- an edge that matches a lead is the edge at its place
+pub record IsFound (cells : List (List ℕ)) (edges : List Edge) (x : SortedEdge) : Type 0 where
+  pub edge : Edge
+  pub at : slice_get edges x.place ≡ Some edge
+  pub next : x.next ≡ edge.next
+  pub cells_is : cells_of cells x ≡ edge.cells
+
+pub found_edge : (cells : List (List ℕ)) (edges : List Edge) (sorted : List SortedEdge) → IsSortedOf cells edges sorted → (lead : List ℕ) (found : List SortedEdge) → AreMatches cells sorted lead found
+    → (k : ℕ) (x : SortedEdge) → slice_get found k ≡ Some x → IsFound cells edges x
+found_edge cells edges sorted h lead found those k x at =
+    let own = h.by_numbers.only x (those.those.only x (contained found k x at)).0 in
+    record { edge = own.edge; at = own.at; next = own.same_next; cells_is = ap or_none own.same_cells }
+
+-- the split of the edges at these places is followed, whichever edges they are
+pub split_followed : (pairs : List NumberPair) (edges : List Edge) (i j : ℕ) (e f : Edge) → slice_get edges i ≡ Some e → slice_get edges j ≡ Some f → (lead : List ℕ) → lead ≡ e.cells → IsFollowed pairs e.next lead f
+    → (x y : Edge) → slice_get edges i ≡ Some x → slice_get edges j ≡ Some y → IsFollowed pairs x.next x.cells y
+split_followed pairs edges i j e f e_at f_at lead is h x y x_at y_at =
+    subst (λ (z : Edge). IsFollowed pairs z.next z.cells y) (same_place edges i e x e_at x_at)
+    (subst (IsFollowed pairs e.next e.cells) (same_place edges j f y f_at y_at) (subst (λ (own : List ℕ). IsFollowed pairs e.next own f) is h))
+
 -- ---- What is done stays done
 
 pub expanded_more : {S : Type 0} (m : Behaviour S) (xs ys : List S) (ps qs : List NumberPair) → Stays xs ys → Stays ps qs → (number : ℕ) → IsExpanded m xs ps number → IsExpanded m ys qs number
@@ -152,10 +176,10 @@ walked_more m xs ys ps qs states pairs number h = record {
   moves = λ k e at. followed_more ps qs pairs h.pair.ahead h.pair.lead e (h.moves k e at);
 }
 
--- each edge has a cell
-pub some_cells_of : {S : Type 0} (m : Behaviour S) → KeepsLaws m → (states : List S) (number : ℕ) (edges : List Edge) → AreEdges m states number edges → (place : ℕ) (e : Edge) → slice_get edges place ≡ Some e → 1 ≤ length e.cells
-some_cells_of m laws states number edges h place e at =
-    let x = step_of m laws states number edges h place e at in
-    let some = (laws.good_steps x.taken.state x.step (place, x.taken.listed)).some_cells in
-    let same : length e.cells ≡ length x.step.cells = ap length x.is_edge.cells in
-    omega arith
+-- the sorted edges of a state, where states are added and more cells are kept
+pub sorted_edges_more : {S : Type 0} (m : Behaviour S) (xs ys : List S) (old new : List (List ℕ)) → Stays xs ys → Stays old new → (number : ℕ) (sorted : List SortedEdge) → AreSortedEdges m xs number old sorted → AreSortedEdges m ys number new sorted
+sorted_edges_more m xs ys old new states cells number sorted h = record {
+  edges = h.edges;
+  are_edges = edges_more m xs ys states number h.edges h.are_edges;
+  sorted_of = still_sorted old new cells h.edges sorted h.sorted_of;
+}

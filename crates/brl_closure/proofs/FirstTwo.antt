@@ -8,7 +8,7 @@ use Rattle.brl_closure.specs.Steps.{HasOfRule, HasOfRules}
 use Rattle.brl_closure.proofs.MissingLaws.{missing_other_order, same_missing, same_split}
 use Rattle.brl_closure.proofs.LeastLaws.{AtOrBehind, at_or_behind, least_of_more, least_of_more_pair}
 use Rattle.brl_pairs.specs.Body.{NumberPair}
-use Rattle.brl_pairs.specs.Edges.{AreInOrder, HaveCells}
+use Rattle.brl_pairs.specs.Edges.{AreInOrder}
 use Rattle.brl_pairs.specs.NumberPairs.{IsMissing}
 use Rattle.brl_pairs.specs.declared.edge.Edge.{Edge}
 use Rattle.brl_pairs.proofs.Lists.{either_way, same_place}
@@ -27,9 +27,6 @@ module _ (edges kept : List Edge) (h : AreFirstTwo edges kept) where
 
   pub kept_in_order : AreInOrder edges → AreInOrder kept
   kept_in_order in_order i j x y less x_at y_at = in_order (h.origin i) (h.origin j) x y (h.ascend i j less (slice_get_within kept j y y_at)) (h.same i x x_at) (h.same j y y_at)
-
-  pub kept_have_cells : HaveCells edges → HaveCells kept
-  kept_have_cells have place e at = have (h.origin place) e (h.same place e at)
 
   -- ---- A kept edge in place of an edge
 

@@ -1,6 +1,5 @@
 -- What is where in a list with one more element.
-use Rattle.std.proofs.Common.{◌≡◌, ℕ, zero, suc, ◌+◌, ◌<◌, Bool, true, false, List, [], ◌∷◌, ◌++◌, ◌⊎◌, inl, inr, length, Some, slice_get, refl, ap, subst, arith, length-append, if◌then◌else◌, get_or}
-use Rattle.std.proofs.lemmas.Option.{slice_get_read}
+use Rattle.std.proofs.Common.{◌≡◌, zero, suc, Bool, true, false, List, [], ◌∷◌, ◌++◌, refl, if◌then◌else◌}
 use Rattle.brl_pairs.specs.Members.{IsMember}
 use Rattle.brl_closure.specs.SearchView.{Stays}
 

@@ -6,16 +6,16 @@ use Rattle.std.specs.List.Sorted.{IsPermutation}
 use Rattle.std.specs.declared.cmp.Reverse.{Reverse}
 use Rattle.std.proofs.lemmas.Bool.{cases_eq}
 use Rattle.brl_pairs.specs.Runs.{Behaviour}
-use Rattle.brl_pairs.specs.Edges.{AreEdges}
-use Rattle.brl_closure.specs.Edges.{IsExpanded, IsWalked}
+use Rattle.brl_pairs.specs.Sorted.{AreSortedEdges}
+use Rattle.brl_closure.specs.Edges.{AreKeptEdges, IsExpanded, IsWalked}
 use Rattle.brl_closure.specs.Trail.{Advances}
-use Rattle.brl_pairs.specs.Edges.{AreKeptEdges}
 use Rattle.brl_closure.specs.Worklist.{IsFinished, IsItemOf, IsWorking, NoneIsReady, IsQueued}
-use Rattle.brl_pairs.specs.declared.edge.Edge.{Edge}
+use Rattle.brl_pairs.specs.declared.sorted.SortedEdge.{SortedEdge}
+use Rattle.brl_closure.specs.SearchView.{Stays}
 use Rattle.brl_closure.specs.declared.search.finder.Finder.{Finder}
 use Rattle.brl_closure.specs.declared.search.trail.Trail.{Trail}
 use Rattle.brl_closure.specs.declared.search.worklist.Worklist.{Worklist}
-use Rattle.brl_closure.proofs.Edges.{edges_more, expanded_more, walked_more}
+use Rattle.brl_closure.proofs.Edges.{expanded_more, sorted_edges_more, walked_more}
 use Rattle.brl_closure.proofs.Queue.{all_head, none_queued, queued_popped}
 use Rattle.brl_pairs.proofs.Lists.{length_push, push_cases}
 
@@ -44,17 +44,17 @@ module _ {M S : Type 0} (behaviour : M → Behaviour S) (f : Finder M S) (t u : 
   expanded_stays : (k : ℕ) → IsExpanded (behaviour f.machine.now) t.states t.pairs k → IsExpanded (behaviour f.machine.now) u.states u.pairs k
   expanded_stays = expanded_more (behaviour f.machine.now) t.states u.states t.pairs u.pairs advances.1.states advances.1.pairs
 
-  edges_stay : AreKeptEdges (behaviour f.machine.now) u.states w.expanded.items
-  edges_stay k edges at = edges_more (behaviour f.machine.now) t.states u.states advances.1.states k edges.items (working.edges k edges at)
+  edges_stay : Stays w.cells v.cells → AreKeptEdges (behaviour f.machine.now) u.states v.cells w.expanded.items
+  edges_stay cells k sorted at = sorted_edges_more (behaviour f.machine.now) t.states u.states w.cells v.cells advances.1.states cells k sorted.items (working.edges k sorted at)
 
-  pub working_expanded : (edges : Vec Edge) → length w.expanded.items < length t.states → AreEdges (behaviour f.machine.now) u.states (length w.expanded.items) edges.items → IsExpanded (behaviour f.machine.now) u.states u.pairs (length w.expanded.items)
+  pub working_expanded : (edges : Vec SortedEdge) → length w.expanded.items < length t.states → Stays w.cells v.cells → AreSortedEdges (behaviour f.machine.now) u.states (length w.expanded.items) v.cells edges.items → IsExpanded (behaviour f.machine.now) u.states u.pairs (length w.expanded.items)
       → v.expanded.items ≡ w.expanded.items ++ edges ∷ [] → ((n : ℕ) → IsQueued n (heap_items w.queue) → IsQueued n (heap_items v.queue)) → IsWorking behaviour f u v
-  working_expanded edges some are here more old = record {
+  working_expanded edges some cells are here more old = record {
     active = advances.0;
     there = omega (arith, some, count, advances.1.more_states);
-    edges = λ k es at. elim (push_cases w.expanded.items edges k es (subst (λ (xs : List (Vec Edge)). slice_get xs k ≡ Some es) more at)) [
-      | inl before ↦ edges_stay k es before
-      | inr last ↦ subst (λ (es : Vec Edge). AreEdges (behaviour f.machine.now) u.states k es.items) last.1 (subst (λ (j : ℕ). AreEdges (behaviour f.machine.now) u.states j edges.items) (sym last.0) are)
+    edges = λ k es at. elim (push_cases w.expanded.items edges k es (subst (λ (xs : List (Vec SortedEdge)). slice_get xs k ≡ Some es) more at)) [
+      | inl before ↦ edges_stay cells k es before
+      | inr last ↦ subst (λ (es : Vec SortedEdge). AreSortedEdges (behaviour f.machine.now) u.states k v.cells es.items) last.1 (subst (λ (j : ℕ). AreSortedEdges (behaviour f.machine.now) u.states j v.cells edges.items) (sym last.0) are)
     ];
     states = λ k below. elim (cases_eq k (length w.expanded.items)) [
       | inl same ↦ subst (IsExpanded (behaviour f.machine.now) u.states u.pairs) (sym same) here
@@ -70,12 +70,12 @@ module _ {M S : Type 0} (behaviour : M → Behaviour S) (f : Finder M S) (t u : 
       count : length v.expanded.items ≡ length w.expanded.items + 1
       count = ap length more ∙ length_push w.expanded.items edges
 
-  pub working_walked : (number : ℕ) (first : Reverse (ℕ × ℕ)) (rest : List (Reverse (ℕ × ℕ))) → first.0.1 ≡ number → IsPermutation (heap_items w.queue) (first ∷ rest) → IsWalked (behaviour f.machine.now) u.states u.pairs number → v.expanded.items ≡ w.expanded.items
+  pub working_walked : (number : ℕ) (first : Reverse (ℕ × ℕ)) (rest : List (Reverse (ℕ × ℕ))) → first.0.1 ≡ number → IsPermutation (heap_items w.queue) (first ∷ rest) → IsWalked (behaviour f.machine.now) u.states u.pairs number → Stays w.cells v.cells → v.expanded.items ≡ w.expanded.items
       → ((n : ℕ) → IsQueued n rest → IsQueued n (heap_items v.queue)) → IsWorking behaviour f u v
-  working_walked number first rest is same here stays old = record {
+  working_walked number first rest is same here cells stays old = record {
     active = advances.0;
     there = omega (arith, working.there, ap length stays, advances.1.more_states);
-    edges = subst (AreKeptEdges (behaviour f.machine.now) u.states) (sym stays) edges_stay;
+    edges = subst (AreKeptEdges (behaviour f.machine.now) u.states v.cells) (sym stays) (edges_stay cells);
     states = λ k below. expanded_stays k (working.states k (omega (arith, below, ap length stays)));
     pairs = λ n below. elim (below_or_not n (length t.pairs)) [
       | inl before ↦ elim (cases_eq n number) [

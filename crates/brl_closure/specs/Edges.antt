@@ -3,22 +3,27 @@ use Rattle.std.specs.Prelude.{◌≡◌, ◌≢◌, ℕ, ◌<◌, ◌≤◌, Lis
 use Rattle.brl_pairs.specs.Body.{NumberPair}
 use Rattle.brl_pairs.specs.Runs.{Behaviour}
 use Rattle.brl_pairs.specs.Edges.{AreEdges}
+use Rattle.brl_pairs.specs.Sorted.{AreSortedEdges}
+use Rattle.brl_pairs.specs.declared.sorted.SortedEdge.{SortedEdge}
+use Rattle.std.specs.Global.{Vec}
 use Rattle.brl_pairs.specs.NumberPairs.{IsFollowed}
 use Rattle.brl_pairs.specs.declared.edge.Edge.{Edge}
 use Rattle.brl_closure.specs.declared.search.trail.Origins.{Origins}
 use Rattle.brl_closure.specs.Trail.{IsPairOrigin}
 
--- the run ahead, its lead and the edge that the run behind takes are in range of this many states
-pub record FitsFollowing (states ahead : ℕ) (lead : List ℕ) (e : Edge) : Type 0 where
+-- the run ahead, its lead and the next state and cells of the edge that the run behind takes are in
+-- range of this many states
+pub record FitsFollowing (states ahead : ℕ) (lead : List ℕ) (next : ℕ) (cells : List ℕ) : Type 0 where
   pub ahead_there : ahead < states
-  pub behind_there : e.next < states
+  pub behind_there : next < states
   pub short_lead : length lead ≤ 1024
-  pub short_cells : length e.cells ≤ 1024
+  pub short_cells : length cells ≤ 1024
 
--- the origins are those of the pair that the run behind makes by this edge
-pub record Explains {S : Type 0} (m : Behaviour S) (states : List S) (pairs : List NumberPair) (ahead : ℕ) (lead : List ℕ) (e : Edge) (origins : Origins) : Type 0 where
-  pub still : (p : NumberPair) → p.ahead ≡ ahead → p.behind ≡ e.next → lead ≡ e.cells ++ p.lead → IsPairOrigin m states pairs p origins.still
-  pub swapped : (p : NumberPair) → p.ahead ≡ e.next → p.behind ≡ ahead → p.lead ≢ [] → e.cells ≡ lead ++ p.lead → IsPairOrigin m states pairs p origins.swapped
+-- the origins are those of the pair that the run behind makes by an edge with this next state and
+-- these cells
+pub record Explains {S : Type 0} (m : Behaviour S) (states : List S) (pairs : List NumberPair) (ahead : ℕ) (lead : List ℕ) (next : ℕ) (cells : List ℕ) (origins : Origins) : Type 0 where
+  pub still : (p : NumberPair) → p.ahead ≡ ahead → p.behind ≡ next → lead ≡ cells ++ p.lead → IsPairOrigin m states pairs p origins.still
+  pub swapped : (p : NumberPair) → p.ahead ≡ next → p.behind ≡ ahead → p.lead ≢ [] → cells ≡ lead ++ p.lead → IsPairOrigin m states pairs p origins.swapped
 
 -- each split of the state with this number is among the pairs, and the next states of its steps are
 -- among the states
@@ -34,3 +39,7 @@ pub record IsWalked {S : Type 0} (m : Behaviour S) (states : List S) (pairs : Li
   pub edges : List Edge
   pub are_edges : AreEdges m states pair.behind edges
   pub moves : (k : ℕ) (e : Edge) → slice_get edges k ≡ Some e → IsFollowed pairs pair.ahead pair.lead e
+
+-- each list has the sorted edges of the state whose number is the place of the list
+abbrev pub AreKeptEdges : {S : Type 0} → Behaviour S → List S → List (List ℕ) → List (Vec SortedEdge) → Type 0
+AreKeptEdges m states cells kept = (number : ℕ) (sorted : Vec SortedEdge) → slice_get kept number ≡ Some sorted → AreSortedEdges m states number cells sorted.items

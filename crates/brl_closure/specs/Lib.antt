@@ -1,6 +1,7 @@
 pub mod Refusals
 pub mod Least
 pub mod Steps
+pub mod Sorted
 pub mod Alike
 pub mod SameKind
 pub mod Pass

@@ -4,8 +4,7 @@ use Rattle.std.specs.declared.cmp.Reverse.{Reverse}
 use Rattle.std.specs.BinaryHeap.{heap_items, heap_len}
 use Rattle.brl_pairs.specs.Body.{NumberPair}
 use Rattle.brl_pairs.specs.Runs.{Behaviour}
-use Rattle.brl_pairs.specs.Edges.{AreKeptEdges}
-use Rattle.brl_closure.specs.Edges.{IsExpanded, IsWalked}
+use Rattle.brl_closure.specs.Edges.{AreKeptEdges, IsExpanded, IsWalked}
 use Rattle.brl_closure.specs.Trail.{Extends, IsActive}
 use Rattle.brl_closure.specs.declared.search.finder.Finder.{Finder}
 use Rattle.brl_closure.specs.declared.search.trail.Trail.{Trail}
@@ -28,7 +27,7 @@ NoneIsReady w = (item : Reverse (ℕ × ℕ)) → slice_get (heap_items w.queue)
 pub record IsWorking {M S : Type 0} (behaviour : M → Behaviour S) (f : Finder M S) (t : Trail S) (w : Worklist) : Type 0 where
   pub active : IsActive behaviour f t
   pub there : length w.expanded.items ≤ length t.states
-  pub edges : AreKeptEdges (behaviour f.machine.now) t.states w.expanded.items
+  pub edges : AreKeptEdges (behaviour f.machine.now) t.states w.cells w.expanded.items
   pub states : (k : ℕ) → k < length w.expanded.items → IsExpanded (behaviour f.machine.now) t.states t.pairs k
   pub pairs : (n : ℕ) → n < length t.pairs → IsQueued n (heap_items w.queue) ⊎ IsWalked (behaviour f.machine.now) t.states t.pairs n
   pub items : All (IsItemOf t.pairs) (heap_items w.queue)

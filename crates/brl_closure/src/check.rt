@@ -9,6 +9,7 @@ mod kinds;
 mod missing;
 mod pairs_by_state;
 mod pass;
+mod sorted;
 
 pub use checker::{Accepted, accept, accept_with};
 pub use fault::AcceptFault;

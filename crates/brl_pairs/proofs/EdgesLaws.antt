@@ -1,7 +1,7 @@
 -- The step of an edge, and what it keeps of its step's laws.
-use Rattle.std.proofs.Common.{◌≡◌, ℕ, ◌<◌, ◌≤◌, List, length, Some, slice_get, ap, arith}
+use Rattle.std.proofs.Common.{◌≡◌, ℕ, ◌<◌, ◌≤◌, List, length, Some, slice_get, arith}
 use Rattle.std.proofs.lemmas.Option.{slice_get_within}
-use Rattle.brl_pairs.specs.Edges.{AreEdges, AreInOrder, HaveCells, IsEdge}
+use Rattle.brl_pairs.specs.Edges.{AreEdges, AreInOrder, IsEdge}
 use Rattle.brl_pairs.specs.declared.edge.Edge.{Edge}
 use Rattle.brl_pairs.proofs.Lists.{inside}
 use Rattle.brl_pairs.specs.Runs.{Behaviour, IsListedAt, KeepsLaws}
@@ -25,10 +25,3 @@ module _ {S : Type 0} (m : Behaviour S) (laws : KeepsLaws m) (states : List S) (
       let b = step_of j y y_at in
       let ascend : a.step.rule ≤ b.step.rule = (laws.in_order h.state i j a.step b.step less a.at b.at).ascend in
       omega (arith, a.is_edge.rule, b.is_edge.rule)
-
-  pub have_cells : HaveCells edges
-  have_cells place e at =
-      let x = step_of place e at in
-      let some : 1 ≤ length x.step.cells = (laws.good_steps h.state x.step (place, x.at)).some_cells in
-      let same : length e.cells ≡ length x.step.cells = ap length x.is_edge.cells in
-      omega arith

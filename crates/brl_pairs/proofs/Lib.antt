@@ -7,4 +7,9 @@ pub mod Positions
 pub mod Writes
 pub mod Missing
 pub mod EdgesLaws
-pub mod PlacesLaws
+pub mod CellOrder
+pub mod SortedLaws
+pub mod Matching
+pub mod Unmatched
+pub mod Numbered
+pub mod SplitsLaws

@@ -1,9 +1,8 @@
 -- The pair that follows when the run behind takes an edge, and whether it is listed.
-use Rattle.std.proofs.Common.{◌≡◌, ◌≢◌, ℕ, ◌≤◌, Bool, true, false, not, List, [], ◌∷◌, ◌++◌, inl, inr, length, IsTrue, ◌↔◌, refl, sym, ◌∙◌, ap, subst, arith, length-append, true≢false}
+use Rattle.std.proofs.Common.{◌≡◌, ◌≢◌, ℕ, Bool, true, false, not, List, [], ◌∷◌, ◌++◌, inl, inr, length, IsTrue, ◌↔◌, refl, sym, ◌∙◌, ap, subst, arith, length-append, true≢false}
 use Rattle.std.proofs.lemmas.List.{append_cancel_left}
 use Rattle.brl_pairs.specs.Body.{NumberPair}
-use Rattle.brl_pairs.specs.NumberPairs.{IsFollowed, IsMissing, IsThere}
-use Rattle.brl_pairs.specs.Places.{first_of}
+use Rattle.brl_pairs.specs.NumberPairs.{IsMissing, IsThere}
 use Rattle.brl_pairs.specs.declared.edge.Edge.{Edge}
 
 pub none_left : (lead rest after : List ℕ) → lead ≡ (lead ++ after) ++ rest → after ≡ []
@@ -45,15 +44,3 @@ module _ (pairs : List NumberPair) (ahead : ℕ) (lead : List ℕ) (e : Edge) wh
     (λ yes. absurd (true≢false (sym yes))),
     λ gap. elim gap [ inl still ↦ absurd (longer still.rest still.longer) | inr swapped ↦ absurd (shorter swapped.rest swapped.shorter) ],
   )
-
--- cells that some cells begin have the same first cell
-begins_same : (xs ys rest : List ℕ) → 1 ≤ length ys → xs ≡ ys ++ rest → first_of xs ≡ first_of ys
-begins_same xs [] rest some e = absurd (omega (arith, some))
-begins_same xs (y ∷ ys) rest some e = ap first_of e
-
--- edges with different first cells split into no pair
-pub apart_followed : (pairs : List NumberPair) (x y : Edge) → 1 ≤ length x.cells → 1 ≤ length y.cells → first_of x.cells ≢ first_of y.cells → IsFollowed pairs x.next x.cells y
-apart_followed pairs x y x_some y_some other = record {
-  still = λ rest longer. absurd (other (begins_same x.cells y.cells rest y_some longer));
-  swapped = λ rest some shorter. absurd (other (sym (begins_same y.cells x.cells rest x_some shorter)));
-}

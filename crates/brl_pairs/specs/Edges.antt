@@ -1,7 +1,6 @@
 -- Steps by numbers: their rule, their cells and the number of their next state. The project's own
 -- choice.
 use Rattle.std.specs.Prelude.{◌≡◌, ℕ, ◌<◌, ◌≤◌, List, length, Some, slice_get}
-use Rattle.std.specs.Global.{Vec}
 use Rattle.brl_pairs.specs.declared.edge.Edge.{Edge}
 use Rattle.brl_pairs.specs.Runs.{Behaviour, IsListedAt}
 use Rattle.brl_pairs.specs.declared.step.Step.{Step}
@@ -23,14 +22,6 @@ pub record AreEdges {S : Type 0} (m : Behaviour S) (states : List S) (number : �
   pub at : slice_get states number ≡ Some state
   pub listed : AreFirstEdges states (m.steps state) (length (m.steps state)) edges
 
--- each list has the edges of the state whose number is the place of the list
-abbrev pub AreKeptEdges : {S : Type 0} → Behaviour S → List S → List (Vec Edge) → Type 0
-AreKeptEdges m states kept = (number : ℕ) (edges : Vec Edge) → slice_get kept number ≡ Some edges → AreEdges m states number edges.items
-
 -- the edges ascend by rule number
 abbrev pub AreInOrder : List Edge → Type 0
 AreInOrder edges = (i j : ℕ) (x y : Edge) → i < j → slice_get edges i ≡ Some x → slice_get edges j ≡ Some y → x.rule ≤ y.rule
-
--- each edge has a cell
-abbrev pub HaveCells : List Edge → Type 0
-HaveCells edges = (place : ℕ) (e : Edge) → slice_get edges place ≡ Some e → 1 ≤ length e.cells

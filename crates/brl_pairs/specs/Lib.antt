@@ -9,4 +9,5 @@ pub mod Body
 pub mod Sets
 pub mod Edges
 pub mod NumberPairs
-pub mod Places
+pub mod Sorted
+pub mod Splits

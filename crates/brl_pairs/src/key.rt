@@ -1,6 +1,7 @@
 //! Values that can be looked up by their hash.
 ghost use Rattle.std.specs.Prelude.{◌≡◌, true};
 
+use brl_cells::Cells;
 use std::hash::Hash;
 
 /// Values whose `==` is identity, so that a look-up by hash finds the value itself.
@@ -19,4 +20,10 @@ impl Key for u32 {
     ghost use Rattle.brl_pairs.specs.SameMembers.{same_numbers};
 
     ghost same = { same_numbers };
+}
+
+impl Key for Cells {
+    ghost use Rattle.brl_pairs.specs.SameMembers.{same_cells};
+
+    ghost same = { same_cells };
 }

@@ -10,6 +10,8 @@
 //! - `Body` has states, and pairs that name two of them by their numbers. An `Edge` is a step with
 //!   the number of its next state: that is looked up once, and from then on only numbers and cells
 //!   are compared.
+//! - The edges of a state are sorted by their cells. `matches` looks up those that a lead can follow,
+//!   and `earlier_splits` those with which an edge splits.
 //!
 //! Room 2, any machine (docs/dev/ARCHITECTURE.md). The definitions begin in `specs/Runs.antt`.
 #![tactic(auto)]
@@ -24,11 +26,13 @@ mod machine;
 mod members;
 mod number_pairs;
 mod seed;
+mod sorted;
+mod splits;
 mod step;
 
 pub use body::Body;
-pub use edge::{Edge, places_before};
-pub use edge_laws::{different_cells_law, edges_law};
+pub use edge::Edge;
+pub use edge_laws::{edges_law, unmatched_law};
 pub use key::Key;
 pub use laws::{Sets, advance_law, closed_sets_law, numbered_sets_law};
 pub use lead::{Advanced, advance};
@@ -36,4 +40,6 @@ pub use machine::Machine;
 pub use members::Members;
 pub use number_pairs::{is_missing, is_there, is_there_swapped};
 pub use seed::{Seed, SeededHasher};
+pub use sorted::{SortedEdge, as_u32, cells_of, matches, sort_by_cells, sort_edges};
+pub use splits::{Splits, earlier_splits, splits_of};
 pub use step::{Pair, Step};

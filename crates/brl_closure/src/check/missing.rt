@@ -5,15 +5,13 @@ ghost use Rattle.brl_closure.specs.Least.{IsLeastFound, IsLeastPairFound, lesser
 ghost use Rattle.brl_closure.specs.Pass.{AreFirstTwoBehind, IsSplitFound};
 ghost use Rattle.brl_closure.specs.Refusals.{HasTwoEnds, MissesPair};
 ghost use Rattle.brl_closure.specs.Steps.{HasBefore, HasOfRule, HasOfRules};
-ghost use Rattle.brl_pairs.specs.Edges.{AreInOrder, HaveCells};
+ghost use Rattle.brl_pairs.specs.Edges.{AreInOrder};
 ghost use Rattle.brl_pairs.specs.NumberPairs.{IsMissing};
-ghost use Rattle.brl_pairs.specs.Places.{ArePlacesBefore};
 ghost use Rattle.brl_pairs.specs.declared.edge.Edge.{Edge as EdgeValue};
 
+use crate::check::sorted::Sorted;
 use brl_cells::Cell;
-use brl_pairs::{
-    Body, Edge, Machine, Members, Pair, different_cells_law, edges_law, is_missing, places_before,
-};
+use brl_pairs::{Body, Machine, Members, Pair, edges_law, is_missing};
 use std::alloc::{AllocError, Global};
 
 /// A state two of whose steps, of these rules, split into a pair that isn't listed.
@@ -38,12 +36,15 @@ fn missing_pair(
     pairs: &Members<Pair<u32>>,
     ahead: u32,
     lead: &[Cell],
-    edges: &[Edge],
+    edges: &Sorted,
 ) -> Result<Option<u32>, AllocError>
     requires { AreInOrder edges.now }
     ensures { IfOk result (IsLeastFound (HasOfRule (IsMissing pairs.now ahead lead.now) edges.now)) }
 {
-    for edge in edges {
+    let listed = edges.edges();
+    let found = edges.matches(alloc, lead)?;
+    for matching in found.as_slice() {
+        let edge = &listed[matching.place as usize];
         if is_missing(alloc, pairs, ahead, lead, edge)? {
             return Ok(Some(edge.rule));
         }
@@ -51,38 +52,30 @@ fn missing_pair(
     Ok(None)
 }
 
-/// The least rule of the edges before the second one that split with it into a missing pair. Only
-/// edges with the same first cell can split. They are tried from the last to the first, so the last
-/// one found has the least rule.
+/// The least rule of the edges before the second one that split with it into a missing pair. Places
+/// ascend by rule, so the first one found has the least rule.
 fn missing_split_with(
     alloc: Global,
     pairs: &Members<Pair<u32>>,
-    edges: &[Edge],
-    before: &[usize],
+    edges: &Sorted,
     second: usize,
 ) -> Result<Option<u32>, AllocError>
     requires in_order { AreInOrder edges.now }
-    requires cells { HaveCells edges.now }
-    requires before { ArePlacesBefore edges.now before.now }
     requires within { second < length edges.now }
     ensures { IfOk result (λ found. (later : EdgeValue) → slice_get edges.now second ≡ Some later
         → IsLeastFound (HasBefore (λ earlier. IsMissing pairs.now earlier.next earlier.cells later) edges.now second) found) }
 {
-    different_cells_law();
-    let later = &edges[second];
-    let mut least = None;
-    let mut place = before[second];
-    while place > 0 {
-        let first = place - 1;
-        let earlier = &edges[first];
+    let listed = edges.edges();
+    let later = &listed[second];
+    let found = edges.earlier(alloc, second)?;
+    for matching in found.as_slice() {
+        let earlier = &listed[matching.place as usize];
         let lead = earlier.cells.as_slice();
-        let missing = is_missing(alloc, pairs, earlier.next, lead, later)?;
-        if missing {
-            least = Some(earlier.rule);
+        if is_missing(alloc, pairs, earlier.next, lead, later)? {
+            return Ok(Some(earlier.rule));
         }
-        place = before[first];
     }
-    Ok(least)
+    Ok(None)
 }
 
 /// The lexicographically smaller of two options, where `None` is no candidate.
@@ -106,16 +99,14 @@ fn lesser(one: Option<(u32, u32)>, other: Option<(u32, u32)>) -> Option<(u32, u3
 fn missing_split(
     alloc: Global,
     pairs: &Members<Pair<u32>>,
-    edges: &[Edge],
+    edges: &Sorted,
 ) -> Result<Option<(u32, u32)>, AllocError>
-    requires in_order { AreInOrder edges.now }
-    requires cells { HaveCells edges.now }
+    requires { AreInOrder edges.now }
     ensures { IfOk result (IsLeastPairFound (HasOfRules (λ earlier. IsMissing pairs.now earlier.next earlier.cells) edges.now)) }
 {
-    let before = places_before(alloc, edges)?;
     let mut best = None;
-    for (second, later) in edges.iter().enumerate() {
-        let found = missing_split_with(alloc, pairs, edges, before.as_slice(), second)?;
+    for (second, later) in edges.edges().iter().enumerate() {
+        let found = missing_split_with(alloc, pairs, edges, second)?;
         best = lesser(best, found.map(|first| (first, later.rule)));
     }
     Ok(best)
@@ -127,7 +118,7 @@ pub fn missing_split_at<M: Machine>(
     alloc: Global,
     machine: &M,
     body: &Body<M::State>,
-    edges: &[Edge],
+    edges: &Sorted,
     state: u32,
 ) -> Result<Option<MissingSplit>, AllocError>
     requires edges { AreFirstTwoAt (M.behaviour machine.now) body.now.states state edges.now }
@@ -151,7 +142,7 @@ pub fn missing_pair_at<M: Machine>(
     alloc: Global,
     machine: &M,
     body: &Body<M::State>,
-    edges: &[Edge],
+    edges: &Sorted,
     number: usize,
 ) -> Result<Option<u32>, AllocError>
     requires number { number < length body.now.pairs }

@@ -11,8 +11,9 @@ use crate::check::edges::edges_of;
 use crate::check::kinds::first_two_of_each_kind;
 use crate::check::missing::{MissingPair, MissingSplit, missing_pair_at, missing_split_at};
 use crate::check::pairs_by_state::{PairsByTrailingState, pairs_by_trailing_state};
+use crate::check::sorted::Sorted;
 use brl_failure::Failure;
-use brl_pairs::{Body, Edge, Key, Machine};
+use brl_pairs::{Body, Key, Machine};
 use brl_progress::{Progress, Work};
 use std::alloc::{AllocError, Global};
 
@@ -41,7 +42,7 @@ fn missing_pair_after<M: Machine>(
     machine: &M,
     body: &Body<M::State>,
     behind: &PairsByTrailingState,
-    edges: &[Edge],
+    edges: &Sorted,
     state: u32,
     least: Option<MissingPair>,
 ) -> Result<Option<MissingPair>, AllocError>
@@ -72,7 +73,7 @@ fn missing_after<M: Machine>(
     machine: &M,
     body: &Body<M::State>,
     behind: &PairsByTrailingState,
-    edges: &[Edge],
+    edges: &Sorted,
     state: u32,
     missing: Missing,
 ) -> Result<Missing, AllocError>
@@ -116,15 +117,8 @@ pub fn find_missing<M: Machine, W: Progress>(
         watch.report(work_at(body, state));
         let edges = edges_of(alloc, machine, body, state as usize)?;
         let kept = first_two_of_each_kind(alloc, edges)?;
-        missing = missing_after(
-            alloc,
-            machine,
-            body,
-            &behind,
-            kept.as_slice(),
-            state,
-            missing,
-        )?;
+        let sorted = Sorted::new(alloc, kept)?;
+        missing = missing_after(alloc, machine, body, &behind, &sorted, state, missing)?;
     }
     Ok(missing)
 }

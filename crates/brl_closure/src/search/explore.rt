@@ -84,7 +84,7 @@ impl<'m, M: Machine> Search<'m, M> {
         Ok(Slice::Unfinished(Search {
             finder,
             trail,
-            worklist: Worklist::new(alloc),
+            worklist: Worklist::new(alloc, seed),
         }))
     }
 
@@ -244,7 +244,8 @@ impl<'m, M: Machine> Finder<'m, M> {
         let Some(number) = worklist.pop_ready() else {
             return Ok(false);
         };
-        self.walk(trail, worklist.expanded.as_slice(), number)?;
+        let cells = worklist.cells.as_slice();
+        self.walk(trail, cells, worklist.expanded.as_slice(), number)?;
         worklist.enqueue_from(&trail.pairs, known)?;
         Ok(true)
     }
@@ -261,7 +262,8 @@ impl<'m, M: Machine> Finder<'m, M> {
         ensures stopped { IfErr result (IfFault (IsStopped M.behaviour self.now trail.new)) }
     {
         let known = trail.pairs.len();
-        let edges = self.expand(trail, worklist.expanded.len())?;
+        let number = worklist.expanded.len();
+        let edges = self.expand(trail, &mut worklist.cells, number)?;
         worklist.expanded.push(edges)?;
         worklist.enqueue_from(&trail.pairs, known)?;
         Ok(())

@@ -3,6 +3,7 @@ ghost use Rattle.std.specs.Prelude.{◌≡◌, length, IfErr, OnOk};
 ghost use Rattle.std.specs.Bool.{OnTrue, OnFalse};
 ghost use Rattle.brl_pairs.specs.Body.{IsPairOf};
 ghost use Rattle.brl_pairs.specs.NumberPairs.{IsFollowed, IsThere};
+ghost use Rattle.brl_pairs.specs.declared.edge.Edge.{Edge as EdgeValue};
 ghost use Rattle.brl_failure.specs.Failure.{IfFault};
 ghost use Rattle.brl_closure.specs.Edges.{Explains, FitsFollowing};
 ghost use Rattle.brl_closure.specs.Trail.{Advances, HasTwoEnds, IsActive, IsPairOrigin, IsStopped};
@@ -11,7 +12,7 @@ use crate::search::finder::{Finder, Stop};
 use crate::search::trail::{Origins, PairOrigin, Trail};
 use brl_cells::{Cell, Cells};
 use brl_failure::Failure;
-use brl_pairs::{Advanced, Edge, Machine, Pair, advance, is_there_swapped};
+use brl_pairs::{Advanced, Machine, Pair, advance, is_there_swapped};
 
 impl<'m, M: Machine> Finder<'m, M> {
     /// Whether the pair has an empty lead and two final states.
@@ -57,35 +58,36 @@ impl<'m, M: Machine> Finder<'m, M> {
         Ok(())
     }
 
-    /// Adds the pair that the run behind makes by taking this edge, where the other run is ahead by
-    /// this lead; if it makes one.
+    /// Adds the pair that the run behind makes by taking an edge with this next state and these
+    /// cells, where the other run is ahead by this lead; if it makes one.
     pub fn follow(
         &self,
         trail: &mut Trail<M::State>,
         ahead: u32,
         lead: &[Cell],
-        edge: &Edge,
+        next: u32,
+        cells: &[Cell],
         origins: Origins,
     ) -> Result<(), Failure<Stop>>
         requires active { IsActive M.behaviour self.now trail.old }
-        requires fits { FitsFollowing (length trail.old.states) ahead lead.now edge.now }
-        requires explained { Explains (M.behaviour self.now.machine.now) trail.old.states trail.old.pairs ahead lead.now edge.now origins }
-        ensures followed { OnOk result (IsFollowed trail.new.pairs ahead lead.now edge.now) }
+        requires fits { FitsFollowing (length trail.old.states) ahead lead.now next cells.now }
+        requires explained { Explains (M.behaviour self.now.machine.now) trail.old.states trail.old.pairs ahead lead.now next cells.now origins }
+        ensures followed { OnOk result ((e : EdgeValue) → e.next ≡ next → e.cells ≡ cells.now → IsFollowed trail.new.pairs ahead lead.now e) }
         ensures advances { OnOk result (Advances M.behaviour self.now trail.old trail.new) }
         ensures stopped { IfErr result (IfFault (IsStopped M.behaviour self.now trail.new)) }
     {
-        match advance(lead, edge.cells.as_slice()) {
+        match advance(lead, cells) {
             Advanced::Still(rest) => {
                 let pair = Pair {
                     ahead,
-                    behind: edge.next,
+                    behind: next,
                     lead: Cells::from_slice(self.alloc, rest)?,
                 };
                 self.find_pair(trail, pair, origins.still)
             }
             Advanced::Swapped(rest) => {
                 let pair = Pair {
-                    ahead: edge.next,
+                    ahead: next,
                     behind: ahead,
                     lead: Cells::from_slice(self.alloc, rest)?,
                 };

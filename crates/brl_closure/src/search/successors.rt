@@ -1,101 +1,139 @@
 //! Expanding states, and walking pairs.
 ghost use Rattle.std.specs.Prelude.{◌≡◌, ◌<◌, ℕ, length, IfErr, IfOk, OnOk, Some, slice_get};
 ghost use Rattle.brl_pairs.specs.Body.{NumberPair};
-ghost use Rattle.brl_pairs.specs.Edges.{AreEdges, AreKeptEdges};
+ghost use Rattle.brl_pairs.specs.Edges.{AreEdges};
 ghost use Rattle.brl_pairs.specs.NumberPairs.{IsFollowed};
-ghost use Rattle.brl_pairs.specs.Places.{ArePlacesBefore};
+ghost use Rattle.brl_pairs.specs.Sorted.{AreSortedEdges, IsSortedOf};
+ghost use Rattle.brl_pairs.specs.Splits.{AreSplits};
 ghost use Rattle.brl_pairs.specs.declared.edge.Edge.{Edge as EdgeValue};
 ghost use Rattle.brl_failure.specs.Failure.{IfFault};
-ghost use Rattle.brl_closure.specs.Edges.{IsExpanded, IsWalked};
+ghost use Rattle.brl_closure.specs.Edges.{AreKeptEdges, IsExpanded, IsWalked};
+ghost use Rattle.brl_closure.specs.SearchView.{Stays};
 ghost use Rattle.brl_closure.specs.Trail.{Advances, IsActive, IsStopped};
 
 use crate::search::finder::{Finder, Stop};
 use crate::search::trail::{Origins, PairOrigin, Trail};
+use brl_cells::Cells;
 use brl_failure::Failure;
-use brl_pairs::{Edge, Machine, Pair, different_cells_law, places_before};
+use brl_pairs::{
+    Edge, Machine, Members, Pair, SortedEdge, Splits, cells_of, earlier_splits, matches,
+    sort_edges, splits_of,
+};
 use std::alloc::AllocError;
 
 impl<'m, M: Machine> Finder<'m, M> {
-    /// Adds the splits of one step of a state with each earlier one that has the same first cell.
+    /// Adds the split of two steps of a state.
+    fn find_split(
+        &self,
+        trail: &mut Trail<M::State>,
+        number: usize,
+        edges: &[Edge],
+        first: usize,
+        second: usize,
+    ) -> Result<(), Failure<Stop>>
+        requires active { IsActive M.behaviour self.now trail.old }
+        requires edges { AreEdges (M.behaviour self.now.machine.now) trail.old.states number edges.now }
+        requires in_order { first < second }
+        requires within { second < length edges.now }
+        ensures followed { OnOk result ((x y : EdgeValue) → slice_get edges.now first ≡ Some x
+            → slice_get edges.now second ≡ Some y → IsFollowed trail.new.pairs x.next x.cells y) }
+        ensures advances { OnOk result (Advances M.behaviour self.now trail.old trail.new) }
+        ensures stopped { IfErr result (IfFault (IsStopped M.behaviour self.now trail.new)) }
+    {
+        let origins = Origins {
+            still: PairOrigin::Split {
+                state: number,
+                longer: first,
+                shorter: second,
+            },
+            swapped: PairOrigin::Split {
+                state: number,
+                longer: second,
+                shorter: first,
+            },
+        };
+        let ahead = &edges[first];
+        let lead = ahead.cells.as_slice();
+        let later = &edges[second];
+        let cells = later.cells.as_slice();
+        self.follow(trail, ahead.next, lead, later.next, cells, origins)
+    }
+
+    /// Adds the splits of one step of a state with each earlier one, from the last to the first.
     fn find_splits_of(
         &self,
         trail: &mut Trail<M::State>,
         number: usize,
         edges: &[Edge],
-        before: &[usize],
+        cells: &[Cells],
+        sorted: &[SortedEdge],
+        splits: &Splits,
         second: usize,
     ) -> Result<(), Failure<Stop>>
         requires active { IsActive M.behaviour self.now trail.old }
         requires edges { AreEdges (M.behaviour self.now.machine.now) trail.old.states number edges.now }
-        requires before { ArePlacesBefore edges.now before.now }
+        requires sorted { IsSortedOf cells.now edges.now sorted.now }
+        requires splits { AreSplits cells.now sorted.now splits.now }
         requires within { second < length edges.now }
         ensures followed { OnOk result ((i : ℕ) (x y : EdgeValue) → i < second → slice_get edges.now i ≡ Some x
             → slice_get edges.now second ≡ Some y → IsFollowed trail.new.pairs x.next x.cells y) }
         ensures advances { OnOk result (Advances M.behaviour self.now trail.old trail.new) }
         ensures stopped { IfErr result (IfFault (IsStopped M.behaviour self.now trail.new)) }
     {
-        different_cells_law();
-        let later = &edges[second];
-        let mut place = before[second];
-        while place > 0 {
-            let first = place - 1;
-            let origins = Origins {
-                still: PairOrigin::Split {
-                    state: number,
-                    longer: first,
-                    shorter: second,
-                },
-                swapped: PairOrigin::Split {
-                    state: number,
-                    longer: second,
-                    shorter: first,
-                },
-            };
-            let ahead = &edges[first];
-            let lead = ahead.cells.as_slice();
-            self.follow(trail, ahead.next, lead, later, origins)?;
-            place = before[first];
+        let found = earlier_splits(self.alloc, cells, sorted, splits, second)?;
+        let mut left = found.len();
+        while left > 0 {
+            left -= 1;
+            let first = found[left].place as usize;
+            self.find_split(trail, number, edges, first, second)?;
         }
         Ok(())
     }
 
-    /// Adds the splits of a state: of any two of its steps with the same first cell.
+    /// Adds the splits of a state: of any two of its steps.
     fn find_splits(
         &self,
         trail: &mut Trail<M::State>,
         number: usize,
         edges: &[Edge],
+        cells: &[Cells],
+        sorted: &[SortedEdge],
     ) -> Result<(), Failure<Stop>>
         requires active { IsActive M.behaviour self.now trail.old }
         requires edges { AreEdges (M.behaviour self.now.machine.now) trail.old.states number edges.now }
+        requires sorted { IsSortedOf cells.now edges.now sorted.now }
         ensures expanded { OnOk result (IsExpanded (M.behaviour self.now.machine.now) trail.new.states trail.new.pairs number) }
         ensures advances { OnOk result (Advances M.behaviour self.now trail.old trail.new) }
         ensures stopped { IfErr result (IfFault (IsStopped M.behaviour self.now trail.new)) }
     {
-        let before = places_before(self.alloc, edges)?;
+        let splits = splits_of(self.alloc, cells, sorted, edges.len())?;
         for second in 0..edges.len() {
-            self.find_splits_of(trail, number, edges, before.as_slice(), second)?;
+            self.find_splits_of(trail, number, edges, cells, sorted, &splits, second)?;
         }
         Ok(())
     }
 
     /// Adds the next states of the steps of a state, and its splits. Returns the edges of these
-    /// steps.
+    /// steps in the order of their cells, which are kept.
     pub fn expand(
         &self,
         trail: &mut Trail<M::State>,
+        kept: &mut Members<Cells>,
         number: usize,
-    ) -> Result<Vec<Edge>, Failure<Stop>>
+    ) -> Result<Vec<SortedEdge>, Failure<Stop>>
         requires active { IsActive M.behaviour self.now trail.old }
         requires within { number < length trail.old.states }
-        ensures edges { IfOk result (λ edges. AreEdges (M.behaviour self.now.machine.now) trail.new.states number edges.items) }
+        ensures edges { IfOk result (λ sorted. AreSortedEdges (M.behaviour self.now.machine.now) trail.new.states number kept.new sorted.items) }
+        ensures kept { OnOk result (Stays kept.old kept.new) }
         ensures expanded { OnOk result (IsExpanded (M.behaviour self.now.machine.now) trail.new.states trail.new.pairs number) }
         ensures advances { OnOk result (Advances M.behaviour self.now trail.old trail.new) }
         ensures stopped { IfErr result (IfFault (IsStopped M.behaviour self.now trail.new)) }
     {
         let edges = self.find_edges(trail, number)?;
-        self.find_splits(trail, number, edges.as_slice())?;
-        Ok(edges)
+        let sorted = sort_edges(self.alloc, kept, edges.as_slice())?;
+        let cells = kept.as_slice();
+        self.find_splits(trail, number, edges.as_slice(), cells, sorted.as_slice())?;
+        Ok(sorted)
     }
 
     /// Adds the successors of a pair, by the edges of its state behind.
@@ -104,16 +142,20 @@ impl<'m, M: Machine> Finder<'m, M> {
         trail: &mut Trail<M::State>,
         number: usize,
         pair: &Pair<u32>,
-        edges: &[Edge],
+        cells: &[Cells],
+        sorted: &[SortedEdge],
     ) -> Result<(), Failure<Stop>>
         requires active { IsActive M.behaviour self.now trail.old }
         requires pair { slice_get trail.old.pairs number ≡ Some pair.now }
-        requires edges { AreEdges (M.behaviour self.now.machine.now) trail.old.states pair.now.behind edges.now }
+        requires edges { AreSortedEdges (M.behaviour self.now.machine.now) trail.old.states pair.now.behind cells.now sorted.now }
         ensures walked { OnOk result (IsWalked (M.behaviour self.now.machine.now) trail.new.states trail.new.pairs number) }
         ensures advances { OnOk result (Advances M.behaviour self.now trail.old trail.new) }
         ensures stopped { IfErr result (IfFault (IsStopped M.behaviour self.now trail.new)) }
     {
-        for place in 0..edges.len() {
+        let lead = pair.lead.as_slice();
+        let found = matches(self.alloc, cells, sorted, lead)?;
+        for edge in found.as_slice() {
+            let place = edge.place as usize;
             let origins = Origins {
                 still: PairOrigin::Still {
                     pair: number,
@@ -124,8 +166,14 @@ impl<'m, M: Machine> Finder<'m, M> {
                     place,
                 },
             };
-            let lead = pair.lead.as_slice();
-            self.follow(trail, pair.ahead, lead, &edges[place], origins)?;
+            self.follow(
+                trail,
+                pair.ahead,
+                lead,
+                edge.next,
+                cells_of(cells, edge),
+                origins,
+            )?;
         }
         Ok(())
     }
@@ -135,19 +183,20 @@ impl<'m, M: Machine> Finder<'m, M> {
     pub fn walk(
         &self,
         trail: &mut Trail<M::State>,
-        expanded: &[Vec<Edge>],
+        cells: &[Cells],
+        expanded: &[Vec<SortedEdge>],
         number: usize,
     ) -> Result<(), Failure<Stop>>
         requires active { IsActive M.behaviour self.now trail.old }
-        requires edges { AreKeptEdges (M.behaviour self.now.machine.now) trail.old.states expanded.now }
+        requires edges { AreKeptEdges (M.behaviour self.now.machine.now) trail.old.states cells.now expanded.now }
         requires pair { (p : NumberPair) × (slice_get trail.old.pairs number ≡ Some p) × (p.behind < length expanded.now) }
         ensures walked { OnOk result (IsWalked (M.behaviour self.now.machine.now) trail.new.states trail.new.pairs number) }
         ensures advances { OnOk result (Advances M.behaviour self.now trail.old trail.new) }
         ensures stopped { IfErr result (IfFault (IsStopped M.behaviour self.now trail.new)) }
     {
         let pair = copy_of(&trail.pairs.as_slice()[number])?;
-        let edges = expanded[pair.behind as usize].as_slice();
-        self.find_moves(trail, number, &pair, edges)
+        let sorted = expanded[pair.behind as usize].as_slice();
+        self.find_moves(trail, number, &pair, cells, sorted)
     }
 }
 

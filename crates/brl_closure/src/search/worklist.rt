@@ -5,7 +5,8 @@ ghost use Rattle.std.specs.List.Sorted.{IsPermutation};
 ghost use Rattle.std.specs.declared.cmp.Reverse.{Reverse as ReverseValue};
 ghost use Rattle.brl_closure.specs.Worklist.{IsItemOf, IsQueued, NoneIsReady};
 
-use brl_pairs::{Edge, Members, Pair};
+use brl_cells::Cells;
+use brl_pairs::{Members, Pair, Seed, SortedEdge};
 use std::alloc::{AllocError, Global};
 use std::cmp::Reverse;
 use std::collections::BinaryHeap;
@@ -13,21 +14,24 @@ use std::collections::BinaryHeap;
 /// What is left to do in a search: states to be expanded, and pairs to be walked.
 #[derive(Drop)]
 pub struct Worklist {
-    /// The edges of each state that has been expanded. The other states are expanded in the order
-    /// in which they were found.
-    pub expanded: Vec<Vec<Edge>>,
+    /// The cells of edges, each once. Edges name them by their numbers.
+    pub cells: Members<Cells>,
+    /// The edges of each state that has been expanded, in the order of their cells. The other
+    /// states are expanded in the order in which they were found.
+    pub expanded: Vec<Vec<SortedEdge>>,
     /// The pairs to be walked, each with the number of its state behind: that with the least comes
     /// first.
     pub queue: BinaryHeap<Reverse<(u32, usize)>>,
 }
 
 impl Worklist {
-    /// Nothing is done, and no pair is known.
-    pub fn new(alloc: Global) -> Worklist
+    /// Nothing is done, and no pair is known. Cells will be found by hashes of this seed.
+    pub fn new(alloc: Global, seed: Seed) -> Worklist
         ensures expanded { result.expanded.items ≡ [] }
         ensures queue { heap_items result.queue ≡ [] }
     {
         Worklist {
+            cells: Members::new(alloc, seed),
             expanded: Vec::new(alloc),
             queue: BinaryHeap::new(alloc),
         }
@@ -36,6 +40,7 @@ impl Worklist {
     /// Takes out the queued pair that comes first, where its state behind has been expanded: then
     /// the states of all its successors are known.
     pub fn pop_ready(&mut self) -> Option<usize>
+        ensures cells { self.new.cells ≡ self.old.cells }
         ensures expanded { self.new.expanded ≡ self.old.expanded }
         ensures first { IfSome result (λ number. (first : ReverseValue (ℕ × ℕ)) × (first.0.1 ≡ number) × (first.0.0 < length self.old.expanded.items)
             × IsPermutation (heap_items self.old.queue) (first ∷ heap_items self.new.queue)) }
@@ -58,6 +63,7 @@ impl Worklist {
         from: usize,
     ) -> Result<(), AllocError>
         requires { from ≤ length pairs.now }
+        ensures cells { self.new.cells ≡ self.old.cells }
         ensures expanded { self.new.expanded ≡ self.old.expanded }
         ensures new { OnOk result ((n : ℕ) → from ≤ n → n < length pairs.now → IsQueued n (heap_items self.new.queue)) }
         ensures old { OnOk result ((n : ℕ) → IsQueued n (heap_items self.old.queue) → IsQueued n (heap_items self.new.queue)) }

@@ -16,7 +16,7 @@ missing_pair-requires g c =
     let q = c.index-as_slice-number.result in
     let q_at = read_at c.as_slice.result.now a.body.now.pairs a.number q (c.as_slice.ensures.members ∙ c.pairs.ensures) (omega (arith, c.requires.number, ap length c.as_slice.ensures.members, ap length c.pairs.ensures)) c.index-as_slice-number.is in
     let k = c.requires.edges q q_at in
-    kept_in_order k.edges a.edges.now k.first_two (c.edges_law.ensures.in_order a.body.now.states q.behind k.edges k.are_edges)
+    kept_in_order k.edges a.edges.now k.first_two (c.edges_law.ensures a.body.now.states q.behind k.edges k.are_edges)
 
 pub returns : goal.returns
 returns g c =
@@ -26,7 +26,7 @@ returns g c =
     let q_at = read_at c.as_slice.result.now a.body.now.pairs a.number q (c.as_slice.ensures.members ∙ c.pairs.ensures) (omega (arith, c.requires.number, ap length c.as_slice.ensures.members, ap length c.pairs.ensures)) c.index-as_slice-number.is in
     let range = range_read (length a.body.now.states) a.body.now.pairs c.as_slice.result.now (c.as_slice.ensures.members ∙ c.pairs.ensures) c.law.ensures.range.each_pair a.number c.requires.number q c.index-as_slice-number.is in
     let k = c.requires.edges q q_at in
-    let in_order = c.edges_law.ensures.in_order a.body.now.states q.behind k.edges k.are_edges in
+    let in_order = c.edges_law.ensures a.body.now.states q.behind k.edges k.are_edges in
     IfOk-weaker c.missing_pair.result _ _
     (λ found least. move_at m a.body.now c.law.ensures.states a.number q q_at k.edges k.are_edges range found (move_of_kept k.edges a.edges.now k.first_two in_order a.body.now.pairs q.ahead q.lead found
     (subst (λ (lead : List ℕ). IsLeastFound (HasOfRule (IsMissing a.body.now.pairs q.ahead lead) a.edges.now) found) c.as_slice-2.ensures least)))

@@ -1,4 +1,4 @@
-use Rattle.std.proofs.Common.{◌≡◌, ◌∙◌, ap, ◌+◌, ◌*◌, ◌%◌, ◌^◌}
+use Rattle.std.proofs.Common.{◌∙◌, ap, ◌+◌, ◌*◌, ◌%◌, ◌^◌}
 use Rattle.brl_pairs.specs.Seed.{after_number, folded}
 use Rattle.brl_pairs.proofs.seed.SeededHasher.add.Goals as goal
 

@@ -1,8 +1,9 @@
-use Rattle.std.proofs.Common.{◌≡◌, ◌+◌, ◌∙◌, ℕ, length, ap, subst, arith}
+use Rattle.std.proofs.Common.{◌≡◌, ◌+◌, ◌∙◌, ℕ, List, length, sym, ap, subst, arith}
 use Rattle.std.specs.BinaryHeap.{heap_items, heap_len}
 use Rattle.std.specs.Global.{Vec}
-use Rattle.brl_pairs.specs.Edges.{AreEdges}
-use Rattle.brl_pairs.specs.declared.edge.Edge.{Edge}
+use Rattle.brl_pairs.specs.Sorted.{AreSortedEdges}
+use Rattle.brl_pairs.specs.declared.sorted.SortedEdge.{SortedEdge}
+use Rattle.brl_closure.specs.SearchView.{Stays}
 use Rattle.brl_closure.specs.Edges.{IsExpanded}
 use Rattle.brl_closure.proofs.Queue.{items_more}
 use Rattle.brl_closure.proofs.Steps.{fewer_expanded, working_expanded}
@@ -14,18 +15,20 @@ returns-clause-step g c =
     let m = g.M.Machine.behaviour c.args.self.now.machine.now in
     let trail = c.expand.new.trail in
     let advances = c.in_ok-edges.ensures.advances in
-    let count : c.len.result ≡ length c.args.worklist.now.expanded.items = omega (arith, c.len.ensures, c.args.worklist.now.expanded.ok.0) in
+    let count : c.len-number.result ≡ length c.args.worklist.now.expanded.items = omega (arith, c.len-number.ensures, c.args.worklist.now.expanded.ok.0) in
+    let cells = sym c.enqueue_from.ensures.cells in
     let more : length c.enqueue_from.new.self.expanded.items ≡ length c.args.worklist.now.expanded.items + 1 =
-    ap (λ (v : Vec (Vec Edge)). length v.items) c.enqueue_from.ensures.expanded ∙ ap length c.in_ok-push.ensures.items ∙ length_push c.args.worklist.now.expanded.items c.in_ok-edges.edges in
+    ap (λ (v : Vec (Vec SortedEdge)). length v.items) c.enqueue_from.ensures.expanded ∙ ap length c.in_ok-push.ensures.items ∙ length_push c.args.worklist.now.expanded.items c.in_ok-edges.edges in
     record {
       working =
           working_expanded g.M.Machine.behaviour c.args.self.now c.args.trail.now trail c.args.worklist.now c.enqueue_from.new.self c.requires.working advances
           (λ n low high. c.in_ok-enqueue_from.ensures.new n (omega (arith, low, c.len-known.ensures)) high)
           (c.in_ok-enqueue_from.ensures.items (items_more c.args.trail.now.pairs trail.pairs advances.1.pairs (heap_items c.args.worklist.now.queue) c.requires.working.items))
           c.in_ok-edges.edges c.requires.some
-          (subst (λ (n : ℕ). AreEdges m trail.states n c.in_ok-edges.edges.items) count c.in_ok-edges.ensures.edges)
+          (subst (Stays c.args.worklist.now.cells) cells c.in_ok-edges.ensures.kept)
+          (subst (λ (kept : List (List ℕ)). AreSortedEdges m trail.states (length c.args.worklist.now.expanded.items) kept c.in_ok-edges.edges.items) cells (subst (λ (n : ℕ). AreSortedEdges m trail.states n c.expand.new.kept c.in_ok-edges.edges.items) count c.in_ok-edges.ensures.edges))
           (subst (λ (n : ℕ). IsExpanded m trail.states trail.pairs n) count c.in_ok-edges.ensures.expanded)
-          (ap (λ (v : Vec (Vec Edge)). v.items) c.enqueue_from.ensures.expanded ∙ c.in_ok-push.ensures.items) c.in_ok-enqueue_from.ensures.old;
+          (ap (λ (v : Vec (Vec SortedEdge)). v.items) c.enqueue_from.ensures.expanded ∙ c.in_ok-push.ensures.items) c.in_ok-enqueue_from.ensures.old;
       extends = advances.1;
       fewer = fewer_expanded c.args.self.now.limit (length c.args.worklist.now.expanded.items) (length c.enqueue_from.new.self.expanded.items) (length c.args.trail.now.pairs) (length trail.pairs)
           (heap_len c.args.worklist.now.queue) (heap_len c.enqueue_from.new.self.queue) more (omega (arith, c.requires.some, c.requires.working.active.few_states)) advances.1.more_pairs advances.0.few_pairs

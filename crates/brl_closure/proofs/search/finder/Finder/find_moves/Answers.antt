@@ -1,57 +1,88 @@
-use Rattle.std.proofs.Common.{◌≡◌, ◌<◌, ℕ, List, length, slice_get, inl, inr, refl, sym, ap, ◌∙◌, subst, arith}
+use Rattle.std.proofs.Common.{◌≡◌, ◌<◌, ℕ, List, length, get_or, Some, slice_get, inl, inr, sym, ap, ◌∙◌, subst, arith}
 use Rattle.std.proofs.lemmas.Bool.{cases_eq}
-use Rattle.std.proofs.lemmas.Option.{slice_get_within}
-use Rattle.brl_closure.specs.declared.search.trail.PairOrigin.TheVariants.{Still, Swapped}
+use Rattle.std.proofs.lemmas.Option.{slice_get-get_or, slice_get_within}
+use Rattle.brl_pairs.proofs.Lists.{same_place}
 use Rattle.brl_pairs.specs.NumberPairs.{IsFollowed}
-use Rattle.brl_closure.specs.Edges.{Explains, FitsFollowing}
-use Rattle.brl_closure.proofs.Edges.{edges_more, fits_following, explains_move}
+use Rattle.brl_pairs.specs.Sorted.{cells_of}
+use Rattle.brl_pairs.specs.declared.edge.Edge.{Edge}
+use Rattle.brl_pairs.specs.declared.sorted.SortedEdge.{SortedEdge}
+use Rattle.brl_pairs.proofs.Numbered.{found_or_unmatched}
+use Rattle.brl_pairs.proofs.Unmatched.{unmatched_followed}
+use Rattle.brl_closure.proofs.Edges.{edges_more, explains_move, fits_following, found_edge}
 use Rattle.brl_closure.proofs.There.{followed_more}
 use Rattle.brl_closure.proofs.Additions.{advances_refl, advances_trans}
 use Rattle.brl_closure.proofs.search.finder.Finder.find_moves.Goals as goal
-use Rattle.brl_pairs.proofs.Lists.{read_at, same_place}
 
-pub loop-place-init : goal.loop-place-init
-loop-place-init g c = record {
+pub loop-edge-init : goal.loop-edge-init
+loop-edge-init g c = record {
   advances = advances_refl g.M.Machine.behaviour c.args.self.now c.args.trail.now c.requires.active;
-  followed = λ k e below. absurd (omega arith);
+  followed = λ k s e below. absurd (omega arith);
 }
 
 pub follow-requires-clause-fits : goal.follow-requires-clause-fits
 follow-requires-clause-fits g c =
-    let edges = edges_more (g.M.Machine.behaviour c.args.self.now.machine.now) c.args.trail.now.states c.loop-place.trail.states c.loop-place.invariant.advances.1.states c.args.pair.now.behind c.args.edges.now c.requires.edges in
-    let e_at = read_at c.args.edges.now c.args.edges.now c.loop-place.place c.index-edges-place.result refl (omega arith) c.index-edges-place.is in
-    let range = c.requires.active.traced.in_range c.args.number c.args.pair.now c.requires.pair in
-    let more = c.loop-place.invariant.advances.1.more_states in
-    subst (λ (cells : List ℕ). FitsFollowing (length c.loop-place.trail.states) c.args.pair.now.ahead cells c.index-edges-place.result) (sym c.as_slice-lead.ensures)
-    (fits_following (g.M.Machine.behaviour c.args.self.now.machine.now) c.requires.active.laws c.loop-place.trail.states c.args.pair.now.behind c.args.edges.now edges c.loop-place.place c.index-edges-place.result e_at c.args.pair.now.ahead c.args.pair.now.lead (omega (arith, range.ahead, more)) range.lead)
+    let a = c.args in
+    let m = g.M.Machine.behaviour a.self.now.machine.now in
+    let items = c.as_slice-edge-items.result.now in
+    let s = get_or items c.loop-edge.edge-index (record { cells = 0; next = 0; place = 0 }) in
+    let s_at = ap (λ (l : List SortedEdge). slice_get l c.loop-edge.edge-index) (sym c.as_slice-edge-items.ensures.value) ∙ slice_get-get_or items c.loop-edge.edge-index (record { cells = 0; next = 0; place = 0 }) c.loop-edge-test.true in
+    let f = found_edge a.cells.now c.requires.edges.edges a.sorted.now c.requires.edges.sorted_of c.as_slice-lead.result.now c.in_ok-found.found.items c.in_ok-found.ensures c.loop-edge.edge-index s s_at in
+    let edges = edges_more m a.trail.now.states c.loop-edge.trail.states c.loop-edge.invariant.advances.1.states a.pair.now.behind c.requires.edges.edges c.requires.edges.are_edges in
+    let range = c.requires.active.traced.in_range a.number a.pair.now c.requires.pair in
+    let more = c.loop-edge.invariant.advances.1.more_states in
+    rw (c.as_slice-lead.ensures, c.cells_of.ensures ∙ f.cells_is, f.next)
+    (fits_following m c.requires.active.laws c.loop-edge.trail.states a.pair.now.behind c.requires.edges.edges edges s.place f.edge f.at a.pair.now.ahead a.pair.now.lead (omega (arith, range.ahead, more)) range.lead)
 
 pub follow-requires-clause-explained : goal.follow-requires-clause-explained
 follow-requires-clause-explained g c =
-    let edges = edges_more (g.M.Machine.behaviour c.args.self.now.machine.now) c.args.trail.now.states c.loop-place.trail.states c.loop-place.invariant.advances.1.states c.args.pair.now.behind c.args.edges.now c.requires.edges in
-    let e_at = read_at c.args.edges.now c.args.edges.now c.loop-place.place c.index-edges-place.result refl (omega arith) c.index-edges-place.is in
-    subst (λ (cells : List ℕ). Explains (g.M.Machine.behaviour c.args.self.now.machine.now) c.loop-place.trail.states c.loop-place.trail.pairs c.args.pair.now.ahead cells c.index-edges-place.result (record { still = Still c.args.number c.loop-place.place; swapped = Swapped c.args.number c.loop-place.place })) (sym c.as_slice-lead.ensures)
-    (explains_move (g.M.Machine.behaviour c.args.self.now.machine.now) c.requires.active.laws c.loop-place.trail.states c.loop-place.trail.pairs c.args.number c.args.pair.now (c.loop-place.invariant.advances.1.pairs c.args.number c.args.pair.now c.requires.pair) c.args.edges.now edges c.loop-place.place c.index-edges-place.result e_at)
+    let a = c.args in
+    let m = g.M.Machine.behaviour a.self.now.machine.now in
+    let items = c.as_slice-edge-items.result.now in
+    let s = get_or items c.loop-edge.edge-index (record { cells = 0; next = 0; place = 0 }) in
+    let s_at = ap (λ (l : List SortedEdge). slice_get l c.loop-edge.edge-index) (sym c.as_slice-edge-items.ensures.value) ∙ slice_get-get_or items c.loop-edge.edge-index (record { cells = 0; next = 0; place = 0 }) c.loop-edge-test.true in
+    let f = found_edge a.cells.now c.requires.edges.edges a.sorted.now c.requires.edges.sorted_of c.as_slice-lead.result.now c.in_ok-found.found.items c.in_ok-found.ensures c.loop-edge.edge-index s s_at in
+    let edges = edges_more m a.trail.now.states c.loop-edge.trail.states c.loop-edge.invariant.advances.1.states a.pair.now.behind c.requires.edges.edges c.requires.edges.are_edges in
+    rw (c.as_slice-lead.ensures, c.cells_of.ensures ∙ f.cells_is, f.next)
+    (explains_move m c.requires.active.laws c.loop-edge.trail.states c.loop-edge.trail.pairs a.number a.pair.now (c.loop-edge.invariant.advances.1.pairs a.number a.pair.now c.requires.pair) c.requires.edges.edges edges s.place f.edge f.at)
 
-pub loop-place-preserved : goal.loop-place-preserved
-loop-place-preserved g c =
-    let e_at = read_at c.args.edges.now c.args.edges.now c.loop-place.place c.index-edges-place.result refl (omega arith) c.index-edges-place.is in
+pub loop-edge-preserved : goal.loop-edge-preserved
+loop-edge-preserved g c =
+    let a = c.args in
+    let items = c.as_slice-edge-items.result.now in
+    let s = get_or items c.loop-edge.edge-index (record { cells = 0; next = 0; place = 0 }) in
+    let s_at = slice_get-get_or items c.loop-edge.edge-index (record { cells = 0; next = 0; place = 0 }) c.loop-edge-test.true in
     record {
-      advances = advances_trans g.M.Machine.behaviour c.args.self.now c.args.trail.now c.loop-place.trail c.follow.new.trail c.loop-place.invariant.advances c.in_ok-follow.ensures.advances;
-      followed = λ k e below at. elim (cases_eq k c.loop-place.place) [
+      advances = advances_trans g.M.Machine.behaviour a.self.now a.trail.now c.loop-edge.trail c.follow.new.trail c.loop-edge.invariant.advances c.in_ok-follow.ensures.advances;
+      followed = λ k x e below at next cells. elim (cases_eq k c.loop-edge.edge-index) [
         | inl here ↦ (
-            let same : c.index-edges-place.result ≡ e = same_place c.args.edges.now c.loop-place.place c.index-edges-place.result e e_at (ap (slice_get c.args.edges.now) (sym here) ∙ at) in
-            subst (IsFollowed c.follow.new.trail.pairs c.args.pair.now.ahead c.args.pair.now.lead) same
-            (subst (λ (cells : List ℕ). IsFollowed c.follow.new.trail.pairs c.args.pair.now.ahead cells c.index-edges-place.result) c.as_slice-lead.ensures c.in_ok-follow.ensures.followed))
-        | inr other ↦ followed_more c.loop-place.trail.pairs c.follow.new.trail.pairs c.in_ok-follow.ensures.advances.1.pairs c.args.pair.now.ahead c.args.pair.now.lead e
-            (c.loop-place.invariant.followed k e (omega arith) at)
+            let same : x ≡ s = same_place items c.loop-edge.edge-index x s (ap (slice_get items) (sym here) ∙ at) s_at in
+            subst (λ (lead : List ℕ). IsFollowed c.follow.new.trail.pairs a.pair.now.ahead lead e) c.as_slice-lead.ensures
+            (c.in_ok-follow.ensures.followed e (next ∙ ap (λ (z : SortedEdge). z.next) same) (cells ∙ ap (cells_of a.cells.now) same ∙ sym c.cells_of.ensures)))
+        | inr other ↦ followed_more c.loop-edge.trail.pairs c.follow.new.trail.pairs c.in_ok-follow.ensures.advances.1.pairs a.pair.now.ahead a.pair.now.lead e
+            (c.loop-edge.invariant.followed k x e (omega arith) at next cells)
       ];
     }
 
 pub returns-clause-walked : goal.returns-clause-walked
-returns-clause-walked g c = record {
-  pair = c.args.pair.now;
-  at = c.loop-place.invariant.advances.1.pairs c.args.number c.args.pair.now c.requires.pair;
-  edges = c.args.edges.now;
-  are_edges = edges_more (g.M.Machine.behaviour c.args.self.now.machine.now) c.args.trail.now.states c.loop-place.trail.states c.loop-place.invariant.advances.1.states c.args.pair.now.behind c.args.edges.now c.requires.edges;
-  moves = λ k e at. c.loop-place.invariant.followed k e (let within : k < length c.args.edges.now = slice_get_within c.args.edges.now k e at in omega arith) at;
-}
+returns-clause-walked g c =
+    let a = c.args in
+    let edges = c.requires.edges.edges in
+    let lead = c.as_slice-lead.result.now in
+    let found = c.in_ok-found.found.items in
+    let items = c.as_slice-edge-items.result.now in
+    let whole : items ≡ found = c.as_slice-edge-items.ensures.value in
+    record {
+      pair = a.pair.now;
+      at = c.loop-edge.invariant.advances.1.pairs a.number a.pair.now c.requires.pair;
+      edges = edges;
+      are_edges = edges_more (g.M.Machine.behaviour a.self.now.machine.now) a.trail.now.states c.loop-edge.trail.states c.loop-edge.invariant.advances.1.states a.pair.now.behind edges c.requires.edges.are_edges;
+      moves = λ k e at. elim (found_or_unmatched a.cells.now edges a.sorted.now c.requires.edges.sorted_of lead found c.in_ok-found.ensures k e at) [
+        | inl f ↦ (
+            let own = found_edge a.cells.now edges a.sorted.now c.requires.edges.sorted_of lead found c.in_ok-found.ensures f.0 f.1 f.2 in
+            let same : e ≡ own.edge = same_place edges k e own.edge at (ap (slice_get edges) (sym f.3) ∙ own.at) in
+            let x_at : slice_get items f.0 ≡ Some f.1 = ap (λ (l : List SortedEdge). slice_get l f.0) whole ∙ f.2 in
+            c.loop-edge.invariant.followed f.0 f.1 e (let within : f.0 < length items = slice_get_within items f.0 f.1 x_at in omega arith) x_at
+            (ap (λ (z : Edge). z.next) same ∙ sym own.next) (ap (λ (z : Edge). z.cells) same ∙ sym own.cells_is))
+        | inr other ↦ subst (λ (own : List ℕ). IsFollowed c.loop-edge.trail.pairs a.pair.now.ahead own e) c.as_slice-lead.ensures (unmatched_followed c.loop-edge.trail.pairs a.pair.now.ahead lead e other)
+      ];
+    }

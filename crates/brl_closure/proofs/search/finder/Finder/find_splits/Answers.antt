@@ -33,3 +33,9 @@ returns-clause-expanded g c = record {
   splits = λ i j x y less x_at y_at.
       c.loop-second.invariant.followed i j x y less (let within : j < length c.args.edges.now = slice_get_within c.args.edges.now j y y_at in omega arith) x_at y_at;
 }
+
+pub splits_of-requires-clause-places : goal.splits_of-requires-clause-places
+splits_of-requires-clause-places g c = λ x there.
+    let own = c.requires.sorted.by_numbers.only x there in
+    let within : x.place < length c.args.edges.now = slice_get_within c.args.edges.now x.place own.edge own.at in
+    omega (arith, within)

@@ -1,17 +1,16 @@
-use Rattle.std.proofs.Common.{◌≡◌, ◌+◌, ◌<◌, ◌≤◌, ℕ, Some, slice_get}
-use Rattle.brl_pairs.specs.Places.{first_of}
+use Rattle.std.proofs.Common.{◌≡◌, ◌≤◌, ℕ, Some, length, slice_get}
 use Rattle.brl_pairs.specs.declared.edge.Edge.{Edge}
+use Rattle.brl_pairs.specs.declared.sorted.SortedEdge.{SortedEdge}
 use Rattle.brl_pairs.specs.NumberPairs.{IsFollowed}
 use Rattle.brl_closure.specs.Trail.{Advances}
 use Rattle.brl_closure.proofs.search.finder.Finder.find_splits_of.Given as goal
 
-abbrev pub invariant-loop-place : goal.invariant-loop-place
-invariant-loop-place g l = record {
+abbrev pub invariant-loop-left : goal.invariant-loop-left
+invariant-loop-left g l = record {
   advances : Advances g.M.Machine.behaviour l.self l.fn.trail l.trail;
-  low : l.place ≤ l.second;
-  same_cell : (k : ℕ) (e : Edge) → l.place ≡ k + 1 → slice_get l.edges k ≡ Some e → first_of e.cells ≡ first_of l.later.cells;
-  followed : (i : ℕ) (x : Edge) → l.place ≤ i → i < l.second → slice_get l.edges i ≡ Some x → IsFollowed l.trail.pairs x.next x.cells l.later;
+  within : l.left ≤ length l.found.items;
+  followed : (k : ℕ) (s : SortedEdge) (x y : Edge) → l.left ≤ k → slice_get l.found.items k ≡ Some s → slice_get l.edges s.place ≡ Some x → slice_get l.edges l.second ≡ Some y → IsFollowed l.trail.pairs x.next x.cells y;
 }
 
-abbrev pub decreases-loop-place : goal.decreases-loop-place
-decreases-loop-place g l = l.place
+abbrev pub decreases-loop-left : goal.decreases-loop-left
+decreases-loop-left g l = l.left

@@ -1,7 +1,7 @@
 use Rattle.std.proofs.Common.{◌<◌, ◌∙◌, length, List, Some, refl, sym, ap, subst, arith}
 use Rattle.std.proofs.lemmas.Option.{slice_get_within}
-use Rattle.brl_pairs.specs.Edges.{AreEdges}
-use Rattle.brl_pairs.specs.declared.edge.Edge.{Edge}
+use Rattle.brl_pairs.specs.Sorted.{AreSortedEdges}
+use Rattle.brl_pairs.specs.declared.sorted.SortedEdge.{SortedEdge}
 use Rattle.brl_closure.proofs.search.finder.Finder.walk.Goals as goal
 use Rattle.brl_pairs.proofs.Lists.{read_at, same_place}
 
@@ -20,5 +20,5 @@ find_moves-requires-clause-edges g c =
     ∙ ap Some (sym c.in_ok-pair.ensures) in
     let is = same_place c.args.trail.now.pairs c.args.number c.requires.pair.0 c.in_ok-pair.pair c.requires.pair.1 at in
     let expanded : c.in_ok-pair.pair.behind < length c.args.expanded.now = subst (λ p. p.behind < length c.args.expanded.now) is c.requires.pair.2 in
-    subst (λ (edges : List Edge). AreEdges (g.M.Machine.behaviour c.args.self.now.machine.now) c.args.trail.now.states c.in_ok-pair.pair.behind edges) (sym c.as_slice-edges.ensures.value)
+    subst (λ (sorted : List SortedEdge). AreSortedEdges (g.M.Machine.behaviour c.args.self.now.machine.now) c.args.trail.now.states c.in_ok-pair.pair.behind c.args.cells.now sorted) (sym c.as_slice-sorted.ensures.value)
     (c.requires.edges c.in_ok-pair.pair.behind c.index-expanded-pair.result (read_at c.args.expanded.now c.args.expanded.now c.in_ok-pair.pair.behind c.index-expanded-pair.result refl expanded c.index-expanded-pair.is))

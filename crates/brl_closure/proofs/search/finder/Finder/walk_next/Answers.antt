@@ -1,7 +1,8 @@
-use Rattle.std.proofs.Common.{◌≡◌, ◌∙◌, ℕ, length, Some, slice_get, ap, subst, arith}
+use Rattle.std.proofs.Common.{◌≡◌, ◌∙◌, ℕ, length, Some, slice_get, sym, ap, subst, arith}
 use Rattle.std.specs.BinaryHeap.{heap_items, heap_len}
 use Rattle.std.specs.Global.{Vec}
-use Rattle.brl_pairs.specs.declared.edge.Edge.{Edge}
+use Rattle.brl_pairs.specs.declared.sorted.SortedEdge.{SortedEdge}
+use Rattle.brl_closure.specs.SearchView.{Stays}
 use Rattle.brl_closure.proofs.Queue.{item_popped, items_more}
 use Rattle.brl_closure.proofs.Steps.{fewer_walked, working_walked}
 use Rattle.brl_closure.proofs.search.finder.Finder.walk_next.Goals as goal
@@ -10,7 +11,7 @@ pub walk-requires-clause-pair : goal.walk-requires-clause-pair
 walk-requires-clause-pair g c =
     let first = c.in-Some.ensures.first in
     let item = (item_popped c.args.trail.now.pairs first.0 (heap_items c.args.worklist.now.queue) (heap_items c.pop_ready.new.self.queue) first.3 c.requires.working.items).0 in
-    let same : length c.as_slice.result.now ≡ length c.args.worklist.now.expanded.items = ap length c.as_slice.ensures.value ∙ ap (λ (v : Vec (Vec Edge)). length v.items) c.pop_ready.ensures.expanded in
+    let same : length c.as_slice.result.now ≡ length c.args.worklist.now.expanded.items = ap length c.as_slice.ensures.value ∙ ap (λ (v : Vec (Vec SortedEdge)). length v.items) c.pop_ready.ensures.expanded in
     (item.0, subst (λ (n : ℕ). slice_get c.args.trail.now.pairs n ≡ Some item.0) first.1 item.1, omega (arith, item.2, first.2, same))
 
 pub returns-clause-step : goal.returns-clause-step
@@ -23,10 +24,10 @@ returns-clause-step g c =
           working_walked g.M.Machine.behaviour c.args.self.now c.args.trail.now c.walk.new.trail c.args.worklist.now c.enqueue_from.new.self c.requires.working advances
           (λ n low high. c.in_ok-enqueue_from.ensures.new n (omega (arith, low, c.len-known.ensures)) high)
           (c.in_ok-enqueue_from.ensures.items (items_more c.args.trail.now.pairs c.walk.new.trail.pairs advances.1.pairs (heap_items c.pop_ready.new.self.queue) left.1))
-          c.in-Some.number first.0 (heap_items c.pop_ready.new.self.queue) first.1 first.3 c.in_ok-walk.ensures.walked (ap (λ (v : Vec (Vec Edge)). v.items) (c.enqueue_from.ensures.expanded ∙ c.pop_ready.ensures.expanded)) c.in_ok-enqueue_from.ensures.old;
+          c.in-Some.number first.0 (heap_items c.pop_ready.new.self.queue) first.1 first.3 c.in_ok-walk.ensures.walked (subst (Stays c.args.worklist.now.cells) (sym (c.enqueue_from.ensures.cells ∙ c.pop_ready.ensures.cells)) (λ k own at. at)) (ap (λ (v : Vec (Vec SortedEdge)). v.items) (c.enqueue_from.ensures.expanded ∙ c.pop_ready.ensures.expanded)) c.in_ok-enqueue_from.ensures.old;
       extends = advances.1;
       fewer = fewer_walked c.args.self.now.limit (length c.args.worklist.now.expanded.items) (length c.enqueue_from.new.self.expanded.items) (length c.args.trail.now.pairs) (length c.walk.new.trail.pairs)
           (heap_len c.args.worklist.now.queue) (heap_len c.pop_ready.new.self.queue) (heap_len c.enqueue_from.new.self.queue)
-          (ap (λ (v : Vec (Vec Edge)). length v.items) (c.enqueue_from.ensures.expanded ∙ c.pop_ready.ensures.expanded)) c.in-Some.ensures.count advances.1.more_pairs advances.0.few_pairs
+          (ap (λ (v : Vec (Vec SortedEdge)). length v.items) (c.enqueue_from.ensures.expanded ∙ c.pop_ready.ensures.expanded)) c.in-Some.ensures.count advances.1.more_pairs advances.0.few_pairs
           (omega (arith, c.in_ok-enqueue_from.ensures.count, c.len-known.ensures));
     }

@@ -1,0 +1,160 @@
+-- The edges that begin others, and those that begin with them, by the order of cells.
+use Rattle.std.proofs.Common.{◌≡◌, ◌⊎◌, ℕ, ◌+◌, ◌<◌, ◌≤◌, false, List, [], ◌++◌, inl, inr, length, get_or, Some, slice_get, sym, ◌∙◌, ap, subst, arith}
+use Rattle.std.specs.Prelude.{Contains}
+use Rattle.std.specs.List.Sorted.{IsNonDecreasingBy, IsPermutation}
+use Rattle.std.proofs.lemmas.Bool.{cases_eq, cases_lt}
+use Rattle.std.proofs.lemmas.List.{append-nil}
+use Rattle.std.proofs.lemmas.List.Elements.{Contains-append_cases, Contains-append_left, Contains-append_right}
+use Rattle.std.proofs.lemmas.List.Sorted.{Contains-permutation, IsPermutation-sym}
+use Rattle.std.proofs.lemmas.Option.{get_or_from_slice_get, slice_get_within}
+use Rattle.brl_pairs.specs.Sorted.{AreAscending, BeginsWith, DoMatch, cells_of, is_before}
+use Rattle.brl_pairs.specs.Splits.{AreEarlier, AreWithin, IsLastShorter}
+use Rattle.brl_pairs.specs.declared.sorted.SortedEdge.{SortedEdge}
+use Rattle.brl_pairs.proofs.CellOrder.{beginning_interval, beginning_not_before, begins_from_test, same_cells, test_from_begins}
+use Rattle.brl_pairs.proofs.Lists.{inside, same_place, three_ways}
+use Rattle.brl_pairs.proofs.Numbered.{contained, place_of}
+use Rattle.brl_pairs.proofs.SortedLaws.{far}
+
+-- the place is before that of an edge, and the cells begin its cells, or begin with them
+abbrev pub IsEarlierShorter : List (List ℕ) → SortedEdge → SortedEdge → Type 0
+IsEarlierShorter cells y x = BeginsWith (cells_of cells y) (cells_of cells x) × (x.place < y.place)
+
+abbrev pub IsEarlierLonger : List (List ℕ) → SortedEdge → SortedEdge → Type 0
+IsEarlierLonger cells y x = BeginsWith (cells_of cells x) (cells_of cells y) × (x.place < y.place)
+
+-- cells of which none come before the others begin with them
+equal_begins : (xs ys : List ℕ) → is_before xs ys ≡ false → is_before ys xs ≡ false → BeginsWith xs ys
+equal_begins xs ys h k = ([], same_cells xs ys h k ∙ sym (append-nil ys))
+
+module _ (cells : List (List ℕ)) (sorted : List SortedEdge) (ascending : AreAscending cells sorted) where
+  -- a later edge has no cells that come before
+  later_not_before : (i j : ℕ) (x y : SortedEdge) → i ≤ j → slice_get sorted i ≡ Some x → slice_get sorted j ≡ Some y → is_before (cells_of cells y) (cells_of cells x) ≡ false
+  later_not_before i j x y le x_at y_at =
+      subst (λ (z : SortedEdge). is_before (cells_of cells z) (cells_of cells x) ≡ false) (get_or_from_slice_get sorted j y x y_at)
+      (subst (λ (z : SortedEdge). is_before (cells_of cells (get_or sorted j x)) (cells_of cells z) ≡ false) (get_or_from_slice_get sorted i x x x_at)
+      (far cells sorted ascending i j x le (slice_get_within sorted j y y_at)))
+
+  -- what begins the cells of a later edge begins those between
+  between_begins : (i j l : ℕ) (x y z : SortedEdge) → i ≤ j → j ≤ l → slice_get sorted i ≡ Some x → slice_get sorted j ≡ Some y → slice_get sorted l ≡ Some z
+      → BeginsWith (cells_of cells z) (cells_of cells x) → BeginsWith (cells_of cells y) (cells_of cells x)
+  between_begins i j l x y z first second x_at y_at z_at b =
+      begins_from_test (cells_of cells y) (cells_of cells x)
+      (beginning_interval (cells_of cells y) (cells_of cells z) (cells_of cells x) (later_not_before i j x y first x_at y_at) (later_not_before j l y z second y_at z_at)
+      (test_from_begins (cells_of cells z) (cells_of cells x) b))
+
+  -- ---- The last shorter edge
+
+  module _ (end : ℕ) (y : SortedEdge) (y_at : slice_get sorted end ≡ Some y) where
+    -- none so far, and the one at hand doesn't begin these cells
+    pub pass_by : (last n : ℕ) (x : SortedEdge) → last ≤ end → slice_get sorted n ≡ Some x → last ≡ n + 1 → (m : ℕ) → IsLastShorter cells sorted n (cells_of cells x) m → (BeginsWith (cells_of cells y) (cells_of cells x) → ⊥)
+        → ((k : ℕ) (z : SortedEdge) → last ≤ k → k < end → slice_get sorted k ≡ Some z → BeginsWith (cells_of cells y) (cells_of cells z) → ⊥)
+        → (k : ℕ) (z : SortedEdge) → m ≤ k → k < end → slice_get sorted k ≡ Some z → BeginsWith (cells_of cells y) (cells_of cells z) → ⊥
+    pass_by last n x low x_at is m h other none k z from less z_at b = elim (three_ways k n) [
+      | inl before ↦ h.others k z from before z_at (between_begins k n end z x y (omega (arith, before)) (omega (arith, low, is)) z_at x_at y_at b)
+      | inr more ↦ elim more [
+        | inl here ↦ other (subst (λ (w : SortedEdge). BeginsWith (cells_of cells y) (cells_of cells w)) (same_place sorted n z x (ap (slice_get sorted) (sym here) ∙ z_at) x_at) b)
+        | inr after ↦ none k z (omega (arith, after, is)) less z_at b
+      ]
+    ]
+
+    -- ---- The chain of those that begin these cells
+
+    pub chain_step : (last n : ℕ) (x : SortedEdge) → last ≤ end → slice_get sorted n ≡ Some x → last ≡ n + 1 → (m : ℕ) → IsLastShorter cells sorted n (cells_of cells x) m → BeginsWith (cells_of cells y) (cells_of cells x)
+        → (old new : List SortedEdge) → ((z : SortedEdge) → Contains new z → Contains old z ⊎ ((x ≡ z) × (x.place < y.place))) → ((z : SortedEdge) → Contains old z → Contains new z) → (x.place < y.place → Contains new x)
+        → AreWithin (IsEarlierShorter cells y) sorted last end old → AreWithin (IsEarlierShorter cells y) sorted m end new
+    chain_step last n x low x_at is m h begins old new only kept added before = record {
+      only = λ z there. elim (only z there) [
+        | inl was ↦ (let w = before.only z was in (w.0, (let le : last ≤ w.0 = w.1 in omega (arith, le, is, h.before)), w.2, w.3, w.4))
+        | inr new ↦ (n, h.before, omega (arith, low, is), subst (λ (w : SortedEdge). slice_get sorted n ≡ Some w) new.0 x_at, subst (IsEarlierShorter cells y) new.0 (begins, new.1))
+      ];
+      all = λ k z from less z_at p. elim (three_ways k n) [
+        | inl lower ↦ absurd (h.others k z from lower z_at (between_begins k n end z x y (omega (arith, lower)) (omega (arith, low, is)) z_at x_at y_at p.0))
+        | inr more ↦ elim more [
+          | inl here ↦ (let same : z ≡ x = same_place sorted n z x (ap (slice_get sorted) (sym here) ∙ z_at) x_at in subst (Contains new) (sym same) (added (subst (λ (w : SortedEdge). w.place < y.place) same p.1)))
+          | inr after ↦ kept z (before.all k z (omega (arith, after, is)) less z_at p)
+        ]
+      ];
+    }
+
+    pub chain_init : (last : ℕ) → IsLastShorter cells sorted end (cells_of cells y) last → (found : List SortedEdge) → found ≡ [] → AreWithin (IsEarlierShorter cells y) sorted last end found
+    chain_init last h found none = record {
+      only = λ x there. absurd (let gone = subst (λ (l : List SortedEdge). Contains l x) none there in omega (arith, gone.1));
+      all = λ k x from less at p. absurd (h.others k x from less at p.0);
+    }
+
+    -- ---- Those that begin with these cells
+
+    pub walk_step : (n : ℕ) (x : SortedEdge) → end + 1 ≤ n → slice_get sorted n ≡ Some x → BeginsWith (cells_of cells x) (cells_of cells y)
+        → (old new : List SortedEdge) → ((z : SortedEdge) → Contains new z → Contains old z ⊎ ((x ≡ z) × (x.place < y.place))) → ((z : SortedEdge) → Contains old z → Contains new z) → (x.place < y.place → Contains new x)
+        → AreWithin (IsEarlierLonger cells y) sorted (end + 1) n old → AreWithin (IsEarlierLonger cells y) sorted (end + 1) (n + 1) new
+    walk_step n x low x_at begins old new only kept added before = record {
+      only = λ z there. elim (only z there) [
+        | inl was ↦ (let w = before.only z was in (w.0, w.1, (let less : w.0 < n = w.2 in omega (arith, less)), w.3, w.4))
+        | inr new ↦ (n, low, omega arith, subst (λ (w : SortedEdge). slice_get sorted n ≡ Some w) new.0 x_at, subst (IsEarlierLonger cells y) new.0 (begins, new.1))
+      ];
+      all = λ k z from less z_at p. elim (cases_eq k n) [
+        | inl here ↦ (let same : z ≡ x = same_place sorted n z x (ap (slice_get sorted) (sym here) ∙ z_at) x_at in subst (Contains new) (sym same) (added (subst (λ (w : SortedEdge). w.place < y.place) same p.1)))
+        | inr apart ↦ kept z (before.all k z from (omega (arith, less, apart)) z_at p)
+      ];
+    }
+
+    pub walk_init : (found : List SortedEdge) → found ≡ [] → AreWithin (IsEarlierLonger cells y) sorted (end + 1) (end + 1) found
+    walk_init found none = record {
+      only = λ x there. absurd (let gone = subst (λ (l : List SortedEdge). Contains l x) none there in omega (arith, gone.1));
+      all = λ k x from less at p. absurd (omega (arith, from, less));
+    }
+
+    -- the walk has stopped: no later edge begins with these cells
+    pub walk_end : (n : ℕ) → end + 1 ≤ n → n ≤ length sorted → (length sorted ≤ n) ⊎ ((x : SortedEdge) → slice_get sorted n ≡ Some x → BeginsWith (cells_of cells x) (cells_of cells y) → ⊥)
+        → (found : List SortedEdge) → AreWithin (IsEarlierLonger cells y) sorted (end + 1) n found → AreWithin (IsEarlierLonger cells y) sorted (end + 1) (length sorted) found
+    walk_end n low within stop found h = record {
+      only = λ x there. (let w = h.only x there in (w.0, w.1, (let less : w.0 < n = w.2 in omega (arith, less, within)), w.3, w.4));
+      all = λ k x from less at p. elim (cases_lt k n) [
+        | inl passed ↦ h.all k x from passed at p
+        | inr left ↦ elim stop [
+          | inl all ↦ absurd (omega (arith, left, less, all))
+          | inr apart ↦ absurd (
+              let w = inside sorted n (let within : k < length sorted = less in omega (arith, left, within)) in
+              apart w.0 w.1 (between_begins end n k y w.0 x (omega (arith, low)) left y_at w.1 at p.0))
+        ]
+      ];
+    }
+
+    -- ---- All that split with the edge and have an earlier place
+
+    pub earlier_of_both : (shorter longer found : List SortedEdge) → AreWithin (IsEarlierShorter cells y) sorted 0 end shorter → AreWithin (IsEarlierLonger cells y) sorted (end + 1) (length sorted) longer
+        → IsPermutation (shorter ++ longer) found → IsNonDecreasingBy (λ (x : SortedEdge). x.place) found → AreEarlier cells sorted (cells_of cells y) y.place found
+    earlier_of_both shorter longer found s l moved up = record { only = only; all = all; ascending = up }
+      where
+        only : (x : SortedEdge) → Contains found x → Contains sorted x × DoMatch (cells_of cells y) (cells_of cells x) × (x.place < y.place)
+        only x there = elim (Contains-append_cases shorter longer x (Contains-permutation found (shorter ++ longer) x (IsPermutation-sym (shorter ++ longer) found moved) there)) [
+          | inl a ↦ (let w = s.only x a in (contained sorted w.0 x w.3, inl w.4.0, w.4.1))
+          | inr b ↦ (let w = l.only x b in (contained sorted w.0 x w.3, inr w.4.0, w.4.1))
+        ]
+
+        begins_it : (k : ℕ) (x : SortedEdge) → k ≤ end → slice_get sorted k ≡ Some x → DoMatch (cells_of cells y) (cells_of cells x) → BeginsWith (cells_of cells y) (cells_of cells x)
+        begins_it k x le at m = elim m [
+          | inl b ↦ b
+          | inr b ↦ equal_begins (cells_of cells y) (cells_of cells x)
+              (later_not_before k end x y le at y_at)
+              (beginning_not_before (cells_of cells x) (cells_of cells y) (test_from_begins (cells_of cells x) (cells_of cells y) b))
+        ]
+
+        begins_with_it : (k : ℕ) (x : SortedEdge) → end ≤ k → slice_get sorted k ≡ Some x → DoMatch (cells_of cells y) (cells_of cells x) → BeginsWith (cells_of cells x) (cells_of cells y)
+        begins_with_it k x le at m = elim m [
+          | inr b ↦ b
+          | inl b ↦ equal_begins (cells_of cells x) (cells_of cells y)
+              (later_not_before end k y x le y_at at)
+              (beginning_not_before (cells_of cells y) (cells_of cells x) (test_from_begins (cells_of cells y) (cells_of cells x) b))
+        ]
+
+        all : (x : SortedEdge) → Contains sorted x → DoMatch (cells_of cells y) (cells_of cells x) → x.place < y.place → Contains found x
+        all x there m early =
+            let k = place_of sorted x there in
+            Contains-permutation (shorter ++ longer) found x moved (elim (three_ways k.0 end) [
+              | inl before ↦ Contains-append_left shorter longer x (s.all k.0 x (omega arith) before k.1 (begins_it k.0 x (omega (arith, before)) k.1 m, early))
+              | inr more ↦ elim more [
+                | inl here ↦ absurd (let same : x ≡ y = same_place sorted end x y (ap (slice_get sorted) (sym here) ∙ k.1) y_at in let places = ap (λ (z : SortedEdge). z.place) same in omega (arith, early, places))
+                | inr after ↦ Contains-append_right shorter longer x (l.all k.0 x (omega (arith, after)) (slice_get_within sorted k.0 x k.1) k.1 (begins_with_it k.0 x (omega (arith, after)) k.1 m, early))
+              ]
+            ])

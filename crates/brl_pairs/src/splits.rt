@@ -1,0 +1,165 @@
+//! The splits of a state, by the order of its edges. In it the cells that begin given ones form a
+//! chain before them, and those that begin with them follow.
+ghost use Rattle.std.specs.Prelude.{◌≡◌, ◌⊎◌, ℕ, ◌+◌, ◌<◌, ◌≤◌, Contains, IfOk, OnOk, Some, length, slice_get};
+ghost use Rattle.brl_pairs.specs.Sorted.{AreAscending, BeginsWith, cells_of};
+ghost use Rattle.brl_pairs.specs.Splits.{AreEarlier, ArePositions, AreShorter, AreSplits, AreWithin, IsLastShorter};
+ghost use Rattle.brl_pairs.specs.declared.sorted.SortedEdge.{SortedEdge as SortedValue};
+
+use crate::sorted::{SortedEdge, as_u32, begins_with, cells_of};
+use brl_cells::Cells;
+use std::alloc::{AllocError, Global};
+
+/// Where a state's edges are in the order of their cells, and for each the last one before it whose
+/// cells begin its cells.
+#[derive(Drop)]
+pub struct Splits {
+    /// By place, the position of the edge in the order of cells.
+    pub positions: Vec<u32>,
+    /// By position, one more than the position of the last edge before whose cells begin these; 0
+    /// if there is none.
+    pub shorter: Vec<u32>,
+}
+
+/// The position of the edge with each place.
+fn positions_of(alloc: Global, sorted: &[SortedEdge], count: usize) -> Result<Vec<u32>, AllocError>
+    requires { (x : SortedValue) → Contains sorted.now x → x.place < count }
+    ensures { IfOk result (λ positions. ArePositions sorted.now positions.items) }
+{
+    let mut positions = vec![in alloc; 0u32; count]?;
+    for (position, edge) in sorted.iter().enumerate() {
+        let number = as_u32(position)?;
+        positions[edge.place as usize] = number;
+    }
+    Ok(positions)
+}
+
+/// One more than the position of the last edge before this one whose cells begin its cells, from
+/// those of the edges before it.
+fn last_shorter(cells: &[Cells], sorted: &[SortedEdge], shorter: &[u32], position: usize) -> usize
+    requires ascending { AreAscending cells.now sorted.now }
+    requires shorter { AreShorter cells.now sorted.now shorter.now }
+    requires known { position ≤ length shorter.now }
+    requires within { position < length sorted.now }
+    ensures { (x : SortedValue) → slice_get sorted.now position ≡ Some x → IsLastShorter cells.now sorted.now position (cells_of cells.now x) result }
+{
+    let own = cells_of(cells, &sorted[position]);
+    let mut last = position;
+    while last > 0 && !begins_with(own, cells_of(cells, &sorted[last - 1])) {
+        last = shorter[last - 1] as usize;
+    }
+    last
+}
+
+/// For each edge one more than the position of the last edge before it whose cells begin its cells.
+fn shorter_of(alloc: Global, cells: &[Cells], sorted: &[SortedEdge]) -> Result<Vec<u32>, AllocError>
+    requires { AreAscending cells.now sorted.now }
+    ensures many { IfOk result (λ shorter. length shorter.items ≡ length sorted.now) }
+    ensures shorter { IfOk result (λ shorter. AreShorter cells.now sorted.now shorter.items) }
+{
+    let mut shorter = Vec::with_capacity(alloc, sorted.len())?;
+    for position in 0..sorted.len() {
+        let last = last_shorter(cells, sorted, shorter.as_slice(), position);
+        let number = as_u32(last)?;
+        shorter.push(number)?;
+    }
+    Ok(shorter)
+}
+
+/// The splits of edges whose places are below this count.
+pub fn splits_of(
+    alloc: Global,
+    cells: &[Cells],
+    sorted: &[SortedEdge],
+    count: usize,
+) -> Result<Splits, AllocError>
+    requires ascending { AreAscending cells.now sorted.now }
+    requires places { (x : SortedValue) → Contains sorted.now x → x.place < count }
+    ensures { IfOk result (AreSplits cells.now sorted.now) }
+{
+    let positions = positions_of(alloc, sorted, count)?;
+    let shorter = shorter_of(alloc, cells, sorted)?;
+    Ok(Splits { positions, shorter })
+}
+
+/// Adds an edge if its place is before this one.
+fn add_earlier(found: &mut Vec<SortedEdge>, edge: SortedEdge, end: u32) -> Result<(), AllocError>
+    ensures only { OnOk result ((x : SortedValue) → Contains found.new.items x → Contains found.old.items x ⊎ ((edge ≡ x) × (edge.place < end))) }
+    ensures kept { OnOk result ((x : SortedValue) → Contains found.old.items x → Contains found.new.items x) }
+    ensures added { OnOk result (edge.place < end → Contains found.new.items edge) }
+{
+    if edge.place < end {
+        found.push(edge)?;
+    }
+    Ok(())
+}
+
+/// The edges with an earlier place than this one whose cells are before its cells and begin them.
+fn earlier_shorter(
+    alloc: Global,
+    cells: &[Cells],
+    sorted: &[SortedEdge],
+    shorter: &[u32],
+    position: usize,
+) -> Result<Vec<SortedEdge>, AllocError>
+    requires ascending { AreAscending cells.now sorted.now }
+    requires shorter { AreShorter cells.now sorted.now shorter.now }
+    requires many { length shorter.now ≡ length sorted.now }
+    requires within { position < length sorted.now }
+    ensures { IfOk result (λ found. (y : SortedValue) → slice_get sorted.now position ≡ Some y →
+        AreWithin (λ x. BeginsWith (cells_of cells.now y) (cells_of cells.now x) × (x.place < y.place)) sorted.now 0 position found.items) }
+{
+    let end = sorted[position].place;
+    let mut found = Vec::new(alloc);
+    let mut last = shorter[position] as usize;
+    while last > 0 {
+        add_earlier(&mut found, sorted[last - 1], end)?;
+        last = shorter[last - 1] as usize;
+    }
+    Ok(found)
+}
+
+/// The edges with an earlier place than this one whose cells follow its cells and begin with them.
+fn earlier_longer(
+    alloc: Global,
+    cells: &[Cells],
+    sorted: &[SortedEdge],
+    position: usize,
+) -> Result<Vec<SortedEdge>, AllocError>
+    requires ascending { AreAscending cells.now sorted.now }
+    requires within { position < length sorted.now }
+    ensures { IfOk result (λ found. (y : SortedValue) → slice_get sorted.now position ≡ Some y →
+        AreWithin (λ x. BeginsWith (cells_of cells.now x) (cells_of cells.now y) × (x.place < y.place)) sorted.now (position + 1) (length sorted.now) found.items) }
+{
+    let end = sorted[position].place;
+    let own = cells_of(cells, &sorted[position]);
+    let mut found = Vec::new(alloc);
+    let mut next = position + 1;
+    while next < sorted.len() && begins_with(cells_of(cells, &sorted[next]), own) {
+        add_earlier(&mut found, sorted[next], end)?;
+        next += 1;
+    }
+    Ok(found)
+}
+
+/// The edges before the one with this place that split with it, by ascending place: those whose
+/// cells begin its cells or begin with them.
+pub fn earlier_splits(
+    alloc: Global,
+    cells: &[Cells],
+    sorted: &[SortedEdge],
+    splits: &Splits,
+    place: usize,
+) -> Result<Vec<SortedEdge>, AllocError>
+    requires ascending { AreAscending cells.now sorted.now }
+    requires splits { AreSplits cells.now sorted.now splits.now }
+    requires there { (x : SortedValue) × Contains sorted.now x × (x.place ≡ place) }
+    ensures { IfOk result (λ found. (y : SortedValue) × Contains sorted.now y × (y.place ≡ place)
+        × AreEarlier cells.now sorted.now (cells_of cells.now y) place found.items) }
+{
+    let position = splits.positions[place] as usize;
+    let mut found = earlier_shorter(alloc, cells, sorted, splits.shorter.as_slice(), position)?;
+    let longer = earlier_longer(alloc, cells, sorted, position)?;
+    found.extend_from_slice(longer.as_slice())?;
+    found.sort_unstable_by_key(|edge| edge.place);
+    Ok(found)
+}
