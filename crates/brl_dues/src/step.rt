@@ -43,8 +43,8 @@ pub fn step_with(
         return Ok(None);
     };
     let reads = reads_of(alloc, origin, taken)?;
-    let dues = origin.state.dues.as_slice();
-    let Some(left) = dues_past(alloc, origin.table.table(), reads.as_slice(), dues)? else {
+    let bars = origin.letter.bars();
+    let Some(left) = dues_past(alloc, origin.table.table(), reads.as_slice(), bars)? else {
         return Ok(None);
     };
     finish_step(alloc, origin, taken, next, reads, left)
@@ -75,7 +75,7 @@ pub fn reads_of(
 }
 
 /// The step that takes this, reads these characters and asks this of the next one, where `left` is
-/// what is left of the state's dues after these. `None` where it can't meet what it owes.
+/// what is left of the letter's bars after these. `None` where it can't meet what it owes.
 pub fn finish_step(
     alloc: Global,
     origin: &Origin<'_>,
@@ -86,7 +86,7 @@ pub fn finish_step(
 ) -> Result<Option<Step<DuesState>>, AllocError>
     requires word { taken.run ≡ true → IsTrue (has_word_capitals origin.now.table.now) }
     requires reads { reads.items ≡ origin.now.letter.now.character ∷ taken.others.now }
-    requires left { left_past origin.now.table.now reads.items origin.now.state.now.dues ≡ Some left.items }
+    requires left { left_past origin.now.table.now reads.items origin.now.letter.now.bars ≡ Some left.items }
     requires proper { All (λ due. IsTrue (is_proper due)) left.items }
     ensures { IfOk result (λ step. option_map_or (λ x. x ∷ []) step []
         ≡ next_step origin.now.table.now origin.now.state.now origin.now.letter.now taken.entry.number taken.entry.run taken.entry.others.now taken.entry.after taken.entry.cells.now next) }
@@ -98,7 +98,7 @@ pub fn finish_step(
 }
 
 /// The dues after the step that takes this and asks this of the next character, where `left` is
-/// what is left of the state's. `None` where one is broken.
+/// what is left of the letter's bars. `None` where one is broken.
 fn next_dues(
     alloc: Global,
     origin: &Origin<'_>,
