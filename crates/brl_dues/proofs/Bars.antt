@@ -2,12 +2,11 @@
 -- character first leaves of the state's dues is what it leaves of these.
 use Rattle.std.proofs.Common.{◌≡◌, ℕ, zero, suc, ◌+◌, ◌-◌, ◌<◌, ◌≤◌, Bool, true, false, ◌&&◌, List, [], ◌∷◌, ◌++◌, Some, None, length, map, filter, take, drop, get_or, refl, sym, ap, ap₂, ◌∙◌, cond, nat_eq, arith, leb, leb-true}
 use Rattle.std.proofs.lemmas.Bool.{eq-eqb, leb-false, ne_eqb, eqb-true}
-use Rattle.std.proofs.lemmas.List.{get_or-drop, length-drop, take_rest}
 use Rattle.std.proofs.lemmas.List.Sorted.{IsNonDecreasingBy-drop, IsNonDecreasingBy-take}
 use Rattle.std.specs.Cmp.{first_so, nat_cmp_is, second_so}
 use Rattle.std.specs.Cmp.Lexicographic.{slice_cmp}
 use Rattle.std.specs.Ordering.{nat_cmp, ordering_then}
-use Rattle.std.specs.List.{AllByRecursion, AllWithin, list_all}
+use Rattle.std.specs.List.{AllByRecursion, list_all}
 use Rattle.std.specs.List.Sorted.{IsNonDecreasingBy, IsPartitionedBy, IsPartitionPoint, IsStrictlySortedBy}
 use Rattle.std.specs.declared.cmp.Ordering.TheVariants.{Less, Greater}
 use Rattle.brl_rules.specs.Places.{holds}
@@ -19,6 +18,7 @@ use Rattle.brl_states.specs.declared.due.Due.{Due}
 use Rattle.brl_states.specs.declared.due.Due.TheVariants.{Need, Bar}
 use Rattle.brl_dues.specs.Carry.{carry, carry_bar, gathered, is_whole, left_of, lefts, settled_if}
 use Rattle.brl_dues.specs.Letters.{bars_from, first_of, lets_in, may_come}
+use Rattle.brl_dues.proofs.Intervals.{all-upto, filter-between}
 use Rattle.brl_states.specs.Order.{AreDues, cond_cmp, due_cmp, in_order}
 
 -- ---- No other due matters
@@ -93,33 +93,6 @@ dues-rise dues h = rising dues h.ascend
 pub rest-rise : (dues : List Due) (i : ℕ) → AreDues dues → IsNonDecreasingBy first_of (take (length dues - i) (drop i dues))
 rest-rise dues i h = IsNonDecreasingBy-take first_of (length dues - i) (drop i dues) (IsNonDecreasingBy-drop first_of i dues (dues-rise dues h))
 
-module _ {X : Type 0} (p : X → Bool) where
-  filter-from : (xs : List X) (i : ℕ) → AllWithin (λ y. p y ≡ false) xs 0 i → filter p xs ≡ filter p (drop i xs)
-  filter-from xs zero h = refl
-  filter-from [] (suc i) h = refl
-  filter-from (x ∷ xs) (suc i) h =
-      ap (λ b. cond b (x ∷ filter p xs) (filter p xs)) (h zero x (omega arith) (omega arith))
-      ∙ filter-from xs i (λ k d le lt. h (suc k) d (omega arith) (omega (arith, lt)))
-
-  filter-none : (xs : List X) → AllWithin (λ y. p y ≡ false) xs 0 (length xs) → filter p xs ≡ []
-  filter-none [] h = refl
-  filter-none (x ∷ xs) h =
-      ap (λ b. cond b (x ∷ filter p xs) (filter p xs)) (h zero x (omega arith) (omega arith))
-      ∙ filter-none xs (λ k d le lt. h (suc k) d (omega arith) (omega (arith, lt)))
-
-  filter-upto : (xs : List X) (j : ℕ) → j ≤ length xs → AllWithin (λ y. p y ≡ true) xs 0 j → AllWithin (λ y. p y ≡ false) xs j (length xs) → filter p xs ≡ take j xs
-  filter-upto xs zero le h k = filter-none xs k
-  filter-upto [] (suc j) le h k = absurd (omega (arith, le))
-  filter-upto (x ∷ xs) (suc j) le h k =
-      ap (λ b. cond b (x ∷ filter p xs) (filter p xs)) (h zero x (omega arith) (omega arith))
-      ∙ ap (λ l. x ∷ l) (filter-upto xs j (omega (arith, le)) (λ m d lo lt. h (suc m) d (omega arith) (omega (arith, lt))) (λ m d lo lt. k (suc m) d (omega (arith, lo)) (omega (arith, lt))))
-
-  all-upto : (xs : List X) (i : ℕ) → AllWithin (λ y. p y ≡ true) xs i (length xs) → list_all p (take i xs) ≡ list_all p xs
-  all-upto [] zero h = refl
-  all-upto [] (suc i) h = refl
-  all-upto (x ∷ xs) zero h = sym (ap (λ b. b && list_all p xs) (h zero x (omega arith) (omega arith)) ∙ sym (all-upto xs zero (λ m d lo lt. h (suc m) d (omega arith) (omega (arith, lt)))))
-  all-upto (x ∷ xs) (suc i) h = ap (λ b. p x && b) (all-upto xs i (λ m d lo lt. h (suc m) d (omega (arith, lo)) (omega (arith, lt))))
-
 below-first : (c : ℕ) (d : Due) → leb (first_of d) c ≡ true → bars_from c d ≡ false
 below-first c (Need p) h = refl
 below-first c (Bar [] p) h = refl
@@ -140,17 +113,7 @@ pub bars-between : (c : ℕ) (dues rest : List Due) (i j : ℕ) → rest ≡ tak
     → IsPartitionPoint (λ d. leb (first_of d) c ≡ true) (λ d. leb (first_of d) c ≡ false) dues i
     → IsPartitionPoint (λ d. leb (first_of d) (c + 1) ≡ true) (λ d. leb (first_of d) (c + 1) ≡ false) rest j
     → take j rest ≡ filter (bars_from c) dues
-bars-between c dues rest i j is within first last =
-    let whole : rest ≡ drop i dues = is ∙ take_rest dues i in
-    let size : length rest ≡ length dues - i = ap length whole ∙ length-drop i dues in
-    sym
-    (filter-from (bars_from c) dues i (λ k d lo lt. below-first c (get_or dues k d) (first.0 k d lo lt))
-    ∙ ap (filter (bars_from c)) (sym whole)
-    ∙ filter-upto (bars_from c) rest j within
-    (λ k d lo lt. between c (get_or rest k d)
-    (ap (λ y. leb (first_of y) c) (ap (λ l. get_or l k d) whole ∙ get_or-drop i dues k d) ∙ first.1 (i + k) d (omega arith) (omega (arith, lt, within, size)))
-    (last.0 k d lo lt))
-    (λ k d lo lt. above-last c (get_or rest k d) (last.1 k d lo lt)))
+bars-between c = filter-between (bars_from c) (λ d. leb (first_of d) c) (λ d. leb (first_of d) (c + 1)) (below-first c) (between c) (above-last c)
 
 -- only the needs, which come first, can refuse a character
 pub needs-first : (t : TableView) (c : ℕ) (dues : List Due) (i : ℕ) → IsPartitionPoint (λ d. nat_eq (first_of d) 0 ≡ true) (λ d. nat_eq (first_of d) 0 ≡ false) dues i
