@@ -1,9 +1,9 @@
 -- The places of the characters with a fold, and the steps of a rule, which begin with these alone.
-use Rattle.std.proofs.Common.{◌≡◌, ℕ, zero, suc, ◌+◌, ◌-◌, ◌<◌, ◌≤◌, Bool, true, false, not, ◌&&◌, List, [], ◌∷◌, ◌++◌, length, map, filter, take, drop, get_or, refl, sym, ap, ap₂, ◌∙◌, cond, nat_eq, arith, leb, ltb, subst, append-nil, length-drop, drop_of_length-le, drop-cons}
-use Rattle.std.proofs.lemmas.Bool.{eq-eqb, leb-false, leb-true, ltb-true, ltb-false, ne_eqb}
+use Rattle.std.proofs.Common.{◌≡◌, ◌≢◌, ℕ, zero, suc, ◌+◌, ◌-◌, ◌<◌, ◌≤◌, Bool, true, false, not, ◌&&◌, List, [], ◌∷◌, ◌++◌, length, map, filter, take, drop, get_or, refl, sym, ap, ap₂, ◌∙◌, cond, nat_eq, arith, leb, ltb, subst, append-nil, length-drop, drop_of_length-le, drop-cons}
+use Rattle.std.proofs.lemmas.Bool.{eq-eqb, le-leb, lt-leb, leb-false, leb-true, ltb-true, ltb-false, ne_eqb}
 use Rattle.std.specs.Cmp.{nat_cmp_is}
-use Rattle.std.specs.List.{flat_map}
-use Rattle.std.specs.List.Sorted.{IsPartitionPoint, IsStableByKey, ties}
+use Rattle.std.specs.List.{flat_map, AllWithin}
+use Rattle.std.specs.List.Sorted.{IsNonDecreasingBy, IsPartitionPoint, IsStableByKey, ties}
 use Rattle.std.specs.Ordering.{is_lt, nat_cmp}
 use Rattle.std.specs.declared.cmp.Ordering.TheVariants.{Less, Equal, Greater}
 use Rattle.brl_rules.specs.declared.class.Class.{Class}
@@ -32,6 +32,19 @@ pub places-between : (fold : ℕ) (places rest : List Place) (i j : ℕ) → res
     → IsPartitionPoint (λ place. leb place.fold fold ≡ true) (λ place. leb place.fold fold ≡ false) rest j
     → take j rest ≡ filter (has_fold fold) places
 places-between fold = filter-between (has_fold fold) (λ place. ltb place.fold fold) (λ place. leb place.fold fold) (early fold) (within fold) (behind fold)
+
+-- from the places of the characters whose folds aren't below this one, those with this fold
+pub last-place : (fold : ℕ) (rest : List Place) (j : ℕ) → IsNonDecreasingBy (λ (place : Place). place.fold) rest → AllWithin (λ (place : Place). ltb place.fold fold ≡ false) rest 0 (length rest)
+    → AllWithin (λ (place : Place). place.fold ≡ fold) rest 0 j → ((d : Place) → j < length rest → (get_or rest j d).fold ≢ fold)
+    → IsPartitionPoint (λ place. leb place.fold fold ≡ true) (λ place. leb place.fold fold ≡ false) rest j
+last-place fold rest j rise above same other = (
+  λ k d lo lt. (let e = same k d lo lt in le-leb (get_or rest k d).fold fold (omega (arith, e))),
+  λ k d lo lt. (
+      let after = rise j k d lo lt in
+      let least = ltb-false (get_or rest j d).fold fold (above j d (omega arith) (omega (arith, lo, lt))) in
+      let more = other d (omega (arith, lo, lt)) in
+      lt-leb (get_or rest k d).fold fold (omega (arith, after, least, more))),
+)
 
 -- ---- Sorted by folds
 

@@ -1,5 +1,6 @@
 //! Where the characters with a fold are among those that may come next.
-ghost use Rattle.std.specs.Prelude.{◌≡◌, filter, IfOk};
+ghost use Rattle.std.specs.Prelude.{◌≡◌, ◌≢◌, ◌<◌, ◌≤◌, filter, length, slice_index_or, IfOk};
+ghost use Rattle.std.specs.List.{AllWithin};
 ghost use Rattle.brl_dues.specs.ByFold.{has_fold, places_from, AreByFold};
 ghost use Rattle.std.specs.List.Sorted.{IsNonDecreasingBy};
 ghost use Rattle.brl_dues.specs.declared.folds.Place.{Place as PlaceValue};
@@ -41,5 +42,19 @@ pub fn with_fold(fold: char, places: &[Place]) -> &[Place]
     ensures { result.now ≡ filter (has_fold fold) places.now }
 {
     let from = &places[places.partition_point(|place| place.fold < fold)..];
-    &from[..from.partition_point(|place| place.fold <= fold)]
+    &from[..count_of(fold, from)]
+}
+
+/// The number of places with this fold before the first with another one.
+fn count_of(fold: char, places: &[Place]) -> usize
+    ensures bound { result ≤ length places.now }
+    ensures before { AllWithin (λ (place : PlaceValue). place.fold ≡ fold) places.now 0 result }
+    ensures other { (d : PlaceValue) → result < length places.now → (slice_index_or places.now result d).fold ≢ fold }
+{
+    for (count, place) in places.iter().enumerate() {
+        if place.fold != fold {
+            return count;
+        }
+    }
+    places.len()
 }

@@ -1,5 +1,5 @@
 //! One step: what it takes, and what is due after it.
-ghost use Rattle.std.specs.Prelude.{◌≡◌, [], ◌∷◌, true, All, IfOk, IsTrue, Some};
+ghost use Rattle.std.specs.Prelude.{◌≡◌, [], ◌∷◌, true, All, IfOk, IsTrue, OnOk, Some};
 ghost use Rattle.std.specs.Option.{option_map_or};
 ghost use Rattle.brl_rules.specs.Text.{has_word_capitals};
 ghost use Rattle.brl_rules.specs.declared.place.Cond.TheVariants.{Any};
@@ -111,6 +111,7 @@ fn next_dues(
     ensures { IfOk result (λ dues. dues ≡ gathered (left_with origin.now.table.now origin.now.state.now.before left.items origin.now.letter.now taken.entry.run next taken.entry.others.now taken.entry.after)) }
 {
     let mut found = left;
+    make_room(origin, taken, &mut found)?;
     add_need(taken.after, &mut found)?;
     add_need(next, &mut found)?;
     let above = origin.letter.above();
@@ -127,6 +128,16 @@ fn next_dues(
         return Ok(None);
     }
     Ok(Some(DueList::in_order(found)))
+}
+
+/// Makes room for the dues of a step that reads one character: each rule above leaves one.
+fn make_room(origin: &Origin<'_>, taken: Taken<'_>, found: &mut Vec<Due>) -> Result<(), AllocError>
+    ensures { OnOk result (found.new.items ≡ found.old.items) }
+{
+    if taken.others.is_empty() {
+        found.reserve(origin.letter.above().len())?;
+    }
+    Ok(())
 }
 
 /// The step that takes this and reads these characters, with the dues after it.
@@ -149,7 +160,7 @@ fn step_of(
 {
     let table = origin.table.table();
     let here = origin.state.context();
-    let behind = table.context_after(here, reads.as_slice());
+    let behind = origin.table.context_behind(here, reads.as_slice());
     let mut cells = Vec::new(alloc);
     table.push_indicators(here, taken.run, reads.as_slice(), &mut cells)?;
     cells.extend_from_slice(taken.cells)?;
