@@ -1,7 +1,9 @@
 //! One step: what it takes, and what is due after it.
-ghost use Rattle.std.specs.Prelude.{◌≡◌, [], ◌∷◌, true, All, IfOk, IsTrue, OnOk, Some};
+ghost use Rattle.std.specs.Prelude.{◌≡◌, [], ◌∷◌, ◌++◌, true, All, IfOk, IsTrue, OnOk, Some};
 ghost use Rattle.std.specs.Option.{option_map_or};
+ghost use Rattle.brl_rules.specs.Indicators.{indicators_before};
 ghost use Rattle.brl_rules.specs.Text.{has_word_capitals};
+ghost use Rattle.brl_states.specs.DuesContext.{context_of};
 ghost use Rattle.brl_rules.specs.declared.place.Cond.TheVariants.{Any};
 ghost use Rattle.brl_dues.specs.Capitals.{further};
 ghost use Rattle.brl_dues.specs.Carry.{gathered};
@@ -158,16 +160,33 @@ fn step_of(
       above = [];
     }) dues) }
 {
-    let table = origin.table.table();
     let here = origin.state.context();
     let behind = origin.table.context_behind(here, reads.as_slice());
-    let mut cells = Vec::new(alloc);
-    table.push_indicators(here, taken.run, reads.as_slice(), &mut cells)?;
-    cells.extend_from_slice(taken.cells)?;
+    let cells = cells_of(alloc, origin, taken, reads.as_slice())?;
     Ok(Step {
         rule: taken.number,
         reads: Chars::from_vec(reads),
-        cells: Cells::from_slice(alloc, cells.as_slice())?,
+        cells,
         next: DuesState::from_context(behind, dues),
     })
+}
+
+/// The cells of a step: the indicators, of which most steps have none, and then those that it takes.
+fn cells_of(
+    alloc: Global,
+    origin: &Origin<'_>,
+    taken: Taken<'_>,
+    reads: &[char],
+) -> Result<Cells, AllocError>
+    ensures { IfOk result (λ cells. cells ≡ indicators_before origin.now.table.now (context_of origin.now.state.now) taken.entry.run reads.now ++ taken.entry.cells.now) }
+{
+    let mut cells = Vec::new(alloc);
+    let here = origin.state.context();
+    let table = origin.table.table();
+    table.push_indicators(here, taken.run, reads, &mut cells)?;
+    if cells.is_empty() {
+        return Cells::from_slice(alloc, taken.cells);
+    }
+    cells.extend_from_slice(taken.cells)?;
+    Cells::from_slice(alloc, cells.as_slice())
 }
