@@ -1,6 +1,7 @@
 -- What is carried past a step's characters holds of a rest exactly where the due holds of the
 -- characters and the rest.
-use Rattle.std.proofs.Common.{◌≡◌, ℕ, Bool, true, false, not, ◌&&◌, List, [], ◌∷◌, ◌++◌, Option, Some, None, length, is_some, map, refl, sym, ap, ◌∙◌, nat_eq, cond}
+use Rattle.std.proofs.Common.{◌≡◌, ℕ, zero, suc, Bool, true, false, not, ◌&&◌, List, [], ◌∷◌, ◌++◌, Option, Some, None, length, is_some, map, refl, sym, ap, ap₂, ◌∙◌, nat_eq, cond}
+use Rattle.std.specs.Prelude.{slice_get}
 use Rattle.std.specs.List.{list_all, starts_with}
 use Rattle.brl_rules.specs.declared.class.Class.{Class}
 use Rattle.brl_rules.specs.declared.place.Cond.{Cond}
@@ -171,3 +172,18 @@ module _ (t : TableView) (u : List ℕ) where
   pub bars_to-met : (before : Class) (run : Bool) (c : ℕ) (past : List ℕ) → is_in_caps_run t before (c ∷ (past ++ u)) ≡ run → (r : Rule)
       → list_all (carried_met t u) (bars_to t before run (c ∷ past) r) ≡ not (fits_in t before run (c ∷ (past ++ u)) r)
   bars_to-met before run c past is r = at-chars before run c past r.chars (holds (before_of r.place) before) (after_of r.place before) is
+
+-- ---- A bar that differs from what is read
+
+pub settled-at : (t : TableView) (past chars : List ℕ) (c : Cond) (i a b : ℕ) → Some b ≡ slice_get chars i → Some a ≡ slice_get past i → nat_eq b a ≡ false → carry_bar t past chars c ≡ Settled
+settled-at t [] chars c i a b here there h = cc
+settled-at t (x ∷ past) [] c i a b here there h = cc
+settled-at t (x ∷ past) (y ∷ chars) c zero a b here there h =
+    let first : y ≡ b = cc in
+    let second : x ≡ a = cc in
+    ap (λ d. cond d (carry_bar t past chars c) Settled) (ap₂ nat_eq first second ∙ h)
+settled-at t (x ∷ past) (y ∷ chars) c (suc i) a b here there h = at (nat_eq y x) (settled-at t past chars c i a b here there h)
+  where
+    at : (d : Bool) → carry_bar t past chars c ≡ Settled → cond d (carry_bar t past chars c) Settled ≡ Settled
+    at true e = e
+    at false e = refl

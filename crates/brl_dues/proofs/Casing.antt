@@ -50,7 +50,7 @@ module _ (t : TableView) (s : DuesState) (l : LetterView) (number : ℕ) (after 
     where
       at : (o : Option Cond) → IsIn x (option_map_or (next_step t s l number run others after cells) o []) → x.reads ≡ l.character ∷ others
       at None i = absurd i
-      at (Some next) i = ap (λ (y : Step DuesState). y.reads) (from-step_if t s (letter_form l number run next others after cells) (gathered (left_by t s.before s.dues l run next others after)) x i).2
+      at (Some next) i = ap (λ (y : Step DuesState). y.reads) (from-step_if t s (letter_form l number run next others after cells) (gathered (left_by t s.before l run next others after)) x i).2
 
   -- a choice has one step at most
   run-differ : (chosen : List ℕ) → Pairwise (λ a b. a ≢ b) (caps_run_step t s l number after cells chosen)
@@ -62,7 +62,7 @@ module _ (t : TableView) (s : DuesState) (l : LetterView) (number : ℕ) (after 
 
       at : (o : Option Cond) → Pairwise (λ a b. a ≢ b) (option_map_or (next_step t s l number true chosen after cells) o [])
       at None = tt
-      at (Some next) = one next (gathered (left_by t s.before s.dues l true next chosen after))
+      at (Some next) = one next (gathered (left_by t s.before l true next chosen after))
 
   runs-differ : Pairwise (λ a b. a ≢ b) (letters t) → (others : List ℕ) → Pairwise (λ a b. a ≢ b) (caps_run_steps t s l number after cells [] others)
   runs-differ single others =

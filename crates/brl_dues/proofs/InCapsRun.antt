@@ -1,6 +1,5 @@
 -- Runs of capitals: what must follow some characters so that they begin in one, or out of one.
-use Rattle.std.proofs.Common.{◌≡◌, ℕ, suc, ◌+◌, Bool, true, false, not, ◌&&◌, ◌||◌, List, [], ◌∷◌, ◌++◌, Option, Some, None, is_some, map, take, refl, ap, ◌∙◌, cond, arith}
-use Rattle.std.specs.List.{prefix_len}
+use Rattle.std.proofs.Common.{◌≡◌, ℕ, Bool, true, false, not, ◌&&◌, ◌||◌, List, [], ◌∷◌, ◌++◌, Option, Some, None, is_some, refl, ap, cond}
 use Rattle.std.specs.Option.{option_map_or}
 use Rattle.brl_rules.specs.declared.class.Class.{Class}
 use Rattle.brl_rules.specs.declared.place.Cond.{Cond}

@@ -1,6 +1,6 @@
 -- The dues after a step are what is left, in order and without repeats.
 use Rattle.std.proofs.Common.{◌≡◌, Bool, true, false, List, [], ◌∷◌, Some, None, cond, refl, sym, ap, ◌∙◌, subst, inl, inr}
-use Rattle.std.specs.List.{Contains, list_all}
+use Rattle.std.specs.List.{list_all}
 use Rattle.brl_dues.specs.declared.carry.Carried.{Carried}
 use Rattle.brl_dues.specs.declared.carry.Carried.TheVariants.{Broken, Settled, Left}
 use Rattle.brl_states.specs.declared.due.Due.{Due}

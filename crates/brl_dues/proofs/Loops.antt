@@ -1,16 +1,18 @@
 -- Steps of the loops over characters and rules, over plain lists.
-use Rattle.std.proofs.Common.{◌≡◌, ℕ, zero, suc, ◌+◌, ◌<◌, ◌≤◌, false, ◌&&◌, List, [], ◌∷◌, ◌++◌, length, take, drop, map, get_or, set, refl, sym, ap, ap₂, ◌∙◌, cond, arith, append_assoc, append-nil, drop_of_length-le, drop-cons}
+use Rattle.std.proofs.Common.{◌≡◌, ℕ, zero, suc, ◌+◌, ◌<◌, ◌≤◌, false, ◌&&◌, List, [], ◌∷◌, ◌++◌, length, take, drop, map, nat_eq, get_or, set, refl, sym, ap, ap₂, ◌∙◌, cond, arith, append_assoc, append-nil, drop_of_length-le, drop-cons}
 use Rattle.std.proofs.lemmas.List.{take_all, take_more}
 use Rattle.std.proofs.lemmas.Grind.{flat_map-append}
 use Rattle.std.specs.List.{flat_map}
 use Rattle.brl_pairs.specs.declared.step.Step.{Step}
+use Rattle.brl_rules.specs.declared.class.Class.{Class}
 use Rattle.brl_rules.specs.declared.rule.Rule.{Rule}
 use Rattle.brl_rules.specs.Places.{after_of, before_of, holds}
 use Rattle.brl_rules.specs.TableView.{TableView}
 use Rattle.brl_states.specs.declared.dues_state.DuesState.{DuesState}
 use Rattle.brl_dues.specs.LetterView.{LetterView}
-use Rattle.brl_dues.specs.Letters.{begins_with, cased_steps, own_step, rule_step, steps_found, with_rule}
+use Rattle.brl_dues.specs.Letters.{begins_with, cased_steps, is_taken, own_step, rule_step, steps_found, with_rule}
 use Rattle.brl_dues.specs.Steps.{with_steps}
+use Rattle.brl_rules.proofs.Facts.{and-false, nat_eq-sym}
 
 -- each of the first elements, up to this place, is changed, and has given what it gives
 pub record Updated {X Y : Type 0} (f : X → X) (g : X → List Y) (xs : List X) (i : ℕ) (now : List X) (old new : List Y) : Type 0 where
@@ -76,16 +78,34 @@ put-back n items old whole h k e =
 
 -- ---- A rule that may not be taken
 
-module _ (t : TableView) (s : DuesState) (number : ℕ) (r : Rule) (none : holds (before_of r.place) s.before ≡ false) where
+pub not-here : (before : Class) (r : Rule) (l : LetterView) → holds (before_of r.place) before ≡ false → is_taken before r l ≡ false
+not-here before r l h = ap (λ b. b && begins_with l.fold r.chars) h
+
+pub no-chars : (before : Class) (r : Rule) (l : LetterView) → r.chars ≡ [] → is_taken before r l ≡ false
+no-chars before r l h = ap (λ chars. holds (before_of r.place) before && begins_with l.fold chars) h ∙ and-false (holds (before_of r.place) before)
+
+pub other-fold : (before : Class) (r : Rule) (l : LetterView) → nat_eq l.fold (get_or r.chars 0 0) ≡ false → is_taken before r l ≡ false
+other-fold before r l = at r.chars
+  where
+    at : (chars : List ℕ) → nat_eq l.fold (get_or chars 0 0) ≡ false → (holds (before_of r.place) before && begins_with l.fold chars) ≡ false
+    at [] h = and-false (holds (before_of r.place) before)
+    at (first ∷ others) h = ap (λ b. holds (before_of r.place) before && b) (nat_eq-sym first l.fold ∙ h) ∙ and-false (holds (before_of r.place) before)
+
+module _ (t : TableView) (s : DuesState) (number : ℕ) (r : Rule) where
+  pub same-letter : (l : LetterView) → is_taken s.before r l ≡ false → with_rule s.before r l ≡ l
+  same-letter l h = ap (λ b. cond b (record l { above = l.above ++ (drop 1 r.chars, after_of r.place s.before) ∷ [] }) l) h
+
+  pub no-step : (l : LetterView) → is_taken s.before r l ≡ false → rule_step t s number r l ≡ []
+  no-step l h = ap (λ b. cond b (with_steps [] (cased_steps t s l number (drop 1 r.chars) (after_of r.place s.before) r.cells)) []) h
+
+module _ (t : TableView) (s : DuesState) (number : ℕ) (r : Rule) (none : (l : LetterView) → is_taken s.before r l ≡ false) where
   pub same-letters : (ls : List LetterView) → ls ≡ map (with_rule s.before r) ls
   same-letters [] = refl
-  same-letters (l ∷ ls) =
-      ap₂ (λ a b. a ∷ b) (ap (λ h. cond (h && begins_with l.fold r.chars) (record l { above = l.above ++ (drop 1 r.chars, after_of r.place s.before) ∷ [] }) l) (sym none)) (same-letters ls)
+  same-letters (l ∷ ls) = ap₂ (λ a b. a ∷ b) (sym (same-letter t s number r l (none l))) (same-letters ls)
 
   no-steps : (ls : List LetterView) → flat_map (rule_step t s number r) ls ≡ []
   no-steps [] = refl
-  no-steps (l ∷ ls) =
-      ap₂ (λ a b. a ++ b) (ap (λ h. cond (h && begins_with l.fold r.chars) (with_steps [] (cased_steps t s l number (drop 1 r.chars) (after_of r.place s.before) r.cells)) []) none) (no-steps ls)
+  no-steps (l ∷ ls) = ap₂ (λ a b. a ++ b) (no-step t s number r l (none l)) (no-steps ls)
 
   pub none-listed : (listed : List (Step DuesState)) (ls : List LetterView) → listed ≡ listed ++ flat_map (rule_step t s number r) ls
   none-listed listed ls = sym (append-nil listed) ∙ ap (λ l. listed ++ l) (sym (no-steps ls))

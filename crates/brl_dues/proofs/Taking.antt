@@ -12,10 +12,9 @@ use Rattle.brl_rules.specs.Choice.{Choice, by_rule, chosen, fits, folds_of_capit
 use Rattle.brl_rules.specs.Indicators.{indicators, indicators_before}
 use Rattle.brl_rules.specs.Places.{holds, before_of, after_of}
 use Rattle.brl_rules.specs.Position.{IsFirstThatFits}
-use Rattle.brl_rules.specs.Rest.{translation_of_rest, TakesOneRule}
+use Rattle.brl_rules.specs.Rest.{translation_of_rest}
 use Rattle.brl_rules.specs.TableView.{TableView}
-use Rattle.brl_rules.specs.Text.{at_start, classes_at, context_after_all, fold_of, is_defined, is_in_caps_run}
-use Rattle.brl_rules.specs.Translation.{translation}
+use Rattle.brl_rules.specs.Text.{classes_at, context_after_all, fold_of, is_defined, is_in_caps_run}
 use Rattle.brl_dues.specs.Capitals.{alike, is_upper}
 use Rattle.brl_dues.specs.CaseForm.{CaseForm, IsForm, folded, may_read}
 use Rattle.brl_dues.proofs.Carrying.{fits_in}

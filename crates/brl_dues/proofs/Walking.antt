@@ -55,11 +55,11 @@ module _ (t : TableView) where
 
 module _ (t : TableView) (s : DuesState) (l : LetterView) (number : ℕ) (run : Bool) (others : List ℕ) (after : Cond) (cells : List ℕ) where
   -- a step that breaks a due
-  pub broken-next : left_past t (l.character ∷ others) s.dues ≡ None → (next : Cond) → next_step t s l number run others after cells next ≡ []
+  pub broken-next : left_past t (l.character ∷ others) l.bars ≡ None → (next : Cond) → next_step t s l number run others after cells next ≡ []
   broken-next e next =
-      ap (step_if t s (letter_form l number run next others after cells)) (gathered-broken t (l.character ∷ others) s.dues (need after ∷ need next ∷ bars_of t s.before run l.character others l.above) e)
+      ap (step_if t s (letter_form l number run next others after cells)) (gathered-broken t (l.character ∷ others) l.bars (need after ∷ need next ∷ bars_of t s.before run l.character others l.above) e)
 
-  pub broken-step : left_past t (l.character ∷ others) s.dues ≡ None → letter_step t s l number run others after cells ≡ []
+  pub broken-step : left_past t (l.character ∷ others) l.bars ≡ None → letter_step t s l number run others after cells ≡ []
   broken-step e = at (further t s.before run (l.character ∷ others))
     where
       at : (o : Option Cond) → option_map_or (next_step t s l number run others after cells) o [] ≡ []
@@ -67,27 +67,27 @@ module _ (t : TableView) (s : DuesState) (l : LetterView) (number : ℕ) (run : 
       at (Some next) = broken-next e next
 
   -- a step where these dues are left of the old ones
-  pub next-left : (next : Cond) (left : List Due) (o : Option (List Due)) → left_past t (l.character ∷ others) s.dues ≡ Some left → o ≡ gathered (left_with t s.before left l run next others after)
+  pub next-left : (next : Cond) (left : List Due) (o : Option (List Due)) → left_past t (l.character ∷ others) l.bars ≡ Some left → o ≡ gathered (left_with t s.before left l run next others after)
       → step_if t s (letter_form l number run next others after cells) o ≡ next_step t s l number run others after cells next
   next-left next left o e is =
       ap (step_if t s (letter_form l number run next others after cells))
-      (is ∙ sym (gathered-left t (l.character ∷ others) s.dues (need after ∷ need next ∷ bars_of t s.before run l.character others l.above) left e))
+      (is ∙ sym (gathered-left t (l.character ∷ others) l.bars (need after ∷ need next ∷ bars_of t s.before run l.character others l.above) left e))
 
 -- ---- Beginnings
 
 -- what is left past one more capital
-pub left-further : (t : TableView) (s : DuesState) (l : LetterView) (begun : List ℕ) (c : ℕ) (left : List Due) (o : Option (List Due)) → left_past t (l.character ∷ begun) s.dues ≡ Some left → o ≡ left_past t (c ∷ []) left
-    → left_past t (l.character ∷ (begun ++ c ∷ [])) s.dues ≡ o
-left-further t s l begun c left o e is =
-    left_past-append t (l.character ∷ begun) (c ∷ []) s.dues ∙ ap (λ p. option_map_or (left_past t (c ∷ [])) p None) e ∙ sym is
+pub left-further : (t : TableView) (l : LetterView) (begun : List ℕ) (c : ℕ) (left : List Due) (o : Option (List Due)) → left_past t (l.character ∷ begun) l.bars ≡ Some left → o ≡ left_past t (c ∷ []) left
+    → left_past t (l.character ∷ (begun ++ c ∷ [])) l.bars ≡ o
+left-further t l begun c left o e is =
+    left_past-append t (l.character ∷ begun) (c ∷ []) l.bars ∙ ap (λ p. option_map_or (left_past t (c ∷ [])) p None) e ∙ sym is
 
 module _ (t : TableView) (s : DuesState) (l : LetterView) (number : ℕ) (after : Cond) (cells : List ℕ) where
   -- nothing goes on from a beginning that breaks a due
-  pub broken-steps : (begun chars : List ℕ) → left_past t (l.character ∷ begun) s.dues ≡ None → caps_run_steps t s l number after cells begun chars ≡ []
+  pub broken-steps : (begun chars : List ℕ) → left_past t (l.character ∷ begun) l.bars ≡ None → caps_run_steps t s l number after cells begun chars ≡ []
   broken-steps begun chars e =
       flat_map-none (λ text. caps_run_step t s l number after cells (begun ++ text))
       (λ text. broken-step t s l number true (begun ++ text) after cells
-      (left_past-append t (l.character ∷ begun) text s.dues ∙ ap (λ o. option_map_or (left_past t text) o None) e)) (choices t chars)
+      (left_past-append t (l.character ∷ begun) text l.bars ∙ ap (λ o. option_map_or (left_past t text) o None) e)) (choices t chars)
 
   -- there are none
   pub nothing-on : (old : List (Step DuesState)) (begun chars : List ℕ) → caps_run_steps t s l number after cells begun chars ≡ [] → old ≡ old ++ caps_run_steps t s l number after cells begun chars
@@ -129,7 +129,7 @@ module _ (t : TableView) (s : DuesState) (l : LetterView) (number : ℕ) (after 
         → new ≡ now ++ steps_after begun a chars capital
     same-fold h new e = e ∙ ap (λ b. now ++ cond b (caps_run_steps t s l number after cells (begun ++ capital.character ∷ []) chars) []) (sym h)
 
-    pub broken-fold : left_past t (l.character ∷ (begun ++ capital.character ∷ [])) s.dues ≡ None → now ≡ now ++ steps_after begun a chars capital
+    pub broken-fold : left_past t (l.character ∷ (begun ++ capital.character ∷ [])) l.bars ≡ None → now ≡ now ++ steps_after begun a chars capital
     broken-fold e = sym (append-nil now) ∙ ap (λ l. now ++ l) (sym (at (nat_eq a capital.fold)))
       where
         at : (b : Bool) → cond b (caps_run_steps t s l number after cells (begun ++ capital.character ∷ []) chars) [] ≡ []

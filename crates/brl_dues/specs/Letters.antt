@@ -1,5 +1,5 @@
 -- Internal. How the steps of a state are found: by the characters that may come next, each with the
--- rules above that begin with it. That these are the steps of the machine is proved.
+-- bars and the rules above that begin with it. That these are the steps of the machine is proved.
 use Rattle.std.specs.Prelude.{ℕ, ◌+◌, Bool, true, false, ◌&&◌, ◌==◌, List, [], ◌∷◌, ◌++◌, Option, Some, None, filter, map, drop, if◌then◌else◌}
 use Rattle.std.specs.List.{flat_map, list_all}
 use Rattle.std.specs.Option.{option_map_or}
@@ -34,20 +34,31 @@ lets_in t c (Bar chars cond) = true
 abbrev pub may_come : TableView → List Due → ℕ → Bool
 may_come t dues c = list_all (lets_in t c) dues
 
--- a character, with nothing above it
-abbrev pub new_letter : TableView → ℕ → LetterView
-new_letter t c = record { character = c; fold = fold_of t c; above = [] }
-
--- the characters of the table that may come, with nothing above them
-abbrev pub new_letters : TableView → List Due → List LetterView
-new_letters t dues = map (new_letter t) (filter (may_come t dues) (letters t))
-
--- ---- Rules above
-
 -- these characters begin with this one
 abbrev pub begins_with : ℕ → List ℕ → Bool
 begins_with a [] = false
 begins_with a (first ∷ others) = first == a
+
+-- the due is a bar that begins with this character
+abbrev pub bars_from : ℕ → Due → Bool
+bars_from c (Need cond) = false
+bars_from c (Bar chars cond) = begins_with c chars
+
+-- a character with its bars, and nothing above it
+abbrev pub new_letter : TableView → List Due → ℕ → LetterView
+new_letter t dues c = record { character = c; fold = fold_of t c; bars = filter (bars_from c) dues; above = [] }
+
+-- the characters of the table that may come, each with its bars, and nothing above them
+abbrev pub new_letters : TableView → List Due → List LetterView
+new_letters t dues = map (new_letter t dues) (filter (may_come t dues) (letters t))
+
+-- the first character of a bar, from 1 on, and 0 for a need
+abbrev pub first_of : Due → ℕ
+first_of (Need cond) = 0
+first_of (Bar [] cond) = 0
+first_of (Bar (c ∷ chars) cond) = c + 1
+
+-- ---- Rules above
 
 -- the rule may be taken after a character of these classes where this character comes
 abbrev pub is_taken : Class → Rule → LetterView → Bool
@@ -64,17 +75,17 @@ with_rule before r l =
 abbrev pub bars_of : TableView → Class → Bool → ℕ → List ℕ → List (List ℕ × Cond) → List Carried
 bars_of t before run c others above = flat_map (λ a. bars_past t before run c others a.0 a.1) above
 
--- what is left after a step that reads the character and these others: of the old dues, and of what
--- the step owes
-abbrev pub left_by : TableView → Class → List Due → LetterView → Bool → Cond → List ℕ → Cond → List Carried
-left_by t before dues l run next others after =
-    map (carry t (l.character ∷ others)) dues ++ (need after ∷ need next ∷ bars_of t before run l.character others l.above)
+-- what is left after a step that reads the character and these others: of the character's bars, and
+-- of what the step owes
+abbrev pub left_by : TableView → Class → LetterView → Bool → Cond → List ℕ → Cond → List Carried
+left_by t before l run next others after =
+    map (carry t (l.character ∷ others)) l.bars ++ (need after ∷ need next ∷ bars_of t before run l.character others l.above)
 
 -- what is left of dues after these characters, and none where one is broken
 abbrev pub left_past : TableView → List ℕ → List Due → Option (List Due)
 left_past t past dues = if list_all is_whole (map (carry t past) dues) then Some (lefts (map (carry t past) dues)) else None
 
--- what is left after a step where these dues are left of the old ones: these, and what it owes
+-- what is left after a step where these dues are left of the bars: these, and what it owes
 abbrev pub left_with : TableView → Class → List Due → LetterView → Bool → Cond → List ℕ → Cond → List Carried
 left_with t before left l run next others after = map Left left ++ (need after ∷ need next ∷ bars_of t before run l.character others l.above)
 
@@ -93,7 +104,7 @@ letter_form l number run next others after cells = record {
 -- the step of that form with what must follow it, if it breaks no due
 abbrev pub next_step : TableView → DuesState → LetterView → ℕ → Bool → List ℕ → Cond → List ℕ → Cond → List (Step DuesState)
 next_step t s l number run others after cells next =
-    step_if t s (letter_form l number run next others after cells) (gathered (left_by t s.before s.dues l run next others after))
+    step_if t s (letter_form l number run next others after cells) (gathered (left_by t s.before l run next others after))
 
 -- the step of that form, if the characters can begin in a run of capitals, or out of one
 abbrev pub letter_step : TableView → DuesState → LetterView → ℕ → Bool → List ℕ → Cond → List ℕ → List (Step DuesState)

@@ -1,9 +1,9 @@
 //! The rules that are ranked above the one that a step takes.
-ghost use Rattle.std.specs.Prelude.{◌≡◌, ◌&&◌, true, IfOk, IsTrue};
+ghost use Rattle.std.specs.Prelude.{◌≡◌, ◌<◌, ◌&&◌, length, true, IfOk, IsTrue};
 ghost use Rattle.brl_rules.specs.Text.{has_word_capitals};
 ghost use Rattle.brl_dues.specs.Adding.{Adds};
 ghost use Rattle.brl_dues.specs.Capitals.{is_upper};
-ghost use Rattle.brl_dues.specs.Carry.{bars_past, carry_bar as bar_carried};
+ghost use Rattle.brl_dues.specs.Carry.{bars_past, carry_bar as bar_carried, carry_out};
 ghost use Rattle.brl_rules.specs.TableView.{TableView};
 
 use crate::carry::{Carried, add, carry_bar};
@@ -68,9 +68,27 @@ impl<'a> Above<'a> {
         if run {
             return add_caps_run_bars(alloc, table, past, self.others, self.after, found);
         }
+        // Most rules above differ from what is read.
         if self.is_settled(past) {
             return Ok(true);
         }
+        self.add_open_bar(alloc, table, before, character, cased, past, found)
+    }
+
+    /// The same out of a run of capitals.
+    fn add_open_bar(
+        &self,
+        alloc: Global,
+        table: &CasedTable<'_>,
+        before: Class,
+        character: char,
+        cased: bool,
+        past: &[char],
+        found: &mut Vec<Due>,
+    ) -> Result<bool, AllocError>
+        requires { cased ≡ (has_word_capitals table.now && is_upper table.now character) }
+        ensures { IfOk result (λ whole. Adds (carry_out table.now before character past.now self.now.0 self.now.1) found.old.items found.new.items whole) }
+    {
         if cased {
             let next = table.further(before, false, character, self.others);
             if next.is_none() {
@@ -81,14 +99,25 @@ impl<'a> Above<'a> {
         add(left, found)
     }
 
-    /// Whether the characters `past` begin with another one than its second, so that nothing is left
-    /// of its bar out of a run of capitals.
+    /// Whether the first or the last of the characters `past` is another one than the rule has there,
+    /// so that nothing is left of its bar out of a run of capitals.
     fn is_settled(&self, past: &[char]) -> bool
         ensures { (t : TableView) → IsTrue result → bar_carried t past.now self.now.0 self.now.1 ≡ Carried.Settled }
     {
         match (past.first(), self.second) {
-            (Some(here), Some(second)) => *here != second,
+            (Some(here), Some(second)) => *here != second || self.differs_at(past, past.len() - 1),
             _ => false,
+        }
+    }
+
+    /// Whether the rule has a character at this place of the characters `past`, and another one.
+    fn differs_at(&self, past: &[char], place: usize) -> bool
+        requires { place < length past.now }
+        ensures { (t : TableView) → IsTrue result → bar_carried t past.now self.now.0 self.now.1 ≡ Carried.Settled }
+    {
+        match self.others.get(place) {
+            Some(other) => *other != past[place],
+            None => false,
         }
     }
 }

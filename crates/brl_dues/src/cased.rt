@@ -1,14 +1,14 @@
 //! A table with its capitals.
-ghost use Rattle.std.specs.Prelude.{◌≡◌, [], ◌∷◌, ◌++◌, ◌&&◌, map, not, IfOk, IsTrue, OnOk, if◌then◌else◌};
+ghost use Rattle.std.specs.Prelude.{◌≡◌, ℕ, false, [], ◌∷◌, ◌++◌, ◌&&◌, map, not, IfOk, IsTrue, OnOk, if◌then◌else◌};
 ghost use Rattle.std.specs.List.{flat_map, list_all};
-ghost use Rattle.brl_rules.specs.Text.{has_word_capitals, is_capital as does_capital};
+ghost use Rattle.brl_rules.specs.Text.{context_after, context_after_all, has_word_capitals, is_capital as does_capital, is_mode};
 ghost use Rattle.brl_dues.specs.Capitals.{alike, any_if as any_cond_if, capitals, choices, further as what_follows, is_upper as is_upper_in, put_capital};
 ghost use Rattle.brl_dues.specs.CapitalList.{capital_of, is_fold_of_capital, stands_for as does_stand_for};
 
 use crate::carry::class_of;
 use crate::letter::fold_of;
 use brl_cells::Chars;
-use brl_rules::{Class, Cond, Table, holds};
+use brl_rules::{Class, Cond, Context, Table, holds};
 use std::alloc::{AllocError, Global};
 use std::marker::Model;
 
@@ -91,6 +91,33 @@ impl<'a> CasedTable<'a> {
             Some(second) => any_if(is_upper(self.table, *second) == run),
             None if run => Some(Cond::Meets(Class::UPPERCASE)),
             None => Some(Cond::Avoids(Class::UPPERCASE)),
+        }
+    }
+
+    /// The context after more characters.
+    pub fn context_behind(&self, here: Context, chars: &[char]) -> Context
+        ensures { result ≡ context_after_all self.now here chars.now }
+    {
+        let Some((last, others)) = chars.split_last() else {
+            return here;
+        };
+        match self.table.info(*last) {
+            Some(info) if !info.mode => {
+                let before = self.context_before(here, others);
+                self.table.context_after_info(before, info)
+            }
+            _ => self.table.context_after(here, chars),
+        }
+    }
+
+    /// The context after more characters, as far as it matters to a character behind them that isn't
+    /// in `numericmodechars`: a capital there is in a run where the last of these is one.
+    fn context_before(&self, here: Context, chars: &[char]) -> Context
+        ensures { (c : ℕ) → is_mode self.now c ≡ false → context_after self.now result c ≡ context_after self.now (context_after_all self.now here chars.now) c }
+    {
+        match chars.split_last() {
+            Some((last, _)) if self.has_word_capitals => self.table.context_after(here, &[*last]),
+            _ => here,
         }
     }
 

@@ -16,6 +16,7 @@
 mod above;
 mod carry;
 mod cased;
+mod folds;
 mod laws;
 mod letter;
 mod machine;

@@ -1,7 +1,9 @@
 //! One step: what it takes, and what is due after it.
-ghost use Rattle.std.specs.Prelude.{◌≡◌, [], ◌∷◌, true, All, IfOk, IsTrue, Some};
+ghost use Rattle.std.specs.Prelude.{◌≡◌, [], ◌∷◌, ◌++◌, true, All, IfOk, IsTrue, OnOk, Some};
 ghost use Rattle.std.specs.Option.{option_map_or};
+ghost use Rattle.brl_rules.specs.Indicators.{indicators_before};
 ghost use Rattle.brl_rules.specs.Text.{has_word_capitals};
+ghost use Rattle.brl_states.specs.DuesContext.{context_of};
 ghost use Rattle.brl_rules.specs.declared.place.Cond.TheVariants.{Any};
 ghost use Rattle.brl_dues.specs.Capitals.{further};
 ghost use Rattle.brl_dues.specs.Carry.{gathered};
@@ -43,8 +45,8 @@ pub fn step_with(
         return Ok(None);
     };
     let reads = reads_of(alloc, origin, taken)?;
-    let dues = origin.state.dues.as_slice();
-    let Some(left) = dues_past(alloc, origin.table.table(), reads.as_slice(), dues)? else {
+    let bars = origin.letter.bars();
+    let Some(left) = dues_past(alloc, origin.table.table(), reads.as_slice(), bars)? else {
         return Ok(None);
     };
     finish_step(alloc, origin, taken, next, reads, left)
@@ -75,7 +77,7 @@ pub fn reads_of(
 }
 
 /// The step that takes this, reads these characters and asks this of the next one, where `left` is
-/// what is left of the state's dues after these. `None` where it can't meet what it owes.
+/// what is left of the letter's bars after these. `None` where it can't meet what it owes.
 pub fn finish_step(
     alloc: Global,
     origin: &Origin<'_>,
@@ -86,7 +88,7 @@ pub fn finish_step(
 ) -> Result<Option<Step<DuesState>>, AllocError>
     requires word { taken.run ≡ true → IsTrue (has_word_capitals origin.now.table.now) }
     requires reads { reads.items ≡ origin.now.letter.now.character ∷ taken.others.now }
-    requires left { left_past origin.now.table.now reads.items origin.now.state.now.dues ≡ Some left.items }
+    requires left { left_past origin.now.table.now reads.items origin.now.letter.now.bars ≡ Some left.items }
     requires proper { All (λ due. IsTrue (is_proper due)) left.items }
     ensures { IfOk result (λ step. option_map_or (λ x. x ∷ []) step []
         ≡ next_step origin.now.table.now origin.now.state.now origin.now.letter.now taken.entry.number taken.entry.run taken.entry.others.now taken.entry.after taken.entry.cells.now next) }
@@ -98,7 +100,7 @@ pub fn finish_step(
 }
 
 /// The dues after the step that takes this and asks this of the next character, where `left` is
-/// what is left of the state's. `None` where one is broken.
+/// what is left of the letter's bars. `None` where one is broken.
 fn next_dues(
     alloc: Global,
     origin: &Origin<'_>,
@@ -111,6 +113,7 @@ fn next_dues(
     ensures { IfOk result (λ dues. dues ≡ gathered (left_with origin.now.table.now origin.now.state.now.before left.items origin.now.letter.now taken.entry.run next taken.entry.others.now taken.entry.after)) }
 {
     let mut found = left;
+    make_room(origin, taken, &mut found)?;
     add_need(taken.after, &mut found)?;
     add_need(next, &mut found)?;
     let above = origin.letter.above();
@@ -127,6 +130,16 @@ fn next_dues(
         return Ok(None);
     }
     Ok(Some(DueList::in_order(found)))
+}
+
+/// Makes room for the dues of a step that reads one character: each rule above leaves one.
+fn make_room(origin: &Origin<'_>, taken: Taken<'_>, found: &mut Vec<Due>) -> Result<(), AllocError>
+    ensures { OnOk result (found.new.items ≡ found.old.items) }
+{
+    if taken.others.is_empty() {
+        found.reserve(origin.letter.above().len())?;
+    }
+    Ok(())
 }
 
 /// The step that takes this and reads these characters, with the dues after it.
@@ -147,16 +160,33 @@ fn step_of(
       above = [];
     }) dues) }
 {
-    let table = origin.table.table();
     let here = origin.state.context();
-    let behind = table.context_after(here, reads.as_slice());
-    let mut cells = Vec::new(alloc);
-    table.push_indicators(here, taken.run, reads.as_slice(), &mut cells)?;
-    cells.extend_from_slice(taken.cells)?;
+    let behind = origin.table.context_behind(here, reads.as_slice());
+    let cells = cells_of(alloc, origin, taken, reads.as_slice())?;
     Ok(Step {
         rule: taken.number,
         reads: Chars::from_vec(reads),
-        cells: Cells::from_slice(alloc, cells.as_slice())?,
+        cells,
         next: DuesState::from_context(behind, dues),
     })
+}
+
+/// The cells of a step: the indicators, of which most steps have none, and then those that it takes.
+fn cells_of(
+    alloc: Global,
+    origin: &Origin<'_>,
+    taken: Taken<'_>,
+    reads: &[char],
+) -> Result<Cells, AllocError>
+    ensures { IfOk result (λ cells. cells ≡ indicators_before origin.now.table.now (context_of origin.now.state.now) taken.entry.run reads.now ++ taken.entry.cells.now) }
+{
+    let mut cells = Vec::new(alloc);
+    let here = origin.state.context();
+    let table = origin.table.table();
+    table.push_indicators(here, taken.run, reads, &mut cells)?;
+    if cells.is_empty() {
+        return Cells::from_slice(alloc, taken.cells);
+    }
+    cells.extend_from_slice(taken.cells)?;
+    Cells::from_slice(alloc, cells.as_slice())
 }

@@ -4,10 +4,12 @@ ghost use Rattle.std.specs.List.{flat_map, list_any};
 ghost use Rattle.brl_rules.specs.Choice.{own};
 ghost use Rattle.brl_rules.specs.Places.{before_of, holds as does_hold};
 ghost use Rattle.brl_rules.specs.declared.place.Cond.TheVariants.{Any};
+ghost use Rattle.brl_dues.specs.ByFold.{AreByFold};
 ghost use Rattle.brl_dues.specs.Letters.{cased_steps, own_step, rule_step, with_rule};
 ghost use Rattle.brl_dues.specs.Steps.{dues_steps, is_same_step, with_steps};
 
 use crate::cased::CasedTable;
+use crate::folds::{Place, by_fold, with_fold};
 use crate::letter::{Letter, new_letters_of};
 use crate::origin::Origin;
 use crate::step::{Taken, step_with};
@@ -28,6 +30,7 @@ pub fn find_steps(
     let mut listed = Vec::new(alloc);
     let cased = CasedTable::new(alloc, table)?;
     let mut letters = new_letters_of(alloc, table, state.dues.as_slice())?;
+    let places = by_fold(alloc, letters.as_slice())?;
     for (number, rule) in table.rules_in_rank().iter().enumerate() {
         take_rule(
             alloc,
@@ -35,6 +38,7 @@ pub fn find_steps(
             state,
             number as u32,
             rule,
+            places.as_slice(),
             &mut letters,
             &mut listed,
         )?;
@@ -52,17 +56,23 @@ fn take_rule<'a>(
     state: &DuesState,
     number: u32,
     rule: &'a Rule,
+    places: &[Place],
     letters: &mut Vec<Letter<'a>>,
     listed: &mut Vec<Step<DuesState>>,
 ) -> Result<(), AllocError>
+    requires { AreByFold places.now letters.old.items }
     ensures letters { OnOk result (letters.new.items ≡ map (with_rule state.now.before rule.now) letters.old.items) }
     ensures listed { OnOk result (listed.new.items ≡ listed.old.items
         ++ flat_map (rule_step table.now state.now number rule.now) letters.old.items) }
 {
+    let Some(first) = rule.chars.as_slice().first() else {
+        return Ok(());
+    };
     if !holds(rule.place.before(), state.before) {
         return Ok(());
     }
-    for letter in letters.iter_mut() {
+    for place in with_fold(*first, places) {
+        let letter = &mut letters[place.number];
         take_letter(alloc, table, state, number, rule, letter, listed)?;
     }
     Ok(())

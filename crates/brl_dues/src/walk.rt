@@ -15,7 +15,7 @@ use brl_states::{Due, DuesState};
 use std::alloc::{AllocError, Global};
 
 /// The capitals that a step reads after its first one, as far as they are chosen, and what is left
-/// of the state's dues after all of these.
+/// of the letter's bars after all of these.
 #[derive(Drop)]
 struct Beginning {
     capitals: Vec<char>,
@@ -59,8 +59,8 @@ pub fn push_caps_run_steps(
     if !origin.table.may_begin_caps_run(first) || !origin.table.has_choices(taken.others) {
         return Ok(());
     }
-    let dues = origin.state.dues.as_slice();
-    let Some(left) = dues_past(alloc, origin.table.table(), &[first], dues)? else {
+    let bars = origin.letter.bars();
+    let Some(left) = dues_past(alloc, origin.table.table(), &[first], bars)? else {
         return Ok(());
     };
     let beginning = Beginning {
@@ -80,7 +80,7 @@ fn go_on(
     listed: &mut Vec<Step<DuesState>>,
 ) -> Result<(), AllocError>
     requires word { IsTrue (has_word_capitals origin.now.table.now) }
-    requires left { left_past origin.now.table.now (origin.now.letter.now.character ∷ beginning.capitals.items) origin.now.state.now.dues ≡ Some beginning.left.items }
+    requires left { left_past origin.now.table.now (origin.now.letter.now.character ∷ beginning.capitals.items) origin.now.letter.now.bars ≡ Some beginning.left.items }
     ensures { OnOk result (listed.new.items ≡ listed.old.items
         ++ caps_run_steps origin.now.table.now origin.now.state.now origin.now.letter.now taken.entry.number taken.entry.after taken.entry.cells.now beginning.capitals.items folds.now) }
 {
@@ -108,7 +108,7 @@ fn push_chosen(
     listed: &mut Vec<Step<DuesState>>,
 ) -> Result<(), AllocError>
     requires word { IsTrue (has_word_capitals origin.now.table.now) }
-    requires left { left_past origin.now.table.now (origin.now.letter.now.character ∷ chosen.capitals.items) origin.now.state.now.dues ≡ Some chosen.left.items }
+    requires left { left_past origin.now.table.now (origin.now.letter.now.character ∷ chosen.capitals.items) origin.now.letter.now.bars ≡ Some chosen.left.items }
     ensures { OnOk result (listed.new.items ≡ listed.old.items
         ++ caps_run_step origin.now.table.now origin.now.state.now origin.now.letter.now taken.entry.number taken.entry.after taken.entry.cells.now chosen.capitals.items) }
 {

@@ -28,8 +28,8 @@ go_on-requires t c =
       omega (arith, c.in-Some.ensures.cases.1, c.decreases),
       (
         c.requires.word,
-        ap (λ l. left_past o.table.now (o.letter.now.character ∷ l) o.state.now.dues) capitals
-            ∙ left-further o.table.now o.state.now o.letter.now c.args.beginning.capitals.items capital.character c.args.beginning.left.items (option_map (λ (b : Beginning). b.left.items) c.in_ok-longer.field-0) c.requires.left
+        ap (λ l. left_past o.table.now (o.letter.now.character ∷ l) o.letter.now.bars) capitals
+            ∙ left-further o.table.now o.letter.now c.args.beginning.capitals.items capital.character c.args.beginning.left.items (option_map (λ (b : Beginning). b.left.items) c.in_ok-longer.field-0) c.requires.left
             (c.in_ok-longer.ensures.left ∙ ap (λ x. left_past x (capital.character ∷ []) c.args.beginning.left.items) c.table-table.ensures)
             ∙ ap (option_map (λ (b : Beginning). b.left.items)) c.in-Some-2.is,
       ),
@@ -58,7 +58,7 @@ loop-capital-preserved t c =
           next
           (same
           ∙ broken-fold o.table.now o.state.now o.letter.now c.args.taken.number c.args.taken.after c.args.taken.cells.now begun c.in-Some.fold.now c.in-Some.others.now capital c.loop-capital.listed.items
-          (left-further o.table.now o.state.now o.letter.now begun capital.character c.args.beginning.left.items (option_map (λ (b : Beginning). b.left.items) c.in_ok-longer.field-0) c.requires.left
+          (left-further o.table.now o.letter.now begun capital.character c.args.beginning.left.items (option_map (λ (b : Beginning). b.left.items) c.in_ok-longer.field-0) c.requires.left
           (c.in_ok-longer.ensures.left ∙ ap (λ x. left_past x (capital.character ∷ []) c.args.beginning.left.items) c.table-table.ensures)
           ∙ ap (option_map (λ (b : Beginning). b.left.items)) w.in_default-2.is)))
     ]

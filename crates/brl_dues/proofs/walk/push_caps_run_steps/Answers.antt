@@ -25,4 +25,4 @@ returns-in_default c =
     let o = c.args.origin.now in
     nothing-on o.table.now o.state.now o.letter.now c.args.taken.number c.args.taken.after c.args.taken.cells.now c.args.listed.now.items [] c.args.taken.others.now
     (broken-steps o.table.now o.state.now o.letter.now c.args.taken.number c.args.taken.after c.args.taken.cells.now [] c.args.taken.others.now
-    (sym (ap (λ x. left_past x (c.character-first.result ∷ []) c.as_slice-dues.result.now) c.table.ensures ∙ ap₂ (λ x ds. left_past o.table.now (x ∷ []) ds) c.character-first.ensures c.as_slice-dues.ensures.dues) ∙ sym c.in_ok-left.ensures.left ∙ ap (option_map (λ (l : Vec Due Global). l.items)) c.in_default.is))
+    (sym (ap (λ x. left_past x (c.character-first.result ∷ []) c.bars-bars.result.now) c.table.ensures ∙ ap₂ (λ x ds. left_past o.table.now (x ∷ []) ds) c.character-first.ensures c.bars-bars.ensures.bars) ∙ sym c.in_ok-left.ensures.left ∙ ap (option_map (λ (l : Vec Due Global). l.items)) c.in_default.is))
