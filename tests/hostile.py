@@ -376,7 +376,7 @@ def made_again(machine: Machine, tests: Path, name: str) -> Result:
 def tests_of(program: Path) -> list[str]:
     """The names of a test program's tests that make a call again."""
     listed = subprocess.run([program, "--list"], capture_output=True, text=True, check=True).stdout.splitlines()
-    names = [it.removesuffix(": test") for it in listed if it.startswith("again::")]
+    names = [it.removesuffix(": test") for it in listed if it.startswith("tests::again::")]
     if not names:
         sys.exit(f"hostile.py: {program} has no test that makes a call again")
     return names

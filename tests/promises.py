@@ -25,7 +25,7 @@ PROMISES, DEFINITIONS = (TOP / "docs" / "proof" / it for it in ("PROMISES.md", "
 
 # The crates that a caller of the library names first, and the functions that their examples are the bodies of.
 OUTWARD = ("brl_table", "brl_forward", "brl_cert", "brl_accept", "brl_search", "brl_stream")
-EXAMPLES = CRATES / "brl_tests_calls" / "src" / "examples.rt"
+EXAMPLES = CRATES / "brl_tests_calls" / "src" / "tests" / "examples.rt"
 
 # The crates whose calls are promised to nobody: the program's `main`, and tests.
 OTHERS = re.compile(r"brl|brl_test.*")

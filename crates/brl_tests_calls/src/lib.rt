@@ -4,12 +4,4 @@
 #![tactic(auto)]
 
 #[cfg(test)]
-mod examples;
-#[cfg(test)]
-mod machines;
-#[cfg(test)]
-mod program;
-#[cfg(test)]
-mod tables;
-#[cfg(test)]
-mod verdicts;
+mod tests;

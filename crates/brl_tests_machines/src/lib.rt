@@ -3,20 +3,4 @@
 #![tactic(auto)]
 
 #[cfg(test)]
-mod accept;
-#[cfg(test)]
-mod again;
-#[cfg(test)]
-mod cert;
-#[cfg(test)]
-mod dues;
-#[cfg(test)]
-mod edges;
-#[cfg(test)]
-mod pairs;
-#[cfg(test)]
-mod search;
-#[cfg(test)]
-mod window;
-#[cfg(test)]
-mod without;
+mod tests;

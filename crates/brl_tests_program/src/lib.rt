@@ -3,20 +3,4 @@
 #![tactic(auto)]
 
 #[cfg(test)]
-mod again;
-#[cfg(test)]
-mod cases;
-#[cfg(test)]
-mod checks;
-#[cfg(test)]
-mod files;
-#[cfg(test)]
-mod progress;
-#[cfg(test)]
-mod report;
-#[cfg(test)]
-mod runs;
-#[cfg(test)]
-mod searches;
-#[cfg(test)]
-mod streams;
+mod tests;

@@ -4,14 +4,4 @@
 #![tactic(auto)]
 
 #[cfg(test)]
-mod again;
-#[cfg(test)]
-mod cells;
-#[cfg(test)]
-mod forward;
-#[cfg(test)]
-mod lines;
-#[cfg(test)]
-mod survey;
-#[cfg(test)]
-mod table;
+mod tests;

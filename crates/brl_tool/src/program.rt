@@ -93,7 +93,7 @@ fn translate<F: Files, I: Input, O: Output, E: Write>(
     }
 }
 
-/// Answers a question, and delivers the answer. The work has ended before that.
+/// Answers a question, and delivers the answer.
 fn ask<F: Files, O: Output, E: Write + Progress>(
     alloc: Global,
     question: Question<'_>,
@@ -105,11 +105,10 @@ fn ask<F: Files, O: Output, E: Write + Progress>(
         (world (F.gives files.new) (O.failures out.new) (O.contents out.new)) result }
 {
     let outcome = answer(alloc, question, files, err);
-    err.end();
     deliver(alloc, outcome, files, out, err)
 }
 
-/// The answer to a question.
+/// The answer to a question. Standard error is told when a check or a search has ended.
 fn answer<F: Files, E: Write + Progress>(
     alloc: Global,
     question: Question<'_>,
@@ -127,13 +126,21 @@ fn answer<F: Files, E: Write + Progress>(
             table,
             cert,
             without,
-        } => check_by_words(alloc, files, table, cert, without, err),
+        } => {
+            let outcome = check_by_words(alloc, files, table, cert, without, err);
+            err.end();
+            outcome
+        }
         Question::Search {
             table,
             cert,
             limit,
             without,
-        } => search_by_words(alloc, files, table, cert, limit, without, err),
+        } => {
+            let outcome = search_by_words(alloc, files, table, cert, limit, without, err);
+            err.end();
+            outcome
+        }
     }
 }
 

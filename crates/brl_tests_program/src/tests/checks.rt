@@ -1,6 +1,6 @@
 //! Worked runs of `brl check` that rows can't spell.
-use crate::cases::CHECK;
-use crate::runs::{is_answered, repeated};
+use crate::tests::cases::CHECK;
+use crate::tests::runs::{is_answered, repeated};
 use brl_testing::{add_file, files_of};
 use std::alloc::Global;
 use std::fmt::Write;

@@ -1,5 +1,5 @@
 //! Worked tables without some of their characters.
-use crate::accept::answer_text;
+use crate::tests::accept::answer_text;
 use brl_accept::judge_with;
 use brl_cert::Cert;
 use brl_closure::accept;

@@ -1,6 +1,6 @@
 //! Calls in which memory may run out, each made again in the same process.
-use crate::dues::{STEPS_OF_WORDS, WORDS, are_copied, are_steps};
-use crate::window::{ONE_LETTER, has_steps_of_one_letter};
+use crate::tests::dues::{STEPS_OF_WORDS, WORDS, are_copied, are_steps};
+use crate::tests::window::{ONE_LETTER, has_steps_of_one_letter};
 use brl_rules::Table;
 use brl_testing::{mark, with_table};
 use brl_window::Window;

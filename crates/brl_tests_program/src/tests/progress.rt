@@ -1,5 +1,5 @@
 //! How far long work is: what is reported of it, and what a terminal shows.
-use crate::runs::outcome_of;
+use crate::tests::runs::outcome_of;
 use brl_progress::{Console, Progress, Work};
 use brl_testing::{Listener, files_of, for_rows_of_2, for_rows_of_3};
 use std::alloc::Global;

@@ -1,7 +1,7 @@
 //! Certificates, the checker, the judge, the search and the report.
 ghost use Rattle.brl_rules.specs.Translation.{IsClash};
 
-use crate::tables::is_refused;
+use crate::tests::tables::is_refused;
 use brl_accept::{AcceptFault, Accepted, JudgeFault, accept, judge};
 use brl_cells::Cells;
 use brl_cert::{Body, Cert, CertFault, CertPair, WriteFault, read_cert, write_cert};

@@ -1,6 +1,6 @@
 //! Worked runs of the program over files, streams and words in memory.
-use crate::cases;
-use crate::files::Sealed;
+use crate::tests::cases;
+use crate::tests::files::Sealed;
 use brl_failure::Failure;
 use brl_lines::{MapSource, SourceFault};
 use brl_testing::{

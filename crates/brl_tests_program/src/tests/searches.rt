@@ -1,7 +1,7 @@
 //! Worked runs of `brl search`: what it writes is checked, and what it reports is compared.
-use crate::cases;
-use crate::files::Sealed;
-use crate::runs::{is_answered, outcome_of};
+use crate::tests::cases;
+use crate::tests::files::Sealed;
+use crate::tests::runs::{is_answered, outcome_of};
 use brl_failure::Failure;
 use brl_lines::MapSource;
 use brl_testing::{check_rows, cut, files_of, lines_of};

@@ -1,5 +1,5 @@
 //! Searches of worked tables.
-use crate::accept::answer_text;
+use crate::tests::accept::answer_text;
 use brl_cert::{Cert, write_cert};
 use brl_closure::{Outcome, Search, Slice, accept};
 use brl_dues::Dues;

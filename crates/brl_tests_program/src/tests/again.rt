@@ -1,5 +1,5 @@
 //! Runs in which memory may run out, each made again in the same process.
-use crate::runs::{Outcome, is_answered};
+use crate::tests::runs::{Outcome, is_answered};
 use brl_lines::MapSource;
 use brl_testing::{Listener, check_rows, cut, files_of, lines_of, mark, words_of};
 use brl_tool::{Counting, run};

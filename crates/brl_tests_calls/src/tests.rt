@@ -1,0 +1,6 @@
+//! The tests, by what they are about.
+mod examples;
+mod machines;
+mod program;
+mod tables;
+mod verdicts;

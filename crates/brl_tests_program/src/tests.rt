@@ -1,0 +1,10 @@
+//! The tests, by what they are about.
+mod again;
+mod cases;
+mod checks;
+mod files;
+mod progress;
+mod report;
+mod runs;
+mod searches;
+mod streams;
