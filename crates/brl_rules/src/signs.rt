@@ -28,6 +28,15 @@ pub enum Sign {
 }
 
 impl Sign {
+    /// All indicators, by their numbers.
+    pub const ALL: [Sign; 5] = [
+        Sign::CapsLetter,
+        Sign::NumSign,
+        Sign::NoContractSign,
+        Sign::BegCapsWord,
+        Sign::EndCapsWord,
+    ];
+
     /// The number of indicators.
     const COUNT: usize = 5;
 

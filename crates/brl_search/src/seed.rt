@@ -4,15 +4,6 @@ use brl_pairs::Seed;
 use brl_rules::{Info, Rule, Sign, Table};
 use std::alloc::{AllocError, Global};
 
-/// The indicators.
-const SIGNS: [Sign; 5] = [
-    Sign::CapsLetter,
-    Sign::NumSign,
-    Sign::NoContractSign,
-    Sign::BegCapsWord,
-    Sign::EndCapsWord,
-];
-
 /// The seed by which the search of a table hashes states and pairs. It is drawn from all that the
 /// table's machine depends on, so that nobody can make a table whose states have one hash: the
 /// characters with their classes, modes, folds and cells, the rules with their characters, cells and
@@ -28,7 +19,7 @@ pub fn seed_of(alloc: Global, table: &Table) -> Result<Seed, AllocError> {
     for rule in table.rules_in_rank() {
         push_rule(&mut bytes, rule)?;
     }
-    for sign in SIGNS {
+    for sign in Sign::ALL {
         push_cells(&mut bytes, table.indicator(sign))?;
     }
     Ok(Seed::of(bytes.as_slice()))

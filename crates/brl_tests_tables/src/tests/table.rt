@@ -155,17 +155,8 @@ fn push_rule(alloc: Global, text: &mut String, rule: &Rule) -> Result<(), Fail> 
     Ok(())
 }
 
-/// The indicators.
-const SIGNS: [Sign; 5] = [
-    Sign::CapsLetter,
-    Sign::NumSign,
-    Sign::NoContractSign,
-    Sign::BegCapsWord,
-    Sign::EndCapsWord,
-];
-
 fn push_indicators_of(alloc: Global, text: &mut String, table: &Table) -> Result<(), Fail> {
-    for sign in SIGNS {
+    for sign in Sign::ALL {
         let cells = table.indicator(sign);
         if !cells.is_empty() {
             let dots = write_dots(alloc, cells)?;

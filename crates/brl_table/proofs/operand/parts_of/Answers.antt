@@ -2,22 +2,12 @@ use Rattle.std.proofs.Common.{refl}
 use Rattle.brl_table.proofs.Commas.{parts-split}
 use Rattle.brl_table.proofs.operand.parts_of.Goals as goal
 
-pub returns-in-None-clause-upper : goal.returns-in-None-clause-upper
-returns-in-None-clause-upper c =
+pub returns-in-None : goal.returns-in-None
+returns-in-None c =
     let parts = rw c.in-None.is at (parts-split c.args.word.now c.split_once.result c.split_once.ensures.cases) in
-    rw parts refl
+    record { upper = rw parts refl; lower = rw parts refl }
 
-pub returns-in-None-clause-lower : goal.returns-in-None-clause-lower
-returns-in-None-clause-lower c =
-    let parts = rw c.in-None.is at (parts-split c.args.word.now c.split_once.result c.split_once.ensures.cases) in
-    rw parts refl
-
-pub returns-in-Some-clause-upper : goal.returns-in-Some-clause-upper
-returns-in-Some-clause-upper c =
+pub returns-in-Some : goal.returns-in-Some
+returns-in-Some c =
     let parts = rw c.in-Some.is at (parts-split c.args.word.now c.split_once.result c.split_once.ensures.cases) in
-    rw parts refl
-
-pub returns-in-Some-clause-lower : goal.returns-in-Some-clause-lower
-returns-in-Some-clause-lower c =
-    let parts = rw c.in-Some.is at (parts-split c.args.word.now c.split_once.result c.split_once.ensures.cases) in
-    rw parts refl
+    record { upper = rw parts refl; lower = rw parts refl }

@@ -14,29 +14,21 @@ overflow_add-result c =
     number-small c.args.self.now c.args.info.now c.law.ensures.parts.numbered c.law.ensures.parts.few.characters c.args.rest.now c.requires.info in
     omega (arith, c.rules_in_rank-in-None.ensures.few)
 
-pub returns-in-Some-clause-choice : goal.returns-in-Some-clause-choice
-returns-in-Some-clause-choice c =
+pub returns-in-Some : goal.returns-in-Some
+returns-in-Some c =
     let is = chosen-at c.args.self.now c.args.before c.args.rest.now c.in-Some.number (sym c.in-Some.ensures) c.rules_in_rank.result.now c.rules_in_rank.ensures.rules
     c.index-rules_in_rank-number.result c.index-rules_in_rank-number.is in
+    let takes = chosen-takes c.args.self.now c.args.before c.args.rest.now (some-characters c.args.self.now c.args.info.now c.args.rest.now c.requires.info) in
+    let taken = ap (λ (choice : Choice). choice.taken) is in
     record {
-      number = sym (ap (λ (choice : Choice). choice.number) is);
-      taken = c.len.ensures ∙ sym (ap (λ (choice : Choice). choice.taken) is);
-      cells = c.as_slice.ensures ∙ sym (ap (λ (choice : Choice). choice.cells) is);
+      choice = record {
+        number = sym (ap (λ (choice : Choice). choice.number) is);
+        taken = c.len.ensures ∙ sym taken;
+        cells = c.as_slice.ensures ∙ sym (ap (λ (choice : Choice). choice.cells) is);
+      };
+      some = omega (arith, takes.some, c.len.ensures, taken);
+      room = omega (arith, takes.room, c.len.ensures, taken);
     }
-
-pub returns-in-Some-clause-some : goal.returns-in-Some-clause-some
-returns-in-Some-clause-some c =
-    let is = chosen-at c.args.self.now c.args.before c.args.rest.now c.in-Some.number (sym c.in-Some.ensures) c.rules_in_rank.result.now c.rules_in_rank.ensures.rules
-    c.index-rules_in_rank-number.result c.index-rules_in_rank-number.is in
-    let takes = chosen-takes c.args.self.now c.args.before c.args.rest.now (some-characters c.args.self.now c.args.info.now c.args.rest.now c.requires.info) in
-    omega (arith, takes.some, c.len.ensures, ap (λ (choice : Choice). choice.taken) is)
-
-pub returns-in-Some-clause-room : goal.returns-in-Some-clause-room
-returns-in-Some-clause-room c =
-    let is = chosen-at c.args.self.now c.args.before c.args.rest.now c.in-Some.number (sym c.in-Some.ensures) c.rules_in_rank.result.now c.rules_in_rank.ensures.rules
-    c.index-rules_in_rank-number.result c.index-rules_in_rank-number.is in
-    let takes = chosen-takes c.args.self.now c.args.before c.args.rest.now (some-characters c.args.self.now c.args.info.now c.args.rest.now c.requires.info) in
-    omega (arith, takes.room, c.len.ensures, ap (λ (choice : Choice). choice.taken) is)
 
 pub returns-in-None-clause-choice : goal.returns-in-None-clause-choice
 returns-in-None-clause-choice c =
