@@ -13,6 +13,8 @@ mod lines;
 #[cfg(test)]
 mod pairs;
 #[cfg(test)]
+mod sorted;
+#[cfg(test)]
 mod survey;
 #[cfg(test)]
 mod table;
