@@ -6,5 +6,6 @@ mod dues;
 mod edges;
 mod pairs;
 mod search;
+mod sorted;
 mod window;
 mod without;

@@ -1,6 +1,6 @@
 //! Steps and pairs by numbers.
 use brl_cells::{Cell, Cells};
-use brl_pairs::{Edge, Members, Pair, Seed, is_missing, is_there, is_there_swapped, places_before};
+use brl_pairs::{Edge, Members, Pair, Seed, is_missing, is_there, is_there_swapped};
 use brl_testing::lend;
 use std::alloc::Global;
 use std::test::Fail;
@@ -12,27 +12,6 @@ fn edge(alloc: Global, next: u32, cells: &[Cell; 2]) -> Result<Edge, Fail> {
         cells: Cells::from_slice(alloc, cells)?,
         next,
     })
-}
-
-fn push_edges(alloc: Global, edges: &mut Vec<Edge>) -> Result<(), Fail> {
-    edges.push(edge(alloc, 0, &[Cell(1), Cell(2)])?)?;
-    edges.push(edge(alloc, 1, &[Cell(2), Cell(2)])?)?;
-    edges.push(edge(alloc, 2, &[Cell(1), Cell(1)])?)?;
-    Ok(())
-}
-
-/// Whether the first and the last edge, which begin with the same cell, form a chain.
-fn are_chained(alloc: Global, edges: &[Edge]) -> Result<bool, Fail> {
-    let before = places_before(alloc, edges)?;
-    Ok(before.as_slice() == [0, 0, 1].as_slice())
-}
-
-#[test]
-fn edges_with_one_first_cell(rt: HostRuntime) -> Result<(), Fail> {
-    let mut edges = Vec::new(rt.alloc());
-    push_edges(rt.alloc(), &mut edges)?;
-    assert!(rt; are_chained(rt.alloc(), edges.as_slice())?);
-    Ok(())
 }
 
 fn pair(alloc: Global, ahead: u32, behind: u32) -> Pair<u32> {

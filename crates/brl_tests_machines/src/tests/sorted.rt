@@ -1,0 +1,103 @@
+//! Edges in the order of their cells: those that a lead can follow, and those that split.
+use brl_cells::{Cells, read_dots};
+use brl_pairs::{Edge, Members, Seed, SortedEdge, earlier_splits, matches, sort_edges, splits_of};
+use brl_testing::for_rows_of_3;
+use std::alloc::Global;
+use std::fmt::Write;
+use std::test::Fail;
+
+/// The cells of edges in listed order, a lead, and the places of the edges whose cells begin it or
+/// begin with it.
+const MATCHES: &str = "\
+1 1-12 12 1-12-1 2 1|1-12|0 1 3 5
+1 1-12 12 1-12-1 2 1|1|0 1 3 5
+1 1-12 12 1-12-1 2 1||0 1 2 3 4 5
+1 1-12 12 1-12-1 2 1|1-12-1-2|0 1 3 5
+1 1-12 12 1-12-1 2 1|1-2|0 5
+1 1-12 12 1-12-1 2 1|12-1|2
+1 1-12 12 1-12-1 2 1|3|
+2-1 1 2-1-1 2-2 2|2-1|0 2 4
+1-1 1|1-1|0 1
+|1|
+";
+
+/// The cells of edges in listed order, the place of one, and the places of those before it whose
+/// cells begin its cells or begin with them.
+const SPLITS: &str = "\
+1 1-12 12 1-12-1 2 1|0|
+1 1-12 12 1-12-1 2 1|1|0
+1 1-12 12 1-12-1 2 1|3|0 1
+1 1-12 12 1-12-1 2 1|4|
+1 1-12 12 1-12-1 2 1|5|0 1 3
+2-1-1 1 2-2 2-1 2|3|0
+2-1-1 1 2-2 2-1 2|4|0 2 3
+1 1 1|2|0 1
+";
+
+/// The cells of dots: none of no dots.
+fn cells_of_dots(alloc: Global, dots: &str) -> Result<Cells, Fail> {
+    if dots.is_empty() {
+        return Ok(Cells::new(alloc));
+    }
+    Ok(read_dots(alloc, dots, 16)?)
+}
+
+/// The edges with these cells, of which each leads to the state with the number 0.
+fn edges_of_dots(alloc: Global, field: &str) -> Result<Vec<Edge>, Fail> {
+    let mut edges = Vec::new(alloc);
+    for dots in field.split(' ') {
+        if !dots.is_empty() {
+            edges.push(Edge {
+                rule: 0,
+                cells: cells_of_dots(alloc, dots)?,
+                next: 0,
+            })?;
+        }
+    }
+    Ok(edges)
+}
+
+/// The places of edges, with a blank between two.
+fn places_text(alloc: Global, edges: &[SortedEdge]) -> Result<String, Fail> {
+    let mut text = String::new(alloc);
+    for edge in edges {
+        if !text.is_empty() {
+            text.push(' ')?;
+        }
+        write!(text, "{}", edge.place)?;
+    }
+    Ok(text)
+}
+
+fn matches_text(alloc: Global, field: &str, lead: &str) -> Result<String, Fail> {
+    let edges = edges_of_dots(alloc, field)?;
+    let lead = cells_of_dots(alloc, lead)?;
+    let mut kept = Members::new(alloc, Seed::of(b"cells"));
+    let sorted = sort_edges(alloc, &mut kept, edges.as_slice())?;
+    let found = matches(alloc, kept.as_slice(), sorted.as_slice(), lead.as_slice())?;
+    places_text(alloc, found.as_slice())
+}
+
+#[test]
+fn edges_that_match_a_lead(rt: HostRuntime) -> Result<(), Fail> {
+    for_rows_of_3(rt.alloc(), MATCHES, matches_text)
+}
+
+fn splits_text(alloc: Global, field: &str, place: &str) -> Result<String, Fail> {
+    let place = place.parse()?;
+    let edges = edges_of_dots(alloc, field)?;
+    if place >= edges.len() {
+        return Err(Fail::new("there is no such edge"));
+    }
+    let mut kept = Members::new(alloc, Seed::of(b"cells"));
+    let sorted = sort_edges(alloc, &mut kept, edges.as_slice())?;
+    let cells = kept.as_slice();
+    let splits = splits_of(alloc, cells, sorted.as_slice(), edges.len())?;
+    let found = earlier_splits(alloc, cells, sorted.as_slice(), &splits, place)?;
+    places_text(alloc, found.as_slice())
+}
+
+#[test]
+fn earlier_edges_that_split(rt: HostRuntime) -> Result<(), Fail> {
+    for_rows_of_3(rt.alloc(), SPLITS, splits_text)
+}
