@@ -1,5 +1,5 @@
--- The context after a character, where it doesn't keep numeric mode, depends on the classes before it
--- alone.
+-- The context after a character, where it doesn't keep numeric mode, depends on the classes before
+-- it alone.
 use Rattle.std.proofs.Common.{◌≡◌, ℕ, Bool, false, ◌&&◌, ◌||◌, List, [], ◌∷◌, ◌++◌, refl, sym, ap, ap₂, ◌∙◌}
 use Rattle.brl_rules.specs.declared.context.Context.{Context}
 use Rattle.brl_rules.specs.TableView.{TableView}

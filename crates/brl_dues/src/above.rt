@@ -48,8 +48,9 @@ impl<'a> Above<'a> {
     }
 
     /// Appends what is left of the bars of its forms that begin with a character after one of these
-    /// classes, in a run of capitals or out of one, after the characters `past` to the dues found so
-    /// far. `cased` says whether a run may begin with the character. Returns whether none is broken.
+    /// classes, in a run of capitals or out of one, after the characters `past` to the dues found
+    /// so far. `cased` says whether a run may begin with the character. Returns whether none is
+    /// broken.
     pub fn add_bars(
         &self,
         alloc: Global,
@@ -99,8 +100,8 @@ impl<'a> Above<'a> {
         add(left, found)
     }
 
-    /// Whether the first or the last of the characters `past` is another one than the rule has there,
-    /// so that nothing is left of its bar out of a run of capitals.
+    /// Whether the first or the last of the characters `past` is another one than the rule has
+    /// there, so that nothing is left of its bar out of a run of capitals.
     fn is_settled(&self, past: &[char]) -> bool
         ensures { (t : TableView) → IsTrue result → bar_carried t past.now self.now.0 self.now.1 ≡ Carried.Settled }
     {

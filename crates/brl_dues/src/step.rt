@@ -171,7 +171,8 @@ fn step_of(
     })
 }
 
-/// The cells of a step: the indicators, of which most steps have none, and then those that it takes.
+/// The cells of a step: the indicators, of which most steps have none, and then those that it
+/// takes.
 fn cells_of(
     alloc: Global,
     origin: &Origin<'_>,
