@@ -1,7 +1,7 @@
 -- The lines of a table that have a fault by themselves. A line with a fault defines nothing, so
 -- each line is read after the good lines before it. What one line can't show, as a character of a
 -- rule that no line defines, is no part of this. The project's own choice.
-use Rattle.std.specs.Prelude.{ℕ, ◌≡◌, ◌≢◌, Bool, true, false, if◌then◌else◌, List, [], ◌∷◌, ◌++◌, flat_map, fold, take, slice_get, string_bytes, is_some, Option, Some, None}
+use Rattle.std.specs.Prelude.{ℕ, ◌≡◌, ◌≢◌, Bool, true, false, if◌then◌else◌, List, [], ◌∷◌, ◌++◌, flat_map, fold, take, slice_get, string_bytes, codes, is_some, option_map, Option, Some, None}
 use Rattle.std.specs.List.{enumerate_from}
 use Rattle.std.specs.Option.{option_map_or}
 use Rattle.brl_failure.specs.Failure.{IfFault}
@@ -41,11 +41,13 @@ is_prefix (Some Noback) = true
 is_prefix (Some Nofor) = true
 is_prefix other = false
 
--- the opcode of a line: what follows `noback` or `nofor`, if anything does, and else its first word
+-- what follows `noback` or `nofor` in a line that begins with one of them, if anything does
+abbrev pub prefixed_word : LineView → Option (List ℕ)
+prefixed_word line = if is_prefix (opcode_of line.opcode.text) then option_map (λ token. token.text) (slice_get line.operands 0) else None
+
+-- the opcode of a line: its first word, and after a prefix and a blank what follows that
 abbrev pub named_opcode : LineView → List ℕ
-named_opcode line =
-    if is_prefix (opcode_of line.opcode.text) then option_map_or (λ token. token.text) (slice_get line.operands 0) line.opcode.text
-    else line.opcode.text
+named_opcode line = line.opcode.text ++ option_map_or (λ word. codes " " ++ word) (prefixed_word line) []
 
 -- a line with a fault: its opcode, and the fault
 pub record FaultyLineView : Type 0 where

@@ -1,11 +1,11 @@
 //! The lines of a table that have a fault by themselves.
-ghost use Rattle.std.specs.Prelude.{◌≡◌, ◌↔◌, [], List, IfOk, Some, map, slice_get, string_bytes};
+ghost use Rattle.std.specs.Prelude.{◌≡◌, ◌↔◌, [], List, IfOk, Some, map, option_map, slice_get, string_bytes};
 ghost use Rattle.brl_lines.specs.Tokens.{LineView};
 ghost use Rattle.brl_lines.specs.Views.{line_view};
 ghost use Rattle.brl_table.specs.Building.{AreWithinLimits, Represents};
 ghost use Rattle.brl_table.specs.FaultText.{located_fault};
 ghost use Rattle.brl_table.specs.Reading.{files_of, IsFaultOf, PassesFirst};
-ghost use Rattle.brl_table.specs.Survey.{IsFaultyAs, faulty_line_view, faulty_lines, named_opcode as opcode_by};
+ghost use Rattle.brl_table.specs.Survey.{IsFaultyAs, faulty_line_view, faulty_lines, named_opcode as opcode_by, prefixed_word as prefixed_by};
 ghost use Rattle.brl_table.specs.declared.table_fault.TableFault.{TableFault as Fault};
 
 use crate::TableFault;
@@ -19,7 +19,8 @@ use std::alloc::{AllocError, Global};
 /// A line of a table that has a fault by itself.
 #[derive(Debug, Drop)]
 pub struct FaultyLine {
-    /// Its opcode: what follows `noback` or `nofor`, if anything does, and else its first word.
+    /// Its opcode: its first word, and after `noback` or `nofor` and a blank what follows that, if
+    /// anything does.
     pub opcode: String,
     pub fault: TableFault,
 }
@@ -70,22 +71,30 @@ fn faulty_line(
     let Failure::Fault(fault) = fault_at(alloc, failure, line) else {
         return Err(AllocError);
     };
-    let opcode = String::from_str(alloc, named_opcode(line))?;
+    let opcode = named_opcode(alloc, line)?;
     Ok(FaultyLine { opcode, fault })
 }
 
-/// The opcode of a line: what follows `noback` or `nofor`, if anything does, and else its first
-/// word.
-fn named_opcode<'a>(line: &Line<'a>) -> &'a str
-    ensures { result.now ≡ opcode_by (line_view line.now) }
+/// The opcode of a line: its first word, and after `noback` or `nofor` and a blank what follows that,
+/// if anything does.
+fn named_opcode(alloc: Global, line: &Line<'_>) -> Result<String, AllocError>
+    ensures { IfOk result (λ opcode. string_bytes opcode ≡ opcode_by (line_view line.now)) }
 {
-    let first = line.opcode.text;
-    match opcode_named(first) {
-        Some(Opcode::Noback | Opcode::Nofor) => line
-            .operands
-            .first()
-            .map_or(first, |next| next.text),
-        _ => first,
+    let mut opcode = String::from_str(alloc, line.opcode.text)?;
+    if let Some(word) = prefixed_word(line) {
+        opcode.push(' ')?;
+        opcode.push_str(word)?;
+    }
+    Ok(opcode)
+}
+
+/// What follows `noback` or `nofor` in a line that begins with one of them, if anything does.
+fn prefixed_word<'a>(line: &Line<'a>) -> Option<&'a str>
+    ensures { option_map (λ word. word.now) result ≡ prefixed_by (line_view line.now) }
+{
+    match opcode_named(line.opcode.text) {
+        Some(Opcode::Noback | Opcode::Nofor) => line.operands.first().map(|next| next.text),
+        _ => None,
     }
 }
 

@@ -14,8 +14,8 @@ letter a 1|
 pass2 @1 @2; letter a 1; pass2 @2 @3|pass2 B1 OutsideProfile pass2 at t.ctb:1; pass2 B1 OutsideProfile pass2 at t.ctb:3
 letter a 19; letter a; always a =|letter B4 BadDots 19 at t.ctb:1; letter B2 MissingOperand letter at t.ctb:2
 letter \\q 1; uplow AA 1|letter B3 BadCharacters \\q at t.ctb:1; uplow B3 BadCharacters AA at t.ctb:2
-noback pass2 @1 @2; nofor letter a 1|pass2 B1 OutsideProfile pass2 at t.ctb:1; letter B1 OutsideProfile letter at t.ctb:2
-noback; nofor always a 1,2; nofor|noback B2 MissingOperand noback at t.ctb:1; always B4 BadDots 1,2 at t.ctb:2; nofor B2 MissingOperand nofor at t.ctb:3
+noback pass2 @1 @2; nofor letter a 1|noback pass2 B1 OutsideProfile pass2 at t.ctb:1; nofor letter B1 OutsideProfile letter at t.ctb:2
+noback; nofor always a 1,2; nofor|noback B2 MissingOperand noback at t.ctb:1; nofor always B4 BadDots 1,2 at t.ctb:2; nofor B2 MissingOperand nofor at t.ctb:3
 numsign 9; numsign 6; numsign 6; numsign 1|numsign B4 BadDots 9 at t.ctb:1; numsign B9 IndicatorTwice numsign at t.ctb:3; numsign B9 IndicatorTwice numsign at t.ctb:4
 capsletter 6; capsign 6; numsign 6|capsign B9 IndicatorTwice capsign at t.ctb:2
 always ab =; numericmodechars .; litdigit 1 1; numericnocontchars 1|
