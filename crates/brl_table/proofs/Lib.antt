@@ -14,3 +14,4 @@ pub mod OneTable
 pub mod Places
 pub mod SurveyLaws
 pub mod SurveySteps
+pub mod UnresolvedSteps

@@ -42,7 +42,7 @@ module _ (lines : List LineView) where
   abbrev Passes : ℕ → Type 0
   Passes place = PassesBefore (first_pass_fault lines) lines place
 
-  good-items : (place : ℕ) → place ≤ length lines → Passes place → good_items (files_of lines) (take place lines) ≡ items_of (files_of lines) (take place lines)
+  pub good-items : (place : ℕ) → place ≤ length lines → Passes place → good_items (files_of lines) (take place lines) ≡ items_of (files_of lines) (take place lines)
   good-items zero within passes = refl
   good-items (suc place) within passes =
       let files = files_of lines in
