@@ -15,3 +15,4 @@ pub mod Places
 pub mod SurveyLaws
 pub mod SurveySteps
 pub mod UnresolvedSteps
+pub mod SurveyWhole

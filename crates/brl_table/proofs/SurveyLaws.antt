@@ -32,7 +32,7 @@ pub faulty-adds_none : (good : List Item) (found : Option Fault) (read : Result 
 faulty-adds_none good None read wrong h = cc
 faulty-adds_none good (Some other) read wrong h = refl
 
-none-faulty : (line : LineView) (found : Option Fault) → faulty_line_if line found ≡ [] → found ≡ None
+pub none-faulty : (line : LineView) (found : Option Fault) → faulty_line_if line found ≡ [] → found ≡ None
 none-faulty line None h = refl
 none-faulty line (Some wrong) h = cc
 

@@ -1,6 +1,6 @@
 -- The second pass of a survey: the items of lines of which none has a fault by itself, and one more
 -- line.
-use Rattle.std.proofs.Common.{ℕ, suc, ◌<◌, ◌≡◌, true, eqb, List, [], ◌∷◌, ◌++◌, length, map, take, refl, arith, sym, ap, ◌∙◌, None, Some, Result, Ok, Err}
+use Rattle.std.proofs.Common.{ℕ, suc, ◌≡◌, true, eqb, List, [], ◌∷◌, ◌++◌, length, map, take, refl, arith, sym, ap, ◌∙◌, None, Some, Result, Ok, Err}
 use Rattle.std.specs.Prelude.{slice_get}
 use Rattle.std.proofs.lemmas.Bool.{eqb-true}
 use Rattle.std.proofs.lemmas.List.{length-map, take_all}
@@ -49,7 +49,7 @@ without-rule characters line item old new (Err failure) h = h
 
 -- ---- Whether no line has a fault by itself
 
-empty : {X : Type 0} (xs : List X) → length xs ≡ 0 → xs ≡ []
+pub empty : {X : Type 0} (xs : List X) → length xs ≡ 0 → xs ≡ []
 empty [] h = refl
 empty (x ∷ xs) h = absurd (omega arith)
 

@@ -4,7 +4,7 @@ ghost use Rattle.brl_lines.specs.Tokens.{LineView};
 ghost use Rattle.brl_lines.specs.Views.{line_view};
 ghost use Rattle.brl_table.specs.Building.{AreWithinLimits, Represents};
 ghost use Rattle.brl_table.specs.FaultText.{located_fault};
-ghost use Rattle.brl_table.specs.Reading.{files_of, items_of, IsFaultOf, PassesFirst};
+ghost use Rattle.brl_table.specs.Reading.{files_of, items_of, IsFaultOf, PassesAll, PassesFirst};
 ghost use Rattle.brl_table.specs.Survey.{
   IsFaultyAs,
   faulty_line_view,
@@ -156,10 +156,12 @@ fn prefixed_word<'a>(line: &Line<'a>) -> Option<&'a str>
     }
 }
 
-/// A survey finds no line exactly where the first pass finds none. Where that finds the first fault
-/// of the lines, it is that of the first line found.
+/// A survey finds no line with a fault by itself exactly where the first pass finds none. Where that
+/// finds the first fault of the lines, it is that of the first line found. It finds no faulty line at
+/// all exactly where both passes find none, so that the lines define a table.
 pub fn survey_laws()
     ensures none { (lines : List LineView) → (faulty_lines lines ≡ []) ↔ PassesFirst lines }
     ensures first { (lines : List LineView) (found : Fault) → IsFaultOf lines found → (PassesFirst lines → ⊥) →
         slice_get (map (λ faulty. faulty.fault) (faulty_lines lines)) 0 ≡ Some (located_fault found) }
+    ensures all { (lines : List LineView) → ((survey_of lines).faulty ≡ []) ↔ PassesAll lines }
 {}

@@ -1,4 +1,4 @@
-use Rattle.std.proofs.Common.{◌≡◌, ◌∙◌, Bool, true, false, eqb, ap, arith, cond, length, map, nat_lt, sym, vec_len}
+use Rattle.std.proofs.Common.{◌≡◌, ◌∙◌, Bool, ap, arith, cond, length, map, nat_lt, sym, vec_len}
 use Rattle.brl_lines.specs.Views.{line_view}
 use Rattle.brl_table.specs.Reading.{defined_characters, definitions}
 use Rattle.brl_table.specs.Survey.{faulty_line_view, faulty_lines, has_characters, passes_first, unresolved_lines}

@@ -1,4 +1,4 @@
-use Rattle.std.proofs.Common.{◌≡◌, ◌<◌, ◌∙◌, arith, length, subst, sym}
+use Rattle.std.proofs.Common.{◌<◌, ◌∙◌, arith, length, subst, sym}
 use Rattle.brl_lines.specs.Views.{line_view}
 use Rattle.brl_rules.proofs.Facts.{some_is}
 use Rattle.brl_table.specs.Building.{FindsReference}
