@@ -1,8 +1,8 @@
 //! Reads tables: from the lines of a table's files to the table that they define. A line is read to
 //! an `Item` by itself; a `TableBuilder` adds up the items in a first pass, and resolves the
-//! characters of rules and lists in a second one. `survey` lists the lines that have a fault by
-//! themselves. A table with its rules, classes and indicators is defined in `brl_rules`, and all of
-//! that crate is reached from here.
+//! characters of rules and lists in a second one. `survey` lists the lines with a fault of the first
+//! pass or, where none has one, of the second. A table with its rules, classes and indicators is
+//! defined in `brl_rules`, and all of that crate is reached from here.
 //!
 //! Room 1, text and tables (docs/dev/ARCHITECTURE.md). The definitions begin in
 //! `specs/Reading.antt`.

@@ -22,7 +22,7 @@ capsletter 6; capsign 6; numsign 6|capsign B9 IndicatorTwice capsign at t.ctb:2
 always ab =; numericmodechars .; litdigit 1 1; numericnocontchars 1|always B5 UndefinedInRule ab at t.ctb:1; numericmodechars B6 UndefinedInList . at t.ctb:2; numericnocontchars B7 TwoRoles 1 at t.ctb:4
 always ab =; letter c 9|letter B4 BadDots 9 at t.ctb:2
 letter a 1; always ab 1; nofor word b =; always aa 1|always B5 UndefinedInRule ab at t.ctb:2; nofor word B5 UndefinedInRule b at t.ctb:3
-nofor word aaaaaaaaaaaaaaaaaaaaaaaaaaaaaaaaa 1; pass2 x|word B8 TooMany word at t.ctb:1; pass2 B1 OutsideProfile pass2 at t.ctb:2
+nofor word aaaaaaaaaaaaaaaaaaaaaaaaaaaaaaaaa 1; pass2 x|nofor word B8 TooMany word at t.ctb:1; pass2 B1 OutsideProfile pass2 at t.ctb:2
 include|include B2 MissingOperand include at t.ctb:1
 ";
 
