@@ -47,6 +47,7 @@ _brl() {
         translate) options='--form --help' ;;
         search) options='--limit --without --help' ;;
         check) options='--without --help' ;;
+        survey) options='--brief --help' ;;
         help) options='' ;;
     esac
 

@@ -130,5 +130,6 @@ for shell in bash zsh fish; do
     offers 'brl check --without ab table.ctb t' table.ctb table.cert tables
     offers 'brl check table.ctb table.cert t'
     offers 'brl survey table.ctb other.txt t' table.ctb table.cert tables
+    offers 'brl survey --brief t' table.ctb table.cert tables
     echo "ok: completions of $shell, $count lines"
 done

@@ -64,9 +64,12 @@ table: t.ctb
 B1 OutsideProfile pass2 at t.ctb:3
 B4 BadDots 9 at t.ctb:4
 opcode letter: 1
-opcode pass2: 1
+opcode pass2: 1 (not in the profile)
+file t.ctb: 2 of 4 lines are read
+undefined characters (B5 to B7) are looked for once no line has another fault
 2 of 4 lines are read
 table: u.ctb
+no line defines a character
 0 of 0 lines are read
 no verdict: a survey doesn't decide whether two texts have the same cells
 """

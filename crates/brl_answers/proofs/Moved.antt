@@ -3,7 +3,7 @@ use Rattle.std.proofs.Common.{ℕ, List, [], ◌∷◌}
 use Rattle.brl_failure.specs.declared.failure.Failure.TheVariants as failures
 use Rattle.brl_lines.specs.Answer.{FileAnswer, FileAnswers}
 use Rattle.brl_lines.specs.Lines.{Answers}
-use Rattle.brl_lines.specs.Outcome.{AreGiven, AreLinesOf, IsLoadFault}
+use Rattle.brl_lines.specs.Outcome.{AreGiven, AreLinesOf, AreLinesOfFiles, IsLoadFault}
 use Rattle.brl_lines.specs.Tokens.{LineView}
 use Rattle.brl_lines.specs.declared.fault.LoadFault.{LoadFault}
 use Rattle.brl_table.specs.Files.{IsFaultAt, IsTableOf}
@@ -18,6 +18,9 @@ module _ (from to : FileAnswers) (moves : (p : List ℕ) (a : FileAnswer) → fr
 
   pub lines_moved : (path : List ℕ) (lines : List LineView) → AreLinesOf from path lines → AreLinesOf to path lines
   lines_moved path lines h = (h.0, given h.0 h.1, h.2)
+
+  pub file_lines_moved : (path : List ℕ) (paths : List (List ℕ)) (lines : List LineView) → AreLinesOfFiles from path paths lines → AreLinesOfFiles to path paths lines
+  file_lines_moved path paths lines h = (h.0, given h.0 h.1, h.2, h.3)
 
   pub table_moved : (path : List ℕ) (t : TableView) → IsTableOf from path t → IsTableOf to path t
   table_moved path t h = (h.0, lines_moved path h.0 h.1, h.2, h.3)

@@ -39,9 +39,11 @@ pub enum Question<'a> {
         limit: u32,
         without: Option<&'a str>,
     },
-    /// Which lines of tables are outside the profile or faulty. Their files are at these paths.
+    /// Which lines of tables are outside the profile or faulty. Their files are at these paths. A
+    /// brief answer has the counts of such lines alone.
     Survey {
         tables: Vec<&'a str>,
+        brief: bool,
     },
     /// What the steps of a text's translation are by the table whose file is at this path.
     Trace {
@@ -132,6 +134,8 @@ enum Options {
     Without,
     /// How much a search may find, and which characters are left out.
     Search,
+    /// Whether faults are listed.
+    Brief,
 }
 
 /// A command, as its help shows it.
@@ -300,14 +304,16 @@ const SURVEY: CommandHelp = CommandHelp {
 Reads each TABLE with the files that it includes, and each line by itself: a
 faulty line defines nothing, and the lines after it are read all the same.
 Standard output gets the fault of each faulty line, how many of these lines
-there are of each opcode, and how many lines are read. Comments, blank lines and
-lines that include a file aren't counted. With several TABLEs the lines of each
-come after its name; one that can't be loaded is named on standard error, the
-others are surveyed, and the exit status is 2.
+there are of each opcode, how many lines of each file with such lines are read,
+and how many of all. Comments, blank lines and lines that include a file aren't
+counted. With --brief the list of faults is left out. With several TABLEs the
+lines of each come after its name; one that can't be loaded is named on standard
+error, the others are surveyed, and the exit status is 2.
 
-Faulty lines don't change the exit status. A character that a rule or a list
-names and no line defines isn't looked for. A survey gives no verdict on
-ambiguity.",
+Characters that a rule or a list names and no line defines (B5 to B7) are looked
+for once no line has another fault. Of an opcode that isn't read the counts say
+whether liblouis has it. Faulty lines don't change the exit status. A survey
+gives no verdict on ambiguity.",
     example: "Example, a table in which one of four lines is read:
   printf '%s\\n' 'letter a 1' 'pass2 @1 @2' 'letter b 9' 'pass2 @2 @3' > far.ctb
   brl survey far.ctb
@@ -316,11 +322,13 @@ It prints:
   B1 OutsideProfile pass2 at far.ctb:2
   B4 BadDots 9 at far.ctb:3
   B1 OutsideProfile pass2 at far.ctb:4
-  opcode pass2: 2
+  opcode pass2: 2 (not in the profile)
   opcode letter: 1
+  file far.ctb: 1 of 4 lines are read
+  undefined characters (B5 to B7) are looked for once no line has another fault
   1 of 4 lines are read
   no verdict: a survey doesn't decide whether two texts have the same cells",
-    choice: None,
+    choice: Some(Options::Brief),
     operands: &[TABLES],
 };
 
@@ -405,6 +413,14 @@ fn without_option<'a>(alloc: Global) -> Arg<'a> {
         .help("Look only at texts that use none of these characters")
 }
 
+/// The option of whether faults are listed.
+fn brief_option<'a>(alloc: Global) -> Arg<'a> {
+    Arg::new(alloc, "brief")
+        .long("brief")
+        .help("Leave the list of faults out")
+        .action(ArgAction::SetTrue)
+}
+
 /// The arguments of a command: its options, if any, and its operands.
 fn arguments<'a>(alloc: Global, page: &CommandHelp) -> Result<Vec<Arg<'a>>, AllocError> {
     let mut arguments = Vec::new(alloc);
@@ -415,6 +431,7 @@ fn arguments<'a>(alloc: Global, page: &CommandHelp) -> Result<Vec<Arg<'a>>, Allo
             arguments.push(limit_option(alloc))?;
             arguments.push(without_option(alloc))?;
         }
+        Some(Options::Brief) => arguments.push(brief_option(alloc))?,
         None => {}
     }
     for operand in page.operands {
@@ -509,7 +526,8 @@ fn survey_question<'a>(
         return Ok(None);
     };
     let tables = Vec::from_slice(alloc, tables)?;
-    Ok(Some(Question::Survey { tables }))
+    let brief = found.get_flag("brief");
+    Ok(Some(Question::Survey { tables, brief }))
 }
 
 /// The question of the words after the name of another command.

@@ -1,15 +1,19 @@
--- The report of a survey: the lines of a table that have a fault by themselves, how many there are
--- of each opcode, and how many lines are read. The project's own choice.
-use Rattle.std.specs.Prelude.{ℕ, ◌≡◌, ◌-◌, List, ◌++◌, codes, count_by, flat_map, length, map}
+-- The report of a survey: the faulty lines of a table, how many there are of each opcode and whose
+-- opcode that is, and how many lines are read, of each file and of all. The project's own choice.
+use Rattle.std.specs.Prelude.{ℕ, ◌≡◌, ◌-◌, Bool, if◌then◌else◌, nat_lt, List, [], ◌++◌, codes, count_by, flat_map, length, map}
 use Rattle.std.specs.Cmp.Lexicographic.{slice_cmp}
 use Rattle.std.specs.Fmt.{decimal}
 use Rattle.std.specs.List.Sorted.{IsPermutation, IsSorted}
 use Rattle.std.specs.Ordering.{flip_args, nat_cmp, on, then_cmp}
 use Rattle.std.specs.Str.{bytes_eq}
 use Rattle.std.specs.declared.cmp.Ordering.{Ordering}
+use Rattle.brl_lines.specs.Tokens.{LineView}
 use Rattle.brl_table.specs.FaultText.{fault_text}
 use Rattle.brl_table.specs.Reading.{dedup}
-use Rattle.brl_table.specs.Survey.{FaultyLineView}
+use Rattle.brl_table.specs.Liblouis.{origin_of}
+use Rattle.brl_table.specs.Survey.{FaultyLineView, FindingsView}
+use Rattle.brl_table.specs.declared.liblouis.OpcodeOrigin.{OpcodeOrigin}
+use Rattle.brl_table.specs.declared.liblouis.OpcodeOrigin.TheVariants.{Profile, Liblouis, Unknown}
 
 -- ---- How many lines there are of each opcode
 
@@ -41,20 +45,50 @@ pub record AreCounts (opcodes : List (List ℕ)) (counts : List CountView) : Typ
 abbrev pub fault_line : FaultyLineView → List ℕ
 fault_line faulty = fault_text faulty.fault ++ codes "\n"
 
+-- what the line of a count says of whose opcode it is
+abbrev pub origin_note : OpcodeOrigin → List ℕ
+origin_note Profile = []
+origin_note Liblouis = codes " (not in the profile)"
+origin_note Unknown = codes " (not in liblouis)"
+
 -- the line of a count
 abbrev pub count_line : CountView → List ℕ
-count_line count = codes "opcode " ++ count.opcode ++ codes ": " ++ decimal count.lines ++ codes "\n"
+count_line count = codes "opcode " ++ count.opcode ++ codes ": " ++ decimal count.lines ++ origin_note (origin_of count.opcode) ++ codes "\n"
 
--- how many of the lines are read
+-- how many of a number of lines are read, where this many are faulty
 abbrev pub read_line : ℕ → ℕ → List ℕ
-read_line read lines = decimal read ++ codes " of " ++ decimal lines ++ codes " lines are read\n"
+read_line faulty lines = decimal (lines - faulty) ++ codes " of " ++ decimal lines ++ codes " lines are read\n"
+
+-- how many of the lines are of the file at a path
+abbrev pub lines_in : List LineView → List ℕ → ℕ
+lines_in lines path = count_by (λ line. bytes_eq path line.file) lines
+
+-- how many of the faulty lines are of the file at a path
+abbrev pub faulty_in : List FaultyLineView → List ℕ → ℕ
+faulty_in found path = count_by (λ faulty. bytes_eq path faulty.fault.file) found
+
+-- the line of a file that has faulty lines; empty for another
+abbrev pub file_line : List FaultyLineView → List LineView → List ℕ → List ℕ
+file_line found lines path =
+    if nat_lt 0 (faulty_in found path) then codes "file " ++ path ++ codes ": " ++ read_line (faulty_in found path) (lines_in lines path)
+    else []
 
 -- the opcodes of faulty lines
 abbrev pub opcodes_of : List FaultyLineView → List (List ℕ)
 opcodes_of found = map (λ faulty. faulty.opcode) found
 
--- the report of a survey of a number of lines, in which these faulty ones were found
-abbrev pub IsSurveyText : List FaultyLineView → ℕ → List ℕ → Type 0
-IsSurveyText found lines text =
-    (counts : List CountView) × AreCounts (opcodes_of found) counts
-    × (text ≡ flat_map fault_line found ++ flat_map count_line counts ++ read_line (lines - length found) lines)
+-- what is said of the second pass where a line has a fault by itself
+abbrev pub pass_note : Bool → List ℕ
+pass_note passes_first = if passes_first then [] else codes "undefined characters (B5 to B7) are looked for once no line has another fault\n"
+
+-- what is said where no line defines a character
+abbrev pub characters_note : Bool → List ℕ
+characters_note has_characters = if has_characters then [] else codes "no line defines a character\n"
+
+-- the report of a survey of these lines, of files with these paths, which found this; one that is
+-- brief has no faults
+abbrev pub IsSurveyText : Bool → FindingsView → List LineView → List (List ℕ) → List ℕ → Type 0
+IsSurveyText brief found lines paths text =
+    (counts : List CountView) × AreCounts (opcodes_of found.faulty) counts
+    × (text ≡ (if brief then [] else flat_map fault_line found.faulty) ++ flat_map count_line counts ++ flat_map (file_line found.faulty lines) paths
+    ++ (pass_note found.passes_first ++ characters_note found.has_characters) ++ read_line (length found.faulty) (length lines))

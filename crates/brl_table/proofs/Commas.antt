@@ -8,7 +8,7 @@ use Rattle.std.proofs.lemmas.Str.Pattern.{IsSplitOnceResult, split_once_first}
 use Rattle.brl_table.specs.Items.{is_comma, parts_of}
 
 -- a search that comes to the end of the list finds nothing
-none_there : (p : ℕ → Bool) (xs : List ℕ) → position_or_len p xs ≡ length xs → list_any p xs ≡ false
+pub none_there : (p : ℕ → Bool) (xs : List ℕ) → position_or_len p xs ≡ length xs → list_any p xs ≡ false
 none_there p [] h = refl
 none_there p (x ∷ xs) h = cases (p x) h (none_there p xs)
   where
@@ -16,7 +16,7 @@ none_there p (x ∷ xs) h = cases (p x) h (none_there p xs)
     cases true k more = cc
     cases false k more = more (omega (arith, k))
 
-one_there : (p : ℕ → Bool) (xs : List ℕ) → position_or_len p xs < length xs → list_any p xs ≡ true
+pub one_there : (p : ℕ → Bool) (xs : List ℕ) → position_or_len p xs < length xs → list_any p xs ≡ true
 one_there p [] h = absurd (omega (arith, h))
 one_there p (x ∷ xs) h = cases (p x) h (one_there p xs)
   where

@@ -14,3 +14,5 @@ pub mod OneTable
 pub mod Places
 pub mod SurveyLaws
 pub mod SurveySteps
+pub mod UnresolvedSteps
+pub mod SurveyWhole

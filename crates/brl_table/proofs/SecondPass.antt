@@ -29,7 +29,7 @@ use Rattle.brl_table.proofs.FirstPass.{aligned-items}
 use Rattle.brl_rules.proofs.Facts.{some_is}
 
 -- an element at a place within the list
-at : {X : Type 0} (xs : List X) (i : ℕ) → i < length xs → (x : X) × (slice_get xs i ≡ Some x)
+pub at : {X : Type 0} (xs : List X) (i : ℕ) → i < length xs → (x : X) × (slice_get xs i ≡ Some x)
 at [] i h = absurd (omega arith)
 at (x ∷ xs) zero h = (x, refl)
 at (x ∷ xs) (suc i) h = at xs i (omega (arith, h))
@@ -84,7 +84,7 @@ module _ (lines : List LineView) (items : List Item) (aligned : map Ok items ≡
       ∙ ap (λ xs. slice_get xs place) (sym aligned) ∙ slice_get-map Ok items place ∙ ap (option_map Ok) at)
 
   -- the fault that the second pass finds in a line, by the line's item
-  second-is : (place : ℕ) (line : LineView) (item : Item) → slice_get lines place ≡ Some line → slice_get items place ≡ Some item
+  pub second-is : (place : ℕ) (line : LineView) (item : Item) → slice_get lines place ≡ Some line → slice_get items place ≡ Some item
       → second_pass_fault lines place line ≡ reference_fault (over characters) line item
   second-is place line item there at =
       let F = files_of lines in

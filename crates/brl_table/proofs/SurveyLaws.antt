@@ -32,7 +32,7 @@ pub faulty-adds_none : (good : List Item) (found : Option Fault) (read : Result 
 faulty-adds_none good None read wrong h = cc
 faulty-adds_none good (Some other) read wrong h = refl
 
-none-faulty : (line : LineView) (found : Option Fault) → faulty_line_if line found ≡ [] → found ≡ None
+pub none-faulty : (line : LineView) (found : Option Fault) → faulty_line_if line found ≡ [] → found ≡ None
 none-faulty line None h = refl
 none-faulty line (Some wrong) h = cc
 
@@ -42,7 +42,7 @@ module _ (lines : List LineView) where
   abbrev Passes : ℕ → Type 0
   Passes place = PassesBefore (first_pass_fault lines) lines place
 
-  good-items : (place : ℕ) → place ≤ length lines → Passes place → good_items (files_of lines) (take place lines) ≡ items_of (files_of lines) (take place lines)
+  pub good-items : (place : ℕ) → place ≤ length lines → Passes place → good_items (files_of lines) (take place lines) ≡ items_of (files_of lines) (take place lines)
   good-items zero within passes = refl
   good-items (suc place) within passes =
       let files = files_of lines in

@@ -156,6 +156,11 @@ ResolvesLine characters line item old new (Ok done) =
     (reference_fault (over characters) line item ≡ None) × (new ≡ old ++ map (rule_of (over characters)) (used_in item))
 ResolvesLine characters line item old new (Err failure) = IfFault (λ found. reference_fault (over characters) line item ≡ Some found) failure
 
+-- the same of a line whose rule isn't kept
+abbrev pub FindsReference : List (ℕ × Info) → LineView → Item → Result (Unit {0}) (Failure Fault) → Type 0
+FindsReference characters line item (Ok done) = reference_fault (over characters) line item ≡ None
+FindsReference characters line item (Err failure) = IfFault (λ found. reference_fault (over characters) line item ≡ Some found) failure
+
 -- ---- both passes
 
 -- the lines pass both passes; these are their items, and these rules are the used ones

@@ -6,3 +6,4 @@ pub mod FaultText
 pub mod Survey
 pub mod ItemLimits
 pub mod Building
+pub mod Liblouis

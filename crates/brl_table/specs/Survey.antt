@@ -1,7 +1,8 @@
 -- The lines of a table that have a fault by themselves. A line with a fault defines nothing, so
 -- each line is read after the good lines before it. What one line can't show, as a character of a
--- rule that no line defines, is no part of this. The project's own choice.
-use Rattle.std.specs.Prelude.{ℕ, ◌≡◌, ◌≢◌, Bool, true, false, if◌then◌else◌, List, [], ◌∷◌, ◌++◌, flat_map, fold, take, slice_get, string_bytes, is_some, Option, Some, None}
+-- rule that no line defines, is looked for where no line has a fault by itself. The project's own
+-- choice.
+use Rattle.std.specs.Prelude.{ℕ, ◌≡◌, ◌≢◌, Bool, true, false, if◌then◌else◌, List, [], ◌∷◌, ◌++◌, ◌==◌, flat_map, fold, length, map, nat_lt, take, slice_get, string_bytes, codes, is_some, option_map, Option, Some, None}
 use Rattle.std.specs.List.{enumerate_from}
 use Rattle.std.specs.Option.{option_map_or}
 use Rattle.brl_failure.specs.Failure.{IfFault}
@@ -11,11 +12,12 @@ use Rattle.brl_lines.specs.Tokens.{LineView}
 use Rattle.brl_table.specs.FaultText.{LocatedFault, located_fault}
 use Rattle.brl_table.specs.Items.{Fault}
 use Rattle.brl_table.specs.Opcodes.{opcode_of}
-use Rattle.brl_table.specs.Reading.{fault_after, files_of, item_in, ok_of}
+use Rattle.brl_table.specs.Reading.{defined_characters, definitions, fault_after, files_of, item_in, ok_of, second_pass_fault}
 use Rattle.brl_table.specs.declared.item.Item.{Item}
 use Rattle.brl_table.specs.declared.opcode.Opcode.{Opcode}
 use Rattle.brl_table.specs.declared.opcode.Opcode.TheVariants.{Noback, Nofor}
 use Rattle.brl_table.specs.declared.faulty.FaultyLine.{FaultyLine}
+use Rattle.brl_table.specs.declared.faulty.Findings.{Findings}
 
 -- ---- The fault of each line
 
@@ -41,11 +43,13 @@ is_prefix (Some Noback) = true
 is_prefix (Some Nofor) = true
 is_prefix other = false
 
--- the opcode of a line: what follows `noback` or `nofor`, if anything does, and else its first word
+-- what follows `noback` or `nofor` in a line that begins with one of them, if anything does
+abbrev pub prefixed_word : LineView → Option (List ℕ)
+prefixed_word line = if is_prefix (opcode_of line.opcode.text) then option_map (λ token. token.text) (slice_get line.operands 0) else None
+
+-- the opcode of a line: its first word, and after a prefix and a blank what follows that
 abbrev pub named_opcode : LineView → List ℕ
-named_opcode line =
-    if is_prefix (opcode_of line.opcode.text) then option_map_or (λ token. token.text) (slice_get line.operands 0) line.opcode.text
-    else line.opcode.text
+named_opcode line = line.opcode.text ++ option_map_or (λ word. codes " " ++ word) (prefixed_word line) []
 
 -- a line with a fault: its opcode, and the fault
 pub record FaultyLineView : Type 0 where
@@ -65,10 +69,47 @@ abbrev pub faulty_line_if : LineView → Option Fault → List FaultyLineView
 faulty_line_if line None = []
 faulty_line_if line (Some wrong) = faulty_line line wrong ∷ []
 
--- the lines that have a fault, in order, each with its fault
+-- the lines at whose places there is a fault, in order, each with its fault
+abbrev pub lines_with : (ℕ → LineView → Option Fault) → List LineView → List FaultyLineView
+lines_with fault_at lines = flat_map (λ entry. faulty_line_if entry.1 (fault_at entry.0 entry.1)) (enumerate_from 0 lines)
+
+-- the lines that have a fault by themselves
 abbrev pub faulty_lines : List LineView → List FaultyLineView
-faulty_lines lines = flat_map (λ entry. faulty_line_if entry.1 (line_fault lines entry.0 entry.1)) (enumerate_from 0 lines)
+faulty_lines lines = lines_with (line_fault lines) lines
+
+-- the lines that have a fault of the second pass
+abbrev pub unresolved_lines : List LineView → List FaultyLineView
+unresolved_lines lines = lines_with (second_pass_fault lines) lines
 
 -- the line was found with this fault
 abbrev pub IsFaultyAs : LineView → Failure Fault → FaultyLine → Type 0
 IsFaultyAs line failure faulty = IfFault (λ wrong. faulty_line_view faulty ≡ faulty_line line wrong) failure × (failure ≢ failures.Memory)
+
+-- ---- The survey
+
+-- what a survey finds: the faulty lines, whether the first pass finds none, so that they are those
+-- of the second one, and whether a good line defines a character
+pub record FindingsView : Type 0 where
+  pub faulty : List FaultyLineView
+  pub passes_first : Bool
+  pub has_characters : Bool
+
+-- what a survey finds, as the code has it
+abbrev pub findings_view : Findings → FindingsView
+findings_view found = record { faulty = map faulty_line_view found.faulty.items; passes_first = found.passes_first; has_characters = found.has_characters }
+
+-- whether no line has a fault by itself
+abbrev pub passes_first : List LineView → Bool
+passes_first lines = length (faulty_lines lines) == 0
+
+-- whether one of the good lines defines a character
+abbrev pub has_characters : List LineView → Bool
+has_characters lines = nat_lt 0 (length (defined_characters (definitions (good_items (files_of lines) lines))))
+
+-- what a survey finds in these lines
+abbrev pub survey_of : List LineView → FindingsView
+survey_of lines = record {
+  faulty = if passes_first lines then unresolved_lines lines else faulty_lines lines;
+  passes_first = passes_first lines;
+  has_characters = has_characters lines;
+}

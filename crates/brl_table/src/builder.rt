@@ -1,5 +1,5 @@
 //! The table that a list of lines defines.
-ghost use Rattle.std.specs.Prelude.{◌≡◌, ◌≤◌, ◌∷◌, ◌++◌, [], false, All, IfOk, IfErr, List, OnOk, length, map, position, vec_len, string_bytes};
+ghost use Rattle.std.specs.Prelude.{◌≡◌, ◌≤◌, ◌<◌, ◌∷◌, ◌++◌, [], false, All, IfOk, IfErr, List, OnOk, length, map, nat_lt, position, slice_get, vec_len, string_bytes};
 ghost use Rattle.std.specs.Str.{bytes_eq};
 ghost use Rattle.brl_failure.specs.Failure.{IfFault};
 ghost use Rattle.brl_lines.specs.Views.{line_view};
@@ -10,6 +10,7 @@ ghost use Rattle.brl_rules.specs.Rank.{in_rank};
 ghost use Rattle.brl_table.specs.Building.{
   listed_with,
   over,
+  FindsReference,
   Adds,
   AreAdded,
   HaveRoles,
@@ -28,6 +29,8 @@ ghost use Rattle.brl_rules.specs.declared.rule.Rule.{Rule as RuleView};
 ghost use Rattle.brl_table.specs.Reading.{
   Listed,
   are_too_many,
+  defined_characters,
+  definitions,
   defined_entries,
   repeats_indicator as repeats_indicator_by,
   files_of,
@@ -229,6 +232,38 @@ impl TableBuilder {
             Item::Rules(_) | Item::Lists(_) | Item::Nothing => {}
         }
         Ok(())
+    }
+
+    /// Whether the items define a character.
+    pub(crate) fn has_characters(&self) -> bool
+        ensures { (items : List ItemView) → Represents items self.now.characters self.now.signs self.now.used →
+            result ≡ nat_lt 0 (length (defined_characters (definitions items))) }
+    {
+        self.characters.infos.len() > 0
+    }
+
+    /// Gives the characters that list lines name their roles, before the second pass.
+    pub(crate) fn mark_listed(&mut self)
+        requires { Represents self.old.items.items self.old.characters self.old.signs self.old.used }
+        ensures marked { HaveRoles self.old.items.items self.new.characters }
+        ensures items { self.new.items ≡ self.old.items }
+    {
+        apply_lists(self.items.as_slice(), &mut self.characters);
+    }
+
+    /// The second pass over the line at a place. Its rule is dropped.
+    pub(crate) fn resolve_at(
+        &self,
+        alloc: Global,
+        place: usize,
+        line: &Line<'_>,
+    ) -> Result<(), Failure<WordFault>>
+        requires { place < vec_len self.now.items }
+        ensures { (item : ItemView) → slice_get self.now.items.items place ≡ Some item →
+            FindsReference self.now.characters.infos.entries (line_view line.now) item result }
+    {
+        let mut rules = Vec::new(alloc);
+        self.resolve(alloc, line, &self.items[place], &mut rules)
     }
 
     /// The second pass over the lines. Returns the used rules in the order of the lines, or the

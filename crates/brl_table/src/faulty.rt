@@ -1,11 +1,21 @@
-//! The lines of a table that have a fault by themselves.
-ghost use Rattle.std.specs.Prelude.{◌≡◌, ◌↔◌, [], List, IfOk, Some, map, slice_get, string_bytes};
+//! The lines of a table that have a fault: by themselves or, where none has, among all lines.
+ghost use Rattle.std.specs.Prelude.{◌≡◌, ◌↔◌, [], List, IfOk, Some, map, option_map, slice_get, string_bytes};
 ghost use Rattle.brl_lines.specs.Tokens.{LineView};
 ghost use Rattle.brl_lines.specs.Views.{line_view};
 ghost use Rattle.brl_table.specs.Building.{AreWithinLimits, Represents};
 ghost use Rattle.brl_table.specs.FaultText.{located_fault};
-ghost use Rattle.brl_table.specs.Reading.{files_of, IsFaultOf, PassesFirst};
-ghost use Rattle.brl_table.specs.Survey.{IsFaultyAs, faulty_line_view, faulty_lines, named_opcode as opcode_by};
+ghost use Rattle.brl_table.specs.Reading.{files_of, items_of, IsFaultOf, PassesAll, PassesFirst};
+ghost use Rattle.brl_table.specs.Survey.{
+  IsFaultyAs,
+  faulty_line_view,
+  faulty_lines,
+  good_items,
+  named_opcode as opcode_by,
+  prefixed_word as prefixed_by,
+  survey_of,
+  findings_view,
+  unresolved_lines,
+};
 ghost use Rattle.brl_table.specs.declared.table_fault.TableFault.{TableFault as Fault};
 
 use crate::TableFault;
@@ -19,24 +29,50 @@ use std::alloc::{AllocError, Global};
 /// A line of a table that has a fault by itself.
 #[derive(Debug, Drop)]
 pub struct FaultyLine {
-    /// Its opcode: what follows `noback` or `nofor`, if anything does, and else its first word.
+    /// Its opcode: its first word, and after `noback` or `nofor` and a blank what follows that, if
+    /// anything does.
     pub opcode: String,
     pub fault: TableFault,
 }
 
-/// The lines that have a fault by themselves, in order, each with its fault. These are the faults
-/// of the first pass of `read_table`. A line with a fault defines nothing: each line is read after
-/// the good lines before it. A character that a rule or a list names and that no line defines is no
-/// fault of the line by itself.
-pub fn survey(alloc: Global, lines: &[Line<'_>]) -> Result<Vec<FaultyLine>, AllocError>
-    ensures { IfOk result (λ found. map faulty_line_view found.items ≡ faulty_lines (map line_view lines.now)) }
+/// What a survey finds in the lines of a table.
+#[derive(Debug, Drop)]
+pub struct Findings {
+    /// The lines that have a fault by themselves; where none has, those with a fault of the second
+    /// pass. They are in order.
+    pub faulty: Vec<FaultyLine>,
+    /// Whether no line has a fault by itself, so that the second pass is made.
+    pub passes_first: bool,
+    /// Whether a line without a fault by itself defines a character.
+    pub has_characters: bool,
+}
+
+/// The lines that have a fault, in order, each with its fault. These are the faults of the first
+/// pass of `read_table` and, where it finds none, those of the second one. A line with a fault of the
+/// first pass defines nothing: each line is read after the good lines before it. `AllocError` if
+/// memory runs out.
+pub fn survey(alloc: Global, lines: &[Line<'_>]) -> Result<Findings, AllocError>
+    ensures { IfOk result (λ found. findings_view found ≡ survey_of (map line_view lines.now)) }
 {
     let files = file_names(alloc, lines)?;
     let mut builder = TableBuilder::new(alloc);
-    find_faulty(alloc, &mut builder, files.as_slice(), lines)
+    let own = find_faulty(alloc, &mut builder, files.as_slice(), lines)?;
+    let has_characters = builder.has_characters();
+    let passes_first = own.is_empty();
+    let faulty = if passes_first {
+        find_unresolved(alloc, &mut builder, lines)?
+    } else {
+        own
+    };
+    Ok(Findings {
+        faulty,
+        passes_first,
+        has_characters,
+    })
 }
 
-/// The lines, of files with these names, that have a fault by themselves. The builder has none yet.
+/// The lines, of files with these names, that have a fault by themselves. The builder has none yet,
+/// and then has the others.
 fn find_faulty(
     alloc: Global,
     builder: &mut TableBuilder,
@@ -47,12 +83,35 @@ fn find_faulty(
     requires represents { Represents [] builder.old.characters builder.old.signs builder.old.used }
     requires within { AreWithinLimits builder.old.characters builder.old.signs builder.old.used }
     requires named { map string_bytes files.now ≡ files_of (map line_view lines.now) }
-    ensures { IfOk result (λ found. map faulty_line_view found.items ≡ faulty_lines (map line_view lines.now)) }
+    ensures found { IfOk result (λ found. map faulty_line_view found.items ≡ faulty_lines (map line_view lines.now)) }
+    ensures good { IfOk result (λ _. builder.new.items.items ≡ good_items (files_of (map line_view lines.now)) (map line_view lines.now)) }
+    ensures represents { IfOk result (λ _. Represents builder.new.items.items builder.new.characters builder.new.signs builder.new.used) }
 {
     let mut found = Vec::new(alloc);
     for line in lines {
         let file = place_of(files, line.file).unwrap();
         if let Err(failure) = builder.add(alloc, file, line) {
+            found.push(faulty_line(alloc, failure, line)?)?;
+        }
+    }
+    Ok(found)
+}
+
+/// The lines that have a fault of the second pass. None has one by itself, and the builder has all.
+fn find_unresolved(
+    alloc: Global,
+    builder: &mut TableBuilder,
+    lines: &[Line<'_>],
+) -> Result<Vec<FaultyLine>, AllocError>
+    requires passed { PassesFirst (map line_view lines.now) }
+    requires all { builder.old.items.items ≡ items_of (files_of (map line_view lines.now)) (map line_view lines.now) }
+    requires represents { Represents builder.old.items.items builder.old.characters builder.old.signs builder.old.used }
+    ensures { IfOk result (λ found. map faulty_line_view found.items ≡ unresolved_lines (map line_view lines.now)) }
+{
+    builder.mark_listed();
+    let mut found = Vec::new(alloc);
+    for (place, line) in lines.iter().enumerate() {
+        if let Err(failure) = builder.resolve_at(alloc, place, line) {
             found.push(faulty_line(alloc, failure, line)?)?;
         }
     }
@@ -70,29 +129,39 @@ fn faulty_line(
     let Failure::Fault(fault) = fault_at(alloc, failure, line) else {
         return Err(AllocError);
     };
-    let opcode = String::from_str(alloc, named_opcode(line))?;
+    let opcode = named_opcode(alloc, line)?;
     Ok(FaultyLine { opcode, fault })
 }
 
-/// The opcode of a line: what follows `noback` or `nofor`, if anything does, and else its first
-/// word.
-fn named_opcode<'a>(line: &Line<'a>) -> &'a str
-    ensures { result.now ≡ opcode_by (line_view line.now) }
+/// The opcode of a line: its first word, and after `noback` or `nofor` and a blank what follows that,
+/// if anything does.
+fn named_opcode(alloc: Global, line: &Line<'_>) -> Result<String, AllocError>
+    ensures { IfOk result (λ opcode. string_bytes opcode ≡ opcode_by (line_view line.now)) }
 {
-    let first = line.opcode.text;
-    match opcode_named(first) {
-        Some(Opcode::Noback | Opcode::Nofor) => line
-            .operands
-            .first()
-            .map_or(first, |next| next.text),
-        _ => first,
+    let mut opcode = String::from_str(alloc, line.opcode.text)?;
+    if let Some(word) = prefixed_word(line) {
+        opcode.push(' ')?;
+        opcode.push_str(word)?;
+    }
+    Ok(opcode)
+}
+
+/// What follows `noback` or `nofor` in a line that begins with one of them, if anything does.
+fn prefixed_word<'a>(line: &Line<'a>) -> Option<&'a str>
+    ensures { option_map (λ word. word.now) result ≡ prefixed_by (line_view line.now) }
+{
+    match opcode_named(line.opcode.text) {
+        Some(Opcode::Noback | Opcode::Nofor) => line.operands.first().map(|next| next.text),
+        _ => None,
     }
 }
 
-/// A survey finds no line exactly where the first pass finds none. Where that finds the first fault
-/// of the lines, it is that of the first line found.
+/// A survey finds no line with a fault by itself exactly where the first pass finds none. Where that
+/// finds the first fault of the lines, it is that of the first line found. It finds no faulty line at
+/// all exactly where both passes find none, so that the lines define a table.
 pub fn survey_laws()
     ensures none { (lines : List LineView) → (faulty_lines lines ≡ []) ↔ PassesFirst lines }
     ensures first { (lines : List LineView) (found : Fault) → IsFaultOf lines found → (PassesFirst lines → ⊥) →
         slice_get (map (λ faulty. faulty.fault) (faulty_lines lines)) 0 ≡ Some (located_fault found) }
+    ensures all { (lines : List LineView) → ((survey_of lines).faulty ≡ []) ↔ PassesAll lines }
 {}

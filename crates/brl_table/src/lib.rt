@@ -1,8 +1,8 @@
 //! Reads tables: from the lines of a table's files to the table that they define.
 //!
 //! A line is read to an `Item` by itself; a `TableBuilder` adds up the items in a first pass, and
-//! resolves the characters of rules and lists in a second one. `survey` lists the lines that have a
-//! fault by themselves. `TableFault` is why lines define no table, `NoTable` why files define none.
+//! resolves the characters of rules and lists in a second one. `survey` lists the lines with a
+//! fault of the first pass or, where none has one, of the second. `TableFault` is why lines define no table, `NoTable` why files define none.
 //! A table with its rules, classes and indicators is defined in `brl_rules`, and all of that crate
 //! is reached from here: `Table`, `Rule`, `Info`, `Class`.
 //!
@@ -23,6 +23,7 @@ mod characters;
 mod faulty;
 mod files;
 mod item;
+mod liblouis;
 mod line;
 mod no_table;
 mod opcode;
@@ -34,7 +35,8 @@ pub use brl_rules::{
     choice_laws, holds, rank_law, signs_law, translation_laws, unambiguous_law,
 };
 pub use builder::read_table;
-pub use faulty::{FaultyLine, survey, survey_laws};
+pub use faulty::{FaultyLine, Findings, survey, survey_laws};
 pub use files::{load_table, one_table_law, table_of_loaded};
+pub use liblouis::{OpcodeOrigin, origin_of};
 pub use no_table::NoTable;
 pub use table_fault::{TableFault, TableFaultKind};

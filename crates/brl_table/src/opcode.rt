@@ -61,7 +61,7 @@ fn character_opcode(word: &str) -> Option<Opcode>
 }
 
 /// The opcode of a word, if it is a place opcode.
-fn place_opcode(word: &str) -> Option<Opcode>
+pub(crate) fn place_opcode(word: &str) -> Option<Opcode>
     ensures { result ≡ entry_of place_opcodes word.now }
 {
     match word {

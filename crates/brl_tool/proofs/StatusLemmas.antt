@@ -94,7 +94,7 @@ module _ (before after : World) (same_file : MayBeSame) where
         ((λ done. tt), (λ refuted. ((path.now, chars left.now, chars right.now, cells, t, table, clash, subst (Prints before after) says.1 prints), subst (FilesAfter before.gives after.gives) says.2 files)))
     | inr (l, r, none, says) ↦ ((λ done. tt), (λ refuted. let e = sym says.0 ∙ refuted in cc))
   ]
-  means (question.Survey paths) answer (parts, named, are, says) files prints = ((λ done. tt), (λ refuted. absurd (unrefuted _ (sym says.0 ∙ refuted))))
+  means (question.Survey paths brief) answer (parts, named, are, says) files prints = ((λ done. tt), (λ refuted. absurd (unrefuted _ (sym says.0 ∙ refuted))))
   means (question.Trace path text) answer (t, table, (known, says)) files prints = ((λ done. tt), (λ refuted. let e = sym says.0 ∙ refuted in cc))
   means (question.Check path cert option) answer is files prints =
       let (left_out, spelled, judges) = left_out_by (option_copied option) (λ left_out. Judges left_out before.gives path.now cert.now) answer is in
@@ -139,7 +139,7 @@ module _ (before after : World) (same_file : MayBeSame) where
   keeps (question.Search path out limit option) outcome status is delivers = tt
   keeps (question.Clash path left right) (Ok answer) status (t, table, is) (written, writes, e) =
       none_changes before after answer written (comparison_has_none t (chars left.now) (chars right.now) answer is) writes
-  keeps (question.Survey paths) (Ok answer) status (parts, named, are, says) (written, writes, e) = none_changes before after answer written says.2 writes
+  keeps (question.Survey paths brief) (Ok answer) status (parts, named, are, says) (written, writes, e) = none_changes before after answer written says.2 writes
   keeps (question.Trace path text) (Ok answer) status (t, table, (known, says)) (written, writes, e) = none_changes before after answer written says.2 writes
   keeps (question.Check path cert option) (Ok answer) status is (written, writes, e) =
       let (left_out, spelled, judges) = left_out_by (option_copied option) (λ left_out. Judges left_out before.gives path.now cert.now) answer is in

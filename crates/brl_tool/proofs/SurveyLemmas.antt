@@ -10,26 +10,26 @@ use Rattle.brl_failure.specs.declared.failure.Failure.TheVariants as failures
 use Rattle.brl_lines.specs.Answer.{Unchanged, FileAnswer, FileAnswers}
 use Rattle.brl_lines.specs.Outcome.{IsLoadFault}
 use Rattle.brl_lines.specs.declared.fault.LoadFault.{LoadFault}
-use Rattle.brl_answers.proofs.Moved.{lines_moved, load_fault_moved}
+use Rattle.brl_answers.proofs.Moved.{file_lines_moved, load_fault_moved}
 use Rattle.brl_tool.specs.Surveying.{IsPart, IsReportAt, Part, part_text, survey_status, text_of_part}
 use Rattle.brl_answers.specs.declared.status.Status.{Status}
 use Rattle.brl_answers.specs.declared.status.Status.TheVariants.{Done, Faulty}
 
 -- the tables at these paths were surveyed, and this is the text and the status so far
-pub record IsSoFar (gives : FileAnswers) (several : Bool) (paths : List (List ℕ)) (text : List ℕ) (status : Status) : Type 0 where
+pub record IsSoFar (brief : Bool) (gives : FileAnswers) (several : Bool) (paths : List (List ℕ)) (text : List ℕ) (status : Status) : Type 0 where
   pub parts : List Part
   pub named : map (λ part. part.path) parts ≡ paths
-  pub are : All (IsPart gives) parts
+  pub are : All (IsPart brief gives) parts
   pub text_is : text ≡ flat_map (text_of_part several) parts
   pub status_is : status ≡ survey_status parts
 
-pub none-yet : (gives : FileAnswers) (several : Bool) → IsSoFar gives several [] [] Done
-none-yet gives several = record { parts = []; named = refl; are = All-nil (IsPart gives); text_is = refl; status_is = refl }
+pub none-yet : (brief : Bool) (gives : FileAnswers) (several : Bool) → IsSoFar brief gives several [] [] Done
+none-yet brief gives several = record { parts = []; named = refl; are = All-nil (IsPart brief gives); text_is = refl; status_is = refl }
 
 -- the same of equal paths, texts and statuses
-pub so-far-moved : (gives : FileAnswers) (several : Bool) {paths paths' : List (List ℕ)} {text text' : List ℕ} {status status' : Status} → paths' ≡ paths → text' ≡ text → status' ≡ status
-    → IsSoFar gives several paths text status → IsSoFar gives several paths' text' status'
-so-far-moved gives several named is turned so_far = record {
+pub so-far-moved : (brief : Bool) (gives : FileAnswers) (several : Bool) {paths paths' : List (List ℕ)} {text text' : List ℕ} {status status' : Status} → paths' ≡ paths → text' ≡ text → status' ≡ status
+    → IsSoFar brief gives several paths text status → IsSoFar brief gives several paths' text' status'
+so-far-moved brief gives several named is turned so_far = record {
   parts = so_far.parts;
   named = so_far.named ∙ sym named;
   are = so_far.are;
@@ -43,18 +43,18 @@ status-step true false = refl
 status-step false true = refl
 status-step false false = refl
 
-module _ (gives now : FileAnswers) (same : Unchanged gives now) (several : Bool) (paths : List (List ℕ)) (text : List ℕ) (status : Status) (so_far : IsSoFar gives several paths text status) (path : List ℕ) where
+module _ (brief : Bool) (gives now : FileAnswers) (same : Unchanged gives now) (several : Bool) (paths : List (List ℕ)) (text : List ℕ) (status : Status) (so_far : IsSoFar brief gives several paths text status) (path : List ℕ) where
   back : (p : List ℕ) (a : FileAnswer) → now p a → gives p a
   back p a = (same p a).0
 
-  one-more : (report : Option (List ℕ)) (after : List ℕ) (later : Status) → IsPart gives (record { path = path; report = report }) → after ≡ text ++ text_of_part several (record { path = path; report = report })
-      → later ≡ cond (is_some report) status Faulty → IsSoFar gives several (paths ++ path ∷ []) after later
+  one-more : (report : Option (List ℕ)) (after : List ℕ) (later : Status) → IsPart brief gives (record { path = path; report = report }) → after ≡ text ++ text_of_part several (record { path = path; report = report })
+      → later ≡ cond (is_some report) status Faulty → IsSoFar brief gives several (paths ++ path ∷ []) after later
   one-more report after later is added turned =
       let part : Part = record { path = path; report = report } in
       record {
         parts = so_far.parts ++ part ∷ [];
         named = map-append (λ p. p.path) so_far.parts (part ∷ []) ∙ ap (λ ps. ps ++ path ∷ []) so_far.named;
-        are = All-push (IsPart gives) so_far.parts part so_far.are is;
+        are = All-push (IsPart brief gives) so_far.parts part so_far.are is;
         text_is = added ∙ ap (λ t. t ++ text_of_part several part) so_far.text_is
             ∙ sym (flat_map-append (text_of_part several) so_far.parts (part ∷ []) ∙ ap (λ t. flat_map (text_of_part several) so_far.parts ++ t) (append-nil (text_of_part several part)));
         status_is = turned ∙ ap (λ s. cond (is_some report) s Faulty) so_far.status_is ∙ status-step (list_all (λ p. is_some p.report) so_far.parts) (is_some report)
@@ -62,9 +62,9 @@ module _ (gives now : FileAnswers) (same : Unchanged gives now) (several : Bool)
       }
 
   -- a table that was loaded
-  pub with-report : (report after : List ℕ) → IsReportAt now path report → after ≡ text ++ part_text several path report → IsSoFar gives several (paths ++ path ∷ []) after status
-  with-report report after is added = one-more (Some report) after status (is.0, lines_moved now gives back path is.0 is.1, is.2) added refl
+  pub with-report : (report after : List ℕ) → IsReportAt brief now path report → after ≡ text ++ part_text several path report → IsSoFar brief gives several (paths ++ path ∷ []) after status
+  with-report report after is added = one-more (Some report) after status (is.0, is.1, file_lines_moved now gives back path is.0 is.1 is.2, is.3) added refl
 
   -- a table that can't be loaded
-  pub without-report : (fault : LoadFault) (later : Status) → IsLoadFault now path (failures.Fault fault) → later ≡ Faulty → IsSoFar gives several (paths ++ path ∷ []) text later
+  pub without-report : (fault : LoadFault) (later : Status) → IsLoadFault now path (failures.Fault fault) → later ≡ Faulty → IsSoFar brief gives several (paths ++ path ∷ []) text later
   without-report fault later is turned = one-more None text later (fault, load_fault_moved now gives back path fault is) (sym (append-nil text)) turned

@@ -40,7 +40,7 @@ use Rattle.brl_without.specs.Tables.{IsUnambiguousWithout}
 -- the answer of a command, with the paths, texts, option and limit that it has
 abbrev pub Answers : Question → FileAnswers → MayBeSame → Result Answer RunFault → Type 0
 Answers (question.Clash path left right) gives same outcome = ComparesByFile gives path.now (chars left.now) (chars right.now) outcome
-Answers (question.Survey paths) gives same outcome = SurveysByFiles gives (map (λ path. path.now) paths.items) outcome
+Answers (question.Survey paths brief) gives same outcome = SurveysByFiles brief gives (map (λ path. path.now) paths.items) outcome
 Answers (question.Trace path text) gives same outcome = TracesByFile gives path.now (chars text.now) outcome
 Answers (question.Check path cert option) gives same outcome =
     ByLeftOut (option_copied option) (λ left_out. Judges left_out gives path.now cert.now) outcome

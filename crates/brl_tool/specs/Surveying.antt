@@ -4,10 +4,10 @@ use Rattle.std.specs.List.{list_all}
 use Rattle.std.specs.Option.{option_map_or}
 use Rattle.brl_failure.specs.declared.failure.Failure.TheVariants as failures
 use Rattle.brl_lines.specs.Answer.{FileAnswers}
-use Rattle.brl_lines.specs.Outcome.{AreLinesOf, IsLoadFault}
+use Rattle.brl_lines.specs.Outcome.{AreLinesOfFiles, IsLoadFault}
 use Rattle.brl_lines.specs.Tokens.{LineView}
 use Rattle.brl_lines.specs.declared.fault.LoadFault.{LoadFault}
-use Rattle.brl_table.specs.Survey.{faulty_lines}
+use Rattle.brl_table.specs.Survey.{survey_of}
 use Rattle.brl_report.specs.Survey.{IsSurveyText}
 use Rattle.brl_answers.specs.Answers.{HasTextAndStatus, UnlessMemory}
 use Rattle.brl_answers.specs.declared.answer.Answer.{Answer}
@@ -16,8 +16,9 @@ use Rattle.brl_answers.specs.declared.status.Status.{Status}
 use Rattle.brl_answers.specs.declared.status.Status.TheVariants.{Done, Faulty}
 
 -- the text is the report of a survey of the lines of the table at a path
-abbrev pub IsReportAt : FileAnswers → List ℕ → List ℕ → Type 0
-IsReportAt gives path text = (lines : List LineView) × AreLinesOf gives path lines × IsSurveyText (faulty_lines lines) (length lines) text
+abbrev pub IsReportAt : Bool → FileAnswers → List ℕ → List ℕ → Type 0
+IsReportAt brief gives path text =
+    (paths : List (List ℕ)) × (lines : List LineView) × AreLinesOfFiles gives path paths lines × IsSurveyText brief (survey_of lines) lines paths text
 
 -- a table of a survey: its path, and its report if it can be loaded
 pub record Part : Type 0 where
@@ -25,13 +26,13 @@ pub record Part : Type 0 where
   pub report : Option (List ℕ)
 
 -- the report is that of the table at a path, or the table can't be loaded
-abbrev pub IsReportIfLoaded : FileAnswers → List ℕ → Option (List ℕ) → Type 0
-IsReportIfLoaded gives path (Some text) = IsReportAt gives path text
-IsReportIfLoaded gives path None = (fault : LoadFault) × IsLoadFault gives path (failures.Fault fault)
+abbrev pub IsReportIfLoaded : Bool → FileAnswers → List ℕ → Option (List ℕ) → Type 0
+IsReportIfLoaded brief gives path (Some text) = IsReportAt brief gives path text
+IsReportIfLoaded brief gives path None = (fault : LoadFault) × IsLoadFault gives path (failures.Fault fault)
 
 -- the same of a part
-abbrev pub IsPart : FileAnswers → Part → Type 0
-IsPart gives part = IsReportIfLoaded gives part.path part.report
+abbrev pub IsPart : Bool → FileAnswers → Part → Type 0
+IsPart brief gives part = IsReportIfLoaded brief gives part.path part.report
 
 -- a report; where there are several tables, after a line with the path
 abbrev pub part_text : Bool → List ℕ → List ℕ → List ℕ
@@ -49,12 +50,13 @@ survey_status parts = if list_all (λ part. is_some part.report) parts then Done
 abbrev pub no_verdict : List ℕ
 no_verdict = codes "no verdict: a survey doesn't decide whether two texts have the same cells\n"
 
--- the answer of a survey of the tables at these paths: a part for each, in order, and a last line
-abbrev pub IsSurvey : FileAnswers → List (List ℕ) → Answer → Type 0
-IsSurvey gives paths answer =
-    (parts : List Part) × (map (λ part. part.path) parts ≡ paths) × All (IsPart gives) parts
+-- the answer of a survey of the tables at these paths, brief or not: a part for each, in order, and
+-- a last line
+abbrev pub IsSurvey : Bool → FileAnswers → List (List ℕ) → Answer → Type 0
+IsSurvey brief gives paths answer =
+    (parts : List Part) × (map (λ part. part.path) parts ≡ paths) × All (IsPart brief gives) parts
     × HasTextAndStatus (survey_status parts) (flat_map (text_of_part (nat_lt 1 (length paths))) parts ++ no_verdict) answer
 
 -- the tables at these paths were surveyed
-abbrev pub SurveysByFiles : FileAnswers → List (List ℕ) → Result Answer RunFault → Type 0
-SurveysByFiles gives paths outcome = UnlessMemory (IsSurvey gives paths) outcome
+abbrev pub SurveysByFiles : Bool → FileAnswers → List (List ℕ) → Result Answer RunFault → Type 0
+SurveysByFiles brief gives paths outcome = UnlessMemory (IsSurvey brief gives paths) outcome

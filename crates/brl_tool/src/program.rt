@@ -120,7 +120,9 @@ fn answer<F: Files, E: Write + Progress>(
 {
     match question {
         Question::Clash { table, left, right } => compare_by_file(alloc, files, table, left, right),
-        Question::Survey { tables } => survey_by_files(alloc, files, tables.as_slice(), err),
+        Question::Survey { tables, brief } => {
+            survey_by_files(alloc, files, tables.as_slice(), brief, err)
+        }
         Question::Trace { table, text } => trace_by_file(alloc, files, table, text),
         Question::Check {
             table,

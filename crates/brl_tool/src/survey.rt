@@ -1,8 +1,8 @@
 //! `brl survey`: the lines of tables that are outside the profile or faulty.
-ghost use Rattle.std.specs.Prelude.{◌≡◌, ◌++◌, IfErr, IfOk, OnOk, length, map, string_bytes};
+ghost use Rattle.std.specs.Prelude.{◌≡◌, ◌++◌, IfErr, IfOk, OnOk, map, string_bytes};
 ghost use Rattle.brl_lines.specs.Answer.{Unchanged};
 ghost use Rattle.brl_lines.specs.Outcome.{CountsFailure, IsLoadFault};
-ghost use Rattle.brl_table.specs.Survey.{faulty_lines};
+ghost use Rattle.brl_table.specs.Survey.{survey_of};
 ghost use Rattle.brl_report.specs.Survey.{IsSurveyText};
 ghost use Rattle.brl_tool.specs.Surveying.{IsReportAt, SurveysByFiles, part_text};
 ghost use Rattle.brl_answers.specs.declared.status.Status.TheVariants as statuses;
@@ -16,23 +16,24 @@ use std::alloc::{AllocError, Global};
 use std::io::Write;
 
 /// Surveys the tables whose files are at these paths. The answer has the report of each table that
-/// can be loaded, after a line that names it where there are several paths, and then a line that
+/// can be loaded, without its faults where it is to be brief, after a line that names it where there are several paths, and then a line that
 /// there is no verdict. Standard error gets a line for each table that can't be loaded; then the
 /// status is that of a fault.
 pub fn survey_by_files<S: Source, E: Write>(
     alloc: Global,
     source: &mut S,
     paths: &[&str],
+    brief: bool,
     err: &mut E,
 ) -> Result<Answer, RunFault>
-    ensures surveys { SurveysByFiles (S.gives source.old) (map (λ path. path.now) paths.now) result }
+    ensures surveys { SurveysByFiles brief (S.gives source.old) (map (λ path. path.now) paths.now) result }
     ensures same { Unchanged (S.gives source.old) (S.gives source.new) }
 {
     let several = paths.len() > 1;
     let mut text = String::new(alloc);
     let mut status = Status::Done;
     for path in paths {
-        match report_at(alloc, source, path) {
+        match report_at(alloc, source, path, brief) {
             Ok(report) => push_part(&mut text, several, path, report.as_str())?,
             Err(Failure::Fault(fault)) => status = refuse_table(fault, err),
             Err(Failure::Memory) => return Err(RunFault::Memory),
@@ -66,21 +67,24 @@ fn report_at<S: Source>(
     alloc: Global,
     source: &mut S,
     path: &str,
+    brief: bool,
 ) -> Result<String, Failure<LoadFault>>
-    ensures report { IfOk result (λ text. IsReportAt (S.gives source.old) path.now (string_bytes text)) }
+    ensures report { IfOk result (λ text. IsReportAt brief (S.gives source.old) path.now (string_bytes text)) }
     ensures fault { IfErr result (IsLoadFault (S.gives source.old) path.now) }
     ensures count { CountsFailure (S.faults source.old) (S.faults source.new) result }
     ensures same { Unchanged (S.gives source.old) (S.gives source.new) }
 {
     let loaded = load(alloc, source, path)?;
-    Ok(report_of(alloc, &loaded)?)
+    Ok(report_of(alloc, &loaded, brief)?)
 }
 
 /// The report of loaded files.
-fn report_of(alloc: Global, loaded: &Loaded) -> Result<String, AllocError>
-    ensures { IfOk result (λ text. IsSurveyText (faulty_lines loaded.now.lines) (length loaded.now.lines) (string_bytes text)) }
+fn report_of(alloc: Global, loaded: &Loaded, brief: bool) -> Result<String, AllocError>
+    ensures { let lines = loaded.now.lines in
+        IfOk result (λ text. IsSurveyText brief (survey_of lines) lines loaded.now.paths (string_bytes text)) }
 {
     let lines = loaded.lines(alloc)?;
+    let paths = loaded.paths(alloc)?;
     let found = survey(alloc, lines.as_slice())?;
-    survey_report(alloc, found.as_slice(), lines.len())
+    survey_report(alloc, &found, lines.as_slice(), paths.as_slice(), brief)
 }

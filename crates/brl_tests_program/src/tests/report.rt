@@ -1,11 +1,11 @@
 //! Worked reports.
 use brl_forward::confirm;
-use brl_lines::Line;
+use brl_lines::{Line, Loaded};
 use brl_report::{report, survey_report, trace_report};
 use brl_rules::Table;
 use brl_table::survey;
 use brl_testing::{
-    chars, field_of, for_rows_of_2, for_tables_of_3, for_tables_of_4, lend, with_lines,
+    chars, field_of, for_rows_of_2, for_tables_of_3, for_tables_of_4, lend, loaded_of,
 };
 use std::alloc::Global;
 use std::test::Fail;
@@ -58,25 +58,57 @@ fn worked_traces(rt: HostRuntime) -> Result<(), Fail> {
 
 /// Lines, and those of the report of their survey.
 const SURVEYS: &str = "\
-|0 of 0 lines are read
+|no line defines a character; 0 of 0 lines are read
 letter a 1|1 of 1 lines are read
-letter a 1; pass2 @1 @2; letter b 9; pass2 @2 @3|B1 OutsideProfile pass2 at t.ctb:2; B4 BadDots 9 at t.ctb:3; B1 OutsideProfile pass2 at t.ctb:4; opcode pass2: 2; opcode letter: 1; 1 of 4 lines are read
-zeta; context; letter a 1|B1 OutsideProfile zeta at t.ctb:1; B1 OutsideProfile context at t.ctb:2; opcode context: 1; opcode zeta: 1; 1 of 3 lines are read
-b x; a x; b y; c z; a w; b q|B1 OutsideProfile b at t.ctb:1; B1 OutsideProfile a at t.ctb:2; B1 OutsideProfile b at t.ctb:3; B1 OutsideProfile c at t.ctb:4; B1 OutsideProfile a at t.ctb:5; B1 OutsideProfile b at t.ctb:6; opcode b: 3; opcode a: 2; opcode c: 1; 0 of 6 lines are read
+letter a 1; pass2 @1 @2; letter b 9; pass2 @2 @3|B1 OutsideProfile pass2 at t.ctb:2; B4 BadDots 9 at t.ctb:3; B1 OutsideProfile pass2 at t.ctb:4; opcode pass2: 2 (not in the profile); opcode letter: 1; file t.ctb: 1 of 4 lines are read; undefined characters (B5 to B7) are looked for once no line has another fault; 1 of 4 lines are read
+zeta; context; noback sign x 1; nofor zeta; noback word x 9; letter a 1|B1 OutsideProfile zeta at t.ctb:1; B1 OutsideProfile context at t.ctb:2; B1 OutsideProfile sign at t.ctb:3; B1 OutsideProfile zeta at t.ctb:4; B4 BadDots 9 at t.ctb:5; opcode context: 1 (not in the profile); opcode noback sign: 1 (not in the profile); opcode noback word: 1; opcode nofor zeta: 1 (not in liblouis); opcode zeta: 1 (not in liblouis); file t.ctb: 1 of 6 lines are read; undefined characters (B5 to B7) are looked for once no line has another fault; 1 of 6 lines are read
+b x; a x; b y; c z; a w; b q|B1 OutsideProfile b at t.ctb:1; B1 OutsideProfile a at t.ctb:2; B1 OutsideProfile b at t.ctb:3; B1 OutsideProfile c at t.ctb:4; B1 OutsideProfile a at t.ctb:5; B1 OutsideProfile b at t.ctb:6; opcode b: 3 (not in liblouis); opcode a: 2 (not in liblouis); opcode c: 1 (not in liblouis); file t.ctb: 0 of 6 lines are read; undefined characters (B5 to B7) are looked for once no line has another fault; no line defines a character; 0 of 6 lines are read
+letter a 1; always ab 2; word a 3; nofor always c 4|B5 UndefinedInRule ab at t.ctb:2; B5 UndefinedInRule c at t.ctb:4; opcode always: 1; opcode nofor always: 1; file t.ctb: 2 of 4 lines are read; 2 of 4 lines are read
 ";
 
-fn surveyed_lines(alloc: Global, lines: &[Line<'_>]) -> Result<String, Fail> {
-    let text = lend(survey(alloc, lines)?, |found| {
-        survey_report(alloc, found.as_slice(), lines.len())
-    })?;
+/// The same of brief reports.
+const BRIEF_SURVEYS: &str = "\
+letter a 1|1 of 1 lines are read
+letter a 1; pass2 @1 @2; letter b 9|opcode letter: 1; opcode pass2: 1 (not in the profile); file t.ctb: 1 of 3 lines are read; undefined characters (B5 to B7) are looked for once no line has another fault; 1 of 3 lines are read
+letter a 1; always ab 2|opcode always: 1; file t.ctb: 1 of 2 lines are read; 1 of 2 lines are read
+";
+
+fn surveyed_lines(
+    alloc: Global,
+    lines: &[Line<'_>],
+    paths: &[&str],
+    brief: bool,
+) -> Result<String, Fail> {
+    let text = lend(
+        survey(alloc, lines)?,
+        |found| survey_report(alloc, found, lines, paths, brief),
+    )?;
     field_of(alloc, text.as_str())
 }
 
-fn surveyed(alloc: Global, field: &str) -> Result<String, Fail> {
-    with_lines(alloc, field, |lines| surveyed_lines(alloc, lines))
+fn surveyed(alloc: Global, loaded: &Loaded, brief: bool) -> Result<String, Fail> {
+    let lines = loaded.lines(alloc)?;
+    let paths = loaded.paths(alloc)?;
+    surveyed_lines(alloc, lines.as_slice(), paths.as_slice(), brief)
+}
+
+fn surveyed_of(alloc: Global, field: &str, brief: bool) -> Result<String, Fail> {
+    lend(
+        loaded_of(alloc, field)?,
+        |loaded| surveyed(alloc, loaded, brief),
+    )
 }
 
 #[test]
 fn worked_surveys(rt: HostRuntime) -> Result<(), Fail> {
-    for_rows_of_2(rt.alloc(), SURVEYS, surveyed)
+    for_rows_of_2(
+        rt.alloc(),
+        SURVEYS,
+        |alloc, field| surveyed_of(alloc, field, false),
+    )?;
+    for_rows_of_2(
+        rt.alloc(),
+        BRIEF_SURVEYS,
+        |alloc, field| surveyed_of(alloc, field, true),
+    )
 }
