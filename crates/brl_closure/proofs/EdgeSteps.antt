@@ -1,24 +1,13 @@
 -- The steps of a state have edges, one step after the other.
-use Rattle.std.proofs.Common.{◌≡◌, ℕ, ◌+◌, List, [], ◌∷◌, ◌++◌, inl, inr, length, Some, slice_get, sym, ◌∙◌, ap, subst, arith}
+use Rattle.std.proofs.Common.{◌≡◌, ℕ, ◌+◌, List, [], ◌∷◌, ◌++◌, length, Some, slice_get, sym, subst}
 use Rattle.brl_pairs.specs.Edges.{AreEdges, AreFirstEdges, IsEdge}
 use Rattle.brl_pairs.specs.declared.edge.Edge.{Edge}
 use Rattle.brl_pairs.specs.Runs.{Behaviour, IsListedAt}
 use Rattle.brl_pairs.specs.declared.step.Step.{Step}
-use Rattle.brl_pairs.proofs.Lists.{length_push, push_cases, same_place}
+use Rattle.brl_pairs.proofs.Lists.{same_place}
+use Rattle.brl_closure.proofs.Edges.{first_edges_push}
 
 module _ {S : Type 0} where
-  first_edges_push : (states : List S) (listed : List (Step S)) (n : ℕ) (edges : List Edge) (x : Step S) (e : Edge) → AreFirstEdges states listed n edges → IsListedAt listed n x → IsEdge states x e → AreFirstEdges states listed (n + 1) (edges ++ e ∷ [])
-  first_edges_push states listed n edges x e h at is = record {
-    count = omega (arith, length_push edges e, h.count);
-    each = λ place y f y_at f_at. elim (push_cases edges e place f f_at) [
-      | inl before ↦ h.each place y f y_at before
-      | inr last ↦ (
-          let here : place ≡ n = last.0 ∙ h.count in
-          let same_step : x ≡ y = same_place listed n x y at (ap (slice_get listed) (sym here) ∙ y_at) in
-          subst (λ (g : Edge). IsEdge states y g) last.1 (subst (λ (z : Step S). IsEdge states z e) same_step is))
-    ];
-  }
-
   -- a step of the loop over the steps of a state
   pub edge_step : (m : Behaviour S) (states : List S) (number : ℕ) (s : S) → slice_get states number ≡ Some s → (n k : ℕ) (edges now : List Edge) (x : Step S) (e : Edge) → AreFirstEdges states (m.steps s) n edges
       → IsListedAt (m.steps s) n x → k ≡ n + 1 → IsEdge states x e → now ≡ edges ++ e ∷ [] → (r : S) → slice_get states number ≡ Some r → AreFirstEdges states (m.steps r) k now

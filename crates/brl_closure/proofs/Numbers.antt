@@ -1,9 +1,9 @@
 -- The pairs and the steps that a body's numbers name.
-use Rattle.std.proofs.Common.{◌≡◌, ℕ, All, ◌<◌, List, inl, inr, length, get_or, Option, Some, None, slice_get, refl, sym, ◌∙◌, ap, subst, arith}
+use Rattle.std.proofs.Common.{◌≡◌, ℕ, All, ◌<◌, List, inl, inr, length, get_or, Some, slice_get, sym, ◌∙◌, ap, subst, arith}
 use Rattle.std.proofs.lemmas.Option.{slice_get_within}
 use Rattle.brl_pairs.specs.Members.{HaveOneNumber}
 use Rattle.brl_pairs.specs.Body.{BodyView, IsPairOf, NumberPair}
-use Rattle.brl_pairs.specs.Sets.{pair_at, pair_of, sets_of}
+use Rattle.brl_pairs.specs.Sets.{pair_at, sets_of}
 use Rattle.brl_pairs.specs.Edges.{AreEdges, IsEdge}
 use Rattle.brl_pairs.specs.NumberPairs.{IsThere}
 use Rattle.brl_pairs.specs.declared.edge.Edge.{Edge}
@@ -12,6 +12,8 @@ use Rattle.brl_pairs.specs.Runs.{Behaviour, IsListedAt}
 use Rattle.brl_pairs.specs.declared.step.Pair.{Pair}
 use Rattle.brl_pairs.specs.declared.step.Step.{Step}
 use Rattle.brl_pairs.proofs.Lists.{inside, same_place}
+use Rattle.brl_closure.proofs.Naming as naming
+use Rattle.brl_closure.proofs.Naming.{Names, NamedAt}
 
 -- a pair that is read is in range
 pub range_read : (states : ℕ) (pairs read : List NumberPair) → read ≡ pairs → All (IsPairOf states) pairs → (k : ℕ) → k < length pairs → (q : NumberPair) → q ≡ get_or read k q → IsPairOf states q
@@ -24,53 +26,13 @@ module _ {S : Type 0} where
 
   -- ---- Pairs
 
-  -- the pair's states are those that the numbers name
-  pub record Names (states : List S) (q : NumberPair) (p : Pair S) : Type 0 where
-    pub ahead : slice_get states q.ahead ≡ Some p.ahead
-    pub behind : slice_get states q.behind ≡ Some p.behind
-    pub lead : q.lead ≡ p.lead
-
-  abbrev put : Option S → Option S → List ℕ → Option (Pair S)
-  put None b lead = None
-  put (Some a) None lead = None
-  put (Some a) (Some b) lead = Some (record { ahead = a; behind = b; lead = lead })
-
-  same_put : (states : List S) (q : NumberPair) (a b : Option S) → slice_get states q.ahead ≡ a → slice_get states q.behind ≡ b → pair_of states q ≡ put a b q.lead
-  same_put states q None b a_is b_is = rw a_is
-  same_put states q (Some a) None a_is b_is = rw (a_is, b_is)
-  same_put states q (Some a) (Some b) a_is b_is = rw (a_is, b_is)
-
-  taken_apart : (a b : Option S) (lead : List ℕ) (p : Pair S) → put a b lead ≡ Some p → (a ≡ Some p.ahead) × (b ≡ Some p.behind) × (lead ≡ p.lead)
-  taken_apart None b lead p e = cc
-  taken_apart (Some a) None lead p e = cc
-  taken_apart (Some a) (Some b) lead p e =
-      let same : record { ahead = a; behind = b; lead = lead } ≡ p = cc in
-      (ap (λ (z : Pair S). Some z.ahead) same, ap (λ (z : Pair S). Some z.behind) same, ap (λ (z : Pair S). z.lead) same)
-
-  names_of : (states : List S) (q : NumberPair) (p : Pair S) → pair_of states q ≡ Some p → Names states q p
-  names_of states q p e =
-      let h = taken_apart (slice_get states q.ahead) (slice_get states q.behind) q.lead p (sym (same_put states q (slice_get states q.ahead) (slice_get states q.behind) refl refl) ∙ e) in
-      record { ahead = h.0; behind = h.1; lead = h.2 }
-
-  named : (states : List S) (q : NumberPair) (p : Pair S) → Names states q p → pair_of states q ≡ Some p
-  named states q p h = same_put states q (Some p.ahead) (Some p.behind) h.ahead h.behind ∙ (λ i. Some (record { ahead = p.ahead; behind = p.behind; lead = h.lead i }))
-
   module _ (body : BodyView S) where
     -- the pair with a number
-    pub record NamedAt (n : ℕ) (p : Pair S) : Type 0 where
-      pub numbers : NumberPair
-      pub at : slice_get body.pairs n ≡ Some numbers
-      pub names : Names body.states numbers p
-
-    by_numbers : (n : ℕ) (p : Pair S) (o : Option NumberPair) → slice_get body.pairs n ≡ o → pair_at body n ≡ Some p → NamedAt n p
-    by_numbers n p None is e = absurd (let none : None ≡ Some p = sym (rw is) ∙ e in cc)
-    by_numbers n p (Some q) is e = record { numbers = q; at = is; names = names_of body.states q p (sym (rw is) ∙ e) }
-
-    pub named_at : (n : ℕ) (p : Pair S) → pair_at body n ≡ Some p → NamedAt n p
-    named_at n p e = by_numbers n p (slice_get body.pairs n) refl e
+    pub named_at : (n : ℕ) (p : Pair S) → pair_at body n ≡ Some p → NamedAt body.states body.pairs n p
+    named_at n p e = naming.named_at body.states body.pairs n p e
 
     pub at_named : (n : ℕ) (q : NumberPair) (p : Pair S) → slice_get body.pairs n ≡ Some q → Names body.states q p → pair_at body n ≡ Some p
-    at_named n q p at h = rw at (named body.states q p h)
+    at_named n q p at h = naming.at_named body.states body.pairs n q p at h
 
     -- these numbers name the pair with this number
     pub names_at : (n : ℕ) (q : NumberPair) (p : Pair S) → slice_get body.pairs n ≡ Some q → pair_at body n ≡ Some p → Names body.states q p
