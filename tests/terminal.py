@@ -28,10 +28,11 @@ def need(holds: object, text: str) -> None:
         sys.exit(f"terminal: {text}")
 
 
-def table_of(count: int) -> str:
-    """A table of eight letters, and of rules for so many groups of them. No cells of a rule begin those of another."""
+def table_of(count: int, longest: int) -> str:
+    """A table of eight letters, and of rules for groups of at most `longest` of them, `count` or a few less. No cells of a rule
+    begin those of another."""
     chance = random.Random(count)
-    groups = {"".join(chance.choices(list(LETTERS), k=chance.randint(2, 6))) for _ in range(count)}
+    groups = {"".join(chance.choices(list(LETTERS), k=chance.randint(2, longest))) for _ in range(count)}
     rows = [f"letter {letter} {dots}" for letter, dots in LETTERS.items()]
     for number, group in enumerate(sorted(groups)):
         digits = "-".join(list(LETTERS.values())[number >> shift & 7] for shift in (9, 6, 3, 0))
@@ -81,12 +82,13 @@ def main(program: str) -> None:
     with tempfile.TemporaryDirectory() as folder:
         table, cert = f"{folder}/t.ctb", f"{folder}/t.cert"
         search, check = [program, "search", table, cert], [program, "check", table, cert]
-        count, seconds = 700, 0.0
-        while seconds < LONG and count < 4000:
-            Path(table).write_text(table_of(count))
-            seconds, status, found, errors = run(search)
-            need((status, errors) == (0, b""), f"a search ends with status {status} and writes {errors!r}")
-            count *= 2
+        seconds = 0.0
+        # Longer words make more states. A certificate of still longer ones is larger than a check reads.
+        for longest in range(5, 11):
+            if seconds < LONG:
+                Path(table).write_text(table_of(2800, longest))
+                seconds, status, found, errors = run(search)
+                need((status, errors) == (0, b""), f"a search ends with status {status} and writes {errors!r}")
         need(seconds >= LONG, f"no search takes {LONG} seconds")
         accepted = found.replace(b"certified", b"accepted")
         need(run(check)[1:] == (0, accepted, b""), "a check without a terminal differs")
@@ -94,7 +96,7 @@ def main(program: str) -> None:
             status, output, shown = run_on_terminal(words)
             need((status, output) == (0, want), f"{command} differs on a terminal")
             check_shown(command, shown)
-        Path(table).write_text(table_of(5))
+        Path(table).write_text(table_of(5, 5))
         for words in (search, check):
             need(run_on_terminal(words)[2] == b"", "work that isn't long is shown")
     print("terminal: a search and a check show how far they are, and clear what they show")
