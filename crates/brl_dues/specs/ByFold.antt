@@ -4,7 +4,7 @@ use Rattle.std.specs.List.Sorted.{IsNonDecreasingBy}
 use Rattle.brl_dues.specs.declared.folds.Place.{Place}
 use Rattle.brl_dues.specs.LetterView.{LetterView}
 
--- the places of these characters, the first of which is at this one
+-- the places of these characters, numbered from this number on
 abbrev pub places_from : ℕ → List LetterView → List Place
 places_from number [] = []
 places_from number (l ∷ letters) = record { fold = l.fold; number = number } ∷ places_from (number + 1) letters

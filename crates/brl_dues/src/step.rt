@@ -171,8 +171,7 @@ fn step_of(
     })
 }
 
-/// The cells of a step: the indicators, of which most steps have none, and then those that it
-/// takes.
+/// The cells of a step: its indicators, which most steps have none of, then those of its origin.
 fn cells_of(
     alloc: Global,
     origin: &Origin<'_>,

@@ -22,7 +22,7 @@ IsEarlierShorter cells y x = BeginsWith (cells_of cells y) (cells_of cells x) ×
 abbrev pub IsEarlierLonger : List (List ℕ) → SortedEdge → SortedEdge → Type 0
 IsEarlierLonger cells y x = BeginsWith (cells_of cells x) (cells_of cells y) × (x.place < y.place)
 
--- cells of which none come before the others begin with them
+-- one list of cells begins with another where neither comes before the other
 equal_begins : (xs ys : List ℕ) → is_before xs ys ≡ false → is_before ys xs ≡ false → BeginsWith xs ys
 equal_begins xs ys h k = ([], same_cells xs ys h k ∙ sym (append-nil ys))
 

@@ -77,11 +77,11 @@ file_line found lines path =
 abbrev pub opcodes_of : List FaultyLineView → List (List ℕ)
 opcodes_of found = map (λ faulty. faulty.opcode) found
 
--- what is said of the second pass where a line has a fault by itself
+-- the note that the second pass is not made yet, where a line has a fault by itself
 abbrev pub pass_note : Bool → List ℕ
 pass_note passes_first = if passes_first then [] else codes "undefined characters (B5 to B7) are looked for once no line has another fault\n"
 
--- what is said where no line defines a character
+-- the note that no line defines a character
 abbrev pub characters_note : Bool → List ℕ
 characters_note has_characters = if has_characters then [] else codes "no line defines a character\n"
 

@@ -156,7 +156,7 @@ fn count_lines(lines: &[Line<'_>], path: &str) -> usize
     lines.iter().filter(|line| path == line.file).count()
 }
 
-/// Appends what is said of the second pass and of characters.
+/// Appends the notes that the second pass is not made yet, and that no character is defined.
 fn push_notes(text: &mut String, found: &Findings) -> Result<(), AllocError>
     ensures { let notes = pass_note found.now.passes_first ++ characters_note found.now.has_characters in
         OnOk result (string_bytes text.new ≡ string_bytes text.old ++ notes) }
@@ -170,7 +170,7 @@ fn push_notes(text: &mut String, found: &Findings) -> Result<(), AllocError>
     Ok(())
 }
 
-/// Appends how many of a number of lines are read, where so many are faulty.
+/// Appends how many lines are read: all but the faulty ones.
 fn push_read(text: &mut String, faulty: usize, lines: usize) -> Result<(), AllocError>
     ensures { OnOk result (string_bytes text.new ≡ string_bytes text.old ++ read_line faulty lines) }
 {
