@@ -1,12 +1,16 @@
 -- What the files are after an answer is delivered.
-use Rattle.std.proofs.Common.{◌≡◌, ◌∙◌, ℕ, List, Option, None, Some, Result, Ok, Err, IsErrAnd, refl, subst, sym}
+use Rattle.std.proofs.Common.{◌≡◌, ℕ, List, Result, Ok, Err, IsErrAnd, inl, inr, subst, sym, take}
+use Rattle.std.proofs.lemmas.List.Elements.{All-weaker}
 use Rattle.brl_lines.specs.Answer.{Unchanged, FileAnswers}
 use Rattle.brl_answers.specs.Delivery.{Delivers, World, KeepsFiles, PrintsNothing, Writes}
-use Rattle.brl_answers.specs.Files.{FilesAfter, IsPutInto, OthersStay}
+use Rattle.brl_answers.specs.Files.{IsPutInto, MayBeAbsent, OthersStay, path_of}
+use Rattle.brl_answers.specs.Making.{AreMade, AreNew, ArePutInto, AreWrittenBefore, FilesAfter, IsTaken, IsThereAlready, OnlyTheseChange}
 use Rattle.brl_answers.specs.declared.answer.Answer.{Answer}
-use Rattle.brl_answers.specs.declared.answer.NewFile.{NewFile}
+use Rattle.brl_answers.specs.declared.new_files.NewFile.{NewFile}
+use Rattle.brl_answers.specs.declared.new_files.NewFiles.{NewFiles}
+use Rattle.brl_answers.specs.declared.new_files.NewFiles.TheVariants.{Nothing, InPlace, AllNew}
 use Rattle.brl_answers.specs.declared.run_fault.RunFault.{RunFault}
-use Rattle.brl_answers.specs.declared.run_fault.RunFault.TheVariants.{OutputFailed, CannotWrite, Memory}
+use Rattle.brl_answers.specs.declared.run_fault.RunFault.TheVariants.{AlreadyThere, OutputFailed, CannotWrite, Memory}
 use Rattle.brl_answers.specs.declared.status.Status.{Status}
 
 -- two steps after each other that change no file
@@ -23,49 +27,81 @@ module _ (before after : World) (between : FileAnswers) (same : Unchanged before
   others_after : (path : List ℕ) → OthersStay between after.gives path → OthersStay before.gives after.gives path
   others_after path others = λ p a other. ((λ h. (same p a).0 ((others p a other).0 h)), (λ h. (others p a other).1 ((same p a).1 h)))
 
-  files_after : (file : Option NewFile) → FilesAfter between after.gives file → FilesAfter before.gives after.gives file
-  files_after None is = all_after before.gives between after.gives same is
-  files_after (Some file) is = (is.0, others_after _ is.1)
+  only_after : (files : List NewFile) → OnlyTheseChange between after.gives files → OnlyTheseChange before.gives after.gives files
+  only_after files only = λ p a none. ((λ h. (same p a).0 ((only p a none).0 h)), (λ h. (only p a none).1 ((same p a).1 h)))
+
+  new_after : (files : List NewFile) → AreNew between files → AreNew before.gives files
+  new_after files new =
+      (new.0, All-weaker (λ file. MayBeAbsent between (path_of file)) (λ file. MayBeAbsent before.gives (path_of file)) (λ file absent. (same _ _).0 absent) files new.1)
+
+  taken_after : (earlier : List NewFile) (path : List ℕ) → IsTaken between earlier path → IsTaken before.gives earlier path
+  taken_after earlier path taken = elim taken [ inl (a, other, gives) ↦ inl (a, other, (same path a).0 gives) | inr any ↦ inr any ]
+
+  there_after : (files : List NewFile) (fault : RunFault) → IsThereAlready between files fault → IsThereAlready before.gives files fault
+  there_after files (AlreadyThere path) is = (is.0, is.1, new_after (take is.0 files) is.2, taken_after (take is.0 files) _ is.3)
+  there_after files Memory is = tt
+  there_after files fault is = absurd is
+
+  before_after : (place : ℕ) (files : List NewFile) → AreWrittenBefore place files between after.gives → AreWrittenBefore place files before.gives after.gives
+  before_after place files is = (is.0, only_after _ is.1)
+
+  made_after : (files : List NewFile) (fault : RunFault) → AreMade files between after.gives (Err fault) → AreMade files before.gives after.gives (Err fault)
+  made_after files (AlreadyThere path) is = (there_after files (AlreadyThere path) is.0, all_after before.gives between after.gives same is.1)
+  made_after files (CannotWrite path made) is = (new_after files is.0, (is.1.0, is.1.1, before_after is.1.0 files is.1.2))
+  made_after files Memory is = (is.0, before_after is.0 files is.1)
+  made_after files fault is = absurd is
+
+  files_after : (files : NewFiles) → FilesAfter between after.gives files → FilesAfter before.gives after.gives files
+  files_after Nothing is = all_after before.gives between after.gives same is
+  files_after (InPlace file) is = (is.0, others_after _ is.1)
+  files_after (AllNew files) is = (new_after files.items is.0, (is.1.0, only_after files.items is.1.1))
 
   put_after : (file : NewFile) (fault : RunFault) → IsPutInto file between after.gives (Err fault) → IsPutInto file before.gives after.gives (Err fault)
-  put_after file (CannotWrite named) is = (is.0, others_after _ is.1)
+  put_after file (CannotWrite path made) is = (is.0, is.1, others_after _ is.2)
   put_after file Memory is = others_after _ is
   put_after file fault is = absurd is
 
+  puts_after : (files : NewFiles) (fault : RunFault) → ArePutInto files between after.gives (Err fault) → ArePutInto files before.gives after.gives (Err fault)
+  puts_after Nothing fault is = absurd is
+  puts_after (InPlace file) fault is = put_after file fault is
+  puts_after (AllNew files) fault is = made_after files.items fault is
+
   stopped_after : (answer : Answer) (fault : RunFault) → Writes answer found after (Err fault) → Writes answer before after (Err fault)
-  stopped_after answer OutputFailed h = (h.0, files_after answer.file h.1, h.2)
-  stopped_after answer (CannotWrite named) h = (h.0, (h.1.0, h.1.1, put_after h.1.0 (CannotWrite named) h.1.2))
-  stopped_after answer Memory h = (h.0, (h.1.0, h.1.1, put_after h.1.0 Memory h.1.2))
-  stopped_after answer fault h = absurd h.1.2
+  stopped_after answer OutputFailed h = (h.0, files_after answer.files h.1, h.2)
+  stopped_after answer (AlreadyThere path) h = (h.0, puts_after answer.files (AlreadyThere path) h.1)
+  stopped_after answer (CannotWrite path made) h = (h.0, puts_after answer.files (CannotWrite path made) h.1)
+  stopped_after answer Memory h = (h.0, puts_after answer.files Memory h.1)
+  stopped_after answer fault h = (h.0, puts_after answer.files fault h.1)
 
   writes_after : (answer : Answer) (written : Result Status RunFault) → Writes answer found after written → Writes answer before after written
-  writes_after answer (Ok status) h = (files_after answer.file h.0, h.1, h.2)
+  writes_after answer (Ok status) h = (files_after answer.files h.0, h.1, h.2)
   writes_after answer (Err fault) h = stopped_after answer fault h
 
   pub delivered_after : (outcome : Result Answer RunFault) (status : Status) → Delivers outcome found after status → Delivers outcome before after status
   delivered_after (Ok answer) status (written, writes, is) = (written, writes_after answer written writes, is)
   delivered_after (Err fault) status (stay, still, is) = (all_after before.gives between after.gives same stay, still, is)
 
--- ---- An answer without a file changes none
+-- ---- An answer without files changes none
 
 module _ (before after : World) (answer : Answer) where
-  -- a fault of its file has no place where there is none
-  no_fault : {file : NewFile} → answer.file ≡ None → answer.file ≡ Some file → ⊥
-  no_fault none some = let e = sym none ∙ some in cc
-
-  pub none_changes : (written : Result Status RunFault) → answer.file ≡ None → Writes answer before after written → KeepsFiles before after
+  pub none_changes : (written : Result Status RunFault) → answer.files ≡ Nothing → Writes answer before after written → KeepsFiles before after
   none_changes (Ok status) none h = subst (FilesAfter before.gives after.gives) none h.0
   none_changes (Err OutputFailed) none h = subst (FilesAfter before.gives after.gives) none h.1
-  none_changes (Err fault) none h = absurd (no_fault none h.1.1)
+  none_changes (Err fault) none h = absurd (subst (λ (files : NewFiles). ArePutInto files before.gives after.gives (Err fault)) none h.1)
 
-  -- ---- An answer whose file can't be written
+  -- ---- An answer whose files can't be written
 
-  not_put : (file : NewFile) (fault : RunFault) → PrintsNothing before after → answer.file ≡ Some file → IsPutInto file before.gives after.gives (Err fault) → Writes answer before after (Err fault)
-  not_put file (CannotWrite named) still is put = (still, (file, is, put))
-  not_put file Memory still is put = (still, (file, is, put))
-  not_put file fault still is put = absurd put
+  -- no fault of these files is that of the output
+  not_of_output : (files : NewFiles) → ArePutInto files before.gives after.gives (Err OutputFailed) → ⊥
+  not_of_output Nothing put = put
+  not_of_output (InPlace file) put = put
+  not_of_output (AllNew files) put = put
+
+  not_put : (fault : RunFault) → PrintsNothing before after → ArePutInto answer.files before.gives after.gives (Err fault) → Writes answer before after (Err fault)
+  not_put OutputFailed still put = absurd (not_of_output answer.files put)
+  not_put fault still put = (still, put)
 
   -- the same of what came back
-  pub stopped_at_file : (file : NewFile) (fault : RunFault) (written : Result Status RunFault) → IsErrAnd written (λ e. e ≡ fault) → PrintsNothing before after → answer.file ≡ Some file → IsPutInto file before.gives after.gives (Err fault) → Writes answer before after written
-  stopped_at_file file fault (Ok status) bad still is put = absurd bad
-  stopped_at_file file fault (Err e) same still is put = subst (λ (f : RunFault). Writes answer before after (Err f)) (sym same) (not_put file fault still is put)
+  pub stopped_at_files : (fault : RunFault) (written : Result Status RunFault) → IsErrAnd written (λ e. e ≡ fault) → PrintsNothing before after → ArePutInto answer.files before.gives after.gives (Err fault) → Writes answer before after written
+  stopped_at_files fault (Ok status) bad still put = absurd bad
+  stopped_at_files fault (Err e) same still put = subst (λ (f : RunFault). Writes answer before after (Err f)) (sym same) (not_put fault still put)

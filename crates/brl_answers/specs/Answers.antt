@@ -13,13 +13,14 @@ use Rattle.brl_table.specs.Files.{IsFaultAt, IsTableOf}
 use Rattle.brl_table.specs.declared.no_table.NoTable.TheVariants as no_table
 use Rattle.brl_rules.specs.TableView.{TableView}
 use Rattle.brl_answers.specs.declared.answer.Answer.{Answer}
+use Rattle.brl_answers.specs.declared.new_files.NewFiles.TheVariants.{Nothing}
 use Rattle.brl_answers.specs.declared.run_fault.RunFault.{RunFault}
 use Rattle.brl_answers.specs.declared.run_fault.RunFault.TheVariants.{Load, Table, BadLeftOut, Memory}
 use Rattle.brl_answers.specs.declared.status.Status.{Status}
 
--- an answer has this status and text, and no file
+-- an answer has this status and text, and no files
 abbrev pub HasTextAndStatus : Status → List ℕ → Answer → Type 0
-HasTextAndStatus status text answer = (answer.status ≡ status) × (string_bytes answer.text ≡ text) × (answer.file ≡ None)
+HasTextAndStatus status text answer = (answer.status ≡ status) × (string_bytes answer.text ≡ text) × (answer.files ≡ Nothing)
 
 -- this was answered, unless memory ran out
 abbrev pub UnlessMemory : (Answer → Type 0) → Result Answer RunFault → Type 0

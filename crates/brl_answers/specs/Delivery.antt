@@ -1,11 +1,10 @@
--- How an answer is delivered: its file first, and then its text. The project's own choice.
-use Rattle.std.specs.Prelude.{ℕ, ◌≡◌, ◌≢◌, List, ◌++◌, Option, Some, Result, Ok, Err, string_bytes}
+-- How an answer is delivered: its files first, and then its text. The project's own choice.
+use Rattle.std.specs.Prelude.{ℕ, ◌≡◌, ◌≢◌, List, ◌++◌, Option, Result, Ok, Err, string_bytes}
 use Rattle.std.specs.Io.KnownBytes.{Appends}
 use Rattle.brl_lines.specs.Answer.{Unchanged, FileAnswers}
-use Rattle.brl_answers.specs.Files.{FilesAfter, IsPutInto}
+use Rattle.brl_answers.specs.Making.{ArePutInto, FilesAfter}
 use Rattle.brl_answers.specs.Status.{status_of}
 use Rattle.brl_answers.specs.declared.answer.Answer.{Answer}
-use Rattle.brl_answers.specs.declared.answer.NewFile.{NewFile}
 use Rattle.brl_answers.specs.declared.run_fault.RunFault.{RunFault}
 use Rattle.brl_answers.specs.declared.run_fault.RunFault.TheVariants.{OutputFailed}
 use Rattle.brl_answers.specs.declared.status.Status.{Status}
@@ -35,16 +34,16 @@ Prints before after text = Appends before.contents after.contents text
 abbrev pub PrintsNothing : World → World → Type 0
 PrintsNothing before after = after.contents ≡ before.contents
 
--- An answer was written: its file, and all of its text; or the output failed, and has some first
--- bytes of the text; or its file couldn't be written, and the output has nothing of it.
+-- An answer was written: its files, and all of its text; or the output failed, and has some first
+-- bytes of the text; or its files couldn't be written, and the output has nothing of it.
 abbrev pub Writes : Answer → World → World → Result Status RunFault → Type 0
 Writes answer before after (Ok status) =
-    FilesAfter before.gives after.gives answer.file × Prints before after (string_bytes answer.text) × (status ≡ answer.status)
+    FilesAfter before.gives after.gives answer.files × Prints before after (string_bytes answer.text) × (status ≡ answer.status)
 Writes answer before after (Err OutputFailed) =
-    (after.failures ≢ before.failures) × FilesAfter before.gives after.gives answer.file
+    (after.failures ≢ before.failures) × FilesAfter before.gives after.gives answer.files
     × ((front rest : List ℕ) × (string_bytes answer.text ≡ front ++ rest) × Prints before after front)
 Writes answer before after (Err fault) =
-    PrintsNothing before after × ((file : NewFile) × (answer.file ≡ Some file) × IsPutInto file before.gives after.gives (Err fault))
+    PrintsNothing before after × ArePutInto answer.files before.gives after.gives (Err fault)
 
 -- the status after work that ended so
 abbrev pub status_after : Result Status RunFault → Status

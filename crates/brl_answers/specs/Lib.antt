@@ -1,5 +1,6 @@
 pub mod Answers
 pub mod Delivery
 pub mod Files
+pub mod Making
 pub mod Prefixes
 pub mod Status

@@ -3,8 +3,11 @@ ghost use Rattle.std.specs.Prelude.{◌≡◌, ◌≢◌, IfOk, string_bytes};
 ghost use Rattle.brl_answers.specs.Answers.{HasTextAndStatus, counts_line};
 ghost use Rattle.brl_answers.specs.Delivery.{Delivers, Writes, world};
 ghost use Rattle.brl_answers.specs.Files.{IsPutInto};
+ghost use Rattle.brl_answers.specs.Making.{ArePutInto};
 
 use crate::Files;
+use crate::making::make_new_files;
+use crate::new_files::{NewFile, NewFiles};
 use crate::run_fault::RunFault;
 use crate::status::Status;
 use brl_failure::Failure;
@@ -12,31 +15,24 @@ use brl_stream::{Failed, Output};
 use std::alloc::{AllocError, Global};
 use std::io::Write;
 
-/// A file to be written.
-#[derive(Drop)]
-pub struct NewFile {
-    pub path: String,
-    pub bytes: Vec<u8>,
-}
-
-/// What a command comes to: a text for standard output, the status, and a file that is written
-/// before the text, if there is one.
+/// What a command comes to: a text for standard output, the status, and the files that are written
+/// before the text.
 #[derive(Drop)]
 pub struct Answer {
     pub text: String,
     pub status: Status,
-    pub file: Option<NewFile>,
+    pub files: NewFiles,
 }
 
 impl Answer {
-    /// The answer with this text and status, and no file.
+    /// The answer with this text and status, and no files.
     pub fn new(status: Status, text: String) -> Answer
         ensures { HasTextAndStatus status (string_bytes text) result }
     {
         Answer {
             text,
             status,
-            file: None,
+            files: NewFiles::Nothing,
         }
     }
 }
@@ -50,18 +46,32 @@ pub fn counts_text(alloc: Global, word: &str, states: u64, pairs: u64) -> Result
     format!(in alloc; "{word}: {states} states, {pairs} pairs\n")
 }
 
-/// Writes a file.
+/// Writes a file in place of what is at its path.
 fn write_file<F: Files>(alloc: Global, file: NewFile, files: &mut F) -> Result<(), RunFault>
     ensures { IsPutInto file (F.gives files.old) (F.gives files.new) result }
 {
     match files.write(alloc, file.path.as_str(), file.bytes.as_slice()) {
         Ok(()) => Ok(()),
-        Err(Failure::Fault(Failed)) => Err(RunFault::CannotWrite(file.path)),
+        Err(Failure::Fault(Failed)) => Err(RunFault::CannotWrite {
+            path: file.path,
+            made: Vec::new(alloc),
+        }),
         Err(Failure::Memory) => Err(RunFault::Memory),
     }
 }
 
-/// Writes an answer's file, if it has one, and then its text.
+/// Writes the files of an answer.
+fn write_files<F: Files>(alloc: Global, new: NewFiles, files: &mut F) -> Result<(), RunFault>
+    ensures { ArePutInto new (F.gives files.old) (F.gives files.new) result }
+{
+    match new {
+        NewFiles::Nothing => Ok(()),
+        NewFiles::InPlace(file) => write_file(alloc, file, files),
+        NewFiles::AllNew(new) => make_new_files(alloc, new, files),
+    }
+}
+
+/// Writes an answer's files, and then its text.
 fn write_answer<F: Files, O: Output>(
     alloc: Global,
     answer: Answer,
@@ -71,15 +81,17 @@ fn write_answer<F: Files, O: Output>(
     ensures { Writes answer (world (F.gives files.old) (O.failures out.old) (O.contents out.old))
         (world (F.gives files.new) (O.failures out.new) (O.contents out.new)) result }
 {
-    let Answer { text, status, file } = answer;
-    if let Some(file) = file {
-        write_file(alloc, file, files)?;
-    }
+    let Answer {
+        text,
+        status,
+        files: new,
+    } = answer;
+    write_files(alloc, new, files)?;
     out.put(text.as_bytes())?;
     Ok(status)
 }
 
-/// Delivers what a command comes to: its file and its text, or the line of its fault on standard
+/// Delivers what a command comes to: its files and its text, or the line of its fault on standard
 /// error. Answers the status.
 pub fn deliver<F: Files, O: Output, E: Write>(
     alloc: Global,

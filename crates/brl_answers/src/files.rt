@@ -1,19 +1,32 @@
 //! Files that can be written.
-use crate::replace::replace_file;
+ghost use Rattle.std.specs.Prelude.{◌≡◌, Some, OnErr, OnOk};
+ghost use Rattle.brl_lines.specs.InMemory.{bytes_in};
+ghost use Rattle.brl_answers.specs.Files.{AllAre, OthersAre};
+
+use crate::replace::{create_file, replace_file};
 use brl_failure::Failure;
 use brl_lines::{FileSource, MapSource, Source};
 use brl_stream::Failed;
-use std::alloc::Global;
+use std::alloc::{AllocError, Global};
 use std::os::unix::fs::MetadataExt;
 use std::{fs, rt};
 
 /// Why a file wasn't written: it couldn't be, or memory ran out.
 pub type SinkFault = Failure<Failed>;
 
+/// Why a new file wasn't made.
+#[derive(Clone, Copy, Debug, PartialEq, Eq)]
+pub enum CreateFault {
+    /// Something is at its path.
+    AlreadyThere,
+    /// It couldn't be made, or not all of its bytes could be written.
+    Failed,
+}
+
 /// Files that can be read and written.
 pub trait Files: Source {
-    ghost use Rattle.std.specs.Prelude.{◌≡◌, IsTrue, OnOk};
-    ghost use Rattle.brl_answers.specs.Files.{GivesAlso, MayBeSame, OthersStay};
+    ghost use Rattle.std.specs.Prelude.{◌≡◌, IfErr, IsTrue, MatchBool, OnOk};
+    ghost use Rattle.brl_answers.specs.Files.{GivesAlso, MayBeAbsent, MayBeSame, MayBeThere, OthersStay, StaysWhereThere};
 
     // whether two paths may name one file
     ghost same_file: { MayBeSame };
@@ -30,10 +43,30 @@ pub trait Files: Source {
         ensures written { OnOk result (GivesAlso (Self.gives self.new) path.now bytes.now) }
         ensures others { OthersStay (Self.gives self.old) (Self.gives self.new) path.now }
         ensures count { Self.faults self.new ≡ Self.faults self.old };
+
+    /// Whether something is at a path: a file, a folder or a link, also one that leads nowhere.
+    fn is_there(&self, path: &str) -> bool
+        ensures { MatchBool result (MayBeThere (Self.gives self.now) path.now) (MayBeAbsent (Self.gives self.now) path.now) };
+
+    /// Makes a file with these bytes at `path`, and the folders in which it is where they aren't
+    /// there. `AlreadyThere` where something is at `path`; no file changes then. `Failed` where it
+    /// couldn't be made, and `Memory`: what is at `path` then isn't known. No other file changes.
+    fn create(
+        &mut self,
+        alloc: Global,
+        path: &str,
+        bytes: &[u8],
+    ) -> Result<(), Failure<CreateFault>>
+        ensures made { OnOk result (GivesAlso (Self.gives self.new) path.now bytes.now) }
+        ensures absent { OnOk result (MayBeAbsent (Self.gives self.old) path.now) }
+        ensures there { IfErr result (StaysWhereThere (Self.gives self.old) (Self.gives self.new) path.now) }
+        ensures others { OthersStay (Self.gives self.old) (Self.gives self.new) path.now }
+        ensures count { Self.faults self.new ≡ Self.faults self.old };
 }
 
 impl Files for MapSource {
-    ghost use Rattle.std.specs.Prelude.{◌≡◌, Some, IfErr, OnErr, OnOk};
+    ghost use Rattle.std.specs.Prelude.{◌≡◌, None, Some, is_some, IfErr, IsErrOf, IsTrue, OnErr, OnOk};
+    ghost use Rattle.brl_failure.specs.declared.failure.Failure.TheVariants.{Fault};
     ghost use Rattle.brl_lines.specs.InMemory.{bytes_in};
     ghost use Rattle.brl_answers.specs.Files.{AllAre, OthersAre};
 
@@ -50,12 +83,48 @@ impl Files for MapSource {
         ensures unchanged { OnErr result (AllAre self.old self.new) }
         ensures memory { IfErr result (λ failure. failure ≡ Failure.Memory) }
     {
-        let path = String::from_str(alloc, path)?;
-        let bytes = Vec::from_slice(alloc, bytes)?;
-        match self.files.insert(path, bytes) {
-            Ok(_) => Ok(()),
-            Err(_) => Err(Failure::Memory),
+        Ok(put(alloc, self, path, bytes)?)
+    }
+
+    fn is_there(&self, path: &str) -> bool
+        ensures { result ≡ is_some (bytes_in self.now path.now) }
+    {
+        self.files.get(path).is_some()
+    }
+
+    /// On an error all files stay as they were.
+    fn create(
+        &mut self,
+        alloc: Global,
+        path: &str,
+        bytes: &[u8],
+    ) -> Result<(), Failure<CreateFault>>
+        ensures made { OnOk result (bytes_in self.new path.now ≡ Some bytes.now) }
+        ensures there { IsTrue (is_some (bytes_in self.old path.now)) → IsErrOf result (Fault CreateFault.AlreadyThere) }
+        ensures absent { bytes_in self.old path.now ≡ None → IfErr result (λ failure. failure ≡ Failure.Memory) }
+        ensures others { OthersAre self.old self.new path.now }
+        ensures unchanged { OnErr result (AllAre self.old self.new) }
+    {
+        if self.is_there(path) {
+            return Err(Failure::Fault(CreateFault::AlreadyThere));
         }
+        put(alloc, self, path, bytes)?;
+        Ok(())
+    }
+}
+
+/// Puts a file into memory, in place of the one that was at its path. On an error all files stay as
+/// they were.
+fn put(alloc: Global, source: &mut MapSource, path: &str, bytes: &[u8]) -> Result<(), AllocError>
+    ensures put { OnOk result (bytes_in source.new path.now ≡ Some bytes.now) }
+    ensures others { OthersAre source.old source.new path.now }
+    ensures unchanged { OnErr result (AllAre source.old source.new) }
+{
+    let path = String::from_str(alloc, path)?;
+    let bytes = Vec::from_slice(alloc, bytes)?;
+    match source.files.insert(path, bytes) {
+        Ok(_) => Ok(()),
+        Err(_) => Err(AllocError),
     }
 }
 
@@ -71,6 +140,21 @@ impl<R: rt::Files> Files for FileSource<R> {
     /// wherever the program is stopped, what was at `path` is still there, whole.
     fn write(&mut self, alloc: Global, path: &str, bytes: &[u8]) -> Result<(), Failure<Failed>> {
         replace_file(alloc, &self.system, path, bytes)
+    }
+
+    fn is_there(&self, path: &str) -> bool {
+        fs::symlink_metadata(&self.system, path).is_ok()
+    }
+
+    /// Nothing is ever overwritten, also not through a link. What was written of a file that can't be
+    /// written whole is removed, where that can be done.
+    fn create(
+        &mut self,
+        _alloc: Global,
+        path: &str,
+        bytes: &[u8],
+    ) -> Result<(), Failure<CreateFault>> {
+        create_file(&self.system, path, bytes)
     }
 }
 

@@ -1,8 +1,8 @@
 //! Answers of commands, and their delivery.
 //!
-//! Each command but `translate`, which is a stream, comes to an `Answer`: a text, a status and a file
-//! to be written, if there is one; or to a `RunFault`. `deliver` writes it to the output and to
-//! `Files`.
+//! Each command but `translate`, which is a stream, comes to an `Answer`: a text, a status and the
+//! files to be written, if there are any; or to a `RunFault`. `deliver` writes it to the output and
+//! to `Files`.
 //!
 //! Room 5, the program (docs/dev/ARCHITECTURE.md). The definitions begin in `specs/Answers.antt`.
 #![tactic(auto)]
@@ -10,14 +10,17 @@
 mod answer;
 mod files;
 mod left_out;
+mod making;
+mod new_files;
 mod prefixes;
 mod replace;
 mod run_fault;
 mod status;
 
-pub use answer::{Answer, NewFile, counts_text, deliver};
-pub use files::{Files, SinkFault};
+pub use answer::{Answer, counts_text, deliver};
+pub use files::{CreateFault, Files, SinkFault};
 pub use left_out::{left_out_of, with_left_out_line};
+pub use new_files::{NewFile, NewFiles};
 pub use prefixes::set_apart;
 pub use run_fault::{EndsRun, RunFault};
 pub use status::Status;

@@ -1,5 +1,6 @@
-//! Writing a file of a system so that nothing is lost where that fails.
+//! Writing and making files of a system so that nothing is lost where that fails.
 
+use crate::files::CreateFault;
 use brl_failure::Failure;
 use brl_stream::Failed;
 use std::alloc::Global;
@@ -120,6 +121,46 @@ fn new_file_beside<R: Files>(
         }
     }
     Err(io::Error::from(ErrorKind::AlreadyExists))
+}
+
+/// Makes a file with these bytes at a path where nothing is, and the folders in which it is. Where
+/// not all of them can be written, it is removed again.
+pub fn create_file<R: Files>(
+    system: &R,
+    path: &str,
+    bytes: &[u8],
+) -> Result<(), Failure<CreateFault>> {
+    if let Err(error) = make_folders_of(system, path) {
+        return Err(not_made(&error));
+    }
+    let file = match File::create_new(system, path) {
+        Ok(file) => file,
+        Err(error) if error.kind() == ErrorKind::AlreadyExists => {
+            return Err(Failure::Fault(CreateFault::AlreadyThere));
+        }
+        Err(error) => return Err(not_made(&error)),
+    };
+    if let Err(error) = fill(file, None, bytes) {
+        let _ = fs::remove_file(system, path);
+        return Err(not_made(&error));
+    }
+    Ok(())
+}
+
+/// Makes the folders in which a path is, where they aren't there.
+fn make_folders_of<R: Files>(system: &R, path: &str) -> io::Result<()> {
+    match path.rsplit_once('/') {
+        Some((folder, _)) => fs::create_dir_all(system, folder),
+        None => Ok(()),
+    }
+}
+
+/// Why a file wasn't made, by an error of the system.
+fn not_made(error: &io::Error) -> Failure<CreateFault> {
+    match error.kind() {
+        ErrorKind::OutOfMemory => Failure::Memory,
+        _ => Failure::Fault(CreateFault::Failed),
+    }
 }
 
 /// Writes a new file's bytes to the disk, and closes it.

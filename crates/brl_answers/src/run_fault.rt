@@ -1,15 +1,33 @@
 //! Why the program stopped before its work was done.
+use crate::new_files::NewFile;
 use crate::status::Status;
 use brl_failure::Failure;
 use brl_forward::{ConfirmFault, ForwardFault};
-use brl_lines::LoadFault;
+use brl_lines::{LoadFault, Location};
 use brl_stream::{Failed, StreamFault};
 use brl_table::{NoTable, TableFault};
 use brl_window::TooWide;
 use brl_without::UndefinedLeftOut;
 use std::alloc::AllocError;
+use std::fmt;
 use std::io::Write;
 use thiserror::Error;
+
+/// What follows the path of a file that couldn't be written: those that were written before it,
+/// where there are some.
+#[derive(Clone, Copy)]
+struct AfterThese<'a>(&'a Vec<NewFile>);
+
+impl fmt::Display for AfterThese<'_> {
+    fn fmt<W: fmt::Write>(&self, f: &mut fmt::Formatter<W>) -> fmt::Result {
+        let mut before = "; written before it: ";
+        for file in self.0 {
+            write!(f, "{before}{}", file.path)?;
+            before = ", ";
+        }
+        Ok(())
+    }
+}
 
 /// The fault that ended the work. It is shown as the line that standard error gets.
 #[derive(Debug, Drop, Error)]
@@ -41,13 +59,20 @@ pub enum RunFault {
     /// The file for the certificate is this one of the table's files.
     #[error("error: the certificate would overwrite {0}, a file of the table")]
     WouldOverwrite(String),
+    /// Something is at the path of a file that is to be made, or an earlier one has this path.
+    #[error("error: {0} is there already")]
+    AlreadyThere(String),
+    /// A line of a table to be cut includes a file by a name that leads out of the table's folder.
+    #[error("error: include {name} at {place} leads out of the table's folder")]
+    LeadsOut { name: String, place: Location },
     /// The writer failed at an answer, or at help or the version; some first bytes of it may be
     /// written.
     #[error("U4 OutputFailed")]
     OutputFailed,
-    /// The file at this path couldn't be written; what is there now isn't known.
-    #[error("U7 CannotWrite {0}")]
-    CannotWrite(String),
+    /// The file at this path couldn't be written, and what is there now isn't known. Those that were
+    /// made before it stay.
+    #[error("U7 CannotWrite {path}{after}", after = AfterThese(.made))]
+    CannotWrite { path: String, made: Vec<NewFile> },
     /// Memory ran out.
     #[error("Memory")]
     Memory,

@@ -1,7 +1,7 @@
-use Rattle.std.proofs.Common.{rules, refl}
-use Rattle.brl_answers.proofs.DeliveryLemmas.{stopped_at_file}
+use Rattle.std.proofs.Common.{refl}
+use Rattle.brl_answers.proofs.DeliveryLemmas.{stopped_at_files}
 use Rattle.brl_answers.proofs.answer.write_answer.Goals as goal
 
-pub returns-in_err-write_file : goal.returns-in_err-write_file
-returns-in_err-write_file g c =
-    stopped_at_file _ _ c.args.answer c.in-Some.file c.in_err-write_file.field-0.0 c.from_residual.result c.from_residual.ensures.1 refl (search rules) c.in_err-write_file.ensures
+pub returns-in_err-write_files : goal.returns-in_err-write_files
+returns-in_err-write_files g c =
+    stopped_at_files _ _ c.args.answer c.in_err-write_files.field-0.0 c.from_residual.result c.from_residual.ensures.1 refl c.in_err-write_files.ensures
