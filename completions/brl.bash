@@ -16,9 +16,15 @@ _brl_files() {
     _brl_reply < <(compgen -f -- "$1")
 }
 
+# Folders whose names begin with it.
+_brl_folders() {
+    compopt -o filenames 2>/dev/null
+    _brl_reply < <(compgen -d -- "$1")
+}
+
 _brl() {
     # help takes one of the other commands
-    local commands='translate clash trace search check survey'
+    local commands='translate clash trace search check survey cut'
     local word=${COMP_WORDS[COMP_CWORD]} command='' option='' at operands=0
     [[ $word == '=' ]] && word=''
 
@@ -48,6 +54,7 @@ _brl() {
         search) options='--limit --without --help' ;;
         check) options='--without --help' ;;
         survey) options='--brief --help' ;;
+        cut) options='--rewrite --help' ;;
         help) options='' ;;
     esac
 
@@ -62,7 +69,8 @@ _brl() {
         _brl_reply < <(compgen -W "$commands help" -- "$word")
     else
         case $command:$operands in
-            translate:0 | clash:0 | trace:0 | search:[01] | check:[01] | survey:*) _brl_files "$word" ;;
+            translate:0 | clash:0 | trace:0 | search:[01] | check:[01] | survey:* | cut:0) _brl_files "$word" ;;
+            cut:1) _brl_folders "$word" ;;
             help:0) _brl_reply < <(compgen -W "$commands" -- "$word") ;;
         esac
     fi

@@ -39,6 +39,7 @@ complete -c brl -n __brl_is_first -a trace -d 'Show the steps of the translation
 complete -c brl -n __brl_is_first -a search -d 'Decide whether any two texts look alike by a table'
 complete -c brl -n __brl_is_first -a check -d 'Say whether a certificate proves a table unambiguous'
 complete -c brl -n __brl_is_first -a survey -d 'List the lines of tables that are not read'
+complete -c brl -n __brl_is_first -a cut -d 'Write the lines of a table that are read as a table of its own'
 complete -c brl -n __brl_is_first -a help -d 'Print help on brl or on a command'
 
 complete -c brl -n 'not __brl_is help' -l help -d 'Print help'
@@ -46,6 +47,7 @@ complete -c brl -n __brl_is_first -l version -d 'Print the version'
 complete -c brl -n '__brl_is translate' -l form -x -a 'ascii unicode' -d 'How cells are written'
 complete -c brl -n '__brl_is search' -l limit -x -d 'How many states and pairs may be found'
 complete -c brl -n '__brl_is survey' -l brief -d 'Leave the list of faults out'
+complete -c brl -n '__brl_is cut' -l rewrite -d 'Also read lines that are to be rewritten'
 complete -c brl -n '__brl_is search check' -l without -x -d 'Characters that the texts do not use'
 
 complete -c brl -n '__brl_at translate 0' -F
@@ -54,4 +56,6 @@ complete -c brl -n '__brl_at trace 0' -F
 complete -c brl -n '__brl_at search 0 1' -F
 complete -c brl -n '__brl_at check 0 1' -F
 complete -c brl -n '__brl_is survey' -F
-complete -c brl -n '__brl_at help 0' -a 'translate clash trace search check survey'
+complete -c brl -n '__brl_at cut 0' -F
+complete -c brl -n '__brl_at cut 1' -x -a '(__fish_complete_directories)'
+complete -c brl -n '__brl_at help 0' -a 'translate clash trace search check survey cut'

@@ -131,5 +131,8 @@ for shell in bash zsh fish; do
     offers 'brl check table.ctb table.cert t'
     offers 'brl survey table.ctb other.txt t' table.ctb table.cert tables
     offers 'brl survey --brief t' table.ctb table.cert tables
+    offers 'brl cut table.ctb t' tables
+    offers 'brl cut --rewrite table.ctb t' tables
+    offers 'brl cut table.ctb tables t'
     echo "ok: completions of $shell, $count lines"
 done

@@ -45,6 +45,13 @@ pub enum Question<'a> {
         tables: Vec<&'a str>,
         brief: bool,
     },
+    /// Which lines of the table whose file is at one path are read, as a table of its own in the folder
+    /// at the other path. More lines are read where they are rewritten.
+    Cut {
+        table: &'a str,
+        dir: &'a str,
+        rewrite: bool,
+    },
     /// What the steps of a text's translation are by the table whose file is at this path.
     Trace {
         table: &'a str,
@@ -136,6 +143,8 @@ enum Options {
     Search,
     /// Whether faults are listed.
     Brief,
+    /// Whether lines are rewritten.
+    Rewrite,
 }
 
 /// A command, as its help shows it.
@@ -332,6 +341,39 @@ It prints:
     operands: &[TABLES],
 };
 
+/// `brl cut`.
+const CUT: CommandHelp = CommandHelp {
+    name: "cut",
+    about: "Writes the lines of a table that are read as a table of its own",
+    long_about: "Writes the lines of a table that are read as a table of its own
+
+Reads TABLE with the files that it includes. Each file is written under its name
+into the folder DIR, line by line: a line that is read stays, and one that isn't
+becomes a comment that says why. DIR is made where it isn't there. Files that are
+there already are never overwritten: nothing is written then, and the exit status
+is 2.
+
+With --rewrite two more kinds of lines are read, and written as lines that mean
+the same: noback before a line that defines a character, and base uppercase.",
+    example: "Example, a table in which one of three lines isn't read:
+  printf '%s\\n' 'letter a 1' 'pass2 @1 @2' 'letter b 12' > far.ctb
+  brl cut far.ctb near > cut.txt
+  head -n 1 near/far.ctb
+
+It prints:
+  letter a 1",
+    choice: Some(Options::Rewrite),
+    operands: &[
+        TABLE,
+        Operand {
+            id: "dir",
+            name: "DIR",
+            help: "The folder that gets the files",
+            several: false,
+        },
+    ],
+};
+
 /// `brl trace`.
 const TRACE: CommandHelp = CommandHelp {
     name: "trace",
@@ -367,7 +409,7 @@ It prints:
 };
 
 /// The commands of `brl`.
-static HELPS: [CommandHelp; 6] = [TRANSLATE, CLASH, CHECK, SEARCH, SURVEY, TRACE];
+static HELPS: [CommandHelp; 7] = [TRANSLATE, CLASH, CHECK, SEARCH, SURVEY, CUT, TRACE];
 
 /// How many states, and how many pairs, a search may find where the words give no limit.
 const USUAL_LIMIT: &str = "1000000";
@@ -421,6 +463,14 @@ fn brief_option<'a>(alloc: Global) -> Arg<'a> {
         .action(ArgAction::SetTrue)
 }
 
+/// The option of whether lines are rewritten.
+fn rewrite_option<'a>(alloc: Global) -> Arg<'a> {
+    Arg::new(alloc, "rewrite")
+        .long("rewrite")
+        .help("Also read noback before a line that defines a character, and base uppercase")
+        .action(ArgAction::SetTrue)
+}
+
 /// The arguments of a command: its options, if any, and its operands.
 fn arguments<'a>(alloc: Global, page: &CommandHelp) -> Result<Vec<Arg<'a>>, AllocError> {
     let mut arguments = Vec::new(alloc);
@@ -432,6 +482,7 @@ fn arguments<'a>(alloc: Global, page: &CommandHelp) -> Result<Vec<Arg<'a>>, Allo
             arguments.push(without_option(alloc))?;
         }
         Some(Options::Brief) => arguments.push(brief_option(alloc))?,
+        Some(Options::Rewrite) => arguments.push(rewrite_option(alloc))?,
         None => {}
     }
     for operand in page.operands {
@@ -537,6 +588,7 @@ fn question_of_one_table<'a>(name: &str, found: &ArgMatches<'a>) -> Option<Quest
         "clash" => clash_question(table, found),
         "check" => check_question(table, found),
         "search" => search_question(table, found),
+        "cut" => cut_question(table, found),
         "trace" => trace_question(table, found),
         _ => None,
     }
@@ -564,6 +616,16 @@ fn search_question<'a>(table: &'a str, found: &ArgMatches<'a>) -> Option<Questio
         cert: found.get_str("out")?,
         limit: found.get_one("limit")?,
         without: found.get_str("without"),
+    })
+}
+
+fn cut_question<'a>(table: &'a str, found: &ArgMatches<'a>) -> Option<Question<'a>> {
+    let dir = found.get_str("dir")?;
+    let rewrite = found.get_flag("rewrite");
+    Some(Question::Cut {
+        table,
+        dir,
+        rewrite,
     })
 }
 
