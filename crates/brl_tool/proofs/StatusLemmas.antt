@@ -1,11 +1,10 @@
 -- What the status says of what was delivered.
-use Rattle.std.proofs.Common.{◌≡◌, ◌≢◌, ◌∙◌, ℕ, suc, Bool, true, false, cond, List, [], ◌∷◌, All, arith, map, inl, inr, Option, None, Some, Result, Ok, Err, refl, subst, sym}
+use Rattle.std.proofs.Common.{◌≡◌, ◌≢◌, ◌∙◌, ℕ, suc, Bool, true, false, cond, List, [], ◌∷◌, All, arith, map, inl, inr, Option, Result, Ok, Err, refl, subst, sym}
 use Rattle.std.specs.Option.{option_copied}
 use Rattle.std.specs.Prelude.{string_bytes}
 use Rattle.std.specs.Str.{chars}
 use Rattle.brl_cert.specs.Reading.{spelling}
 use Rattle.brl_states.specs.declared.cert.Cert.{Cert}
-use Rattle.brl_lines.specs.Answer.{FileAnswers}
 use Rattle.brl_lines.specs.Lines.{Answers as Given}
 use Rattle.brl_lines.specs.Outcome.{AreGiven}
 use Rattle.brl_table.specs.Files.{IsTableOf, IsTableOfFiles}
@@ -17,11 +16,13 @@ use Rattle.brl_tool.specs.Comparing.{IsComparison}
 use Rattle.brl_tool.specs.Verdicts.{IsFileOf, IsJudgement, Judges, SearchesByFile}
 use Rattle.brl_answers.specs.Answers.{ByLeftOut, spelled_by}
 use Rattle.brl_answers.specs.Delivery.{Delivers, World, KeepsFiles, Prints}
-use Rattle.brl_answers.specs.Files.{FilesAfter, GivesAlso, MayBeSame, OthersStay}
-use Rattle.brl_tool.specs.Running.{Answers, Asks, KeepsFilesUnlessSearched, MeansDone, MeansRefuted}
+use Rattle.brl_answers.specs.Files.{GivesAlso, MayBeSame, OthersStay}
+use Rattle.brl_answers.specs.Making.{FilesAfter}
+use Rattle.brl_tool.specs.Running.{Answers, Asks, KeepsFilesUnlessWritten, MeansDone, MeansRefuted}
 use Rattle.brl_answers.specs.Status.{status_of}
 use Rattle.brl_answers.specs.declared.answer.Answer.{Answer}
-use Rattle.brl_answers.specs.declared.answer.NewFile.{NewFile}
+use Rattle.brl_answers.specs.declared.new_files.NewFiles.{NewFiles}
+use Rattle.brl_answers.specs.declared.new_files.NewFiles.TheVariants.{Nothing, InPlace, AllNew}
 use Rattle.brl_answers.specs.declared.run_fault.RunFault.{RunFault}
 use Rattle.brl_answers.specs.declared.run_fault.RunFault.TheVariants.{Wide, Memory}
 use Rattle.brl_answers.specs.declared.status.Status.{Status}
@@ -56,16 +57,17 @@ left_out_by option promises answer is = elim is [
 module _ (before after : World) (same_file : MayBeSame) where
   -- an answer with a status that no fault has was written whole
   whole : (s : Status) → ((fault : RunFault) → status_of fault ≡ s → ⊥) → (outcome : Result Answer RunFault) (status : Status) → Delivers outcome before after status → status ≡ s
-      → (answer : Answer) × (outcome ≡ Ok answer) × (answer.status ≡ s) × FilesAfter before.gives after.gives answer.file × Prints before after (string_bytes answer.text)
+      → (answer : Answer) × (outcome ≡ Ok answer) × (answer.status ≡ s) × FilesAfter before.gives after.gives answer.files × Prints before after (string_bytes answer.text)
   whole s never (Ok answer) status (Ok written, (files, prints, is), e) same = (answer, refl, sym is ∙ (sym e ∙ same), files, prints)
   whole s never (Ok answer) status (Err fault, writes, e) same = absurd (never fault (sym e ∙ same))
   whole s never (Err fault) status (stay, still, e) same = absurd (never fault (sym e ∙ same))
 
   -- ---- A file that is written
 
-  file_written : (cert : Cert) (out : List ℕ) (file : Option NewFile) → IsFileOf cert out file → FilesAfter before.gives after.gives file → GivesAlso after.gives out (spelling cert) × OthersStay before.gives after.gives out
-  file_written cert out None is files = absurd is
-  file_written cert out (Some file) (path, bytes) (gives, others) =
+  file_written : (cert : Cert) (out : List ℕ) (files : NewFiles) → IsFileOf cert out files → FilesAfter before.gives after.gives files → GivesAlso after.gives out (spelling cert) × OthersStay before.gives after.gives out
+  file_written cert out Nothing is written = absurd is
+  file_written cert out (AllNew files) is written = absurd is
+  file_written cert out (InPlace file) (path, bytes) (gives, others) =
       (subst (λ (p : List ℕ). GivesAlso after.gives p (spelling cert)) path (subst (GivesAlso after.gives (string_bytes file.path)) bytes gives), subst (OthersStay before.gives after.gives) path others)
 
   -- answers for other files are given after a file is written
@@ -82,7 +84,7 @@ module _ (before after : World) (same_file : MayBeSame) where
   -- ---- What an answer means that was written whole
 
   abbrev Means : Question → Answer → Type 0
-  Means asked answer = FilesAfter before.gives after.gives answer.file → Prints before after (string_bytes answer.text)
+  Means asked answer = FilesAfter before.gives after.gives answer.files → Prints before after (string_bytes answer.text)
       → (answer.status ≡ Done → MeansDone asked before after) × (answer.status ≡ Refuted → MeansRefuted asked before after × KeepsFiles before after)
 
   abbrev IsAnswerTo : Question → Answer → Type 0
@@ -95,6 +97,9 @@ module _ (before after : World) (same_file : MayBeSame) where
     | inr (l, r, none, says) ↦ ((λ done. tt), (λ refuted. let e = sym says.0 ∙ refuted in cc))
   ]
   means (question.Survey paths brief) answer (parts, named, are, says) files prints = ((λ done. tt), (λ refuted. absurd (unrefuted _ (sym says.0 ∙ refuted))))
+  means (question.Cut path dir rewrite) answer (status, (made, are)) files prints =
+      let written : FilesAfter before.gives after.gives (AllNew made) = subst (FilesAfter before.gives after.gives) are files in
+      ((λ done. (made.items, written.0, written.1)), (λ refuted. let e = sym status ∙ refuted in cc))
   means (question.Trace path text) answer (t, table, (known, says)) files prints = ((λ done. tt), (λ refuted. let e = sym says.0 ∙ refuted in cc))
   means (question.Check path cert option) answer is files prints =
       let (left_out, spelled, judges) = left_out_by (option_copied option) (λ left_out. Judges left_out before.gives path.now cert.now) answer is in
@@ -110,7 +115,7 @@ module _ (before after : World) (same_file : MayBeSame) where
       let (paths, t, table, apart, verdict) = searched in
       elim verdict [
         | inl (none, (body, certified, accepted, (status, text, file, read))) ↦ (
-          (λ done. let (gives, others) = file_written (certificate_of body) out.now answer.file file files in
+          (λ done. let (gives, others) = file_written (certificate_of body) out.now answer.files file files in
               (left_out, spelled, t, of_files before.gives path.now paths t table, none, (body, accepted, gives, others, table_stays path.now out.now paths t table apart others, subst (Prints before after) text prints))),
           (λ refuted. let e = sym status ∙ refuted in cc),
         )
@@ -121,22 +126,23 @@ module _ (before after : World) (same_file : MayBeSame) where
         | inr (inr (states, pairs, limit_is, says)) ↦ ((λ done. let e = sym says.0 ∙ done in cc), (λ refuted. let e = sym says.0 ∙ refuted in cc))
       ]
 
-  -- ---- Only a search has a file to write
+  -- ---- Only a search and a cut have files to write
 
-  comparison_has_none : (t : TableView) (left right : List ℕ) (answer : Answer) → IsComparison t left right answer → answer.file ≡ None
+  comparison_has_none : (t : TableView) (left right : List ℕ) (answer : Answer) → IsComparison t left right answer → answer.files ≡ Nothing
   comparison_has_none t left right answer is = elim is [
     | inl (cells, clash, says) ↦ says.2
     | inr (l, r, none, says) ↦ says.2
   ]
 
-  judgement_has_none : (left_out path bytes : List ℕ) (answer : Answer) → IsJudgement left_out before.gives path bytes answer → answer.file ≡ None
+  judgement_has_none : (left_out path bytes : List ℕ) (answer : Answer) → IsJudgement left_out before.gives path bytes answer → answer.files ≡ Nothing
   judgement_has_none left_out path bytes answer is = elim is [
     | inl (t, table, none, (accepted, deserved, says)) ↦ says.2
     | inr (fault, of, refused, (rest, says)) ↦ says.2
   ]
 
-  keeps : (asked : Question) (outcome : Result Answer RunFault) (status : Status) → Answers asked before.gives same_file outcome → Delivers outcome before after status → KeepsFilesUnlessSearched asked before after
+  keeps : (asked : Question) (outcome : Result Answer RunFault) (status : Status) → Answers asked before.gives same_file outcome → Delivers outcome before after status → KeepsFilesUnlessWritten asked before after
   keeps (question.Search path out limit option) outcome status is delivers = tt
+  keeps (question.Cut path dir rewrite) outcome status is delivers = tt
   keeps (question.Clash path left right) (Ok answer) status (t, table, is) (written, writes, e) =
       none_changes before after answer written (comparison_has_none t (chars left.now) (chars right.now) answer is) writes
   keeps (question.Survey paths brief) (Ok answer) status (parts, named, are, says) (written, writes, e) = none_changes before after answer written says.2 writes

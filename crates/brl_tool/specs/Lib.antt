@@ -1,5 +1,6 @@
 pub mod Running
 pub mod Comparing
+pub mod Cutting
 pub mod Streams
 pub mod Surveying
 pub mod Tracing

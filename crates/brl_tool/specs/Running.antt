@@ -14,16 +14,19 @@ use Rattle.brl_cells.specs.declared.form.Form.{Form}
 use Rattle.brl_rules.specs.TableView.{TableView}
 use Rattle.brl_rules.specs.Translation.{IsClash}
 use Rattle.brl_tool.specs.Comparing.{ComparesByFile}
+use Rattle.brl_tool.specs.Cutting.{CutsByFile}
 use Rattle.brl_answers.specs.Answers.{ByLeftOut, HasTextAndStatus, UnlessMemory, spelled_by, with_left_out_line}
 use Rattle.brl_tool.specs.Verdicts.{Judges, SearchesByFile, accepted_line, certified_line}
 use Rattle.brl_answers.specs.Delivery.{World, IsDelivered, KeepsFiles, Prints, PrintsNothing}
 use Rattle.brl_answers.specs.Files.{GivesAlso, MayBeSame, OthersStay}
+use Rattle.brl_answers.specs.Making.{AreNew, AreWritten}
 use Rattle.brl_answers.specs.Prefixes.{begins_as_answer}
 use Rattle.brl_answers.specs.Status.{code_of, status_of}
 use Rattle.brl_tool.specs.Streams.{TranslatesByFile}
 use Rattle.brl_tool.specs.Surveying.{SurveysByFiles}
 use Rattle.brl_tool.specs.Tracing.{TracesByFile}
 use Rattle.brl_answers.specs.declared.answer.Answer.{Answer}
+use Rattle.brl_answers.specs.declared.new_files.NewFile.{NewFile}
 use Rattle.brl_answers.specs.declared.run_fault.RunFault.{RunFault}
 use Rattle.brl_answers.specs.declared.status.Status.{Status}
 use Rattle.brl_answers.specs.declared.status.Status.TheVariants.{Done, Faulty, Refuted}
@@ -42,6 +45,7 @@ abbrev pub Answers : Question → FileAnswers → MayBeSame → Result Answer Ru
 Answers (question.Clash path left right) gives same outcome = ComparesByFile gives path.now (chars left.now) (chars right.now) outcome
 Answers (question.Survey paths brief) gives same outcome = SurveysByFiles brief gives (map (λ path. path.now) paths.items) outcome
 Answers (question.Trace path text) gives same outcome = TracesByFile gives path.now (chars text.now) outcome
+Answers (question.Cut path dir rewrite) gives same outcome = CutsByFile gives path.now dir.now rewrite outcome
 Answers (question.Check path cert option) gives same outcome =
     ByLeftOut (option_copied option) (λ left_out. Judges left_out gives path.now cert.now) outcome
 Answers (question.Search path out limit option) gives same outcome =
@@ -76,28 +80,34 @@ ReportsCertificate before after path out option =
     × GivesAlso after.gives out (spelling (certificate_of body)) × OthersStay before.gives after.gives out × IsTableOf after.gives path t
     × Prints before after (with_left_out_line left_out (certified_line (certificate_of body))))
 
+-- new files were written, and no other file changed
+abbrev pub WritesNewFiles : World → World → Type 0
+WritesNewFiles before after = (files : List NewFile) × AreNew before.gives files × AreWritten files before.gives after.gives
+
 -- what it means that the work was done
 abbrev pub MeansDone : Question → World → World → Type 0
 MeansDone (question.Check path cert option) before after = ReportsAcceptance before after path.now (option_copied option)
 MeansDone (question.Search path out limit option) before after = ReportsCertificate before after path.now out.now (option_copied option)
+MeansDone (question.Cut path dir rewrite) before after = WritesNewFiles before after
 MeansDone asked before after = Unit {0}
 
--- what it means that something was refuted; a survey and a trace never say so
+-- what it means that something was refuted; a survey, a trace and a cut never say so
 abbrev pub MeansRefuted : Question → World → World → Type 0
 MeansRefuted (question.Clash path left right) before after = ReportsClash before after
 MeansRefuted (question.Check path cert option) before after = ReportsRefusal before after
 MeansRefuted (question.Search path out limit option) before after = ReportsClash before after
 MeansRefuted asked before after = ⊥
 
--- no file changes, unless a table was searched
-abbrev pub KeepsFilesUnlessSearched : Question → World → World → Type 0
-KeepsFilesUnlessSearched (question.Search path out limit option) before after = Unit {0}
-KeepsFilesUnlessSearched asked before after = KeepsFiles before after
+-- no file changes, unless a table was searched or cut
+abbrev pub KeepsFilesUnlessWritten : Question → World → World → Type 0
+KeepsFilesUnlessWritten (question.Search path out limit option) before after = Unit {0}
+KeepsFilesUnlessWritten (question.Cut path dir rewrite) before after = Unit {0}
+KeepsFilesUnlessWritten asked before after = KeepsFiles before after
 
 -- a question was asked: its answer was delivered, and the status means what it says
 pub record Asks (asked : Question) (same : MayBeSame) (before after : World) (status : Status) : Type 0 where
   pub delivered : IsDelivered (Answers asked before.gives same) before after status
-  pub files : KeepsFilesUnlessSearched asked before after
+  pub files : KeepsFilesUnlessWritten asked before after
   pub done : status ≡ Done → MeansDone asked before after
   pub refuted : status ≡ Refuted → MeansRefuted asked before after × KeepsFiles before after
 

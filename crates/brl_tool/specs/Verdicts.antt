@@ -1,5 +1,5 @@
 -- What `brl check` and `brl search` answer. The project's own choice.
-use Rattle.std.specs.Prelude.{ℕ, ◌≡◌, ◌≢◌, ◌<◌, ◌≤◌, ◌⊎◌, All, Any, List, ◌++◌, length, Option, None, Some, Result, Ok, Err, codes, string_bytes}
+use Rattle.std.specs.Prelude.{ℕ, ◌≡◌, ◌≢◌, ◌<◌, ◌≤◌, ◌⊎◌, All, Any, List, ◌++◌, length, None, Result, Ok, Err, codes, string_bytes}
 use Rattle.brl_accept.specs.Judging.{IsAcceptedWithout, IsRefusedByWithout, counted}
 use Rattle.brl_closure.specs.declared.check.checker.Accepted.{Accepted}
 use Rattle.brl_accept.specs.declared.judge_fault.JudgeFault.{JudgeFault}
@@ -23,7 +23,8 @@ use Rattle.brl_rules.specs.TableView.{TableView}
 use Rattle.brl_answers.specs.Files.{MayBeSame}
 use Rattle.brl_answers.specs.Status.{of_no_table}
 use Rattle.brl_answers.specs.declared.answer.Answer.{Answer}
-use Rattle.brl_answers.specs.declared.answer.NewFile.{NewFile}
+use Rattle.brl_answers.specs.declared.new_files.NewFiles.{NewFiles}
+use Rattle.brl_answers.specs.declared.new_files.NewFiles.TheVariants.{InPlace}
 use Rattle.brl_answers.specs.declared.run_fault.RunFault.{RunFault}
 use Rattle.brl_answers.specs.declared.run_fault.RunFault.TheVariants.{Load, Wide, NotDefined, WouldOverwrite, Memory}
 use Rattle.brl_answers.specs.declared.status.Status.TheVariants.{Done, Refuted, Undecided}
@@ -115,15 +116,15 @@ pub record Judges (left_out : List ℕ) (gives : FileAnswers) (path cert : List 
 abbrev pub certified_line : Certificate → List ℕ
 certified_line cert = counts_line (codes "certified") (state_count cert) (pair_count cert)
 
--- a file at a path with the bytes of a certificate
-abbrev pub IsFileOf : Certificate → List ℕ → Option NewFile → Type 0
-IsFileOf cert path None = ⊥
-IsFileOf cert path (Some file) = (string_bytes file.path ≡ path) × (file.bytes.items ≡ spelling cert)
+-- one file, in place of what is at a path, with the bytes of a certificate
+abbrev pub IsFileOf : Certificate → List ℕ → NewFiles → Type 0
+IsFileOf cert path (InPlace file) = (string_bytes file.path ≡ path) × (file.bytes.items ≡ spelling cert)
+IsFileOf cert path files = ⊥
 
 -- the answer with a certificate, which is read back from the bytes for its file
 abbrev pub IsCertificateAt : List ℕ → List ℕ → Certificate → Answer → Type 0
 IsCertificateAt left_out path cert answer =
-    (answer.status ≡ Done) × (string_bytes answer.text ≡ with_left_out_line left_out (certified_line cert)) × IsFileOf cert path answer.file
+    (answer.status ≡ Done) × (string_bytes answer.text ≡ with_left_out_line left_out (certified_line cert)) × IsFileOf cert path answer.files
     × (reading (spelling cert) ≡ Ok cert)
 
 -- The answer of the search of a table with a limit, without the characters that are left out: a

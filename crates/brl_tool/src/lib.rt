@@ -1,8 +1,8 @@
 //! `run`, the program over any files and streams.
 //!
-//! `program` has what each command's words lead to. `translate`, `clash`, `trace` and `survey` do the
-//! work of these commands by the files of a table, `search` and `check` that of theirs, and `notices`
-//! writes the notices of a table that is searched. What all but `translate` give is an answer
+//! `program` has what each command's words lead to. `translate`, `clash`, `trace`, `survey` and `cut`
+//! do the work of these commands by the files of a table, `search` and `check` that of theirs, and
+//! `notices` writes the notices of a table that is searched. What all but `translate` give is an answer
 //! (brl_answers).
 //!
 //! Room 5, the program (docs/dev/ARCHITECTURE.md). The definitions begin in `specs/Running.antt`.
@@ -10,6 +10,7 @@
 
 mod check;
 mod clash;
+mod cut;
 mod laws;
 mod notices;
 mod program;
@@ -18,12 +19,13 @@ mod survey;
 mod trace;
 mod translate;
 
-pub use brl_answers::{Files, SinkFault};
+pub use brl_answers::{CreateFault, Files, SinkFault};
 pub use brl_stream::{
     Counting, Failed, Form, Input, LineFault, Output, StreamFault, translate_lines,
 };
 pub use check::check_by_words;
 pub use clash::compare_by_file;
+pub use cut::cut_by_file;
 pub use laws::prefixes_law;
 pub use program::run;
 pub use search::search_by_words;

@@ -6,6 +6,7 @@ ghost use Rattle.brl_tool.specs.Running.{Answers, Asks, IsHelp, IsStatus, Perfor
 
 use crate::check::check_by_words;
 use crate::clash::compare_by_file;
+use crate::cut::cut_by_file;
 use crate::search::search_by_words;
 use crate::survey::survey_by_files;
 use crate::trace::trace_by_file;
@@ -30,10 +31,11 @@ use std::io::Write;
 /// its answer is delivered. Faults come in the order of the work: the words, and what they leave out, the
 /// certificate's file, the table's files, a file for a new certificate that is one of these, the
 /// table's lines, a character that is left out and isn't defined, the texts, the input, the certificate
-/// or the search, the file that gets a certificate, the output.
+/// or the search, the file that gets a certificate or the files of a table that is cut, the output.
 ///
-/// A file is written only where a search found a certificate: that file and no other. A file of the
-/// searched table is refused as the file for the certificate before the search.
+/// Files are written only where a search found a certificate, that file and no other, and where a
+/// table is cut, files at whose paths nothing was. A file of the searched table is refused as the
+/// file for the certificate before the search.
 pub fn run<F: Files, I: Input, O: Output, E: Write + Progress>(
     alloc: Global,
     words: &[String],
@@ -124,6 +126,11 @@ fn answer<F: Files, E: Write + Progress>(
             survey_by_files(alloc, files, tables.as_slice(), brief, err)
         }
         Question::Trace { table, text } => trace_by_file(alloc, files, table, text),
+        Question::Cut {
+            table,
+            dir,
+            rewrite,
+        } => cut_by_file(alloc, files, table, dir, rewrite),
         Question::Check {
             table,
             cert,

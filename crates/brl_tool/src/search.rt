@@ -10,7 +10,8 @@ ghost use Rattle.brl_without.specs.Tables.{AreDefined};
 
 use crate::notices::write_notices;
 use brl_answers::{
-    Answer, Files, NewFile, RunFault, Status, counts_text, left_out_of, with_left_out_line,
+    Answer, Files, NewFile, NewFiles, RunFault, Status, counts_text, left_out_of,
+    with_left_out_line,
 };
 use brl_cert::write_cert;
 use brl_lines::{Loaded, load};
@@ -166,6 +167,6 @@ fn certificate(
     Ok(Answer {
         text,
         status: Status::Done,
-        file: Some(NewFile { path, bytes }),
+        files: NewFiles::InPlace(NewFile { path, bytes }),
     })
 }
