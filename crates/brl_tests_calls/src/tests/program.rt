@@ -3,13 +3,18 @@ use brl_failure::Failure;
 use brl_lines::MapSource;
 use brl_table::Table;
 use brl_testing::{Listener, one_file, table_of};
-use brl_tool::{Counting, Files, Form, SinkFault, StreamFault, run, translate_lines};
+use brl_tool::{Counting, CreateFault, Files, Form, SinkFault, StreamFault, run, translate_lines};
 use std::alloc::Global;
 use std::test::Fail;
 
 fn is_written(alloc: Global, files: &mut MapSource) -> bool {
     let written: Result<(), SinkFault> = files.write(alloc, "u.ctb", b"letter a 1\n");
     written.is_ok() && files.files.len() == 2
+}
+
+fn is_made(alloc: Global, files: &mut MapSource) -> bool {
+    let made: Result<(), Failure<CreateFault>> = files.create(alloc, "v.ctb", b"letter a 1\n");
+    made.is_ok() && files.is_there("v.ctb")
 }
 
 /// Whether an input is translated to this output.
@@ -51,7 +56,8 @@ fn words_of(alloc: Global) -> Result<Vec<String>, Fail> {
 
 fn is_run(alloc: Global, files: &mut MapSource) -> Result<bool, Fail> {
     let words = words_of(alloc)?;
-    Ok(answers(alloc, words.as_slice(), files) && is_written(alloc, files))
+    let done = answers(alloc, words.as_slice(), files);
+    Ok(done && is_written(alloc, files) && is_made(alloc, files))
 }
 
 fn runs(alloc: Global) -> Result<bool, Fail> {

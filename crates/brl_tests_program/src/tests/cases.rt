@@ -278,6 +278,12 @@ brl,search,t.ctb,o,--limit,4294967295||L1 NotFound t.ctb|2
 brl,search,t.ctb,o,--limit,4294967296||invalid value '4294967296' for '--limit <N>'|2
 brl,search,t.ctb,o,--limit,-1||'-1'|2
 brl,search,t.ctb,o,--limit,ten||invalid value 'ten' for '--limit <N>'|2
+brl,cut,--help|brl cut far.ctb near||0
+brl,cut,--help|--rewrite||0
+brl,cut,t.ctb||<DIR>|2
+brl,cut,t.ctb,d,e||unexpected argument 'e'|2
+brl,cut,t.ctb,d,--brief||unexpected argument '--brief'|2
+brl,survey,t.ctb,--rewrite||unexpected argument '--rewrite'|2
 brl,survey,--help|brl survey far.ctb||0
 brl,survey||<TABLE>|2
 brl,survey,--nothing,t.ctb||unexpected argument '--nothing'|2

@@ -1,20 +1,24 @@
-//! Files that can't be written.
+//! Files that can't be read or written.
 use brl_failure::Failure;
 use brl_lines::{Source, SourceFault};
-use brl_tool::{Failed, Files};
+use brl_testing::Refusing;
+use brl_tool::{CreateFault, Failed, Files};
 use std::alloc::Global;
 
-/// Files of which none can be written.
+/// Files of which none can be written in place of another, and new ones can't be made once some
+/// were.
 #[derive(Drop)]
-pub struct Sealed<S> {
-    pub files: S,
+pub struct Sealed<F> {
+    pub files: F,
+    /// How many new files can be made.
+    pub room: u32,
     pub refusal: Failure<Failed>,
 }
 
-impl<S: Source> Source for Sealed<S> {
-    ghost gives = { λ s. S.gives s.files };
+impl<F: Source> Source for Sealed<F> {
+    ghost gives = { λ s. F.gives s.files };
 
-    ghost faults = { λ s. S.faults s.files };
+    ghost faults = { λ s. F.faults s.files };
 
     fn read(&mut self, alloc: Global, path: &str) -> Result<Vec<u8>, Failure<SourceFault>> {
         self.files.read(alloc, path)
@@ -25,7 +29,7 @@ impl<S: Source> Source for Sealed<S> {
     }
 }
 
-impl<S: Source> Files for Sealed<S> {
+impl<F: Files> Files for Sealed<F> {
     ghost use Rattle.std.specs.Prelude.{◌≡◌};
 
     ghost same_file = { λ one other. one ≡ other };
@@ -36,5 +40,70 @@ impl<S: Source> Files for Sealed<S> {
 
     fn write(&mut self, _alloc: Global, _path: &str, _bytes: &[u8]) -> Result<(), Failure<Failed>> {
         Err(self.refusal)
+    }
+
+    fn is_there(&self, path: &str) -> bool {
+        self.files.is_there(path)
+    }
+
+    fn create(
+        &mut self,
+        alloc: Global,
+        path: &str,
+        bytes: &[u8],
+    ) -> Result<(), Failure<CreateFault>> {
+        if self.room > 0 {
+            self.room -= 1;
+            return self.files.create(alloc, path, bytes);
+        }
+        match self.refusal {
+            Failure::Fault(Failed) => Err(Failure::Fault(CreateFault::Failed)),
+            Failure::Memory => Err(Failure::Memory),
+        }
+    }
+}
+
+/// Files that refuse each read and each write.
+#[derive(Drop)]
+pub struct Unreadable {
+    pub files: Refusing,
+}
+
+impl Source for Unreadable {
+    ghost gives = { λ _ _ _. Unit {0} };
+
+    ghost faults = { λ s. s.files.failures };
+
+    fn read(&mut self, alloc: Global, path: &str) -> Result<Vec<u8>, Failure<SourceFault>> {
+        self.files.read(alloc, path)
+    }
+
+    fn failures(&self) -> u64 {
+        self.files.failures()
+    }
+}
+
+impl Files for Unreadable {
+    ghost same_file = { λ _ _. Unit {0} };
+
+    fn is_same_file(&self, one: &str, other: &str) -> bool {
+        one == other
+    }
+
+    fn write(&mut self, _alloc: Global, _path: &str, _bytes: &[u8]) -> Result<(), Failure<Failed>> {
+        Err(Failure::Fault(Failed))
+    }
+
+    fn is_there(&self, _path: &str) -> bool {
+        false
+    }
+
+    fn create(
+        &mut self,
+        _alloc: Global,
+        _path: &str,
+        _bytes: &[u8],
+    ) -> Result<(), Failure<CreateFault>> {
+        Err(Failure::Fault(CreateFault::Failed))
     }
 }

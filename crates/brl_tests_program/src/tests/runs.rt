@@ -1,13 +1,13 @@
 //! Worked runs of the program over files, streams and words in memory.
 use crate::tests::cases;
-use crate::tests::files::Sealed;
+use crate::tests::files::Unreadable;
 use brl_failure::Failure;
 use brl_lines::{MapSource, SourceFault};
 use brl_testing::{
     Broken, Closed, Listener, Refusing, check_rows, cut, field_of, files_of, for_rows_of_2,
     for_rows_of_4, lines_of, no_files, one_file, words_of,
 };
-use brl_tool::{Counting, Failed, Files, Input, prefixes_law, run};
+use brl_tool::{Counting, Files, Input, prefixes_law, run};
 use std::alloc::Global;
 use std::io::ErrorKind;
 use std::test::Fail;
@@ -214,11 +214,7 @@ fn is_refused(alloc: Global, refusal: Failure<SourceFault>, fields: &str) -> Res
         refusal,
         failures: 0,
     };
-    let mut files = Sealed {
-        files,
-        refusal: Failure::Fault(Failed),
-    };
-    is_answered(alloc, TRANSLATE, &mut files, b"a\n", fields)
+    is_answered(alloc, TRANSLATE, &mut Unreadable { files }, b"a\n", fields)
 }
 
 #[test]

@@ -150,7 +150,12 @@ fn worked_certificates(rt: HostRuntime) -> Result<(), Fail> {
 /// Whether a search of a table of two letters whose certificate is refused is answered so.
 fn is_sealed(alloc: Global, refusal: Failure<Failed>, fields: &str) -> Result<bool, Fail> {
     let files = table_of(alloc, "letter a 1; letter b 12")?;
-    is_answered(alloc, SEARCH, &mut Sealed { files, refusal }, b"", fields)
+    let mut files = Sealed {
+        files,
+        room: 0,
+        refusal,
+    };
+    is_answered(alloc, SEARCH, &mut files, b"", fields)
 }
 
 #[test]
