@@ -1,6 +1,6 @@
 -- The least rule of the edges that have a property, where edges with it match a lead: the rule of the
 -- first one of those that match.
-use Rattle.std.proofs.Common.{◌≡◌, ◌↔◌, ℕ, ◌+◌, ◌<◌, ◌≤◌, Bool, false, IsTrue, true≢false, List, inl, inr, length, Some, slice_get, refl, sym, ◌∙◌, ap, subst, arith}
+use Rattle.std.proofs.Common.{◌≡◌, ◌↔◌, ℕ, ◌+◌, ◌<◌, ◌≤◌, Bool, false, IsTrue, true≢false, List, inl, inr, length, get_or, Some, slice_get, refl, sym, ◌∙◌, ap, subst, arith}
 use Rattle.std.proofs.lemmas.Bool.{cases_eq, cases_lt}
 use Rattle.std.proofs.lemmas.Option.{get_or_from_slice_get, slice_get_within}
 use Rattle.brl_closure.specs.Least.{IsLeast}
@@ -14,8 +14,10 @@ use Rattle.brl_pairs.specs.Sorted.{AreMatches, DoMatch, IsSortedOf, cells_of, or
 use Rattle.brl_pairs.specs.Splits.{AreEarlier}
 use Rattle.brl_pairs.specs.declared.edge.Edge.{Edge}
 use Rattle.brl_pairs.specs.declared.sorted.SortedEdge.{SortedEdge}
-use Rattle.brl_pairs.proofs.Lists.{same_place}
+use Rattle.brl_pairs.proofs.Lists.{read_at, same_place}
 use Rattle.brl_pairs.proofs.Numbered.{contained, place_of}
+use Rattle.brl_pairs.proofs.SortedLaws.{edge_at, is_at}
+use Rattle.brl_pairs.proofs.Unmatched.{match_back}
 
 -- a test that failed
 pub refuted : {P : Type 0} (test : Bool) → IsTrue test ↔ P → test ≡ false → P → ⊥
@@ -25,6 +27,10 @@ refuted test tells failed holds = true≢false (sym (tells.1 holds) ∙ failed)
 pub missing_matches : (pairs : List NumberPair) (ahead : ℕ) (lead : List ℕ) (e : Edge) → IsMissing pairs ahead lead e → DoMatch lead e.cells
 missing_matches pairs ahead lead e (inl gap) = inl (gap.rest, gap.longer)
 missing_matches pairs ahead lead e (inr gap) = inr (gap.rest, gap.shorter)
+
+-- an edge that splits with a later one into a missing pair matches its cells
+pub split_matches : (pairs : List NumberPair) (later earlier : Edge) → IsMissing pairs earlier.next earlier.cells later → DoMatch later.cells earlier.cells
+split_matches pairs later earlier h = match_back earlier.cells later.cells (missing_matches pairs earlier.next earlier.cells later h)
 
 -- a sorted edge with this place has the cells of the edge there
 same_cells_at : (cells : List (List ℕ)) (edges : List Edge) (sorted : List SortedEdge) → IsSortedOf cells edges sorted → (y : SortedEdge) → Contains sorted y → (place : ℕ) (e : Edge) → y.place ≡ place → slice_get edges place ≡ Some e → cells_of cells y ≡ e.cells
@@ -67,12 +73,19 @@ found_of_earlier cells edges sorted h place e at y there is found those = record
     lead_is : cells_of cells y ≡ e.cells
     lead_is = same_cells_at cells edges sorted h y there place e is at
 
+-- the edge that the match with this number names is listed
+pub named_within : (edges : List Edge) (lead : List ℕ) (end : ℕ) (found : List SortedEdge) → AreFound edges lead end found → (listed : List Edge) → listed ≡ edges → (n : ℕ) → n < length found → (edge_at found n).place < length listed
+named_within edges lead end found h listed same n less =
+    let e = h.only n (edge_at found n) (is_at found n less) in
+    let within = slice_get_within edges (edge_at found n).place e.0 e.1 in
+    omega (arith, within, ap length same)
+
 -- none of the edges that were found before this one has the property
 abbrev pub NoneAmong : (Edge → Type 0) → List Edge → List SortedEdge → ℕ → Type 0
 NoneAmong Has edges found n = (k : ℕ) (x : SortedEdge) (e : Edge) → k < n → slice_get found k ≡ Some x → slice_get edges x.place ≡ Some e → Has e → ⊥
 
 module _ (Has : Edge → Type 0) (edges : List Edge) (lead : List ℕ) (end : ℕ) (found : List SortedEdge) (h : AreFound edges lead end found) (match : (e : Edge) → Has e → DoMatch lead e.cells) where
-  pub one_more_without : (n : ℕ) (x : SortedEdge) (e : Edge) → NoneAmong Has edges found n → slice_get found n ≡ Some x → slice_get edges x.place ≡ Some e → (Has e → ⊥) → NoneAmong Has edges found (n + 1)
+  one_more_without : (n : ℕ) (x : SortedEdge) (e : Edge) → NoneAmong Has edges found n → slice_get found n ≡ Some x → slice_get edges x.place ≡ Some e → (Has e → ⊥) → NoneAmong Has edges found (n + 1)
   one_more_without n x e none x_at e_at without k y f less y_at f_at =
       elim (cases_eq k n) [
         | inl here ↦ (
@@ -106,7 +119,7 @@ module _ (Has : Edge → Type 0) (edges : List Edge) (lead : List ℕ) (end : �
         | inr apart ↦ in_order x.place place e f (omega (arith, le, apart)) e_at f_at
       ]
 
-  pub least_before : AreInOrder edges → (n : ℕ) (x : SortedEdge) (e : Edge) → slice_get found n ≡ Some x → slice_get edges x.place ≡ Some e → NoneAmong Has edges found n → Has e → IsLeast (HasBefore Has edges end) e.rule
+  least_before : AreInOrder edges → (n : ℕ) (x : SortedEdge) (e : Edge) → slice_get found n ≡ Some x → slice_get edges x.place ≡ Some e → NoneAmong Has edges found n → Has e → IsLeast (HasBefore Has edges end) e.rule
   least_before in_order n x e x_at e_at none has = record {
     has = record { found = record { place = x.place; edge = e; at = e_at; has_rule = refl; has = has }; before = (h.only n x x_at).3 };
     below_all = λ rule f. subst (λ (r : ℕ). e.rule ≤ r) f.found.has_rule (least_rule in_order n x e x_at e_at none f.found.place f.found.edge f.before f.found.at f.found.has);
@@ -117,6 +130,17 @@ module _ (Has : Edge → Type 0) (edges : List Edge) (lead : List ℕ) (end : �
       let y = h.all f.found.place f.found.edge f.before f.found.at (match f.found.edge f.found.has) in
       let within : y.0 < length found = slice_get_within found y.0 y.1 y.2 in
       none y.0 y.1 f.found.edge (omega (arith, within, all)) y.2 (ap (slice_get edges) y.3 ∙ f.found.at) f.found.has
+
+  -- the match with this number is read, and the edge that it names
+  module _ (listed : List Edge) (same : listed ≡ edges) (n : ℕ) (less : n < length found) (e : Edge) (is : e ≡ get_or listed (edge_at found n).place e) (none : NoneAmong Has edges found n) where
+    named : slice_get edges (edge_at found n).place ≡ Some e
+    named = read_at listed edges (edge_at found n).place e same (named_within edges lead end found h listed same n less) is
+
+    pub read_without : (Has e → ⊥) → NoneAmong Has edges found (n + 1)
+    read_without without = one_more_without n (edge_at found n) e none (is_at found n less) named without
+
+    pub read_least : AreInOrder edges → Has e → IsLeast (HasBefore Has edges end) e.rule
+    read_least in_order has = least_before in_order n (edge_at found n) e (is_at found n less) named none has
 
 -- ---- Of all edges
 

@@ -10,7 +10,7 @@ use Rattle.brl_closure.proofs.Numbers.{at_named, edge_of, has_pair, is_there, na
 use Rattle.brl_pairs.specs.Body.{BodyView, IsPairOf, NumberPair}
 use Rattle.brl_pairs.specs.Sets.{pair_at, sets_of}
 use Rattle.brl_pairs.specs.Edges.{AreEdges, AreFirstEdges, AreInOrder}
-use Rattle.brl_pairs.specs.NumberPairs.{IsFollowed, IsMissing}
+use Rattle.brl_pairs.specs.NumberPairs.{IsFollowed, IsMissing, IsThere}
 use Rattle.brl_pairs.specs.declared.edge.Edge.{Edge}
 use Rattle.brl_pairs.specs.Runs.{Behaviour, IsInOrder, IsListedAt}
 use Rattle.brl_pairs.specs.declared.step.Pair.{Pair}
@@ -23,8 +23,8 @@ one_value o x y a b = cc
 in_order_of : (a b : ℕ) → a ≤ b → (min a b ≡ a) × (max a b ≡ b)
 in_order_of a b le = (grind arith, grind arith)
 
-in_other_order_of : (a b : ℕ) → b ≤ a → (min a b ≡ b) × (max a b ≡ a)
-in_other_order_of a b le = (grind arith, grind arith)
+exchanged : (a b : ℕ) → (min a b ≡ min b a) × (max a b ≡ max b a)
+exchanged a b = (grind arith, grind arith)
 
 -- an edge that leads to no pair, or to a listed one, misses nothing
 pub followed_not_missing : (pairs : List NumberPair) (ahead : ℕ) (lead : List ℕ) (e : Edge) → IsFollowed pairs ahead lead e → IsMissing pairs ahead lead e → ⊥
@@ -137,57 +137,65 @@ module _ {S : Type 0} where
       abbrev Missing : Edge → Edge → Type 0
       Missing x y = IsMissing body.pairs x.next x.cells y
 
+      -- of two edges, one gives the cells of the other and more, and they lead to a missing pair: their steps miss a split
+      of_longer : (i j : ℕ) (e f : Edge) → (i ≡ j → ⊥) → slice_get edges i ≡ Some e → slice_get edges j ≡ Some f → (l g : ℕ) → min e.rule f.rule ≡ l → max e.rule f.rule ≡ g
+          → (rest : List ℕ) → e.cells ≡ f.cells ++ rest → (IsThere body.pairs e.next f.next rest → ⊥) → MissesSplit m body k l g
+      of_longer i j e f differ e_at f_at l g lesser greater rest longer missing =
+          let x = step_of m body.states k edges h i e e_at in
+          let y = step_of m body.states k edges h j f f_at in
+          record {
+            state = h.state;
+            is_state = h.at;
+            pair = runs x.step.next y.step.next rest;
+            split = record {
+              i = i;
+              j = j;
+              longer = x.step;
+              shorter = y.step;
+              differ = differ;
+              longer_listed = x.at;
+              shorter_listed = y.at;
+              ahead = refl;
+              behind = refl;
+              lead = sym x.is_edge.cells ∙ longer ∙ ap (λ (z : List ℕ). z ++ rest) y.is_edge.cells;
+            };
+            has_lesser = rw (← x.is_edge.rule, ← y.is_edge.rule) lesser;
+            has_greater = rw (← x.is_edge.rule, ← y.is_edge.rule) greater;
+            missing = λ there. missing (is_there body one e.next f.next rest (runs x.step.next y.step.next rest) x.is_edge.next y.is_edge.next refl there);
+          }
+
       -- two edges that miss a pair are two steps that miss a split
       to_split : (l g : ℕ) → HasOfRules Missing edges l g → MissesSplit m body k l g
       to_split l g f =
-          let x = step_of m body.states k edges h f.i f.earlier f.earlier_at in
-          let y = step_of m body.states k edges h f.j f.later f.later_at in
+          let x = f.earlier in
+          let y = f.later in
           let less : f.i < f.j = f.in_order in
-          let le : x.step.rule ≤ y.step.rule = (let ascend : f.earlier.rule ≤ f.later.rule = in_order f.i f.j f.earlier f.later less f.earlier_at f.later_at in omega (arith, ascend, x.is_edge.rule, y.is_edge.rule)) in
-          let first : x.step.rule ≡ l = sym x.is_edge.rule ∙ f.has_first in
-          let second : y.step.rule ≡ g = sym y.is_edge.rule ∙ f.has_second in
+          let rules = in_order_of x.rule y.rule (in_order f.i f.j x y less f.earlier_at f.later_at) in
+          let lesser : min x.rule y.rule ≡ l = rules.0 ∙ f.has_first in
+          let greater : max x.rule y.rule ≡ g = rules.1 ∙ f.has_second in
           elim f.has [
-            | inl gap ↦ record {
-              state = h.state;
-              is_state = h.at;
-              pair = runs x.step.next y.step.next gap.rest;
-              split = record {
-                i = f.i;
-                j = f.j;
-                longer = x.step;
-                shorter = y.step;
-                differ = (λ e. absurd (omega (arith, less, e)));
-                longer_listed = x.at;
-                shorter_listed = y.at;
-                ahead = refl;
-                behind = refl;
-                lead = sym x.is_edge.cells ∙ gap.longer ∙ ap (λ (z : List ℕ). z ++ gap.rest) y.is_edge.cells;
-              };
-              has_lesser = (in_order_of x.step.rule y.step.rule le).0 ∙ first;
-              has_greater = (in_order_of x.step.rule y.step.rule le).1 ∙ second;
-              missing = λ there. gap.missing (is_there body one f.earlier.next f.later.next gap.rest (runs x.step.next y.step.next gap.rest) x.is_edge.next y.is_edge.next refl there);
-            }
-            | inr gap ↦ record {
-              state = h.state;
-              is_state = h.at;
-              pair = runs y.step.next x.step.next gap.rest;
-              split = record {
-                i = f.j;
-                j = f.i;
-                longer = y.step;
-                shorter = x.step;
-                differ = (λ e. absurd (omega (arith, less, e)));
-                longer_listed = y.at;
-                shorter_listed = x.at;
-                ahead = refl;
-                behind = refl;
-                lead = sym y.is_edge.cells ∙ gap.shorter ∙ ap (λ (z : List ℕ). z ++ gap.rest) x.is_edge.cells;
-              };
-              has_lesser = (in_other_order_of y.step.rule x.step.rule le).0 ∙ first;
-              has_greater = (in_other_order_of y.step.rule x.step.rule le).1 ∙ second;
-              missing = λ there. gap.missing (is_there body one f.later.next f.earlier.next gap.rest (runs y.step.next x.step.next gap.rest) y.is_edge.next x.is_edge.next refl there);
-            }
+            | inl gap ↦ of_longer f.i f.j x y (λ e. absurd (omega (arith, less, e))) f.earlier_at f.later_at l g lesser greater gap.rest gap.longer gap.missing
+            | inr gap ↦
+                let other = exchanged y.rule x.rule in
+                of_longer f.j f.i y x (λ e. absurd (omega (arith, less, e))) f.later_at f.earlier_at l g (other.0 ∙ lesser) (other.1 ∙ greater) gap.rest gap.shorter gap.missing
           ]
+
+      -- an earlier edge and a later one that miss a pair, by the rules of both
+      by_rules : (i j : ℕ) (e f : Edge) → i < j → slice_get edges i ≡ Some e → slice_get edges j ≡ Some f → (l g : ℕ) → min e.rule f.rule ≡ l → max e.rule f.rule ≡ g → Missing e f → HasOfRules Missing edges l g
+      by_rules i j e f less e_at f_at l g lesser greater gap =
+          let rules = in_order_of e.rule f.rule (in_order i j e f less e_at f_at) in
+          record {
+            i = i;
+            j = j;
+            earlier = e;
+            later = f;
+            in_order = less;
+            earlier_at = e_at;
+            later_at = f_at;
+            has_first = sym rules.0 ∙ lesser;
+            has_second = sym rules.1 ∙ greater;
+            has = gap;
+          }
 
       -- and the other way round
       from_split : (l g : ℕ) → MissesSplit m body k l g → HasOfRules Missing edges l g
@@ -203,37 +211,13 @@ module _ {S : Type 0} where
             longer = cells;
             missing = λ there. f.missing (has_pair body x.edge.next y.edge.next f.pair.lead f.pair ahead behind refl there);
           }) in
+          let lesser : min x.edge.rule y.edge.rule ≡ l = rw (x.is_edge.rule, y.is_edge.rule) f.has_lesser in
+          let greater : max x.edge.rule y.edge.rule ≡ g = rw (x.is_edge.rule, y.is_edge.rule) f.has_greater in
           elim (either_way split.i split.j split.differ) [
-            | inl less ↦
-                let ascend : x.edge.rule ≤ y.edge.rule = in_order split.i split.j x.edge y.edge less x.at y.at in
-                let le : split.longer.rule ≤ split.shorter.rule = omega (arith, ascend, x.is_edge.rule, y.is_edge.rule) in
-                record {
-                  i = split.i;
-                  j = split.j;
-                  earlier = x.edge;
-                  later = y.edge;
-                  in_order = less;
-                  earlier_at = x.at;
-                  later_at = y.at;
-                  has_first = x.is_edge.rule ∙ sym (in_order_of split.longer.rule split.shorter.rule le).0 ∙ f.has_lesser;
-                  has_second = y.is_edge.rule ∙ sym (in_order_of split.longer.rule split.shorter.rule le).1 ∙ f.has_greater;
-                  has = gap;
-                }
+            | inl less ↦ by_rules split.i split.j x.edge y.edge less x.at y.at l g lesser greater gap
             | inr more ↦
-                let ascend : y.edge.rule ≤ x.edge.rule = in_order split.j split.i y.edge x.edge more y.at x.at in
-                let le : split.shorter.rule ≤ split.longer.rule = omega (arith, ascend, x.is_edge.rule, y.is_edge.rule) in
-                record {
-                  i = split.j;
-                  j = split.i;
-                  earlier = y.edge;
-                  later = x.edge;
-                  in_order = more;
-                  earlier_at = y.at;
-                  later_at = x.at;
-                  has_first = y.is_edge.rule ∙ sym (in_other_order_of split.longer.rule split.shorter.rule le).0 ∙ f.has_lesser;
-                  has_second = x.is_edge.rule ∙ sym (in_other_order_of split.longer.rule split.shorter.rule le).1 ∙ f.has_greater;
-                  has = missing_other_order body.pairs x.edge y.edge gap;
-                }
+                let other = exchanged y.edge.rule x.edge.rule in
+                by_rules split.j split.i y.edge x.edge more y.at x.at l g (other.0 ∙ lesser) (other.1 ∙ greater) (missing_other_order body.pairs x.edge y.edge gap)
           ]
 
       pub split_at : (found : Option (ℕ × ℕ)) → IsLeastPairFound (HasOfRules Missing edges) found → IsLeastPairFound (MissesSplit m body k) found

@@ -62,59 +62,43 @@ module _ {S : Type 0} (m : Behaviour S) (t : Trail S) (traced : IsTraced m t) wh
   moved : (r s : S) (number : ℕ) (path : List (Step S)) → slice_get t.states number ≡ Some r → slice_get t.states number ≡ Some s → IsPath m r path → IsPath m s path
   moved r s number path r_at s_at h = subst (λ (z : S). IsPath m z path) (same_place t.states number r s r_at s_at) h
 
+  -- two runs go on from a pair whose run behind takes a step first
+  step_back : (number place : ℕ) (q : NumberPair) → slice_get t.pairs number ≡ Some q → (x : Step S) → TakesStep m t.states q.behind place x
+      → (s : S) → slice_get t.states q.ahead ≡ Some s → (one two : List (Step S)) → IsPath m s one → IsPath m x.next two → q.lead ++ cells_of one ≡ x.cells ++ cells_of two
+      → (ahead behind more : List ℕ) → reverse ahead ≡ reads_of one → reverse behind ≡ reads_of two → more ≡ behind ++ reverse x.reads → Continues m t.states t.pairs number ahead more
+  step_back number place q q_at x taken s s_at one two one_path two_path same_cells ahead behind more ahead_reads behind_reads put = record {
+    pair = q;
+    at = q_at;
+    ahead_state = s;
+    behind_state = taken.state;
+    ahead_at = s_at;
+    behind_at = taken.at;
+    one = one;
+    two = x ∷ two;
+    one_path = one_path;
+    two_path = ((place, taken.listed), two_path);
+    same_cells = same_cells;
+    ahead_reads = ahead_reads;
+    behind_reads = reads_back behind more x.reads (reads_of two) put behind_reads;
+  }
+
   -- the run behind stayed behind
-  pub still_back : (n number place : ℕ) (ahead behind more : List ℕ) → Continues m t.states t.pairs n ahead behind → (q : NumberPair) → slice_get t.pairs number ≡ Some q
-      → (p : NumberPair) → slice_get t.pairs n ≡ Some p → StaysBehindOf m t.states q place p → ((x : Step S) → TakesStep m t.states q.behind place x → more ≡ behind ++ reverse x.reads)
-      → Continues m t.states t.pairs number ahead more
-  still_back n number place ahead behind more h q q_at p p_at by put =
-      let same : h.pair ≡ p = same_place t.pairs n h.pair p h.at p_at in
-      let x = by.step in
-      let p_ahead : h.pair.ahead ≡ q.ahead = ap (λ (z : NumberPair). z.ahead) same ∙ by.ahead in
-      let p_behind : slice_get t.states h.pair.behind ≡ Some x.next = ap (λ (z : NumberPair). slice_get t.states z.behind) same ∙ by.behind in
-      let lead : h.pair.lead ≡ p.lead = ap (λ (z : NumberPair). z.lead) same in
-      record {
-        pair = q;
-        at = q_at;
-        ahead_state = h.ahead_state;
-        behind_state = by.taken.state;
-        ahead_at = ap (slice_get t.states) (sym p_ahead) ∙ h.ahead_at;
-        behind_at = by.taken.at;
-        one = h.one;
-        two = x ∷ h.two;
-        one_path = h.one_path;
-        two_path = ((place, by.taken.listed), moved h.behind_state x.next h.pair.behind h.two h.behind_at p_behind h.two_path);
-        same_cells = ap (λ (l : List ℕ). l ++ cells_of h.one) by.lead ∙ append_assoc x.cells p.lead (cells_of h.one)
-            ∙ ap (λ (l : List ℕ). x.cells ++ (l ++ cells_of h.one)) (sym lead) ∙ ap (λ (l : List ℕ). x.cells ++ l) h.same_cells;
-        ahead_reads = h.ahead_reads;
-        behind_reads = reads_back behind more x.reads (reads_of h.two) (put x by.taken) h.behind_reads;
-      }
+  pub still_back : (n number place : ℕ) (ahead behind more : List ℕ) (h : Continues m t.states t.pairs n ahead behind) → (q : NumberPair) → slice_get t.pairs number ≡ Some q
+      → (by : StaysBehindOf m t.states q place h.pair) → more ≡ behind ++ reverse by.step.reads → Continues m t.states t.pairs number ahead more
+  still_back n number place ahead behind more h q q_at by put =
+      step_back number place q q_at by.step by.taken h.ahead_state (ap (slice_get t.states) (sym by.ahead) ∙ h.ahead_at) h.one h.two
+      h.one_path (moved h.behind_state by.step.next h.pair.behind h.two h.behind_at by.behind h.two_path)
+      (ap (λ (l : List ℕ). l ++ cells_of h.one) by.lead ∙ append_assoc by.step.cells h.pair.lead (cells_of h.one) ∙ ap (λ (l : List ℕ). by.step.cells ++ l) h.same_cells)
+      ahead behind more h.ahead_reads h.behind_reads put
 
   -- the run behind got ahead
-  pub swapped_back : (n number place : ℕ) (ahead behind more : List ℕ) → Continues m t.states t.pairs n ahead behind → (q : NumberPair) → slice_get t.pairs number ≡ Some q
-      → (p : NumberPair) → slice_get t.pairs n ≡ Some p → GetsAheadOf m t.states q place p → ((x : Step S) → TakesStep m t.states q.behind place x → more ≡ ahead ++ reverse x.reads)
-      → Continues m t.states t.pairs number behind more
-  swapped_back n number place ahead behind more h q q_at p p_at by put =
-      let same : h.pair ≡ p = same_place t.pairs n h.pair p h.at p_at in
-      let x = by.step in
-      let p_ahead : slice_get t.states h.pair.ahead ≡ Some x.next = ap (λ (z : NumberPair). slice_get t.states z.ahead) same ∙ by.ahead in
-      let p_behind : h.pair.behind ≡ q.ahead = ap (λ (z : NumberPair). z.behind) same ∙ by.behind in
-      let lead : h.pair.lead ≡ p.lead = ap (λ (z : NumberPair). z.lead) same in
-      record {
-        pair = q;
-        at = q_at;
-        ahead_state = h.behind_state;
-        behind_state = by.taken.state;
-        ahead_at = ap (slice_get t.states) (sym p_behind) ∙ h.behind_at;
-        behind_at = by.taken.at;
-        one = h.two;
-        two = x ∷ h.one;
-        one_path = h.two_path;
-        two_path = ((place, by.taken.listed), moved h.ahead_state x.next h.pair.ahead h.one h.ahead_at p_ahead h.one_path);
-        same_cells = ap (λ (l : List ℕ). q.lead ++ l) (sym h.same_cells) ∙ sym (append_assoc q.lead h.pair.lead (cells_of h.one))
-            ∙ ap (λ (l : List ℕ). (q.lead ++ l) ++ cells_of h.one) lead ∙ ap (λ (l : List ℕ). l ++ cells_of h.one) (sym by.lead);
-        ahead_reads = h.behind_reads;
-        behind_reads = reads_back ahead more x.reads (reads_of h.one) (put x by.taken) h.ahead_reads;
-      }
+  pub swapped_back : (n number place : ℕ) (ahead behind more : List ℕ) (h : Continues m t.states t.pairs n ahead behind) → (q : NumberPair) → slice_get t.pairs number ≡ Some q
+      → (by : GetsAheadOf m t.states q place h.pair) → more ≡ ahead ++ reverse by.step.reads → Continues m t.states t.pairs number behind more
+  swapped_back n number place ahead behind more h q q_at by put =
+      step_back number place q q_at by.step by.taken h.behind_state (ap (slice_get t.states) (sym by.behind) ∙ h.behind_at) h.two h.one
+      h.two_path (moved h.ahead_state by.step.next h.pair.ahead h.one h.ahead_at by.ahead h.one_path)
+      (ap (λ (l : List ℕ). q.lead ++ l) (sym h.same_cells) ∙ sym (append_assoc q.lead h.pair.lead (cells_of h.one)) ∙ ap (λ (l : List ℕ). l ++ cells_of h.one) (sym by.lead))
+      behind ahead more h.behind_reads h.ahead_reads put
 
   -- a pair with an empty lead and two ends continues by no steps
   pub ends_continue : (n : ℕ) (p : NumberPair) → slice_get t.pairs n ≡ Some p → HasTwoEnds m t.states p → Continues m t.states t.pairs n [] []
@@ -182,19 +166,16 @@ module _ {S : Type 0} (m : Behaviour S) (t : Trail S) (traced : IsTraced m t) wh
       }
 
   -- what continues a pair continues the split that made it
-  pub split_continues : (n number longer shorter : ℕ) (ahead behind : List ℕ) → Continues m t.states t.pairs n ahead behind → (p : NumberPair) → slice_get t.pairs n ≡ Some p → IsSplitOf m t.states number longer shorter p
+  pub split_continues : (n number longer shorter : ℕ) (ahead behind : List ℕ) (h : Continues m t.states t.pairs n ahead behind) → IsSplitOf m t.states number longer shorter h.pair
       → SplitContinues m t.states number longer shorter ahead behind
-  split_continues n number longer shorter ahead behind h p p_at split =
-      let same : p ≡ h.pair = same_place t.pairs n p h.pair p_at h.at in
-      let here : IsSplitOf m t.states number longer shorter h.pair = subst (IsSplitOf m t.states number longer shorter) same split in
-      record {
-        pair = h.pair;
-        split = here;
-        one = h.one;
-        two = h.two;
-        one_path = moved h.ahead_state here.ahead_step.next h.pair.ahead h.one h.ahead_at here.ahead h.one_path;
-        two_path = moved h.behind_state here.behind_step.next h.pair.behind h.two h.behind_at here.behind h.two_path;
-        same_cells = h.same_cells;
-        ahead_reads = h.ahead_reads;
-        behind_reads = h.behind_reads;
-      }
+  split_continues n number longer shorter ahead behind h split = record {
+    pair = h.pair;
+    split = split;
+    one = h.one;
+    two = h.two;
+    one_path = moved h.ahead_state split.ahead_step.next h.pair.ahead h.one h.ahead_at split.ahead h.one_path;
+    two_path = moved h.behind_state split.behind_step.next h.pair.behind h.two h.behind_at split.behind h.two_path;
+    same_cells = h.same_cells;
+    ahead_reads = h.ahead_reads;
+    behind_reads = h.behind_reads;
+  }

@@ -1,13 +1,14 @@
 -- What is found is reached, and nothing is found twice.
-use Rattle.std.proofs.Common.{◌≡◌, ℕ, zero, suc, ◌<◌, List, [], ◌∷◌, ◌++◌, inl, inr, length, Some, slice_get, refl, sym, ◌∙◌, ap, subst, arith}
+use Rattle.std.proofs.Common.{◌≡◌, ℕ, zero, suc, ◌<◌, List, [], ◌∷◌, ◌++◌, ◌⊎◌, inl, inr, length, Some, slice_get, refl, sym, ◌∙◌, ap, subst, arith}
 use Rattle.brl_pairs.specs.Members.{HaveOneNumber}
 use Rattle.brl_pairs.specs.Body.{NumberPair, listed}
-use Rattle.brl_pairs.specs.Pairs.{swapped}
+use Rattle.brl_pairs.specs.Pairs.{GetsAhead, StaysBehind, swapped}
 use Rattle.brl_pairs.specs.Runs.{Behaviour}
 use Rattle.brl_pairs.specs.declared.step.Pair.{Pair}
+use Rattle.brl_pairs.specs.declared.step.Step.{Step}
 use Rattle.brl_closure.specs.Answers.{AreInOrder, HasReachedPairs, HasReachedStates, HasTwoEndsReached}
 use Rattle.brl_closure.specs.Reached.{AtLeast, Reached, ReachedPair, SamePair, SameState, start, step, split, move}
-use Rattle.brl_closure.specs.Trail.{IsSplitOf, StaysBehindOf, GetsAheadOf, IsPairOrigin, IsEarlier, HasTwoEnds, IsTraced}
+use Rattle.brl_closure.specs.Trail.{TakesStep, IsSplitOf, StaysBehindOf, GetsAheadOf, IsPairOrigin, IsEarlier, HasTwoEnds, IsTraced}
 use Rattle.brl_closure.specs.declared.search.trail.PairOrigin.{PairOrigin}
 use Rattle.brl_closure.specs.declared.search.trail.PairOrigin.TheVariants.{Split, Still, Swapped}
 use Rattle.brl_closure.specs.declared.search.trail.Trail.{Trail}
@@ -62,34 +63,28 @@ module _ {S : Type 0} (m : Behaviour S) (t : Trail S) (traced : IsTraced m t) wh
         lead = h.lead ∙ ap (λ (l : List ℕ). y.cells ++ l) names.lead;
       })
 
+  -- a pair is reached by a step of the run behind
+  by_step : (r : NumberPair) (o p : Pair S) (place : ℕ) (x : Step S) → Names t.states r o → TakesStep m t.states r.behind place x → ReachedPair m o → StaysBehind o x p ⊎ GetsAhead o x p → ReachedPair m p
+  by_step r o p place x before taken reached moved =
+      let same : taken.state ≡ o.behind = one_state r.behind taken.state o.behind taken.at before.behind in
+      move reached (record { step = x; listed = (place, subst (λ (z : S). slice_get (m.steps z) place ≡ Some x) same taken.listed); moved = moved })
+
   by_still : (r q : NumberPair) (o p : Pair S) (place : ℕ) → Names t.states r o → Names t.states q p → StaysBehindOf m t.states r place q → ReachedPair m o → ReachedPair m p
   by_still r q o p place before names h reached =
-      let x = h.step in
-      let same : h.taken.state ≡ o.behind = one_state r.behind h.taken.state o.behind h.taken.at before.behind in
-      move reached (record {
-        step = x;
-        listed = (place, subst (λ (z : S). slice_get (m.steps z) place ≡ Some x) same h.taken.listed);
-        moved = inl (record {
-          ahead = one_state r.ahead p.ahead o.ahead (ap (slice_get t.states) (sym h.ahead) ∙ names.ahead) before.ahead;
-          behind = one_state q.behind p.behind x.next names.behind h.behind;
-          lead = sym before.lead ∙ h.lead ∙ ap (λ (l : List ℕ). x.cells ++ l) names.lead;
-        });
-      })
+      by_step r o p place h.step before h.taken reached (inl (record {
+        ahead = one_state r.ahead p.ahead o.ahead (ap (slice_get t.states) (sym h.ahead) ∙ names.ahead) before.ahead;
+        behind = one_state q.behind p.behind h.step.next names.behind h.behind;
+        lead = sym before.lead ∙ h.lead ∙ ap (λ (l : List ℕ). h.step.cells ++ l) names.lead;
+      }))
 
   by_swap : (r q : NumberPair) (o p : Pair S) (place : ℕ) → Names t.states r o → Names t.states q p → GetsAheadOf m t.states r place q → ReachedPair m o → ReachedPair m p
   by_swap r q o p place before names h reached =
-      let x = h.step in
-      let same : h.taken.state ≡ o.behind = one_state r.behind h.taken.state o.behind h.taken.at before.behind in
-      move reached (record {
-        step = x;
-        listed = (place, subst (λ (z : S). slice_get (m.steps z) place ≡ Some x) same h.taken.listed);
-        moved = inr (record {
-          ahead = one_state q.ahead p.ahead x.next names.ahead h.ahead;
-          behind = one_state r.ahead p.behind o.ahead (ap (slice_get t.states) (sym h.behind) ∙ names.behind) before.ahead;
-          some = λ none. h.some (names.lead ∙ none);
-          lead = h.lead ∙ ap (λ (l : List ℕ). l ++ q.lead) before.lead ∙ ap (λ (l : List ℕ). o.lead ++ l) names.lead;
-        });
-      })
+      by_step r o p place h.step before h.taken reached (inr (record {
+        ahead = one_state q.ahead p.ahead h.step.next names.ahead h.ahead;
+        behind = one_state r.ahead p.behind o.ahead (ap (slice_get t.states) (sym h.behind) ∙ names.behind) before.ahead;
+        some = λ none. h.some (names.lead ∙ none);
+        lead = h.lead ∙ ap (λ (l : List ℕ). l ++ q.lead) before.lead ∙ ap (λ (l : List ℕ). o.lead ++ l) names.lead;
+      }))
 
   pair_below : (n k : ℕ) (q : NumberPair) (p : Pair S) → k < n → slice_get t.pairs k ≡ Some q → Names t.states q p → ReachedPair m p
   pair_below zero k q p less at names = absurd (omega (arith, less))

@@ -83,6 +83,26 @@ module _ {S : Type 0} (m : Behaviour S) (sets : Sets S) (laws : KeepsLaws m) (cl
   never zero = ended
   never (suc n) = moved n (never n)
 
+  -- runs that split don't end with the same cells
+  split_apart : (s : S) → sets.has_state s → (i j : ℕ) (x y : Step S) → i ≢ j → slice_get (m.steps s) i ≡ Some x → slice_get (m.steps s) j ≡ Some y → (rest : List ℕ) → x.cells ≡ y.cells ++ rest
+      → (first second : List (Step S)) → IsPath m x.next first → IsPath m y.next second → rest ++ cells_of first ≡ cells_of second → ⊥
+  split_apart s has i j x y differ x_at y_at rest longer first second a b same =
+      let p : Pair S = record { ahead = x.next; behind = y.next; lead = rest } in
+      let n = length first + length second in
+      let there = closed.splits s p has (record {
+        i = i;
+        j = j;
+        longer = x;
+        shorter = y;
+        differ = differ;
+        longer_listed = x_at;
+        shorter_listed = y_at;
+        ahead = refl;
+        behind = refl;
+        lead = longer;
+      }) in
+      either n (never n) p there first second a b (omega arith) same
+
   -- two paths from a state of the set that give the same cells read the same
   same_reads : (s : S) → sets.has_state s → (first second : List (Step S)) → IsPath m s first → IsPath m s second → cells_of first ≡ cells_of second
       → reads_of first ≡ reads_of second
@@ -100,38 +120,8 @@ module _ {S : Type 0} (m : Behaviour S) (sets : Sets S) (laws : KeepsLaws m) (cl
             cc)
         | inr other ↦
             elim (split_appends x.cells (cells_of first) y.cells (cells_of second) e) [
-              | inl t ↦ (
-                  let p : Pair S = record { ahead = x.next; behind = y.next; lead = t.0 } in
-                  let n = length first + length second in
-                  let there = closed.splits s p has (record {
-                    i = a.0.0;
-                    j = b.0.0;
-                    longer = x;
-                    shorter = y;
-                    differ = other;
-                    longer_listed = a.0.1;
-                    shorter_listed = b.0.1;
-                    ahead = refl;
-                    behind = refl;
-                    lead = t.1;
-                  }) in
-                  absurd (either n (never n) p there first second a.1 b.1 (omega arith) t.2))
-              | inr t ↦ (
-                  let p : Pair S = record { ahead = y.next; behind = x.next; lead = t.0 } in
-                  let n = length first + length second in
-                  let there = closed.splits s p has (record {
-                    i = b.0.0;
-                    j = a.0.0;
-                    longer = y;
-                    shorter = x;
-                    differ = λ h. other (sym h);
-                    longer_listed = b.0.1;
-                    shorter_listed = a.0.1;
-                    ahead = refl;
-                    behind = refl;
-                    lead = t.2;
-                  }) in
-                  absurd (either n (never n) p there second first b.1 a.1 (omega arith) (sym t.3)))
+              | inl t ↦ absurd (split_apart s has a.0.0 b.0.0 x y other a.0.1 b.0.1 t.0 t.1 first second a.1 b.1 t.2)
+              | inr t ↦ absurd (split_apart s has b.0.0 a.0.0 y x (λ h. other (sym h)) b.0.1 a.0.1 t.0 t.2 second first b.1 a.1 (sym t.3))
             ]
       ]
 

@@ -1,16 +1,40 @@
 -- The edges that lie in an interval of the order by cells.
-use Rattle.std.proofs.Common.{◌≡◌, ℕ, ◌+◌, ◌-◌, ◌<◌, ◌≤◌, Bool, true, false, List, [], ◌++◌, ◌⊎◌, inl, inr, length, take, get_or, refl, sym, ◌∙◌, ap, subst, arith, true≢false}
+use Rattle.std.proofs.Common.{◌≡◌, ℕ, ◌+◌, ◌-◌, ◌<◌, ◌≤◌, Bool, true, false, List, [], ◌++◌, ◌⊎◌, inl, inr, length, take, get_or, Some, slice_get, refl, sym, ◌∙◌, ap, subst, arith, true≢false}
 use Rattle.std.specs.Prelude.{Contains}
 use Rattle.std.specs.List.{AllWithin}
 use Rattle.std.specs.List.Sorted.{IsPartitionPoint, IsPartitionedBy, IsPermutation}
 use Rattle.std.proofs.lemmas.Bool.{cases_lt, false_from_ne_true}
 use Rattle.std.proofs.lemmas.Cmp.{nat_list_cmp_total}
-use Rattle.std.proofs.lemmas.List.{get_or-drop, get_or-take, length-drop, length-take-le}
+use Rattle.std.proofs.lemmas.List.{get_or_default, get_or-drop, get_or-take, length-drop, length-take-le}
+use Rattle.std.proofs.lemmas.Option.{slice_get-get_or}
 use Rattle.std.proofs.lemmas.List.Elements.{Contains-append_cases, Contains-append_left, Contains-append_right}
 use Rattle.std.proofs.lemmas.List.Sorted.{Contains-permutation, IsPermutation-sym, ranks_by, sorted_far}
 use Rattle.brl_pairs.specs.Sorted.{AreAscending, AreThose, IsNotBefore, cells_of, is_before}
 use Rattle.brl_pairs.specs.declared.sorted.SortedEdge.{SortedEdge}
 use Rattle.brl_pairs.proofs.CellOrder.{weak_order}
+use Rattle.brl_pairs.proofs.Lists.{same_place}
+
+-- the edge at this position
+abbrev pub edge_at : List SortedEdge → ℕ → SortedEdge
+edge_at sorted n = get_or sorted n (record { cells = 0; next = 0; place = 0 })
+
+pub is_at : (sorted : List SortedEdge) (n : ℕ) → n < length sorted → slice_get sorted n ≡ Some (edge_at sorted n)
+is_at sorted n within = slice_get-get_or sorted n (record { cells = 0; next = 0; place = 0 }) within
+
+-- what holds for it holds for each edge that is there
+pub for_edge_at : (P : SortedEdge → Type 0) (sorted : List SortedEdge) (n : ℕ) → n < length sorted → P (edge_at sorted n) → (y : SortedEdge) → slice_get sorted n ≡ Some y → P y
+for_edge_at P sorted n within h y y_at = subst P (same_place sorted n (edge_at sorted n) y (is_at sorted n within) y_at) h
+
+-- the first edges of a list pass a test of cells, as many as were counted
+abbrev pub HavePassed : (List ℕ → Bool) → List (List ℕ) → List SortedEdge → ℕ → Type 0
+HavePassed q cells rest count = record {
+  within : count ≤ length rest;
+  passing : AllWithin (λ (x : SortedEdge). q (cells_of cells x) ≡ true) rest 0 count;
+}
+
+-- all edges were counted, or the next one doesn't pass
+abbrev pub HasStopped : (List ℕ → Bool) → List (List ℕ) → List SortedEdge → ℕ → Type 0
+HasStopped q cells rest count = (length rest ≤ count) ⊎ ((count < length rest) × (q (cells_of cells (edge_at rest count)) ≡ false))
 
 module _ (cells : List (List ℕ)) (sorted : List SortedEdge) (ascending : AreAscending cells sorted) where
   -- a later edge has no cells that come before
@@ -96,6 +120,16 @@ module _ (cells : List (List ℕ)) (sorted : List SortedEdge) (ascending : AreAs
                       | inr more ↦ absurd (true≢false (sym passes ∙ subst (λ (z : SortedEdge). q (cells_of cells z) ≡ false) is (point.1 (h.0 - from.low) x more (omega (arith, high, whole, low_within, h_within)))))
                     ])
               ]
+
+    -- those that it has counted where it has stopped are all that pass
+    pub counted : (count : ℕ) → HavePassed q cells rest count → HasStopped q cells rest count → AreThose (λ own. q own ≡ true) cells sorted (take count rest)
+    counted count passed stopped = interval count passed.within passed.passing done
+      where
+        done : (length rest ≤ count) ⊎ ((d : SortedEdge) → q (cells_of cells (get_or rest count d)) ≡ false)
+        done = elim stopped [
+          | inl all ↦ inl all
+          | inr next ↦ inr (λ d. subst (λ (x : SortedEdge). q (cells_of cells x) ≡ false) (get_or_default rest count (record { cells = 0; next = 0; place = 0 }) d next.0) next.1)
+        ]
 
 -- ---- Lists of edges
 

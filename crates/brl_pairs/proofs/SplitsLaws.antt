@@ -1,19 +1,25 @@
 -- The edges that begin others, and those that begin with them, by the order of cells.
-use Rattle.std.proofs.Common.{◌≡◌, ◌⊎◌, ℕ, ◌+◌, ◌<◌, ◌≤◌, false, List, [], ◌++◌, inl, inr, length, get_or, Some, slice_get, sym, ◌∙◌, ap, subst, arith}
+use Rattle.std.proofs.Common.{◌≡◌, ◌⊎◌, ℕ, ◌+◌, ◌-◌, ◌<◌, ◌≤◌, false, List, [], ◌++◌, inl, inr, length, get_or, Some, slice_get, sym, ◌∙◌, ap, subst, arith, append_assoc}
 use Rattle.std.specs.Prelude.{Contains}
 use Rattle.std.specs.List.Sorted.{IsNonDecreasingBy, IsPermutation}
 use Rattle.std.proofs.lemmas.Bool.{cases_eq, cases_lt}
 use Rattle.std.proofs.lemmas.List.{append-nil}
 use Rattle.std.proofs.lemmas.List.Elements.{Contains-append_cases, Contains-append_left, Contains-append_right}
 use Rattle.std.proofs.lemmas.List.Sorted.{Contains-permutation, IsPermutation-sym}
-use Rattle.std.proofs.lemmas.Option.{get_or_from_slice_get, slice_get_within}
+use Rattle.std.proofs.lemmas.Option.{get_or_from_slice_get, slice_get-get_or, slice_get_within}
 use Rattle.brl_pairs.specs.Sorted.{AreAscending, BeginsWith, DoMatch, cells_of, is_before}
-use Rattle.brl_pairs.specs.Splits.{AreEarlier, AreWithin, IsLastShorter}
+use Rattle.brl_pairs.specs.Splits.{AreEarlier, AreShorter, AreWithin, IsLastShorter}
 use Rattle.brl_pairs.specs.declared.sorted.SortedEdge.{SortedEdge}
 use Rattle.brl_pairs.proofs.CellOrder.{beginning_interval, beginning_not_before, begins_from_test, same_cells, test_from_begins}
 use Rattle.brl_pairs.proofs.Lists.{inside, same_place, three_ways}
 use Rattle.brl_pairs.proofs.Numbered.{contained, place_of}
-use Rattle.brl_pairs.proofs.SortedLaws.{far}
+use Rattle.brl_pairs.proofs.SortedLaws.{edge_at, far, is_at}
+
+-- an edge is added to a list if its place is before this one
+pub record IsAdded (x : SortedEdge) (end : ℕ) (old new : List SortedEdge) : Type 0 where
+  pub only : (z : SortedEdge) → Contains new z → Contains old z ⊎ ((x ≡ z) × (x.place < end))
+  pub kept : (z : SortedEdge) → Contains old z → Contains new z
+  pub added : x.place < end → Contains new x
 
 -- the place is before that of an edge, and the cells begin its cells, or begin with them
 abbrev pub IsEarlierShorter : List (List ℕ) → SortedEdge → SortedEdge → Type 0
@@ -22,9 +28,24 @@ IsEarlierShorter cells y x = BeginsWith (cells_of cells y) (cells_of cells x) ×
 abbrev pub IsEarlierLonger : List (List ℕ) → SortedEdge → SortedEdge → Type 0
 IsEarlierLonger cells y x = BeginsWith (cells_of cells x) (cells_of cells y) × (x.place < y.place)
 
+-- of the edges at these positions none has cells that begin these
+abbrev pub NoneBegins : List (List ℕ) → List SortedEdge → ℕ → ℕ → List ℕ → Type 0
+NoneBegins cells sorted low high own = (k : ℕ) (x : SortedEdge) → low ≤ k → k < high → slice_get sorted k ≡ Some x → BeginsWith own (cells_of cells x) → ⊥
+
+-- a walk back along the chain of shorter edges, from the one at `end`, has come to the one before `last`
+pub record HasComeTo (cells : List (List ℕ)) (sorted : List SortedEdge) (shorter : List ℕ) (end last : ℕ) : Type 0 where
+  pub known : AreShorter cells sorted shorter
+  pub within : end < length sorted
+  pub low : last ≤ end
+  pub some : 0 < last
+  pub listed : last ≤ length shorter
+
 -- one list of cells begins with another where neither comes before the other
 equal_begins : (xs ys : List ℕ) → is_before xs ys ≡ false → is_before ys xs ≡ false → BeginsWith xs ys
 equal_begins xs ys h k = ([], same_cells xs ys h k ∙ sym (append-nil ys))
+
+begins_through : (xs ys zs : List ℕ) → BeginsWith xs ys → BeginsWith ys zs → BeginsWith xs zs
+begins_through xs ys zs a b = (b.0 ++ a.0, a.1 ∙ ap (λ (l : List ℕ). l ++ a.0) b.1 ∙ append_assoc zs b.0 a.0)
 
 module _ (cells : List (List ℕ)) (sorted : List SortedEdge) (ascending : AreAscending cells sorted) where
   -- a later edge has no cells that come before
@@ -42,40 +63,64 @@ module _ (cells : List (List ℕ)) (sorted : List SortedEdge) (ascending : AreAs
       (beginning_interval (cells_of cells y) (cells_of cells z) (cells_of cells x) (later_not_before i j x y first x_at y_at) (later_not_before j l y z second y_at z_at)
       (test_from_begins (cells_of cells z) (cells_of cells x) b))
 
-  -- ---- The last shorter edge
+  -- where an earlier edge begins with the cells of a later one, they are the same
+  begins_back : (i j : ℕ) (x y : SortedEdge) → i ≤ j → slice_get sorted i ≡ Some x → slice_get sorted j ≡ Some y → BeginsWith (cells_of cells x) (cells_of cells y) → BeginsWith (cells_of cells y) (cells_of cells x)
+  begins_back i j x y le x_at y_at b =
+      equal_begins (cells_of cells y) (cells_of cells x) (later_not_before i j x y le x_at y_at)
+      (beginning_not_before (cells_of cells x) (cells_of cells y) (test_from_begins (cells_of cells x) (cells_of cells y) b))
+
+  -- it is there where it was added
+  added_at : (n : ℕ) (x : SortedEdge) (place : ℕ) (old new : List SortedEdge) → IsAdded x place old new → slice_get sorted n ≡ Some x → (k : ℕ) (z : SortedEdge) → k ≡ n → slice_get sorted k ≡ Some z → z.place < place → Contains new z
+  added_at n x place old new h x_at k z here z_at less =
+      let same : z ≡ x = same_place sorted n z x (ap (slice_get sorted) (sym here) ∙ z_at) x_at in
+      subst (Contains new) (sym same) (h.added (subst (λ (w : SortedEdge). w.place < place) same less))
+
+  -- ---- The chain of shorter edges
+
+  module _ {shorter : List ℕ} {end last : ℕ} (walk : HasComeTo cells sorted shorter end last) where
+    x_at : slice_get sorted (last - 1) ≡ Some (edge_at sorted (last - 1))
+    x_at = is_at sorted (last - 1) (omega (arith, walk.within, walk.low, walk.some))
+
+    next : IsLastShorter cells sorted (last - 1) (cells_of cells (edge_at sorted (last - 1))) (get_or shorter (last - 1) 0)
+    next = walk.known (last - 1) (get_or shorter (last - 1) 0) (edge_at sorted (last - 1)) x_at (slice_get-get_or shorter (last - 1) 0 (omega (arith, walk.some, walk.listed)))
+
+    pub next_before : get_or shorter (last - 1) 0 ≤ end
+    next_before = (let le = next.before in omega (arith, le, walk.low))
+
+    module _ (y : SortedEdge) (y_at : slice_get sorted end ≡ Some y) where
+      -- none so far, and the one at hand doesn't begin these cells
+      pub pass_by : (BeginsWith (cells_of cells y) (cells_of cells (edge_at sorted (last - 1))) → ⊥) → NoneBegins cells sorted last end (cells_of cells y) → NoneBegins cells sorted (get_or shorter (last - 1) 0) end (cells_of cells y)
+      pass_by other none k z from less z_at b = elim (three_ways k (last - 1)) [
+        | inl before ↦ next.others k z from before z_at (between_begins k (last - 1) end z (edge_at sorted (last - 1)) y (omega (arith, before)) (omega (arith, walk.low)) z_at x_at y_at b)
+        | inr more ↦ elim more [
+          | inl here ↦ other (subst (λ (w : SortedEdge). BeginsWith (cells_of cells y) (cells_of cells w)) (same_place sorted (last - 1) z (edge_at sorted (last - 1)) (ap (slice_get sorted) (sym here) ∙ z_at) x_at) b)
+          | inr after ↦ none k z (omega (arith, after, walk.some)) less z_at b
+        ]
+      ]
+
+      -- what begins the one at hand begins these cells too, if that does
+      module _ (begins : BeginsWith (cells_of cells y) (cells_of cells (edge_at sorted (last - 1)))) where
+        pub begins_next : (k : ℕ) (z : SortedEdge) → get_or shorter (last - 1) 0 ≡ k + 1 → slice_get sorted k ≡ Some z → BeginsWith (cells_of cells y) (cells_of cells z)
+        begins_next k z is z_at = begins_through (cells_of cells y) (cells_of cells (edge_at sorted (last - 1))) (cells_of cells z) begins (next.begins k z is z_at)
+
+        -- the edge at hand is added to those that begin these cells
+        pub chain_step : (old new : List SortedEdge) → IsAdded (edge_at sorted (last - 1)) y.place old new → AreWithin (IsEarlierShorter cells y) sorted last end old
+            → AreWithin (IsEarlierShorter cells y) sorted (get_or shorter (last - 1) 0) end new
+        chain_step old new h before = record {
+          only = λ z there. elim (h.only z there) [
+            | inl was ↦ (let w = before.only z was in (w.0, (let le : last ≤ w.0 = w.1 in omega (arith, le, next.before)), w.2, w.3, w.4))
+            | inr new ↦ (last - 1, next.before, omega (arith, walk.low, walk.some), subst (λ (w : SortedEdge). slice_get sorted (last - 1) ≡ Some w) new.0 x_at, subst (IsEarlierShorter cells y) new.0 (begins, new.1))
+          ];
+          all = λ k z from less z_at p. elim (three_ways k (last - 1)) [
+            | inl lower ↦ absurd (next.others k z from lower z_at (between_begins k (last - 1) end z (edge_at sorted (last - 1)) y (omega (arith, lower)) (omega (arith, walk.low)) z_at x_at y_at p.0))
+            | inr more ↦ elim more [
+              | inl here ↦ added_at (last - 1) (edge_at sorted (last - 1)) y.place old new h x_at k z here z_at p.1
+              | inr after ↦ h.kept z (before.all k z (omega (arith, after, walk.some)) less z_at p)
+            ]
+          ];
+        }
 
   module _ (end : ℕ) (y : SortedEdge) (y_at : slice_get sorted end ≡ Some y) where
-    -- none so far, and the one at hand doesn't begin these cells
-    pub pass_by : (last n : ℕ) (x : SortedEdge) → last ≤ end → slice_get sorted n ≡ Some x → last ≡ n + 1 → (m : ℕ) → IsLastShorter cells sorted n (cells_of cells x) m → (BeginsWith (cells_of cells y) (cells_of cells x) → ⊥)
-        → ((k : ℕ) (z : SortedEdge) → last ≤ k → k < end → slice_get sorted k ≡ Some z → BeginsWith (cells_of cells y) (cells_of cells z) → ⊥)
-        → (k : ℕ) (z : SortedEdge) → m ≤ k → k < end → slice_get sorted k ≡ Some z → BeginsWith (cells_of cells y) (cells_of cells z) → ⊥
-    pass_by last n x low x_at is m h other none k z from less z_at b = elim (three_ways k n) [
-      | inl before ↦ h.others k z from before z_at (between_begins k n end z x y (omega (arith, before)) (omega (arith, low, is)) z_at x_at y_at b)
-      | inr more ↦ elim more [
-        | inl here ↦ other (subst (λ (w : SortedEdge). BeginsWith (cells_of cells y) (cells_of cells w)) (same_place sorted n z x (ap (slice_get sorted) (sym here) ∙ z_at) x_at) b)
-        | inr after ↦ none k z (omega (arith, after, is)) less z_at b
-      ]
-    ]
-
-    -- ---- The chain of those that begin these cells
-
-    pub chain_step : (last n : ℕ) (x : SortedEdge) → last ≤ end → slice_get sorted n ≡ Some x → last ≡ n + 1 → (m : ℕ) → IsLastShorter cells sorted n (cells_of cells x) m → BeginsWith (cells_of cells y) (cells_of cells x)
-        → (old new : List SortedEdge) → ((z : SortedEdge) → Contains new z → Contains old z ⊎ ((x ≡ z) × (x.place < y.place))) → ((z : SortedEdge) → Contains old z → Contains new z) → (x.place < y.place → Contains new x)
-        → AreWithin (IsEarlierShorter cells y) sorted last end old → AreWithin (IsEarlierShorter cells y) sorted m end new
-    chain_step last n x low x_at is m h begins old new only kept added before = record {
-      only = λ z there. elim (only z there) [
-        | inl was ↦ (let w = before.only z was in (w.0, (let le : last ≤ w.0 = w.1 in omega (arith, le, is, h.before)), w.2, w.3, w.4))
-        | inr new ↦ (n, h.before, omega (arith, low, is), subst (λ (w : SortedEdge). slice_get sorted n ≡ Some w) new.0 x_at, subst (IsEarlierShorter cells y) new.0 (begins, new.1))
-      ];
-      all = λ k z from less z_at p. elim (three_ways k n) [
-        | inl lower ↦ absurd (h.others k z from lower z_at (between_begins k n end z x y (omega (arith, lower)) (omega (arith, low, is)) z_at x_at y_at p.0))
-        | inr more ↦ elim more [
-          | inl here ↦ (let same : z ≡ x = same_place sorted n z x (ap (slice_get sorted) (sym here) ∙ z_at) x_at in subst (Contains new) (sym same) (added (subst (λ (w : SortedEdge). w.place < y.place) same p.1)))
-          | inr after ↦ kept z (before.all k z (omega (arith, after, is)) less z_at p)
-        ]
-      ];
-    }
-
     pub chain_init : (last : ℕ) → IsLastShorter cells sorted end (cells_of cells y) last → (found : List SortedEdge) → found ≡ [] → AreWithin (IsEarlierShorter cells y) sorted last end found
     chain_init last h found none = record {
       only = λ x there. absurd (let gone = subst (λ (l : List SortedEdge). Contains l x) none there in omega (arith, gone.1));
@@ -84,17 +129,16 @@ module _ (cells : List (List ℕ)) (sorted : List SortedEdge) (ascending : AreAs
 
     -- ---- Those that begin with these cells
 
-    pub walk_step : (n : ℕ) (x : SortedEdge) → end + 1 ≤ n → slice_get sorted n ≡ Some x → BeginsWith (cells_of cells x) (cells_of cells y)
-        → (old new : List SortedEdge) → ((z : SortedEdge) → Contains new z → Contains old z ⊎ ((x ≡ z) × (x.place < y.place))) → ((z : SortedEdge) → Contains old z → Contains new z) → (x.place < y.place → Contains new x)
+    pub walk_step : (n : ℕ) (x : SortedEdge) → end + 1 ≤ n → slice_get sorted n ≡ Some x → BeginsWith (cells_of cells x) (cells_of cells y) → (old new : List SortedEdge) → IsAdded x y.place old new
         → AreWithin (IsEarlierLonger cells y) sorted (end + 1) n old → AreWithin (IsEarlierLonger cells y) sorted (end + 1) (n + 1) new
-    walk_step n x low x_at begins old new only kept added before = record {
-      only = λ z there. elim (only z there) [
+    walk_step n x low x_at begins old new h before = record {
+      only = λ z there. elim (h.only z there) [
         | inl was ↦ (let w = before.only z was in (w.0, w.1, (let less : w.0 < n = w.2 in omega (arith, less)), w.3, w.4))
         | inr new ↦ (n, low, omega arith, subst (λ (w : SortedEdge). slice_get sorted n ≡ Some w) new.0 x_at, subst (IsEarlierLonger cells y) new.0 (begins, new.1))
       ];
       all = λ k z from less z_at p. elim (cases_eq k n) [
-        | inl here ↦ (let same : z ≡ x = same_place sorted n z x (ap (slice_get sorted) (sym here) ∙ z_at) x_at in subst (Contains new) (sym same) (added (subst (λ (w : SortedEdge). w.place < y.place) same p.1)))
-        | inr apart ↦ kept z (before.all k z from (omega (arith, less, apart)) z_at p)
+        | inl here ↦ added_at n x y.place old new h x_at k z here z_at p.1
+        | inr apart ↦ h.kept z (before.all k z from (omega (arith, less, apart)) z_at p)
       ];
     }
 
@@ -133,20 +177,10 @@ module _ (cells : List (List ℕ)) (sorted : List SortedEdge) (ascending : AreAs
         ]
 
         begins_it : (k : ℕ) (x : SortedEdge) → k ≤ end → slice_get sorted k ≡ Some x → DoMatch (cells_of cells y) (cells_of cells x) → BeginsWith (cells_of cells y) (cells_of cells x)
-        begins_it k x le at m = elim m [
-          | inl b ↦ b
-          | inr b ↦ equal_begins (cells_of cells y) (cells_of cells x)
-              (later_not_before k end x y le at y_at)
-              (beginning_not_before (cells_of cells x) (cells_of cells y) (test_from_begins (cells_of cells x) (cells_of cells y) b))
-        ]
+        begins_it k x le at m = elim m [ inl b ↦ b | inr b ↦ begins_back k end x y le at y_at b ]
 
         begins_with_it : (k : ℕ) (x : SortedEdge) → end ≤ k → slice_get sorted k ≡ Some x → DoMatch (cells_of cells y) (cells_of cells x) → BeginsWith (cells_of cells x) (cells_of cells y)
-        begins_with_it k x le at m = elim m [
-          | inr b ↦ b
-          | inl b ↦ equal_begins (cells_of cells x) (cells_of cells y)
-              (later_not_before end k y x le y_at at)
-              (beginning_not_before (cells_of cells y) (cells_of cells x) (test_from_begins (cells_of cells y) (cells_of cells x) b))
-        ]
+        begins_with_it k x le at m = elim m [ inr b ↦ b | inl b ↦ begins_back end k y x le y_at at b ]
 
         all : (x : SortedEdge) → Contains sorted x → DoMatch (cells_of cells y) (cells_of cells x) → x.place < y.place → Contains found x
         all x there m early =

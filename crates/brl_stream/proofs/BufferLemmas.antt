@@ -48,16 +48,23 @@ all_wait old got rest None after is e = absurd (no_bytes e)
 all_wait old got rest (Some xs) None is e = absurd is
 all_wait old got rest (Some xs) (Some ys) is e = let same : rest ≡ xs = cc in (ys, refl, same ∙ is)
 
--- A read of `count` bytes after those from s to e; `within` of them are within the limit.
-module _ (len s e count within : ℕ) (old zs ys : List ℕ) (is : slice_range zs s e ≡ old) (order : s ≤ e) (room : e + count ≤ len)
-    (sized : length ys ≡ len) (front : take e ys ≡ take e zs) (few : within ≤ count) where
+-- a read of `count` bytes after those from s to e; `within` of them are within the limit
+pub record IsRead (len s e count within : ℕ) (old zs ys : List ℕ) : Type 0 where
+  pub is : slice_range zs s e ≡ old
+  pub order : s ≤ e
+  pub room : e + count ≤ len
+  pub sized : length ys ≡ len
+  pub front : take e ys ≡ take e zs
+  pub few : within ≤ count
+
+module _ {len s e count within : ℕ} {old zs ys : List ℕ} (read : IsRead len s e count within old zs ys) where
   abbrev now : List ℕ
   now = slice_range (take len (ys ++ drop (length ys) zs)) s (e + within)
 
   now-is : now ≡ old ++ slice_range ys e (e + within)
   now-is =
-      ap (λ l. slice_range l s (e + within)) (refilled len ys zs sized) ∙ range-more ys s e within order
-      ∙ ap (λ l. l ++ slice_range ys e (e + within)) (range-front ys zs s e order front ∙ is)
+      ap (λ l. slice_range l s (e + within)) (refilled len ys zs read.sized) ∙ range-more ys s e within read.order
+      ∙ ap (λ l. l ++ slice_range ys e (e + within)) (range-front ys zs s e read.order read.front ∙ read.is)
 
   pub read_after : take (length old) now ≡ old
   read_after = ap (take (length old)) now-is ∙ take-append_seam old (slice_range ys e (e + within))
@@ -67,7 +74,7 @@ module _ (len s e count within : ℕ) (old zs ys : List ℕ) (is : slice_range z
 
   pub read_length : length now ≡ length old + within
   read_length =
-      let more = length-range ys e (e + within) (omega arith) (omega (arith, sized)) in
+      let more = length-range ys e (e + within) (omega arith) (omega (arith, read.sized, read.room, read.few)) in
       let whole = length-append old (slice_range ys e (e + within)) in
       ap length now-is ∙ omega (arith, more, whole)
 
@@ -86,7 +93,7 @@ module _ (len s e count within : ℕ) (old zs ys : List ℕ) (is : slice_range z
     read_rest_by (inl x) =
         let all : e + count ≡ (e + within) + 1 = omega (arith, x.1) in
         let w = all_wait old (slice_range ys e (e + count)) rest before after consumes known in
-        let tail = one_byte (slice_range ys (e + within) ((e + within) + 1)) (length-range ys (e + within) ((e + within) + 1) (omega arith) (omega (arith, sized)) ∙ omega arith) in
+        let tail = one_byte (slice_range ys (e + within) ((e + within) + 1)) (length-range ys (e + within) ((e + within) + 1) (omega arith) (omega (arith, read.sized)) ∙ omega arith) in
         let got : slice_range ys e (e + count) ≡ slice_range ys e (e + within) ++ tail.0 ∷ [] =
         ap (slice_range ys e) all ∙ range-more ys e (e + within) 1 (omega arith) ∙ ap (λ l. slice_range ys e (e + within) ++ l) tail.1 in
         rw x.0 (

@@ -1,4 +1,4 @@
-use Rattle.std.proofs.Common.{◌≡◌, ◌≢◌, ◌<◌, ℕ, List, inl, inr, length, get_or, Some, slice_get, sym, ◌∙◌, ap, arith}
+use Rattle.std.proofs.Common.{◌≡◌, ◌≢◌, ◌<◌, ℕ, List, inl, inr, length, Some, slice_get, sym, ◌∙◌, ap, arith}
 use Rattle.std.proofs.Math.ListN.{length-set, set}
 use Rattle.std.proofs.lemmas.Bool.{cases_eq}
 use Rattle.std.proofs.lemmas.List.{get_or-set_other, get_or-set_same}
@@ -6,13 +6,14 @@ use Rattle.std.proofs.lemmas.Option.{get_or_from_slice_get, slice_get-get_or, sl
 use Rattle.brl_pairs.specs.declared.sorted.SortedEdge.{SortedEdge}
 use Rattle.brl_pairs.proofs.Lists.{same_place}
 use Rattle.brl_pairs.proofs.Numbered.{contained, place_of}
+use Rattle.brl_pairs.proofs.SortedLaws.{edge_at, is_at}
 use Rattle.brl_pairs.proofs.splits.positions_of.Goals as goal
 
 pub index_mut-requires : goal.index_mut-requires
 index_mut-requires c =
     let sorted = c.args.sorted.now in
-    let x = get_or sorted c.loop-position.position (record { cells = 0; next = 0; place = 0 }) in
-    let at = slice_get-get_or sorted c.loop-position.position (record { cells = 0; next = 0; place = 0 }) (omega arith) in
+    let x = edge_at sorted c.loop-position.position in
+    let at = is_at sorted c.loop-position.position (omega arith) in
     omega (arith, c.requires x (contained sorted c.loop-position.position x at), c.loop-position.invariant.many, c.loop-position.positions.ok.0)
 
 pub loop-position-preserved : goal.loop-position-preserved
@@ -21,8 +22,8 @@ loop-position-preserved c =
     let old = c.loop-position.positions.items in
     let position = c.loop-position.position in
     let v = c.in_ok-number.number in
-    let e = get_or sorted position (record { cells = 0; next = 0; place = 0 }) in
-    let e_at : slice_get sorted position ≡ Some e = slice_get-get_or sorted position (record { cells = 0; next = 0; place = 0 }) (omega arith) in
+    let e = edge_at sorted position in
+    let e_at : slice_get sorted position ≡ Some e = is_at sorted position (omega arith) in
     let new_at : slice_get sorted v ≡ Some e = ap (slice_get sorted) c.in_ok-number.ensures ∙ e_at in
     let many : length old ≡ c.args.count = c.loop-position.invariant.many in
     let e_within : e.place < length old = (let less = c.requires e (contained sorted position e e_at) in omega (arith, less, many)) in

@@ -6,7 +6,31 @@ use Rattle.brl_closure.specs.Refusals.{MissesPair}
 use Rattle.brl_closure.proofs.LeastLaws.{none_found, this_found}
 use Rattle.brl_closure.proofs.LeastRule.{refuted}
 use Rattle.brl_closure.proofs.Passing.{AreFrom, IsAt, beyond_least, fewer_left, from_first, from_next, least_stays, left_from, lesser_found, none_from_end}
+use Rattle.brl_closure.proofs.check.pass.missing_pair_after.Given.{Over}
+use Rattle.brl_closure.proofs.check.pass.missing_pair_after.Goals.{In-Some, After-index-place-in-Some}
 use Rattle.brl_closure.proofs.check.pass.missing_pair_after.Goals as goal
+
+-- the pair at hand has its run behind in this state
+is_behind : (g : Over) (c : In-Some g) → IsBehind c.args.body.now.pairs c.args.state c.in-Some.number
+is_behind g c = subst (IsAt (g.M.Machine.behaviour c.args.machine.now) c.args.body.now c.args.state) c.in-Some.is c.loop-place.invariant.at
+
+-- the pairs of this state that miss one are not before it
+are_from : (g : Over) (c : In-Some g) → AreFrom (g.M.Machine.behaviour c.args.machine.now) c.args.body.now c.args.state (Some c.in-Some.number)
+are_from g c = subst (AreFrom (g.M.Machine.behaviour c.args.machine.now) c.args.body.now c.args.state) c.in-Some.is c.loop-place.invariant.from
+
+is_within : (g : Over) (c : In-Some g) → c.in-Some.number < length c.args.body.now.pairs
+is_within g c = (let behind = is_behind g c in slice_get_within c.args.body.now.pairs c.in-Some.number behind.pair behind.at)
+
+-- the place that is read is that of the next pair of this state
+is_next : (g : Over) (c : After-index-place-in-Some g) → IsBehind c.args.body.now.pairs c.args.state c.in-Some.number → IsLeastFound (IsBehindFrom c.args.body.now.pairs c.args.state (c.in-Some.number + 1)) c.index-place-in-Some.result.now
+is_next g c behind =
+    let pairs = c.args.body.now.pairs in
+    let number = c.in-Some.number in
+    let next = c.args.behind.now.next.items in
+    let place = c.index-place-in-Some.result.now in
+    let within = slice_get_within pairs number behind.pair behind.at in
+    let at = slice_get_read next (length next) number place refl (omega (arith, within, c.requires.behind.next_count)) c.index-place-in-Some.ensures in
+    subst (λ (s : ℕ). IsLeastFound (IsBehindFrom pairs s (number + 1)) place) behind.behind (c.requires.behind.each_next number behind.pair place behind.at at)
 
 pub loop-place-init : goal.loop-place-init
 loop-place-init g c =
@@ -21,60 +45,42 @@ pub returns-then-not-comes_before : goal.returns-then-not-comes_before
 returns-then-not-comes_before g c =
     let a = c.args in
     let m = g.M.Machine.behaviour a.machine.now in
-    let from : AreFrom m a.body.now a.state (Some c.in-Some.number) = subst (AreFrom m a.body.now a.state) c.in-Some.is c.loop-place.invariant.from in
+    let from = are_from g (goal.at.returns-then-not-comes_before g c).In-Some in
     least_stays m a.body.now a.state a.least (beyond_least m a.body.now a.state a.least c.in-Some.number (refuted c.comes_before.result c.comes_before.ensures c.if-not-comes_before.true) from) c.requires.least
 
 pub missing_pair_at-requires-clause-number : goal.missing_pair_at-requires-clause-number
-missing_pair_at-requires-clause-number g c =
-    let a = c.args in
-    let behind : IsBehind a.body.now.pairs a.state c.in-Some.number = subst (IsAt (g.M.Machine.behaviour a.machine.now) a.body.now a.state) c.in-Some.is c.loop-place.invariant.at in
-    slice_get_within a.body.now.pairs c.in-Some.number behind.pair behind.at
+missing_pair_at-requires-clause-number g c = is_within g (goal.at.missing_pair_at-requires-clause-number g c).In-Some
 
 pub returns-in-Some-missing : goal.returns-in-Some-missing
 returns-in-Some-missing g c =
     let a = c.args in
-    let m = g.M.Machine.behaviour a.machine.now in
     let number = c.in-Some.number in
-    let behind : IsBehind a.body.now.pairs a.state number = subst (IsAt m a.body.now a.state) c.in-Some.is c.loop-place.invariant.at in
-    let from : AreFrom m a.body.now a.state (Some number) = subst (AreFrom m a.body.now a.state) c.in-Some.is c.loop-place.invariant.from in
-    lesser_found m a.body.now a.state a.least c.requires.least number (c.comes_before.ensures.0 c.if-not-comes_before.false) behind from c.in-Some-missing.rule
-    (this_found (MissesPair m a.body.now number) c.in_ok-missing.missing c.in-Some-missing.rule c.in-Some-missing.is c.in_ok-missing.ensures)
+    let here = (goal.at.returns-in-Some-missing g c).In-Some in
+    lesser_found (g.M.Machine.behaviour a.machine.now) a.body.now a.state a.least c.requires.least number (c.comes_before.ensures.0 c.if-not-comes_before.false) (is_behind g here) (are_from g here) c.in-Some-missing.rule
+    (this_found (MissesPair (g.M.Machine.behaviour a.machine.now) a.body.now number) c.in_ok-missing.missing c.in-Some-missing.rule c.in-Some-missing.is c.in_ok-missing.ensures)
 
 pub index-place-requires-in-Some : goal.index-place-requires-in-Some
 index-place-requires-in-Some g c =
-    let a = c.args in
-    let behind : IsBehind a.body.now.pairs a.state c.in-Some.number = subst (IsAt (g.M.Machine.behaviour a.machine.now) a.body.now a.state) c.in-Some.is c.loop-place.invariant.at in
-    let within : c.in-Some.number < length a.body.now.pairs = slice_get_within a.body.now.pairs c.in-Some.number behind.pair behind.at in
-    omega (arith, within, c.requires.behind.next_count, a.behind.now.next.ok.0)
+    let within = is_within g (goal.at.index-place-requires-in-Some g c).In-Some in
+    omega (arith, within, c.requires.behind.next_count, c.args.behind.now.next.ok.0)
 
 pub loop-place-smaller : goal.loop-place-smaller
 loop-place-smaller g c =
     let a = c.args in
-    let m = g.M.Machine.behaviour a.machine.now in
-    let pairs = a.body.now.pairs in
-    let number = c.in-Some.number in
-    let next = a.behind.now.next.items in
     let place = c.index-place-in-Some.result.now in
-    let behind : IsBehind pairs a.state number = subst (IsAt m a.body.now a.state) c.in-Some.is c.loop-place.invariant.at in
-    let within : number < length pairs = slice_get_within pairs number behind.pair behind.at in
-    let at = slice_get_read next (length next) number place refl (omega (arith, within, c.requires.behind.next_count)) c.index-place-in-Some.ensures in
-    let least = subst (λ (s : ℕ). IsLeastFound (IsBehindFrom pairs s (number + 1)) place) behind.behind (c.requires.behind.each_next number behind.pair place behind.at at) in
-    subst (λ (o : Option ℕ). left_from (length pairs) place < left_from (length pairs) o) (sym c.in-Some.is) (fewer_left m a.body.now a.state number behind place least)
+    let here = goal.at.loop-place-smaller g c in
+    let behind = is_behind g here.In-Some in
+    subst (λ (o : Option ℕ). left_from (length a.body.now.pairs) place < left_from (length a.body.now.pairs) o) (sym c.in-Some.is)
+    (fewer_left (g.M.Machine.behaviour a.machine.now) a.body.now a.state c.in-Some.number behind place (is_next g here.After-index-place-in-Some behind))
 
 pub loop-place-preserved : goal.loop-place-preserved
 loop-place-preserved g c =
     let a = c.args in
     let m = g.M.Machine.behaviour a.machine.now in
-    let pairs = a.body.now.pairs in
     let number = c.in-Some.number in
-    let next = a.behind.now.next.items in
-    let place = c.index-place-in-Some.result.now in
-    let behind : IsBehind pairs a.state number = subst (IsAt m a.body.now a.state) c.in-Some.is c.loop-place.invariant.at in
-    let from : AreFrom m a.body.now a.state (Some number) = subst (AreFrom m a.body.now a.state) c.in-Some.is c.loop-place.invariant.from in
-    let within : number < length pairs = slice_get_within pairs number behind.pair behind.at in
-    let at = slice_get_read next (length next) number place refl (omega (arith, within, c.requires.behind.next_count)) c.index-place-in-Some.ensures in
-    let least = subst (λ (s : ℕ). IsLeastFound (IsBehindFrom pairs s (number + 1)) place) behind.behind (c.requires.behind.each_next number behind.pair place behind.at at) in
-    let h = from_next m a.body.now a.state number from (none_found (MissesPair m a.body.now number) c.in_ok-missing.missing c.in_default-missing.not-Some c.in_ok-missing.ensures) place least in
+    let here = goal.at.loop-place-preserved g c in
+    let without = none_found (MissesPair m a.body.now number) c.in_ok-missing.missing c.in_default-missing.not-Some c.in_ok-missing.ensures in
+    let h = from_next m a.body.now a.state number (are_from g here.In-Some) without c.index-place-in-Some.result.now (is_next g here.After-index-place-in-Some (is_behind g here.In-Some)) in
     record { at = h.0; from = h.1 }
 
 pub returns : goal.returns

@@ -4,16 +4,12 @@ use Rattle.brl_window.proofs.Accepting.{accepts}
 use Rattle.brl_window.proofs.Kept.{Choosing, keeps_of}
 use Rattle.brl_window.proofs.Ordering.{good_steps, in_order}
 use Rattle.brl_window.proofs.machine.WindowMachine.start.Goals as goal
-use Rattle.brl_rules.proofs.OneByOne.{Translating}
+use Rattle.brl_rules.proofs.OneByOne.{translating}
 
 pub returns-clause-laws : goal.returns-clause-laws
 returns-clause-laws c =
     let t = c.args.self.now in
     let keeps = keeps_of t (subst IsTable c.self.view_is c.law.ensures) in
     let choosing : Choosing c.args.self.now = record { some = c.choice_laws.ensures.some t; room = c.choice_laws.ensures.room t } in
-    let translating : Translating c.args.self.now = record {
-      whole = c.translation_laws.ensures.rest t;
-      end = c.translation_laws.ensures.end t;
-      rule = c.translation_laws.ensures.rule t;
-    } in
-    record { good_steps = good_steps t keeps choosing; in_order = in_order t keeps; accepts = accepts t choosing translating }
+    let one_by_one = translating c.translation_laws.ensures.rest c.translation_laws.ensures.end c.translation_laws.ensures.rule t in
+    record { good_steps = good_steps t keeps choosing; in_order = in_order t keeps; accepts = accepts t choosing one_by_one }
