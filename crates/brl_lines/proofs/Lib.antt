@@ -5,6 +5,7 @@ pub mod EscapeLemmas
 pub mod ExpandLemmas
 pub mod FileLemmas
 pub mod FolderLemmas
+pub mod KnownLemmas
 pub mod LineLemmas
 pub mod LoadLemmas
 pub mod LoopLemmas
@@ -17,3 +18,4 @@ pub mod SpanLemmas
 pub mod SpellingLemmas
 pub mod TextLemmas
 pub mod TokenLemmas
+pub mod WayLemmas

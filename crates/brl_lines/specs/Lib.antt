@@ -13,3 +13,6 @@ pub mod Views
 pub mod Examples
 pub mod Files
 pub mod Steps
+pub mod Gathered
+pub mod Gathering
+pub mod GatherFaults

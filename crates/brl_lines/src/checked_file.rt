@@ -34,6 +34,13 @@ impl CheckedFile {
     {
         without_mark(self.whole.as_str())
     }
+
+    /// All bytes of the file.
+    pub(crate) fn bytes(&self) -> &[u8]
+        ensures { result.now ≡ string_bytes self.now.whole }
+    {
+        self.whole.as_bytes()
+    }
 }
 
 /// The text after a byte order mark.

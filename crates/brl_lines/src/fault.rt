@@ -2,7 +2,7 @@
 ghost use Rattle.std.specs.Prelude.{◌≡◌, IfOk, option_map};
 ghost use Rattle.brl_failure.specs.Failure.{IfFault};
 ghost use Rattle.brl_lines.specs.Lines.{refusal as refusal_of};
-ghost use Rattle.brl_lines.specs.Views.{load_fault_view, location_ref_view};
+ghost use Rattle.brl_lines.specs.Views.{load_fault_view, location_ref_view, location_view};
 
 use brl_failure::Failure;
 use std::alloc::{AllocError, Global};
@@ -88,15 +88,25 @@ impl LoadFault {
         ensures { IfOk result (λ fault. refusal_of kind path.now (option_map location_ref_view place.entry) ≡ load_fault_view fault) }
     {
         let path = String::from_str(alloc, path)?;
-        let place = match place {
-            None => None,
-            Some(place) => Some(Location {
-                file: String::from_str(alloc, place.file)?,
-                line: place.line,
-            }),
-        };
+        let place = owned_place(alloc, place)?;
         Ok(LoadFault { kind, path, place })
     }
+}
+
+/// A copy of a place, where there is one.
+pub(crate) fn owned_place(
+    alloc: Global,
+    place: Option<LocationRef<'_>>,
+) -> Result<Option<Location>, AllocError>
+    ensures { IfOk result (λ copy. option_map location_view copy ≡ option_map location_ref_view place.entry) }
+{
+    let Some(place) = place else {
+        return Ok(None);
+    };
+    Ok(Some(Location {
+        file: String::from_str(alloc, place.file)?,
+        line: place.line,
+    }))
 }
 
 /// A fault with copies of its path and place, or `Memory` where there is none for them.

@@ -27,7 +27,7 @@ pub(crate) fn include_name<'a>(line: &Line<'a>) -> Option<&'a str>
 }
 
 /// A path up to its last slash, and with it.
-fn folder(path: &str) -> &str
+pub fn folder(path: &str) -> &str
     ensures { result.now ≡ folder_of path.now }
 {
     let bytes = path.as_bytes();

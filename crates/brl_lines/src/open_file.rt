@@ -35,7 +35,7 @@ impl OpenFile {
 }
 
 /// Whether a path is in a list.
-fn is_in(paths: &[String], path: &str) -> bool
+pub(crate) fn is_in(paths: &[String], path: &str) -> bool
     ensures { result ≡ list_any (bytes_eq path.now) (map string_bytes paths.now) }
 {
     for other in paths {

@@ -15,7 +15,7 @@ use indexmap::IndexMap;
 use std::alloc::Global;
 
 /// Reads a file, and checks it whole. The place is the include line that names it.
-fn read_file<S: Source>(
+pub(crate) fn read_file<S: Source>(
     alloc: Global,
     source: &mut S,
     path: &str,

@@ -1,0 +1,85 @@
+-- What is learnt of paths.
+use Rattle.std.proofs.Common.{◌≡◌, ℕ, Bool, true, false, cond, nat_lt, List, [], ◌∷◌, length, refl, ap, subst, inl, inr, sym, ◌∙◌, Option, Some, None, Result, Ok, Err, string_bytes}
+use Rattle.std.proofs.lemmas.Bool.{false≢true}
+use Rattle.std.proofs.lemmas.Slice.Eq.{bytes_eq-Decides}
+use Rattle.std.specs.Global.{Global}
+use Rattle.std.specs.Prelude.{String, string_eq}
+use Rattle.std.specs.Str.{is_utf8}
+use Rattle.indexmap.specs.IndexMap.{insert_entry}
+use Rattle.brl_failure.specs.declared.failure.Failure.{Failure}
+use Rattle.brl_failure.specs.declared.failure.Failure.TheVariants as failures
+use Rattle.brl_lines.specs.Answer.{FileAnswer, FileAnswers, Holds, Large, Missing, Unreadable, most_file_bytes}
+use Rattle.brl_lines.specs.GatherFaults.{IsFaultAs}
+use Rattle.brl_lines.specs.Gathering.{StopView}
+use Rattle.brl_lines.specs.Gathered.{FindsOut, IsMissingOr, IsUnread, KnownPaths, answer_of_known, known_answers}
+use Rattle.brl_lines.specs.Lines.{Answers, LocationView, Refusal, long_row, refusal, text_in, text_of, unless_long}
+use Rattle.brl_lines.specs.Outcome.{AreGiven}
+use Rattle.brl_lines.specs.Rows.{without_mark}
+use Rattle.brl_lines.specs.Views.{load_fault_view}
+use Rattle.brl_lines.specs.declared.fault.LoadFault.{LoadFault}
+use Rattle.brl_lines.specs.declared.fault.LoadFaultKind.{LoadFaultKind}
+use Rattle.brl_lines.specs.declared.fault.LoadFaultKind.TheVariants as kinds
+use Rattle.brl_lines.specs.declared.gathering.GatherFault.{GatherFault}
+use Rattle.brl_lines.specs.declared.gathering.GatherFault.TheVariants.{LeadsOut, Load}
+use Rattle.brl_lines.specs.declared.known.Known.{Known}
+use Rattle.brl_lines.specs.declared.way.StopKind.{StopKind}
+use Rattle.brl_lines.specs.declared.way.StopKind.TheVariants as stops
+
+-- ---- files that aren't there
+
+abbrev is_not_found : LoadFaultKind → Bool
+is_not_found kinds.NotFound = true
+is_not_found kind = false
+
+abbrev tells_missing : {U : Type 0} → Result U Refusal → Bool
+tells_missing (Ok x) = false
+tells_missing (Err refused) = is_not_found refused.kind
+
+-- a file that is there isn't refused so
+text_in-there : (path : List ℕ) (place : Option LocationView) (bytes : List ℕ) → tells_missing (text_in path place bytes) ≡ false
+unfolding text_in
+text_in-there path place bytes = by_tests (nat_lt most_file_bytes (length bytes)) (is_utf8 bytes) (long_row (without_mark bytes))
+  where
+    by_tests : (large good : Bool) (long : Option ℕ)
+        → tells_missing (cond large (Err (refusal kinds.TooLarge path place)) (cond good (unless_long path (without_mark bytes) long) (Err (refusal kinds.NotUtf8 path place)))) ≡ false
+    by_tests true good long = refl
+    by_tests false true None = refl
+    by_tests false true (Some number) = refl
+    by_tests false false long = refl
+
+pub missing-read : (gives : FileAnswers) (path : List ℕ) (place : Option LocationView) (fault : LoadFault) → fault.kind ≡ kinds.NotFound
+    → (answer : FileAnswer) → gives path answer → text_of path place (Some answer) ≡ Err (load_fault_view fault) → gives path Missing
+missing-read gives path place fault kind answer given e = by_answer answer given (ap tells_missing e ∙ ap is_not_found kind)
+  where
+    by_answer : (answer : FileAnswer) → gives path answer → tells_missing (text_of path place (Some answer)) ≡ true → gives path Missing
+    by_answer (Holds bytes) given told = absurd (false≢true (sym (text_in-there path place bytes) ∙ told))
+    by_answer Missing given told = given
+    by_answer Large given told = absurd (false≢true told)
+    by_answer Unreadable given told = absurd (false≢true told)
+
+pub found-out : (gives : FileAnswers) (path : List ℕ) (place : Option LocationView) (fault : LoadFault) (may : Bool) (result : Result Known (Failure LoadFault))
+    → IsMissingOr may fault result → IsUnread gives path place (failures.Fault fault) → FindsOut gives path place result
+found-out gives path place fault may (Ok found) so unread =
+    subst (λ (k : Known). gives path (answer_of_known k)) (sym so.2) (missing-read gives path place fault so.1 unread.0 unread.1 unread.2)
+found-out gives path place fault may (Err failure) so unread = subst (IsUnread gives path place) (sym so) unread
+
+-- ---- what is known of one path more
+
+pub given-inserted : (gives : FileAnswers) (entries : KnownPaths) (key : String Global) (known : Known) → AreGiven gives (known_answers entries)
+    → gives (string_bytes key) (answer_of_known known) → AreGiven gives (known_answers (insert_entry string_eq entries key known))
+given-inserted gives [] key known are is = (is, tt)
+given-inserted gives (entry ∷ entries) key known are is = by_test (string_eq key entry.0) refl (given-inserted gives entries key known are.1 is)
+  where
+    by_test : (b : Bool) → string_eq key entry.0 ≡ b → AreGiven gives (known_answers (insert_entry string_eq entries key known))
+        → AreGiven gives (known_answers (cond b ((entry.0, known) ∷ entries) (entry ∷ insert_entry string_eq entries key known)))
+    by_test true same rest = (subst (λ (p : List ℕ). gives p (answer_of_known known)) ((bytes_eq-Decides (string_bytes key) (string_bytes entry.0)).0 same) is, are.1)
+    by_test false same rest = (are.0, rest)
+
+-- what one source gave, another may give
+pub fault-stays : (g h : FileAnswers) → ((path : List ℕ) (a : FileAnswer) → g path a → h path a) → (answers : Answers) (kind : StopKind) (stop : StopView) (fault : GatherFault)
+    → IsFaultAs kind g answers stop fault → IsFaultAs kind h answers stop fault
+fault-stays g h stays answers stops.LeadsOut stop fault x = x
+fault-stays g h stays answers stops.TooDeep stop fault x = x
+fault-stays g h stays answers stops.Unknown stop fault (inl x) = inl x
+fault-stays g h stays answers stops.Unknown stop (Load fault) (inr x) = inr (x.0, stays _ _ x.1, x.2, λ k. stays _ _ (x.3 k))
+fault-stays g h stays answers stops.Unknown stop (LeadsOut out) (inr x) = absurd x

@@ -1,0 +1,72 @@
+-- Internal. How the definitions see what is known of paths, and the way through their files.
+use Rattle.std.specs.Prelude.{◌≡◌, Bool, true, List, map, option_map, ℕ, Option, Some, None, Result, Ok, Err, String, string_bytes}
+use Rattle.std.specs.Global.{Global}
+use Rattle.brl_failure.specs.Failure.{IfFault}
+use Rattle.brl_failure.specs.declared.failure.Failure.{Failure}
+use Rattle.brl_failure.specs.declared.failure.Failure.TheVariants as failures
+use Rattle.brl_lines.specs.Answer.{FileAnswer, FileAnswers, Holds, Missing}
+use Rattle.brl_lines.specs.Gathering.{IncludeView, LeftView, StopView, Visit, WayView, place_of, stop, taken}
+use Rattle.brl_lines.specs.Lines.{Answers, LocationView, answer_at, text_of}
+use Rattle.brl_lines.specs.Outcome.{IsReadFailure}
+use Rattle.brl_lines.specs.Views.{load_fault_view, location_view}
+use Rattle.brl_lines.specs.declared.fault.LoadFault.{LoadFault}
+use Rattle.brl_lines.specs.declared.fault.LoadFaultKind.TheVariants as kinds
+use Rattle.brl_lines.specs.declared.known.Known.{Known}
+use Rattle.brl_lines.specs.declared.known.Known.TheVariants as known
+use Rattle.brl_lines.specs.declared.way.LeftInclude.{LeftInclude}
+use Rattle.brl_lines.specs.declared.way.Stop.{Stop}
+use Rattle.brl_lines.specs.declared.way.Way.{Way}
+
+-- an include line that is left out
+abbrev pub left_view : LeftInclude → LeftView
+left_view left = record { file = string_bytes left.file; line = left.line; name = string_bytes left.name; reason = left.reason }
+
+-- a way
+abbrev pub way_view : Way → WayView
+way_view way = record { paths = map string_bytes way.paths.items; left_out = map left_view way.left_out.items }
+
+-- where a way ends early
+abbrev pub stop_view : Stop → StopView
+stop_view found = stop found.kind (string_bytes found.subject) (option_map location_view found.place)
+
+-- what the source answered for what is known of a path
+abbrev pub answer_of_known : Known → FileAnswer
+answer_of_known known.Missing = Missing
+answer_of_known (known.File file) = Holds (string_bytes file.file.whole)
+
+-- what is known of paths
+abbrev pub KnownPaths : Type 0
+KnownPaths = List (String Global × Known)
+
+-- what the source answered for these paths
+abbrev pub known_answers : KnownPaths → Answers
+known_answers entries = map (λ entry. (string_bytes entry.0, answer_of_known entry.1)) entries
+
+-- the same as a function
+abbrev pub known_answer : KnownPaths → List ℕ → Option FileAnswer
+known_answer entries = answer_at (known_answers entries)
+
+-- an include line was taken: it is left out, or leads on to the file at a path and the way is as it
+-- was; or the way ends there
+abbrev pub IsTaken : (List ℕ → Option FileAnswer) → List ℕ → List ℕ → IncludeView → WayView → WayView → Result (Option (String Global)) (Failure Stop) → Type 0
+IsTaken answer root file include old new (Ok None) = (visit : Visit) → taken visit answer root file include old ≡ Ok new
+IsTaken answer root file include old new (Ok (Some path)) =
+    (new ≡ old) × ((visit : Visit) → taken visit answer root file include old ≡ visit (Some (place_of file include)) (string_bytes path) old)
+IsTaken answer root file include old new (Err failure) =
+    IfFault (λ found. (visit : Visit) → taken visit answer root file include old ≡ Err (stop_view found)) failure
+
+-- the source gave an answer for the file at a path for which it is refused
+abbrev pub IsUnread : FileAnswers → List ℕ → Option LocationView → Failure LoadFault → Type 0
+IsUnread gives path place failure =
+    IfFault (λ fault. (answer : FileAnswer) × gives path answer × (text_of path place (Some answer) ≡ Err (load_fault_view fault))
+    × IsReadFailure gives (load_fault_view fault)) failure
+
+-- what is at a path was found out, or its file is refused
+abbrev pub FindsOut : FileAnswers → List ℕ → Option LocationView → Result Known (Failure LoadFault) → Type 0
+FindsOut gives path place (Ok found) = gives path (answer_of_known found)
+FindsOut gives path place (Err failure) = IsUnread gives path place failure
+
+-- that there is no file, where that may be and is the fault; else the fault
+abbrev pub IsMissingOr : Bool → LoadFault → Result Known (Failure LoadFault) → Type 0
+IsMissingOr may fault (Ok found) = (may ≡ true) × (fault.kind ≡ kinds.NotFound) × (found ≡ known.Missing)
+IsMissingOr may fault (Err failure) = failure ≡ failures.Fault fault

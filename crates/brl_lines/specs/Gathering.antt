@@ -1,0 +1,161 @@
+-- The files of a table that are there, and the include lines that are left out on the way through
+-- them: those of hyphenation dictionaries, which have no lines of a table, those of files that were
+-- gone through before, and those of files that aren't there. The way goes through a file where the
+-- first include line leads to it, and through the files that it includes before the lines after. The
+-- project's own choice.
+use Rattle.std.specs.Prelude.{ℕ, zero, suc, ◌||◌, ◌==◌, Bool, true, false, not, nat_eq, if◌then◌else◌, List, [], ◌∷◌, ◌++◌, codes, flat_map, length, Option, Some, None, Result, Ok, Err, string_bytes}
+use Rattle.std.specs.List.{ends_with, list_all, list_any, slice_split}
+use Rattle.std.specs.Str.{bytes_eq}
+use Rattle.brl_failure.specs.Failure.{◌>>=◌}
+use Rattle.brl_lines.specs.Answer.{FileAnswer, Holds, Missing}
+use Rattle.brl_lines.specs.Includes.{included, name_of}
+use Rattle.brl_lines.specs.Lines.{LocationView}
+use Rattle.brl_lines.specs.Rows.{without_mark}
+use Rattle.brl_lines.specs.Tokens.{lines_in}
+use Rattle.brl_lines.specs.declared.include.IncludeLine.{IncludeLine}
+use Rattle.brl_lines.specs.declared.way.IncludeReason.{IncludeReason}
+use Rattle.brl_lines.specs.declared.way.IncludeReason.TheVariants as reasons
+use Rattle.brl_lines.specs.declared.way.StopKind.{StopKind}
+use Rattle.brl_lines.specs.declared.way.StopKind.TheVariants as stops
+
+-- ---- Include lines
+
+-- an include line: its number in its file, from 1, and the name in it
+pub record IncludeView : Type 0 where
+  pub line : ℕ
+  pub name : List ℕ
+
+-- an include line, as the code has it
+abbrev pub include_view : IncludeLine → IncludeView
+include_view include = record { line = include.line; name = string_bytes include.name }
+
+-- the include line of this number with this name, as a list; empty for another line
+abbrev pub include_if : ℕ → Option (List ℕ) → List IncludeView
+include_if line None = []
+include_if line (Some name) = record { line = line; name = name } ∷ []
+
+-- the include lines of a text, in order
+abbrev pub includes_in : List ℕ → List IncludeView
+includes_in text = flat_map (λ line. include_if line.line (name_of line)) (lines_in [] text)
+
+-- a hyphenation dictionary: its name ends in `.dic`
+abbrev pub is_dictionary : List ℕ → Bool
+is_dictionary name = ends_with nat_eq name (codes ".dic")
+
+-- a part of a name that names a folder or a file in a folder
+abbrev pub is_plain_part : List ℕ → Bool
+is_plain_part part = not ((length part == 0) || bytes_eq part (codes ".") || bytes_eq part (codes ".."))
+
+-- a name of a file below a folder: each of its parts, between slashes, is plain
+abbrev pub is_plain : List ℕ → Bool
+is_plain name = list_all is_plain_part (slice_split (λ b. b == 47) name)
+
+-- ---- The way through the files
+
+-- an include line that is left out: the path of its file, its number there, the name in it, and why
+pub record LeftView : Type 0 where
+  pub file : List ℕ
+  pub line : ℕ
+  pub name : List ℕ
+  pub reason : IncludeReason
+
+-- the way so far: the paths of the files that it went through, and the include lines that were left
+-- out, both in order
+pub record WayView : Type 0 where
+  pub paths : List (List ℕ)
+  pub left_out : List LeftView
+
+-- the way before its first file
+abbrev pub no_way : WayView
+no_way = record { paths = []; left_out = [] }
+
+-- why the way ends early: at the file at a path, or at a name in an include line; and that line, where
+-- it isn't the root
+pub record StopView : Type 0 where
+  pub kind : StopKind
+  pub subject : List ℕ
+  pub place : Option LocationView
+
+-- a stop with these fields
+abbrev pub stop : StopKind → List ℕ → Option LocationView → StopView
+stop kind subject place = record { kind = kind; subject = subject; place = place }
+
+-- the way with a file more
+abbrev pub with_file : WayView → List ℕ → WayView
+with_file way path = record way { paths = way.paths ++ path ∷ [] }
+
+-- the way with an include line more that is left out
+abbrev pub with_left : WayView → List ℕ → IncludeView → IncludeReason → WayView
+with_left way file include reason = record way {
+  left_out = way.left_out ++ record { file = file; line = include.line; name = include.name; reason = reason } ∷ [];
+}
+
+-- the way on through the file at a path, from the include line that leads to it
+abbrev pub Visit : Type 0
+Visit = Option LocationView → List ℕ → WayView → Result WayView StopView
+
+-- the bytes of a file of which it is known that it is there
+abbrev pub held : Option FileAnswer → Option (List ℕ)
+held (Some (Holds bytes)) = Some bytes
+held answer = None
+
+-- whether it is known that there is no file
+abbrev pub is_missing : Option FileAnswer → Bool
+is_missing (Some Missing) = true
+is_missing answer = false
+
+-- the place of an include line
+abbrev pub place_of : List ℕ → IncludeView → LocationView
+place_of file include = record { file = file; line = include.line }
+
+-- the way on at an include line of a file
+abbrev pub taken : Visit → (List ℕ → Option FileAnswer) → List ℕ → List ℕ → IncludeView → WayView → Result WayView StopView
+taken visit answer root file include way =
+    if is_dictionary include.name then Ok (with_left way file include reasons.Dictionary)
+    else if not (is_plain include.name) then Err (stop stops.LeadsOut include.name (Some (place_of file include)))
+    else if list_any (bytes_eq (included root include.name)) way.paths then Ok (with_left way file include reasons.Repeated)
+    else if is_missing (answer (included root include.name)) then Ok (with_left way file include reasons.Missing)
+    else visit (Some (place_of file include)) (included root include.name) way
+
+-- the same at these include lines, one after the other
+abbrev pub taken_all : Visit → (List ℕ → Option FileAnswer) → List ℕ → List ℕ → List IncludeView → WayView → Result WayView StopView
+taken_all visit answer root file [] way = Ok way
+taken_all visit answer root file (include ∷ includes) way = do
+  next ← taken visit answer root file include way
+  taken_all visit answer root file includes next
+
+-- the way on through the file at a path, which has these bytes, or nothing is known of it
+abbrev pub entered : Visit → (List ℕ → Option FileAnswer) → List ℕ → Option LocationView → List ℕ → Option (List ℕ) → WayView → Result WayView StopView
+entered visit answer root place path (Some bytes) way = taken_all visit answer root path (includes_in (without_mark bytes)) (with_file way path)
+entered visit answer root place path None way = Err (stop stops.Unknown path place)
+
+-- the same, where this many files may lead down from it, itself counted
+unfoldable pub through : ℕ → (List ℕ → Option FileAnswer) → List ℕ → Visit
+through zero answer root place path way = Err (stop stops.TooDeep path place)
+through (suc depth) answer root place path way = entered (through depth answer root) answer root place path (held (answer path)) way
+
+-- the whole way from the root, which is 1 deep; a file may be 16 deep
+abbrev pub way_from : (List ℕ → Option FileAnswer) → List ℕ → Result WayView StopView
+way_from answer root = through 16 answer root None root no_way
+
+-- ---- What is gathered
+
+-- the files of a table, each with its path and its bytes, and the include lines that are left out
+pub record GatheredView : Type 0 where
+  pub files : List (List ℕ × List ℕ)
+  pub left_out : List LeftView
+
+-- a file with these bytes, as a list; empty where there are none
+abbrev pub file_if : List ℕ → Option (List ℕ) → List (List ℕ × List ℕ)
+file_if path (Some bytes) = (path, bytes) ∷ []
+file_if path None = []
+
+-- the files on a way, and what it left out
+abbrev pub gathered_on : (List ℕ → Option FileAnswer) → WayView → GatheredView
+gathered_on answer way = record { files = flat_map (λ path. file_if path (held (answer path))) way.paths; left_out = way.left_out }
+
+-- the files of the table whose root is at a path, by what is known of each path
+abbrev pub gathered_from : (List ℕ → Option FileAnswer) → List ℕ → Result GatheredView StopView
+gathered_from answer root = do
+  way ← way_from answer root
+  Ok (gathered_on answer way)

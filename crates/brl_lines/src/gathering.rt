@@ -1,0 +1,183 @@
+//! Gathers the files of a table that are there.
+ghost use Rattle.std.specs.Prelude.{◌≡◌, IfErr, IfOk, IfSome, OnOk, Some, option_map, string_bytes};
+ghost use Rattle.brl_failure.specs.Failure.{GivesAs, IfFault};
+ghost use Rattle.brl_lines.specs.Answer.{Unchanged};
+ghost use Rattle.brl_lines.specs.GatherFaults.{IsFaultAtStop, IsGatherFault, IsGathered, IsOfLoad, IsOutside, IsRefusalAt, gathered_view};
+ghost use Rattle.brl_lines.specs.Gathered.{known_answer, known_answers, stop_view, way_view};
+ghost use Rattle.brl_lines.specs.Gathering.{gathered_on, way_from};
+ghost use Rattle.brl_lines.specs.Outcome.{AreGiven};
+ghost use Rattle.brl_lines.specs.Views.{location_view};
+ghost use Rattle.brl_lines.specs.declared.way.StopKind.TheVariants.{LeadsOut as TheLeadsOut};
+
+use crate::fault::{LoadFault, LoadFaultKind, Location, owned_place, refusal};
+use crate::known::{Known, file_at_path, learn};
+use crate::source::Source;
+use crate::way::{LeftInclude, Stop, StopKind, Way, through};
+use brl_failure::Failure;
+use indexmap::IndexMap;
+use std::alloc::{AllocError, Global};
+use thiserror::Error;
+
+/// How many files may lead down from the root, itself counted.
+const MOST_DEPTH: u32 = 16;
+
+/// The most paths that are asked for, the root counted.
+const MOST_PATHS: usize = 1025;
+
+/// A file of a table: its path, and its bytes.
+#[derive(Debug, Drop)]
+pub struct GatheredFile {
+    pub path: String,
+    pub bytes: Vec<u8>,
+}
+
+/// The files of a table, in the order in which include lines first lead to them, the root first; and
+/// the include lines that are left out, in the order in which they were come to.
+#[derive(Debug, Drop)]
+pub struct Gathered {
+    pub files: Vec<GatheredFile>,
+    pub left_out: Vec<LeftInclude>,
+}
+
+/// An include line whose name leads out of the root's folder.
+#[derive(Debug, Drop, Error)]
+#[error("include {name} at {place} leads out of the table's folder")]
+pub struct LeadsOut {
+    pub name: String,
+    pub place: Location,
+}
+
+/// Why the files of a table aren't gathered.
+#[derive(Debug, Drop, Error)]
+pub enum GatherFault {
+    /// A file can't be read, or is one too many or too deep.
+    #[error("{0}")]
+    Load(LoadFault),
+    /// An include line leads out of the root's folder.
+    #[error("{0}")]
+    LeadsOut(LeadsOut),
+}
+
+/// Gathers the files of the table whose root is at a path: the root, and the files to which include
+/// lines lead, as `load` finds them.
+///
+/// An include line is left out, in this order, where it includes a hyphenation dictionary, whose name
+/// ends in `.dic`; where its file was gone through before, or leads to it; and where its file isn't
+/// there. `LeadsOut` where the name in one isn't one of a file below the root's folder: it is absolute,
+/// or a part of it is empty, `.` or `..`; a dictionary's may be. `Load` where a file can't be read or
+/// isn't good, as in `load`; where there is no root; where a file is deeper than 16, the root being 1
+/// (`TooDeep`); and where more than 1,024 paths are asked for beside the root (`TooManyIncludes`).
+pub fn gather<S: Source>(
+    alloc: Global,
+    source: &mut S,
+    root: &str,
+) -> Result<Gathered, Failure<GatherFault>>
+    ensures gathered { IfOk result (IsGathered (S.gives source.old) root.now) }
+    ensures fault { IfErr result (IfFault (IsGatherFault (S.gives source.old) root.now)) }
+    ensures same { Unchanged (S.gives source.old) (S.gives source.new) }
+{
+    let mut known: IndexMap<String, Known> = IndexMap::new(alloc);
+    for _ in 0..u64::MAX {
+        match walk(alloc, &known, root) {
+            Ok(way) => return Ok(files_on(alloc, &known, way)?),
+            Err(Failure::Fault(stop)) => go_on(alloc, source, &mut known, &stop)?,
+            Err(Failure::Memory) => return Err(Failure::Memory),
+        }
+    }
+    Err(Failure::Memory)
+}
+
+/// The way from the root, by what is known of paths.
+fn walk(alloc: Global, known: &IndexMap<String, Known>, root: &str) -> Result<Way, Failure<Stop>>
+    ensures { GivesAs way_view stop_view (way_from (known_answer known.now.entries) root.now) result }
+{
+    let mut way = Way::new(alloc);
+    through(alloc, known, root, MOST_DEPTH, None, root, &mut way)?;
+    Ok(way)
+}
+
+/// The files on a way, and what it left out.
+fn files_on(
+    alloc: Global,
+    known: &IndexMap<String, Known>,
+    way: Way,
+) -> Result<Gathered, AllocError>
+    ensures { IfOk result (λ found. gathered_view found ≡ gathered_on (known_answer known.now.entries) (way_view way)) }
+{
+    let Way { paths, left_out } = way;
+    let mut files = Vec::new(alloc);
+    for path in &paths {
+        let path = path.as_str();
+        if let Some(found) = file_at_path(known, path) {
+            files.push(GatheredFile {
+                path: String::from_str(alloc, path)?,
+                bytes: Vec::from_slice(alloc, found.file.bytes())?,
+            })?;
+        }
+    }
+    Ok(Gathered { files, left_out })
+}
+
+/// Finds out what a way that ended early asks for, or says why it can't go on.
+fn go_on<S: Source>(
+    alloc: Global,
+    source: &mut S,
+    known: &mut IndexMap<String, Known>,
+    stop: &Stop,
+) -> Result<(), Failure<GatherFault>>
+    requires { AreGiven (S.gives source.old) (known_answers known.old.entries) }
+    ensures given { OnOk result (AreGiven (S.gives source.old) (known_answers known.new.entries)) }
+    ensures fault { IfErr result (IfFault (IsFaultAtStop (S.gives source.old) (known_answers known.old.entries) (stop_view stop.now))) }
+    ensures same { Unchanged (S.gives source.old) (S.gives source.new) }
+{
+    match stop.kind {
+        StopKind::LeadsOut => Err(leads_out(alloc, stop)),
+        StopKind::TooDeep => Err(refuse(alloc, LoadFaultKind::TooDeep, stop)),
+        StopKind::Unknown if known.len() >= MOST_PATHS => {
+            Err(refuse(alloc, LoadFaultKind::TooManyIncludes, stop))
+        }
+        StopKind::Unknown => {
+            let path = stop.subject.as_str();
+            let place = stop.place_ref();
+            learn(alloc, source, known, path, place).map_err(of_load)
+        }
+    }
+}
+
+/// The fault of this kind at the file where a way ended.
+fn refuse(alloc: Global, kind: LoadFaultKind, stop: &Stop) -> Failure<GatherFault>
+    ensures { IfFault (IsRefusalAt kind (stop_view stop.now)) result }
+{
+    of_load(refusal(alloc, kind, stop.subject.as_str(), stop.place_ref()))
+}
+
+/// The failure of a load, as one of gathering.
+fn of_load(failure: Failure<LoadFault>) -> Failure<GatherFault>
+    ensures { IsOfLoad failure result }
+{
+    failure.map(GatherFault::Load)
+}
+
+/// The fault of an include line that leads out of the root's folder, where a way ended.
+fn leads_out(alloc: Global, stop: &Stop) -> Failure<GatherFault>
+    requires { stop.now.kind ≡ TheLeadsOut }
+    ensures { IfFault (IsOutside (stop_view stop.now)) result }
+{
+    match outside(alloc, stop) {
+        Ok(Some(fault)) => Failure::Fault(GatherFault::LeadsOut(fault)),
+        _ => Failure::Memory,
+    }
+}
+
+/// An include line that leads out of the root's folder, with copies of its name and place. `None` at
+/// the root, to which no include line leads.
+fn outside(alloc: Global, stop: &Stop) -> Result<Option<LeadsOut>, AllocError>
+    ensures { IfOk result (λ found. IfSome found (λ out. (string_bytes out.name ≡ string_bytes stop.now.subject) × (Some (location_view out.place) ≡ option_map location_view stop.now.place))) }
+{
+    let name = String::from_str(alloc, stop.subject.as_str())?;
+    let place = owned_place(alloc, stop.place_ref())?;
+    let Some(place) = place else {
+        return Ok(None);
+    };
+    Ok(Some(LeadsOut { name, place }))
+}

@@ -1,0 +1,97 @@
+//! What is known of paths: the file there, or that there is none.
+ghost use Rattle.std.specs.Prelude.{◌≡◌, IfErr, OnOk, option_map, string_bytes};
+ghost use Rattle.brl_lines.specs.Answer.{Unchanged};
+ghost use Rattle.brl_lines.specs.Gathered.{FindsOut, IsMissingOr, IsUnread, known_answer, known_answers};
+ghost use Rattle.brl_lines.specs.Gathering.{held, is_missing as is_missing_by};
+ghost use Rattle.brl_lines.specs.Outcome.{AreGiven, CountsFailure};
+ghost use Rattle.brl_lines.specs.Views.{location_ref_view};
+
+use crate::fault::{LoadFault, LoadFaultKind, LocationRef};
+use crate::known_file::{KnownFile, known_file};
+use crate::read::read_file;
+use crate::source::Source;
+use brl_failure::Failure;
+use indexmap::IndexMap;
+use std::alloc::Global;
+
+/// What is known of a path.
+#[derive(Drop)]
+pub(crate) enum Known {
+    /// There is no file.
+    Missing,
+    /// There is a file.
+    File(KnownFile),
+}
+
+/// The file at a path, where it is known to be there.
+pub(crate) fn file_at_path<'a>(
+    known: &'a IndexMap<String, Known>,
+    path: &str,
+) -> Option<&'a KnownFile>
+    ensures { option_map (λ file. string_bytes file.now.file.whole) result ≡ held (known_answer known.entry.now.entries path.now) }
+{
+    match known.get(path) {
+        Some(Known::File(file)) => Some(file),
+        Some(Known::Missing) => None,
+        None => None,
+    }
+}
+
+/// Whether it is known that there is no file at a path.
+pub(crate) fn is_missing(known: &IndexMap<String, Known>, path: &str) -> bool
+    ensures { result ≡ is_missing_by (known_answer known.now.entries path.now) }
+{
+    match known.get(path) {
+        Some(Known::File(_)) => false,
+        Some(Known::Missing) => true,
+        None => false,
+    }
+}
+
+/// Reads what is at a path. The place is the include line that names it; at the root, which has
+/// none, there must be a file.
+fn find_out<S: Source>(
+    alloc: Global,
+    source: &mut S,
+    path: &str,
+    place: Option<LocationRef<'_>>,
+) -> Result<Known, Failure<LoadFault>>
+    ensures found { FindsOut (S.gives source.old) path.now (option_map location_ref_view place.entry) result }
+    ensures count { CountsFailure (S.faults source.old) (S.faults source.new) result }
+    ensures same { Unchanged (S.gives source.old) (S.gives source.new) }
+{
+    match read_file(alloc, source, path, place) {
+        Ok(file) => Ok(Known::File(known_file(alloc, file)?)),
+        Err(Failure::Fault(fault)) => missing_or(fault, place.is_some()),
+        Err(Failure::Memory) => Err(Failure::Memory),
+    }
+}
+
+/// That there is no file, where that may be and is the fault; else the fault.
+fn missing_or(fault: LoadFault, may_be_missing: bool) -> Result<Known, Failure<LoadFault>>
+    ensures { IsMissingOr may_be_missing fault result }
+{
+    match fault.kind {
+        LoadFaultKind::NotFound if may_be_missing => Ok(Known::Missing),
+        _ => Err(Failure::Fault(fault)),
+    }
+}
+
+/// Reads what is at a path that isn't known yet, and adds it to what is known.
+pub(crate) fn learn<S: Source>(
+    alloc: Global,
+    source: &mut S,
+    known: &mut IndexMap<String, Known>,
+    path: &str,
+    place: Option<LocationRef<'_>>,
+) -> Result<(), Failure<LoadFault>>
+    requires { AreGiven (S.gives source.old) (known_answers known.old.entries) }
+    ensures given { OnOk result (AreGiven (S.gives source.old) (known_answers known.new.entries)) }
+    ensures refused { IfErr result (IsUnread (S.gives source.old) path.now (option_map location_ref_view place.entry)) }
+    ensures count { CountsFailure (S.faults source.old) (S.faults source.new) result }
+    ensures same { Unchanged (S.gives source.old) (S.gives source.new) }
+{
+    let found = find_out(alloc, source, path, place)?;
+    known.insert(String::from_str(alloc, path)?, found)?;
+    Ok(())
+}
