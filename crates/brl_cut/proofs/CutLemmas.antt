@@ -1,0 +1,38 @@
+-- Facts that pass from files in memory to those of a cut.
+use Rattle.std.proofs.Common.{◌≡◌, ℕ, Bool, List, Result, Ok, Err, IfErr, IfOk, subst}
+use Rattle.brl_failure.specs.Failure.{IfFault}
+use Rattle.brl_failure.specs.Raised.{if_fault-weaker}
+use Rattle.brl_failure.specs.declared.failure.Failure.{Failure}
+use Rattle.brl_lines.specs.Answer.{FileAnswers}
+use Rattle.brl_lines.specs.GatherFaults.{IsGathered, gathered_view}
+use Rattle.brl_lines.specs.declared.gathering.Gathered.{Gathered}
+use Rattle.brl_lines.specs.declared.fault.LoadFault.{LoadFault}
+use Rattle.brl_table.specs.declared.no_table.NoTable.{NoTable}
+use Rattle.brl_cut.specs.Cuts.{IsCutFault, IsReadAs, IsUncut, IsUnreadAs}
+use Rattle.brl_cut.specs.Edits.{Texts}
+use Rattle.brl_cut.specs.Rounds.{SettlesTo}
+use Rattle.brl_cut.specs.declared.cutting.Cut.{Cut}
+use Rattle.brl_cut.specs.declared.cutting.CutFault.{CutFault}
+use Rattle.brl_cut.specs.declared.cutting.CutFault.TheVariants.{Gather, Load, NotRead}
+use Rattle.brl_cut.specs.declared.rounds.Settled.{Settled}
+
+-- what files were settled to, where they were
+pub settled-as : (root : List ℕ) (files start : Texts) (step : Result Settled (Failure LoadFault)) (settled : Settled) → step ≡ Ok settled → IfOk step (SettlesTo root files) → files ≡ start → SettlesTo root start settled
+settled-as root files start step settled e h same =
+    subst (λ (fs : Texts). SettlesTo root fs settled) same (subst (λ (r : Result Settled (Failure LoadFault)). IfOk r (SettlesTo root files)) e h)
+
+pub read-as : (files same_files : Texts) (root same_root : List ℕ) → files ≡ same_files → root ≡ same_root → IsReadAs files root → IsReadAs same_files same_root
+read-as files same_files root same_root e d h = subst (λ (r : List ℕ). IsReadAs same_files r) d (subst (λ (fs : Texts). IsReadAs fs root) e h)
+
+pub unread-as : (files same_files : Texts) (root same_root : List ℕ) (why : NoTable) → files ≡ same_files → root ≡ same_root → IsUnreadAs files root why → IsUnreadAs same_files same_root why
+unread-as files same_files root same_root why e d h = subst (λ (r : List ℕ). IsUnreadAs same_files r why) d (subst (λ (fs : Texts). IsUnreadAs fs root why) e h)
+
+-- why the files that were gathered aren't cut is why the table isn't
+uncut-fault : (rewrite : Bool) (gives : FileAnswers) (root dir : List ℕ) (gathered : Gathered) → IsGathered gives root gathered → (why : CutFault) → IsUncut rewrite root dir (gathered_view gathered) why → IsCutFault rewrite gives root dir why
+uncut-fault rewrite gives root dir gathered is (Gather why) h = absurd h
+uncut-fault rewrite gives root dir gathered is (Load why) h = (is.0, is.1, gathered_view gathered, is.2, h)
+uncut-fault rewrite gives root dir gathered is (NotRead why) h = (is.0, is.1, gathered_view gathered, is.2, h)
+
+pub cut-fault : (rewrite : Bool) (gives : FileAnswers) (root dir : List ℕ) (gathered : Gathered) (result : Result Cut (Failure CutFault)) → IsGathered gives root gathered → IfErr result (IfFault (IsUncut rewrite root dir (gathered_view gathered))) → IfErr result (IfFault (IsCutFault rewrite gives root dir))
+cut-fault rewrite gives root dir gathered (Ok cut) is h = tt
+cut-fault rewrite gives root dir gathered (Err failure) is h = if_fault-weaker (IsUncut rewrite root dir (gathered_view gathered)) (IsCutFault rewrite gives root dir) failure (uncut-fault rewrite gives root dir gathered is) h

@@ -1,0 +1,6 @@
+pub mod CutLemmas
+pub mod EditLemmas
+pub mod Limits
+pub mod RewriteLemmas
+pub mod RoundLemmas
+pub mod WholeLines

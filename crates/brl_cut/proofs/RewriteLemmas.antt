@@ -1,0 +1,37 @@
+-- Facts of lines that are rewritten.
+use Rattle.std.proofs.Common.{◌≡◌, ◌∙◌, ℕ, zero, suc, ◌<◌, Bool, true, false, ◌&&◌, ◌||◌, ◌==◌, List, [], ◌∷◌, ◌++◌, ap, arith, get_or, length, map, refl, sym}
+use Rattle.std.specs.List.{list_any}
+use Rattle.std.proofs.lemmas.List.{append-nil, length-map}
+use Rattle.brl_lines.specs.Tokens.{LineView}
+use Rattle.brl_lines.specs.Views.{token_view}
+use Rattle.brl_lines.specs.declared.line.Token.{Token}
+use Rattle.brl_table.specs.Survey.{FindingsView, faulty_line_view, findings_view, survey_of}
+use Rattle.brl_table.specs.declared.faulty.Findings.{Findings}
+use Rattle.brl_cut.specs.Edits.{EditView}
+use Rattle.brl_cut.specs.Rewriting.{edit_to_words, is_definition}
+
+-- what a survey of one line found tells whether it is a definition
+pub definition-found : (found : Findings) (line : LineView) → findings_view found ≡ survey_of (line ∷ []) → (found.has_characters && (length found.faulty.items == 0)) ≡ is_definition line
+definition-found found line told =
+    ap (λ n. found.has_characters && (n == 0)) (sym (length-map found.faulty.items faulty_line_view)) ∙ ap (λ (f : FindingsView). f.has_characters && (length f.faulty == 0)) told
+
+-- fewer than three words are no line
+few-words : (line : LineView) (words : List Token) → length words < 3 → edit_to_words line (map token_view words) ≡ []
+few-words line [] few = refl
+few-words line (a ∷ []) few = refl
+few-words line (a ∷ b ∷ []) few = refl
+few-words line (a ∷ b ∷ c ∷ words) few = absurd (omega arith)
+
+-- so they add no edit
+pub few-words-add : (edits : List EditView) (line : LineView) (words : List Token) → length words < 3 → edits ≡ edits ++ edit_to_words line (map token_view words)
+few-words-add edits line words few = sym (append-nil edits) ∙ ap (λ (es : List EditView). edits ++ es) (sym (few-words line words few))
+
+or_true : (b : Bool) → (b || true) ≡ true
+or_true true = refl
+or_true false = refl
+
+-- one of a list passes
+pub any_here : {X Y : Type 0} (p : Y → Bool) (f : X → Y) (xs : List X) (i : ℕ) (d : X) → i < length xs → p (f (get_or xs i d)) ≡ true → list_any p (map f xs) ≡ true
+any_here p f [] i d h e = absurd (omega arith)
+any_here p f (x ∷ xs) zero d h e = rw e refl
+any_here p f (x ∷ xs) (suc i) d h e = rw (any_here p f xs i d (omega arith) e) (or_true (p (f x)))

@@ -1,0 +1,11 @@
+use Rattle.std.proofs.Common.{ℕ, ◌≡◌, map}
+use Rattle.brl_table.specs.Survey.{faulty_line_view}
+use Rattle.brl_cut.specs.Files.{file_view}
+use Rattle.brl_cut.specs.Settling.{after_rounds, found_in_rounds}
+use Rattle.brl_cut.proofs.rounds.settle.Given as goal
+
+-- so many rounds are made
+abbrev pub invariant-loop : goal.invariant-loop
+invariant-loop l =
+    let start = map file_view l.fn.files.items in
+    (rounds : ℕ) × (map file_view l.files.items ≡ after_rounds rounds l.root start) × (map faulty_line_view l.found.items ≡ found_in_rounds rounds l.root start)

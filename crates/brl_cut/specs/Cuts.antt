@@ -1,0 +1,127 @@
+-- The readable part of a table as files of their own. The project's own choice.
+use Rattle.std.specs.Prelude.{ℕ, Bool, ◌≡◌, ◌||◌, ◌==◌, if◌then◌else◌, List, [], ◌++◌, codes, drop, length, map, nat_eq, string_bytes, Ok}
+use Rattle.std.specs.List.{ends_with, starts_with}
+use Rattle.brl_lines.specs.Answer.{FileAnswers, answer_of}
+use Rattle.brl_lines.specs.GatherFaults.{IsGatherFault}
+use Rattle.brl_lines.specs.Gathering.{GatheredView, LeftView, gathered_from}
+use Rattle.brl_lines.specs.Includes.{folder_of}
+use Rattle.brl_lines.specs.Lines.{Answers, answer_at}
+use Rattle.brl_lines.specs.Outcome.{AreGiven}
+use Rattle.brl_lines.specs.Tokens.{LineView}
+use Rattle.brl_lines.specs.declared.way.IncludeReason.{IncludeReason}
+use Rattle.brl_lines.specs.declared.way.IncludeReason.TheVariants.{Dictionary, Missing, Repeated}
+use Rattle.brl_table.specs.Files.{IsFaultAt, IsTableOf}
+use Rattle.brl_table.specs.Survey.{FaultyLineView, faulty_line_view}
+use Rattle.brl_table.specs.Items.{fault}
+use Rattle.brl_table.specs.declared.no_table.NoTable.{NoTable}
+use Rattle.brl_table.specs.declared.table_fault.TableFaultKind.TheVariants.{OutsideProfile}
+use Rattle.brl_rules.specs.TableView.{TableView}
+use Rattle.brl_cut.specs.Edits.{EditView, Texts, edited_files}
+use Rattle.brl_cut.specs.Files.{file_view}
+use Rattle.brl_cut.specs.Rewriting.{count_rewritten, rewriting_edits, rewritten_files}
+use Rattle.brl_cut.specs.Rounds.{IsUnsettled}
+use Rattle.brl_cut.specs.Settling.{IsSettled, bytes_at, comment}
+use Rattle.brl_cut.specs.declared.cutting.Cut.{Cut}
+use Rattle.brl_cut.specs.declared.cutting.CutFault.{CutFault}
+use Rattle.brl_cut.specs.declared.cutting.CutFault.TheVariants.{Gather, Load, NotRead}
+
+-- ---- Include lines that are left out
+
+-- why an include line is left out
+abbrev pub include_reason : IncludeReason → List ℕ
+include_reason Dictionary = codes "dictionary"
+include_reason Repeated = codes "repeated"
+include_reason Missing = codes "L1 NotFound"
+
+-- the edit that makes an include line a comment, which says why
+abbrev pub include_edit : LeftView → EditView
+include_edit left = record { file = left.file; line = left.line; prefix = comment (include_reason left.reason ++ (codes " " ++ left.name)) }
+
+-- an include line that is left out, as the faulty line that it is after loading
+abbrev pub include_fault : LeftView → FaultyLineView
+include_fault left = record {
+  opcode = codes "include";
+  fault = record { fault = fault OutsideProfile (codes "include"); file = left.file; line = left.line };
+}
+
+-- the files with these include lines left out
+abbrev pub without_includes : GatheredView → Texts
+without_includes gathered = edited_files (map include_edit gathered.left_out) gathered.files
+
+-- ---- Lines that are rewritten
+
+-- the edits that rewrite lines, where this is asked for
+abbrev pub start_edits : Bool → List ℕ → GatheredView → List EditView
+start_edits rewrite root gathered = rewriting_edits rewrite root (without_includes gathered)
+
+-- the files that are settled: without these include lines, and rewritten where this is asked for
+abbrev pub start_files : Bool → List ℕ → GatheredView → Texts
+start_files rewrite root gathered = rewritten_files rewrite root (without_includes gathered)
+
+-- ---- Where the files are written
+
+-- the name of a path below a folder; the path itself where it isn't there
+abbrev pub name_in : List ℕ → List ℕ → List ℕ
+name_in folder path = if starts_with nat_eq path folder then drop (length folder) path else path
+
+-- what is between a folder and a name in it: a slash, unless the folder ends with one or is empty
+abbrev pub slash_after : List ℕ → List ℕ
+slash_after dir = if (length dir == 0) || ends_with nat_eq dir (codes "/") then [] else codes "/"
+
+-- the path where a file of a table is written into a folder: under its name below the root's folder
+abbrev pub written_path : List ℕ → List ℕ → List ℕ → List ℕ
+written_path dir root path = dir ++ (slash_after dir ++ name_in (folder_of root) path)
+
+-- the files at the paths where they are written
+abbrev pub written_files : List ℕ → List ℕ → Texts → Texts
+written_files dir root files = map (λ file. (written_path dir root file.0, file.1)) files
+
+-- ---- The cut
+
+-- what these files answer, where there are no others
+abbrev pub only : Texts → FileAnswers
+only files path answer = answer ≡ answer_of (bytes_at files path)
+
+-- these files, and no others, define a table with its root at a path
+abbrev pub IsReadAs : Texts → List ℕ → Type 0
+IsReadAs files root = (t : TableView) × IsTableOf (only files) root t
+
+-- these files define none, and this is why
+abbrev pub IsUnreadAs : Texts → List ℕ → NoTable → Type 0
+IsUnreadAs files root why = IsFaultAt (only files) root why
+
+-- The cut of gathered files for a folder: lines are rewritten where this is asked for; the files are
+-- settled and written into the folder, where they define a table. These lines were left out, and these
+-- are kept; so many of them are rewritten.
+pub record IsCutOf (rewrite : Bool) (gathered : GatheredView) (root dir : List ℕ) (cut : Cut) : Type 0 where
+  pub settled : Texts
+  pub found : List FaultyLineView
+  pub lines : List LineView
+  pub settles : IsSettled root (start_files rewrite root gathered) settled found lines
+  pub files_are : map file_view cut.files.items ≡ written_files dir root settled
+  pub paths_are : map string_bytes cut.paths.items ≡ map (λ file. file.0) gathered.files
+  pub left_out_are : map faulty_line_view cut.left_out.items ≡ map include_fault gathered.left_out ++ found
+  pub kept_are : map string_bytes cut.line_files.items ≡ map (λ line. line.file) lines
+  pub rewritten_is : cut.rewritten ≡ count_rewritten (start_edits rewrite root gathered) lines
+  pub read : IsReadAs (written_files dir root settled) (written_path dir root root)
+
+-- the cut of the table whose root is at a path, for answers of the source
+abbrev pub IsCut : Bool → FileAnswers → List ℕ → List ℕ → Cut → Type 0
+IsCut rewrite gives root dir cut =
+    (answers : Answers) × AreGiven gives answers × (gathered : GatheredView) × (gathered_from (answer_at answers) root ≡ Ok gathered)
+    × IsCutOf rewrite gathered root dir cut
+
+-- files that were gathered can't be settled, or what is written is no table
+abbrev pub IsUncut : Bool → List ℕ → List ℕ → GatheredView → CutFault → Type 0
+IsUncut rewrite root dir gathered (Gather why) = ⊥
+IsUncut rewrite root dir gathered (Load why) = IsUnsettled root (start_files rewrite root gathered) why
+IsUncut rewrite root dir gathered (NotRead why) =
+    (settled : Texts) × (found : List FaultyLineView) × (lines : List LineView) × IsSettled root (start_files rewrite root gathered) settled found lines
+    × IsUnreadAs (written_files dir root settled) (written_path dir root root) why
+
+-- why a table isn't cut: its files can't be gathered; or they are, and this is why
+abbrev pub IsCutFault : Bool → FileAnswers → List ℕ → List ℕ → CutFault → Type 0
+IsCutFault rewrite gives root dir (Gather why) = IsGatherFault gives root why
+IsCutFault rewrite gives root dir why =
+    (answers : Answers) × AreGiven gives answers × (gathered : GatheredView) × (gathered_from (answer_at answers) root ≡ Ok gathered)
+    × IsUncut rewrite root dir gathered why

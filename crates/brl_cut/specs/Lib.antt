@@ -1,0 +1,6 @@
+pub mod Cuts
+pub mod Edits
+pub mod Files
+pub mod Rewriting
+pub mod Rounds
+pub mod Settling

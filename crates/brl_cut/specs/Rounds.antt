@@ -1,0 +1,28 @@
+-- Internal. What surveys of files come to, as the code has it.
+use Rattle.std.specs.Prelude.{ℕ, ◌≡◌, List, map, Ok, Err}
+use Rattle.brl_lines.specs.Lines.{location_of}
+use Rattle.brl_lines.specs.Tokens.{LineView}
+use Rattle.brl_lines.specs.Views.{load_fault_view, location_view}
+use Rattle.brl_lines.specs.declared.fault.LoadFault.{LoadFault}
+use Rattle.brl_table.specs.Survey.{faulty_line_view, survey_of}
+use Rattle.brl_cut.specs.Edits.{Texts}
+use Rattle.brl_cut.specs.Files.{file_view}
+use Rattle.brl_cut.specs.Settling.{IsSettled, after_rounds, lines_among}
+use Rattle.brl_cut.specs.declared.rounds.Settled.{Settled}
+use Rattle.brl_cut.specs.declared.rounds.Surveyed.{Surveyed}
+
+-- a survey of the table of these files found this
+abbrev pub IsSurveyed : List ℕ → Texts → Surveyed → Type 0
+IsSurveyed root files found =
+    (lines : List LineView) × (lines_among files root ≡ Ok lines) × (map faulty_line_view found.faulty.items ≡ (survey_of lines).faulty)
+    × (map location_view found.places.items ≡ map location_of lines)
+
+-- files were settled to these, with the lines whose places are these
+abbrev pub SettlesTo : List ℕ → Texts → Settled → Type 0
+SettlesTo root files settled =
+    (lines : List LineView) × IsSettled root files (map file_view settled.files.items) (map faulty_line_view settled.found.items) lines
+    × (map location_view settled.places.items ≡ map location_of lines)
+
+-- files can't be settled: after some rounds the table can't be loaded
+abbrev pub IsUnsettled : List ℕ → Texts → LoadFault → Type 0
+IsUnsettled root files fault = (rounds : ℕ) × (lines_among (after_rounds rounds root files) root ≡ Err (load_fault_view fault))

@@ -1,0 +1,300 @@
+//! The readable part of a table.
+ghost use Rattle.std.specs.Prelude.{◌≡◌, IfErr, IfOk, OnOk, codes, map, nat_eq, string_bytes};
+ghost use Rattle.std.specs.List.{ends_with};
+ghost use Rattle.brl_failure.specs.Failure.{IfFault};
+ghost use Rattle.brl_lines.specs.Answer.{Unchanged};
+ghost use Rattle.brl_lines.specs.GatherFaults.{gathered_view};
+ghost use Rattle.brl_lines.specs.Gathered.{left_view};
+ghost use Rattle.brl_lines.specs.Views.{location_view};
+ghost use Rattle.brl_table.specs.Survey.{faulty_line_view};
+ghost use Rattle.brl_cut.specs.Cuts.{
+  IsCut,
+  IsCutFault,
+  IsCutOf,
+  IsReadAs,
+  IsUncut,
+  IsUnreadAs,
+  include_edit as edit_of_include,
+  include_fault as fault_of_include,
+  include_reason,
+  name_in,
+  slash_after as slash_between,
+  start_edits,
+  start_files,
+  written_files,
+  written_path as path_written,
+};
+ghost use Rattle.brl_cut.specs.Files.{edit_view, file_view};
+
+use crate::files::{Edit, edit_files, source_of};
+use crate::rewriting::{Rewritten, count_rewritten, rewrite_files};
+use crate::rounds::{Settled, settle};
+use brl_failure::{Failure, raise};
+use brl_lines::{
+    GatherFault, Gathered, GatheredFile, IncludeReason, LeftInclude, LoadFault, Location, Source,
+    folder, gather,
+};
+use brl_table::{FaultyLine, NoTable, TableFault, TableFaultKind, load_table};
+use std::alloc::{AllocError, Global};
+use thiserror::Error;
+
+/// The readable part of a table, as files of their own.
+#[derive(Debug, Drop)]
+pub struct Cut {
+    /// The files, each at the path where it is to be written; the root is the first.
+    pub files: Vec<GatheredFile>,
+    /// The paths of the files where they were read, in the same order.
+    pub paths: Vec<String>,
+    /// The lines that became comments, each with its file where it was read: includes that are left
+    /// out, and then faulty lines as surveys found them.
+    pub left_out: Vec<FaultyLine>,
+    /// The path of the file, where it was read, of each line that is kept, in order.
+    pub line_files: Vec<String>,
+    /// How many of the lines that are kept are rewritten.
+    pub rewritten: usize,
+}
+
+/// Why a table isn't cut.
+#[derive(Debug, Drop, Error)]
+pub enum CutFault {
+    /// Its files can't be gathered.
+    #[error("{0}")]
+    Gather(GatherFault),
+    /// They can't be loaded after lines became comments.
+    #[error("{0}")]
+    Load(LoadFault),
+    /// The written files define no table.
+    #[error("{0}")]
+    NotRead(NoTable),
+}
+
+/// Why an include line is left out.
+fn reason_text(reason: IncludeReason) -> &'static str
+    ensures { result.now ≡ include_reason reason }
+{
+    match reason {
+        IncludeReason::Dictionary => "dictionary",
+        IncludeReason::Repeated => "repeated",
+        IncludeReason::Missing => "L1 NotFound",
+    }
+}
+
+/// The edit that makes an include line a comment.
+fn include_edit(alloc: Global, left: &LeftInclude) -> Result<Edit, AllocError>
+    ensures { IfOk result (λ edit. edit_view edit ≡ edit_of_include (left_view left.now)) }
+{
+    let reason = reason_text(left.reason);
+    let name = left.name.as_str();
+    Ok(Edit {
+        file: String::from_str(alloc, left.file.as_str())?,
+        line: left.line,
+        prefix: format!(in alloc; "# {reason} {name}: ")?,
+    })
+}
+
+/// The edits that make include lines comments.
+fn include_edits(alloc: Global, left_out: &[LeftInclude]) -> Result<Vec<Edit>, AllocError>
+    ensures { IfOk result (λ edits. map edit_view edits.items ≡ map edit_of_include (map left_view left_out.now)) }
+{
+    let mut edits = Vec::with_capacity(alloc, left_out.len())?;
+    for left in left_out {
+        edits.push(include_edit(alloc, left)?)?;
+    }
+    Ok(edits)
+}
+
+/// An include line that is left out, as a faulty line: one that is left after loading.
+fn include_fault(alloc: Global, left: &LeftInclude) -> Result<FaultyLine, AllocError>
+    ensures { IfOk result (λ faulty. faulty_line_view faulty ≡ fault_of_include (left_view left.now)) }
+{
+    let opcode = String::from_str(alloc, "include")?;
+    let fault = TableFault {
+        kind: TableFaultKind::OutsideProfile,
+        subject: String::from_str(alloc, "include")?,
+        file: String::from_str(alloc, left.file.as_str())?,
+        line: left.line,
+    };
+    Ok(FaultyLine { opcode, fault })
+}
+
+/// Include lines that are left out, as faulty lines.
+fn include_faults(alloc: Global, left_out: &[LeftInclude]) -> Result<Vec<FaultyLine>, AllocError>
+    ensures { IfOk result (λ faulty. map faulty_line_view faulty.items ≡ map fault_of_include (map left_view left_out.now)) }
+{
+    let mut faulty = Vec::with_capacity(alloc, left_out.len())?;
+    for left in left_out {
+        faulty.push(include_fault(alloc, left)?)?;
+    }
+    Ok(faulty)
+}
+
+/// The name of a path below a folder; the path itself where it isn't there.
+fn name_below<'a>(folder: &str, path: &'a str) -> &'a str
+    ensures { result.now ≡ name_in folder.now path.entry.now }
+{
+    match path.strip_prefix(folder) {
+        Some(name) => name,
+        None => path,
+    }
+}
+
+/// Whether a path ends with a slash.
+fn ends_with_slash(path: &str) -> bool
+    ensures { result ≡ ends_with nat_eq path.now (codes "/") }
+{
+    path.ends_with("/")
+}
+
+/// What is between a folder and a name in it: a slash, unless the folder ends with one or is empty.
+fn slash_after(dir: &str) -> &'static str
+    ensures { result.now ≡ slash_between dir.now }
+{
+    if dir.is_empty() || ends_with_slash(dir) {
+        ""
+    } else {
+        "/"
+    }
+}
+
+/// The path where a file of a table is written into a folder: under its name below the root's folder.
+fn written_path(alloc: Global, dir: &str, root: &str, path: &str) -> Result<String, AllocError>
+    ensures { IfOk result (λ written. string_bytes written ≡ path_written dir.now root.now path.now) }
+{
+    let name = name_below(folder(root), path);
+    let mut written = String::from_str(alloc, dir)?;
+    written.push_str(slash_after(dir))?;
+    written.push_str(name)?;
+    Ok(written)
+}
+
+/// Files of a table at the paths where they are written into a folder.
+fn place_files(
+    alloc: Global,
+    files: &[GatheredFile],
+    dir: &str,
+    root: &str,
+) -> Result<Vec<GatheredFile>, AllocError>
+    ensures { IfOk result (λ placed. map file_view placed.items ≡ written_files dir.now root.now (map file_view files.now)) }
+{
+    let mut placed = Vec::with_capacity(alloc, files.len())?;
+    for file in files {
+        placed.push(GatheredFile {
+            path: written_path(alloc, dir, root, file.path.as_str())?,
+            bytes: Vec::from_slice(alloc, file.bytes.as_slice())?,
+        })?;
+    }
+    Ok(placed)
+}
+
+/// The paths of files.
+fn paths_of(alloc: Global, files: &[GatheredFile]) -> Result<Vec<String>, AllocError>
+    ensures { IfOk result (λ paths. map string_bytes paths.items ≡ map (λ file. file.0) (map file_view files.now)) }
+{
+    let mut paths = Vec::with_capacity(alloc, files.len())?;
+    for file in files {
+        paths.push(String::from_str(alloc, file.path.as_str())?)?;
+    }
+    Ok(paths)
+}
+
+/// Reads the table whose root is at a path, of these files and no others.
+fn check_read(alloc: Global, files: &[GatheredFile], root: &str) -> Result<(), Failure<NoTable>>
+    ensures read { OnOk result (IsReadAs (map file_view files.now) root.now) }
+    ensures fault { IfErr result (IfFault (IsUnreadAs (map file_view files.now) root.now)) }
+{
+    let mut source = source_of(alloc, files)?;
+    load_table(alloc, &mut source, root)?;
+    Ok(())
+}
+
+/// The path of the file of each place.
+fn files_of_places(alloc: Global, places: &[Location]) -> Result<Vec<String>, AllocError>
+    ensures { IfOk result (λ paths. map string_bytes paths.items ≡ map (λ place. place.file) (map location_view places.now)) }
+{
+    let mut paths = Vec::with_capacity(alloc, places.len())?;
+    for place in places {
+        paths.push(String::from_str(alloc, place.file.as_str())?)?;
+    }
+    Ok(paths)
+}
+
+/// Gathered files without the include lines that are left out, and with lines rewritten where this is
+/// asked for.
+fn rewrite_gathered(
+    alloc: Global,
+    gathered: &Gathered,
+    root: &str,
+    rewrite: bool,
+) -> Result<Rewritten, AllocError>
+    ensures files { IfOk result (λ new. map file_view new.files.items ≡ start_files rewrite root.now (gathered_view gathered.now)) }
+    ensures edits { IfOk result (λ new. map edit_view new.edits.items ≡ start_edits rewrite root.now (gathered_view gathered.now)) }
+{
+    let edits = include_edits(alloc, gathered.left_out.as_slice())?;
+    let files = edit_files(alloc, gathered.files.as_slice(), edits.as_slice())?;
+    rewrite_files(alloc, files, root, rewrite)
+}
+
+/// The table whose root is at a path, with the lines that aren't read as comments, for the folder
+/// `dir`. Each file keeps its name below the root's folder, each line its number and its end. A line
+/// that isn't read becomes a comment that says why: `# `, the reason, `: ` and the line; one of more
+/// than 2,048 bytes is cut off.
+///
+/// Lines are left out in this order: include lines as `gather` leaves them out; and then, again and
+/// again, the lines that a survey of the others finds faulty, until it finds none. So every command
+/// reads what is written.
+///
+/// With `rewrite` lines are rewritten before faulty ones are left out: of a line `noback OP C D ..`
+/// where `OP C D` by itself defines a character, that is put before it, and ` # `, so that the line
+/// itself is a comment.
+pub fn cut_table<S: Source>(
+    alloc: Global,
+    source: &mut S,
+    root: &str,
+    dir: &str,
+    rewrite: bool,
+) -> Result<Cut, Failure<CutFault>>
+    ensures cut { IfOk result (IsCut rewrite (S.gives source.old) root.now dir.now) }
+    ensures fault { IfErr result (IfFault (IsCutFault rewrite (S.gives source.old) root.now dir.now)) }
+    ensures same { Unchanged (S.gives source.old) (S.gives source.new) }
+{
+    let gathered = raise(gather(alloc, source, root), CutFault::Gather)?;
+    cut_gathered(alloc, &gathered, root, dir, rewrite)
+}
+
+/// The same of files that are gathered.
+fn cut_gathered(
+    alloc: Global,
+    gathered: &Gathered,
+    root: &str,
+    dir: &str,
+    rewrite: bool,
+) -> Result<Cut, Failure<CutFault>>
+    ensures cut { IfOk result (IsCutOf rewrite (gathered_view gathered.now) root.now dir.now) }
+    ensures fault { IfErr result (IfFault (IsUncut rewrite root.now dir.now (gathered_view gathered.now))) }
+{
+    let new = rewrite_gathered(alloc, gathered, root, rewrite)?;
+    let settled = raise(settle(alloc, new.files, root), CutFault::Load)?;
+    let files = place_files(alloc, settled.files.as_slice(), dir, root)?;
+    let new_root = written_path(alloc, dir, root, root)?;
+    raise(
+        check_read(alloc, files.as_slice(), new_root.as_str()),
+        CutFault::NotRead,
+    )?;
+    let mut left_out = include_faults(alloc, gathered.left_out.as_slice())?;
+    let Settled {
+        mut found,
+        places,
+        ..
+    } = settled;
+    left_out.append(&mut found)?;
+    let line_files = files_of_places(alloc, places.as_slice())?;
+    let rewritten = count_rewritten(new.edits.as_slice(), places.as_slice());
+    let paths = paths_of(alloc, gathered.files.as_slice())?;
+    Ok(Cut {
+        files,
+        paths,
+        left_out,
+        line_files,
+        rewritten,
+    })
+}

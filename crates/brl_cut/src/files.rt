@@ -1,0 +1,75 @@
+//! Files in memory, and edits of their lines.
+ghost use Rattle.std.specs.Prelude.{◌≡◌, IfOk, List, [], ◌∷◌, map};
+ghost use Rattle.brl_cut.specs.Edits.{edited_files, prefix_in};
+ghost use Rattle.brl_cut.specs.Files.{HasPrefixes, HoldsFiles, edit_view, file_view};
+
+use crate::text::edited;
+use brl_lines::{GatheredFile, MapSource};
+use std::alloc::{AllocError, Global};
+use std::collections::BTreeMap;
+
+/// An edit of a line: what is put before it, in the file at a path. Lines are counted from 1.
+#[derive(Drop)]
+pub(crate) struct Edit {
+    pub file: String,
+    pub line: u32,
+    pub prefix: String,
+}
+
+/// What is put before the lines of the file at a path, by their numbers; the last edit of a line
+/// decides.
+fn prefixes_of<'a>(
+    alloc: Global,
+    edits: &'a [Edit],
+    path: &str,
+) -> Result<BTreeMap<usize, &'a str>, AllocError>
+    ensures { IfOk result (λ prefixes. HasPrefixes prefixes (prefix_in (map edit_view edits.entry.now) path.now)) }
+{
+    let mut prefixes = BTreeMap::new(alloc);
+    for edit in edits {
+        if path == edit.file.as_str() {
+            prefixes.insert(edit.line as usize, edit.prefix.as_str())?;
+        }
+    }
+    Ok(prefixes)
+}
+
+/// A file after edits.
+fn edit_file(alloc: Global, file: &GatheredFile, edits: &[Edit]) -> Result<GatheredFile, AllocError>
+    ensures { IfOk result (λ new. edited_files (map edit_view edits.now) (file_view file.now ∷ []) ≡ file_view new ∷ []) }
+{
+    let path = file.path.as_str();
+    let prefixes = prefixes_of(alloc, edits, path)?;
+    Ok(GatheredFile {
+        path: String::from_str(alloc, path)?,
+        bytes: edited(alloc, file.bytes.as_slice(), &prefixes)?,
+    })
+}
+
+/// Files after edits.
+pub(crate) fn edit_files(
+    alloc: Global,
+    files: &[GatheredFile],
+    edits: &[Edit],
+) -> Result<Vec<GatheredFile>, AllocError>
+    ensures { IfOk result (λ new. map file_view new.items ≡ edited_files (map edit_view edits.now) (map file_view files.now)) }
+{
+    let mut new = Vec::with_capacity(alloc, files.len())?;
+    for file in files {
+        new.push(edit_file(alloc, file, edits)?)?;
+    }
+    Ok(new)
+}
+
+/// A source that has these files and no others; the last one at a path decides.
+pub(crate) fn source_of(alloc: Global, files: &[GatheredFile]) -> Result<MapSource, AllocError>
+    ensures { IfOk result (HoldsFiles (map file_view files.now)) }
+{
+    let mut map = BTreeMap::new(alloc);
+    for file in files {
+        let path = String::from_str(alloc, file.path.as_str())?;
+        let bytes = Vec::from_slice(alloc, file.bytes.as_slice())?;
+        map.insert(path, bytes)?;
+    }
+    Ok(MapSource::new(map))
+}

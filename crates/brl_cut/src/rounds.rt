@@ -1,0 +1,118 @@
+//! Rounds of surveys of files, whose faulty lines become comments.
+ghost use Rattle.std.specs.Prelude.{◌≡◌, Err, IfErr, IfOk, map};
+ghost use Rattle.brl_failure.specs.Failure.{IfFault};
+ghost use Rattle.brl_lines.specs.Lines.{location_of};
+ghost use Rattle.brl_lines.specs.Views.{line_view, load_fault_view, location_view};
+ghost use Rattle.brl_table.specs.Survey.{faulty_line_view};
+ghost use Rattle.brl_cut.specs.Files.{edit_view, file_view};
+ghost use Rattle.brl_cut.specs.Rounds.{IsSurveyed, IsUnsettled, SettlesTo};
+ghost use Rattle.brl_cut.specs.Settling.{fault_edit as edit_of_fault, lines_among};
+
+use crate::files::{Edit, edit_files, source_of};
+use brl_failure::Failure;
+use brl_lines::{GatheredFile, Line, LoadFault, Location, files_in_memory_law, load};
+use brl_table::{FaultyLine, survey};
+use std::alloc::{AllocError, Global};
+
+/// What a survey of files finds: their faulty lines, and the place of each line.
+#[derive(Drop)]
+pub(crate) struct Surveyed {
+    pub faulty: Vec<FaultyLine>,
+    pub places: Vec<Location>,
+}
+
+/// Files whose lines are all read, the faulty lines that became comments, and the place of each line.
+#[derive(Drop)]
+pub(crate) struct Settled {
+    pub files: Vec<GatheredFile>,
+    pub found: Vec<FaultyLine>,
+    pub places: Vec<Location>,
+}
+
+/// Surveys the table whose root is at a path, of these files and no others.
+fn survey_files(
+    alloc: Global,
+    files: &[GatheredFile],
+    root: &str,
+) -> Result<Surveyed, Failure<LoadFault>>
+    ensures found { IfOk result (IsSurveyed root.now (map file_view files.now)) }
+    ensures fault { IfErr result (IfFault (λ fault. lines_among (map file_view files.now) root.now ≡ Err (load_fault_view fault))) }
+{
+    let mut source = source_of(alloc, files)?;
+    files_in_memory_law(&source);
+    let loaded = load(alloc, &mut source, root)?;
+    let lines = loaded.lines(alloc)?;
+    let found = survey(alloc, lines.as_slice())?;
+    let places = places_of_lines(alloc, lines.as_slice())?;
+    Ok(Surveyed {
+        faulty: found.faulty,
+        places,
+    })
+}
+
+/// The place of each line.
+fn places_of_lines(alloc: Global, lines: &[Line<'_>]) -> Result<Vec<Location>, AllocError>
+    ensures { IfOk result (λ places. map location_view places.items ≡ map location_of (map line_view lines.now)) }
+{
+    let mut places = Vec::with_capacity(alloc, lines.len())?;
+    for line in lines {
+        places.push(Location {
+            file: String::from_str(alloc, line.file)?,
+            line: line.line,
+        })?;
+    }
+    Ok(places)
+}
+
+/// The edit that makes a faulty line a comment, which says why.
+fn fault_edit(alloc: Global, faulty: &FaultyLine) -> Result<Edit, AllocError>
+    ensures { IfOk result (λ edit. edit_view edit ≡ edit_of_fault (faulty_line_view faulty.now)) }
+{
+    let fault = &faulty.fault;
+    let kind = fault.kind;
+    let subject = fault.subject.as_str();
+    Ok(Edit {
+        file: String::from_str(alloc, fault.file.as_str())?,
+        line: fault.line,
+        prefix: format!(in alloc; "# {kind} {subject}: ")?,
+    })
+}
+
+/// The edits that make faulty lines comments.
+fn fault_edits(alloc: Global, found: &[FaultyLine]) -> Result<Vec<Edit>, AllocError>
+    ensures { IfOk result (λ edits. map edit_view edits.items ≡ map edit_of_fault (map faulty_line_view found.now)) }
+{
+    let mut edits = Vec::with_capacity(alloc, found.len())?;
+    for faulty in found {
+        edits.push(fault_edit(alloc, faulty)?)?;
+    }
+    Ok(edits)
+}
+
+/// Makes lines comments until a survey of the table whose root is at a path finds none faulty: again
+/// and again all those that it finds. A table that can't be loaded from these files is a fault.
+pub(crate) fn settle(
+    alloc: Global,
+    files: Vec<GatheredFile>,
+    root: &str,
+) -> Result<Settled, Failure<LoadFault>>
+    ensures settled { IfOk result (SettlesTo root.now (map file_view files.items)) }
+    ensures fault { IfErr result (IfFault (IsUnsettled root.now (map file_view files.items))) }
+{
+    let mut files = files;
+    let mut found = Vec::new(alloc);
+    for _ in 0..u64::MAX {
+        let mut surveyed = survey_files(alloc, files.as_slice(), root)?;
+        if surveyed.faulty.is_empty() {
+            return Ok(Settled {
+                files,
+                found,
+                places: surveyed.places,
+            });
+        }
+        let edits = fault_edits(alloc, surveyed.faulty.as_slice())?;
+        files = edit_files(alloc, files.as_slice(), edits.as_slice())?;
+        found.append(&mut surveyed.faulty)?;
+    }
+    Err(Failure::Memory)
+}
