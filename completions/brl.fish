@@ -47,7 +47,7 @@ complete -c brl -n __brl_is_first -l version -d 'Print the version'
 complete -c brl -n '__brl_is translate' -l form -x -a 'ascii unicode' -d 'How cells are written'
 complete -c brl -n '__brl_is search' -l limit -x -d 'How many states and pairs may be found'
 complete -c brl -n '__brl_is survey' -l brief -d 'Leave the list of faults out'
-complete -c brl -n '__brl_is cut' -l rewrite -d 'Also read lines that are to be rewritten'
+complete -c brl -n '__brl_is cut' -l rewrite -d 'Also read lines that define a character after noback'
 complete -c brl -n '__brl_is search check' -l without -x -d 'Characters that the texts do not use'
 
 complete -c brl -n '__brl_at translate 0' -F

@@ -2,10 +2,13 @@
 use Rattle.std.specs.Prelude.{ℕ}
 use Rattle.brl_failure.specs.declared.failure.Failure.{Failure}
 use Rattle.brl_failure.specs.declared.failure.Failure.TheVariants as failures
+use Rattle.brl_cut.specs.declared.cutting.CutFault.{CutFault}
+use Rattle.brl_cut.specs.declared.cutting.CutFault.TheVariants as cut_fault
+use Rattle.brl_lines.specs.declared.gathering.GatherFault.TheVariants as gather_fault
 use Rattle.brl_table.specs.declared.no_table.NoTable.{NoTable}
 use Rattle.brl_table.specs.declared.no_table.NoTable.TheVariants as no_table
 use Rattle.brl_answers.specs.declared.run_fault.RunFault.{RunFault}
-use Rattle.brl_answers.specs.declared.run_fault.RunFault.TheVariants.{Load, Table, Wide, Memory}
+use Rattle.brl_answers.specs.declared.run_fault.RunFault.TheVariants.{LeadsOut, Load, Table, Wide, Memory}
 use Rattle.brl_answers.specs.declared.status.Status.{Status}
 use Rattle.brl_answers.specs.declared.status.Status.TheVariants.{Done, Refuted, Faulty, Undecided}
 
@@ -26,6 +29,13 @@ status_of fault = Faulty
 abbrev pub of_no_table : NoTable → RunFault
 of_no_table (no_table.Load fault) = Load fault
 of_no_table (no_table.Table fault) = Table fault
+
+-- the fault of the program where a table isn't cut
+abbrev pub of_cut_fault : CutFault → RunFault
+of_cut_fault (cut_fault.Gather (gather_fault.Load fault)) = Load fault
+of_cut_fault (cut_fault.Gather (gather_fault.LeadsOut fault)) = LeadsOut fault
+of_cut_fault (cut_fault.Load fault) = Load fault
+of_cut_fault (cut_fault.NotRead fault) = of_no_table fault
 
 -- the fault of the program after a failure, whose fault becomes the program's
 abbrev pub of_failure : {E : Type 0} → (E → RunFault) → Failure E → RunFault

@@ -1,9 +1,10 @@
 //! Why the program stopped before its work was done.
 use crate::new_files::NewFile;
 use crate::status::Status;
+use brl_cut::CutFault;
 use brl_failure::Failure;
 use brl_forward::{ConfirmFault, ForwardFault};
-use brl_lines::{LoadFault, Location};
+use brl_lines::{GatherFault, LeadsOut, LoadFault};
 use brl_stream::{Failed, StreamFault};
 use brl_table::{NoTable, TableFault};
 use brl_window::TooWide;
@@ -63,8 +64,8 @@ pub enum RunFault {
     #[error("error: {0} is there already")]
     AlreadyThere(String),
     /// A line of a table to be cut includes a file by a name that leads out of the table's folder.
-    #[error("error: include {name} at {place} leads out of the table's folder")]
-    LeadsOut { name: String, place: Location },
+    #[error("error: {0}")]
+    LeadsOut(LeadsOut),
     /// The writer failed at an answer, or at help or the version; some first bytes of it may be
     /// written.
     #[error("U4 OutputFailed")]
@@ -209,6 +210,22 @@ impl EndsRun for NoTable {
         match self {
             NoTable::Load(fault) => RunFault::Load(fault),
             NoTable::Table(fault) => RunFault::Table(fault),
+        }
+    }
+}
+
+impl EndsRun for CutFault {
+    ghost use Rattle.brl_answers.specs.Status.{of_cut_fault};
+
+    ghost run_fault = { λ fault. of_cut_fault fault };
+
+    fn into_run_fault(self) -> RunFault {
+        match self {
+            CutFault::Gather(GatherFault::Load(fault)) | CutFault::Load(fault) => {
+                RunFault::Load(fault)
+            }
+            CutFault::Gather(GatherFault::LeadsOut(fault)) => RunFault::LeadsOut(fault),
+            CutFault::NotRead(fault) => fault.into_run_fault(),
         }
     }
 }

@@ -353,8 +353,8 @@ becomes a comment that says why. DIR is made where it isn't there. Files that ar
 there already are never overwritten: nothing is written then, and the exit status
 is 2.
 
-With --rewrite two more kinds of lines are read, and written as lines that mean
-the same: noback before a line that defines a character, and base uppercase.",
+With --rewrite a line that defines a character after noback is read too, and
+written as that line.",
     example: "Example, a table in which one of three lines isn't read:
   printf '%s\\n' 'letter a 1' 'pass2 @1 @2' 'letter b 12' > far.ctb
   brl cut far.ctb near > cut.txt
@@ -467,7 +467,7 @@ fn brief_option<'a>(alloc: Global) -> Arg<'a> {
 fn rewrite_option<'a>(alloc: Global) -> Arg<'a> {
     Arg::new(alloc, "rewrite")
         .long("rewrite")
-        .help("Also read noback before a line that defines a character, and base uppercase")
+        .help("Also read lines that define a character after noback")
         .action(ArgAction::SetTrue)
 }
 

@@ -1,6 +1,6 @@
 -- The report of a survey: the faulty lines of a table, how many there are of each opcode and whose
 -- opcode that is, and how many lines are read, of each file and of all. The project's own choice.
-use Rattle.std.specs.Prelude.{ℕ, ◌≡◌, ◌-◌, Bool, if◌then◌else◌, nat_lt, List, [], ◌++◌, codes, count_by, flat_map, length, map}
+use Rattle.std.specs.Prelude.{ℕ, ◌≡◌, ◌+◌, ◌-◌, Bool, if◌then◌else◌, nat_lt, List, [], ◌++◌, codes, count_by, flat_map, length, map}
 use Rattle.std.specs.Cmp.Lexicographic.{slice_cmp}
 use Rattle.std.specs.Fmt.{decimal}
 use Rattle.std.specs.List.Sorted.{IsPermutation, IsSorted}
@@ -92,3 +92,31 @@ IsSurveyText brief found lines paths text =
     (counts : List CountView) × AreCounts (opcodes_of found.faulty) counts
     × (text ≡ (if brief then [] else flat_map fault_line found.faulty) ++ flat_map count_line counts ++ flat_map (file_line found.faulty lines) paths
     ++ (pass_note found.passes_first ++ characters_note found.has_characters) ++ read_line (length found.faulty) (length lines))
+
+-- ---- The report of a cut
+
+-- how many of the kept lines are rewritten, where lines may be
+abbrev pub rewritten_note : Bool → ℕ → List ℕ
+rewritten_note rewrite rewritten = if rewrite then codes ", " ++ decimal rewritten ++ codes " of them rewritten" else []
+
+-- how many lines are kept, where this many are left out
+abbrev pub kept_note : ℕ → ℕ → List ℕ
+kept_note kept left_out = decimal kept ++ codes " of " ++ decimal (kept + left_out) ++ codes " lines are kept"
+
+-- how many of these paths, of the files of lines, are this one
+abbrev pub kept_in : List (List ℕ) → List ℕ → ℕ
+kept_in files path = count_by (bytes_eq path) files
+
+-- the line of a file that has lines which are left out; empty for another
+abbrev pub cut_file_line : List FaultyLineView → List (List ℕ) → List ℕ → List ℕ
+cut_file_line left_out files path =
+    if nat_lt 0 (faulty_in left_out path) then codes "file " ++ path ++ codes ": " ++ read_line (faulty_in left_out path) (kept_in files path + faulty_in left_out path)
+    else []
+
+-- the report of a cut that left these lines out, of files with these paths, and rewrote this many,
+-- where lines might be rewritten; and of each line that is kept, the path of its file
+abbrev pub IsCutText : Bool → ℕ → List FaultyLineView → List (List ℕ) → List (List ℕ) → List ℕ → Type 0
+IsCutText rewrite rewritten left_out files paths text =
+    (counts : List CountView) × AreCounts (opcodes_of left_out) counts
+    × (text ≡ kept_note (length files) (length left_out) ++ rewritten_note rewrite rewritten ++ codes "\n" ++ flat_map count_line counts
+    ++ flat_map (cut_file_line left_out files) paths)

@@ -1,13 +1,14 @@
 //! Reports. `report` has a clash: the two texts, their cells, and for each text the steps of its
 //! translation from the first one that the other text doesn't have. `trace_report` has one text,
 //! its cells and all its steps. `survey_report` has the lines of a table that have a fault by
-//! themselves.
+//! themselves. `report_of_cut` says how many lines of a table are kept in a cut of it.
 //!
 //! Room 5, the program (docs/dev/ARCHITECTURE.md). The definitions begin in `specs/Report.antt`.
 #![tactic(auto)]
 
 mod clash_report;
 mod counts;
+mod cut_report;
 mod header;
 mod row;
 mod rows;
@@ -17,5 +18,6 @@ mod survey;
 mod trace;
 
 pub use clash_report::{ReportFault, report};
+pub use cut_report::report_of_cut;
 pub use survey::survey_report;
 pub use trace::trace_report;

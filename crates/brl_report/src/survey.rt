@@ -71,7 +71,7 @@ fn push_faults(text: &mut String, found: &[FaultyLine]) -> Result<(), AllocError
 }
 
 /// Appends the lines of counts.
-fn push_counts(text: &mut String, counts: &[OpcodeCount]) -> Result<(), AllocError>
+pub(crate) fn push_counts(text: &mut String, counts: &[OpcodeCount]) -> Result<(), AllocError>
     ensures { OnOk result (string_bytes text.new ≡ string_bytes text.old ++ flat_map count_line counts.now) }
 {
     for count in counts {
@@ -140,7 +140,7 @@ fn push_file(
 }
 
 /// How many of the faulty lines are of the file at a path.
-fn count_faulty(found: &[FaultyLine], path: &str) -> usize
+pub(crate) fn count_faulty(found: &[FaultyLine], path: &str) -> usize
     ensures { result ≡ faulty_in (map faulty_line_view found.now) path.now }
 {
     found
@@ -171,7 +171,7 @@ fn push_notes(text: &mut String, found: &Findings) -> Result<(), AllocError>
 }
 
 /// Appends how many lines are read: all but the faulty ones.
-fn push_read(text: &mut String, faulty: usize, lines: usize) -> Result<(), AllocError>
+pub(crate) fn push_read(text: &mut String, faulty: usize, lines: usize) -> Result<(), AllocError>
     ensures { OnOk result (string_bytes text.new ≡ string_bytes text.old ++ read_line faulty lines) }
 {
     let read = lines.saturating_sub(faulty);

@@ -1,3 +1,4 @@
+pub mod CutFaults
 pub mod PrefixLemmas
 pub mod StatusLemmas
 pub mod StreamLemmas

@@ -12,6 +12,8 @@ use Rattle.brl_search.specs.Searched.{certificate_of}
 use Rattle.brl_tool.proofs.OfFiles.{of_files}
 use Rattle.brl_rules.specs.TableView.{TableView}
 use Rattle.brl_answers.proofs.DeliveryLemmas.{none_changes}
+use Rattle.brl_cut.specs.Cuts.{IsReadAs, written_path}
+use Rattle.brl_cut.specs.Edits.{Texts}
 use Rattle.brl_tool.specs.Comparing.{IsComparison}
 use Rattle.brl_tool.specs.Verdicts.{IsFileOf, IsJudgement, Judges, SearchesByFile}
 use Rattle.brl_answers.specs.Answers.{ByLeftOut, spelled_by}
@@ -97,9 +99,10 @@ module _ (before after : World) (same_file : MayBeSame) where
     | inr (l, r, none, says) ↦ ((λ done. tt), (λ refuted. let e = sym says.0 ∙ refuted in cc))
   ]
   means (question.Survey paths brief) answer (parts, named, are, says) files prints = ((λ done. tt), (λ refuted. absurd (unrefuted _ (sym says.0 ∙ refuted))))
-  means (question.Cut path dir rewrite) answer (status, (made, are)) files prints =
+  means (question.Cut path dir rewrite) answer (cut, (answers, given, gathered, gathers, is), status, text, (made, are, same)) files prints =
       let written : FilesAfter before.gives after.gives (AllNew made) = subst (FilesAfter before.gives after.gives) are files in
-      ((λ done. (made.items, written.0, written.1)), (λ refuted. let e = sym status ∙ refuted in cc))
+      let read = subst (λ (fs : Texts). IsReadAs fs (written_path dir.now path.now path.now)) (sym (same ∙ is.files_are)) is.read in
+      ((λ done. (made.items, written.0, written.1, read)), (λ refuted. let e = sym status ∙ refuted in cc))
   means (question.Trace path text) answer (t, table, (known, says)) files prints = ((λ done. tt), (λ refuted. let e = sym says.0 ∙ refuted in cc))
   means (question.Check path cert option) answer is files prints =
       let (left_out, spelled, judges) = left_out_by (option_copied option) (λ left_out. Judges left_out before.gives path.now cert.now) answer is in

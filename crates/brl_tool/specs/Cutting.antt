@@ -1,15 +1,40 @@
 -- What `brl cut` answers. The project's own choice.
-use Rattle.std.specs.Prelude.{ℕ, ◌≡◌, Bool, List, Result, Ok, Err}
+use Rattle.std.specs.Prelude.{ℕ, ◌≡◌, Bool, List, ◌++◌, codes, map, Result, Ok, Err, string_bytes}
 use Rattle.std.specs.Global.{Vec}
 use Rattle.brl_lines.specs.Answer.{FileAnswers}
+use Rattle.brl_table.specs.Survey.{faulty_line_view}
+use Rattle.brl_report.specs.Survey.{IsCutText}
+use Rattle.brl_cut.specs.Cuts.{IsCut, IsCutFault}
+use Rattle.brl_cut.specs.Files.{file_view}
+use Rattle.brl_cut.specs.declared.cutting.Cut.{Cut}
+use Rattle.brl_cut.specs.declared.cutting.CutFault.{CutFault}
+use Rattle.brl_answers.specs.Status.{of_cut_fault}
 use Rattle.brl_answers.specs.declared.answer.Answer.{Answer}
 use Rattle.brl_answers.specs.declared.new_files.NewFile.{NewFile}
 use Rattle.brl_answers.specs.declared.new_files.NewFiles.TheVariants.{AllNew}
 use Rattle.brl_answers.specs.declared.run_fault.RunFault.{RunFault}
+use Rattle.brl_answers.specs.declared.run_fault.RunFault.TheVariants.{Memory}
 use Rattle.brl_answers.specs.declared.status.Status.TheVariants.{Done}
 
--- the table of the file at a path was cut for a folder, with or without lines rewritten: so far, the
--- answer has new files alone
-abbrev pub CutsByFile : FileAnswers → List ℕ → List ℕ → Bool → Result Answer RunFault → Type 0
-CutsByFile gives path dir rewrite (Ok answer) = (answer.status ≡ Done) × ((files : Vec NewFile) × (answer.files ≡ AllNew files))
-CutsByFile gives path dir rewrite (Err fault) = Unit {0}
+-- a file that is to be written, with its path and its bytes
+abbrev pub new_file_view : NewFile → List ℕ × List ℕ
+new_file_view file = (string_bytes file.path, file.bytes.items)
+
+-- the text is the report of a cut, and a last line
+abbrev pub IsTextOfCut : Bool → Cut → List ℕ → Type 0
+IsTextOfCut rewrite cut text =
+    (report : List ℕ) × IsCutText rewrite cut.rewritten (map faulty_line_view cut.left_out.items) (map string_bytes cut.line_files.items) (map string_bytes cut.paths.items) report
+    × (text ≡ report ++ codes "no verdict: a cut doesn't decide whether two texts have the same cells\n")
+
+-- the answer of the cut of the table of the file at a path, for a folder, with or without lines
+-- rewritten: its files are new ones
+abbrev pub IsCutAnswer : Bool → FileAnswers → List ℕ → List ℕ → Answer → Type 0
+IsCutAnswer rewrite gives path dir answer =
+    (cut : Cut) × IsCut rewrite gives path dir cut × (answer.status ≡ Done) × IsTextOfCut rewrite cut (string_bytes answer.text)
+    × ((files : Vec NewFile) × (answer.files ≡ AllNew files) × (map new_file_view files.items ≡ map file_view cut.files.items))
+
+-- the table of the file at a path was cut for a folder; or this is why it isn't; or memory ran out
+abbrev pub CutsByFile : Bool → FileAnswers → List ℕ → List ℕ → Result Answer RunFault → Type 0
+CutsByFile rewrite gives path dir (Ok answer) = IsCutAnswer rewrite gives path dir answer
+CutsByFile rewrite gives path dir (Err Memory) = Unit {0}
+CutsByFile rewrite gives path dir (Err fault) = (why : CutFault) × IsCutFault rewrite gives path dir why × (fault ≡ of_cut_fault why)

@@ -14,7 +14,8 @@ use Rattle.brl_cells.specs.declared.form.Form.{Form}
 use Rattle.brl_rules.specs.TableView.{TableView}
 use Rattle.brl_rules.specs.Translation.{IsClash}
 use Rattle.brl_tool.specs.Comparing.{ComparesByFile}
-use Rattle.brl_tool.specs.Cutting.{CutsByFile}
+use Rattle.brl_cut.specs.Cuts.{IsReadAs, written_path}
+use Rattle.brl_tool.specs.Cutting.{CutsByFile, new_file_view}
 use Rattle.brl_answers.specs.Answers.{ByLeftOut, HasTextAndStatus, UnlessMemory, spelled_by, with_left_out_line}
 use Rattle.brl_tool.specs.Verdicts.{Judges, SearchesByFile, accepted_line, certified_line}
 use Rattle.brl_answers.specs.Delivery.{World, IsDelivered, KeepsFiles, Prints, PrintsNothing}
@@ -45,7 +46,7 @@ abbrev pub Answers : Question → FileAnswers → MayBeSame → Result Answer Ru
 Answers (question.Clash path left right) gives same outcome = ComparesByFile gives path.now (chars left.now) (chars right.now) outcome
 Answers (question.Survey paths brief) gives same outcome = SurveysByFiles brief gives (map (λ path. path.now) paths.items) outcome
 Answers (question.Trace path text) gives same outcome = TracesByFile gives path.now (chars text.now) outcome
-Answers (question.Cut path dir rewrite) gives same outcome = CutsByFile gives path.now dir.now rewrite outcome
+Answers (question.Cut path dir rewrite) gives same outcome = CutsByFile rewrite gives path.now dir.now outcome
 Answers (question.Check path cert option) gives same outcome =
     ByLeftOut (option_copied option) (λ left_out. Judges left_out gives path.now cert.now) outcome
 Answers (question.Search path out limit option) gives same outcome =
@@ -80,15 +81,18 @@ ReportsCertificate before after path out option =
     × GivesAlso after.gives out (spelling (certificate_of body)) × OthersStay before.gives after.gives out × IsTableOf after.gives path t
     × Prints before after (with_left_out_line left_out (certified_line (certificate_of body))))
 
--- new files were written, and no other file changed
-abbrev pub WritesNewFiles : World → World → Type 0
-WritesNewFiles before after = (files : List NewFile) × AreNew before.gives files × AreWritten files before.gives after.gives
+-- new files were written, and no other file changed; these files define a table whose root is the file
+-- at the path, written into the folder
+abbrev pub WritesTable : World → World → List ℕ → List ℕ → Type 0
+WritesTable before after path dir =
+    (files : List NewFile) × AreNew before.gives files × AreWritten files before.gives after.gives
+    × IsReadAs (map new_file_view files) (written_path dir path path)
 
 -- what it means that the work was done
 abbrev pub MeansDone : Question → World → World → Type 0
 MeansDone (question.Check path cert option) before after = ReportsAcceptance before after path.now (option_copied option)
 MeansDone (question.Search path out limit option) before after = ReportsCertificate before after path.now out.now (option_copied option)
-MeansDone (question.Cut path dir rewrite) before after = WritesNewFiles before after
+MeansDone (question.Cut path dir rewrite) before after = WritesTable before after path.now dir.now
 MeansDone asked before after = Unit {0}
 
 -- what it means that something was refuted; a survey, a trace and a cut never say so

@@ -1,12 +1,17 @@
 //! `brl cut`: the lines of a table that are read, as a table of its own.
+ghost use Rattle.std.specs.Prelude.{◌≡◌, IfOk, map, string_bytes};
 ghost use Rattle.brl_lines.specs.Answer.{Unchanged};
-ghost use Rattle.brl_tool.specs.Cutting.{CutsByFile};
+ghost use Rattle.brl_cut.specs.Files.{file_view};
+ghost use Rattle.brl_tool.specs.Cutting.{CutsByFile, IsTextOfCut, new_file_view};
 
-use brl_answers::{Answer, Files, RunFault};
-use std::alloc::Global;
+use brl_answers::{Answer, Files, NewFile, NewFiles, RunFault, Status};
+use brl_cut::{Cut, cut_table};
+use brl_lines::GatheredFile;
+use brl_report::report_of_cut;
+use std::alloc::{AllocError, Global};
 
-/// Cuts the table whose file is at a path: the answer has new files for the folder `dir`. Its body is
-/// still to be written: it answers `Memory` for each table.
+/// Cuts the table whose file is at a path, with lines rewritten where that is asked for: the answer has the cut's files, which are new, for the
+/// folder `dir`; and its report, and a line that there is no verdict.
 pub fn cut_by_file<F: Files>(
     alloc: Global,
     files: &mut F,
@@ -14,8 +19,37 @@ pub fn cut_by_file<F: Files>(
     dir: &str,
     rewrite: bool,
 ) -> Result<Answer, RunFault>
-    ensures cuts { CutsByFile (F.gives files.old) path.now dir.now rewrite result }
+    ensures cuts { CutsByFile rewrite (F.gives files.old) path.now dir.now result }
     ensures same { Unchanged (F.gives files.old) (F.gives files.new) }
 {
-    Err(RunFault::Memory)
+    let cut = cut_table(alloc, files, path, dir, rewrite)?;
+    let text = text_of_cut(alloc, &cut, rewrite)?;
+    Ok(Answer {
+        text,
+        status: Status::Done,
+        files: NewFiles::AllNew(new_files(alloc, cut.files.as_slice())?),
+    })
+}
+
+/// The report of a cut, and a line that there is no verdict.
+fn text_of_cut(alloc: Global, cut: &Cut, rewrite: bool) -> Result<String, AllocError>
+    ensures { IfOk result (λ text. IsTextOfCut rewrite cut.now (string_bytes text)) }
+{
+    let mut text = report_of_cut(alloc, cut, rewrite)?;
+    text.push_str("no verdict: a cut doesn't decide whether two texts have the same cells\n")?;
+    Ok(text)
+}
+
+/// Files that are to be written.
+fn new_files(alloc: Global, files: &[GatheredFile]) -> Result<Vec<NewFile>, AllocError>
+    ensures { IfOk result (λ new. map new_file_view new.items ≡ map file_view files.now) }
+{
+    let mut new = Vec::with_capacity(alloc, files.len())?;
+    for file in files {
+        new.push(NewFile {
+            path: String::from_str(alloc, file.path.as_str())?,
+            bytes: Vec::from_slice(alloc, file.bytes.as_slice())?,
+        })?;
+    }
+    Ok(new)
 }
