@@ -9,6 +9,8 @@
  *   FAIL_FILE=N        other files take N bytes, and then fail
  *   KILL_FILE=N        other files take N bytes, and then the program is killed
  *   FAIL_RENAME=1      no file can be renamed
+ *   FAIL_CREATE=N      the N-th file that may be made can't be opened, counted from 1
+ *   FAIL_FOLDERS=1     no folder can be made
  *   FAULTY_LOG=PATH    the file that gets, at the end, four numbers: how many allocations there were,
  *                      how many were refused, how many files were opened before that, and how many
  *                      other requests failed
@@ -22,14 +24,16 @@
 #include <stdio.h>
 #include <stdlib.h>
 #include <string.h>
+#include <sys/stat.h>
 #include <sys/syscall.h>
 #include <unistd.h>
 
 void *__libc_malloc(size_t);
 void *__libc_realloc(void *, size_t);
 
-static long refuse, is_marked, is_counting = 1, fail_read, fail_rename, input_room, output_room, file_room, life;
-static long allocations, refused, opened, opened_before, failed;
+static long refuse, is_marked, is_counting = 1, fail_read, fail_rename, fail_create, fail_folders;
+static long input_room, output_room, file_room, life;
+static long allocations, refused, opened, opened_before, created, failed;
 static int failing_file = -1;
 
 static long number(const char *name, long otherwise)
@@ -49,6 +53,15 @@ __attribute__((constructor)) static void begin(void)
     file_room = number("FAIL_FILE", LONG_MAX);
     life = number("KILL_FILE", LONG_MAX);
     fail_rename = number("FAIL_RENAME", 0);
+    fail_create = number("FAIL_CREATE", 0);
+    fail_folders = number("FAIL_FOLDERS", 0);
+}
+
+static ssize_t fail(void)
+{
+    failed++;
+    errno = EIO;
+    return -1;
 }
 
 static int is_refused(void)
@@ -82,6 +95,8 @@ int open(const char *path, int flags, ...)
         va_start(rest, flags);
         mode = va_arg(rest, int);
         va_end(rest);
+        if (++created == fail_create)
+            return (int)fail();
     }
     file = (int)syscall(SYS_openat, AT_FDCWD, path, flags, mode);
     if (++opened == fail_read)
@@ -94,13 +109,6 @@ int close(int file)
     if (file == failing_file)
         failing_file = -1;
     return (int)syscall(SYS_close, file);
-}
-
-static ssize_t fail(void)
-{
-    failed++;
-    errno = EIO;
-    return -1;
 }
 
 ssize_t read(int file, void *buffer, size_t size)
@@ -141,6 +149,11 @@ ssize_t write(int file, const void *buffer, size_t size)
 int rename(const char *old, const char *new)
 {
     return fail_rename ? (int)fail() : (int)syscall(SYS_renameat2, AT_FDCWD, old, AT_FDCWD, new, 0);
+}
+
+int mkdir(const char *path, mode_t mode)
+{
+    return fail_folders ? (int)fail() : (int)syscall(SYS_mkdirat, AT_FDCWD, path, mode);
 }
 
 ssize_t __write(int file, const void *buffer, size_t size)

@@ -6,16 +6,17 @@
 *Refused allocations.* Each run is made once for each allocation that it makes, that one refused.
 Where that comes while the words are read, the program ends with status 2 or 3 and prints nothing to
 standard output. After that it prints `Memory` and ends with status 3, with no more on standard output
-than whole lines that it wrote before, and with no certificate written. Or it asks for less, as a list
-that grows may do, and has its full answer. The same run with nothing refused has its full answer.
+than whole lines that it wrote before, and with no certificate written; of a cut it may have written
+the first files, each whole. Or it asks for less, as a list that grows may do, and has its full answer.
+The same run with nothing refused has its full answer.
 
 *Calls that are made again.* TESTS are test programs. Their tests of the module `again` make a call, in
 which memory may run out, and make it again in the same process: then it must have its answer. Each is
 run once for each allocation of the first call, that one refused.
 
-*Reads and writes that fail*, and the run after them, which has its full answer; and a search that is
-killed while it writes. *Certificates and tables that are cut off* at every byte. *Limits*, just kept
-and just passed.
+*Reads and writes that fail*, and the run after them, which has its full answer: of a cut each of its
+writes. A search and a cut that are killed while they write. *Certificates and tables that are cut
+off* at every byte. *Limits*, just kept and just passed.
 
 tests/faulty.c is what lets a request fail; `cc` compiles it. A line is printed for each case. The last
 line is 'hostile: N passed, M failed; K allocations refused'.
@@ -30,6 +31,7 @@ import tempfile
 from collections.abc import Iterator
 from concurrent.futures import ThreadPoolExecutor
 from dataclasses import dataclass, field
+from itertools import accumulate
 from pathlib import Path
 
 TESTS = Path(__file__).resolve().parent
@@ -73,6 +75,28 @@ no line defines a character
 0 of 0 lines are read
 no verdict: a survey doesn't decide whether two texts have the same cells
 """
+# A table of three files, and the files of its cut with what is printed.
+WHOLE = {
+    "t.ctb": "include p/u.cti\nbase uppercase A a\npass2 x\ninclude v.cti\ninclude v.cti\n",
+    "p/u.cti": "noback letter a 1\nalways ab 9\n",
+    "v.cti": "letter b 12\nalways abc 3\ninclude none\n",
+}
+CUT = {
+    "t.ctb": "include p/u.cti\n# B1 OutsideProfile base: base uppercase A a\n# B1 OutsideProfile pass2: pass2 x\ninclude v.cti\n# repeated v.cti: include v.cti\n",
+    "p/u.cti": "letter a 1 # noback letter a 1\n# B4 BadDots 9: always ab 9\n",
+    "v.cti": "letter b 12\n# B5 UndefinedInRule abc: always abc 3\n# L1 NotFound none: include none\n",
+}
+CUT_ANSWER = """\
+2 of 8 lines are kept, 1 of them rewritten
+opcode always: 2
+opcode include: 2
+opcode base: 1 (not in the profile)
+opcode pass2: 1 (not in the profile)
+file t.ctb: 0 of 3 lines are read
+file p/u.cti: 1 of 2 lines are read
+file v.cti: 1 of 3 lines are read
+no verdict: a cut doesn't decide whether two texts have the same cells
+"""
 TRACE = """\
 text: 1a
 cells: 3456-1-56-1
@@ -94,6 +118,8 @@ class Run:
     err: str = ""
     # the certificate in the file `o`, or how it begins
     written: str | None = None
+    # the files of the folder `d`, by their names, in the order in which they are written
+    tree: dict[str, str] = field(default_factory=dict)
 
 
 @dataclass(frozen=True)
@@ -104,6 +130,8 @@ class Ended:
     err: str
     status: int
     written: str | None
+    # the files of the folder `d`
+    tree: dict[str, str] = field(default_factory=dict)
     # other files that the run made
     left: list[str] = field(default_factory=list)
     allocations: int = 0
@@ -111,14 +139,14 @@ class Ended:
     opened: int = 0
     failed: int = 0
 
-    def answer(self) -> tuple[str, str, int, str | None]:
-        return self.out, self.err, self.status, self.written
+    def answer(self) -> tuple[str, str, int, str | None, dict[str, str]]:
+        return self.out, self.err, self.status, self.written, self.tree
 
     def is_of(self, run: Run) -> bool:
         is_exact = run.out.endswith("\n") or not run.out
         is_out = self.out == run.out if is_exact else self.out.startswith(run.out)
         is_written = (self.written is None) == (run.written is None) and (self.written or "").startswith(run.written or "")
-        return is_out and is_written and not self.left and (self.status, self.err) == (run.status, run.err)
+        return is_out and is_written and not self.left and (self.status, self.err, self.tree) == (run.status, run.err, run.tree)
 
 
 @dataclass
@@ -137,16 +165,18 @@ class Machine:
     def run(self, run: Run, **fails: int) -> Ended:
         with tempfile.TemporaryDirectory(dir=FAST) as folder:
             for name, text in run.files.items():
+                Path(folder, name).parent.mkdir(parents=True, exist_ok=True)
                 Path(folder, name).write_bytes(text if isinstance(text, bytes) else text.encode())
             log, written = Path(folder, "log"), Path(folder, "o")
             known = {"LD_PRELOAD": str(self.library), "FAULTY_LOG": str(log), **{name: str(it) for name, it in fails.items()}}
             ran = subprocess.run([self.program, *run.words], cwd=folder, env=known, input=run.input, capture_output=True,
                                  text=True, timeout=120)
             text = written.read_text() if written.exists() else None
-            left = sorted({it.name for it in Path(folder).iterdir()} - {*run.files, "log", "o"})
+            tree = {str(it.relative_to(Path(folder, "d"))): it.read_text() for it in Path(folder, "d").rglob("*") if it.is_file()}
+            left = sorted({it.name for it in Path(folder).iterdir()} - {*(Path(it).parts[0] for it in run.files), "log", "o", "d"})
             # a program that was killed leaves no numbers
             numbers = map(int, log.read_text().split()) if log.exists() else ()
-            return Ended(ran.stdout, ran.stderr, ran.returncode, text, left, *numbers)
+            return Ended(ran.stdout, ran.stderr, ran.returncode, text, tree, left, *numbers)
 
     def answers(self, run: Run, **fails: int) -> Result:
         """The run has its answer."""
@@ -185,9 +215,16 @@ def is_ended_by_memory(run: Run, ended: Ended, whole: Ended) -> bool:
     """Whether a run has ended as one does in which an allocation was refused."""
     if ended.written is not None or ended.left or not whole.out.startswith(ended.out) or (ended.out and not ended.out.endswith("\n")):
         return False
+    if ended.tree != first_files(run, len(ended.tree)):
+        return False
     if ended.opened == 0:
         return ended.status in (2, 3) and not ended.out and bool(ended.err)
     return ended.status == 3 and ended.err in ("Memory\n", run.err + "Memory\n") and (ended.out != whole.out or not ended.out)
+
+
+def first_files(run: Run, count: int) -> dict[str, str]:
+    """The first files that a run writes into its folder."""
+    return dict(list(run.tree.items())[:count])
 
 
 def chain(last: int) -> dict[str, str]:
@@ -231,6 +268,11 @@ RUNS = [
     check("a certificate of version 2 is accepted", APART, APART_CERT, "accepted: 3 states, 1 pairs\n", 0),
     Run("two texts clash", ["clash", "t.ctb", "ab", "x"], {"t.ctb": ALIKE}, REPORT, 1),
     Run("two tables are surveyed", ["survey", "t.ctb", "u.ctb"], {"t.ctb": TWO + "pass2 x\nletter c 9\n", "u.ctb": ""}, SURVEY),
+    Run("a table is cut", ["cut", "t.ctb", "d", "--rewrite"], WHOLE, CUT_ANSWER, tree=CUT),
+    Run("a cut finds a file that is there", ["cut", "t.ctb", "d"], {**WHOLE, "d/v.cti": "kept\n"}, status=2,
+        err="error: d/v.cti is there already\n", tree={"v.cti": "kept\n"}),
+    Run("an include leads out of the table's folder", ["cut", "t.ctb", "d"], {"t.ctb": "\ninclude ../u\n"}, status=2,
+        err="error: include ../u at t.ctb:2 leads out of the table's folder\n"),
     Run("a text is traced", ["trace", "t.ctb", "1a"], {"t.ctb": NUMBERS}, TRACE),
     Run("one text twice is no clash", ["clash", "t.ctb", "ab", "ab"], {"t.ctb": ALIKE}, "no clash\n"),
     Run("two files include each other", ["translate", "t.ctb"], {"t.ctb": "include u.ctb\n", "u.ctb": "include t.ctb\n"},
@@ -257,10 +299,13 @@ TWICE = translate("", FIRST, "abc a\nabc a\n", "ABC A\nABC A\n")
 FOUND = search("", TWO, "certified: 2 states, 0 pairs\n", written=TWO_CERT)
 KEEPING = Run("", ["search", "t.ctb", "o"], {"t.ctb": TWO, "o": "kept\n"}, FOUND.out, written=TWO_CERT)
 CLASHES = Run("", ["clash", "t.ctb", "ab", "x"], {"t.ctb": ALIKE}, REPORT, 1)
+CUTTING = Run("", ["cut", "t.ctb", "d", "--rewrite"], WHOLE, CUT_ANSWER, tree=CUT)
+CUTTING_INTO = Run("", CUTTING.words, {**WHOLE, "d/w": "kept\n"}, CUT_ANSWER, tree={**CUT, "w": "kept\n"})
 
 
-def failing(name: str, run: Run, fails: dict[str, int], err: str, out: str = "", written: str | None = None) -> tuple[Run, Run, dict[str, int]]:
-    return Run(name, run.words, run.files, out, 2, run.input, err, written), run, fails
+def failing(name: str, run: Run, fails: dict[str, int], err: str, out: str = "", written: str | None = None,
+            tree: dict[str, str] | None = None) -> tuple[Run, Run, dict[str, int]]:
+    return Run(name, run.words, run.files, out, 2, run.input, err, written, tree or {}), run, fails
 
 
 FAILING = [
@@ -281,6 +326,12 @@ FAILING = [
     failing("a certificate can't be put in its place", FOUND, {"FAIL_RENAME": 1}, "U7 CannotWrite o\n"),
     failing("a certificate over another can't be written", KEEPING, {"FAIL_FILE": 20}, "U7 CannotWrite o\n", written="kept\n"),
     failing("a certificate can't be put in another's place", KEEPING, {"FAIL_RENAME": 1}, "U7 CannotWrite o\n", written="kept\n"),
+    failing("a table that is cut can't be read", CUTTING, {"FAIL_READ": 1}, "L2 ReadFailed t.ctb\n"),
+    failing("an included file of it can't be read", CUTTING, {"FAIL_READ": 2}, "L2 ReadFailed p/u.cti at t.ctb:1\n"),
+    failing("a folder can't be made", CUTTING, {"FAIL_FOLDERS": 1}, "U7 CannotWrite d/t.ctb\n"),
+    failing("a folder in it can't be made", CUTTING_INTO, {"FAIL_FOLDERS": 1}, "U7 CannotWrite d/p/u.cti; written before it: d/t.ctb\n",
+            tree={"t.ctb": CUT["t.ctb"], "w": "kept\n"}),
+    failing("the report of a cut can't be written", CUTTING, {"FAIL_OUTPUT": 0}, "U4 OutputFailed\n", tree=CUT),
 ]
 
 
@@ -343,7 +394,7 @@ def cuts_of_table(machine: Machine) -> Result:
         if (ended.out, ended.status) != ("", 2) or not re.fullmatch(r"[BFL]\d \w+ .*\n", ended.err):
             result.wrong.append(f"{size} bytes: {ended.answer()}")
     whole = machine.run(Run("", ["clash", "t.ctb", "q", "b"], {"t.ctb": table}))
-    if whole.answer() != ("no clash\n", "", 0, None):
+    if whole.answer() != ("no clash\n", "", 0, None, {}):
         result.wrong.append(f"the whole of it: {whole.answer()}")
     return result
 
@@ -395,6 +446,41 @@ def interrupted(machine: Machine) -> Result:
     return result
 
 
+def stands(machine: Machine, number: int, fails: dict[str, int]) -> list[str]:
+    """What is wrong where a cut's file of this number, from 0, can't be written: those before it stand, and the fault names them."""
+    standing = first_files(CUTTING, number)
+    before = f"; written before it: {', '.join(f'd/{it}' for it in standing)}" if standing else ""
+    failed = failing("", CUTTING, fails, f"U7 CannotWrite d/{[*CUT][number]}{before}\n", tree=standing)
+    return [f"{fails}: {it}" for it in machine.fails_once(*failed).wrong]
+
+
+def refused_writes(machine: Machine) -> Result:
+    """Each write of a cut is refused in turn, after each number of bytes, and each file is."""
+    result = Result("each write of a cut is refused")
+    ends = list(accumulate(map(len, CUT.values())))
+    for size in range(ends[-1]):
+        result.wrong += stands(machine, sum(end <= size for end in ends), {"FAIL_FILE": size})
+    for number in range(len(CUT)):
+        result.wrong += stands(machine, number, {"FAIL_CREATE": number + 1})
+    return result
+
+
+def interrupted_cut(machine: Machine) -> Result:
+    """A cut that is killed while it writes leaves the files whole that it wrote before, and at most the start of one more."""
+    result = Result("a cut's writing is interrupted after each number of bytes")
+    ends = list(accumulate(map(len, CUT.values())))
+    for size in range(ends[-1]):
+        ended = machine.run(CUTTING, KILL_FILE=size)
+        number = sum(end <= size for end in ends)
+        rest = {name: text for name, text in ended.tree.items() if name not in first_files(CUTTING, number)}
+        next_name = [*CUT][number]
+        is_start = all(name == next_name and CUT[name].startswith(text) for name, text in rest.items())
+        is_first = {**ended.tree, **first_files(CUTTING, number)} == ended.tree
+        if (ended.status, ended.out, ended.err, ended.left) != (-signal.SIGKILL, "", "", []) or not is_start or not is_first:
+            result.wrong.append(f"{size} bytes: {ended.answer()}")
+    return result
+
+
 def main(words: list[str]) -> int:
     if not words:
         print(__doc__, file=sys.stderr)
@@ -407,7 +493,7 @@ def main(words: list[str]) -> int:
         tasks += [pool.submit(machine.fails_once, *it) for it in FAILING]
         tasks += [pool.submit(machine.answers, it) for it in [*cut_certificates(), *cut_tables(), *limits()]]
         tasks += [pool.submit(cuts_of_search, machine, it) for it in (WORD, NUMBERS)]
-        tasks += [pool.submit(it, machine) for it in (cuts_of_table, endless, interrupted)]
+        tasks += [pool.submit(it, machine) for it in (cuts_of_table, endless, interrupted, refused_writes, interrupted_cut)]
         tests = [Path(it).resolve() for it in words[1:]]
         tasks += [pool.submit(made_again, machine, it, name) for it in tests for name in tests_of(it)]
         failed = refused = 0

@@ -2,6 +2,7 @@
 mod again;
 mod cases;
 mod checks;
+mod cuts;
 mod deliveries;
 mod files;
 mod progress;

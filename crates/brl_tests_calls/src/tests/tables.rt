@@ -1,10 +1,11 @@
 //! Cells, lines, tables and translation.
 use brl_cells::{Cell, Cells, DotsFault, read_dots, to_ascii, to_unicode, write_dots};
+use brl_cut::{Cut, CutFault, cut_table};
 use brl_failure::Failure;
 use brl_forward::{Clash, ConfirmFault, ForwardFault, Traced, confirm, trace, translate};
 use brl_lines::{
-    CharsFault, FileSource, Line, LoadFault, Loaded, MapSource, Source, SourceFault, Token,
-    chars_of, load,
+    CharsFault, FileSource, GatherFault, Gathered, GatheredFile, IncludeReason, LeftInclude, Line,
+    LoadFault, Loaded, MapSource, Source, SourceFault, Token, chars_of, folder, gather, load,
 };
 use brl_table::{
     Class, Cond, Info, Notice, Place, Rule, Sign, Table, TableFault, holds, read_table,
@@ -213,6 +214,27 @@ fn has_a_clash(alloc: Global) -> Result<bool, Fail> {
     Ok(clashes(alloc, &table))
 }
 
+fn is_left_out(left: &LeftInclude) -> bool {
+    left.name.as_str() == "u" && left.reason == IncludeReason::Missing && left.line == 2
+}
+
+fn is_gathered(gathered: &Gathered) -> bool {
+    let files: &[GatheredFile] = gathered.files.as_slice();
+    files.len() == 1 && gathered.left_out.iter().all(|left| is_left_out(left))
+}
+
+/// Whether a cut keeps one line of three, and folders are names up to a slash.
+fn is_cut(cut: &Cut) -> bool {
+    cut.line_files.len() == 1 && cut.left_out.len() == 2 && folder("o/t.ctb") == "o/"
+}
+
+fn has_a_cut(alloc: Global) -> Result<bool, Fail> {
+    let mut files = one_file(alloc, "t.ctb", b"letter a 1\ninclude u\npass2 @1 2\n")?;
+    let gathered: Result<Gathered, Failure<GatherFault>> = gather(alloc, &mut files, "t.ctb");
+    let cut: Result<Cut, Failure<CutFault>> = cut_table(alloc, &mut files, "t.ctb", "o", false);
+    Ok(is_gathered(&gathered?) && is_cut(&cut?))
+}
+
 fn are_reached(alloc: Global) -> Result<bool, Fail> {
     Ok(
         spells_cells(alloc)?
@@ -221,7 +243,8 @@ fn are_reached(alloc: Global) -> Result<bool, Fail> {
             && refuses_an_escape(alloc)
             && has_a_notice(alloc)?
             && has_a_rule(alloc)?
-            && has_a_clash(alloc)?,
+            && has_a_clash(alloc)?
+            && has_a_cut(alloc)?,
     )
 }
 

@@ -163,6 +163,15 @@ t.ctb: include u|brl,search,t.ctb,o|||L1 NotFound u at t.ctb:1|2
 t.ctb: letter a 1; letter a 1; letter b 12; letter b 1; letter x 19|brl,search,t.ctb,o|||B4 BadDots 19 at t.ctb:5|2
 ";
 
+/// Cuts, in the same form.
+pub const CUTS: &str = "\
+t.ctb: letter a 1|brl,cut,t.ctb,o||1 of 1 lines are kept; no verdict: a cut doesn't decide whether two texts have the same cells||0
+t.ctb: letter a 1; pass2 @1 2; include u; include u; include v; include w.dic; always ab 12 & u: letter b 9|brl,cut,t.ctb,o||1 of 7 lines are kept; opcode include: 3; opcode always: 1; opcode letter: 1; opcode pass2: 1 (not in the profile); file t.ctb: 1 of 6 lines are read; file u: 0 of 1 lines are read; no verdict: a cut doesn't decide whether two texts have the same cells||0
+t.ctb: include ../u|brl,cut,t.ctb,o|||error: include ../u at t.ctb:1 leads out of the table's folder|2
+t.ctb: letter a 1 & o/t.ctb: #|brl,cut,t.ctb,o|||error: o/t.ctb is there already|2
+t.ctb: letter a 1|brl,cut,u.ctb,o|||L1 NotFound u.ctb|2
+";
+
 /// Surveys, in the same form.
 pub const SURVEYS: &str = "\
 t.ctb: letter a 1|brl,survey,t.ctb||1 of 1 lines are read; no verdict: a survey doesn't decide whether two texts have the same cells||0

@@ -2,7 +2,7 @@
 use crate::tests::files::Sealed;
 use brl_answers::{Answer, NewFile, NewFiles, RunFault, Status, deliver};
 use brl_failure::Failure;
-use brl_lines::{Location, MapSource};
+use brl_lines::{LeadsOut, Location, MapSource};
 use brl_testing::{Closed, agree, field_of, files_of, for_rows_of_4, lines_of, no_files};
 use brl_tool::{Counting, Failed, Files};
 use std::alloc::Global;
@@ -133,13 +133,13 @@ fn new_files_stay_where_the_output_fails(rt: HostRuntime) -> Result<(), Fail> {
 #[test]
 fn an_include_leads_out(rt: HostRuntime) -> Result<(), Fail> {
     let alloc = rt.alloc();
-    let fault = RunFault::LeadsOut {
+    let fault = RunFault::LeadsOut(LeadsOut {
         name: String::from_str(alloc, "../u.ctb")?,
         place: Location {
             file: String::from_str(alloc, "d/t.ctb")?,
             line: 3,
         },
-    };
+    });
     let fields = delivered(alloc, Err(fault), &mut no_files(alloc))?;
     let want = "|error: include ../u.ctb at d/t.ctb:3 leads out of the table's folder|2";
     agree("the fault", fields.as_str(), want)

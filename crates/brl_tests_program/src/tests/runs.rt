@@ -91,6 +91,7 @@ fn worked_runs(rt: HostRuntime) -> Result<(), Fail> {
         cases::COMPARISONS,
         cases::CHECKS,
         cases::SEARCHES,
+        cases::CUTS,
         cases::SURVEYS,
         cases::TRACES,
         cases::WITHOUT,

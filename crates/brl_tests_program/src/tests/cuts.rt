@@ -1,0 +1,48 @@
+//! Cuts of tables in memory, file by file.
+use brl_cut::{Cut, CutFault, cut_table};
+use brl_failure::Failure;
+use brl_testing::{field_of, files_of, for_rows_of_3};
+use std::alloc::Global;
+use std::test::Fail;
+
+/// Files, the path of a table, and the files of its cut for the folder `o`, each with its lines; or why
+/// it isn't cut.
+const CUTS: &str = "\
+t.ctb: letter a 1; pass2 @1 2; letter b 12|t.ctb|o/t.ctb: letter a 1; # B1 OutsideProfile pass2: pass2 @1 2; letter b 12
+t.ctb: letter a 1; letter b 9; always ab 12; always aa 1|t.ctb|o/t.ctb: letter a 1; # B4 BadDots 9: letter b 9; # B5 UndefinedInRule ab: always ab 12; always aa 1
+d/t.ctb: include e/u; letter a 1 & d/e/u: letter b\t12; always ab =|d/t.ctb|o/t.ctb: include e/u; letter a 1 & o/e/u: letter b\t12; always ab =
+t.ctb: include u; include u; include t.ctb; include v; include w.dic & u: letter a 1 & w.dic: .a1b|t.ctb|o/t.ctb: include u; # repeated u: include u; # repeated t.ctb: include t.ctb; # L1 NotFound v: include v; # dictionary w.dic: include w.dic & o/u: letter a 1
+t.ctb: include u; include v & u: include v; letter a 1 & v: numsign 3456|t.ctb|o/t.ctb: include u; # repeated v: include v & o/u: include v; letter a 1 & o/v: numsign 3456
+t.ctb: include ../u|t.ctb|include ../u at t.ctb:1 leads out of the table's folder
+t.ctb: include /u|t.ctb|include /u at t.ctb:1 leads out of the table's folder
+t.ctb: letter a 1|u.ctb|L1 NotFound u.ctb";
+
+/// The files of a cut, each with its lines, as in a row.
+fn field_of_cut(alloc: Global, cut: &Cut) -> Result<String, Fail> {
+    let mut field = String::new(alloc);
+    for file in &cut.files {
+        if !field.is_empty() {
+            field.push_str(" & ")?;
+        }
+        let path = file.path.as_str();
+        let lines = field_of(alloc, std::str::from_utf8(file.bytes.as_slice())?)?;
+        field.push_str(format!(in alloc; "{path}: {lines}")?.as_str())?;
+    }
+    Ok(field)
+}
+
+/// What the cut of the table at a path gives.
+fn given(alloc: Global, outcome: Result<Cut, Failure<CutFault>>) -> Result<String, Fail> {
+    match outcome {
+        Ok(cut) => field_of_cut(alloc, &cut),
+        Err(failure) => Ok(format!(in alloc; "{failure}")?),
+    }
+}
+
+#[test]
+fn are_written(rt: HostRuntime) -> Result<(), Fail> {
+    for_rows_of_3(rt.alloc(), CUTS, |alloc, files, path| {
+        let mut source = files_of(alloc, files)?;
+        given(alloc, cut_table(alloc, &mut source, path, "o", false))
+    })
+}

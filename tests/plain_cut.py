@@ -1,0 +1,631 @@
+#!/usr/bin/env python3
+"""A second `brl cut`, written anew and plainly: what tests/cut.py and tests/fuzz compare the program's cuts with.
+
+  tests/plain_cut.py                               checks itself on small tables, whose cuts are written out below
+  tests/plain_cut.py cut TABLE DIR [--rewrite]     does what `brl cut` does
+
+A line is read as docs/guide/TABLES.md says, and has the faults of docs/guide/FAULTS.md in their order.
+"""
+
+import contextlib
+import os
+import re
+import sys
+import tempfile
+from collections import Counter
+from collections.abc import Iterable, Iterator
+from dataclasses import dataclass, field
+from functools import cache
+from pathlib import Path
+
+sys.dont_write_bytecode = True
+from plain_table import CLASSES, PLACES, SIGNS, characters
+
+TOP = Path(__file__).resolve().parent.parent
+
+MARK = b"\xef\xbb\xbf"
+DEFINING = [*CLASSES, "uplow"]
+LISTS = ["numericmodechars", "numericnocontchars"]
+PROFILE = {*DEFINING, *PLACES, *SIGNS, *LISTS, "noback", "nofor", "display", "include"}
+
+MOST_FILE_BYTES, MOST_LINE_BYTES, MOST_DEPTH, MOST_INCLUDES = 16_777_216, 2048, 16, 1024
+MOST_BEFORE_BYTES = 1024
+MOST_CHARACTERS, MOST_RULES, MOST_RULE_CHARACTERS, MOST_CELLS = 1024, 4096, 32, 16
+
+NO_VERDICT = "no verdict: a cut doesn't decide whether two texts have the same cells\n"
+
+
+class Stop(Exception):
+    """A fault that ends the cut, as it is printed."""
+
+
+class Fault(Exception):
+    """The fault of a line, without its place."""
+
+
+@cache
+def liblouis_opcodes() -> set[str]:
+    """The opcodes of liblouis, as the program lists them."""
+    text = (TOP / "crates/brl_table/src/liblouis.rt").read_text()
+    return set(re.findall(r'^    "(\w+)",$', text, re.MULTILINE))
+
+
+# ---- Operands
+
+
+def spelled(operand: str) -> str:
+    """The characters that an operand spells."""
+    if not re.fullmatch(r"(?:[^\\]|\\(?:x[0-9a-fA-F]{4}|y[0-9a-fA-F]{5}|z[0-9a-fA-F]{8}|[\\fnrstve]))+", operand):
+        raise Fault(f"B3 BadCharacters {operand}")
+    try:
+        return characters(operand).encode().decode()
+    except (ValueError, OverflowError) as error:
+        raise Fault(f"B3 BadCharacters {operand}") from error
+
+
+def character(operand: str) -> str:
+    if len(spelled(operand)) != 1:
+        raise Fault(f"B3 BadCharacters {operand}")
+    return spelled(operand)
+
+
+def pair(operand: str) -> str:
+    """The two characters of an `uplow` line."""
+    found = spelled(operand)
+    if len(found) != 2 or found[0] == found[1]:
+        raise Fault(f"B3 BadCharacters {operand}")
+    return found
+
+
+def cells(dots: str, operand: str) -> list[str]:
+    """The cells that dots spell, each with its dots in order."""
+    found = dots.split("-")
+    for it in found:
+        if it != "0" and not (re.fullmatch("[1-8]+", it) and len(set(it)) == len(it)):
+            raise Fault(f"B4 BadDots {operand}")
+    if len(found) > MOST_CELLS:
+        raise Fault(f"B4 BadDots {operand}")
+    return ["".join(sorted(it)) for it in found]
+
+
+def operands(opcode: str, words: list[str], count: int) -> list[str]:
+    if len(words) < count:
+        raise Fault(f"B2 MissingOperand {opcode}")
+    return words[:count]
+
+
+# ---- What one line does
+
+
+@dataclass
+class Item:
+    """What a good line does: the characters that it defines, or the rule, indicator or list that it is."""
+
+    defined: dict[str, list[str]] = field(default_factory=dict)
+    is_literary: bool = False
+    sign: str = ""
+    rule: str = ""
+    is_used: bool = False
+    listed: str = ""
+    takes_no_digit: bool = False
+    # the operand of the characters that other lines must define
+    operand: str = ""
+    # the opcode that a fault of the limits names
+    opcode: str = ""
+
+
+def rule(opcode: str, words: list[str], is_used: bool) -> Item:
+    chars, dots = operands(opcode, words, 2)
+    found = spelled(chars)
+    if dots != "=":
+        cells(dots, dots)
+    if len(found) > MOST_RULE_CHARACTERS:
+        raise Fault(f"B8 TooMany {opcode}")
+    return Item(rule=found, is_used=is_used, operand=chars, opcode=opcode)
+
+
+def item(opcode: str, *words: str) -> Item:
+    """What a line does, by itself."""
+    if opcode in CLASSES:
+        char, dots = operands(opcode, [*words], 2)
+        return Item({character(char): cells(dots, dots)}, opcode == "litdigit", opcode=opcode)
+    if opcode == "uplow":
+        chars, dots = operands(opcode, [*words], 2)
+        upper, lower = pair(chars)
+        first, comma, second = dots.partition(",")
+        return Item({upper: cells(first, dots), lower: cells(second if comma else first, dots)}, opcode=opcode)
+    if opcode == "display":
+        char, dots = operands(opcode, [*words], 2)
+        character(char)
+        cells(dots, dots)
+        return Item(opcode=opcode)
+    if opcode in PLACES:
+        return rule(opcode, [*words], True)
+    if opcode in ("noback", "nofor"):
+        second, *others = [*operands(opcode, [*words], 1), *words[1:]]
+        if second not in PLACES:
+            raise Fault(f"B1 OutsideProfile {second}")
+        return rule(second, others, opcode == "noback")
+    if opcode in SIGNS:
+        (dots,) = operands(opcode, [*words], 1)
+        cells(dots, dots)
+        return Item(sign=SIGNS[opcode], opcode=opcode)
+    if opcode in LISTS:
+        (chars,) = operands(opcode, [*words], 1)
+        return Item(listed=spelled(chars), takes_no_digit=opcode == "numericnocontchars", operand=chars, opcode=opcode)
+    if opcode == "include":
+        operands(opcode, [*words], 1)
+    raise Fault(f"B1 OutsideProfile {opcode}")
+
+
+class Good:
+    """What the good lines do together."""
+
+    def __init__(self) -> None:
+        self.chars: dict[str, tuple[bool, list[str]]] = {}
+        self.signs: set[str] = set()
+        self.rules = 0
+
+    def add(self, it: Item) -> None:
+        """Adds what a line does, if the limits allow it."""
+        if it.sign and it.sign in self.signs:
+            raise Fault(f"B9 IndicatorTwice {it.opcode}")
+        rules = self.rules + bool(it.rule and it.is_used)
+        if len(self.chars.keys() | it.defined.keys()) > MOST_CHARACTERS or rules > MOST_RULES:
+            raise Fault(f"B8 TooMany {it.opcode}")
+        self.rules = rules
+        self.signs |= {it.sign} - {""}
+        for char, given in it.defined.items():
+            if char not in self.chars or (it.is_literary and not self.chars[char][0]):
+                self.chars[char] = (it.is_literary, given)
+
+    def check(self, it: Item) -> None:
+        """The characters of a rule or a list are defined, and a list with letters after numbers has no digit."""
+        if not set(it.rule) <= self.chars.keys():
+            raise Fault(f"B5 UndefinedInRule {it.operand}")
+        if not set(it.listed) <= self.chars.keys():
+            raise Fault(f"B6 UndefinedInList {it.operand}")
+        if it.takes_no_digit and any(self.chars[char][0] for char in it.listed):
+            raise Fault(f"B7 TwoRoles {it.operand}")
+
+
+# ---- Files
+
+
+@dataclass
+class Line:
+    text: str
+    end: str
+    words: list[str]
+    # why it isn't read: its fault, or what the comment of an include says
+    fault: str = ""
+    is_rewritten: bool = False
+    is_followed: bool = False
+
+    def does_something(self) -> bool:
+        return bool(self.words) and not self.words[0].startswith("#") and not self.is_followed
+
+    def opcode(self) -> str:
+        """The opcode that is counted."""
+        count = 2 if self.words[0] in ("noback", "nofor") else 1
+        return " ".join(self.words[:count])
+
+    def written(self) -> str:
+        """The line of the cut."""
+        return (commented(self.fault, self.text) if self.fault else self.text) + self.end
+
+
+@dataclass
+class File:
+    path: str
+    name: str
+    mark: bytes
+    lines: list[Line]
+
+    def written(self) -> bytes:
+        return self.mark + "".join(it.written() for it in self.lines).encode()
+
+
+def limited(whole: str) -> str:
+    """A line of as many bytes as a line may have."""
+    if len(whole.encode()) <= MOST_LINE_BYTES:
+        return whole
+    return whole.encode()[: MOST_LINE_BYTES - 3].decode(errors="ignore") + "..."
+
+
+def commented(why: str, text: str) -> str:
+    """The comment for a line that isn't read."""
+    return limited(f"# {why}: {text}")
+
+
+def lines_of(text: str) -> Iterator[Line]:
+    *ended, last = text.split("\n")
+    for row in ended:
+        stripped = row.removesuffix("\r")
+        yield Line(stripped, row[len(stripped) :] + "\n", re.findall("[^ \t]+", stripped))
+    if last:
+        yield Line(last, "", re.findall("[^ \t]+", last))
+
+
+def read_file(path: str, name: str, place: str) -> File:
+    """A file, checked whole; FileNotFoundError where there is none."""
+    try:
+        with open(path, "rb") as file:
+            content = file.read(MOST_FILE_BYTES + 1)
+    except (FileNotFoundError, NotADirectoryError):
+        raise FileNotFoundError from None
+    except OSError:
+        raise Stop(f"L2 ReadFailed {path}{place}") from None
+    if len(content) > MOST_FILE_BYTES:
+        raise Stop(f"L9 TooLarge {path}{place}")
+    mark = MARK if content.startswith(MARK) else b""
+    try:
+        text = content[len(mark) :].decode()
+    except UnicodeDecodeError:
+        raise Stop(f"L3 NotUtf8 {path}{place}") from None
+    lines = list(lines_of(text))
+    for number, line in enumerate(lines, 1):
+        if len(line.text.encode()) > MOST_LINE_BYTES:
+            raise Stop(f"L6 LineTooLong {path} at {path}:{number}")
+    return File(path, name, mark, lines)
+
+
+class Files:
+    """The files of a table, in the order in which they are read, and its lines that may be read, in their order."""
+
+    def __init__(self, root: str) -> None:
+        self.folder, _, name = root.rpartition("/")
+        self.folder += "/" if "/" in root else ""
+        self.files: list[File] = []
+        self.lines: list[Line] = []
+        # the paths of include lines that were looked for
+        self.asked: set[str] = set()
+        try:
+            self.walk(root, name, "", 1)
+        except FileNotFoundError:
+            raise Stop(f"L1 NotFound {root}") from None
+
+    def walk(self, path: str, name: str, place: str, depth: int) -> None:
+        """Reads a file, and those that it includes; the include lines that aren't followed get their comments."""
+        file = read_file(path, name, place)
+        self.files.append(file)
+        for number, line in enumerate(file.lines, 1):
+            if line.words[:1] == ["include"] and len(line.words) > 1:
+                line.fault = self.include(line, f"{path}:{number}", depth)
+                line.is_followed = not line.fault
+            elif line.does_something():
+                self.lines.append(line)
+
+    def include(self, line: Line, place: str, depth: int) -> str:
+        """Follows an include line; says why, where it is left out."""
+        name = line.words[1]
+        path = self.folder + name
+        if name.endswith(".dic"):
+            return f"dictionary {name}"
+        if set(name.split("/")) & {"", ".", ".."}:
+            raise Stop(f"error: include {name} at {place} leads out of the table's folder")
+        if path in [it.path for it in self.files]:
+            return f"repeated {name}"
+        if path in self.asked:
+            return f"L1 NotFound {name}"
+        if len(self.asked) == MOST_INCLUDES:
+            raise Stop(f"L8 TooManyIncludes {path} at {place}")
+        if depth == MOST_DEPTH:
+            raise Stop(f"L5 TooDeep {path} at {place}")
+        self.asked.add(path)
+        try:
+            self.walk(path, name, f" at {place}", depth + 1)
+        except FileNotFoundError:
+            return f"L1 NotFound {name}"
+        return ""
+
+
+# ---- Lines that are read otherwise
+
+
+def rewrite(lines: list[Line]) -> None:
+    """Puts what a line defines after `noback` before the line, which becomes a comment."""
+    for line in lines:
+        words = line.words[1:4]
+        before = f"{' '.join(words)} # "
+        if line.words[0] == "noback" and defines(words) and len(before.encode()) <= MOST_BEFORE_BYTES:
+            line.text = limited(before + line.text)
+            line.words = line.text.split(" ")
+            line.is_rewritten = True
+
+
+def defines(words: list[str]) -> bool:
+    """Whether these words are a line that defines a character."""
+    if len(words) < 3 or words[0] not in DEFINING:
+        return False
+    with contextlib.suppress(Fault):
+        item(*words)
+        return True
+    return False
+
+
+# ---- The cut
+
+
+def first_pass(lines: list[Line]) -> Good:
+    """Reads each line after the good lines before it. The others get their faults."""
+    good = Good()
+    for line in lines:
+        try:
+            good.add(item(*line.words))
+        except Fault as fault:
+            line.fault = str(fault)
+    return good
+
+
+def second_pass(lines: list[Line], good: Good) -> None:
+    for line in lines:
+        try:
+            good.check(item(*line.words))
+        except Fault as fault:
+            line.fault = str(fault)
+
+
+def cut_lines(lines: list[Line]) -> None:
+    """Gives the lines that aren't read their faults, until a survey of the others finds none."""
+    left = -1
+    while left != len(lines):
+        left = len(lines)
+        for each_pass in (first_pass, lambda it: second_pass(it, first_pass(it))):
+            each_pass(lines)
+            lines = [it for it in lines if not it.fault]
+
+
+def origin(opcode: str) -> str:
+    """What a count says of whose opcode it is."""
+    *prefix, word = opcode.split(" ")
+    if word in (PLACES if prefix else PROFILE):
+        return ""
+    return " (not in the profile)" if word in liblouis_opcodes() else " (not in liblouis)"
+
+
+def report(files: list[File], is_rewriting: bool) -> str:
+    counted = [[it for it in file.lines if it.does_something()] for file in files]
+    whole = sum(counted, [])
+    left_out = [it for it in whole if it.fault]
+    rewritten = sum(it.is_rewritten for it in whole if not it.fault)
+    text = f"{len(whole) - len(left_out)} of {len(whole)} lines are kept"
+    text += f", {rewritten} of them rewritten\n" if is_rewriting else "\n"
+    counts = Counter(it.opcode() for it in left_out)
+    for opcode, count in sorted(counts.items(), key=lambda it: (-it[1], it[0].encode())):
+        text += f"opcode {opcode}: {count}{origin(opcode)}\n"
+    for file, lines in zip(files, counted):
+        kept = sum(not it.fault for it in lines)
+        if kept < len(lines):
+            text += f"file {file.path}: {kept} of {len(lines)} lines are read\n"
+    return text + NO_VERDICT
+
+
+def cut(root: str, is_rewriting: bool) -> tuple[dict[str, bytes], str]:
+    """The files of a table's cut, by their names in the order in which they are written, and what is printed."""
+    files = Files(root)
+    if is_rewriting:
+        rewrite(files.lines)
+    cut_lines(files.lines)
+    return {it.name: it.written() for it in files.files}, report(files.files, is_rewriting)
+
+
+def create(path: str, content: bytes) -> None:
+    """Makes a file and its folders; what was written of it is removed where it can't be written whole."""
+    os.makedirs(os.path.dirname(path), exist_ok=True)
+    with open(path, "xb") as file:
+        try:
+            file.write(content)
+            file.flush()
+        except OSError:
+            os.remove(path)
+            raise
+
+
+def write(folder: str, files: dict[str, bytes]) -> None:
+    """Writes new files."""
+    paths = [f"{folder}/{name}" for name in files]
+    for path in paths:
+        if os.path.lexists(path):
+            raise Stop(f"error: {path} is there already")
+    for number, (path, content) in enumerate(zip(paths, files.values())):
+        try:
+            create(path, content)
+        except OSError:
+            before = f"; written before it: {', '.join(paths[:number])}" if number else ""
+            raise Stop(f"U7 CannotWrite {path}{before}") from None
+
+
+def run(words: list[str]) -> int:
+    table, folder = [it for it in words if it != "--rewrite"]
+    try:
+        files, text = cut(table, "--rewrite" in words)
+        write(folder, files)
+    except Stop as fault:
+        sys.stderr.buffer.write(f"{fault}\n".encode())
+        return 2
+    sys.stdout.buffer.write(text.encode())
+    return 0
+
+
+# ---- Its own checks
+
+
+@dataclass(frozen=True)
+class Case:
+    """The files of a table whose root is `t.ctb`, those of its cut, and the first lines that are printed; or a fault."""
+
+    name: str
+    files: dict[str, str | bytes]
+    cut: dict[str, str | bytes]
+    told: str
+    is_rewriting: bool = False
+
+
+def one(name: str, table: str | bytes, cut: str | bytes, told: str, is_rewriting: bool = False) -> Case:
+    return Case(name, {"t.ctb": table}, {"t.ctb": cut}, told, is_rewriting)
+
+
+def faulty(name: str, files: dict[str, str | bytes], fault: str) -> Case:
+    return Case(name, files, {}, fault)
+
+
+def chain(last: int) -> dict[str, str | bytes]:
+    """The root and the files c2 to that, each of which but the last includes the next."""
+    names = ["t.ctb", *(f"c{number}" for number in range(2, last + 1))]
+    return {name: f"include {after}\n" for name, after in zip(names, names[1:])} | {names[-1]: "letter a 1\n"}
+
+
+def includes(names: Iterable[int]) -> str:
+    """Lines that include files with these names."""
+    return "".join(f"include {it}\n" for it in names)
+
+
+def empty(names: Iterable[int]) -> dict[str, str | bytes]:
+    """Files without lines."""
+    return {str(it): "" for it in names}
+
+
+ABC = "letter a 1\nletter b 12\nletter c 14\n"
+
+CASES = [
+    one("an empty table", "", "", "0 of 0 lines are kept\n"),
+    one("a table that is read whole", ABC, ABC, "3 of 3 lines are kept\n"),
+    one("an opcode outside the profile", "pass2 @1 2\n", "# B1 OutsideProfile pass2: pass2 @1 2\n",
+        "0 of 1 lines are kept\nopcode pass2: 1 (not in the profile)\nfile t.ctb: 0 of 1 lines are read\n"),
+    one("a word that is no opcode", "lettre a 1\n" + ABC, "# B1 OutsideProfile lettre: lettre a 1\n" + ABC,
+        "3 of 4 lines are kept\nopcode lettre: 1 (not in liblouis)\nfile t.ctb: 3 of 4 lines are read\n"),
+    one("each fault of a line by itself",
+        "letter a\nletter ab 1\nletter a 9\nalways aa,\nnoback\nnofor sign a 1\nnumsign 3\nnumsign 4\ncapsign 6\ncapsletter 7\ninclude\n",
+        "# B2 MissingOperand letter: letter a\n# B3 BadCharacters ab: letter ab 1\n# B4 BadDots 9: letter a 9\n"
+        "# B2 MissingOperand always: always aa,\n# B2 MissingOperand noback: noback\n# B1 OutsideProfile sign: nofor sign a 1\n"
+        "numsign 3\n# B9 IndicatorTwice numsign: numsign 4\ncapsign 6\n# B9 IndicatorTwice capsletter: capsletter 7\n"
+        "# B2 MissingOperand include: include\n",
+        "2 of 11 lines are kept\nopcode letter: 3\nopcode always: 1\nopcode capsletter: 1\nopcode include: 1\n"
+        "opcode noback: 1\nopcode nofor sign: 1 (not in the profile)\nopcode numsign: 1\nfile t.ctb: 2 of 11 lines are read\n"),
+    one("a fault makes no other", "numsign 9\nnumsign 3456\n", "# B4 BadDots 9: numsign 9\nnumsign 3456\n",
+        "1 of 2 lines are kept\nopcode numsign: 1\nfile t.ctb: 1 of 2 lines are read\n"),
+    one("escapes and characters", "letter \\x00e9 1\nletter \\xD800 1\nletter \\ 2\nletter \\z00110000 1\nletter \\q 1\nuplow Aa 1,\nuplow aa 1\n",
+        "letter \\x00e9 1\n# B3 BadCharacters \\xD800: letter \\xD800 1\n# B3 BadCharacters \\: letter \\ 2\n"
+        "# B3 BadCharacters \\z00110000: letter \\z00110000 1\n# B3 BadCharacters \\q: letter \\q 1\n"
+        "# B4 BadDots 1,: uplow Aa 1,\n# B3 BadCharacters aa: uplow aa 1\n",
+        "1 of 7 lines are kept\nopcode letter: 4\nopcode uplow: 2\nfile t.ctb: 1 of 7 lines are read\n"),
+    one("characters that no line defines, once the other faults are gone",
+        "letter a 1\nletter b 9\nalways ab 12\nnofor word c 1\nnumericmodechars b\nlitdigit 1 1\nnumericnocontchars a1\nalways a1 3\n",
+        "letter a 1\n# B4 BadDots 9: letter b 9\n# B5 UndefinedInRule ab: always ab 12\n# B5 UndefinedInRule c: nofor word c 1\n"
+        "# B6 UndefinedInList b: numericmodechars b\nlitdigit 1 1\n# B7 TwoRoles a1: numericnocontchars a1\nalways a1 3\n",
+        "3 of 8 lines are kept\nopcode always: 1\nopcode letter: 1\nopcode nofor word: 1\nopcode numericmodechars: 1\n"
+        "opcode numericnocontchars: 1\nfile t.ctb: 3 of 8 lines are read\n"),
+    one("the limits of rules", f"letter a 1\nalways {'a' * 32} 1\nalways {'a' * 33} 1\nnoback word {'a' * 33} =\nletter b {'-'.join('1' * 17)}\n",
+        f"letter a 1\nalways {'a' * 32} 1\n# B8 TooMany always: always {'a' * 33} 1\n# B8 TooMany word: noback word {'a' * 33} =\n"
+        f"# B4 BadDots {'-'.join('1' * 17)}: letter b {'-'.join('1' * 17)}\n",
+        "2 of 5 lines are kept\nopcode always: 1\nopcode letter: 1\nopcode noback word: 1\nfile t.ctb: 2 of 5 lines are read\n"),
+    one("the limit of characters", "".join(f"sign \\x{it:04x} 1\n" for it in range(0x400, 0x801)) + "litdigit \\x0400 2\n",
+        "".join(f"sign \\x{it:04x} 1\n" for it in range(0x400, 0x800)) + "# B8 TooMany sign: sign \\x0800 1\nlitdigit \\x0400 2\n",
+        "1025 of 1026 lines are kept\nopcode sign: 1\nfile t.ctb: 1025 of 1026 lines are read\n"),
+    one("the limit of rules that are used", "letter a 1\n" + "always a 1\n" * 4097 + "nofor always a 1\nnoback word a 1\n",
+        "letter a 1\n" + "always a 1\n" * 4096 + "# B8 TooMany always: always a 1\nnofor always a 1\n# B8 TooMany word: noback word a 1\n",
+        "4098 of 4100 lines are kept\nopcode always: 1\nopcode noback word: 1\nfile t.ctb: 4098 of 4100 lines are read\n"),
+    one("the ends of lines and a byte order mark", MARK + b"letter a 1\r\nx\r\n\r\n # c\r\n\ty\r\r\nletter b\t12 z\rz",
+        MARK + b"letter a 1\r\n# B1 OutsideProfile x: x\r\n\r\n # c\r\n# B1 OutsideProfile y\r: \ty\r\r\nletter b\t12 z\rz",
+        "2 of 4 lines are kept\nopcode x: 1 (not in liblouis)\nopcode y\r: 1 (not in liblouis)\nfile t.ctb: 2 of 4 lines are read\n"),
+    one("a comment of 2,048 bytes", "x " + "é" * 1011 + "a", "# B1 OutsideProfile x: x " + "é" * 1011 + "a",
+        "0 of 1 lines are kept\nopcode x: 1 (not in liblouis)\nfile t.ctb: 0 of 1 lines are read\n"),
+    one("a comment of 2,049 bytes", "x " + "é" * 1012, "# B1 OutsideProfile x: x " + "é" * 1010 + "...",
+        "0 of 1 lines are kept\nopcode x: 1 (not in liblouis)\nfile t.ctb: 0 of 1 lines are read\n"),
+    Case("includes", {"t.ctb": "include u.ctb and a comment\ninclude parts/v.ctb\ninclude hyph.dic\ninclude ../../x/y.dic\ninclude none.ctb\n"
+                               " include\tu.ctb x\ninclude t.ctb\n",
+                      "u.ctb": "letter a 1\ninclude parts/v.ctb\ninclude t.ctb", "parts/v.ctb": "pass2 x\ninclude parts/none\n"},
+         {"t.ctb": "include u.ctb and a comment\n# repeated parts/v.ctb: include parts/v.ctb\n# dictionary hyph.dic: include hyph.dic\n"
+                   "# dictionary ../../x/y.dic: include ../../x/y.dic\n# L1 NotFound none.ctb: include none.ctb\n"
+                   "# repeated u.ctb:  include\tu.ctb x\n# repeated t.ctb: include t.ctb\n",
+          "u.ctb": "letter a 1\ninclude parts/v.ctb\n# repeated t.ctb: include t.ctb",
+          "parts/v.ctb": "# B1 OutsideProfile pass2: pass2 x\n# L1 NotFound parts/none: include parts/none\n"},
+         "1 of 10 lines are kept\nopcode include: 8\nopcode pass2: 1 (not in the profile)\nfile t.ctb: 0 of 6 lines are read\n"
+         "file u.ctb: 1 of 2 lines are read\nfile parts/v.ctb: 0 of 2 lines are read\n"),
+    Case("sixteen files deep", chain(16), chain(16), "1 of 1 lines are kept\n"),
+    faulty("seventeen files deep", chain(17), "L5 TooDeep c17 at c16:1\n"),
+    faulty("an include by its whole path", {"t.ctb": "\ninclude /u.ctb\n"}, "error: include /u.ctb at t.ctb:2 leads out of the table's folder\n"),
+    *(faulty(f"an include of {name}", {"t.ctb": f"include {name}\n"}, f"error: include {name} at t.ctb:1 leads out of the table's folder\n")
+      for name in ("../t.ctb", "a/../b", "./b", "a/./b", "a//b", "a/", "..", ".")),
+    faulty("an include that is no file", {"t.ctb": "include parts\n", "parts/u": ""}, "L2 ReadFailed parts at t.ctb:1\n"),
+    faulty("an include that isn't UTF-8", {"t.ctb": "include u\n", "u": b"\xff"}, "L3 NotUtf8 u at t.ctb:1\n"),
+    faulty("a table that isn't UTF-8", {"t.ctb": b"\xc3"}, "L3 NotUtf8 t.ctb\n"),
+    faulty("no table", {}, "L1 NotFound t.ctb\n"),
+    faulty("a line of 2,049 bytes in an include", {"t.ctb": "include u\n", "u": "\n" + "#" * 2049}, "L6 LineTooLong u at u:2\n"),
+    Case("1,024 includes", {"t.ctb": includes(range(1024)), **empty(range(1024))}, {"t.ctb": includes(range(1024)), **empty(range(1024))},
+         "0 of 0 lines are kept\n"),
+    faulty("1,025 includes", {"t.ctb": includes(range(1025)), **empty(range(1025))}, "L8 TooManyIncludes 1024 at t.ctb:1025\n"),
+    Case("1,024 includes, one of a file that isn't there", {"t.ctb": includes([*range(1024), 7, 1023]), **empty(range(1023))},
+         {"t.ctb": includes(range(1023)) + "# L1 NotFound 1023: include 1023\n# repeated 7: include 7\n# L1 NotFound 1023: include 1023\n",
+          **empty(range(1023))},
+         "0 of 3 lines are kept\nopcode include: 3\nfile t.ctb: 0 of 3 lines are read\n"),
+    faulty("1,025 includes, one of a file that isn't there", {"t.ctb": includes(range(1025)), **empty(range(1, 1025))},
+           "L8 TooManyIncludes 1024 at t.ctb:1025\n"),
+    one("lines that could be rewritten", "letter a 1\nnoback sign \\x00a0 7\n",
+        "letter a 1\n# B1 OutsideProfile sign: noback sign \\x00a0 7\n",
+        "1 of 2 lines are kept\nopcode noback sign: 1 (not in the profile)\nfile t.ctb: 1 of 2 lines are read\n"),
+    one("lines that are rewritten", "noback sign \\x00a0 7\n noback\tlowercase a  21-1 words\nnoback uplow Bb 12,3\n",
+        "sign \\x00a0 7 # noback sign \\x00a0 7\nlowercase a 21-1 #  noback\tlowercase a  21-1 words\n"
+        "uplow Bb 12,3 # noback uplow Bb 12,3\n", "3 of 3 lines are kept, 3 of them rewritten\n", True),
+    one("lines that can't be rewritten", "noback sign ab 1\nnoback sign a\nnofor sign a 1\nnoback pass2 a\nnoback\nnoback noback letter a 1\nletter a 1\n"
+        "noback capsletter 6\nbase uppercase A a\n",
+        "# B1 OutsideProfile sign: noback sign ab 1\n# B1 OutsideProfile sign: noback sign a\n# B1 OutsideProfile sign: nofor sign a 1\n"
+        "# B1 OutsideProfile pass2: noback pass2 a\n# B2 MissingOperand noback: noback\n# B1 OutsideProfile noback: noback noback letter a 1\nletter a 1\n"
+        "# B1 OutsideProfile capsletter: noback capsletter 6\n# B1 OutsideProfile base: base uppercase A a\n",
+        "1 of 9 lines are kept, 0 of them rewritten\nopcode noback sign: 2 (not in the profile)\nopcode base: 1 (not in the profile)\n"
+        "opcode noback: 1\nopcode noback capsletter: 1 (not in the profile)\nopcode noback noback: 1 (not in the profile)\n"
+        "opcode noback pass2: 1 (not in the profile)\nopcode nofor sign: 1 (not in the profile)\nfile t.ctb: 1 of 9 lines are read\n", True),
+    one("rewritten lines of 2,048 bytes and of more", f"noback letter a 1 {'x' * 2017}\nnoback letter b 1 {'x' * 2018}\n",
+        f"letter a 1 # noback letter a 1 {'x' * 2017}\nletter b 1 # noback letter b 1 {'x' * 2014}...\n",
+        "2 of 2 lines are kept, 2 of them rewritten\n", True),
+    Case("a line that is rewritten in an include", {"t.ctb": "include u\nletter a 2\n", "u": "noback letter a 1\n"},
+         {"t.ctb": "include u\nletter a 2\n", "u": "letter a 1 # noback letter a 1\n"}, "2 of 2 lines are kept, 1 of them rewritten\n", True),
+    one("a line that is rewritten makes a digit of a letter", "letter b 12\nnoback litdigit 1 2\nnumericnocontchars 1b\n",
+        "letter b 12\nlitdigit 1 2 # noback litdigit 1 2\n# B7 TwoRoles 1b: numericnocontchars 1b\n",
+        "2 of 3 lines are kept, 1 of them rewritten\nopcode numericnocontchars: 1\nfile t.ctb: 2 of 3 lines are read\n", True),
+]
+
+
+def as_bytes(text: str | bytes) -> bytes:
+    return text if isinstance(text, bytes) else text.encode()
+
+
+def make(folder: Path, files: dict[str, str | bytes]) -> None:
+    for name, text in files.items():
+        path = folder / name
+        path.parent.mkdir(parents=True, exist_ok=True)
+        path.write_bytes(as_bytes(text))
+
+
+def wrong(case: Case) -> str:
+    """What is wrong with the cut of a case, if anything; of a good one also with the cut of its cut."""
+    with tempfile.TemporaryDirectory() as folder, contextlib.chdir(folder):
+        make(Path(), case.files)
+        try:
+            files, text = cut("t.ctb", case.is_rewriting)
+        except Stop as fault:
+            return "" if f"{fault}\n" == case.told and not case.cut else f"the fault {fault}"
+        want = {name: as_bytes(it) for name, it in case.cut.items()}
+        if (files, text) != (want, case.told + NO_VERDICT):
+            return f"the files {files}\nwhere {want} are wanted\nand {text}"
+        write("cut", files)
+        again, text = cut("cut/t.ctb", False)
+        return "" if again == files and text.count("\n") == 2 else f"the cut of its cut has {again}, and {text}"
+
+
+def main(words: list[str]) -> int:
+    if words[:1] == ["cut"] and len(words) >= 3:
+        return run(words[1:])
+    if words:
+        print(__doc__, file=sys.stderr)
+        return 2
+    failed = [(case.name, said) for case in CASES if (said := wrong(case))]
+    for name, said in failed:
+        print(f"FAILED: {name}: {said}")
+    print(f"plain cut: {len(CASES) - len(failed)} passed, {len(failed)} failed")
+    return 1 if failed else 0
+
+
+if __name__ == "__main__":
+    sys.exit(main(sys.argv[1:]))
