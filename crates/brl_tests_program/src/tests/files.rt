@@ -5,8 +5,7 @@ use brl_testing::Refusing;
 use brl_tool::{CreateFault, Failed, Files};
 use std::alloc::Global;
 
-/// Files of which none can be written in place of another, and new ones can't be made once some
-/// were.
+/// Files in which no file can be replaced, and only a given number of new files can be made.
 #[derive(Drop)]
 pub struct Sealed<F> {
     pub files: F,

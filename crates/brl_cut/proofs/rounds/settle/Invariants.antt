@@ -4,7 +4,7 @@ use Rattle.brl_cut.specs.Files.{file_view}
 use Rattle.brl_cut.specs.Settling.{after_rounds, found_in_rounds}
 use Rattle.brl_cut.proofs.rounds.settle.Given as goal
 
--- so many rounds are made
+-- before each turn of the loop, the files and the faults are those after some number of rounds
 abbrev pub invariant-loop : goal.invariant-loop
 invariant-loop l =
     let start = map file_view l.fn.files.items in
