@@ -51,6 +51,7 @@ _brl() {
     case $command in
         '') options='--help --version' ;;
         translate) options='--form --help' ;;
+        clash | trace) options='--escapes --help' ;;
         search) options='--limit --without --help' ;;
         check) options='--without --help' ;;
         survey) options='--brief --help' ;;

@@ -119,6 +119,8 @@ for shell in bash zsh fish; do
     offers 'brl clash table.ctb t'
     offers 'brl clash table.ctb text t'
     offers 'brl trace table.ctb t'
+    offers 'brl trace --escapes t' table.ctb table.cert tables
+    offers 'brl clash --escapes table.ctb text t'
     offers 'brl search table.ctb t' table.ctb table.cert tables
     offers 'brl search table.ctb table.cert t'
     offers 'brl search --limit t'

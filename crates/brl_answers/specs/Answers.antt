@@ -1,7 +1,7 @@
 -- What commands answer. The project's own choice.
-use Rattle.std.specs.Prelude.{ℕ, ◌≡◌, ◌⊎◌, List, [], ◌∷◌, ◌++◌, Option, None, Some, Result, Ok, Err, codes, flat_map, string_bytes}
+use Rattle.std.specs.Prelude.{ℕ, ◌≡◌, ◌⊎◌, Bool, if◌then◌else◌, List, [], ◌∷◌, ◌++◌, Option, None, Some, Result, Ok, Err, codes, flat_map, string_bytes}
 use Rattle.std.specs.Fmt.{decimal}
-use Rattle.std.specs.Str.{encode_utf8_all}
+use Rattle.std.specs.Str.{chars, encode_utf8_all}
 use Rattle.brl_failure.specs.declared.failure.Failure.{Failure}
 use Rattle.brl_failure.specs.declared.failure.Failure.TheVariants as failures
 use Rattle.brl_lines.specs.Answer.{FileAnswers}
@@ -15,7 +15,7 @@ use Rattle.brl_rules.specs.TableView.{TableView}
 use Rattle.brl_answers.specs.declared.answer.Answer.{Answer}
 use Rattle.brl_answers.specs.declared.new_files.NewFiles.TheVariants.{Nothing}
 use Rattle.brl_answers.specs.declared.run_fault.RunFault.{RunFault}
-use Rattle.brl_answers.specs.declared.run_fault.RunFault.TheVariants.{Load, Table, BadLeftOut, Memory}
+use Rattle.brl_answers.specs.declared.run_fault.RunFault.TheVariants.{Load, Table, BadLeftOut, BadText, Memory}
 use Rattle.brl_answers.specs.declared.status.Status.{Status}
 
 -- an answer has this status and text, and no files
@@ -54,6 +54,30 @@ ByTable gives path answers (Err (Table fault)) = HasNoTable gives path (Table fa
 ByTable gives path answers (Err Memory) = Unit {0}
 ByTable gives path answers outcome = (t : TableView) × IsTableOf gives path t × answers t outcome
 
+-- ---- Characters that a word spells
+
+-- what is answered for the characters that are spelled, or the fault that none are
+abbrev pub BySpelled : Result (List ℕ) CharsFault → (RunFault → Type 0) → (List ℕ → Result Answer RunFault → Type 0) → Result Answer RunFault → Type 0
+BySpelled spelled is_bad answers outcome =
+    ((characters : List ℕ) × (spelled ≡ Ok characters) × answers characters outcome)
+    ⊎ ((fault : RunFault) × (outcome ≡ Err fault) × is_bad fault)
+
+-- ---- Texts
+
+-- the text of a word: with escapes the characters that it spells as an operand of a table, else its own
+abbrev pub text_of : Bool → List ℕ → Result (List ℕ) CharsFault
+text_of escapes word = if escapes then characters_of word else Ok (chars word)
+
+-- the fault is that the word spells no text, and names it as it was written; or memory ran out
+abbrev pub IsBadText : Bool → List ℕ → RunFault → Type 0
+IsBadText escapes word (BadText named) = ((fault : CharsFault) × (text_of escapes word ≡ Err fault)) × (string_bytes named ≡ word)
+IsBadText escapes word Memory = Unit {0}
+IsBadText escapes word fault = ⊥
+
+-- what is answered for the text of a word, or that it spells none
+abbrev pub ByText : Bool → List ℕ → (List ℕ → Result Answer RunFault → Type 0) → Result Answer RunFault → Type 0
+ByText escapes word answers outcome = BySpelled (text_of escapes word) (IsBadText escapes word) answers outcome
+
 -- ---- Characters that are left out
 
 -- the characters that an option leaves out; none where it isn't given
@@ -69,9 +93,7 @@ IsBadLeftOut option fault = ⊥
 
 -- what is answered for the characters that an option leaves out, or that it spells none
 abbrev pub ByLeftOut : Option (List ℕ) → (List ℕ → Result Answer RunFault → Type 0) → Result Answer RunFault → Type 0
-ByLeftOut option answers outcome =
-    ((left_out : List ℕ) × (spelled_by option ≡ Ok left_out) × answers left_out outcome)
-    ⊎ ((fault : RunFault) × (outcome ≡ Err fault) × IsBadLeftOut option fault)
+ByLeftOut option answers outcome = BySpelled (spelled_by option) (IsBadLeftOut option) answers outcome
 
 -- a character, spelled after a blank
 abbrev pub spelled_after_blank : ℕ → List ℕ

@@ -16,6 +16,7 @@ mod prefixes;
 mod replace;
 mod run_fault;
 mod status;
+mod text;
 
 pub use answer::{Answer, counts_text, deliver};
 pub use files::{CreateFault, Files, SinkFault};
@@ -24,3 +25,4 @@ pub use new_files::{NewFile, NewFiles};
 pub use prefixes::set_apart;
 pub use run_fault::{EndsRun, RunFault};
 pub use status::Status;
+pub use text::text_of_word;

@@ -51,6 +51,9 @@ pub enum RunFault {
     /// The certificate lists states of a window machine, and the table has none.
     #[error("{0}")]
     Wide(TooWide),
+    /// A text spells no characters, as this is written.
+    #[error("F2 BadText {0}")]
+    BadText(String),
     /// The option of what is left out spells no characters, as this is written.
     #[error("U9 BadLeftOut {0}")]
     BadLeftOut(String),

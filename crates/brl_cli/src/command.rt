@@ -17,11 +17,13 @@ pub enum Task<'a> {
 /// What is answered by one text.
 #[derive(Drop)]
 pub enum Question<'a> {
-    /// Whether two texts clash by the table whose file is at this path.
+    /// Whether two texts clash by the table whose file is at this path. With escapes the texts are
+    /// spelled as operands of a table.
     Clash {
         table: &'a str,
         left: &'a str,
         right: &'a str,
+        escapes: bool,
     },
     /// Whether the certificate in the file at one path is one for the table whose file is at another,
     /// for the texts that use none of the characters that `without` spells.
@@ -52,10 +54,12 @@ pub enum Question<'a> {
         dir: &'a str,
         rewrite: bool,
     },
-    /// What the steps of a text's translation are by the table whose file is at this path.
+    /// What the steps of a text's translation are by the table whose file is at this path. With escapes
+    /// the text is spelled as an operand of a table.
     Trace {
         table: &'a str,
         text: &'a str,
+        escapes: bool,
     },
 }
 
@@ -145,6 +149,8 @@ enum Options {
     Brief,
     /// Whether lines are rewritten.
     Rewrite,
+    /// Whether texts have escapes.
+    Escapes,
 }
 
 /// A command, as its help shows it.
@@ -200,8 +206,10 @@ Else it gets 'no clash', and the status is 0.
 The report has the texts and their cells, and then of each text the steps of its
 translation from where the two diverge: the characters, their cells, and the
 file and line of the rule. A blank is written \\s, a backslash \\\\, and control
-characters as in a table, so that each text can be copied into one. In LEFT and
-RIGHT a blank is a blank, and a backslash one: write these for \\s and \\\\.",
+characters as in a table, so that each text can be copied into one. With
+--escapes LEFT and RIGHT are read like that, so texts of a report are given as
+they are there. Else a blank is a blank, and a backslash one: a report's \\s would
+be a backslash and an s.",
     example: "Example, a table in which x looks like ab:
   printf '%s\\n' 'letter a 1' 'letter b 12' 'letter x 1-12' > alike.ctb
   brl clash alike.ctb ab x
@@ -215,7 +223,7 @@ It prints:
     b  12  alike.ctb:2
   right from 0:
     x  1-12  alike.ctb:3",
-    choice: None,
+    choice: Some(Options::Escapes),
     operands: &[
         TABLE,
         Operand {
@@ -384,8 +392,8 @@ Translates the text by a liblouis table. Standard output gets the text, its cell
 and a line for each step: the characters that it reads, the cells of the
 indicators before them (- for none), the cells of the rule, and the file and line
 of the rule. A blank is written \\s, a backslash \\\\, and control characters as in
-a table. In TEXT a blank is a blank, and a backslash one: write these for \\s and
-\\\\ of a report.",
+a table. With --escapes TEXT is read like that, so a text of a report is given as
+it is there. Else a blank is a blank, and a backslash one.",
     example: "Example, a table of a letter, its capital and a digit:
   printf '%s\\n' 'uplow Aa 1' 'capsletter 6' 'litdigit 1 1' 'numsign 3456' > steps.ctb
   brl trace steps.ctb Aa1
@@ -396,7 +404,7 @@ It prints:
     A  6     1  steps.ctb:1
     a  -     1  steps.ctb:1
     1  3456  1  steps.ctb:3",
-    choice: None,
+    choice: Some(Options::Escapes),
     operands: &[
         TABLE,
         Operand {
@@ -471,6 +479,14 @@ fn rewrite_option<'a>(alloc: Global) -> Arg<'a> {
         .action(ArgAction::SetTrue)
 }
 
+/// The option of whether texts have escapes.
+fn escapes_option<'a>(alloc: Global) -> Arg<'a> {
+    Arg::new(alloc, "escapes")
+        .long("escapes")
+        .help("Read texts as they are spelled in tables and reports")
+        .action(ArgAction::SetTrue)
+}
+
 /// The arguments of a command: its options, if any, and its operands.
 fn arguments<'a>(alloc: Global, page: &CommandHelp) -> Result<Vec<Arg<'a>>, AllocError> {
     let mut arguments = Vec::new(alloc);
@@ -483,6 +499,7 @@ fn arguments<'a>(alloc: Global, page: &CommandHelp) -> Result<Vec<Arg<'a>>, Allo
         }
         Some(Options::Brief) => arguments.push(brief_option(alloc))?,
         Some(Options::Rewrite) => arguments.push(rewrite_option(alloc))?,
+        Some(Options::Escapes) => arguments.push(escapes_option(alloc))?,
         None => {}
     }
     for operand in page.operands {
@@ -597,7 +614,13 @@ fn question_of_one_table<'a>(name: &str, found: &ArgMatches<'a>) -> Option<Quest
 fn clash_question<'a>(table: &'a str, found: &ArgMatches<'a>) -> Option<Question<'a>> {
     let left = found.get_str("left")?;
     let right = found.get_str("right")?;
-    Some(Question::Clash { table, left, right })
+    let escapes = found.get_flag("escapes");
+    Some(Question::Clash {
+        table,
+        left,
+        right,
+        escapes,
+    })
 }
 
 fn check_question<'a>(table: &'a str, found: &ArgMatches<'a>) -> Option<Question<'a>> {
@@ -631,7 +654,12 @@ fn cut_question<'a>(table: &'a str, found: &ArgMatches<'a>) -> Option<Question<'
 
 fn trace_question<'a>(table: &'a str, found: &ArgMatches<'a>) -> Option<Question<'a>> {
     let text = found.get_str("text")?;
-    Some(Question::Trace { table, text })
+    let escapes = found.get_flag("escapes");
+    Some(Question::Trace {
+        table,
+        text,
+        escapes,
+    })
 }
 
 /// The form of this name.

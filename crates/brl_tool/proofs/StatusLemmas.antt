@@ -1,12 +1,13 @@
 -- What the status says of what was delivered.
-use Rattle.std.proofs.Common.{◌≡◌, ◌≢◌, ◌∙◌, ℕ, suc, Bool, true, false, cond, List, [], ◌∷◌, All, arith, map, inl, inr, Option, Result, Ok, Err, refl, subst, sym}
+use Rattle.std.proofs.Common.{◌≡◌, ◌≢◌, ◌∙◌, ℕ, suc, Bool, true, false, cond, List, [], ◌∷◌, All, arith, map, inl, inr, Result, Ok, Err, refl, subst, sym}
 use Rattle.std.specs.Option.{option_copied}
 use Rattle.std.specs.Prelude.{string_bytes}
-use Rattle.std.specs.Str.{chars}
 use Rattle.brl_cert.specs.Reading.{spelling}
 use Rattle.brl_states.specs.declared.cert.Cert.{Cert}
+use Rattle.brl_lines.specs.Answer.{FileAnswers}
 use Rattle.brl_lines.specs.Lines.{Answers as Given}
 use Rattle.brl_lines.specs.Outcome.{AreGiven}
+use Rattle.brl_lines.specs.declared.operand.CharsFault.{CharsFault}
 use Rattle.brl_table.specs.Files.{IsTableOf, IsTableOfFiles}
 use Rattle.brl_search.specs.Searched.{certificate_of}
 use Rattle.brl_tool.proofs.OfFiles.{of_files}
@@ -14,9 +15,10 @@ use Rattle.brl_rules.specs.TableView.{TableView}
 use Rattle.brl_answers.proofs.DeliveryLemmas.{none_changes}
 use Rattle.brl_cut.specs.Cuts.{IsReadAs, written_path}
 use Rattle.brl_cut.specs.Edits.{Texts}
-use Rattle.brl_tool.specs.Comparing.{IsComparison}
+use Rattle.brl_tool.specs.Comparing.{ComparesByFile, ComparesByWords, IsComparison}
+use Rattle.brl_tool.specs.Tracing.{TracesByFile}
 use Rattle.brl_tool.specs.Verdicts.{IsFileOf, IsJudgement, Judges, SearchesByFile}
-use Rattle.brl_answers.specs.Answers.{ByLeftOut, spelled_by}
+use Rattle.brl_answers.specs.Answers.{BySpelled, ByText, IsBadLeftOut, IsBadText, spelled_by, text_of}
 use Rattle.brl_answers.specs.Delivery.{Delivers, World, KeepsFiles, Prints}
 use Rattle.brl_answers.specs.Files.{GivesAlso, MayBeSame, OthersStay}
 use Rattle.brl_answers.specs.Making.{FilesAfter}
@@ -48,13 +50,21 @@ unrefuted : (loaded : Bool) → cond loaded Done Faulty ≡ Refuted → ⊥
 unrefuted true e = cc
 unrefuted false e = cc
 
--- what an option leaves out is known where there is an answer
-left_out_by : (option : Option (List ℕ)) (promises : List ℕ → Result Answer RunFault → Type 0) (answer : Answer) → ByLeftOut option promises (Ok answer)
-    → (left_out : List ℕ) × (spelled_by option ≡ Ok left_out) × promises left_out (Ok answer)
-left_out_by option promises answer is = elim is [
+-- what is spelled is known where there is an answer
+spelled_in : (spelled : Result (List ℕ) CharsFault) (is_bad : RunFault → Type 0) (promises : List ℕ → Result Answer RunFault → Type 0) (answer : Answer) → BySpelled spelled is_bad promises (Ok answer)
+    → (characters : List ℕ) × (spelled ≡ Ok characters) × promises characters (Ok answer)
+spelled_in spelled is_bad promises answer is = elim is [
   | inl known ↦ known
   | inr (fault, e, bad) ↦ absurd cc
 ]
+
+-- an answer of two words is one of two texts
+texts_compared : (escapes : Bool) (gives : FileAnswers) (path left right : List ℕ) (answer : Answer) → ComparesByWords escapes gives path left right (Ok answer)
+    → (l r : List ℕ) × ComparesByFile gives path l r (Ok answer)
+texts_compared escapes gives path left right answer is =
+    let (l, left_is, rest) = spelled_in (text_of escapes left) (IsBadText escapes left) (λ l. ByText escapes right (ComparesByFile gives path l)) answer is in
+    let (r, right_is, compares) = spelled_in (text_of escapes right) (IsBadText escapes right) (ComparesByFile gives path l) answer rest in
+    (l, r, compares)
 
 module _ (before after : World) (same_file : MayBeSame) where
   -- an answer with a status that no fault has was written whole
@@ -93,19 +103,25 @@ module _ (before after : World) (same_file : MayBeSame) where
   IsAnswerTo asked answer = Answers asked before.gives same_file (Ok answer)
 
   means : (asked : Question) (answer : Answer) → IsAnswerTo asked answer → Means asked answer
-  means (question.Clash path left right) answer (t, table, is) files prints = elim is [
-    | inl (cells, clash, says) ↦
-        ((λ done. tt), (λ refuted. ((path.now, chars left.now, chars right.now, cells, t, table, clash, subst (Prints before after) says.1 prints), subst (FilesAfter before.gives after.gives) says.2 files)))
-    | inr (l, r, none, says) ↦ ((λ done. tt), (λ refuted. let e = sym says.0 ∙ refuted in cc))
-  ]
+  means (question.Clash path left right escapes) answer compares files prints =
+      let (l, r, by_file) = texts_compared escapes before.gives path.now left.now right.now answer compares in
+      let (t, table, is) = by_file in
+      elim is [
+        | inl (cells, clash, says) ↦
+            ((λ done. tt), (λ refuted. ((path.now, l, r, cells, t, table, clash, subst (Prints before after) says.1 prints), subst (FilesAfter before.gives after.gives) says.2 files)))
+        | inr (left_is, right_is, none, says) ↦ ((λ done. tt), (λ refuted. let e = sym says.0 ∙ refuted in cc))
+      ]
   means (question.Survey paths brief) answer (parts, named, are, says) files prints = ((λ done. tt), (λ refuted. absurd (unrefuted _ (sym says.0 ∙ refuted))))
   means (question.Cut path dir rewrite) answer (cut, (answers, given, gathered, gathers, is), status, text, (made, are, same)) files prints =
       let written : FilesAfter before.gives after.gives (AllNew made) = subst (FilesAfter before.gives after.gives) are files in
       let read = subst (λ (fs : Texts). IsReadAs fs (written_path dir.now path.now path.now)) (sym (same ∙ is.files_are)) is.read in
       ((λ done. (made.items, written.0, written.1, read)), (λ refuted. let e = sym status ∙ refuted in cc))
-  means (question.Trace path text) answer (t, table, (known, says)) files prints = ((λ done. tt), (λ refuted. let e = sym says.0 ∙ refuted in cc))
+  means (question.Trace path text escapes) answer traces files prints =
+      let (chars, spelled, by_file) = spelled_in (text_of escapes text.now) (IsBadText escapes text.now) (TracesByFile before.gives path.now) answer traces in
+      let (t, table, (known, says)) = by_file in
+      ((λ done. tt), (λ refuted. let e = sym says.0 ∙ refuted in cc))
   means (question.Check path cert option) answer is files prints =
-      let (left_out, spelled, judges) = left_out_by (option_copied option) (λ left_out. Judges left_out before.gives path.now cert.now) answer is in
+      let (left_out, spelled, judges) = spelled_in (spelled_by (option_copied option)) (IsBadLeftOut (option_copied option)) (λ left_out. Judges left_out before.gives path.now cert.now) answer is in
       let (bytes, holds, judged) = judges.checks in
       elim judged [
         | inl (t, table, none, (accepted, deserved, says)) ↦
@@ -114,7 +130,7 @@ module _ (before after : World) (same_file : MayBeSame) where
             ((λ done. let e = sym says.0 ∙ done in cc), (λ refuted. ((rest, subst (Prints before after) says.1 prints), subst (FilesAfter before.gives after.gives) says.2 files)))
       ]
   means (question.Search path out limit option) answer is files prints =
-      let (left_out, spelled, searched) = left_out_by (option_copied option) (λ left_out. SearchesByFile left_out before.gives same_file path.now out.now limit) answer is in
+      let (left_out, spelled, searched) = spelled_in (spelled_by (option_copied option)) (IsBadLeftOut (option_copied option)) (λ left_out. SearchesByFile left_out before.gives same_file path.now out.now limit) answer is in
       let (paths, t, table, apart, verdict) = searched in
       elim verdict [
         | inl (none, (body, certified, accepted, (status, text, file, read))) ↦ (
@@ -146,12 +162,17 @@ module _ (before after : World) (same_file : MayBeSame) where
   keeps : (asked : Question) (outcome : Result Answer RunFault) (status : Status) → Answers asked before.gives same_file outcome → Delivers outcome before after status → KeepsFilesUnlessWritten asked before after
   keeps (question.Search path out limit option) outcome status is delivers = tt
   keeps (question.Cut path dir rewrite) outcome status is delivers = tt
-  keeps (question.Clash path left right) (Ok answer) status (t, table, is) (written, writes, e) =
-      none_changes before after answer written (comparison_has_none t (chars left.now) (chars right.now) answer is) writes
+  keeps (question.Clash path left right escapes) (Ok answer) status compares (written, writes, e) =
+      let (l, r, by_file) = texts_compared escapes before.gives path.now left.now right.now answer compares in
+      let (t, table, is) = by_file in
+      none_changes before after answer written (comparison_has_none t l r answer is) writes
   keeps (question.Survey paths brief) (Ok answer) status (parts, named, are, says) (written, writes, e) = none_changes before after answer written says.2 writes
-  keeps (question.Trace path text) (Ok answer) status (t, table, (known, says)) (written, writes, e) = none_changes before after answer written says.2 writes
+  keeps (question.Trace path text escapes) (Ok answer) status traces (written, writes, e) =
+      let (chars, spelled, by_file) = spelled_in (text_of escapes text.now) (IsBadText escapes text.now) (TracesByFile before.gives path.now) answer traces in
+      let (t, table, (known, says)) = by_file in
+      none_changes before after answer written says.2 writes
   keeps (question.Check path cert option) (Ok answer) status is (written, writes, e) =
-      let (left_out, spelled, judges) = left_out_by (option_copied option) (λ left_out. Judges left_out before.gives path.now cert.now) answer is in
+      let (left_out, spelled, judges) = spelled_in (spelled_by (option_copied option)) (IsBadLeftOut (option_copied option)) (λ left_out. Judges left_out before.gives path.now cert.now) answer is in
       none_changes before after answer written (judgement_has_none left_out path.now judges.checks.0 answer judges.checks.2) writes
   keeps asked (Err fault) status is (stay, still, e) = stay
 

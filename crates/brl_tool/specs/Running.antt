@@ -2,7 +2,6 @@
 -- file, `input` what is left of the input where that is known.
 use Rattle.std.specs.Prelude.{ℕ, ◌≡◌, ◌<◌, ◌⊎◌, List, ◌++◌, false, map, Option, Result, Ok, Err, codes}
 use Rattle.std.specs.Option.{option_copied}
-use Rattle.std.specs.Str.{chars}
 use Rattle.brl_accept.specs.Judging.{IsAcceptedWithout, counted}
 use Rattle.brl_cert.specs.Reading.{spelling}
 use Rattle.brl_pairs.specs.Body.{BodyView}
@@ -13,7 +12,7 @@ use Rattle.brl_search.specs.Searched.{State, certificate_of}
 use Rattle.brl_cells.specs.declared.form.Form.{Form}
 use Rattle.brl_rules.specs.TableView.{TableView}
 use Rattle.brl_rules.specs.Translation.{IsClash}
-use Rattle.brl_tool.specs.Comparing.{ComparesByFile}
+use Rattle.brl_tool.specs.Comparing.{ComparesByWords}
 use Rattle.brl_cut.specs.Cuts.{IsReadAs, written_path}
 use Rattle.brl_tool.specs.Cutting.{CutsByFile, new_file_view}
 use Rattle.brl_answers.specs.Answers.{ByLeftOut, HasTextAndStatus, UnlessMemory, spelled_by, with_left_out_line}
@@ -25,7 +24,7 @@ use Rattle.brl_answers.specs.Prefixes.{begins_as_answer}
 use Rattle.brl_answers.specs.Status.{code_of, status_of}
 use Rattle.brl_tool.specs.Streams.{TranslatesByFile}
 use Rattle.brl_tool.specs.Surveying.{SurveysByFiles}
-use Rattle.brl_tool.specs.Tracing.{TracesByFile}
+use Rattle.brl_tool.specs.Tracing.{TracesByWord}
 use Rattle.brl_answers.specs.declared.answer.Answer.{Answer}
 use Rattle.brl_answers.specs.declared.new_files.NewFile.{NewFile}
 use Rattle.brl_answers.specs.declared.run_fault.RunFault.{RunFault}
@@ -41,11 +40,11 @@ use Rattle.brl_without.specs.Tables.{IsUnambiguousWithout}
 
 -- ---- What a question is answered
 
--- the answer of a command, with the paths, texts, option and limit that it has
+-- the answer of a command, with the paths, texts, options and limit that it has
 abbrev pub Answers : Question → FileAnswers → MayBeSame → Result Answer RunFault → Type 0
-Answers (question.Clash path left right) gives same outcome = ComparesByFile gives path.now (chars left.now) (chars right.now) outcome
+Answers (question.Clash path left right escapes) gives same outcome = ComparesByWords escapes gives path.now left.now right.now outcome
 Answers (question.Survey paths brief) gives same outcome = SurveysByFiles brief gives (map (λ path. path.now) paths.items) outcome
-Answers (question.Trace path text) gives same outcome = TracesByFile gives path.now (chars text.now) outcome
+Answers (question.Trace path text escapes) gives same outcome = TracesByWord escapes gives path.now text.now outcome
 Answers (question.Cut path dir rewrite) gives same outcome = CutsByFile rewrite gives path.now dir.now outcome
 Answers (question.Check path cert option) gives same outcome =
     ByLeftOut (option_copied option) (λ left_out. Judges left_out gives path.now cert.now) outcome
@@ -97,7 +96,7 @@ MeansDone asked before after = Unit {0}
 
 -- what it means that something was refuted; a survey, a trace and a cut never say so
 abbrev pub MeansRefuted : Question → World → World → Type 0
-MeansRefuted (question.Clash path left right) before after = ReportsClash before after
+MeansRefuted (question.Clash path left right escapes) before after = ReportsClash before after
 MeansRefuted (question.Check path cert option) before after = ReportsRefusal before after
 MeansRefuted (question.Search path out limit option) before after = ReportsClash before after
 MeansRefuted asked before after = ⊥

@@ -1,11 +1,11 @@
 -- What `brl trace` answers. The project's own choice.
-use Rattle.std.specs.Prelude.{ℕ, IsTrue, List, Result, Ok, Err}
+use Rattle.std.specs.Prelude.{ℕ, Bool, IsTrue, List, Result, Ok, Err}
 use Rattle.brl_forward.specs.Faults.{IsFaultOf}
 use Rattle.brl_lines.specs.Answer.{FileAnswers}
 use Rattle.brl_report.specs.Trace.{trace_text}
 use Rattle.brl_rules.specs.TableView.{TableView}
 use Rattle.brl_rules.specs.Text.{is_text}
-use Rattle.brl_answers.specs.Answers.{ByTable, HasTextAndStatus}
+use Rattle.brl_answers.specs.Answers.{ByTable, ByText, HasTextAndStatus}
 use Rattle.brl_answers.specs.declared.answer.Answer.{Answer}
 use Rattle.brl_answers.specs.declared.run_fault.RunFault.{RunFault}
 use Rattle.brl_answers.specs.declared.run_fault.RunFault.TheVariants.{Text, Memory}
@@ -21,3 +21,7 @@ Traces t text (Err fault) = ⊥
 -- the same by the table of the file at a path
 abbrev pub TracesByFile : FileAnswers → List ℕ → List ℕ → Result Answer RunFault → Type 0
 TracesByFile gives path text outcome = ByTable gives path (λ t. Traces t text) outcome
+
+-- the same for the text of a word, with or without escapes
+abbrev pub TracesByWord : Bool → FileAnswers → List ℕ → List ℕ → Result Answer RunFault → Type 0
+TracesByWord escapes gives path word outcome = ByText escapes word (TracesByFile gives path) outcome

@@ -24,11 +24,11 @@ pub use brl_stream::{
     Counting, Failed, Form, Input, LineFault, Output, StreamFault, translate_lines,
 };
 pub use check::check_by_words;
-pub use clash::compare_by_file;
+pub use clash::compare_by_words;
 pub use cut::cut_by_file;
 pub use laws::prefixes_law;
 pub use program::run;
 pub use search::search_by_words;
 pub use survey::survey_by_files;
-pub use trace::trace_by_file;
+pub use trace::trace_by_word;
 pub use translate::translate_by_file;

@@ -5,11 +5,11 @@ ghost use Rattle.brl_answers.specs.Delivery.{world};
 ghost use Rattle.brl_tool.specs.Running.{Answers, Asks, IsHelp, IsStatus, Performs, Replies, ReportsClash, ReportsRefusal, Runs, Translates};
 
 use crate::check::check_by_words;
-use crate::clash::compare_by_file;
+use crate::clash::compare_by_words;
 use crate::cut::cut_by_file;
 use crate::search::search_by_words;
 use crate::survey::survey_by_files;
-use crate::trace::trace_by_file;
+use crate::trace::trace_by_word;
 use crate::translate::translate_by_file;
 use crate::{Files, Form, Input, Output};
 use brl_answers::{Answer, RunFault, Status, deliver, set_apart};
@@ -28,7 +28,7 @@ use std::io::Write;
 /// gets the notices of a table that is searched, one line for a fault (a survey has one for each table
 /// that can't be loaded, and goes on), or the text of a use fault; what can't be written there is dropped
 /// and changes no status. It is also told how far a search or a check is, and when that has ended, before
-/// its answer is delivered. Faults come in the order of the work: the words, and what they leave out, the
+/// its answer is delivered. Faults come in the order of the work: the words, and what they spell, the
 /// certificate's file, the table's files, a file for a new certificate that is one of these, the
 /// table's lines, a character that is left out and isn't defined, the texts, the input, the certificate
 /// or the search, the file that gets a certificate or the files of a table that is cut, the output.
@@ -121,11 +121,20 @@ fn answer<F: Files, E: Write + Progress>(
     ensures same { Unchanged (F.gives files.old) (F.gives files.new) }
 {
     match question {
-        Question::Clash { table, left, right } => compare_by_file(alloc, files, table, left, right),
+        Question::Clash {
+            table,
+            left,
+            right,
+            escapes,
+        } => compare_by_words(alloc, files, table, left, right, escapes),
         Question::Survey { tables, brief } => {
             survey_by_files(alloc, files, tables.as_slice(), brief, err)
         }
-        Question::Trace { table, text } => trace_by_file(alloc, files, table, text),
+        Question::Trace {
+            table,
+            text,
+            escapes,
+        } => trace_by_word(alloc, files, table, text, escapes),
         Question::Cut {
             table,
             dir,

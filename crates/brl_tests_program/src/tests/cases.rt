@@ -155,6 +155,26 @@ t.ctb: include t.ctb & c: BRLCERT 1; end 0 0|brl,check,t.ctb,c|||L4 Cycle t.ctb 
 c: BRLCERT 1|brl,check,t.ctb,c|||L1 NotFound t.ctb|2
 ";
 
+/// Texts with escapes, in the same form.
+pub const ESCAPES: &str = "\
+t.ctb: space \\s 0; letter a 1; letter s 234; punctuation \\\\ 0|brl,clash,--escapes,t.ctb,a\\sa,a\\\\a||left: a\\sa; right: a\\\\a; cells: 1-0-1; left from 1:;   \\s  0  t.ctb:1;   a   1  t.ctb:2; right from 1:;   \\\\  0  t.ctb:4;   a   1  t.ctb:2||1
+t.ctb: space \\s 0; letter a 1; letter s 234; punctuation \\\\ 0|brl,clash,t.ctb,a\\sa,a\\\\a||no clash||0
+t.ctb: space \\s 0; letter a 1; letter s 234; punctuation \\\\ 0|brl,clash,t.ctb,a\\x005c,a ,--escapes||left: a\\\\; right: a\\s; cells: 1-0; left from 1:;   \\\\  0  t.ctb:4; right from 1:;   \\s  0  t.ctb:1||1
+t.ctb: letter a 1; letter \\x0000 1|brl,clash,--escapes,t.ctb,\\x0000,a||left: \\x0000; right: a; cells: 1; left from 0:;   \\x0000  1  t.ctb:2; right from 0:;   a  1  t.ctb:1||1
+t.ctb: letter a 1|brl,clash,--escapes,t.ctb,\\x0061,a||no clash||0
+t.ctb: letter a 1|brl,clash,--escapes,t.ctb,a,a\\x0062|||F1 UnknownChar 1 at right|2
+|brl,clash,--escapes,t.ctb,a\\q,\\x12|||F2 BadText a\\q|2
+|brl,clash,--escapes,t.ctb,a,\\x12|||F2 BadText \\x12|2
+|brl,clash,--escapes,t.ctb,a,b|||L1 NotFound t.ctb|2
+|brl,clash,t.ctb,a\\q,\\x12|||L1 NotFound t.ctb|2
+t.ctb: space \\s 0; letter a 1; letter s 234; punctuation \\\\ 0|brl,trace,--escapes,t.ctb,\\s\\\\a||text: \\s\\\\a; cells: 0-0-1;   \\s  -  0  t.ctb:1;   \\\\  -  0  t.ctb:4;   a   -  1  t.ctb:2||0
+t.ctb: space \\s 0; letter a 1; letter s 234; punctuation \\\\ 0|brl,trace,t.ctb,\\s||text: \\\\s; cells: 0-234;   \\\\  -  0    t.ctb:4;   s   -  234  t.ctb:3||0
+t.ctb: letter a 1|brl,trace,--escapes,t.ctb,||text: ; cells: ||0
+t.ctb: letter a 1|brl,trace,t.ctb,\\y00061,--escapes||text: a; cells: 1;   a  -  1  t.ctb:1||0
+|brl,trace,--escapes,t.ctb,a\\|||F2 BadText a\\|2
+|brl,trace,t.ctb,a\\|||L1 NotFound t.ctb|2
+";
+
 /// Searches that write no file, in the same form.
 pub const SEARCHES: &str = "\
 t.ctb: letter a 1; letter b 12; letter x 1-12|brl,search,t.ctb,o,--limit,0||limit: 1 states, 0 pairs||3
@@ -274,6 +294,9 @@ brl,search,--help|--without <CHARS>||0
 brl,check,--help|--without <CHARS>||0
 brl,check,t.ctb,c,--without||a value is required for '--without <CHARS>'|2
 brl,clash,t.ctb,a,b,--without,a||unexpected argument '--without'|2
+brl,clash,--help|--escapes||0
+brl,trace,--help|--escapes||0
+brl,search,t.ctb,o,--escapes||unexpected argument '--escapes'|2
 brl,--nothing||unexpected argument '--nothing'|2
 brl,clash,t.ctb,a,b||L1 NotFound t.ctb|2
 brl,clash,--help|brl clash alike.ctb ab x||0

@@ -89,6 +89,7 @@ fn worked_runs(rt: HostRuntime) -> Result<(), Fail> {
         cases::TRANSLATIONS,
         cases::INCLUDES,
         cases::COMPARISONS,
+        cases::ESCAPES,
         cases::CHECKS,
         cases::SEARCHES,
         cases::CUTS,

@@ -1,0 +1,32 @@
+//! The text that a word gives.
+ghost use Rattle.std.specs.Prelude.{◌≡◌, IfErr, IfOk, Ok};
+ghost use Rattle.std.specs.Str.{chars};
+ghost use Rattle.brl_answers.specs.Answers.{IsBadText, text_of};
+
+use crate::run_fault::RunFault;
+use brl_failure::Failure;
+use brl_lines::chars_of;
+use std::alloc::{AllocError, Global};
+
+/// The text of a word: with `escapes` the characters that it spells as an operand of a table, else its
+/// own. `BadText` where it has a bad escape.
+pub fn text_of_word(alloc: Global, word: &str, escapes: bool) -> Result<Vec<char>, RunFault>
+    ensures text { IfOk result (λ text. text_of escapes word.now ≡ Ok text.items) }
+    ensures bad { IfErr result (IsBadText escapes word.now) }
+{
+    if !escapes {
+        return Ok(characters(alloc, word)?);
+    }
+    match chars_of(alloc, word) {
+        Ok(text) => Ok(text),
+        Err(Failure::Fault(_)) => Err(RunFault::BadText(String::from_str(alloc, word)?)),
+        Err(Failure::Memory) => Err(RunFault::Memory),
+    }
+}
+
+/// The characters of a word.
+fn characters(alloc: Global, word: &str) -> Result<Vec<char>, AllocError>
+    ensures { IfOk result (λ found. found.items ≡ chars word.now) }
+{
+    word.chars().collect(alloc)
+}
