@@ -36,6 +36,8 @@ complete -c brl -f
 complete -c brl -n __brl_is_first -a translate -d 'Translate text into braille by a table'
 complete -c brl -n __brl_is_first -a clash -d 'Say whether two texts look alike in braille'
 complete -c brl -n __brl_is_first -a trace -d 'Show the steps of the translation of a text'
+complete -c brl -n __brl_is_first -a rules -d 'List the rules of a table by their numbers'
+complete -c brl -n __brl_is_first -a explain -d 'Say what a fault means'
 complete -c brl -n __brl_is_first -a search -d 'Decide whether any two texts look alike by a table'
 complete -c brl -n __brl_is_first -a check -d 'Say whether a certificate proves a table unambiguous'
 complete -c brl -n __brl_is_first -a survey -d 'List the lines of tables that are not read'
@@ -54,9 +56,10 @@ complete -c brl -n '__brl_is search check' -l without -x -d 'Characters that the
 complete -c brl -n '__brl_at translate 0' -F
 complete -c brl -n '__brl_at clash 0' -F
 complete -c brl -n '__brl_at trace 0' -F
+complete -c brl -n '__brl_at rules 0' -F
 complete -c brl -n '__brl_at search 0 1' -F
 complete -c brl -n '__brl_at check 0 1' -F
 complete -c brl -n '__brl_is survey' -F
 complete -c brl -n '__brl_at cut 0' -F
 complete -c brl -n '__brl_at cut 1' -x -a '(__fish_complete_directories)'
-complete -c brl -n '__brl_at help 0' -a 'translate clash trace search check survey cut'
+complete -c brl -n '__brl_at help 0' -a 'translate clash trace rules explain search check survey cut'

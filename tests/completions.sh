@@ -107,6 +107,7 @@ for shell in bash zsh fish; do
     offers 'brl help -' $(options help)
     for command in $others; do
         offers "brl $command -" $(options "$command")
+        [ "$command" != explain ] || continue
         offers "brl $command t" table.ctb table.cert tables
         offers "brl $command o" other.txt
     done
@@ -121,6 +122,8 @@ for shell in bash zsh fish; do
     offers 'brl trace table.ctb t'
     offers 'brl trace --escapes t' table.ctb table.cert tables
     offers 'brl clash --escapes table.ctb text t'
+    offers 'brl rules table.ctb t'
+    offers 'brl explain t'
     offers 'brl search table.ctb t' table.ctb table.cert tables
     offers 'brl search table.ctb table.cert t'
     offers 'brl search --limit t'

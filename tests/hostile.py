@@ -97,6 +97,17 @@ file p/u.cti: 1 of 2 lines are read
 file v.cti: 1 of 3 lines are read
 no verdict: a cut doesn't decide whether two texts have the same cells
 """
+RULES = """\
+0  always  ab  14  t.ctb:2
+1  letter  a  1  u.ctb:1
+2  letter  b  12  u.ctb:2
+"""
+EXPLANATION = """\
+B2 MissingOperand
+When: the opcode needs another operand
+Named: the opcode, or a prefix that ends its line
+What to do: Add it.
+"""
 TRACE = """\
 text: 1a
 cells: 3456-1-56-1
@@ -277,6 +288,11 @@ RUNS = [
     Run("two texts with escapes clash", ["clash", "--escapes", "t.ctb", "a\\x0062", "x"], {"t.ctb": ALIKE}, REPORT, 1),
     Run("a text with escapes is traced", ["trace", "--escapes", "t.ctb", "\\x0031a"], {"t.ctb": NUMBERS}, TRACE),
     Run("a text has a bad escape", ["clash", "--escapes", "t.ctb", "a", "\\q"], {"t.ctb": ALIKE}, status=2, err="F2 BadText \\q\n"),
+    Run("rules are listed", ["rules", "t.ctb"], {"t.ctb": "include u.ctb\nalways ab 14\n", "u.ctb": TWO}, RULES),
+    Run("a rule is listed", ["rules", "t.ctb", "0"], {"t.ctb": TWO + "noback always ab 14\n"}, "0  always  ab  14  t.ctb:3\n"),
+    Run("no rule has a number", ["rules", "t.ctb", "0", "9"], {"t.ctb": TWO}, status=2, err="error: the table has no rule 9\n"),
+    Run("a fault is explained", ["explain", "B2 MissingOperand letter at t.ctb:1"], {}, EXPLANATION),
+    Run("a line is no fault's", ["explain", "B10"], {}, status=2, err="error: no fault is written as B10\n"),
     Run("one text twice is no clash", ["clash", "t.ctb", "ab", "ab"], {"t.ctb": ALIKE}, "no clash\n"),
     Run("two files include each other", ["translate", "t.ctb"], {"t.ctb": "include u.ctb\n", "u.ctb": "include t.ctb\n"},
         status=2, err="L4 Cycle t.ctb at u.ctb:1\n"),

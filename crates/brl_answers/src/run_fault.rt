@@ -54,6 +54,12 @@ pub enum RunFault {
     /// A text spells no characters, as this is written.
     #[error("F2 BadText {0}")]
     BadText(String),
+    /// No rule of the table has this number.
+    #[error("error: the table has no rule {0}")]
+    NoSuchRule(u32),
+    /// No fault has the code of this line.
+    #[error("error: no fault is written as {0}")]
+    NoSuchFault(String),
     /// The option of what is left out spells no characters, as this is written.
     #[error("U9 BadLeftOut {0}")]
     BadLeftOut(String),

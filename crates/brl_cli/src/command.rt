@@ -47,6 +47,16 @@ pub enum Question<'a> {
         tables: Vec<&'a str>,
         brief: bool,
     },
+    /// Which rules of the table whose file is at this path have these numbers; where none are given, which
+    /// it has.
+    Rules {
+        table: &'a str,
+        numbers: Vec<u32>,
+    },
+    /// What the fault of this line means.
+    Explain {
+        line: &'a str,
+    },
     /// Which lines of the table whose file is at one path are read, as a table of its own in the folder
     /// at the other path. More lines are read where they are rewritten.
     Cut {
@@ -110,14 +120,24 @@ const STATUSES: &str = "Exit status:
 
 'brl COMMAND --help' says more of a command, with an example.";
 
-/// An operand of a command. Each must be there.
+/// What an operand takes.
+#[derive(Clone, Copy)]
+enum Takes {
+    /// One word.
+    Word,
+    /// One word or more.
+    Words,
+    /// Any number of numbers.
+    Numbers,
+}
+
+/// An operand of a command.
 #[derive(Clone, Copy)]
 struct Operand {
     id: &'static str,
     name: &'static str,
     help: &'static str,
-    /// Whether it may come several times.
-    several: bool,
+    takes: Takes,
 }
 
 /// The operand of the files of tables.
@@ -125,7 +145,7 @@ const TABLES: Operand = Operand {
     id: "tables",
     name: "TABLE",
     help: "The files of tables",
-    several: true,
+    takes: Takes::Words,
 };
 
 /// The operand of the table's file.
@@ -133,7 +153,7 @@ const TABLE: Operand = Operand {
     id: "table",
     name: "TABLE",
     help: "The table's file",
-    several: false,
+    takes: Takes::Word,
 };
 
 /// The options of a command.
@@ -230,13 +250,13 @@ It prints:
             id: "left",
             name: "LEFT",
             help: "A text",
-            several: false,
+            takes: Takes::Word,
         },
         Operand {
             id: "right",
             name: "RIGHT",
             help: "Another text",
-            several: false,
+            takes: Takes::Word,
         },
     ],
 };
@@ -270,7 +290,7 @@ It prints:
             id: "cert",
             name: "CERT",
             help: "The certificate's file",
-            several: false,
+            takes: Takes::Word,
         },
     ],
 };
@@ -307,7 +327,7 @@ It prints:
             id: "out",
             name: "OUT",
             help: "The file that gets a certificate",
-            several: false,
+            takes: Takes::Word,
         },
     ],
 };
@@ -377,7 +397,7 @@ It prints:
             id: "dir",
             name: "DIR",
             help: "The folder that gets the files",
-            several: false,
+            takes: Takes::Word,
         },
     ],
 };
@@ -411,27 +431,95 @@ It prints:
             id: "text",
             name: "TEXT",
             help: "A text",
-            several: false,
+            takes: Takes::Word,
         },
     ],
 };
 
+/// `brl rules`.
+const RULES: CommandHelp = CommandHelp {
+    name: "rules",
+    about: "Lists the rules of a table by their numbers",
+    long_about: "Lists the rules of a table by their numbers
+
+Reads a liblouis table. Standard output gets a line for each rule with one of the
+numbers N, or where none is given for each of its rules: the number, the opcode,
+the characters, the cells, and the file and line of the rule. A trace, a report
+and a refusal of a certificate speak of these rules, and a refusal names them by
+these numbers.
+
+The rules come in the order in which they are tried: longer ones first. After
+them come the characters, each with the line that gives it its cells.",
+    example: "Example, a table of two letters and a rule:
+  printf '%s\\n' 'letter a 1' 'letter b 12' 'always ab 14' > ranked.ctb
+  brl rules ranked.ctb
+
+It prints:
+  0  always  ab  14  ranked.ctb:3
+  1  letter  a  1  ranked.ctb:1
+  2  letter  b  12  ranked.ctb:2",
+    choice: None,
+    operands: &[
+        TABLE,
+        Operand {
+            id: "numbers",
+            name: "N",
+            help: "The numbers of rules",
+            takes: Takes::Numbers,
+        },
+    ],
+};
+
+/// `brl explain`.
+const EXPLAIN: CommandHelp = CommandHelp {
+    name: "explain",
+    about: "Says what a fault means",
+    long_about: "Says what a fault means
+
+Takes the code of a fault, or a whole line that names one, as it was printed.
+Standard output gets the form of its line, when it comes, for a line of a table
+what it names, and what to do about it. Of a whole line it also gets which dots
+are wrong, and the characters that can't be seen or may be taken for others,
+spelled by their numbers.",
+    example: "Example:
+  brl explain 'U1 NoAscii at line 5'
+
+It prints:
+  U1 NoAscii at line M
+  When: a cell has dot 7 or 8, which Braille ASCII has no mark for
+  What to do: Use `--form unicode`.",
+    choice: None,
+    operands: &[Operand {
+        id: "fault",
+        name: "FAULT",
+        help: "A code, or a line",
+        takes: Takes::Word,
+    }],
+};
+
 /// The commands of `brl`.
-static HELPS: [CommandHelp; 7] = [TRANSLATE, CLASH, CHECK, SEARCH, SURVEY, CUT, TRACE];
+static HELPS: [CommandHelp; 9] = [
+    TRANSLATE, CLASH, CHECK, SEARCH, SURVEY, CUT, TRACE, RULES, EXPLAIN,
+];
 
 /// How many states, and how many pairs, a search may find where the words give no limit.
 const USUAL_LIMIT: &str = "1000000";
 
-/// An operand that must be there.
-fn required_argument<'a>(alloc: Global, operand: Operand) -> Arg<'a> {
+/// An operand. Where it takes words, it must be there.
+fn operand_argument<'a>(alloc: Global, operand: Operand) -> Arg<'a> {
     let argument = Arg::new(alloc, operand.id)
         .value_name(operand.name)
-        .help(operand.help)
-        .required(true);
-    if operand.several {
-        argument.num_args(1..).action(ArgAction::Append)
-    } else {
-        argument
+        .help(operand.help);
+    match operand.takes {
+        Takes::Word => argument.required(true),
+        Takes::Words => argument
+            .required(true)
+            .num_args(1..)
+            .action(ArgAction::Append),
+        Takes::Numbers => argument
+            .num_args(1..)
+            .action(ArgAction::Append)
+            .value_parser(value_parser!(u32)),
     }
 }
 
@@ -503,7 +591,7 @@ fn arguments<'a>(alloc: Global, page: &CommandHelp) -> Result<Vec<Arg<'a>>, Allo
         None => {}
     }
     for operand in page.operands {
-        arguments.push(required_argument(alloc, *operand))?;
+        arguments.push(operand_argument(alloc, *operand))?;
     }
     Ok(arguments)
 }
@@ -573,6 +661,8 @@ fn found_task<'a>(alloc: Global, matches: &ArgMatches<'a>) -> Result<Option<Task
     match matches.subcommand() {
         Some(("translate", found)) => Ok(translate_task(found)),
         Some(("survey", found)) => Ok(survey_question(alloc, found)?.map(Task::Ask)),
+        Some(("explain", found)) => Ok(explain_question(found).map(Task::Ask)),
+        Some(("rules", found)) => Ok(rules_question(alloc, found)?.map(Task::Ask)),
         Some((name, found)) => Ok(question_of_one_table(name, found).map(Task::Ask)),
         None => Ok(None),
     }
@@ -596,6 +686,30 @@ fn survey_question<'a>(
     let tables = Vec::from_slice(alloc, tables)?;
     let brief = found.get_flag("brief");
     Ok(Some(Question::Survey { tables, brief }))
+}
+
+/// The question of the words after `explain`.
+fn explain_question<'a>(found: &ArgMatches<'a>) -> Option<Question<'a>> {
+    let line = found.get_str("fault")?;
+    Some(Question::Explain { line })
+}
+
+/// The question of the words after `rules`.
+fn rules_question<'a>(
+    alloc: Global,
+    found: &ArgMatches<'a>,
+) -> Result<Option<Question<'a>>, AllocError> {
+    let Some(table) = found.get_str("table") else {
+        return Ok(None);
+    };
+    let mut numbers = Vec::new(alloc);
+    for word in found.get_strs("numbers").unwrap_or_default() {
+        let Ok(number) = word.parse::<u32>() else {
+            return Ok(None);
+        };
+        numbers.push(number)?;
+    }
+    Ok(Some(Question::Rules { table, numbers }))
 }
 
 /// The question of the words after the name of another command.

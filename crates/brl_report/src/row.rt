@@ -57,7 +57,12 @@ impl Model for Row {
 }
 
 /// A file and one of its lines, as `FILE:LINE`.
-fn place_text(alloc: Global, table: &Table, file: usize, line: u32) -> Result<String, AllocError>
+pub(crate) fn place_text(
+    alloc: Global,
+    table: &Table,
+    file: usize,
+    line: u32,
+) -> Result<String, AllocError>
     requires { file < length table.now.files }
     ensures { IfOk result (λ text. string_bytes text ≡ place_text table.now file line) }
 {

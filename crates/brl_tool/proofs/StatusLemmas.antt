@@ -120,6 +120,8 @@ module _ (before after : World) (same_file : MayBeSame) where
       let (chars, spelled, by_file) = spelled_in (text_of escapes text.now) (IsBadText escapes text.now) (TracesByFile before.gives path.now) answer traces in
       let (t, table, (known, says)) = by_file in
       ((λ done. tt), (λ refuted. let e = sym says.0 ∙ refuted in cc))
+  means (question.Rules path numbers) answer (paths, lines, are, passes, (known, says)) files prints = ((λ done. tt), (λ refuted. let e = sym says.0 ∙ refuted in cc))
+  means (question.Explain line) answer (fault, is, says) files prints = ((λ done. tt), (λ refuted. let e = sym says.0 ∙ refuted in cc))
   means (question.Check path cert option) answer is files prints =
       let (left_out, spelled, judges) = spelled_in (spelled_by (option_copied option)) (IsBadLeftOut (option_copied option)) (λ left_out. Judges left_out before.gives path.now cert.now) answer is in
       let (bytes, holds, judged) = judges.checks in
@@ -171,6 +173,8 @@ module _ (before after : World) (same_file : MayBeSame) where
       let (chars, spelled, by_file) = spelled_in (text_of escapes text.now) (IsBadText escapes text.now) (TracesByFile before.gives path.now) answer traces in
       let (t, table, (known, says)) = by_file in
       none_changes before after answer written says.2 writes
+  keeps (question.Rules path numbers) (Ok answer) status (paths, lines, are, passes, (known, says)) (written, writes, e) = none_changes before after answer written says.2 writes
+  keeps (question.Explain line) (Ok answer) status (fault, is, says) (written, writes, e) = none_changes before after answer written says.2 writes
   keeps (question.Check path cert option) (Ok answer) status is (written, writes, e) =
       let (left_out, spelled, judges) = spelled_in (spelled_by (option_copied option)) (IsBadLeftOut (option_copied option)) (λ left_out. Judges left_out before.gives path.now cert.now) answer is in
       none_changes before after answer written (judgement_has_none left_out path.now judges.checks.0 answer judges.checks.2) writes

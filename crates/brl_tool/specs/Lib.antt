@@ -1,6 +1,8 @@
 pub mod Running
 pub mod Comparing
 pub mod Cutting
+pub mod Explaining
+pub mod Listing
 pub mod Streams
 pub mod Surveying
 pub mod Tracing

@@ -15,6 +15,8 @@ use Rattle.brl_rules.specs.Translation.{IsClash}
 use Rattle.brl_tool.specs.Comparing.{ComparesByWords}
 use Rattle.brl_cut.specs.Cuts.{IsReadAs, written_path}
 use Rattle.brl_tool.specs.Cutting.{CutsByFile, new_file_view}
+use Rattle.brl_tool.specs.Explaining.{Explains}
+use Rattle.brl_tool.specs.Listing.{ListsByFile}
 use Rattle.brl_answers.specs.Answers.{ByLeftOut, HasTextAndStatus, UnlessMemory, spelled_by, with_left_out_line}
 use Rattle.brl_tool.specs.Verdicts.{Judges, SearchesByFile, accepted_line, certified_line}
 use Rattle.brl_answers.specs.Delivery.{World, IsDelivered, KeepsFiles, Prints, PrintsNothing}
@@ -45,6 +47,8 @@ abbrev pub Answers : Question → FileAnswers → MayBeSame → Result Answer Ru
 Answers (question.Clash path left right escapes) gives same outcome = ComparesByWords escapes gives path.now left.now right.now outcome
 Answers (question.Survey paths brief) gives same outcome = SurveysByFiles brief gives (map (λ path. path.now) paths.items) outcome
 Answers (question.Trace path text escapes) gives same outcome = TracesByWord escapes gives path.now text.now outcome
+Answers (question.Rules path numbers) gives same outcome = ListsByFile gives path.now numbers.items outcome
+Answers (question.Explain line) gives same outcome = Explains line.now outcome
 Answers (question.Cut path dir rewrite) gives same outcome = CutsByFile rewrite gives path.now dir.now outcome
 Answers (question.Check path cert option) gives same outcome =
     ByLeftOut (option_copied option) (λ left_out. Judges left_out gives path.now cert.now) outcome
@@ -94,7 +98,7 @@ MeansDone (question.Search path out limit option) before after = ReportsCertific
 MeansDone (question.Cut path dir rewrite) before after = WritesTable before after path.now dir.now
 MeansDone asked before after = Unit {0}
 
--- what it means that something was refuted; a survey, a trace and a cut never say so
+-- what it means that something was refuted; a survey, a trace, a list of rules and a cut never say so
 abbrev pub MeansRefuted : Question → World → World → Type 0
 MeansRefuted (question.Clash path left right escapes) before after = ReportsClash before after
 MeansRefuted (question.Check path cert option) before after = ReportsRefusal before after

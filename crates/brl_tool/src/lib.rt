@@ -1,7 +1,8 @@
 //! `run`, the program over any files and streams.
 //!
-//! `program` has what each command's words lead to. `translate`, `clash`, `trace`, `survey` and `cut`
-//! do the work of these commands by the files of a table, `search` and `check` that of theirs, and
+//! `program` has what each command's words lead to. `translate`, `clash`, `trace`, `rules`, `survey` and
+//! `cut` do the work of these commands by the files of a table, `search` and `check` that of theirs, and
+//! `explain` has what a fault means, and
 //! `notices` writes the notices of a table that is searched. What all but `translate` give is an answer
 //! (brl_answers).
 //!
@@ -11,9 +12,11 @@
 mod check;
 mod clash;
 mod cut;
+mod explain;
 mod laws;
 mod notices;
 mod program;
+mod rules;
 mod search;
 mod survey;
 mod trace;
@@ -26,8 +29,10 @@ pub use brl_stream::{
 pub use check::check_by_words;
 pub use clash::compare_by_words;
 pub use cut::cut_by_file;
+pub use explain::explain_line;
 pub use laws::prefixes_law;
 pub use program::run;
+pub use rules::list_rules_by_file;
 pub use search::search_by_words;
 pub use survey::survey_by_files;
 pub use trace::trace_by_word;

@@ -7,6 +7,8 @@ ghost use Rattle.brl_tool.specs.Running.{Answers, Asks, IsHelp, IsStatus, Perfor
 use crate::check::check_by_words;
 use crate::clash::compare_by_words;
 use crate::cut::cut_by_file;
+use crate::explain::explain_line;
+use crate::rules::list_rules_by_file;
 use crate::search::search_by_words;
 use crate::survey::survey_by_files;
 use crate::trace::trace_by_word;
@@ -24,7 +26,7 @@ use std::io::Write;
 /// for a certificate of version 1. The first of the words is the program's name.
 ///
 /// Standard output gets the translation, what was found of two texts, of a certificate, by a search or
-/// by a survey, the steps of a text, or help or the version where these are asked for. Standard error
+/// by a survey, the steps of a text, the rules of a table, what a fault means, or help or the version where these are asked for. Standard error
 /// gets the notices of a table that is searched, one line for a fault (a survey has one for each table
 /// that can't be loaded, and goes on), or the text of a use fault; what can't be written there is dropped
 /// and changes no status. It is also told how far a search or a check is, and when that has ended, before
@@ -135,6 +137,10 @@ fn answer<F: Files, E: Write + Progress>(
             text,
             escapes,
         } => trace_by_word(alloc, files, table, text, escapes),
+        Question::Explain { line } => explain_line(alloc, line),
+        Question::Rules { table, numbers } => {
+            list_rules_by_file(alloc, files, table, numbers.as_slice())
+        }
         Question::Cut {
             table,
             dir,

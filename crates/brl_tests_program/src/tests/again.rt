@@ -20,6 +20,8 @@ t.ctb: letter a 1; letter b 12; letter x 1-12|brl,clash,t.ctb,ab,x||left: ab; ri
 t.ctb: letter a 1; pass2 x; noback pass2 y; letter b 9 & u.ctb: #|brl,survey,t.ctb,u.ctb||table: t.ctb; B1 OutsideProfile pass2 at t.ctb:2; B1 OutsideProfile pass2 at t.ctb:3; B4 BadDots 9 at t.ctb:4; opcode letter: 1; opcode noback pass2: 1 (not in the profile); opcode pass2: 1 (not in the profile); file t.ctb: 1 of 4 lines are read; undefined characters (B5 to B7) are looked for once no line has another fault; 1 of 4 lines are read; table: u.ctb; no line defines a character; 0 of 0 lines are read; no verdict: a survey doesn't decide whether two texts have the same cells||0
 t.ctb: letter a 1; letter b 1|brl,clash,--escapes,t.ctb,\\x0061,b||left: a; right: b; cells: 1; left from 0:;   a  1  t.ctb:1; right from 0:;   b  1  t.ctb:2||1
 |brl,trace,--escapes,t.ctb,\\q|||F2 BadText \\q|2
+t.ctb: letter a 1; letter b 12; always ab 14|brl,rules,t.ctb||0  always  ab  14  t.ctb:3; 1  letter  a  1  t.ctb:1; 2  letter  b  12  t.ctb:2||0
+|brl,explain,K1||K1 Version; When: the header names no version from 1 to 3; What to do: Search again.||0
 t.ctb: uplow Aa 1; capsletter 6|brl,trace,t.ctb,Aa||text: Aa; cells: 6-1-1;   A  6  1  t.ctb:1;   a  -  1  t.ctb:1||0
 t.ctb: #|brl,search,t.ctb,o||certified: 1 states, 0 pairs||0
 t.ctb: letter a 1; letter b 12|brl,search,t.ctb,o||certified: 2 states, 0 pairs||0

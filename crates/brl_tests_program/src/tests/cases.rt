@@ -221,6 +221,31 @@ t.ctb: letter a 19|brl,trace,t.ctb,a|||B4 BadDots 19 at t.ctb:1|2
 |brl,trace,t.ctb,a|||L1 NotFound t.ctb|2
 ";
 
+/// Lists of rules, in the same form.
+pub const RULES: &str = "\
+t.ctb: letter a 1; letter b 12; always ab 14|brl,rules,t.ctb||0  always  ab  14  t.ctb:3; 1  letter  a  1  t.ctb:1; 2  letter  b  12  t.ctb:2||0
+t.ctb: letter a 1; letter b 12; noback always ab 14; word b 56-12; uplow Cc 14,15 x; nofor always ac 3; include u & u: space \\s 0; litdigit a 3; begword \\x0061c = y|brl,rules,t.ctb||0  begword  ac  3-15  u:3; 1  always  ab  14  t.ctb:3; 2  word  b  56-12  t.ctb:4; 3  litdigit  a  3  u:2; 4  letter  b  12  t.ctb:2; 5  uplow  C  14  t.ctb:5; 6  uplow  c  15  t.ctb:5; 7  space  \\s  0  u:1||0
+t.ctb: letter a 1; letter b 12; noback always ab 14; word b 56-12; uplow Cc 14,15 x; nofor always ac 3; include u & u: space \\s 0; litdigit a 3; begword \\x0061c = y|brl,rules,t.ctb,3,0,7,3||3  litdigit  a  3  u:2; 0  begword  ac  3-15  u:3; 7  space  \\s  0  u:1; 3  litdigit  a  3  u:2||0
+t.ctb: letter a 1; letter b 12; always ab 14; word ab 15|brl,rules,t.ctb,0||0  word  ab  15  t.ctb:4||0
+t.ctb: letter a 1; letter b 12; always ab 14|brl,rules,t.ctb,2,3,9|||error: the table has no rule 3|2
+t.ctb: letter a 1|brl,rules,t.ctb,4294967295|||error: the table has no rule 4294967295|2
+t.ctb: #|brl,rules,t.ctb||||0
+t.ctb: #|brl,rules,t.ctb,0|||error: the table has no rule 0|2
+t.ctb: letter a 19|brl,rules,t.ctb,7|||B4 BadDots 19 at t.ctb:1|2
+|brl,rules,t.ctb,7|||L1 NotFound t.ctb|2
+";
+
+/// Explanations, in the same form.
+pub const EXPLANATIONS: &str = "\
+|brl,explain,U1||U1 NoAscii at line M; When: a cell has dot 7 or 8, which Braille ASCII has no mark for; What to do: Use `--form unicode`.||0
+|brl,explain,B2 MissingOperand letter at t.ctb:1||B2 MissingOperand; When: the opcode needs another operand; Named: the opcode, or a prefix that ends its line; What to do: Add it.||0
+|brl,explain,refused: K1 Version line 1||K1 Version; When: the header names no version from 1 to 3; What to do: Search again.||0
+|brl,explain,U10|||error: no fault is written as U10|2
+|brl,explain,|||error: no fault is written as |2
+|brl,explain,refused:|||error: no fault is written as refused:|2
+|brl,explain,no clash|||error: no fault is written as no clash|2
+";
+
 /// Searches and checks without some characters, in the same form.
 pub const WITHOUT: &str = "\
 t.ctb: space \\s 0; space \\x00a0 0; letter a 1; letter b 12|brl,search,t.ctb,o,--without,\\x00a0||certified: 2 states, 0 pairs; without: \u{a0}||0
@@ -320,6 +345,24 @@ brl,survey,--help|brl survey far.ctb||0
 brl,survey||<TABLE>|2
 brl,survey,--nothing,t.ctb||unexpected argument '--nothing'|2
 brl,survey,t.ctb,u.ctb|no verdict|L1 NotFound t.ctb|2
+brl,explain,--help|brl explain 'U1 NoAscii at line 5'||0
+brl,explain||<FAULT>|2
+brl,explain,B1,B2||unexpected argument 'B2'|2
+brl,explain,B4|B4 BadDots||0
+brl,explain,B4 BadDots 1596 at t.ctb:1|Dots: 9 is a virtual dot||0
+brl,explain,B4 BadDots 156# at t.ctb:1|Dots: # is no dot||0
+brl,explain,B4 BadDots 12-156F at t.ctb:1|Dots: F is a virtual dot||0
+brl,explain,B4 BadDots 01 at t.ctb:1|Dots: 0 is a cell by itself||0
+brl,explain,B4 BadDots 1556 at t.ctb:1|Dots: a dot is in a cell twice||0
+brl,explain,B4 BadDots 1--2 at t.ctb:1|Dots: a cell is empty||0
+brl,explain,B4 BadDots 1-1-1-1-1-1-1-1-1-1-1-1-1-1-1-1-1 at t.ctb:1|Dots: there are more than 16 cells||0
+brl,explain,B1 OutsideProfile always\u{a0}sh at t.ctb:1|Characters: \\x00a0||0
+brl,explain,B3 BadCharacters e\u{301}\u{1f600} at t.ctb:1|Characters: \\x0301 \\z0001f600||0
+brl,rules,--help|brl rules ranked.ctb||0
+brl,rules||<TABLE>|2
+brl,rules,t.ctb,x||invalid value 'x' for '[N]...'|2
+brl,rules,t.ctb,4294967296||invalid value '4294967296'|2
+brl,rules,t.ctb,0,1||L1 NotFound t.ctb|2
 brl,trace,--help|brl trace steps.ctb Aa1||0
 brl,trace,t.ctb||<TEXT>|2
 brl,trace,t.ctb,a,b||unexpected argument 'b'|2

@@ -95,6 +95,8 @@ fn worked_runs(rt: HostRuntime) -> Result<(), Fail> {
         cases::CUTS,
         cases::SURVEYS,
         cases::TRACES,
+        cases::RULES,
+        cases::EXPLANATIONS,
         cases::WITHOUT,
     ] {
         for_rows_of_4(alloc, rows, answer_of)?;

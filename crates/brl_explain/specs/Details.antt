@@ -1,0 +1,82 @@
+-- What can be seen in the line of a fault itself. The project's own choice.
+use Rattle.std.specs.Prelude.{ℕ, ◌/◌, ◌%◌, Bool, ◌&&◌, ◌||◌, not, if◌then◌else◌, List, [], ◌∷◌, ◌++◌, Option, Some, None, Result, Ok, Err, codes, flat_map, length, nat_le, nat_lt, option_map}
+use Rattle.std.specs.Char.{digit_char}
+use Rattle.std.specs.List.{after_first, before_first, find}
+use Rattle.std.specs.Str.{bytes_eq, chars, encode_utf8_all}
+use Rattle.brl_cells.specs.Dots.{is_among, reading}
+use Rattle.brl_cells.specs.declared.fault.DotsFault.{DotsFault}
+use Rattle.brl_cells.specs.declared.fault.DotsFault.TheVariants.{BadDot, EmptyCell, RepeatedDot, TooManyCells}
+use Rattle.brl_explain.specs.Explaining.{code_of, is_blank, text_of_fault}
+
+-- ---- Characters
+
+-- a character that may be taken for another, or not be seen: any but a blank and the visible ones of
+-- ASCII
+abbrev pub is_unclear : ℕ → Bool
+is_unclear c = nat_lt c 32 || nat_le 127 c
+
+-- the two hexadecimal digits of a byte
+abbrev pub byte_digits : ℕ → List ℕ
+byte_digits byte = digit_char (byte / 16) ∷ digit_char (byte % 16) ∷ []
+
+-- a character by its number, as an operand of a table may spell it
+abbrev pub by_number : ℕ → List ℕ
+by_number c =
+    if nat_lt c 65536 then codes "\\x" ++ byte_digits (c / 256) ++ byte_digits (c % 256)
+    else codes "\\z00" ++ byte_digits (c / 65536) ++ byte_digits (c / 256 % 256) ++ byte_digits (c % 256)
+
+-- an unclear character by its number, after a blank
+abbrev pub unclear_spelling : ℕ → List ℕ
+unclear_spelling c = if is_unclear c then codes " " ++ by_number c else []
+
+-- a line with a title, unless there is nothing to follow it
+abbrev pub titled : List ℕ → List ℕ → List ℕ
+titled title [] = []
+titled title (byte ∷ bytes) = title ++ (byte ∷ bytes) ++ codes "\n"
+
+-- the unclear characters of a line, in order, by their numbers
+abbrev pub characters_line : List ℕ → List ℕ
+characters_line line = titled (codes "Characters:") (flat_map unclear_spelling (chars line))
+
+-- ---- Dots
+
+-- the operand that a fault's line names: its third word
+abbrev pub operand_of : List ℕ → List ℕ
+operand_of line = before_first is_blank (after_first is_blank (after_first is_blank line))
+
+-- the first character of dots that is neither a dot, nor the blank cell, nor joins cells
+abbrev pub odd_mark : List ℕ → Option ℕ
+odd_mark dots = find (λ c. not (is_among (codes "012345678-") c)) (chars dots)
+
+-- whether a character is a virtual dot of liblouis
+abbrev pub is_virtual : ℕ → Bool
+is_virtual c = is_among (codes "9abcdefABCDEF") c
+
+-- what is said of the first odd character
+abbrev pub mark_note : Option ℕ → List ℕ
+mark_note (Some c) = encode_utf8_all (c ∷ []) ++ (if is_virtual c then codes " is a virtual dot, which isn't read" else codes " is no dot")
+mark_note None = codes "0 is a cell by itself"
+
+-- what is said of dots that spell no cells, or too many; nothing of others
+abbrev pub dots_note : List ℕ → Result (List ℕ) DotsFault → List ℕ
+dots_note dots (Ok cells) = []
+dots_note dots (Err EmptyCell) = codes "a cell is empty"
+dots_note dots (Err BadDot) = mark_note (odd_mark dots)
+dots_note dots (Err RepeatedDot) = codes "a dot is in a cell twice"
+dots_note dots (Err TooManyCells) = codes "there are more than 16 cells"
+
+-- the line of what is wrong with dots
+abbrev pub note_line : List ℕ → List ℕ
+note_line dots = titled (codes "Dots: ") (dots_note dots (reading 16 dots))
+
+-- what is wrong with the dots that a line names, if its fault is of dots and it names some
+abbrev pub dots_line : List ℕ → List ℕ
+dots_line line = if bytes_eq (code_of line) (codes "B4") && nat_lt 0 (length (operand_of line)) then note_line (operand_of line) else []
+
+-- what explains a line: the text for its fault, and what can be seen
+abbrev pub explanation : List ℕ → List ℕ → List ℕ
+explanation text line = text ++ dots_line line ++ characters_line line
+
+-- the same, if there is a text for its fault
+abbrev pub explanation_of : List ℕ → Option (List ℕ)
+explanation_of line = option_map (λ text. explanation text line) (text_of_fault line)

@@ -1,0 +1,189 @@
+//! What can be seen in the line of a fault itself.
+ghost use Rattle.std.specs.Prelude.{◌≡◌, ◌++◌, ◌<◌, IfOk, OnOk, flat_map, option_map, string_bytes};
+ghost use Rattle.std.specs.Str.{chars};
+ghost use Rattle.brl_cells.specs.Dots.{reading};
+ghost use Rattle.brl_explain.specs.Details.{
+  by_number,
+  byte_digits,
+  dots_note as note_on_dots,
+  explanation as explanation_with,
+  explanation_of,
+  is_unclear as is_unclear_mark,
+  is_virtual as is_virtual_dot,
+  mark_note as note_on_mark,
+  note_line,
+  odd_mark as odd_mark_of,
+  operand_of as operand_of_line,
+  titled,
+  unclear_spelling,
+};
+
+use crate::explaining::{after_first_word, code_of, first_word, text_of_fault};
+use brl_cells::{DotsFault, read_dots};
+use brl_failure::Failure;
+use std::alloc::{AllocError, Global};
+
+/// The most cells of dots.
+const MOST_CELLS: usize = 16;
+
+/// What explains the line of a fault, or its code alone, which it begins with or has after `refused:`: the
+/// form of its line, when it comes, for a line of a table what it names, and what to do about it; and what
+/// can be seen in this line: of dots that spell no cells why not, and the characters that may be taken for
+/// others or not be seen, by their numbers. `None` where no fault has the code.
+///
+/// Every line ends with LF. `AllocError` if memory runs out.
+pub fn explain(alloc: Global, line: &str) -> Result<Option<String>, AllocError>
+    ensures { IfOk result (λ text. option_map string_bytes text ≡ explanation_of line.now) }
+{
+    match text_of_fault(line) {
+        Some(text) => Ok(Some(explanation(alloc, text, line)?)),
+        None => Ok(None),
+    }
+}
+
+/// The text for the fault of a line, and what can be seen in the line.
+fn explanation(alloc: Global, fault: &str, line: &str) -> Result<String, AllocError>
+    ensures { IfOk result (λ text. string_bytes text ≡ explanation_with fault.now line.now) }
+{
+    let mut text = String::from_str(alloc, fault)?;
+    let dots = operand_of(line);
+    if code_of(line) == "B4" && !dots.is_empty() {
+        push_dots(alloc, &mut text, dots)?;
+    }
+    push_titled(
+        &mut text,
+        "Characters:",
+        unclear_characters(alloc, line)?.as_str(),
+    )?;
+    Ok(text)
+}
+
+/// The operand that a fault's line names: its third word.
+fn operand_of(line: &str) -> &str
+    ensures { result.now ≡ operand_of_line line.now }
+{
+    first_word(after_first_word(after_first_word(line)))
+}
+
+/// Appends a line with a title, unless there is nothing to follow it.
+fn push_titled(text: &mut String, title: &str, rest: &str) -> Result<(), AllocError>
+    ensures { OnOk result (string_bytes text.new ≡ string_bytes text.old ++ titled title.now rest.now) }
+{
+    if rest.is_empty() {
+        return Ok(());
+    }
+    text.push_str(title)?;
+    text.push_str(rest)?;
+    text.push('\n')
+}
+
+/// The unclear characters of a line, each by its number after a blank.
+fn unclear_characters(alloc: Global, line: &str) -> Result<String, AllocError>
+    ensures { IfOk result (λ text. string_bytes text ≡ flat_map unclear_spelling (chars line.now)) }
+{
+    let mut text = String::new(alloc);
+    for character in line.chars() {
+        push_unclear(&mut text, character)?;
+    }
+    Ok(text)
+}
+
+/// Appends an unclear character by its number, after a blank; nothing of another.
+fn push_unclear(text: &mut String, character: char) -> Result<(), AllocError>
+    ensures { OnOk result (string_bytes text.new ≡ string_bytes text.old ++ unclear_spelling character) }
+{
+    if !is_unclear(character) {
+        return Ok(());
+    }
+    text.push(' ')?;
+    push_by_number(text, character)
+}
+
+/// Whether a character is neither a blank nor a visible one of ASCII.
+fn is_unclear(character: char) -> bool
+    ensures { result ≡ is_unclear_mark character }
+{
+    let code = u32::from(character);
+    code < 32 || 127 <= code
+}
+
+/// Appends a character by its number, as an operand of a table may spell it.
+fn push_by_number(text: &mut String, character: char) -> Result<(), AllocError>
+    ensures { OnOk result (string_bytes text.new ≡ string_bytes text.old ++ by_number character) }
+{
+    let code = u32::from(character);
+    if code < 65536 {
+        text.push_str("\\x")?;
+        push_byte(text, code / 256)?;
+        return push_byte(text, code % 256);
+    }
+    text.push_str("\\z00")?;
+    push_byte(text, code / 65536)?;
+    push_byte(text, code / 256 % 256)?;
+    push_byte(text, code % 256)
+}
+
+/// Appends the two hexadecimal digits of a byte.
+fn push_byte(text: &mut String, byte: u32) -> Result<(), AllocError>
+    requires { byte < 256 }
+    ensures { OnOk result (string_bytes text.new ≡ string_bytes text.old ++ byte_digits byte) }
+{
+    write!(text, "{byte:02x}")?;
+    Ok(())
+}
+
+/// Appends what is wrong with dots, if anything is.
+fn push_dots(alloc: Global, text: &mut String, dots: &str) -> Result<(), AllocError>
+    ensures { OnOk result (string_bytes text.new ≡ string_bytes text.old ++ note_line dots.now) }
+{
+    push_titled(text, "Dots: ", dots_note(alloc, dots)?.as_str())
+}
+
+/// What is said of dots that spell no cells, or too many; nothing of others.
+fn dots_note(alloc: Global, dots: &str) -> Result<String, AllocError>
+    ensures { IfOk result (λ note. string_bytes note ≡ note_on_dots dots.now (reading 16 dots.now)) }
+{
+    match read_dots(alloc, dots, MOST_CELLS) {
+        Ok(_) => Ok(String::new(alloc)),
+        Err(Failure::Fault(DotsFault::EmptyCell)) => String::from_str(alloc, "a cell is empty"),
+        Err(Failure::Fault(DotsFault::BadDot)) => mark_note(alloc, odd_mark(dots)),
+        Err(Failure::Fault(DotsFault::RepeatedDot)) => {
+            String::from_str(alloc, "a dot is in a cell twice")
+        }
+        Err(Failure::Fault(DotsFault::TooManyCells)) => {
+            String::from_str(alloc, "there are more than 16 cells")
+        }
+        Err(Failure::Memory) => Err(AllocError),
+    }
+}
+
+/// The first character of dots that is neither a dot, nor the blank cell, nor joins cells.
+fn odd_mark(dots: &str) -> Option<char>
+    ensures { result ≡ odd_mark_of dots.now }
+{
+    dots.chars().find(|mark| !matches!(*mark, '0'..='8' | '-'))
+}
+
+/// What is said of the first odd character of dots.
+fn mark_note(alloc: Global, mark: Option<char>) -> Result<String, AllocError>
+    ensures { IfOk result (λ note. string_bytes note ≡ note_on_mark mark) }
+{
+    let Some(mark) = mark else {
+        return String::from_str(alloc, "0 is a cell by itself");
+    };
+    let mut note = String::new(alloc);
+    note.push(mark)?;
+    note.push_str(if is_virtual(mark) {
+        " is a virtual dot, which isn't read"
+    } else {
+        " is no dot"
+    })?;
+    Ok(note)
+}
+
+/// Whether a character is a virtual dot of liblouis.
+fn is_virtual(mark: char) -> bool
+    ensures { result ≡ is_virtual_dot mark }
+{
+    matches!(mark, '9' | 'a'..='f' | 'A'..='F')
+}

@@ -1,0 +1,14 @@
+//! What the lines of faults mean, and what to do about them.
+//!
+//! `FAULTS` has the texts, of which the guide's tables are made too. `explain` finds that of a line or of a
+//! code, and adds what can be seen in the line.
+//!
+//! Room 5, the program (docs/dev/ARCHITECTURE.md). The definitions begin in `specs/Explaining.antt`.
+#![tactic(auto)]
+
+mod details;
+mod explaining;
+mod faults;
+
+pub use details::explain;
+pub use faults::FAULTS;

@@ -1,0 +1,73 @@
+//! `brl rules`: the rules of a table by their numbers.
+ghost use Rattle.std.specs.Prelude.{◌≡◌, IfOk, map};
+ghost use Rattle.brl_lines.specs.Answer.{Unchanged};
+ghost use Rattle.brl_lines.specs.Outcome.{CountsFailure};
+ghost use Rattle.brl_lines.specs.Views.{line_view};
+ghost use Rattle.brl_answers.specs.Answers.{load_outcome};
+ghost use Rattle.brl_tool.specs.Listing.{Lists, ListsByFile, listed_numbers as numbers_listed};
+
+use brl_answers::{Answer, RunFault, Status};
+use brl_lines::{Line, Loaded, Source, load};
+use brl_report::{first_unknown, rule_numbers, rules_report};
+use brl_rules::Table;
+use brl_table::table_of_loaded;
+use std::alloc::{AllocError, Global};
+
+/// Lists the rules of the table whose file is at a path: those with these numbers, in their order, and
+/// where none are given all. `NoSuchRule` for the first number that no rule has.
+pub fn list_rules_by_file<S: Source>(
+    alloc: Global,
+    source: &mut S,
+    path: &str,
+    numbers: &[u32],
+) -> Result<Answer, RunFault>
+    ensures lists { ListsByFile (S.gives source.old) path.now numbers.now result }
+    ensures count { CountsFailure (S.faults source.old) (S.faults source.new) (load_outcome result) }
+    ensures same { Unchanged (S.gives source.old) (S.gives source.new) }
+{
+    let loaded = load(alloc, source, path)?;
+    let table = table_of_loaded(alloc, &loaded)?;
+    let answer = list_of_loaded(alloc, &table, &loaded, numbers);
+    drop(table);
+    answer
+}
+
+/// Lists rules of a table of loaded files.
+fn list_of_loaded(
+    alloc: Global,
+    table: &Table,
+    loaded: &Loaded,
+    numbers: &[u32],
+) -> Result<Answer, RunFault>
+    ensures { Lists table.now loaded.now.lines numbers.now result }
+{
+    let lines = loaded.lines(alloc)?;
+    list_rules(alloc, table, lines.as_slice(), numbers)
+}
+
+/// Lists rules of a table of these lines.
+fn list_rules(
+    alloc: Global,
+    table: &Table,
+    lines: &[Line<'_>],
+    numbers: &[u32],
+) -> Result<Answer, RunFault>
+    ensures { Lists table.now (map line_view lines.now) numbers.now result }
+{
+    if let Some(number) = first_unknown(table, numbers) {
+        return Err(RunFault::NoSuchRule(number));
+    }
+    let listed = listed_numbers(alloc, table, numbers)?;
+    let text = rules_report(alloc, table, lines, listed.as_slice())?;
+    Ok(Answer::new(Status::Done, text))
+}
+
+/// The numbers whose rules are listed: these, and where there are none all.
+fn listed_numbers(alloc: Global, table: &Table, numbers: &[u32]) -> Result<Vec<u32>, AllocError>
+    ensures { IfOk result (λ listed. listed.items ≡ numbers_listed table.now numbers.now) }
+{
+    if numbers.is_empty() {
+        return rule_numbers(alloc, table);
+    }
+    Vec::from_slice(alloc, numbers)
+}
