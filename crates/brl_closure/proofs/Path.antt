@@ -4,15 +4,15 @@ use Rattle.std.proofs.lemmas.List.{reverse-append, reverse-reverse, append_cance
 use Rattle.std.proofs.lemmas.Option.{slice_get_within, slice_get_read}
 use Rattle.brl_pairs.specs.declared.step.Step.{Step}
 use Rattle.brl_pairs.specs.Body.{NumberPair}
-use Rattle.brl_pairs.specs.Runs.{Behaviour, IsPath, KeepsLaws, cells_of, reads_of}
+use Rattle.brl_pairs.specs.Runs.{Behaviour, IsPath, KeepsLaws, Reaches, cells_of, reads_of}
 use Rattle.brl_closure.specs.declared.search.trail.StateOrigin.{StateOrigin}
 use Rattle.brl_closure.specs.declared.search.trail.PairOrigin.{PairOrigin}
 use Rattle.brl_closure.specs.declared.search.trail.Trail.{Trail}
 use Rattle.brl_closure.specs.Answers.{AreTwoPaths}
 use Rattle.brl_closure.specs.Trail.{TakesStep, IsStateOrigin, IsSplitOf, StaysBehindOf, GetsAheadOf, IsPairOrigin, IsEarlier, HasTwoEnds, IsTraced}
 use Rattle.brl_closure.specs.Path.{IsTextTo, Continues, SplitContinues}
-use Rattle.brl_closure.specs.Reached.{Reaches}
-use Rattle.brl_pairs.proofs.Lists.{inside, same_place, either_way}
+use Rattle.brl_pairs.proofs.Divergence.{places_differ}
+use Rattle.brl_pairs.proofs.Lists.{inside, same_place}
 
 -- the reads of a step before those that were appended, the last character first
 pub reads_back : (text more reads all : List ℕ) → more ≡ text ++ reverse reads → reverse text ≡ all → reverse more ≡ reads ++ all
@@ -132,13 +132,6 @@ module _ {S : Type 0} (m : Behaviour S) (t : Trail S) (traced : IsTraced m t) wh
   cells_join [] q = refl
   cells_join (x ∷ p) q = ap (λ (l : List ℕ). x.cells ++ l) (cells_join p q) ∙ sym (append_assoc x.cells (cells_of p) (cells_of q))
 
-  -- steps at different places differ
-  pub places_differ : KeepsLaws m → (s : S) (i j : ℕ) (x y : Step S) → i ≢ j → slice_get (m.steps s) i ≡ Some x → slice_get (m.steps s) j ≡ Some y → x ≢ y
-  places_differ laws s i j x y other x_at y_at = elim (either_way i j other) [
-    | inl less ↦ (laws.in_order s i j x y less x_at y_at).differ
-    | inr more ↦ λ same. (laws.in_order s j i y x more y_at x_at).differ (sym same)
-  ]
-
   -- a text from its end, with the text before it
   whole_text : (text before : List ℕ) (path steps : List (Step S)) → reverse text ≡ reads_of steps → reverse before ≡ reads_of path → reverse (text ++ before) ≡ reads_of (path ++ steps)
   whole_text text before path steps h w =
@@ -152,7 +145,7 @@ module _ {S : Type 0} (m : Behaviour S) (t : Trail S) (traced : IsTraced m t) wh
       let y = h.split.behind_step in
       let x_here = listed_at number longer x w.state h.split.ahead_taken w.at in
       let y_here = listed_at number shorter y w.state h.split.behind_taken w.at in
-      let heads : x ≢ y = places_differ laws w.state longer shorter x y h.split.differ x_here y_here in
+      let heads : x ≢ y = places_differ m laws w.state longer shorter x y h.split.differ x_here y_here in
       record {
         one = w.path ++ x ∷ h.one;
         two = w.path ++ y ∷ h.two;

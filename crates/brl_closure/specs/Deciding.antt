@@ -5,11 +5,11 @@ use Rattle.std.specs.List.{Contains, flat_map}
 use Rattle.brl_pairs.specs.Body.{BodyView}
 use Rattle.brl_pairs.specs.Sets.{sets_of}
 use Rattle.brl_pairs.specs.Pairs.{HasPair, Sets}
-use Rattle.brl_pairs.specs.Runs.{Behaviour, IsListed, cells_of}
+use Rattle.brl_pairs.specs.Runs.{Behaviour, IsListed, Reaches, cells_of}
 use Rattle.brl_pairs.specs.declared.step.Pair.{Pair}
 use Rattle.brl_pairs.specs.declared.step.Step.{Step}
 use Rattle.brl_closure.specs.Answers.{HasReachedPairs, HasReachedStates}
-use Rattle.brl_closure.specs.Reached.{Reached, ReachedPair, Reaches}
+use Rattle.brl_closure.specs.Reached.{Reached, ReachedPair}
 
 -- Two runs of a pair: steps lead from the start to its one state, and steps to its other. However
 -- the two continue, they differ. The first gives the cells of the second and then the lead.

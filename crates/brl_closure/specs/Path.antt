@@ -2,8 +2,7 @@
 use Rattle.std.specs.Prelude.{◌≡◌, ℕ, List, ◌++◌, Some, slice_get, reverse}
 use Rattle.brl_pairs.specs.Body.{NumberPair}
 use Rattle.brl_pairs.specs.declared.step.Step.{Step}
-use Rattle.brl_pairs.specs.Runs.{Behaviour, IsPath, cells_of, reads_of}
-use Rattle.brl_closure.specs.Reached.{Reaches}
+use Rattle.brl_pairs.specs.Runs.{Behaviour, IsPath, Reaches, cells_of, reads_of}
 use Rattle.brl_closure.specs.Trail.{IsSplitOf, TakesStep}
 
 -- the state with this number has a step at this place

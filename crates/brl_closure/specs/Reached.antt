@@ -1,7 +1,7 @@
 -- What a search may find of a machine: the states and pairs that are reached from its start. Pairs
 -- of runs are those of Sardinas and Patterson, where the lead is called the dangling suffix; that
 -- they are asked of a machine is this project's own choice.
-use Rattle.std.specs.Prelude.{◌≡◌, ℕ, ◌<◌, ◌≤◌, List, [], ◌∷◌, ◌⊎◌, length, Some, slice_get}
+use Rattle.std.specs.Prelude.{◌≡◌, ℕ, ◌<◌, ◌≤◌, List, [], ◌⊎◌, length, Some, slice_get}
 use Rattle.brl_pairs.specs.declared.step.Pair.{Pair}
 use Rattle.brl_pairs.specs.declared.step.Step.{Step}
 use Rattle.brl_pairs.specs.Runs.{Behaviour, IsListed}
@@ -11,11 +11,6 @@ use Rattle.brl_pairs.specs.Pairs.{Splits, Follows, swapped}
 pub data Reached {S : Type 0} (m : Behaviour S) : S → Type 0 where
   start : Reached m m.start
   step : {s : S} {x : Step S} → Reached m s → IsListed (m.steps s) x → Reached m x.next
-
--- these steps lead from one state to another
-abbrev pub Reaches : {S : Type 0} → Behaviour S → S → List (Step S) → S → Type 0
-Reaches m s [] r = s ≡ r
-Reaches m s (x ∷ path) r = IsListed (m.steps s) x × Reaches m x.next path r
 
 -- Splits of reached states are reached pairs, and so is what a step of the run behind makes of a
 -- reached pair. With a pair whose lead is empty its other order is reached.

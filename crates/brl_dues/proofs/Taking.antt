@@ -137,15 +137,15 @@ form-chosen t law before f (inr h) u a x n =
 
 -- ---- One form's cells
 
-take-front : (xs ys : List ℕ) → take (length xs) (xs ++ ys) ≡ xs
+pub take-front : (xs ys : List ℕ) → take (length xs) (xs ++ ys) ≡ xs
 take-front [] ys = refl
 take-front (x ∷ xs) ys = ap (λ l. x ∷ l) (take-front xs ys)
 
-drop-front : (xs ys : List ℕ) → drop (length xs) (xs ++ ys) ≡ ys
+pub drop-front : (xs ys : List ℕ) → drop (length xs) (xs ++ ys) ≡ ys
 drop-front [] ys = refl
 drop-front (x ∷ xs) ys = drop-front xs ys
 
-signs-front : (t : TableView) (here : Context) (f : CaseForm) (u : List ℕ) → ReadsSome t f → is_in_caps_run t here.classes (f.reads ++ u) ≡ f.run
+pub signs-front : (t : TableView) (here : Context) (f : CaseForm) (u : List ℕ) → ReadsSome t f → is_in_caps_run t here.classes (f.reads ++ u) ≡ f.run
     → indicators t here (f.reads ++ u) ≡ indicators_before t here f.run f.reads
 signs-front t here f u r e =
     ap (λ l. indicators t here (l ++ u)) r.reads

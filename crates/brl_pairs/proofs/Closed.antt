@@ -1,13 +1,16 @@
--- Closed sets of states and pairs: two paths to final states that give the same cells read the
--- same.
-use Rattle.std.proofs.Common.{◌≡◌, ◌≢◌, ℕ, ◌+◌, ◌≤◌, IsTrue, List, [], ◌∷◌, ◌++◌, ◌⊎◌, inl, inr, length, zero, suc, Some, refl, sym, ◌∙◌, ap, subst, arith}
+-- Closed sets of states and pairs: two paths to final states that give the same cells are one path,
+-- or diverge at one of the pairs of rules but for which the sets are closed.
+use Rattle.std.proofs.Common.{◌≡◌, ◌≢◌, ℕ, ◌+◌, ◌≤◌, Bool, true, false, ◌&&◌, ◌||◌, nat_eq, IsTrue, List, [], ◌∷◌, ◌++◌, ◌⊎◌, inl, inr, length, zero, suc, Some, refl, sym, ◌∙◌, ap, ap₂, subst, arith, eq-eqb}
 use Rattle.std.specs.Prelude.{slice_get}
+use Rattle.std.specs.Cmp.{first_so, second_so}
 use Rattle.std.proofs.lemmas.List.{append_cancel_left}
-use Rattle.std.proofs.lemmas.Bool.{cases_eq}
+use Rattle.std.proofs.lemmas.Bool.{cases_eq, eqb-true}
 use Rattle.brl_pairs.specs.declared.step.Pair.{Pair}
 use Rattle.brl_pairs.specs.declared.step.Step.{Step}
-use Rattle.brl_pairs.specs.Runs.{Behaviour, IsListed, IsPath, KeepsLaws, IsUnambiguous, reads_of, cells_of}
+use Rattle.brl_pairs.specs.Runs.{Accepts, Behaviour, IsExact, IsListed, IsPath, KeepsLaws, IsUnambiguous, reads_of, cells_of}
 use Rattle.brl_pairs.specs.Pairs.{Sets, HasPair, IsClosed, swapped}
+use Rattle.brl_pairs.specs.Divergence.{Divergence, DivergeAt, DivergeOnlyAt, HasEachClash, HasEachDivergence, HaveRules, IsClosedBut, IsCompleteList, IsUnambiguousBut, has_rules}
+use Rattle.brl_pairs.proofs.Divergence.{diverge_once, divergence_after, either_rules, no_divergence, one_step, places_differ}
 
 -- of two lists that begin a list, one begins the other
 pub split_appends : {A : Type 0} (a b c d : List A) → a ++ b ≡ c ++ d
@@ -27,11 +30,7 @@ both_empty : {A : Type 0} (xs ys : List A) → xs ++ ys ≡ [] → (xs ≡ []) �
 both_empty [] ys e = (refl, e)
 both_empty (x ∷ xs) ys e = cc
 
--- one place has one step
-one_step : {X : Type 0} (listed : List X) (i j : ℕ) (x y : X) → i ≡ j → slice_get listed i ≡ Some x → slice_get listed j ≡ Some y → x ≡ y
-one_step listed i j x y same at_i at_j = let at : slice_get listed i ≡ slice_get listed j = ap (slice_get listed) same in cc
-
-module _ {S : Type 0} (m : Behaviour S) (sets : Sets S) (laws : KeepsLaws m) (closed : IsClosed m sets) where
+module _ {S : Type 0} (m : Behaviour S) (sets : Sets S) (laws : KeepsLaws m) (rules : List (ℕ × ℕ)) (closed : IsClosedBut m rules sets) where
   -- the runs of such pairs, of at most n steps together, don't end with the same cells
   abbrev Apart : (Pair S → Type 0) → ℕ → Type 0
   Apart Has n = (p : Pair S) → Has p → (first second : List (Step S)) → IsPath m p.ahead first → IsPath m p.behind second
@@ -83,13 +82,13 @@ module _ {S : Type 0} (m : Behaviour S) (sets : Sets S) (laws : KeepsLaws m) (cl
   never zero = ended
   never (suc n) = moved n (never n)
 
-  -- runs that split don't end with the same cells
-  split_apart : (s : S) → sets.has_state s → (i j : ℕ) (x y : Step S) → i ≢ j → slice_get (m.steps s) i ≡ Some x → slice_get (m.steps s) j ≡ Some y → (rest : List ℕ) → x.cells ≡ y.cells ++ rest
-      → (first second : List (Step S)) → IsPath m x.next first → IsPath m y.next second → rest ++ cells_of first ≡ cells_of second → ⊥
-  split_apart s has i j x y differ x_at y_at rest longer first second a b same =
+  -- runs that split and end with the same cells do so at one of the pairs of rules
+  split_rules : (s : S) → sets.has_state s → (i j : ℕ) (x y : Step S) → i ≢ j → slice_get (m.steps s) i ≡ Some x → slice_get (m.steps s) j ≡ Some y → (rest : List ℕ) → x.cells ≡ y.cells ++ rest
+      → (first second : List (Step S)) → IsPath m x.next first → IsPath m y.next second → rest ++ cells_of first ≡ cells_of second → HaveRules rules x y
+  split_rules s has i j x y differ x_at y_at rest longer first second a b same =
       let p : Pair S = record { ahead = x.next; behind = y.next; lead = rest } in
       let n = length first + length second in
-      let there = closed.splits s p has (record {
+      elim (closed.splits s p has (record {
         i = i;
         j = j;
         longer = x;
@@ -100,35 +99,184 @@ module _ {S : Type 0} (m : Behaviour S) (sets : Sets S) (laws : KeepsLaws m) (cl
         ahead = refl;
         behind = refl;
         lead = longer;
-      }) in
-      either n (never n) p there first second a b (omega arith) same
+      })) [
+        | inl have ↦ have
+        | inr there ↦ absurd (either n (never n) p there first second a b (omega arith) same)
+      ]
 
-  -- two paths from a state of the set that give the same cells read the same
-  same_reads : (s : S) → sets.has_state s → (first second : List (Step S)) → IsPath m s first → IsPath m s second → cells_of first ≡ cells_of second
-      → reads_of first ≡ reads_of second
-  same_reads s has [] [] a b e = refl
-  same_reads s has [] (y ∷ second) a b e = absurd (gives_cells s y second b.0 (sym e))
-  same_reads s has (x ∷ first) [] a b e = absurd (gives_cells s x first a.0 e)
-  same_reads s has (x ∷ first) (y ∷ second) a b e =
+  -- two such steps, of which either has the longer cells
+  next_rules : (s : S) → sets.has_state s → (i j : ℕ) (x y : Step S) → i ≢ j → slice_get (m.steps s) i ≡ Some x → slice_get (m.steps s) j ≡ Some y
+      → (first second : List (Step S)) → IsPath m x.next first → IsPath m y.next second → x.cells ++ cells_of first ≡ y.cells ++ cells_of second → HaveRules rules x y
+  next_rules s has i j x y differ x_at y_at first second a b e =
+      elim (split_appends x.cells (cells_of first) y.cells (cells_of second) e) [
+        | inl t ↦ split_rules s has i j x y differ x_at y_at t.0 t.1 first second a b t.2
+        | inr t ↦ either_rules rules x.rule y.rule ∙ split_rules s has j i y x (λ h. differ (sym h)) y_at x_at t.0 t.2 second first b a (sym t.3)
+      ]
+
+  -- with the same step before each
+  after : (x y : Step S) (first second : List (Step S)) → x ≡ y → (first ≡ second) ⊎ DivergeAt rules first second → (x ∷ first ≡ y ∷ second) ⊎ DivergeAt rules (x ∷ first) (y ∷ second)
+  after x y first second same (inl one) = inl (ap (λ (z : Step S). z ∷ first) same ∙ ap (λ (l : List (Step S)). y ∷ l) one)
+  after x y first second same (inr at) = inr (divergence_after x y first second same at.0, at.1)
+
+  -- two paths from a state of the set that give the same cells are one, or diverge at such rules
+  diverge_from : (s : S) → sets.has_state s → (first second : List (Step S)) → IsPath m s first → IsPath m s second → cells_of first ≡ cells_of second
+      → (first ≡ second) ⊎ DivergeAt rules first second
+  diverge_from s has [] [] a b e = inl refl
+  diverge_from s has [] (y ∷ second) a b e = absurd (gives_cells s y second b.0 (sym e))
+  diverge_from s has (x ∷ first) [] a b e = absurd (gives_cells s x first a.0 e)
+  diverge_from s has (x ∷ first) (y ∷ second) a b e =
       elim (cases_eq a.0.0 b.0.0) [
         | inl same ↦ (
             let one : x ≡ y = one_step (m.steps s) a.0.0 b.0.0 x y same a.0.1 b.0.1 in
             let from_y : IsPath m y.next first = subst (λ (z : Step S). IsPath m z.next first) one a.1 in
             let left : cells_of first ≡ cells_of second =
             append_cancel_left y.cells (cells_of first) (cells_of second) (subst (λ (z : Step S). z.cells ++ cells_of first ≡ y.cells ++ cells_of second) one e) in
-            let rest : reads_of first ≡ reads_of second = same_reads y.next (closed.steps s y has b.0) first second from_y b.1 left in
-            cc)
-        | inr other ↦
-            elim (split_appends x.cells (cells_of first) y.cells (cells_of second) e) [
-              | inl t ↦ absurd (split_apart s has a.0.0 b.0.0 x y other a.0.1 b.0.1 t.0 t.1 first second a.1 b.1 t.2)
-              | inr t ↦ absurd (split_apart s has b.0.0 a.0.0 y x (λ h. other (sym h)) b.0.1 a.0.1 t.0 t.2 second first b.1 a.1 (sym t.3))
-            ]
+            after x y first second one (diverge_from y.next (closed.steps s y has b.0) first second from_y b.1 left))
+        | inr other ↦ inr (
+          record {
+            before = [];
+            one = x;
+            other = y;
+            first_rest = first;
+            second_rest = second;
+            differ = places_differ m laws s a.0.0 b.0.0 x y other a.0.1 b.0.1;
+            first_steps = refl;
+            second_steps = refl;
+          },
+          next_rules s has a.0.0 b.0.0 x y other a.0.1 b.0.1 first second a.1 b.1 e,
+        )
       ]
 
-  -- closed sets leave no two texts with the same translation
-  pub unambiguous_from_closed : IsUnambiguous m
-  unambiguous_from_closed left right is_left is_right same =
+  -- sets that are closed but for some pairs of rules leave paths with the same cells no other place
+  -- to diverge at
+  pub diverges_from_closed : DivergeOnlyAt rules m
+  diverges_from_closed first second a b e = diverge_from m.start closed.start first second a b e
+
+-- ---- Lists of pairs of rules
+
+module _ {S : Type 0} (m : Behaviour S) where
+  -- then each divergence of two such paths is at one of the pairs of rules
+  pub each_divergence : (rules : List (ℕ × ℕ)) → DivergeOnlyAt rules m → HasEachDivergence rules m
+  each_divergence rules only first second a b e at =
+      elim (only first second a b e) [
+        | inl same ↦ absurd (no_divergence first second same at)
+        | inr found ↦ (
+            let once = diverge_once first second found.0 at in
+            subst (λ (x : Step S). HaveRules rules x at.other) once.1 (subst (λ (y : Step S). HaveRules rules found.0.one y) once.2 found.1))
+      ]
+
+  -- and so are those of the paths that accept two texts
+  pub texts_from_paths : KeepsLaws m → (rules : List (ℕ × ℕ)) → DivergeOnlyAt rules m → IsUnambiguousBut rules m
+  texts_from_paths laws rules only left right is_left is_right same =
       let p = laws.accepts left is_left in
       let q = laws.accepts right is_right in
-      let alike : cells_of p.path ≡ cells_of q.path = p.cells ∙ same ∙ sym q.cells in
-      sym p.reads ∙ same_reads m.start closed.start p.path q.path p.is_path q.is_path alike ∙ q.reads
+      elim (only p.path q.path p.is_path q.is_path (p.cells ∙ same ∙ sym q.cells)) [
+        | inl one ↦ inl (sym p.reads ∙ ap reads_of one ∙ q.reads)
+        | inr diverge ↦ inr (p, q, diverge)
+      ]
+
+  -- no pair of rules is one of none
+  none_have : (r s : ℕ) → IsTrue (has_rules [] r s) → ⊥
+  none_have r s h = cc
+
+  -- closed sets are closed but for no pairs of rules
+  closed_but_none : (sets : Sets S) → IsClosed m sets → IsClosedBut m [] sets
+  closed_but_none sets closed = record {
+    start = closed.start;
+    steps = closed.steps;
+    splits = λ s p has h. inr (closed.splits s p has h);
+    moves = closed.moves;
+    ends = closed.ends;
+  }
+
+  -- closed sets leave no two texts with the same translation
+  pub unambiguous_from_closed : (sets : Sets S) → KeepsLaws m → IsClosed m sets → IsUnambiguous m
+  unambiguous_from_closed sets laws closed left right is_left is_right same =
+      elim (texts_from_paths laws [] (diverges_from_closed m sets laws [] (closed_but_none sets closed)) left right is_left is_right same) [
+        | inl one ↦ one
+        | inr found ↦ absurd (none_have found.2.0.one.rule found.2.0.other.rule found.2.1)
+      ]
+
+-- ---- Clashes
+
+-- the rules of a pair are the two that it has, in either order
+rules_of_one : (r s a b : ℕ) → has_rules ((r, s) ∷ []) a b ≡ true → ((r ≡ a) × (s ≡ b)) ⊎ ((r ≡ b) × (s ≡ a))
+rules_of_one r s a b h = by_order (nat_eq r a && nat_eq s b) (nat_eq r b && nat_eq s a) refl refl h
+  where
+    by_order : (c d : Bool) → (nat_eq r a && nat_eq s b) ≡ c → (nat_eq r b && nat_eq s a) ≡ d → ((c || d) || false) ≡ true → ((r ≡ a) × (s ≡ b)) ⊎ ((r ≡ b) × (s ≡ a))
+    by_order true d first second is = inl (eqb-true r a (first_so _ _ first), eqb-true s b (second_so (nat_eq r a) _ first))
+    by_order false true first second is = inr (eqb-true r b (first_so _ _ second), eqb-true s a (second_so (nat_eq r b) _ second))
+    by_order false false first second is = cc
+
+-- what has the rules of two steps of a pair has the pair
+pair_there : (rules : List (ℕ × ℕ)) (r s a b : ℕ) → has_rules ((r, s) ∷ []) a b ≡ true → has_rules rules a b ≡ true → has_rules rules r s ≡ true
+pair_there rules r s a b of_pair have =
+    elim (rules_of_one r s a b of_pair) [
+      | inl same ↦ ap₂ (has_rules rules) same.0 same.1 ∙ have
+      | inr same ↦ ap₂ (has_rules rules) same.0 same.1 ∙ either_rules rules b a ∙ have
+    ]
+
+own_rules : (r s : ℕ) → has_rules ((r, s) ∷ []) r s ≡ true
+own_rules r s =
+    ap (λ b. ((b && nat_eq s s) || (nat_eq r s && nat_eq s r)) || false) (eq-eqb r r refl)
+    ∙ ap (λ b. ((true && b) || (nat_eq r s && nat_eq s r)) || false) (eq-eqb s s refl)
+
+module _ {S : Type 0} (m : Behaviour S) (exact : IsExact m) where
+  -- ---- Divergences of paths, and clashes
+
+  pub clashes_from_divergences : (rules : List (ℕ × ℕ)) → HasEachDivergence rules m → HasEachClash rules m
+  clashes_from_divergences rules each r s left right at =
+      let p = at.diverge.0 in
+      let q = at.diverge.1 in
+      let found = at.diverge.2.0 in
+      pair_there rules r s found.one.rule found.other.rule at.diverge.2.1 (each p.path q.path p.is_path q.is_path (p.cells ∙ at.same_cells ∙ sym q.cells) found)
+
+  abbrev accepts_own : (path : List (Step S)) → IsPath m m.start path → Accepts m (reads_of path)
+  accepts_own path is = record { path = path; is_path = is; reads = refl; cells = exact.translates path is }
+
+  pub divergences_from_clashes : (rules : List (ℕ × ℕ)) → HasEachClash rules m → HasEachDivergence rules m
+  divergences_from_clashes rules each first second a b e at =
+      each at.one.rule at.other.rule (reads_of first) (reads_of second) (record {
+        left_text = exact.text first a;
+        right_text = exact.text second b;
+        differ = λ same. no_divergence first second (exact.one_path first second a b same) at;
+        same_cells = sym (exact.translates first a) ∙ e ∙ exact.translates second b;
+        diverge = (accepts_own first a, accepts_own second b, (at, own_rules at.one.rule at.other.rule));
+      })
+
+  -- ---- One complete list
+
+  -- the pairs of one complete list are those of the other
+  within : (rules others : List (ℕ × ℕ)) → IsCompleteList m rules → IsCompleteList m others → (r s : ℕ) → has_rules rules r s ≡ true → has_rules others r s ≡ true
+  within rules others is also r s have =
+      let clash = is.each r s have in
+      let left = clash.0 in
+      let right = clash.1 in
+      let at = clash.2 in
+      let p = at.diverge.0 in
+      let q = at.diverge.1 in
+      let found = at.diverge.2.0 in
+      let of_pair : has_rules ((r, s) ∷ []) found.one.rule found.other.rule ≡ true = at.diverge.2.1 in
+      elim (also.no_other left right at.left_text at.right_text at.same_cells) [
+        | inl same ↦ absurd (at.differ same)
+        | inr other ↦ (
+            let v = other.0 in
+            let w = other.1 in
+            let one_left : v.path ≡ p.path = exact.one_path v.path p.path v.is_path p.is_path (v.reads ∙ sym p.reads) in
+            let one_right : w.path ≡ q.path = exact.one_path w.path q.path w.is_path q.is_path (w.reads ∙ sym q.reads) in
+            let moved : DivergeAt others p.path q.path =
+            subst (λ (l : List (Step S)). DivergeAt others p.path l) one_right (subst (λ (l : List (Step S)). DivergeAt others l w.path) one_left other.2) in
+            let once = diverge_once p.path q.path moved.0 found in
+            let there : HaveRules others found.one found.other =
+            subst (λ (x : Step S). HaveRules others x found.other) once.1 (subst (λ (y : Step S). HaveRules others moved.0.one y) once.2 moved.1) in
+            pair_there others r s found.one.rule found.other.rule of_pair there)
+      ]
+
+  -- two complete lists of an exact machine have the same pairs of rules
+  pub one_list : (rules others : List (ℕ × ℕ)) → IsCompleteList m rules → IsCompleteList m others → (r s : ℕ) → has_rules rules r s ≡ has_rules others r s
+  one_list rules others is also r s = both (has_rules rules r s) (has_rules others r s) refl refl
+    where
+      both : (a b : Bool) → has_rules rules r s ≡ a → has_rules others r s ≡ b → a ≡ b
+      both true b e f = sym (within rules others is also r s e) ∙ f
+      both false true e f = sym e ∙ within others rules also is r s f
+      both false false e f = refl

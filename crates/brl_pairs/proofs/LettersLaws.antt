@@ -7,7 +7,8 @@ use Rattle.brl_pairs.specs.declared.step.Pair.{Pair}
 use Rattle.brl_pairs.specs.declared.step.Step.{Step}
 use Rattle.brl_pairs.specs.Runs.{IsListed, IsListedAt, IsPath, IsGoodStep, IsInOrder, KeepsLaws, reads_of, cells_of}
 use Rattle.brl_pairs.specs.Pairs.{Splits, Follows, HasPair, IsClosed, numbered}
-use Rattle.brl_pairs.specs.Examples.{is_letter, cells_of_letter, letter_step, letter_steps, letters, letter_states, letter_pairs, b_before_a}
+use Rattle.brl_pairs.specs.Divergence.{HaveRules, IsClosedBut}
+use Rattle.brl_pairs.specs.Examples.{is_letter, cells_of_letter, letter_step, letter_steps, letters, letter_states, letter_pairs, b_before_a, a_or_b, no_pairs}
 
 abbrev a_step : Step Bool
 a_step = letter_step 0 97 (1 ∷ [])
@@ -143,4 +144,32 @@ letters_IsClosed = record {
   moves = λ p q has move. absurd (letters_move p q (only_stored has.0 p has.1) move);
   ends = λ p has empty ahead behind.
       (let e : 3 ∷ [] ≡ [] = ap (λ (z : Pair Bool). z.lead) (only_stored has.0 p has.1) ∙ empty in cc);
+}
+
+-- ---- Closed sets but for the pair of rules
+
+-- any two steps at different places have the two rules
+letters_HaveRules : (i j : ℕ) (x y : Step Bool) → IsListedAt letter_steps i x → IsListedAt letter_steps j y → (i ≡ j → ⊥) → HaveRules a_or_b x y
+letters_HaveRules i j x y x_at y_at differ =
+    elim (one_of_two i x x_at) [
+      | inl p ↦ elim (one_of_two j y y_at) [
+        | inl q ↦ absurd (differ (p.0 ∙ sym q.0))
+        | inr q ↦ subst (λ (z : Step Bool). HaveRules a_or_b z y) p.1 (subst (λ (z : Step Bool). HaveRules a_or_b a_step z) q.1 refl)
+      ]
+      | inr p ↦ elim (one_of_two j y y_at) [
+        | inl q ↦ subst (λ (z : Step Bool). HaveRules a_or_b z y) p.1 (subst (λ (z : Step Bool). HaveRules a_or_b b_step z) q.1 refl)
+        | inr q ↦ absurd (differ (p.0 ∙ sym q.0))
+      ]
+    ]
+
+no_pair : (number : ℕ) (p : Pair Bool) → no_pairs number ≡ Some p → ⊥
+no_pair number p e = cc
+
+pub letters_IsClosedBut : IsClosedBut letters a_or_b (numbered letter_states no_pairs)
+letters_IsClosedBut = record {
+  start = letters_IsClosed.start;
+  steps = letters_IsClosed.steps;
+  splits = λ s p has split. inl (letters_HaveRules split.i split.j split.longer split.shorter split.longer_listed split.shorter_listed split.differ);
+  moves = λ p q has move. absurd (no_pair has.0 p has.1);
+  ends = λ p has empty ahead behind. no_pair has.0 p has.1;
 }

@@ -1,5 +1,6 @@
 pub mod Lists
 pub mod Listing
+pub mod Divergence
 pub mod Closed
 pub mod LettersLaws
 pub mod Advancing

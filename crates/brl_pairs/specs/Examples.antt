@@ -43,3 +43,11 @@ b_before_a = record { ahead = true; behind = true; lead = 3 ∷ [] }
 -- its closed set of pairs: that one alone
 abbrev pub letter_pairs : ℕ → Option (Pair Bool)
 letter_pairs = slice_get (b_before_a ∷ [])
+
+-- the pair of rules of the two steps
+abbrev pub a_or_b : List (ℕ × ℕ)
+a_or_b = (0, 1) ∷ []
+
+-- no pair of runs, which is a closed set but for this pair of rules
+abbrev pub no_pairs : ℕ → Option (Pair Bool)
+no_pairs = slice_get []

@@ -1,5 +1,6 @@
 pub mod Runs
 pub mod Pairs
+pub mod Divergence
 pub mod Examples
 pub mod Same
 pub mod Members

@@ -37,6 +37,11 @@ module _ {S : Type 0} where
   IsPath m s [] = IsTrue (m.ends s)
   IsPath m s (x ∷ path) = IsListed (m.steps s) x × IsPath m x.next path
 
+  -- these steps lead from one state to another
+  abbrev pub Reaches : Behaviour S → S → List (Step S) → S → Type 0
+  Reaches m s [] r = s ≡ r
+  Reaches m s (x ∷ path) r = IsListed (m.steps s) x × Reaches m x.next path r
+
 -- ---- Laws
 
 -- a step gives 1 to 1,024 cells and reads at least one character

@@ -1,9 +1,10 @@
 //! Laws for the crates above: what `advance` decides, and the theorem on closed sets. Each is the
 //! contract of a function that does nothing.
-ghost use Rattle.std.specs.Prelude.{ℕ, Option};
+ghost use Rattle.std.specs.Prelude.{◌≡◌, ◌↔◌, ℕ, List, Option};
 ghost use Rattle.brl_pairs.specs.declared.step.Pair.{Pair as PairValue};
+ghost use Rattle.brl_pairs.specs.Divergence.{DivergeOnce, DivergeOnlyAt, DivergeWhereListed, HasEachClash, HasEachDivergence, IsClosedBut, IsCompleteList, IsUnambiguousBut, has_rules, sets_apart};
 ghost use Rattle.brl_pairs.specs.Pairs.{AdvanceDecides, IsClosed, Sets as SetsValue, numbered};
-ghost use Rattle.brl_pairs.specs.Runs.{IsUnambiguous};
+ghost use Rattle.brl_pairs.specs.Runs.{IsExact, IsUnambiguous};
 
 use crate::Machine;
 
@@ -35,3 +36,57 @@ pub fn numbered_sets_law<M: Machine>(machine: &M)
 {
     let _ = machine.start();
 }
+
+/// The theorem for sets that are closed but for some pairs of rules: any two paths to final states
+/// that give the same cells are one path, or they begin with the same steps and go on with two
+/// different ones, whose rules are one of these pairs. So any two texts with the same translation
+/// are equal, or have paths that do so; and wherever two such paths diverge, it is at one of these
+/// pairs.
+pub fn divergence_law<M: Machine, C: Sets<M::State>>(machine: &M)
+    ensures paths { (rules : List (ℕ × ℕ)) → IsClosedBut (M.behaviour machine.now) rules C.sets → DivergeOnlyAt rules (M.behaviour machine.now) }
+    ensures texts { (rules : List (ℕ × ℕ)) → IsClosedBut (M.behaviour machine.now) rules C.sets → IsUnambiguousBut rules (M.behaviour machine.now) }
+    ensures each { (rules : List (ℕ × ℕ)) → IsClosedBut (M.behaviour machine.now) rules C.sets → HasEachDivergence rules (M.behaviour machine.now) }
+{
+    let _ = machine.start();
+}
+
+/// The same for sets that are given by numbers.
+pub fn numbered_divergence_law<M: Machine>(machine: &M)
+    ensures paths { (rules : List (ℕ × ℕ)) (states : ℕ → Option M.State) (pairs : ℕ → Option (PairValue M.State)) →
+        IsClosedBut (M.behaviour machine.now) rules (numbered states pairs) → DivergeOnlyAt rules (M.behaviour machine.now) }
+    ensures texts { (rules : List (ℕ × ℕ)) (states : ℕ → Option M.State) (pairs : ℕ → Option (PairValue M.State)) →
+        IsClosedBut (M.behaviour machine.now) rules (numbered states pairs) → IsUnambiguousBut rules (M.behaviour machine.now) }
+    ensures each { (rules : List (ℕ × ℕ)) (states : ℕ → Option M.State) (pairs : ℕ → Option (PairValue M.State)) →
+        IsClosedBut (M.behaviour machine.now) rules (numbered states pairs) → HasEachDivergence rules (M.behaviour machine.now) }
+{
+    let _ = machine.start();
+}
+
+/// There are such sets wherever two paths to final states that give the same cells diverge at these
+/// pairs of rules alone: the states that steps lead to from the start, and the pairs with two runs
+/// that diverge at none of them.
+pub fn divergence_sets_law<M: Machine>(machine: &M)
+    ensures { (rules : List (ℕ × ℕ)) → HasEachDivergence rules (M.behaviour machine.now) →
+        IsClosedBut (M.behaviour machine.now) rules (sets_apart (M.behaviour machine.now) rules) }
+{
+    let _ = machine.start();
+}
+
+/// Two paths diverge at one place: the steps before it are determined, and so are the two different
+/// ones with which they go on. A state lists both of these, at different places.
+pub fn one_divergence_law<M: Machine>(machine: &M)
+    ensures once { DivergeOnce M.State }
+    ensures listed { DivergeWhereListed (M.behaviour machine.now) }
+{}
+
+/// In an exact machine paths with the same cells diverge just at the pairs of rules at which two
+/// different texts with the same translation diverge. So there are sets that are closed but for
+/// some pairs of rules exactly where these have each such pair. And there is one complete list of
+/// them: two such lists have the same pairs.
+pub fn one_list_law<M: Machine>(machine: &M)
+    ensures clashes { IsExact (M.behaviour machine.now) → (rules : List (ℕ × ℕ)) →
+        HasEachDivergence rules (M.behaviour machine.now) ↔ HasEachClash rules (M.behaviour machine.now) }
+    ensures same { IsExact (M.behaviour machine.now) → (rules others : List (ℕ × ℕ)) →
+        IsCompleteList (M.behaviour machine.now) rules → IsCompleteList (M.behaviour machine.now) others →
+        (r s : ℕ) → has_rules rules r s ≡ has_rules others r s }
+{}

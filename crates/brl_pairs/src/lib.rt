@@ -1,6 +1,7 @@
 //! The theory of unambiguous machines: machines that translate by steps, pairs of their runs, and
 //! what closed sets of states and pairs imply: no two different texts of the machine have the same
-//! translation.
+//! translation. Sets that are closed but for some pairs of rules imply that texts with the same
+//! translation are equal or diverge at one of these.
 //!
 //! - `Machine` is a machine, with `Step` and `Pair`; `advance` is what becomes of a lead. The laws
 //!   state what closed sets imply.
@@ -34,7 +35,10 @@ pub use body::Body;
 pub use edge::Edge;
 pub use edge_laws::{edges_law, unmatched_law};
 pub use key::Key;
-pub use laws::{Sets, advance_law, closed_sets_law, numbered_sets_law};
+pub use laws::{
+    Sets, advance_law, closed_sets_law, divergence_law, divergence_sets_law,
+    numbered_divergence_law, numbered_sets_law, one_divergence_law, one_list_law,
+};
 pub use lead::{Advanced, advance};
 pub use machine::Machine;
 pub use members::Members;

@@ -1,2 +1,3 @@
 pub mod OfDues
 pub mod TableSearch
+pub mod Traces

@@ -25,6 +25,8 @@ mod dues_laws;
 mod seed;
 mod table_search;
 
-pub use dues_laws::{dues_certificate_law, dues_closed_law, dues_reached_law};
+pub use dues_laws::{
+    dues_certificate_law, dues_closed_law, dues_divergence_law, dues_reached_law, dues_trace_law,
+};
 pub use seed::seed_of;
 pub use table_search::{Found, SearchFault, found_without, search, search_with};
