@@ -1,10 +1,14 @@
 //! A machine of two letters, through the laws of unambiguous machines.
 ghost use Rattle.std.specs.Prelude.{◌≡◌, [], ◌∷◌, IfOk};
-ghost use Rattle.brl_pairs.specs.Examples.{letter_step, letters};
+ghost use Rattle.brl_pairs.specs.Divergence.{DivergeOnlyAt, DivergeWhereListed, IsClosedBut, IsUnambiguousBut, sets_apart};
+ghost use Rattle.brl_pairs.specs.Examples.{a_or_b, letter_step, letters};
 ghost use Rattle.brl_pairs.specs.Runs.{IsUnambiguous};
 
 use brl_cells::{Cell, Cells, Chars};
-use brl_pairs::{Machine, Sets, Step, closed_sets_law, numbered_sets_law};
+use brl_pairs::{
+    Machine, Sets, Step, closed_sets_law, divergence_law, divergence_sets_law,
+    numbered_divergence_law, numbered_sets_law, one_divergence_law,
+};
 use std::alloc::{AllocError, Global};
 
 /// The machine of `letter a 1; letter b 1-12`. A state tells whether a letter stands before.
@@ -74,4 +78,44 @@ pub fn numbered_letters_are_unambiguous()
     ensures { IsUnambiguous letters }
 {
     numbered_sets_law(&Letters);
+}
+
+/// The states of the letters, and no pairs: sets that are closed but for the pair of their rules.
+struct NoPairs;
+
+impl Sets<bool> for NoPairs {
+    ghost use Rattle.brl_pairs.specs.Examples.{letter_states, no_pairs};
+    ghost use Rattle.brl_pairs.specs.Pairs.{numbered};
+
+    ghost sets = { numbered letter_states no_pairs };
+}
+
+/// Texts of the letters that are translated to the same cells are equal, or diverge at the two
+/// rules.
+pub fn letters_diverge_at_their_rules()
+    ensures { IsUnambiguousBut a_or_b letters }
+{
+    divergence_law::<Letters, NoPairs>(&Letters);
+}
+
+/// The same of paths, by the numbers of states and pairs.
+pub fn numbered_letters_diverge_at_their_rules()
+    ensures { DivergeOnlyAt a_or_b letters }
+{
+    numbered_divergence_law(&Letters);
+}
+
+/// The runs of the letters make such sets too.
+pub fn runs_of_letters_are_closed()
+    ensures { IsClosedBut letters a_or_b (sets_apart letters a_or_b) }
+{
+    numbered_divergence_law(&Letters);
+    divergence_sets_law(&Letters);
+}
+
+/// Paths of the letters diverge where two steps are listed.
+pub fn letters_diverge_where_listed()
+    ensures { DivergeWhereListed letters }
+{
+    one_divergence_law(&Letters);
 }

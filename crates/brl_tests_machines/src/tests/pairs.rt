@@ -1,6 +1,10 @@
 //! Leads, and a machine of two letters through every generic function.
 use brl_cells::{Cell, Cells, read_dots, write_dots};
-use brl_examples::{Letters, letters_are_unambiguous, numbered_letters_are_unambiguous};
+use brl_examples::{
+    Letters, letters_are_unambiguous, letters_diverge_at_their_rules, letters_diverge_where_listed,
+    numbered_letters_are_unambiguous, numbered_letters_diverge_at_their_rules,
+    runs_of_letters_are_closed,
+};
 use brl_pairs::{Advanced, Machine, Pair, Step, advance, advance_law};
 use brl_testing::for_rows_of_3;
 use std::alloc::{AllocError, Global};
@@ -59,6 +63,10 @@ fn pairs_of_letters(rt: HostRuntime) {
     assert!(rt; both && pair.lead.is_empty() && !pair.ahead && !pair.behind);
     letters_are_unambiguous();
     numbered_letters_are_unambiguous();
+    letters_diverge_at_their_rules();
+    numbered_letters_diverge_at_their_rules();
+    runs_of_letters_are_closed();
+    letters_diverge_where_listed();
     advance_law(&Letters);
 }
 
