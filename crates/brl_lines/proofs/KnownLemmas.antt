@@ -8,7 +8,7 @@ use Rattle.std.specs.Str.{is_utf8}
 use Rattle.indexmap.specs.IndexMap.{insert_entry}
 use Rattle.brl_failure.specs.declared.failure.Failure.{Failure}
 use Rattle.brl_failure.specs.declared.failure.Failure.TheVariants as failures
-use Rattle.brl_lines.specs.Answer.{FileAnswer, FileAnswers, Holds, Large, Missing, Unreadable, most_file_bytes}
+use Rattle.brl_lines.specs.Answer.{FileAnswer, FileAnswers, Holds, Large, Missing, Unchanged, Unreadable, most_file_bytes}
 use Rattle.brl_lines.specs.GatherFaults.{IsFaultAs}
 use Rattle.brl_lines.specs.Gathering.{StopView}
 use Rattle.brl_lines.specs.Gathered.{FindsOut, IsMissingOr, IsUnread, KnownPaths, answer_of_known, known_answers}
@@ -24,6 +24,7 @@ use Rattle.brl_lines.specs.declared.gathering.GatherFault.TheVariants.{LeadsOut,
 use Rattle.brl_lines.specs.declared.known.Known.{Known}
 use Rattle.brl_lines.specs.declared.way.StopKind.{StopKind}
 use Rattle.brl_lines.specs.declared.way.StopKind.TheVariants as stops
+use Rattle.brl_lines.proofs.FileLemmas.{given-stays}
 
 -- ---- files that aren't there
 
@@ -83,3 +84,24 @@ fault-stays g h stays answers stops.TooDeep stop fault x = x
 fault-stays g h stays answers stops.Unknown stop fault (inl x) = inl x
 fault-stays g h stays answers stops.Unknown stop (Load fault) (inr x) = inr (x.0, stays _ _ x.1, x.2, λ k. stays _ _ (x.3 k))
 fault-stays g h stays answers stops.Unknown stop (LeadsOut out) (inr x) = absurd x
+
+-- ---- what a source gave while paths were asked for
+
+-- what was learnt is given now, and the source gives what it gave at the start
+pub record HasLearnt (start now : FileAnswers) (answers : Answers) : Type 0 where
+  pub given : AreGiven now answers
+  pub same : Unchanged start now
+
+pub learnt-nothing : (start : FileAnswers) (answers : Answers) → AreGiven start answers → HasLearnt start start answers
+learnt-nothing start answers given = record { given = given; same = λ p a. (λ x. x, λ x. x) }
+
+-- more was learnt, of what the source gave before
+pub learnt-more : (start now next : FileAnswers) (old new : Answers) → HasLearnt start now old → Unchanged now next → AreGiven now new → HasLearnt start next new
+learnt-more start now next old new before same given = record {
+  given = given-stays now next (λ p a. (same p a).1) new given;
+  same = λ p a. (λ x. (before.same p a).0 ((same p a).0 x), λ x. (same p a).1 ((before.same p a).1 x));
+}
+
+-- it was given at the start
+pub learnt-given : (start now : FileAnswers) (answers : Answers) → HasLearnt start now answers → AreGiven start answers
+learnt-given start now answers learnt = given-stays now start (λ p a. (learnt.same p a).0) answers learnt.given

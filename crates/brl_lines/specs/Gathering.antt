@@ -94,7 +94,7 @@ with_left way file include reason = record way {
 abbrev pub Visit : Type 0
 Visit = Option LocationView → List ℕ → WayView → Result WayView StopView
 
--- the bytes of a file of which it is known that it is there
+-- the bytes of a file that is known to be there
 abbrev pub held : Option FileAnswer → Option (List ℕ)
 held (Some (Holds bytes)) = Some bytes
 held answer = None

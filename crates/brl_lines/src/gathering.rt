@@ -9,6 +9,7 @@ ghost use Rattle.brl_lines.specs.Outcome.{AreGiven};
 ghost use Rattle.brl_lines.specs.Views.{location_view};
 ghost use Rattle.brl_lines.specs.declared.way.StopKind.TheVariants.{LeadsOut as TheLeadsOut};
 
+use crate::ahead::{MOST_PATHS, read_ahead};
 use crate::fault::{LoadFault, LoadFaultKind, Location, owned_place, refusal};
 use crate::known::{Known, file_at_path, learn};
 use crate::source::Source;
@@ -20,9 +21,6 @@ use thiserror::Error;
 
 /// How many files may lead down from the root, itself counted.
 const MOST_DEPTH: u32 = 16;
-
-/// The most paths that are asked for, the root counted.
-const MOST_PATHS: usize = 1025;
 
 /// A file of a table: its path, and its bytes.
 #[derive(Debug, Drop)]
@@ -80,7 +78,7 @@ pub fn gather<S: Source>(
     for _ in 0..u64::MAX {
         match walk(alloc, &known, root) {
             Ok(way) => return Ok(files_on(alloc, &known, way)?),
-            Err(Failure::Fault(stop)) => go_on(alloc, source, &mut known, &stop)?,
+            Err(Failure::Fault(stop)) => go_on(alloc, source, &mut known, root, &stop)?,
             Err(Failure::Memory) => return Err(Failure::Memory),
         }
     }
@@ -118,11 +116,12 @@ fn files_on(
     Ok(Gathered { files, left_out })
 }
 
-/// Finds out what a way that ended early asks for, or says why it can't go on.
+/// Finds out what a way that ended early asks for, and what is ahead of it; or says why it can't go on.
 fn go_on<S: Source>(
     alloc: Global,
     source: &mut S,
     known: &mut IndexMap<String, Known>,
+    root: &str,
     stop: &Stop,
 ) -> Result<(), Failure<GatherFault>>
     requires { AreGiven (S.gives source.old) (known_answers known.old.entries) }
@@ -139,7 +138,8 @@ fn go_on<S: Source>(
         StopKind::Unknown => {
             let path = stop.subject.as_str();
             let place = stop.place_ref();
-            learn(alloc, source, known, path, place).map_err(of_load)
+            learn(alloc, source, known, path, place).map_err(of_load)?;
+            Ok(read_ahead(alloc, source, known, root)?)
         }
     }
 }

@@ -1,5 +1,5 @@
 //! What is known of paths: the file there, or that there is none.
-ghost use Rattle.std.specs.Prelude.{◌≡◌, IfErr, OnOk, option_map, string_bytes};
+ghost use Rattle.std.specs.Prelude.{◌≡◌, IfErr, option_map, string_bytes};
 ghost use Rattle.brl_lines.specs.Answer.{Unchanged};
 ghost use Rattle.brl_lines.specs.Gathered.{FindsOut, IsMissingOr, IsUnread, known_answer, known_answers};
 ghost use Rattle.brl_lines.specs.Gathering.{held, is_missing as is_missing_by};
@@ -86,7 +86,7 @@ pub(crate) fn learn<S: Source>(
     place: Option<LocationRef<'_>>,
 ) -> Result<(), Failure<LoadFault>>
     requires { AreGiven (S.gives source.old) (known_answers known.old.entries) }
-    ensures given { OnOk result (AreGiven (S.gives source.old) (known_answers known.new.entries)) }
+    ensures given { AreGiven (S.gives source.old) (known_answers known.new.entries) }
     ensures refused { IfErr result (IsUnread (S.gives source.old) path.now (option_map location_ref_view place.entry)) }
     ensures count { CountsFailure (S.faults source.old) (S.faults source.new) result }
     ensures same { Unchanged (S.gives source.old) (S.gives source.new) }

@@ -9,6 +9,7 @@
 //! `specs/Lines.antt`.
 #![tactic(auto)]
 
+mod ahead;
 mod checked_file;
 mod cut;
 mod expand;

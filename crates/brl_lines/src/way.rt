@@ -153,7 +153,7 @@ fn new_stop(
 }
 
 /// Whether a name is that of a hyphenation dictionary.
-fn is_dictionary(name: &str) -> bool
+pub(crate) fn is_dictionary(name: &str) -> bool
     ensures { result ≡ is_dictionary_name name.now }
 {
     name.ends_with(".dic")
@@ -167,7 +167,7 @@ fn is_plain_part(part: &str) -> bool
 }
 
 /// Whether a name is one of a file below a folder.
-fn is_plain(name: &str) -> bool
+pub(crate) fn is_plain(name: &str) -> bool
     ensures { result ≡ is_plain_name name.now }
 {
     name.split('/').all(|part| is_plain_part(part))
