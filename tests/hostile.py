@@ -82,17 +82,16 @@ WHOLE = {
     "v.cti": "letter b 12\nalways abc 3\ninclude none\n",
 }
 CUT = {
-    "t.ctb": "include p/u.cti\n# B1 OutsideProfile base: base uppercase A a\n# B1 OutsideProfile pass2: pass2 x\ninclude v.cti\n# repeated v.cti: include v.cti\n",
+    "t.ctb": "include p/u.cti\nuplow Aa 1 # base uppercase A a\n# B1 OutsideProfile pass2: pass2 x\ninclude v.cti\n# repeated v.cti: include v.cti\n",
     "p/u.cti": "letter a 1 # noback letter a 1\n# B4 BadDots 9: always ab 9\n",
     "v.cti": "letter b 12\n# B5 UndefinedInRule abc: always abc 3\n# L1 NotFound none: include none\n",
 }
 CUT_ANSWER = """\
-2 of 8 lines are kept, 1 of them rewritten
+3 of 8 lines are kept, 2 of them rewritten
 opcode always: 2
 opcode include: 2
-opcode base: 1 (not in the profile)
 opcode pass2: 1 (not in the profile)
-file t.ctb: 0 of 3 lines are read
+file t.ctb: 1 of 3 lines are read
 file p/u.cti: 1 of 2 lines are read
 file v.cti: 1 of 3 lines are read
 no verdict: a cut doesn't decide whether two texts have the same cells

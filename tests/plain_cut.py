@@ -323,15 +323,38 @@ class Files:
 # ---- Lines that are read otherwise
 
 
+def put(line: Line, words: list[str]) -> None:
+    """Puts a line that defines characters before another, which becomes a comment."""
+    before = f"{' '.join(words)} # "
+    if defines(words) and len(before.encode()) <= MOST_BEFORE_BYTES:
+        line.text = limited(before + line.text)
+        line.words = line.text.split(" ")
+        line.is_rewritten = True
+
+
+def capital(words: list[str], good: Good) -> list[str]:
+    """The `uplow` line for `base uppercase U L`, where U is one character, and L one with cells; else nothing."""
+    if words[:2] != ["base", "uppercase"] or len(words) < 4:
+        return []
+    upper, lower = words[2:4]
+    with contextlib.suppress(Fault, KeyError):
+        character(upper)
+        _, given = good.chars[character(lower)]
+        return ["uplow", upper + lower, "-".join(given)]
+    return []
+
+
 def rewrite(lines: list[Line]) -> None:
-    """Puts what a line defines after `noback` before the line, which becomes a comment."""
+    """Puts what a line defines after `noback` before the line; then the `uplow` line before one of a capital."""
     for line in lines:
-        words = line.words[1:4]
-        before = f"{' '.join(words)} # "
-        if line.words[0] == "noback" and defines(words) and len(before.encode()) <= MOST_BEFORE_BYTES:
-            line.text = limited(before + line.text)
-            line.words = line.text.split(" ")
-            line.is_rewritten = True
+        if line.words[0] == "noback":
+            put(line, line.words[1:4])
+    good = Good()
+    for line in lines:
+        with contextlib.suppress(Fault):
+            good.add(item(*line.words))
+    for line in lines:
+        put(line, capital(line.words, good))
 
 
 def defines(words: list[str]) -> bool:
@@ -569,13 +592,32 @@ CASES = [
         "sign \\x00a0 7 # noback sign \\x00a0 7\nlowercase a 21-1 #  noback\tlowercase a  21-1 words\n"
         "uplow Bb 12,3 # noback uplow Bb 12,3\n", "3 of 3 lines are kept, 3 of them rewritten\n", True),
     one("lines that can't be rewritten", "noback sign ab 1\nnoback sign a\nnofor sign a 1\nnoback pass2 a\nnoback\nnoback noback letter a 1\nletter a 1\n"
-        "noback capsletter 6\nbase uppercase A a\n",
+        "noback capsletter 6\n",
         "# B1 OutsideProfile sign: noback sign ab 1\n# B1 OutsideProfile sign: noback sign a\n# B1 OutsideProfile sign: nofor sign a 1\n"
         "# B1 OutsideProfile pass2: noback pass2 a\n# B2 MissingOperand noback: noback\n# B1 OutsideProfile noback: noback noback letter a 1\nletter a 1\n"
-        "# B1 OutsideProfile capsletter: noback capsletter 6\n# B1 OutsideProfile base: base uppercase A a\n",
-        "1 of 9 lines are kept, 0 of them rewritten\nopcode noback sign: 2 (not in the profile)\nopcode base: 1 (not in the profile)\n"
+        "# B1 OutsideProfile capsletter: noback capsletter 6\n",
+        "1 of 8 lines are kept, 0 of them rewritten\nopcode noback sign: 2 (not in the profile)\n"
         "opcode noback: 1\nopcode noback capsletter: 1 (not in the profile)\nopcode noback noback: 1 (not in the profile)\n"
-        "opcode noback pass2: 1 (not in the profile)\nopcode nofor sign: 1 (not in the profile)\nfile t.ctb: 1 of 9 lines are read\n", True),
+        "opcode noback pass2: 1 (not in the profile)\nopcode nofor sign: 1 (not in the profile)\nfile t.ctb: 1 of 8 lines are read\n", True),
+    one("capitals, before and after their letters are defined", "base uppercase A a\nletter a 21-0\nnoback lowercase b 12\nletter a 3\n base\tuppercase B b words\n"
+        "litdigit c 14\nletter c 4\nbase uppercase \\x0043 \\x0063\nletter A 7\n",
+        "uplow Aa 12-0 # base uppercase A a\nletter a 21-0\nlowercase b 12 # noback lowercase b 12\nletter a 3\nuplow Bb 12 #  base\tuppercase B b words\n"
+        "litdigit c 14\nletter c 4\nuplow \\x0043\\x0063 14 # base uppercase \\x0043 \\x0063\nletter A 7\n",
+        "9 of 9 lines are kept, 4 of them rewritten\n", True),
+    one("capitals that can't be rewritten", "letter a 1\nletter b 9\nbase uppercase B b\nbase uppercase A\nbase\nbase uppercase AB a\nbase uppercase A ab\n"
+        "base uppercase a\\ ta\nbase uppercase a a\nbase italic A a\nnoback base uppercase A a\nbase uppercase A z\nbase uppercase \\q a\n",
+        "letter a 1\n# B4 BadDots 9: letter b 9\n# B1 OutsideProfile base: base uppercase B b\n# B1 OutsideProfile base: base uppercase A\n"
+        "# B1 OutsideProfile base: base\n# B1 OutsideProfile base: base uppercase AB a\n# B1 OutsideProfile base: base uppercase A ab\n"
+        "# B1 OutsideProfile base: base uppercase a\\ ta\n# B1 OutsideProfile base: base uppercase a a\n# B1 OutsideProfile base: base italic A a\n"
+        "# B1 OutsideProfile base: noback base uppercase A a\n# B1 OutsideProfile base: base uppercase A z\n# B1 OutsideProfile base: base uppercase \\q a\n",
+        "1 of 13 lines are kept, 0 of them rewritten\nopcode base: 10 (not in the profile)\nopcode letter: 1\nopcode noback base: 1 (not in the profile)\n"
+        "file t.ctb: 1 of 13 lines are read\n", True),
+    one("a capital whose words make another pair", "letter t 2345\nbase uppercase a\\ t\n",
+        "letter t 2345\n# B1 OutsideProfile base: base uppercase a\\ t\n",
+        "1 of 2 lines are kept, 0 of them rewritten\nopcode base: 1 (not in the profile)\nfile t.ctb: 1 of 2 lines are read\n", True),
+    one("a capital of a letter that another line makes a capital", "lowercase \\x00df 2346\nuplow Ss 234,2\nbase uppercase \\x1e9e S\n",
+        "lowercase \\x00df 2346\nuplow Ss 234,2\nuplow \\x1e9eS 234 # base uppercase \\x1e9e S\n",
+        "3 of 3 lines are kept, 1 of them rewritten\n", True),
     one("rewritten lines of 2,048 bytes and of more", f"noback letter a 1 {'x' * 2017}\nnoback letter b 1 {'x' * 2018}\n",
         f"letter a 1 # noback letter a 1 {'x' * 2017}\nletter b 1 # noback letter b 1 {'x' * 2014}...\n",
         "2 of 2 lines are kept, 2 of them rewritten\n", True),

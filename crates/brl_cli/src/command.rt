@@ -343,9 +343,10 @@ faulty line defines nothing, and the lines after it are read all the same.
 Standard output gets the fault of each faulty line, how many of these lines
 there are of each opcode, how many lines of each file with such lines are read,
 and how many of all. Comments, blank lines and lines that include a file aren't
-counted. With --brief the list of faults is left out. With several TABLEs the
-lines of each come after its name; one that can't be loaded is named on standard
-error, the others are surveyed, and the exit status is 2.
+counted. Hyphenation dictionaries, whose names end in .dic, are skipped, with a
+line for each. With --brief the faults and the dictionaries aren't listed. With
+several TABLEs the lines of each come after its name; one that can't be loaded
+is named on standard error, the others are surveyed, and the exit status is 2.
 
 Characters that a rule or a list names and no line defines (B5 to B7) are looked
 for once no line has another fault. Of an opcode that isn't read the counts say
@@ -381,8 +382,9 @@ becomes a comment that says why. DIR is made where it isn't there. Files that ar
 there already are never overwritten: nothing is written then, and the exit status
 is 2.
 
-With --rewrite a line that defines a character after noback is read too, and
-written as that line.",
+With --rewrite two more forms of lines are read, and written as they are read: a
+line that defines a character after noback, and base uppercase U L, which is
+uplow UL with the dots of L.",
     example: "Example, a table in which one of three lines isn't read:
   printf '%s\\n' 'letter a 1' 'pass2 @1 @2' 'letter b 12' > far.ctb
   brl cut far.ctb near > cut.txt
@@ -555,7 +557,7 @@ fn without_option<'a>(alloc: Global) -> Arg<'a> {
 fn brief_option<'a>(alloc: Global) -> Arg<'a> {
     Arg::new(alloc, "brief")
         .long("brief")
-        .help("Leave the list of faults out")
+        .help("Leave the lists of faults and dictionaries out")
         .action(ArgAction::SetTrue)
 }
 
@@ -563,7 +565,7 @@ fn brief_option<'a>(alloc: Global) -> Arg<'a> {
 fn rewrite_option<'a>(alloc: Global) -> Arg<'a> {
     Arg::new(alloc, "rewrite")
         .long("rewrite")
-        .help("Also read lines that define a character after noback")
+        .help("Also read definitions after noback, and base uppercase")
         .action(ArgAction::SetTrue)
 }
 
@@ -738,12 +740,10 @@ fn clash_question<'a>(table: &'a str, found: &ArgMatches<'a>) -> Option<Question
 }
 
 fn check_question<'a>(table: &'a str, found: &ArgMatches<'a>) -> Option<Question<'a>> {
-    let cert = found.get_str("cert")?;
-    let without = found.get_str("without");
     Some(Question::Check {
         table,
-        cert,
-        without,
+        cert: found.get_str("cert")?,
+        without: found.get_str("without"),
     })
 }
 
@@ -757,12 +757,10 @@ fn search_question<'a>(table: &'a str, found: &ArgMatches<'a>) -> Option<Questio
 }
 
 fn cut_question<'a>(table: &'a str, found: &ArgMatches<'a>) -> Option<Question<'a>> {
-    let dir = found.get_str("dir")?;
-    let rewrite = found.get_flag("rewrite");
     Some(Question::Cut {
         table,
-        dir,
-        rewrite,
+        dir: found.get_str("dir")?,
+        rewrite: found.get_flag("rewrite"),
     })
 }
 

@@ -1,14 +1,15 @@
 -- Facts that pass from files in memory to those of a cut.
-use Rattle.std.proofs.Common.{◌≡◌, ℕ, Bool, List, Result, Ok, Err, IfErr, IfOk, subst}
+use Rattle.std.proofs.Common.{◌≡◌, ◌∙◌, ℕ, Bool, List, Result, Ok, Err, IfErr, IfOk, ap, subst}
 use Rattle.brl_failure.specs.Failure.{IfFault}
 use Rattle.brl_failure.specs.Raised.{if_fault-weaker}
 use Rattle.brl_failure.specs.declared.failure.Failure.{Failure}
 use Rattle.brl_lines.specs.Answer.{FileAnswers}
 use Rattle.brl_lines.specs.GatherFaults.{IsGathered, gathered_view}
+use Rattle.brl_lines.specs.Gathering.{LeftView}
 use Rattle.brl_lines.specs.declared.gathering.Gathered.{Gathered}
 use Rattle.brl_lines.specs.declared.fault.LoadFault.{LoadFault}
 use Rattle.brl_table.specs.declared.no_table.NoTable.{NoTable}
-use Rattle.brl_cut.specs.Cuts.{IsCutFault, IsReadAs, IsUncut, IsUnreadAs}
+use Rattle.brl_cut.specs.Cuts.{IsCutFault, IsReadAs, IsUncut, IsUnreadAs, without_include_lines}
 use Rattle.brl_cut.specs.Edits.{Texts}
 use Rattle.brl_cut.specs.Rounds.{SettlesTo}
 use Rattle.brl_cut.specs.declared.cutting.Cut.{Cut}
@@ -20,6 +21,10 @@ use Rattle.brl_cut.specs.declared.rounds.Settled.{Settled}
 pub settled-as : (root : List ℕ) (files start : Texts) (step : Result Settled (Failure LoadFault)) (settled : Settled) → step ≡ Ok settled → IfOk step (SettlesTo root files) → files ≡ start → SettlesTo root start settled
 settled-as root files start step settled e h same =
     subst (λ (fs : Texts). SettlesTo root fs settled) same (subst (λ (r : Result Settled (Failure LoadFault)). IfOk r (SettlesTo root files)) e h)
+
+-- files without include lines, of equal lists
+pub without-from : {new files same_files : Texts} {left same_left : List LeftView} → new ≡ without_include_lines left files → left ≡ same_left → files ≡ same_files → new ≡ without_include_lines same_left same_files
+without-from {same_files = same_files} {left = left} e l f = e ∙ ap (without_include_lines left) f ∙ ap (λ (ls : List LeftView). without_include_lines ls same_files) l
 
 pub read-as : (files same_files : Texts) (root same_root : List ℕ) → files ≡ same_files → root ≡ same_root → IsReadAs files root → IsReadAs same_files same_root
 read-as files same_files root same_root e d h = subst (λ (r : List ℕ). IsReadAs same_files r) d (subst (λ (fs : Texts). IsReadAs fs root) e h)

@@ -3,4 +3,5 @@ pub mod EditLemmas
 pub mod Limits
 pub mod RewriteLemmas
 pub mod RoundLemmas
+pub mod SkipLemmas
 pub mod WholeLines

@@ -8,7 +8,8 @@ use Rattle.brl_lines.specs.declared.line.Token.{Token}
 use Rattle.brl_table.specs.Survey.{FindingsView, faulty_line_view, findings_view, survey_of}
 use Rattle.brl_table.specs.declared.faulty.Findings.{Findings}
 use Rattle.brl_cut.specs.Edits.{EditView}
-use Rattle.brl_cut.specs.Rewriting.{edit_to_words, is_definition}
+use Rattle.brl_rules.specs.declared.rule.Info.{Info}
+use Rattle.brl_cut.specs.Rewriting.{edit_to_pair, edit_to_words, is_definition}
 
 -- what a survey of one line found tells whether it is a definition
 pub definition-found : (found : Findings) (line : LineView) → findings_view found ≡ survey_of (line ∷ []) → (found.has_characters && (length found.faulty.items == 0)) ≡ is_definition line
@@ -25,6 +26,14 @@ few-words line (a ∷ b ∷ c ∷ words) few = absurd (omega arith)
 -- so they add no edit
 pub few-words-add : (edits : List EditView) (line : LineView) (words : List Token) → length words < 3 → edits ≡ edits ++ edit_to_words line (map token_view words)
 few-words-add edits line words few = sym (append-nil edits) ∙ ap (λ (es : List EditView). edits ++ es) (sym (few-words line words few))
+
+-- fewer than three operands are no capital with its small letter, so they add no edit
+pub few-operands-add : (edits : List EditView) (characters : List (ℕ × Info)) (line : LineView) (operands : List Token) → length operands < 3
+    → edits ≡ edits ++ edit_to_pair characters line (map token_view operands)
+few-operands-add edits characters line [] few = sym (append-nil edits)
+few-operands-add edits characters line (a ∷ []) few = sym (append-nil edits)
+few-operands-add edits characters line (a ∷ b ∷ []) few = sym (append-nil edits)
+few-operands-add edits characters line (a ∷ b ∷ c ∷ operands) few = absurd (omega arith)
 
 or_true : (b : Bool) → (b || true) ≡ true
 or_true true = refl

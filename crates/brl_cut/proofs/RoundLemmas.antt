@@ -1,8 +1,15 @@
 -- The lines of files in memory, and rounds.
-use Rattle.std.proofs.Common.{◌≡◌, ℕ, List, ap, sym, Some, Ok}
+use Rattle.std.proofs.Common.{◌≡◌, ◌∙◌, ℕ, List, IfErr, IfOk, ap, sym, Some, Result, Ok, Err}
+use Rattle.brl_failure.specs.Failure.{GivesAs}
+use Rattle.brl_failure.specs.declared.failure.Failure.{Failure}
+use Rattle.brl_failure.specs.declared.failure.Failure.TheVariants as failures
 use Rattle.brl_lines.specs.Answer.{FileAnswers, answer_of}
 use Rattle.brl_lines.specs.InMemory.{answer_in}
 use Rattle.brl_lines.specs.Lines.{lines_over}
+use Rattle.brl_lines.specs.Loaded.{LoadedView}
+use Rattle.brl_lines.specs.Outcome.{AreLinesOf, AreLinesOfFiles, IsLoadFault}
+use Rattle.brl_lines.specs.Views.{load_fault_view}
+use Rattle.brl_lines.specs.declared.fault.LoadFault.{LoadFault}
 use Rattle.brl_lines.specs.Tokens.{LineView}
 use Rattle.brl_lines.specs.declared.map_source.MapSource.{MapSource}
 use Rattle.brl_table.specs.Survey.{survey_of}
@@ -14,6 +21,16 @@ use Rattle.brl_cut.specs.Settling.{faulty_among, faulty_in, lines_among}
 -- a source that has just these files gives the table these lines
 pub lines-held : (files : Texts) (source : MapSource) (root : List ℕ) → HoldsFiles files source → lines_among files root ≡ lines_over (λ path. Some (answer_in source path)) root
 lines-held files source root held = sym (λ j. lines_over (λ path. Some (answer_of (held path j))) root)
+
+-- a load over it gives the lines of the files
+pub gives-loaded : (files : Texts) (source : MapSource) (root : List ℕ) (gives : FileAnswers) → HoldsFiles files source
+    → ((outcome : Result (List LineView) (Failure LoadFault)) → IfOk outcome (AreLinesOf gives root) → IfErr outcome (IsLoadFault gives root)
+    → GivesAs (λ lines. lines) load_fault_view (lines_over (λ path. Some (answer_in source path)) root) outcome)
+    → (result : Result LoadedView (Failure LoadFault)) → IfOk result (λ loaded. AreLinesOfFiles gives root loaded.paths loaded.lines) → IfErr result (IsLoadFault gives root)
+    → GivesAs (λ loaded. loaded.lines) load_fault_view (lines_among files root) result
+gives-loaded files source root gives held told (Ok loaded) are why = lines-held files source root held ∙ told (Ok loaded.lines) (are.0, are.1, are.3) tt
+gives-loaded files source root gives held told (Err (failures.Fault fault)) none why = lines-held files source root held ∙ told (Err (failures.Fault fault)) tt why
+gives-loaded files source root gives held told (Err failures.Memory) none why = tt
 
 -- what a survey of the lines finds is what is faulty in the files
 pub faulty-found : (root : List ℕ) (files : Texts) (lines : List LineView) → lines_among files root ≡ Ok lines → faulty_in root files ≡ (survey_of lines).faulty

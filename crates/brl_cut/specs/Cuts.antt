@@ -44,9 +44,13 @@ include_fault left = record {
   fault = record { fault = fault OutsideProfile (codes "include"); file = left.file; line = left.line };
 }
 
--- the files with these include lines left out
+-- files where these include lines are comments
+abbrev pub without_include_lines : List LeftView → Texts → Texts
+without_include_lines left_out files = edited_files (map include_edit left_out) files
+
+-- the files with the include lines that are left out as comments
 abbrev pub without_includes : GatheredView → Texts
-without_includes gathered = edited_files (map include_edit gathered.left_out) gathered.files
+without_includes gathered = without_include_lines gathered.left_out gathered.files
 
 -- ---- Lines that are rewritten
 
@@ -91,8 +95,8 @@ abbrev pub IsUnreadAs : Texts → List ℕ → NoTable → Type 0
 IsUnreadAs files root why = IsFaultAt (only files) root why
 
 -- The cut of gathered files for a folder: lines are rewritten where this is asked for; the files are
--- settled and written into the folder, where they define a table. These lines were left out, and these
--- are kept; so many of them are rewritten.
+-- settled and written into the folder, where they define a table. `found` are the faulty lines, and
+-- `lines` those that are kept; `cut.rewritten` is how many of these are rewritten.
 pub record IsCutOf (rewrite : Bool) (gathered : GatheredView) (root dir : List ℕ) (cut : Cut) : Type 0 where
   pub settled : Texts
   pub found : List FaultyLineView

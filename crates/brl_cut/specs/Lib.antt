@@ -4,3 +4,4 @@ pub mod Files
 pub mod Rewriting
 pub mod Rounds
 pub mod Settling
+pub mod Skipping

@@ -4,37 +4,18 @@ ghost use Rattle.std.specs.List.{ends_with};
 ghost use Rattle.brl_failure.specs.Failure.{IfFault};
 ghost use Rattle.brl_lines.specs.Answer.{Unchanged};
 ghost use Rattle.brl_lines.specs.GatherFaults.{gathered_view};
-ghost use Rattle.brl_lines.specs.Gathered.{left_view};
 ghost use Rattle.brl_lines.specs.Views.{location_view};
 ghost use Rattle.brl_table.specs.Survey.{faulty_line_view};
-ghost use Rattle.brl_cut.specs.Cuts.{
-  IsCut,
-  IsCutFault,
-  IsCutOf,
-  IsReadAs,
-  IsUncut,
-  IsUnreadAs,
-  include_edit as edit_of_include,
-  include_fault as fault_of_include,
-  include_reason,
-  name_in,
-  slash_after as slash_between,
-  start_edits,
-  start_files,
-  written_files,
-  written_path as path_written,
-};
+ghost use Rattle.brl_cut.specs.Cuts.{IsCut, IsCutFault, IsCutOf, IsReadAs, IsUncut, IsUnreadAs, name_in, slash_after as slash_between, start_edits, start_files, written_files, written_path as path_written};
 ghost use Rattle.brl_cut.specs.Files.{edit_view, file_view};
 
-use crate::files::{Edit, edit_files, source_of};
+use crate::files::source_of;
+use crate::includes::{include_faults, without_lines};
 use crate::rewriting::{Rewritten, count_rewritten, rewrite_files};
 use crate::rounds::{Settled, settle};
 use brl_failure::{Failure, raise};
-use brl_lines::{
-    GatherFault, Gathered, GatheredFile, IncludeReason, LeftInclude, LoadFault, Location, Source,
-    folder, gather,
-};
-use brl_table::{FaultyLine, NoTable, TableFault, TableFaultKind, load_table};
+use brl_lines::{GatherFault, Gathered, GatheredFile, LoadFault, Location, Source, folder, gather};
+use brl_table::{FaultyLine, NoTable, load_table};
 use std::alloc::{AllocError, Global};
 use thiserror::Error;
 
@@ -66,66 +47,6 @@ pub enum CutFault {
     /// The written files define no table.
     #[error("{0}")]
     NotRead(NoTable),
-}
-
-/// Why an include line is left out.
-fn reason_text(reason: IncludeReason) -> &'static str
-    ensures { result.now ≡ include_reason reason }
-{
-    match reason {
-        IncludeReason::Dictionary => "dictionary",
-        IncludeReason::Repeated => "repeated",
-        IncludeReason::Missing => "L1 NotFound",
-    }
-}
-
-/// The edit that makes an include line a comment.
-fn include_edit(alloc: Global, left: &LeftInclude) -> Result<Edit, AllocError>
-    ensures { IfOk result (λ edit. edit_view edit ≡ edit_of_include (left_view left.now)) }
-{
-    let reason = reason_text(left.reason);
-    let name = left.name.as_str();
-    Ok(Edit {
-        file: String::from_str(alloc, left.file.as_str())?,
-        line: left.line,
-        prefix: format!(in alloc; "# {reason} {name}: ")?,
-    })
-}
-
-/// The edits that make include lines comments.
-fn include_edits(alloc: Global, left_out: &[LeftInclude]) -> Result<Vec<Edit>, AllocError>
-    ensures { IfOk result (λ edits. map edit_view edits.items ≡ map edit_of_include (map left_view left_out.now)) }
-{
-    let mut edits = Vec::with_capacity(alloc, left_out.len())?;
-    for left in left_out {
-        edits.push(include_edit(alloc, left)?)?;
-    }
-    Ok(edits)
-}
-
-/// An include line that is left out, as a faulty line: one that is left after loading.
-fn include_fault(alloc: Global, left: &LeftInclude) -> Result<FaultyLine, AllocError>
-    ensures { IfOk result (λ faulty. faulty_line_view faulty ≡ fault_of_include (left_view left.now)) }
-{
-    let opcode = String::from_str(alloc, "include")?;
-    let fault = TableFault {
-        kind: TableFaultKind::OutsideProfile,
-        subject: String::from_str(alloc, "include")?,
-        file: String::from_str(alloc, left.file.as_str())?,
-        line: left.line,
-    };
-    Ok(FaultyLine { opcode, fault })
-}
-
-/// Include lines that are left out, as faulty lines.
-fn include_faults(alloc: Global, left_out: &[LeftInclude]) -> Result<Vec<FaultyLine>, AllocError>
-    ensures { IfOk result (λ faulty. map faulty_line_view faulty.items ≡ map fault_of_include (map left_view left_out.now)) }
-{
-    let mut faulty = Vec::with_capacity(alloc, left_out.len())?;
-    for left in left_out {
-        faulty.push(include_fault(alloc, left)?)?;
-    }
-    Ok(faulty)
 }
 
 /// The name of a path below a folder; the path itself where it isn't there.
@@ -229,8 +150,11 @@ fn rewrite_gathered(
     ensures files { IfOk result (λ new. map file_view new.files.items ≡ start_files rewrite root.now (gathered_view gathered.now)) }
     ensures edits { IfOk result (λ new. map edit_view new.edits.items ≡ start_edits rewrite root.now (gathered_view gathered.now)) }
 {
-    let edits = include_edits(alloc, gathered.left_out.as_slice())?;
-    let files = edit_files(alloc, gathered.files.as_slice(), edits.as_slice())?;
+    let files = without_lines(
+        alloc,
+        gathered.files.as_slice(),
+        gathered.left_out.as_slice(),
+    )?;
     rewrite_files(alloc, files, root, rewrite)
 }
 

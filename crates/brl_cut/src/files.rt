@@ -1,10 +1,14 @@
 //! Files in memory, and edits of their lines.
 ghost use Rattle.std.specs.Prelude.{◌≡◌, IfOk, List, [], ◌∷◌, map};
+ghost use Rattle.brl_failure.specs.Failure.{GivesAs};
+ghost use Rattle.brl_lines.specs.Views.{load_fault_view};
 ghost use Rattle.brl_cut.specs.Edits.{edited_files, prefix_in};
 ghost use Rattle.brl_cut.specs.Files.{HasPrefixes, HoldsFiles, edit_view, file_view};
+ghost use Rattle.brl_cut.specs.Settling.{lines_among};
 
 use crate::text::edited;
-use brl_lines::{GatheredFile, MapSource};
+use brl_failure::Failure;
+use brl_lines::{GatheredFile, LoadFault, Loaded, MapSource, files_in_memory_law, load};
 use std::alloc::{AllocError, Global};
 use std::collections::BTreeMap;
 
@@ -72,4 +76,17 @@ pub(crate) fn source_of(alloc: Global, files: &[GatheredFile]) -> Result<MapSour
         map.insert(path, bytes)?;
     }
     Ok(MapSource::new(map))
+}
+
+/// Loads the table whose root is at a path, of these files and no others.
+pub(crate) fn load_files(
+    alloc: Global,
+    files: &[GatheredFile],
+    root: &str,
+) -> Result<Loaded, Failure<LoadFault>>
+    ensures { GivesAs (λ loaded. loaded.lines) load_fault_view (lines_among (map file_view files.now) root.now) result }
+{
+    let mut source = source_of(alloc, files)?;
+    files_in_memory_law(&source);
+    load(alloc, &mut source, root)
 }

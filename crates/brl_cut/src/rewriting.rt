@@ -1,30 +1,17 @@
 //! Rewrites lines of files, so that they are read.
-ghost use Rattle.std.specs.Prelude.{◌≡◌, ◌++◌, ◌∷◌, [], IfOk, OnOk, flat_map, length, filter, map, string_bytes};
-ghost use Rattle.brl_lines.specs.Views.{line_view, location_view, token_view};
+ghost use Rattle.std.specs.Prelude.{◌≡◌, [], IfOk, length, filter, map, string_bytes};
+ghost use Rattle.std.specs.Option.{option_map_or};
+ghost use Rattle.brl_lines.specs.Views.{line_view, location_view};
 ghost use Rattle.brl_cut.specs.Edits.{is_of};
 ghost use Rattle.brl_cut.specs.Files.{edit_view, file_view};
-ghost use Rattle.brl_cut.specs.Rewriting.{
-  edit_if_put,
-  edit_to_words,
-  is_definition as is_definition_by,
-  is_rewritten as is_rewritten_by,
-  line_text as text_of_line,
-  noback_edit,
-  noback_edits as edits_of_noback,
-  rewriting_edits,
-  rewritten_files,
-};
-ghost use Rattle.brl_cut.specs.Settling.{lines_among};
+ghost use Rattle.brl_cut.specs.Rewriting.{is_rewritten as is_rewritten_by, known_lines, rewriting_edits, rewritten_files};
 
-use crate::files::{Edit, edit_files, source_of};
+use crate::base::base_of_lines;
+use crate::files::{Edit, edit_files, load_files};
+use crate::noback::noback_of_lines;
 use brl_failure::Failure;
-use brl_lines::{GatheredFile, Line, Location, Token, files_in_memory_law, load};
-use brl_table::survey;
+use brl_lines::{GatheredFile, Line, Loaded, Location};
 use std::alloc::{AllocError, Global};
-use std::slice;
-
-/// The most bytes that are put before a line that is rewritten.
-const MOST_PREFIX_BYTES: usize = 1024;
 
 /// Files whose lines are rewritten, and the edits that did it.
 #[derive(Drop)]
@@ -33,99 +20,28 @@ pub(crate) struct Rewritten {
     pub edits: Vec<Edit>,
 }
 
-/// The words of a line, with a blank between two of them.
-fn line_text(alloc: Global, line: &Line<'_>) -> Result<String, AllocError>
-    ensures { IfOk result (λ text. string_bytes text ≡ text_of_line (line_view line.now)) }
-{
-    let mut text = String::from_str(alloc, line.opcode.text)?;
-    for operand in &line.operands {
-        text.push(' ')?;
-        text.push_str(operand.text)?;
-    }
-    Ok(text)
-}
-
-/// Whether a line by itself defines a character, and has no fault.
-fn is_definition(alloc: Global, line: &Line<'_>) -> Result<bool, AllocError>
-    ensures { IfOk result (λ is. is ≡ is_definition_by (line_view line.now)) }
-{
-    let found = survey(alloc, slice::from_ref(line))?;
-    Ok(found.has_characters && found.faulty.is_empty())
-}
-
-/// Adds the edit that puts a line before the one in its place, where it may be put.
-fn push_if_put(alloc: Global, edits: &mut Vec<Edit>, new: &Line<'_>) -> Result<(), AllocError>
-    ensures { OnOk result (map edit_view edits.new.items ≡ map edit_view edits.old.items ++ edit_if_put (line_view new.now)) }
-{
-    let mut prefix = line_text(alloc, new)?;
-    prefix.push_str(" # ")?;
-    if is_definition(alloc, new)? && prefix.len() <= MOST_PREFIX_BYTES {
-        let file = String::from_str(alloc, new.file)?;
-        edits.push(Edit {
-            file,
-            line: new.line,
-            prefix,
-        })?;
-    }
-    Ok(())
-}
-
-/// Adds the edit that puts these words before a line: an opcode and its first two operands.
-fn push_words(
+/// The table whose root is at a path, of these files and no others; `None` where it can't be loaded.
+fn load_if_whole(
     alloc: Global,
-    edits: &mut Vec<Edit>,
-    line: &Line<'_>,
-    words: &[Token<'_>],
-) -> Result<(), AllocError>
-    ensures { OnOk result (map edit_view edits.new.items ≡ map edit_view edits.old.items ++ edit_to_words (line_view line.now) (map token_view words.now)) }
+    files: &[GatheredFile],
+    root: &str,
+) -> Result<Option<Loaded>, AllocError>
+    ensures { IfOk result (λ loaded. option_map_or (λ l. l.lines) loaded [] ≡ known_lines root.now (map file_view files.now)) }
 {
-    let [opcode, first, second, ..] = words else {
-        return Ok(());
-    };
-    let mut operands = Vec::with_capacity(alloc, 2)?;
-    operands.push(*first)?;
-    operands.push(*second)?;
-    let new = Line {
-        file: line.file,
-        line: line.line,
-        opcode: *opcode,
-        operands,
-    };
-    push_if_put(alloc, edits, &new)
-}
-
-/// Adds the edit of a line that begins with `noback`.
-fn push_noback(alloc: Global, edits: &mut Vec<Edit>, line: &Line<'_>) -> Result<(), AllocError>
-    ensures { OnOk result (map edit_view edits.new.items ≡ map edit_view edits.old.items ++ noback_edit (line_view line.now)) }
-{
-    if line.opcode.text == "noback" {
-        push_words(alloc, edits, line, line.operands.as_slice())?;
-    }
-    Ok(())
-}
-
-/// The edits of lines that begin with `noback`.
-fn noback_of_lines(alloc: Global, lines: &[Line<'_>]) -> Result<Vec<Edit>, AllocError>
-    ensures { IfOk result (λ edits. map edit_view edits.items ≡ flat_map noback_edit (map line_view lines.now)) }
-{
-    let mut edits = Vec::new(alloc);
-    for line in lines {
-        push_noback(alloc, &mut edits, line)?;
-    }
-    Ok(edits)
-}
-
-/// The edits of the lines that begin with `noback`, of the table whose root is at a path, of these
-/// files and no others.
-fn noback_edits(alloc: Global, files: &[GatheredFile], root: &str) -> Result<Vec<Edit>, AllocError>
-    ensures { IfOk result (λ edits. map edit_view edits.items ≡ edits_of_noback (lines_among (map file_view files.now) root.now)) }
-{
-    let mut source = source_of(alloc, files)?;
-    files_in_memory_law(&source);
-    match load(alloc, &mut source, root) {
-        Ok(loaded) => noback_of_lines(alloc, loaded.lines(alloc)?.as_slice()),
-        Err(Failure::Fault(_)) => Ok(Vec::new(alloc)),
+    match load_files(alloc, files, root) {
+        Ok(loaded) => Ok(Some(loaded)),
+        Err(Failure::Fault(_)) => Ok(None),
         Err(Failure::Memory) => Err(AllocError),
+    }
+}
+
+/// The lines of a table; none where it can't be loaded.
+fn lines_of(alloc: Global, loaded: &Option<Loaded>) -> Result<Vec<Line<'_>>, AllocError>
+    ensures { IfOk result (λ lines. map line_view lines.items ≡ option_map_or (λ l. l.lines) loaded.now []) }
+{
+    match loaded {
+        Some(loaded) => loaded.lines(alloc),
+        None => Ok(Vec::new(alloc)),
     }
 }
 
@@ -143,8 +59,13 @@ pub(crate) fn rewrite_files(
         let edits = Vec::new(alloc);
         return Ok(Rewritten { files, edits });
     }
-    let edits = noback_edits(alloc, files.as_slice(), root)?;
+    let old = load_if_whole(alloc, files.as_slice(), root)?;
+    let mut edits = noback_of_lines(alloc, lines_of(alloc, &old)?.as_slice())?;
     let files = edit_files(alloc, files.as_slice(), edits.as_slice())?;
+    let new = load_if_whole(alloc, files.as_slice(), root)?;
+    let mut others = base_of_lines(alloc, lines_of(alloc, &new)?.as_slice())?;
+    let files = edit_files(alloc, files.as_slice(), others.as_slice())?;
+    edits.append(&mut others)?;
     Ok(Rewritten { files, edits })
 }
 

@@ -8,9 +8,9 @@ ghost use Rattle.brl_cut.specs.Files.{edit_view, file_view};
 ghost use Rattle.brl_cut.specs.Rounds.{IsSurveyed, IsUnsettled, SettlesTo};
 ghost use Rattle.brl_cut.specs.Settling.{fault_edit as edit_of_fault, lines_among};
 
-use crate::files::{Edit, edit_files, source_of};
+use crate::files::{Edit, edit_files, load_files};
 use brl_failure::Failure;
-use brl_lines::{GatheredFile, Line, LoadFault, Location, files_in_memory_law, load};
+use brl_lines::{GatheredFile, Line, LoadFault, Location};
 use brl_table::{FaultyLine, survey};
 use std::alloc::{AllocError, Global};
 
@@ -38,9 +38,7 @@ fn survey_files(
     ensures found { IfOk result (IsSurveyed root.now (map file_view files.now)) }
     ensures fault { IfErr result (IfFault (λ fault. lines_among (map file_view files.now) root.now ≡ Err (load_fault_view fault))) }
 {
-    let mut source = source_of(alloc, files)?;
-    files_in_memory_law(&source);
-    let loaded = load(alloc, &mut source, root)?;
+    let loaded = load_files(alloc, files, root)?;
     let lines = loaded.lines(alloc)?;
     let found = survey(alloc, lines.as_slice())?;
     let places = places_of_lines(alloc, lines.as_slice())?;

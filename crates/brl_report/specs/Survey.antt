@@ -7,6 +7,7 @@ use Rattle.std.specs.List.Sorted.{IsPermutation, IsSorted}
 use Rattle.std.specs.Ordering.{flip_args, nat_cmp, on, then_cmp}
 use Rattle.std.specs.Str.{bytes_eq}
 use Rattle.std.specs.declared.cmp.Ordering.{Ordering}
+use Rattle.brl_lines.specs.Gathering.{LeftView}
 use Rattle.brl_lines.specs.Tokens.{LineView}
 use Rattle.brl_table.specs.FaultText.{fault_text}
 use Rattle.brl_table.specs.Reading.{dedup}
@@ -92,6 +93,10 @@ IsSurveyText brief found lines paths text =
     (counts : List CountView) × AreCounts (opcodes_of found.faulty) counts
     × (text ≡ (if brief then [] else flat_map fault_line found.faulty) ++ flat_map count_line counts ++ flat_map (file_line found.faulty lines) paths
     ++ (pass_note found.passes_first ++ characters_note found.has_characters) ++ read_line (length found.faulty) (length lines))
+
+-- the line of an include line that was skipped
+abbrev pub skipped_line : LeftView → List ℕ
+skipped_line left = codes "skipped: " ++ left.name ++ codes " at " ++ left.file ++ codes ":" ++ decimal left.line ++ codes "\n"
 
 -- ---- The report of a cut
 

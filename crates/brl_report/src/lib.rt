@@ -1,8 +1,8 @@
 //! Reports. `report` has a clash: the two texts, their cells, and for each text the steps of its
 //! translation from the first one that the other text doesn't have. `trace_report` has one text,
 //! its cells and all its steps. `survey_report` has the lines of a table that have a fault by
-//! themselves. `report_of_cut` says how many lines of a table are kept in a cut of it. `rules_report`
-//! has the rules of a table by their numbers.
+//! themselves, `skipped_report` the dictionaries that a survey skipped. `report_of_cut` says how many
+//! lines of a table are kept in a cut of it. `rules_report` has the rules of a table by their numbers.
 //!
 //! Room 5, the program (docs/dev/ARCHITECTURE.md). The definitions begin in `specs/Report.antt`.
 #![tactic(auto)]
@@ -15,6 +15,7 @@ mod row;
 mod rows;
 mod rules;
 mod side;
+mod skipped;
 mod steps;
 mod survey;
 mod trace;
@@ -22,5 +23,6 @@ mod trace;
 pub use clash_report::{ReportFault, report};
 pub use cut_report::report_of_cut;
 pub use rules::{first_unknown, rule_numbers, rules_report};
+pub use skipped::skipped_report;
 pub use survey::survey_report;
 pub use trace::trace_report;

@@ -12,12 +12,13 @@ use Rattle.brl_lines.specs.Tokens.{LineView}
 use Rattle.brl_table.specs.FaultText.{LocatedFault, located_fault}
 use Rattle.brl_table.specs.Items.{Fault}
 use Rattle.brl_table.specs.Opcodes.{opcode_of}
-use Rattle.brl_table.specs.Reading.{defined_characters, definitions, fault_after, files_of, item_in, ok_of, second_pass_fault}
+use Rattle.brl_table.specs.Reading.{defined_characters, defined_entries, definitions, fault_after, files_of, item_in, ok_of, second_pass_fault}
 use Rattle.brl_table.specs.declared.item.Item.{Item}
 use Rattle.brl_table.specs.declared.opcode.Opcode.{Opcode}
 use Rattle.brl_table.specs.declared.opcode.Opcode.TheVariants.{Noback, Nofor}
 use Rattle.brl_table.specs.declared.faulty.FaultyLine.{FaultyLine}
 use Rattle.brl_table.specs.declared.faulty.Findings.{Findings}
+use Rattle.brl_rules.specs.declared.rule.Info.{Info}
 
 -- ---- The fault of each line
 
@@ -105,6 +106,10 @@ passes_first lines = length (faulty_lines lines) == 0
 -- whether one of the good lines defines a character
 abbrev pub has_characters : List LineView → Bool
 has_characters lines = nat_lt 0 (length (defined_characters (definitions (good_items (files_of lines) lines))))
+
+-- the characters that the good lines define, with their infos; no list names one
+abbrev pub good_characters : List LineView → List (ℕ × Info)
+good_characters lines = defined_entries (definitions (good_items (files_of lines) lines)) (record { mode = []; nocont = [] })
 
 -- what a survey finds in these lines
 abbrev pub survey_of : List LineView → FindingsView

@@ -53,7 +53,8 @@ use crate::table_fault::WordFault;
 use crate::{TableFault, TableFaultKind};
 use brl_failure::Failure;
 use brl_lines::Line;
-use brl_rules::{Indicators, Rule, Table, TableParts, rank_law, signs_law};
+use brl_rules::{Indicators, Info, Rule, Table, TableParts, rank_law, signs_law};
+use indexmap::IndexMap;
 use std::alloc::{AllocError, Global};
 
 /// The most characters of a table.
@@ -333,6 +334,19 @@ impl TableBuilder {
             return refuse(alloc, TableFaultKind::TwoRoles, operand_of(line, 0));
         }
         Ok(())
+    }
+
+    /// The characters that were defined, each with what was read of it.
+    pub(crate) fn into_characters(self) -> IndexMap<char, Info>
+        ensures { result ≡ self.characters.infos }
+    {
+        let TableBuilder {
+            items: _,
+            characters,
+            signs: _,
+            used: _,
+        } = self;
+        characters.infos
     }
 
     /// The table of what was read, with these rules and files.

@@ -14,6 +14,7 @@ ghost use Rattle.brl_table.specs.Survey.{
   prefixed_word as prefixed_by,
   survey_of,
   findings_view,
+  good_characters as characters_of_good_lines,
   unresolved_lines,
 };
 ghost use Rattle.brl_table.specs.declared.table_fault.TableFault.{TableFault as Fault};
@@ -24,6 +25,8 @@ use crate::opcode::{Opcode, opcode_named};
 use crate::table_fault::WordFault;
 use brl_failure::Failure;
 use brl_lines::Line;
+use brl_rules::Info;
+use indexmap::IndexMap;
 use std::alloc::{AllocError, Global};
 
 /// A line of a table that has a fault by itself.
@@ -69,6 +72,21 @@ pub fn survey(alloc: Global, lines: &[Line<'_>]) -> Result<Findings, AllocError>
         passes_first,
         has_characters,
     })
+}
+
+/// The characters that the lines without a fault by themselves define, in the order of their first
+/// definitions, each with what they define for it; no list gives it a role. `AllocError` if memory
+/// runs out.
+pub fn good_characters(
+    alloc: Global,
+    lines: &[Line<'_>],
+) -> Result<IndexMap<char, Info>, AllocError>
+    ensures { IfOk result (λ found. found.entries ≡ characters_of_good_lines (map line_view lines.now)) }
+{
+    let files = file_names(alloc, lines)?;
+    let mut builder = TableBuilder::new(alloc);
+    find_faulty(alloc, &mut builder, files.as_slice(), lines)?;
+    Ok(builder.into_characters())
 }
 
 /// The lines, of files with these names, that have a fault by themselves. The builder has none yet,

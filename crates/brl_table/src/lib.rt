@@ -35,7 +35,7 @@ pub use brl_rules::{
     choice_laws, holds, rank_law, signs_law, translation_laws, unambiguous_law,
 };
 pub use builder::read_table;
-pub use faulty::{FaultyLine, Findings, survey, survey_laws};
+pub use faulty::{FaultyLine, Findings, good_characters, survey, survey_laws};
 pub use files::{load_table, one_table_law, table_of_loaded};
 pub use liblouis::{OpcodeOrigin, origin_of};
 pub use no_table::NoTable;

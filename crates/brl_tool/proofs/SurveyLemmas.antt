@@ -6,11 +6,10 @@ use Rattle.std.proofs.lemmas.Grind.{flat_map-append}
 use Rattle.std.proofs.lemmas.List.{map-append}
 use Rattle.std.proofs.lemmas.List.Elements.{All-nil, All-push}
 use Rattle.std.proofs.lemmas.List.Folds.{list_all-append}
-use Rattle.brl_failure.specs.declared.failure.Failure.TheVariants as failures
 use Rattle.brl_lines.specs.Answer.{Unchanged, FileAnswer, FileAnswers}
-use Rattle.brl_lines.specs.Outcome.{IsLoadFault}
 use Rattle.brl_lines.specs.declared.fault.LoadFault.{LoadFault}
-use Rattle.brl_answers.proofs.Moved.{file_lines_moved, load_fault_moved}
+use Rattle.brl_cut.specs.Skipping.{IsUnloaded}
+use Rattle.brl_cut.proofs.SkipLemmas.{unloaded_moved, without_moved}
 use Rattle.brl_tool.specs.Surveying.{IsPart, IsReportAt, Part, part_text, survey_status, text_of_part}
 use Rattle.brl_answers.specs.declared.status.Status.{Status}
 use Rattle.brl_answers.specs.declared.status.Status.TheVariants.{Done, Faulty}
@@ -63,8 +62,8 @@ module _ (brief : Bool) (gives now : FileAnswers) (same : Unchanged gives now) (
 
   -- a table that was loaded
   pub with-report : (report after : List ℕ) → IsReportAt brief now path report → after ≡ text ++ part_text several path report → IsSoFar brief gives several (paths ++ path ∷ []) after status
-  with-report report after is added = one-more (Some report) after status (is.0, is.1, file_lines_moved now gives back path is.0 is.1 is.2, is.3) added refl
+  with-report report after is added = one-more (Some report) after status (is.0, is.1, is.2, without_moved now gives back path is.0 is.1 is.2 is.3, is.4) added refl
 
   -- a table that can't be loaded
-  pub without-report : (fault : LoadFault) (later : Status) → IsLoadFault now path (failures.Fault fault) → later ≡ Faulty → IsSoFar brief gives several (paths ++ path ∷ []) text later
-  without-report fault later is turned = one-more None text later (fault, load_fault_moved now gives back path fault is) (sym (append-nil text)) turned
+  pub without-report : (fault : LoadFault) (later : Status) → IsUnloaded now path fault → later ≡ Faulty → IsSoFar brief gives several (paths ++ path ∷ []) text later
+  without-report fault later is turned = one-more None text later (fault, unloaded_moved now gives back path fault is) (sym (append-nil text)) turned

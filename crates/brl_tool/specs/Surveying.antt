@@ -2,23 +2,33 @@
 use Rattle.std.specs.Prelude.{ℕ, ◌≡◌, All, Bool, if◌then◌else◌, nat_lt, List, [], ◌++◌, codes, flat_map, is_some, length, map, Option, None, Some, Result}
 use Rattle.std.specs.List.{list_all}
 use Rattle.std.specs.Option.{option_map_or}
-use Rattle.brl_failure.specs.declared.failure.Failure.TheVariants as failures
 use Rattle.brl_lines.specs.Answer.{FileAnswers}
-use Rattle.brl_lines.specs.Outcome.{AreLinesOfFiles, IsLoadFault}
+use Rattle.brl_lines.specs.Gathering.{LeftView}
 use Rattle.brl_lines.specs.Tokens.{LineView}
 use Rattle.brl_lines.specs.declared.fault.LoadFault.{LoadFault}
 use Rattle.brl_table.specs.Survey.{survey_of}
-use Rattle.brl_report.specs.Survey.{IsSurveyText}
+use Rattle.brl_cut.specs.Skipping.{AreLinesWithout, IsUnloaded}
+use Rattle.brl_report.specs.Survey.{IsSurveyText, skipped_line}
 use Rattle.brl_answers.specs.Answers.{HasTextAndStatus, UnlessMemory}
 use Rattle.brl_answers.specs.declared.answer.Answer.{Answer}
 use Rattle.brl_answers.specs.declared.run_fault.RunFault.{RunFault}
 use Rattle.brl_answers.specs.declared.status.Status.{Status}
 use Rattle.brl_answers.specs.declared.status.Status.TheVariants.{Done, Faulty}
 
--- the text is the report of a survey of the lines of the table at a path
+-- the lines of include lines that were skipped; a report that is brief has none
+abbrev pub skipped_part : Bool → List LeftView → List ℕ
+skipped_part brief skipped = if brief then [] else flat_map skipped_line skipped
+
+-- the text is the report of a survey of these lines, of files at these paths, where these include lines
+-- were skipped
+abbrev pub IsReportOf : Bool → List LeftView → List LineView → List (List ℕ) → List ℕ → Type 0
+IsReportOf brief skipped lines paths text =
+    (surveyed : List ℕ) × IsSurveyText brief (survey_of lines) lines paths surveyed × (text ≡ skipped_part brief skipped ++ surveyed)
+
+-- the text is the report of a survey of the table at a path, without its hyphenation dictionaries
 abbrev pub IsReportAt : Bool → FileAnswers → List ℕ → List ℕ → Type 0
 IsReportAt brief gives path text =
-    (paths : List (List ℕ)) × (lines : List LineView) × AreLinesOfFiles gives path paths lines × IsSurveyText brief (survey_of lines) lines paths text
+    (skipped : List LeftView) × (paths : List (List ℕ)) × (lines : List LineView) × AreLinesWithout gives path skipped paths lines × IsReportOf brief skipped lines paths text
 
 -- a table of a survey: its path, and its report if it can be loaded
 pub record Part : Type 0 where
@@ -28,7 +38,7 @@ pub record Part : Type 0 where
 -- the report is that of the table at a path, or the table can't be loaded
 abbrev pub IsReportIfLoaded : Bool → FileAnswers → List ℕ → Option (List ℕ) → Type 0
 IsReportIfLoaded brief gives path (Some text) = IsReportAt brief gives path text
-IsReportIfLoaded brief gives path None = (fault : LoadFault) × IsLoadFault gives path (failures.Fault fault)
+IsReportIfLoaded brief gives path None = (fault : LoadFault) × IsUnloaded gives path fault
 
 -- the same of a part
 abbrev pub IsPart : Bool → FileAnswers → Part → Type 0

@@ -1,14 +1,16 @@
 //! Cells, lines, tables and translation.
 use brl_cells::{Cell, Cells, DotsFault, read_dots, to_ascii, to_unicode, write_dots};
-use brl_cut::{Cut, CutFault, cut_table};
+use brl_cut::{Cut, CutFault, WithoutDictionaries, cut_table, load_without_dictionaries};
 use brl_failure::Failure;
 use brl_forward::{Clash, ConfirmFault, ForwardFault, Traced, confirm, trace, translate};
 use brl_lines::{
     CharsFault, FileSource, GatherFault, Gathered, GatheredFile, IncludeReason, LeftInclude, Line,
     LoadFault, Loaded, MapSource, Source, SourceFault, Token, chars_of, folder, gather, load,
 };
+use brl_report::skipped_report;
 use brl_table::{
-    Class, Cond, Info, Notice, Place, Rule, Sign, Table, TableFault, holds, read_table,
+    Class, Cond, Info, Notice, Place, Rule, Sign, Table, TableFault, good_characters, holds,
+    read_table,
 };
 use brl_testing::{lend, one_file, table_of};
 use std::alloc::Global;
@@ -235,6 +237,26 @@ fn has_a_cut(alloc: Global) -> Result<bool, Fail> {
     Ok(is_gathered(&gathered?) && is_cut(&cut?))
 }
 
+/// Whether a table without its dictionary has one character, `a`.
+fn is_without_dictionary(alloc: Global, table: &WithoutDictionaries) -> Result<bool, Fail> {
+    let skipped = skipped_report(alloc, table.skipped.as_slice())?;
+    let lines = table.loaded.lines(alloc)?;
+    let characters = good_characters(alloc, lines.as_slice())?;
+    Ok(
+        skipped.as_str() == "skipped: h.dic at t.ctb:2\n"
+            && characters.len() == 1
+            && characters.contains_key(&'a'),
+    )
+}
+
+fn skips_a_dictionary(alloc: Global) -> Result<bool, Fail> {
+    let mut files = one_file(alloc, "t.ctb", b"letter a 1\ninclude h.dic\n")?;
+    let loaded: Result<WithoutDictionaries, Failure<LoadFault>> = load_without_dictionaries(
+        alloc, &mut files, "t.ctb",
+    );
+    is_without_dictionary(alloc, &loaded?)
+}
+
 fn are_reached(alloc: Global) -> Result<bool, Fail> {
     Ok(
         spells_cells(alloc)?
@@ -244,7 +266,8 @@ fn are_reached(alloc: Global) -> Result<bool, Fail> {
             && has_a_notice(alloc)?
             && has_a_rule(alloc)?
             && has_a_clash(alloc)?
-            && has_a_cut(alloc)?,
+            && has_a_cut(alloc)?
+            && skips_a_dictionary(alloc)?,
     )
 }
 

@@ -17,6 +17,14 @@ t.ctb: include ../u|t.ctb|include ../u at t.ctb:1 leads out of the table's folde
 t.ctb: include /u|t.ctb|include /u at t.ctb:1 leads out of the table's folder
 t.ctb: letter a 1|u.ctb|L1 NotFound u.ctb";
 
+/// The same of cuts whose lines may be rewritten.
+const REWRITTEN: &str = "\
+t.ctb: noback sign x 12; nofor sign y 1; noback pass2 x|t.ctb|o/t.ctb: sign x 12 # noback sign x 12; # B1 OutsideProfile sign: nofor sign y 1; # B1 OutsideProfile pass2: noback pass2 x
+t.ctb: base uppercase A a; noback letter a 21-0; letter a 3|t.ctb|o/t.ctb: uplow Aa 12-0 # base uppercase A a; letter a 21-0 # noback letter a 21-0; letter a 3
+t.ctb: include u; base uppercase A a; base uppercase B b & u: letter a 1; letter b 9|t.ctb|o/t.ctb: include u; uplow Aa 1 # base uppercase A a; # B1 OutsideProfile base: base uppercase B b & o/u: letter a 1; # B4 BadDots 9: letter b 9
+t.ctb: letter a 1; base uppercase a a; base uppercase AB a; base italic A a; base uppercase A|t.ctb|o/t.ctb: letter a 1; # B1 OutsideProfile base: base uppercase a a; # B1 OutsideProfile base: base uppercase AB a; # B1 OutsideProfile base: base italic A a; # B1 OutsideProfile base: base uppercase A
+t.ctb: letter t 2345; base uppercase a\\ t; base uppercase \\x0041 t|t.ctb|o/t.ctb: letter t 2345; # B1 OutsideProfile base: base uppercase a\\ t; uplow \\x0041t 2345 # base uppercase \\x0041 t";
+
 /// The files of a cut, each with its lines, as in a row.
 fn field_of_cut(alloc: Global, cut: &Cut) -> Result<String, Fail> {
     let mut field = String::new(alloc);
@@ -39,10 +47,16 @@ fn given(alloc: Global, outcome: Result<Cut, Failure<CutFault>>) -> Result<Strin
     }
 }
 
+/// Fails at a row whose table is cut otherwise.
+fn are_cut(alloc: Global, rows: &str, rewrite: bool) -> Result<(), Fail> {
+    for_rows_of_3(alloc, rows, |alloc, files, path| {
+        let mut source = files_of(alloc, files)?;
+        given(alloc, cut_table(alloc, &mut source, path, "o", rewrite))
+    })
+}
+
 #[test]
 fn are_written(rt: HostRuntime) -> Result<(), Fail> {
-    for_rows_of_3(rt.alloc(), CUTS, |alloc, files, path| {
-        let mut source = files_of(alloc, files)?;
-        given(alloc, cut_table(alloc, &mut source, path, "o", false))
-    })
+    are_cut(rt.alloc(), CUTS, false)?;
+    are_cut(rt.alloc(), REWRITTEN, true)
 }

@@ -2,8 +2,8 @@ use Rattle.std.proofs.Common.{◌≡◌, ◌∙◌, ◌&&◌, ◌==◌, ap, leng
 use Rattle.brl_lines.specs.Views.{line_view}
 use Rattle.brl_table.specs.Survey.{survey_of}
 use Rattle.brl_cut.proofs.RewriteLemmas.{definition-found}
-use Rattle.brl_cut.proofs.rewriting.is_definition.Goals as goal
-use Rattle.brl_cut.proofs.rewriting.is_definition.Goals.{then-found, else-found}
+use Rattle.brl_cut.proofs.putting.is_definition.Goals as goal
+use Rattle.brl_cut.proofs.putting.is_definition.Goals.{then-found, else-found}
 
 pub returns : goal.returns
 returns c =

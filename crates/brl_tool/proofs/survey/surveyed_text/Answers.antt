@@ -4,7 +4,7 @@ use Rattle.brl_lines.specs.Tokens.{LineView}
 use Rattle.brl_lines.specs.Views.{line_view}
 use Rattle.brl_report.specs.Survey.{IsSurveyText}
 use Rattle.brl_table.specs.Survey.{FindingsView, findings_view, survey_of}
-use Rattle.brl_tool.proofs.survey.report_of.Goals as goal
+use Rattle.brl_tool.proofs.survey.surveyed_text.Goals as goal
 
 pub returns : goal.returns
 returns c =
