@@ -52,12 +52,12 @@ odd_mark dots = find (λ c. not (is_among (codes "012345678-") c)) (chars dots)
 abbrev pub is_virtual : ℕ → Bool
 is_virtual c = is_among (codes "9abcdefABCDEF") c
 
--- what is said of the first odd character
+-- the note on the first character of dots that is no dot
 abbrev pub mark_note : Option ℕ → List ℕ
 mark_note (Some c) = encode_utf8_all (c ∷ []) ++ (if is_virtual c then codes " is a virtual dot, which isn't read" else codes " is no dot")
 mark_note None = codes "0 is a cell by itself"
 
--- what is said of dots that spell no cells, or too many; nothing of others
+-- the note on dots that spell no cells, or more than 16; empty for other dots
 abbrev pub dots_note : List ℕ → Result (List ℕ) DotsFault → List ℕ
 dots_note dots (Ok cells) = []
 dots_note dots (Err EmptyCell) = codes "a cell is empty"

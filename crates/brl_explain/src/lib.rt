@@ -1,7 +1,7 @@
 //! What the lines of faults mean, and what to do about them.
 //!
-//! `FAULTS` has the texts, of which the guide's tables are made too. `explain` finds that of a line or of a
-//! code, and adds what can be seen in the line.
+//! `FAULTS` has the texts; the tables of the guide are made of them too. `explain` finds the text for a
+//! line or a code, and adds what can be seen in the line.
 //!
 //! Room 5, the program (docs/dev/ARCHITECTURE.md). The definitions begin in `specs/Explaining.antt`.
 #![tactic(auto)]
