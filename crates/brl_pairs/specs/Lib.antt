@@ -12,3 +12,4 @@ pub mod Edges
 pub mod NumberPairs
 pub mod Sorted
 pub mod Splits
+pub mod Parted
