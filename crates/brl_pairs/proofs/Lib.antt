@@ -14,3 +14,5 @@ pub mod Matching
 pub mod Unmatched
 pub mod Numbered
 pub mod SplitsLaws
+pub mod Along
+pub mod ListedLaws

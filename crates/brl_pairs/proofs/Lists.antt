@@ -1,5 +1,5 @@
 -- Elements of a list by their places.
-use Rattle.std.proofs.Common.{◌≡◌, ℕ, zero, suc, ◌+◌, ◌<◌, List, [], ◌∷◌, ◌++◌, ◌⊎◌, inl, inr, length, Some, slice_get, refl, ap, subst, arith, length-append, get_or, set, replicate}
+use Rattle.std.proofs.Common.{◌≡◌, ℕ, zero, suc, ◌+◌, ◌<◌, List, [], ◌∷◌, ◌++◌, ◌⊎◌, inl, inr, length, map, Some, slice_get, refl, ap, subst, arith, length-append, get_or, set, replicate}
 use Rattle.std.proofs.lemmas.Option.{slice_get_read}
 
 -- a place is before another, or it is the same, or it is after it
@@ -58,3 +58,15 @@ module _ {X : Type 0} where
   replicate_at zero x k y at = cc
   replicate_at (suc n) x zero y at = cc
   replicate_at (suc n) x (suc k) y at = replicate_at n x k y at
+
+module _ {X Y : Type 0} (f : X → Y) where
+  -- what a function gives for the elements, by their places
+  pub mapped_at : (xs : List X) (k : ℕ) (x : X) → slice_get xs k ≡ Some x → slice_get (map f xs) k ≡ Some (f x)
+  mapped_at [] k x at = cc
+  mapped_at (z ∷ xs) zero x at = (let e : z ≡ x = cc in ap (λ w. Some (f w)) e)
+  mapped_at (z ∷ xs) (suc k) x at = mapped_at xs k x at
+
+  pub mapped_from : (xs : List X) (k : ℕ) (y : Y) → slice_get (map f xs) k ≡ Some y → (x : X) × (slice_get xs k ≡ Some x) × (f x ≡ y)
+  mapped_from [] k y at = cc
+  mapped_from (z ∷ xs) zero y at = (z, refl, (let e : f z ≡ y = cc in e))
+  mapped_from (z ∷ xs) (suc k) y at = mapped_from xs k y at

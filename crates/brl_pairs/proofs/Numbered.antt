@@ -84,3 +84,7 @@ found_or_unmatched cells edges sorted h lead found those place e at =
           inl (k.0, x.0, k.1, x.2))
       | inr other ↦ inr other
     ]
+
+-- the cells with a number that is kept
+pub kept_at : (cells : List (List ℕ)) (n : ℕ) → n < length cells → slice_get cells n ≡ Some (or_none (slice_get cells n))
+kept_at cells n within = (let own = inside cells n within in own.1 ∙ ap (λ (o : _). Some (or_none o)) (sym own.1))

@@ -13,3 +13,4 @@ pub mod NumberPairs
 pub mod Sorted
 pub mod Splits
 pub mod Parted
+pub mod Listed

@@ -33,7 +33,7 @@ mod splits;
 mod step;
 
 pub use body::Body;
-pub use edge::Edge;
+pub use edge::{Edge, ListedEdge};
 pub use edge_laws::{edges_law, unmatched_law};
 pub use key::Key;
 pub use laws::{
@@ -46,6 +46,8 @@ pub use members::Members;
 pub use number_pairs::{is_missing, is_there, is_there_swapped};
 pub use parted::Parted;
 pub use seed::{Seed, SeededHasher};
-pub use sorted::{SortedEdge, as_u32, cells_of, matches, sort_by_cells, sort_edges};
+pub use sorted::{
+    SortedEdge, as_u32, cells_at, cells_of, keep_cells, matches, sort_by_cells, sort_edges,
+};
 pub use splits::{Splits, earlier_splits, splits_of};
 pub use step::{Pair, Step};
