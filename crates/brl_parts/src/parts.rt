@@ -1,0 +1,105 @@
+//! Parts with their steps by numbers.
+ghost use Rattle.std.specs.Prelude.{◌≡◌, ◌<◌, ◌⊎◌, ℕ, All, IfOk, IfSome, OnErr, Some, length, slice_get};
+ghost use Rattle.std.specs.Global.{Vec as VecValue};
+ghost use Rattle.std.specs.List.{flat_map};
+ghost use Rattle.brl_pairs.specs.declared.edge.ListedEdge.{ListedEdge as EdgeValue};
+ghost use Rattle.brl_parts.specs.Parts.{AreByRule, IsKept, edges_of, no_parts};
+
+use brl_pairs::{Key, ListedEdge, Members, Seed};
+use std::alloc::{AllocError, Global};
+use std::marker::Model;
+
+/// The most edges that are kept: 48 MB of them.
+const MOST_EDGES: usize = 4_000_000;
+
+/// Parts of a machine's steps, each once, with its steps by numbers. A contract sees the parts and
+/// the edges of each.
+#[derive(Drop)]
+pub struct Parts<P: Key> {
+    parts: Members<P>,
+    /// Of each part, by its number.
+    edges: Vec<Vec<ListedEdge>>,
+    /// The number of edges of all parts.
+    count: usize,
+}
+
+impl<P: Key> Model for Parts<P> {
+    ghost use Rattle.std.specs.Prelude.{◌≤◌, length};
+    ghost use Rattle.brl_parts.specs.Parts.{PartsView};
+
+    ghost Value = { PartsView P };
+
+    ghost view = { λ p. record { parts = p.parts; edges = p.edges.items } };
+
+    ghost invariant = { λ p. length p.parts ≤ length p.edges.items };
+}
+
+impl<P: Key> Parts<P> {
+    /// No parts, which will be found by hashes of this seed. No memory is allocated.
+    pub fn new(alloc: Global, seed: Seed) -> Parts<P>
+        ensures { result ≡ no_parts }
+    {
+        Parts {
+            parts: Members::new(alloc, seed),
+            edges: Vec::new(alloc),
+            count: 0,
+        }
+    }
+
+    /// Whether as many edges are kept as should be: then it is time to begin anew with no parts.
+    pub fn is_full(&self) -> bool {
+        self.count > MOST_EDGES
+    }
+
+    /// The number of a part, from 0, if it is kept.
+    pub fn number_of(&self, part: &P) -> Option<usize>
+        ensures { IfSome result (λ number. slice_get self.now.parts number ≡ Some part.now) }
+    {
+        self.parts.index_of(part)
+    }
+
+    /// Keeps a part with these edges, unless it is kept already, and returns its number. The parts
+    /// before keep their numbers and edges. After `AllocError` they do too.
+    pub fn add(&mut self, part: P, edges: Vec<ListedEdge>) -> Result<usize, AllocError>
+        ensures number { IfOk result (λ number. slice_get self.new.parts number ≡ Some part) }
+        ensures kept { (k : ℕ) (p : P) (own : VecValue EdgeValue) → IsKept self.new k p own → IsKept self.old k p own ⊎ ((p ≡ part) × (own ≡ edges)) }
+        ensures stays { (k : ℕ) (p : P) → slice_get self.old.parts k ≡ Some p → slice_get self.new.parts k ≡ Some p }
+        ensures err { OnErr result (self.new.parts ≡ self.old.parts) }
+    {
+        if let Some(number) = self.parts.index_of(&part) {
+            return Ok(number);
+        }
+        let number = self.parts.len();
+        let Some(count) = self.count.checked_add(edges.len()) else {
+            return Err(AllocError);
+        };
+        self.edges.truncate(number);
+        self.edges.push(edges)?;
+        self.parts.insert(part)?;
+        self.count = count;
+        Ok(number)
+    }
+
+    /// The edges of the parts with these numbers by ascending rule. Those of one rule are in the
+    /// order of the parts.
+    pub fn by_rule(&self, alloc: Global, numbers: &[usize]) -> Result<Vec<ListedEdge>, AllocError>
+        requires { All (λ number. number < length self.now.parts) numbers.now }
+        ensures { IfOk result (λ listed. AreByRule (flat_map (edges_of self.now) numbers.now) listed.items) }
+    {
+        let mut listed = self.joined(alloc, numbers)?;
+        listed.sort_by_key(|edge| edge.rule)?;
+        Ok(listed)
+    }
+
+    /// The edges of the parts with these numbers, part by part.
+    fn joined(&self, alloc: Global, numbers: &[usize]) -> Result<Vec<ListedEdge>, AllocError>
+        requires { All (λ number. number < length self.now.parts) numbers.now }
+        ensures { IfOk result (λ listed. listed.items ≡ flat_map (edges_of self.now) numbers.now) }
+    {
+        let mut listed = Vec::new(alloc);
+        for number in numbers {
+            listed.extend_from_slice(self.edges[*number].as_slice())?;
+        }
+        Ok(listed)
+    }
+}

@@ -1,0 +1,62 @@
+//! A machine that says nothing of parts.
+ghost use Rattle.std.specs.Prelude.{◌≡◌, []};
+
+use brl_pairs::{Machine, Parted, Step};
+use std::alloc::{AllocError, Global};
+use std::marker::Model;
+
+/// A machine as a whole: its behaviour is the machine's, and it says nothing of parts. A contract
+/// sees the machine.
+#[derive(Drop)]
+pub struct Whole<'m, M: Machine> {
+    machine: &'m M,
+}
+
+impl<'m, M: Machine> Model for Whole<'m, M> {
+    ghost use Rattle.brl_parts.specs.Whole.{WholeView};
+
+    ghost Value = { WholeView M };
+
+    ghost view = { λ w. record { machine = w.machine.now } };
+}
+
+impl<'m, M: Machine> Whole<'m, M> {
+    /// The machine as a whole. No memory is allocated.
+    pub fn new(machine: &'m M) -> Whole<'m, M>
+        ensures { result.machine ≡ machine.entry.now }
+    {
+        Whole { machine }
+    }
+}
+
+impl<'m, M: Machine> Machine for Whole<'m, M> {
+    type State = M::State;
+
+    ghost behaviour = { λ w. M.behaviour w.machine };
+
+    fn start(&self) -> M::State {
+        self.machine.start()
+    }
+
+    fn moves(&self, alloc: Global, state: &M::State) -> Result<Vec<Step<M::State>>, AllocError> {
+        self.machine.moves(alloc, state)
+    }
+
+    fn ends(&self, state: &M::State) -> bool {
+        self.machine.ends(state)
+    }
+}
+
+impl<'m, M: Machine> Parted for Whole<'m, M> {
+    type Part = bool;
+
+    ghost steps_of = { λ _ _. [] };
+
+    fn parts(&self, _alloc: Global, _state: &M::State) -> Result<Option<Vec<bool>>, AllocError> {
+        Ok(None)
+    }
+
+    fn part_steps(&self, alloc: Global, _part: &bool) -> Result<Vec<Step<M::State>>, AllocError> {
+        Ok(Vec::new(alloc))
+    }
+}
