@@ -15,11 +15,11 @@ use Rattle.brl_closure.proofs.Growing.{stays_push, stays_refl, stays_trans}
 use Rattle.brl_pairs.proofs.Lists.{push_last, push_cases, length_push, inside, same_place}
 
 module _ {S : Type 0} (m : Behaviour S) where
-  taken_more : (xs ys : List S) → Stays xs ys → (number place : ℕ) (x : Step S) → TakesStep m xs number place x → TakesStep m ys number place x
+  pub taken_more : (xs ys : List S) → Stays xs ys → (number place : ℕ) (x : Step S) → TakesStep m xs number place x → TakesStep m ys number place x
   taken_more xs ys stays number place x h = record { state = h.state; at = stays number h.state h.at; listed = h.listed }
 
   pub state_origin_more : (xs ys : List S) → Stays xs ys → (s : S) (o : StateOrigin) → IsStateOrigin m xs s o → IsStateOrigin m ys s o
-  state_origin_more xs ys stays s o h = record { step = h.step; taken = taken_more xs ys stays o.parent o.place h.step h.taken; next = h.next }
+  state_origin_more xs ys stays s o h = record { place = h.place; step = h.step; taken = taken_more xs ys stays o.parent h.place h.step h.taken; next = h.next }
 
   split_more : (xs ys : List S) → Stays xs ys → (number longer shorter : ℕ) (p : NumberPair) → IsSplitOf m xs number longer shorter p → IsSplitOf m ys number longer shorter p
   split_more xs ys stays number longer shorter p h = record {

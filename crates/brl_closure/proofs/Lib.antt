@@ -26,3 +26,4 @@ pub mod Reached
 pub mod TwoRuns
 pub mod Members
 pub mod Listed
+pub mod Fresh

@@ -10,7 +10,7 @@ use Rattle.brl_closure.specs.declared.search.trail.PairOrigin.{PairOrigin}
 use Rattle.brl_closure.specs.declared.search.trail.Trail.{Trail}
 use Rattle.brl_closure.specs.Answers.{AreTwoPaths}
 use Rattle.brl_closure.specs.Trail.{TakesStep, IsStateOrigin, IsSplitOf, StaysBehindOf, GetsAheadOf, IsPairOrigin, IsEarlier, HasTwoEnds, IsTraced}
-use Rattle.brl_closure.specs.Path.{IsTextTo, Continues, SplitContinues}
+use Rattle.brl_closure.specs.Path.{IsPlaceTo, IsTextTo, Continues, SplitContinues}
 use Rattle.brl_pairs.proofs.Divergence.{places_differ}
 use Rattle.brl_pairs.proofs.Lists.{inside, same_place}
 
@@ -29,17 +29,17 @@ module _ {S : Type 0} (m : Behaviour S) (t : Trail S) (traced : IsTraced m t) wh
       (s.0, s.1, subst (λ (z : StateOrigin). z.parent < k) same found.earlier, subst (IsStateOrigin m t.states s.0) same found.found)
 
   -- one step further back
-  pub text_back : (k number : ℕ) (text more : List ℕ) (s : S) → slice_get t.states k ≡ Some s → IsTextTo m t.states s number text → (o : StateOrigin) → IsStateOrigin m t.states s o
-      → ((x : Step S) → TakesStep m t.states o.parent o.place x → more ≡ text ++ reverse x.reads) → (r : S) → slice_get t.states o.parent ≡ Some r → IsTextTo m t.states r number more
-  text_back k number text more s at before o origin put r r_at =
+  pub text_back : (k number : ℕ) (text more : List ℕ) (s : S) → slice_get t.states k ≡ Some s → IsTextTo m t.states s number text → (parent place : ℕ) → IsPlaceTo m t.states parent s place
+      → ((x : Step S) → TakesStep m t.states parent place x → more ≡ text ++ reverse x.reads) → (r : S) → slice_get t.states parent ≡ Some r → IsTextTo m t.states r number more
+  text_back k number text more s at before parent place origin put r r_at =
       let x = origin.step in
-      let from_r : origin.taken.state ≡ r = same_place t.states o.parent origin.taken.state r origin.taken.at r_at in
+      let from_r : origin.taken.state ≡ r = same_place t.states parent origin.taken.state r origin.taken.at r_at in
       record {
         state = before.state;
         at = before.at;
         path = x ∷ before.path;
         reaches = (
-          (o.place, subst (λ (z : S). slice_get (m.steps z) o.place ≡ Some x) from_r origin.taken.listed),
+          (place, subst (λ (z : S). slice_get (m.steps z) place ≡ Some x) from_r origin.taken.listed),
           subst (λ (z : S). Reaches m z before.path before.state) (sym origin.next) before.reaches,
         );
         reads = reads_back text more x.reads (reads_of before.path) (put x origin.taken) before.reads;

@@ -26,7 +26,7 @@ module _ {S : Type 0} (m : Behaviour S) (t : Trail S) (traced : IsTraced m t) wh
       let by = found.found in
       let earlier = found.earlier in
       let parent = below_reached n found.origin.parent by.taken.state (omega (arith, earlier, less)) by.taken.at in
-      subst (Reached m) by.next (step parent (found.origin.place, by.taken.listed))
+      subst (Reached m) by.next (step parent (by.place, by.taken.listed))
 
   pub state_reached : (k : ℕ) (s : S) → slice_get t.states k ≡ Some s → Reached m s
   state_reached k s at = below_reached (suc k) k s (omega arith) at
@@ -122,7 +122,7 @@ module _ {S : Type 0} (m : Behaviour S) (t : Trail S) (traced : IsTraced m t) wh
           state = f.found.taken.state;
           at = f.found.taken.at;
           step = f.found.step;
-          listed = (f.origin.place, f.found.taken.listed);
+          listed = (f.found.place, f.found.taken.listed);
           next = f.found.next;
         });
   }

@@ -95,17 +95,17 @@ IsOutcome m limit (Limit states pairs) = IsLimit m limit states pairs
 -- ---- Slices
 
 -- a fact of the outcome, where the search is finished
-abbrev pub IfFinished : {M S : Type 0} → (Outcome S → Type 0) → Slice M S → Type 0
+abbrev pub IfFinished : {M Part S : Type 0} → (Outcome S → Type 0) → Slice M Part S → Type 0
 IfFinished P (Finished outcome) = P outcome
 IfFinished P progress = Unit {0}
 
 -- a fact of the search, where it isn't finished
-abbrev pub IfUnfinished : {M S : Type 0} → (SearchView M S → Type 0) → Slice M S → Type 0
+abbrev pub IfUnfinished : {M Part S : Type 0} → (SearchView M S → Type 0) → Slice M Part S → Type 0
 IfUnfinished P (Unfinished rest) = P rest
 IfUnfinished P progress = Unit {0}
 
 -- how many steps are left at most, and one more for the end: less after each run of at least one
 -- step
-abbrev pub steps_left_in : {M S : Type 0} → Slice M S → ℕ
+abbrev pub steps_left_in : {M Part S : Type 0} → Slice M Part S → ℕ
 steps_left_in (Unfinished rest) = rest.steps_left + 1
 steps_left_in (Finished outcome) = 0

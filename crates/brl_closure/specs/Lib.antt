@@ -13,3 +13,4 @@ pub mod Trail
 pub mod Edges
 pub mod Worklist
 pub mod Path
+pub mod Fresh

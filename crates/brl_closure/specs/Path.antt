@@ -10,6 +10,16 @@ pub record HasStepAt {S : Type 0} (m : Behaviour S) (states : List S) (number pl
   pub step : Step S
   pub taken : TakesStep m states number place step
 
+-- the step of the state with this number at this place leads to the other state
+pub record IsPlaceTo {S : Type 0} (m : Behaviour S) (states : List S) (number : ℕ) (to : S) (place : ℕ) : Type 0 where
+  pub step : Step S
+  pub taken : TakesStep m states number place step
+  pub next : step.next ≡ to
+
+-- a step of the state with this number leads to the other state
+abbrev pub LeadsTo : {S : Type 0} → Behaviour S → List S → ℕ → S → Type 0
+LeadsTo m states number to = (place : ℕ) × IsPlaceTo m states number to place
+
 -- some steps lead from this state to the one with this number, and what they read is this text, the
 -- last character first
 pub record IsTextTo {S : Type 0} (m : Behaviour S) (states : List S) (from : S) (number : ℕ) (text : List ℕ) : Type 0 where

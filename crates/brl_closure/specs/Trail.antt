@@ -22,10 +22,11 @@ pub record TakesStep {S : Type 0} (m : Behaviour S) (states : List S) (number pl
   pub at : slice_get states number ≡ Some state
   pub listed : IsListedAt (m.steps state) place x
 
--- the step that the origin names ends in the state
+-- a step of the state that the origin names leads to the state
 pub record IsStateOrigin {S : Type 0} (m : Behaviour S) (states : List S) (s : S) (o : StateOrigin) : Type 0 where
+  pub place : ℕ
   pub step : Step S
-  pub taken : TakesStep m states o.parent o.place step
+  pub taken : TakesStep m states o.parent place step
   pub next : step.next ≡ s
 
 -- the state with this number is found by a step of an earlier one

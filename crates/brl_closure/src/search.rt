@@ -7,8 +7,10 @@
 //! - Inside, a `Finder` finds the states and pairs of a machine, a `Trail` keeps them and how each
 //!   was found, and a `Worklist` has what is left to do.
 //! - The laws state what is reached, and that the search decides.
+mod edges;
 mod explore;
 mod finder;
+mod fresh;
 mod laws;
 mod outcome;
 mod pairs;

@@ -107,8 +107,8 @@ module _ {X Y : Type 0} (R : X → Y → Type 0) (f : X → ℕ) (g : Y → ℕ)
     | inr rest ↦ elim rest [
       | inl same ↦ (
           let here : AllZip R (x ∷ with_number f (f x) xs) (y ∷ with_number g (g y) ys) =
-              subst (λ (l : List Y). AllZip R (x ∷ with_number f (f x) xs) l) (ap (λ k. with_number g k (y ∷ ys)) same ∙ own-first g y ys)
-              (subst (λ (l : List X). AllZip R l (with_number g (f x) (y ∷ ys))) (own-first f x xs) (h (f x))) in
+          subst (λ (l : List Y). AllZip R (x ∷ with_number f (f x) xs) l) (ap (λ k. with_number g k (y ∷ ys)) same ∙ own-first g y ys)
+          (subst (λ (l : List X). AllZip R l (with_number g (f x) (y ∷ ys))) (own-first f x xs) (h (f x))) in
           (here.0, along-ascending xs ys a.1 b.1 (λ k. tails (nat_eq k (f x)) (nat_eq k (g y)) (ap (nat_eq k) (sym same)) x (with_number f k xs) y (with_number g k ys) (h k))))
       | inr less ↦ absurd (
           let none : with_number f (g y) (x ∷ xs) ≡ [] = none-below f (g y) (f x) (x ∷ xs) less ((omega arith), a.0) in

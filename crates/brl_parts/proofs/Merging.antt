@@ -35,15 +35,15 @@ module _ {S P : Type 0} (steps_of : P → List (Step S)) (states : List S) (cell
   merged_edges listed parts numbers edges in_order parted all by_rule =
       let R : Step S → ListedEdge → Type 0 = IsByNumbers states cells in
       let joined : AllZip R (flat_map steps_of parts) (flat_map (edges_of kept) numbers) =
-          along-flat_map R IsNumberOf steps_of (edges_of kept) (λ part number own. along-each R (steps_of part) (edges_of kept number) own.edges.count own.edges.each) parts numbers all in
+      along-flat_map R IsNumberOf steps_of (edges_of kept) (λ part number own. along-each R (steps_of part) (edges_of kept number) own.edges.count own.edges.each) parts numbers all in
       let each : (k : ℕ) → AllZip R (with_number (λ (x : Step S). x.rule) k listed) (with_number (λ (e : ListedEdge). e.rule) k edges) = λ k.
-          subst (λ (l : List (Step S)). AllZip R l (with_number (λ (e : ListedEdge). e.rule) k edges)) (sym (parted k))
-          (subst (λ (l : List ListedEdge). AllZip R (with_number (λ (x : Step S). x.rule) k (flat_map steps_of parts)) l) (sym (by_rule.each k))
-          (along-filter R (λ (x : Step S). nat_eq k x.rule) (λ (e : ListedEdge). nat_eq k e.rule) (λ x e is. ap (nat_eq k) is.rule) (flat_map steps_of parts) (flat_map (edges_of kept) numbers) joined)) in
+      subst (λ (l : List (Step S)). AllZip R l (with_number (λ (e : ListedEdge). e.rule) k edges)) (sym (parted k))
+      (subst (λ (l : List ListedEdge). AllZip R (with_number (λ (x : Step S). x.rule) k (flat_map steps_of parts)) l) (sym (by_rule.each k))
+      (along-filter R (λ (x : Step S). nat_eq k x.rule) (λ (e : ListedEdge). nat_eq k e.rule) (λ x e is. ap (nat_eq k) is.rule) (flat_map steps_of parts) (flat_map (edges_of kept) numbers) joined)) in
       let whole : AllZip R listed edges = along-ascending R (λ (x : Step S). x.rule) (λ (e : ListedEdge). e.rule) listed edges
-          (ascends (λ (x : Step S). x.rule) listed (λ i j x y before at there. (in_order i j x y before at there).ascend))
-          (ascends (λ (e : ListedEdge). e.rule) edges (λ i j x y before at there. rises edges by_rule.ascending i j x y (omega (arith, before)) at there))
-          each in
+      (ascends (λ (x : Step S). x.rule) listed (λ i j x y before at there. (in_order i j x y before at there).ascend))
+      (ascends (λ (e : ListedEdge). e.rule) edges (λ i j x y before at there. rises edges by_rule.ascending i j x y (omega (arith, before)) at there))
+      each in
       record { count = along-length R listed edges whole; each = along-at R listed edges whole }
 
 -- ---- Joining and sorting

@@ -1,5 +1,5 @@
 //! Parts with their steps by numbers.
-ghost use Rattle.std.specs.Prelude.{◌≡◌, ◌<◌, ◌⊎◌, ℕ, All, IfOk, IfSome, OnErr, Some, length, slice_get};
+ghost use Rattle.std.specs.Prelude.{◌≡◌, ◌<◌, ◌≤◌, ◌⊎◌, ℕ, All, IfOk, IfSome, OnErr, Some, length, slice_get};
 ghost use Rattle.std.specs.Global.{Vec as VecValue};
 ghost use Rattle.std.specs.List.{flat_map};
 ghost use Rattle.brl_pairs.specs.declared.edge.ListedEdge.{ListedEdge as EdgeValue};
@@ -78,6 +78,13 @@ impl<P: Key> Parts<P> {
         self.parts.insert(part)?;
         self.count = count;
         Ok(number)
+    }
+
+    /// A law: each part has edges.
+    pub fn law(&self)
+        ensures { length self.now.parts ≤ length self.now.edges }
+    {
+        let _ = self.edges.as_slice();
     }
 
     /// The edges of the parts with these numbers by ascending rule. Those of one rule are in the

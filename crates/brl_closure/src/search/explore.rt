@@ -13,7 +13,8 @@ use crate::search::outcome::Outcome;
 use crate::search::trail::Trail;
 use crate::search::worklist::Worklist;
 use brl_failure::Failure;
-use brl_pairs::{Machine, Seed};
+use brl_pairs::{Machine, Parted, Seed};
+use brl_parts::Whole;
 use brl_progress::{NoProgress, Progress, Work};
 use std::alloc::{AllocError, Global};
 use std::marker::Model;
@@ -26,13 +27,13 @@ use std::marker::Model;
 /// A contract sees what is found so far, and how many steps are left at most. `search_machine` runs
 /// such a search to its end.
 #[derive(Drop)]
-pub struct Search<'m, M: Machine> {
+pub struct Search<'m, M: Parted> {
     finder: Finder<'m, M>,
     trail: Trail<M::State>,
-    worklist: Worklist,
+    worklist: Worklist<M::Part>,
 }
 
-impl<'m, M: Machine> Model for Search<'m, M> {
+impl<'m, M: Parted> Model for Search<'m, M> {
     ghost use Rattle.brl_closure.specs.SearchView.{SearchView};
 
     ghost Value = { SearchView M M.State };
@@ -47,18 +48,18 @@ impl<'m, M: Machine> Model for Search<'m, M> {
       steps_left = steps_left s.finder.limit s.trail s.worklist;
     } };
 
-    ghost invariant = { λ s. IsWorking M.behaviour s.finder s.trail s.worklist };
+    ghost invariant = { λ s. IsWorking M.behaviour M.steps_of s.finder s.trail s.worklist };
 }
 
 /// The progress of a search.
 #[derive(Drop)]
-pub enum Slice<'m, M: Machine> {
+pub enum Slice<'m, M: Parted> {
     /// There is more to do.
     Unfinished(Search<'m, M>),
     Finished(Outcome<M::State>),
 }
 
-impl<'m, M: Machine> Search<'m, M> {
+impl<'m, M: Parted> Search<'m, M> {
     /// The search of a machine that has found the start. It finds states and pairs by hashes of this
     /// seed, which is to be drawn from all that the machine depends on.
     pub fn start(
@@ -124,6 +125,7 @@ impl<'m, M: Machine> Search<'m, M> {
             mut trail,
             mut worklist,
         } = self;
+        worklist.forget_parts(finder.alloc, finder.seed);
         match finder.run(&mut trail, &mut worklist, steps) {
             Ok(true) => Ok(Slice::Unfinished(Search {
                 finder,
@@ -156,12 +158,12 @@ pub fn search_machine<M: Machine>(
     requires { limit ≤ 4294967295 }
     ensures { IfOk result (IsOutcome (M.behaviour machine.now) limit) }
 {
-    search_machine_with(alloc, machine, limit, seed, &mut NoProgress)
+    search_machine_with(alloc, &Whole::new(machine), limit, seed, &mut NoProgress)
 }
 
 /// Searches a machine as `search_machine` does, and reports its progress to `watch` before each slice
 /// of steps.
-pub fn search_machine_with<M: Machine, W: Progress>(
+pub fn search_machine_with<M: Parted, W: Progress>(
     alloc: Global,
     machine: &M,
     limit: u64,
@@ -183,16 +185,16 @@ pub fn search_machine_with<M: Machine, W: Progress>(
     }
 }
 
-impl<'m, M: Machine> Finder<'m, M> {
+impl<'m, M: Parted> Finder<'m, M> {
     /// Takes at most this number of steps. False where nothing is left to do.
     fn run(
         &self,
         trail: &mut Trail<M::State>,
-        worklist: &mut Worklist,
+        worklist: &mut Worklist<M::Part>,
         steps: u64,
     ) -> Result<bool, Failure<Stop>>
-        requires working { IsWorking M.behaviour self.now trail.old worklist.old }
-        ensures steps { IfOk result (λ more. OnTrue more (AreSteps M.behaviour steps self.now trail.old worklist.old trail.new worklist.new)) }
+        requires working { IsWorking M.behaviour M.steps_of self.now trail.old worklist.old }
+        ensures steps { IfOk result (λ more. OnTrue more (AreSteps M.behaviour M.steps_of steps self.now trail.old worklist.old trail.new worklist.new)) }
         ensures finished { IfOk result (λ more. OnFalse more (IsFinished M.behaviour self.now trail.new)) }
         ensures stopped { IfErr result (IfFault (IsStopped M.behaviour self.now trail.new)) }
     {
@@ -209,10 +211,10 @@ impl<'m, M: Machine> Finder<'m, M> {
     fn step(
         &self,
         trail: &mut Trail<M::State>,
-        worklist: &mut Worklist,
+        worklist: &mut Worklist<M::Part>,
     ) -> Result<bool, Failure<Stop>>
-        requires working { IsWorking M.behaviour self.now trail.old worklist.old }
-        ensures step { IfOk result (λ more. OnTrue more (IsStep M.behaviour self.now trail.old worklist.old trail.new worklist.new)) }
+        requires working { IsWorking M.behaviour M.steps_of self.now trail.old worklist.old }
+        ensures step { IfOk result (λ more. OnTrue more (IsStep M.behaviour M.steps_of self.now trail.old worklist.old trail.new worklist.new)) }
         ensures finished { IfOk result (λ more. OnFalse more (IsFinished M.behaviour self.now trail.new)) }
         ensures stopped { IfErr result (IfFault (IsStopped M.behaviour self.now trail.new)) }
     {
@@ -231,10 +233,10 @@ impl<'m, M: Machine> Finder<'m, M> {
     fn walk_next(
         &self,
         trail: &mut Trail<M::State>,
-        worklist: &mut Worklist,
+        worklist: &mut Worklist<M::Part>,
     ) -> Result<bool, Failure<Stop>>
-        requires working { IsWorking M.behaviour self.now trail.old worklist.old }
-        ensures step { IfOk result (λ more. OnTrue more (IsStep M.behaviour self.now trail.old worklist.old trail.new worklist.new)) }
+        requires working { IsWorking M.behaviour M.steps_of self.now trail.old worklist.old }
+        ensures step { IfOk result (λ more. OnTrue more (IsStep M.behaviour M.steps_of self.now trail.old worklist.old trail.new worklist.new)) }
         ensures none { IfOk result (λ more. OnFalse more (NoneIsReady worklist.old)) }
         ensures same_work { IfOk result (λ more. OnFalse more (worklist.new ≡ worklist.old)) }
         ensures same { IfOk result (λ more. OnFalse more (trail.new ≡ trail.old)) }
@@ -254,16 +256,17 @@ impl<'m, M: Machine> Finder<'m, M> {
     fn expand_next(
         &self,
         trail: &mut Trail<M::State>,
-        worklist: &mut Worklist,
+        worklist: &mut Worklist<M::Part>,
     ) -> Result<(), Failure<Stop>>
-        requires working { IsWorking M.behaviour self.now trail.old worklist.old }
+        requires working { IsWorking M.behaviour M.steps_of self.now trail.old worklist.old }
         requires some { length worklist.old.expanded.items < length trail.old.states }
-        ensures step { OnOk result (IsStep M.behaviour self.now trail.old worklist.old trail.new worklist.new) }
+        ensures step { OnOk result (IsStep M.behaviour M.steps_of self.now trail.old worklist.old trail.new worklist.new) }
         ensures stopped { IfErr result (IfFault (IsStopped M.behaviour self.now trail.new)) }
     {
         let known = trail.pairs.len();
         let number = worklist.expanded.len();
-        let edges = self.expand(trail, &mut worklist.cells, number)?;
+        let (cells, parts) = (&mut worklist.cells, &mut worklist.parts);
+        let edges = self.expand(trail, cells, parts, number)?;
         worklist.expanded.push(edges)?;
         worklist.enqueue_from(&trail.pairs, known)?;
         Ok(())

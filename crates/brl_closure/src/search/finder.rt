@@ -1,13 +1,12 @@
 //! The finder of a machine's states and pairs, and how it finds states.
-ghost use Rattle.std.specs.Prelude.{◌≡◌, ◌<◌, [], ◌∷◌, length, IfOk, IfErr, OnOk, Some, slice_get};
-ghost use Rattle.brl_pairs.specs.Edges.{AreEdges};
+ghost use Rattle.std.specs.Prelude.{◌≡◌, [], ◌∷◌, IfOk, IfErr, OnOk, Some, slice_get};
 ghost use Rattle.brl_failure.specs.Failure.{IfFault};
 ghost use Rattle.brl_pairs.specs.Runs.{KeepsLaws};
 ghost use Rattle.brl_closure.specs.Trail.{Advances, IsActive, IsStateOrigin, IsStopped, IsTraced};
 
 use crate::search::trail::{StateOrigin, Trail};
 use brl_failure::Failure;
-use brl_pairs::{Edge, Machine, Members, Seed};
+use brl_pairs::{Machine, Members, Seed};
 use std::alloc::{AllocError, Global};
 
 /// Finds the states and pairs of a machine, at most `limit` of each. What it has found is in a
@@ -41,10 +40,7 @@ impl<'m, M: Machine> Finder<'m, M> {
         let mut states = Members::new(self.alloc, self.seed);
         states.insert(self.machine.start())?;
         let mut state_origins = Vec::new(self.alloc);
-        state_origins.push(StateOrigin {
-            parent: 0,
-            place: 0,
-        })?;
+        state_origins.push(StateOrigin { parent: 0 })?;
         Ok(Trail {
             states,
             state_origins,
@@ -54,7 +50,7 @@ impl<'m, M: Machine> Finder<'m, M> {
     }
 
     /// The number of a state, from 0. A state that hasn't been found before is added.
-    fn find_state(
+    pub fn find_state(
         &self,
         trail: &mut Trail<M::State>,
         state: M::State,
@@ -76,37 +72,5 @@ impl<'m, M: Machine> Finder<'m, M> {
             return Err(Failure::Fault(Stop::Limit));
         }
         Ok(number as u32)
-    }
-
-    /// The edges of the steps of the state with this number, in listed order. The next states of
-    /// these steps are added where they haven't been found before.
-    pub fn find_edges(
-        &self,
-        trail: &mut Trail<M::State>,
-        number: usize,
-    ) -> Result<Vec<Edge>, Failure<Stop>>
-        requires active { IsActive M.behaviour self.now trail.old }
-        requires within { number < length trail.old.states }
-        ensures edges { IfOk result (λ edges. AreEdges (M.behaviour self.now.machine.now) trail.new.states number edges.items) }
-        ensures advances { OnOk result (Advances M.behaviour self.now trail.old trail.new) }
-        ensures stopped { IfErr result (IfFault (IsStopped M.behaviour self.now trail.new)) }
-    {
-        let listed = self
-            .machine
-            .moves(self.alloc, &trail.states.as_slice()[number])?;
-        let mut edges = Vec::new(self.alloc);
-        for step in listed {
-            let origin = StateOrigin {
-                parent: number,
-                place: edges.len(),
-            };
-            let next = self.find_state(trail, step.next, origin)?;
-            edges.push(Edge {
-                rule: step.rule,
-                cells: step.cells,
-                next,
-            })?;
-        }
-        Ok(edges)
     }
 }

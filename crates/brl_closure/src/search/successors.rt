@@ -1,7 +1,9 @@
 //! Expanding states, and walking pairs.
 ghost use Rattle.std.specs.Prelude.{◌≡◌, ◌<◌, ℕ, length, IfErr, IfOk, OnOk, Some, slice_get};
 ghost use Rattle.brl_pairs.specs.Body.{NumberPair};
+ghost use Rattle.brl_parts.specs.Parts.{AreKeptParts};
 ghost use Rattle.brl_pairs.specs.Edges.{AreEdges};
+ghost use Rattle.brl_pairs.specs.Listed.{edges_with};
 ghost use Rattle.brl_pairs.specs.NumberPairs.{IsFollowed};
 ghost use Rattle.brl_pairs.specs.Sorted.{AreSortedEdges, IsSortedOf};
 ghost use Rattle.brl_pairs.specs.Splits.{AreSplits};
@@ -16,9 +18,10 @@ use crate::search::trail::{Origins, PairOrigin, Trail};
 use brl_cells::Cells;
 use brl_failure::Failure;
 use brl_pairs::{
-    Edge, Machine, Members, Pair, SortedEdge, Splits, cells_of, earlier_splits, matches,
-    sort_edges, splits_of,
+    ListedEdge, Machine, Members, Pair, Parted, SortedEdge, Splits, cells_at, cells_of,
+    earlier_splits, matches, sort_edges, splits_of,
 };
+use brl_parts::Parts;
 use std::alloc::AllocError;
 
 impl<'m, M: Machine> Finder<'m, M> {
@@ -27,16 +30,17 @@ impl<'m, M: Machine> Finder<'m, M> {
         &self,
         trail: &mut Trail<M::State>,
         number: usize,
-        edges: &[Edge],
+        cells: &[Cells],
+        edges: &[ListedEdge],
         first: usize,
         second: usize,
     ) -> Result<(), Failure<Stop>>
         requires active { IsActive M.behaviour self.now trail.old }
-        requires edges { AreEdges (M.behaviour self.now.machine.now) trail.old.states number edges.now }
+        requires edges { AreEdges (M.behaviour self.now.machine.now) trail.old.states number (edges_with cells.now edges.now) }
         requires in_order { first < second }
         requires within { second < length edges.now }
-        ensures followed { OnOk result ((x y : EdgeValue) → slice_get edges.now first ≡ Some x
-            → slice_get edges.now second ≡ Some y → IsFollowed trail.new.pairs x.next x.cells y) }
+        ensures followed { OnOk result ((x y : EdgeValue) → slice_get (edges_with cells.now edges.now) first ≡ Some x
+            → slice_get (edges_with cells.now edges.now) second ≡ Some y → IsFollowed trail.new.pairs x.next x.cells y) }
         ensures advances { OnOk result (Advances M.behaviour self.now trail.old trail.new) }
         ensures stopped { IfErr result (IfFault (IsStopped M.behaviour self.now trail.new)) }
     {
@@ -52,10 +56,10 @@ impl<'m, M: Machine> Finder<'m, M> {
                 shorter: first,
             },
         };
-        let ahead = &edges[first];
-        let lead = ahead.cells.as_slice();
-        let later = &edges[second];
-        let cells = later.cells.as_slice();
+        let ahead = edges[first];
+        let lead = cells_at(cells, ahead.cells);
+        let later = edges[second];
+        let cells = cells_at(cells, later.cells);
         self.follow(trail, ahead.next, lead, later.next, cells, origins)
     }
 
@@ -64,19 +68,19 @@ impl<'m, M: Machine> Finder<'m, M> {
         &self,
         trail: &mut Trail<M::State>,
         number: usize,
-        edges: &[Edge],
         cells: &[Cells],
+        edges: &[ListedEdge],
         sorted: &[SortedEdge],
         splits: &Splits,
         second: usize,
     ) -> Result<(), Failure<Stop>>
         requires active { IsActive M.behaviour self.now trail.old }
-        requires edges { AreEdges (M.behaviour self.now.machine.now) trail.old.states number edges.now }
-        requires sorted { IsSortedOf cells.now edges.now sorted.now }
+        requires edges { AreEdges (M.behaviour self.now.machine.now) trail.old.states number (edges_with cells.now edges.now) }
+        requires sorted { IsSortedOf cells.now (edges_with cells.now edges.now) sorted.now }
         requires splits { AreSplits cells.now sorted.now splits.now }
         requires within { second < length edges.now }
-        ensures followed { OnOk result ((i : ℕ) (x y : EdgeValue) → i < second → slice_get edges.now i ≡ Some x
-            → slice_get edges.now second ≡ Some y → IsFollowed trail.new.pairs x.next x.cells y) }
+        ensures followed { OnOk result ((i : ℕ) (x y : EdgeValue) → i < second → slice_get (edges_with cells.now edges.now) i ≡ Some x
+            → slice_get (edges_with cells.now edges.now) second ≡ Some y → IsFollowed trail.new.pairs x.next x.cells y) }
         ensures advances { OnOk result (Advances M.behaviour self.now trail.old trail.new) }
         ensures stopped { IfErr result (IfFault (IsStopped M.behaviour self.now trail.new)) }
     {
@@ -85,7 +89,7 @@ impl<'m, M: Machine> Finder<'m, M> {
         while left > 0 {
             left -= 1;
             let first = found[left].place as usize;
-            self.find_split(trail, number, edges, first, second)?;
+            self.find_split(trail, number, cells, edges, first, second)?;
         }
         Ok(())
     }
@@ -95,45 +99,22 @@ impl<'m, M: Machine> Finder<'m, M> {
         &self,
         trail: &mut Trail<M::State>,
         number: usize,
-        edges: &[Edge],
         cells: &[Cells],
+        edges: &[ListedEdge],
         sorted: &[SortedEdge],
     ) -> Result<(), Failure<Stop>>
         requires active { IsActive M.behaviour self.now trail.old }
-        requires edges { AreEdges (M.behaviour self.now.machine.now) trail.old.states number edges.now }
-        requires sorted { IsSortedOf cells.now edges.now sorted.now }
+        requires edges { AreEdges (M.behaviour self.now.machine.now) trail.old.states number (edges_with cells.now edges.now) }
+        requires sorted { IsSortedOf cells.now (edges_with cells.now edges.now) sorted.now }
         ensures expanded { OnOk result (IsExpanded (M.behaviour self.now.machine.now) trail.new.states trail.new.pairs number) }
         ensures advances { OnOk result (Advances M.behaviour self.now trail.old trail.new) }
         ensures stopped { IfErr result (IfFault (IsStopped M.behaviour self.now trail.new)) }
     {
         let splits = splits_of(self.alloc, cells, sorted, edges.len())?;
         for second in 0..edges.len() {
-            self.find_splits_of(trail, number, edges, cells, sorted, &splits, second)?;
+            self.find_splits_of(trail, number, cells, edges, sorted, &splits, second)?;
         }
         Ok(())
-    }
-
-    /// Adds the next states of the steps of a state, and its splits. Returns the edges of these
-    /// steps in the order of their cells, which are kept.
-    pub fn expand(
-        &self,
-        trail: &mut Trail<M::State>,
-        kept: &mut Members<Cells>,
-        number: usize,
-    ) -> Result<Vec<SortedEdge>, Failure<Stop>>
-        requires active { IsActive M.behaviour self.now trail.old }
-        requires within { number < length trail.old.states }
-        ensures edges { IfOk result (λ sorted. AreSortedEdges (M.behaviour self.now.machine.now) trail.new.states number kept.new sorted.items) }
-        ensures kept { OnOk result (Stays kept.old kept.new) }
-        ensures expanded { OnOk result (IsExpanded (M.behaviour self.now.machine.now) trail.new.states trail.new.pairs number) }
-        ensures advances { OnOk result (Advances M.behaviour self.now trail.old trail.new) }
-        ensures stopped { IfErr result (IfFault (IsStopped M.behaviour self.now trail.new)) }
-    {
-        let edges = self.find_edges(trail, number)?;
-        let sorted = sort_edges(self.alloc, kept, edges.as_slice())?;
-        let cells = kept.as_slice();
-        self.find_splits(trail, number, edges.as_slice(), cells, sorted.as_slice())?;
-        Ok(sorted)
     }
 
     /// Adds the successors of a pair, by the edges of its state behind.
@@ -197,6 +178,34 @@ impl<'m, M: Machine> Finder<'m, M> {
         let pair = copy_of(&trail.pairs.as_slice()[number])?;
         let sorted = expanded[pair.behind as usize].as_slice();
         self.find_moves(trail, number, &pair, cells, sorted)
+    }
+}
+
+impl<'m, M: Parted> Finder<'m, M> {
+    /// Adds the next states of the steps of a state, and its splits. Returns the edges of these
+    /// steps in the order of their cells, which are kept.
+    pub fn expand(
+        &self,
+        trail: &mut Trail<M::State>,
+        cells: &mut Members<Cells>,
+        parts: &mut Parts<M::Part>,
+        number: usize,
+    ) -> Result<Vec<SortedEdge>, Failure<Stop>>
+        requires active { IsActive M.behaviour self.now trail.old }
+        requires within { number < length trail.old.states }
+        requires parts { AreKeptParts (M.steps_of self.now.machine.now) trail.old.states cells.old parts.old }
+        ensures edges { IfOk result (λ sorted. AreSortedEdges (M.behaviour self.now.machine.now) trail.new.states number cells.new sorted.items) }
+        ensures cells { OnOk result (Stays cells.old cells.new) }
+        ensures parts { OnOk result (AreKeptParts (M.steps_of self.now.machine.now) trail.new.states cells.new parts.new) }
+        ensures expanded { OnOk result (IsExpanded (M.behaviour self.now.machine.now) trail.new.states trail.new.pairs number) }
+        ensures advances { OnOk result (Advances M.behaviour self.now trail.old trail.new) }
+        ensures stopped { IfErr result (IfFault (IsStopped M.behaviour self.now trail.new)) }
+    {
+        let edges = self.find_edges(trail, cells, parts, number)?;
+        let kept = cells.as_slice();
+        let sorted = sort_edges(self.alloc, kept, edges.as_slice())?;
+        self.find_splits(trail, number, kept, edges.as_slice(), sorted.as_slice())?;
+        Ok(sorted)
     }
 }
 

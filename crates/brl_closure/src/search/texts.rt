@@ -5,7 +5,7 @@ ghost use Rattle.brl_pairs.specs.Runs.{KeepsLaws};
 ghost use Rattle.brl_pairs.specs.declared.step.Step.{Step as StepValue};
 ghost use Rattle.brl_closure.specs.Answers.{AreTwoPaths};
 ghost use Rattle.brl_closure.specs.Trail.{HasTwoEndsAt, IsTraced, TakesStep};
-ghost use Rattle.brl_closure.specs.Path.{HasStepAt, HasStepBehind, IsTextTo, SplitContinues};
+ghost use Rattle.brl_closure.specs.Path.{HasStepAt, HasStepBehind, IsPlaceTo, IsTextTo, LeadsTo, SplitContinues};
 
 use crate::search::finder::Finder;
 use crate::search::trail::{PairOrigin, Trail};
@@ -39,6 +39,24 @@ impl<'m, M: Machine> Finder<'m, M> {
         text.extend_from_slice(reads.as_slice())
     }
 
+    /// The place of the first step of a state that leads to another one.
+    fn place_to(
+        &self,
+        states: &[M::State],
+        number: usize,
+        to: &M::State,
+    ) -> Result<usize, AllocError>
+        requires { LeadsTo (M.behaviour self.now.machine.now) states.now number to.now }
+        ensures { IfOk result (IsPlaceTo (M.behaviour self.now.machine.now) states.now number to.now) }
+    {
+        let listed = self.machine.moves(self.alloc, &states[number])?;
+        let mut place = 0;
+        while listed[place].next != *to {
+            place += 1;
+        }
+        Ok(place)
+    }
+
     /// A text that leads from the start to the state with this number, the last character first.
     fn text_to(&self, trail: &Trail<M::State>, number: usize) -> Result<Vec<char>, AllocError>
         requires traced { IsTraced (M.behaviour self.now.machine.now) trail.now }
@@ -48,10 +66,11 @@ impl<'m, M: Machine> Finder<'m, M> {
         let mut text = Vec::new(self.alloc);
         let mut state = number;
         while state > 0 {
-            let origin = trail.state_origins[state];
+            let parent = trail.state_origins[state].parent;
             let states = trail.states.as_slice();
-            self.push_reads(states, origin.parent, origin.place, &mut text)?;
-            state = origin.parent;
+            let place = self.place_to(states, parent, &states[state])?;
+            self.push_reads(states, parent, place, &mut text)?;
+            state = parent;
         }
         Ok(text)
     }

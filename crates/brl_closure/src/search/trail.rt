@@ -1,11 +1,10 @@
 //! What a search has found, and how it was found.
 use brl_pairs::{Key, Members, Pair};
 
-/// The step by which a state was found first: its place in the list of steps of an earlier state.
+/// The earlier state from which a step led to a state first.
 #[derive(Clone, Copy)]
 pub struct StateOrigin {
     pub parent: usize,
-    pub place: usize,
 }
 
 /// How a pair was found first.

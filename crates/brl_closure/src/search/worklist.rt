@@ -1,21 +1,25 @@
 //! What is left to do in a search.
-ghost use Rattle.std.specs.Prelude.{◌≡◌, ◌+◌, ◌<◌, ◌≤◌, ◌∷◌, ℕ, All, [], length, IfNone, IfSome, OnOk, OnSome};
+ghost use Rattle.std.specs.Prelude.{◌≡◌, ◌⊎◌, ◌+◌, ◌<◌, ◌≤◌, ◌∷◌, ℕ, All, [], length, IfNone, IfSome, OnOk, OnSome};
 ghost use Rattle.std.specs.BinaryHeap.{heap_items, heap_len};
 ghost use Rattle.std.specs.List.Sorted.{IsPermutation};
 ghost use Rattle.std.specs.declared.cmp.Reverse.{Reverse as ReverseValue};
+ghost use Rattle.brl_parts.specs.Parts.{no_parts};
 ghost use Rattle.brl_closure.specs.Worklist.{IsItemOf, IsQueued, NoneIsReady};
 
 use brl_cells::Cells;
-use brl_pairs::{Members, Pair, Seed, SortedEdge};
+use brl_pairs::{Key, Members, Pair, Seed, SortedEdge};
+use brl_parts::Parts;
 use std::alloc::{AllocError, Global};
 use std::cmp::Reverse;
 use std::collections::BinaryHeap;
 
 /// What is left to do in a search: states to be expanded, and pairs to be walked.
 #[derive(Drop)]
-pub struct Worklist {
+pub struct Worklist<P: Key> {
     /// The cells of edges, each once. Edges name them by their numbers.
     pub cells: Members<Cells>,
+    /// The parts of steps that have been listed.
+    pub parts: Parts<P>,
     /// The edges of each state that has been expanded, in the order of their cells. The other
     /// states are expanded in the order in which they were found.
     pub expanded: Vec<Vec<SortedEdge>>,
@@ -24,16 +28,31 @@ pub struct Worklist {
     pub queue: BinaryHeap<Reverse<(u32, usize)>>,
 }
 
-impl Worklist {
-    /// Nothing is done, and no pair is known. Cells will be found by hashes of this seed.
-    pub fn new(alloc: Global, seed: Seed) -> Worklist
+impl<P: Key> Worklist<P> {
+    /// Nothing is done, and no pair is known. Cells and parts will be found by hashes of this seed.
+    pub fn new(alloc: Global, seed: Seed) -> Worklist<P>
+        ensures parts { result.parts ≡ no_parts }
         ensures expanded { result.expanded.items ≡ [] }
         ensures queue { heap_items result.queue ≡ [] }
     {
         Worklist {
             cells: Members::new(alloc, seed),
+            parts: Parts::new(alloc, seed),
             expanded: Vec::new(alloc),
             queue: BinaryHeap::new(alloc),
+        }
+    }
+
+    /// Keeps no parts any more where as many are kept as should be. New ones will be found by hashes
+    /// of this seed.
+    pub fn forget_parts(&mut self, alloc: Global, seed: Seed)
+        ensures parts { (self.new.parts ≡ self.old.parts) ⊎ (self.new.parts ≡ no_parts) }
+        ensures cells { self.new.cells ≡ self.old.cells }
+        ensures expanded { self.new.expanded ≡ self.old.expanded }
+        ensures queue { self.new.queue ≡ self.old.queue }
+    {
+        if self.parts.is_full() {
+            self.parts = Parts::new(alloc, seed);
         }
     }
 
@@ -41,6 +60,7 @@ impl Worklist {
     /// the states of all its successors are known.
     pub fn pop_ready(&mut self) -> Option<usize>
         ensures cells { self.new.cells ≡ self.old.cells }
+        ensures parts { self.new.parts ≡ self.old.parts }
         ensures expanded { self.new.expanded ≡ self.old.expanded }
         ensures first { IfSome result (λ number. (first : ReverseValue (ℕ × ℕ)) × (first.0.1 ≡ number) × (first.0.0 < length self.old.expanded.items)
             × IsPermutation (heap_items self.old.queue) (first ∷ heap_items self.new.queue)) }
@@ -64,6 +84,7 @@ impl Worklist {
     ) -> Result<(), AllocError>
         requires { from ≤ length pairs.now }
         ensures cells { self.new.cells ≡ self.old.cells }
+        ensures parts { self.new.parts ≡ self.old.parts }
         ensures expanded { self.new.expanded ≡ self.old.expanded }
         ensures new { OnOk result ((n : ℕ) → from ≤ n → n < length pairs.now → IsQueued n (heap_items self.new.queue)) }
         ensures old { OnOk result ((n : ℕ) → IsQueued n (heap_items self.old.queue) → IsQueued n (heap_items self.new.queue)) }

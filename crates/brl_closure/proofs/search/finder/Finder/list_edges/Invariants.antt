@@ -1,10 +1,11 @@
-use Rattle.std.proofs.Common.{◌≡◌, length, Some, slice_get}
-use Rattle.brl_pairs.specs.Edges.{AreFirstEdges}
+use Rattle.brl_pairs.specs.Listed.{AreListedEdges}
+use Rattle.brl_closure.specs.SearchView.{Stays}
 use Rattle.brl_closure.specs.Trail.{Advances}
-use Rattle.brl_closure.proofs.search.finder.Finder.find_edges.Given as goal
+use Rattle.brl_closure.proofs.search.finder.Finder.list_edges.Given as goal
 
 abbrev pub invariant-loop-step : goal.invariant-loop-step
 invariant-loop-step g l = record {
   advances : Advances g.M.Machine.behaviour l.self l.fn.trail l.trail;
-  edges : (s : _) → slice_get l.fn.trail.states l.number ≡ Some s → AreFirstEdges l.trail.states ((g.M.Machine.behaviour l.self.machine.now).steps s) (length l.yielded) l.edges.items;
+  cells : Stays l.fn.cells l.cells;
+  listed : AreListedEdges l.trail.states l.cells l.yielded l.edges.items;
 }

@@ -9,7 +9,7 @@ use Rattle.brl_closure.proofs.search.worklist.Worklist.enqueue_from.Goals as goa
 use Rattle.brl_pairs.proofs.Lists.{read_at}
 
 pub loop-number-preserved : goal.loop-number-preserved
-loop-number-preserved c =
+loop-number-preserved g c =
     let read = c.index-as_slice-number.result in
     let pair = get_or c.as_slice.result.now c.loop-number.number read in
     let at = read_at c.as_slice.result.now c.args.pairs.now c.loop-number.number read c.as_slice.ensures.members (omega (arith, ap length c.as_slice.ensures.members)) c.index-as_slice-number.is ∙ ap (λ (p : NumberPair). Some p) c.index-as_slice-number.is in
@@ -19,6 +19,7 @@ loop-number-preserved c =
     let now = c.loop-number.invariant in
     record {
       cells = now.cells;
+      parts = now.parts;
       expanded = now.expanded;
       new = λ n low high. elim (cases_eq n c.loop-number.number) [
         | inl here ↦ subst (λ (k : ℕ). IsQueued k after) (sym here) (queued_new pair.behind c.loop-number.number before after same)
