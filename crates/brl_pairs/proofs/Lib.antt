@@ -14,3 +14,4 @@ pub mod Matching
 pub mod Unmatched
 pub mod Numbered
 pub mod SplitsLaws
+pub mod Filtered
