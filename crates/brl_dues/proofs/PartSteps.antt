@@ -24,12 +24,13 @@ use Rattle.brl_dues.specs.Carry.{gathered}
 use Rattle.brl_dues.specs.LetterView.{LetterView}
 use Rattle.brl_dues.specs.Letters.{bars_from, caps_run_step, cased_steps, is_taken, left_by, letter_form, letter_step, may_come, new_letter, new_letters, next_step, own_step, rule_step, steps_found, with_rule}
 use Rattle.brl_states.specs.DuesContext.{context_of}
-use Rattle.brl_dues.specs.Parts.{part_in, state_parts, steps_of_part}
+use Rattle.brl_dues.specs.Parts.{asked_context, part_in, state_parts, steps_of_part}
 use Rattle.brl_dues.specs.Steps.{dues_steps, with_steps}
 use Rattle.brl_dues.proofs.Finding.{all-found, flat_map-none, flat_map-same}
 use Rattle.brl_dues.proofs.Forms.{from-step_if}
 use Rattle.brl_dues.proofs.Repeats.{from-with_steps}
-use Rattle.brl_dues.proofs.Alike.{AreAlike, same-found}
+use Rattle.brl_dues.proofs.Alike.{same-found}
+use Rattle.brl_dues.proofs.Asked.{alike-asked}
 
 -- ---- The numbers of steps
 
@@ -141,20 +142,17 @@ module _ (t : TableView) (s : DuesState) (number : ℕ) where
 
 -- ---- Parts
 
-alike-part : (t : TableView) (s : DuesState) (c : ℕ) → AreAlike t s (part_in (context_of s) s.dues c).state
-alike-part t s c = record { before = λ place. refl; after = λ place. refl; follows = λ run chars. refl; signs = λ run reads. refl; behind = λ d others. refl }
-
 -- the steps of a state that begin with a character are those of its part
-same-part : (t : TableView) (s : DuesState) (c : ℕ) → steps_found t s 0 t.rules (new_letter t s.dues c ∷ []) ≡ steps_of_part t (part_in (context_of s) s.dues c)
+same-part : (t : TableView) (s : DuesState) (c : ℕ) → steps_found t s 0 t.rules (new_letter t s.dues c ∷ []) ≡ steps_of_part t (part_in (asked_context t (context_of s)) s.dues c)
 same-part t s c =
-    let part = part_in (context_of s) s.dues c in
-    same-found t s part.state (alike-part t s c) 0 t.rules (new_letter t s.dues c ∷ [])
+    let part = part_in (asked_context t (context_of s)) s.dues c in
+    same-found t s part.state (alike-asked t s (filter (bars_from c) s.dues)) 0 t.rules (new_letter t s.dues c ∷ [])
     ∙ ap (λ bars. steps_found t part.state 0 t.rules (record { character = c; fold = fold_of t c; bars = bars; above = [] } ∷ [])) (sym (filter-twice (bars_from c) s.dues))
 
 pub are-parts : (t : TableView) (s : DuesState) → ArePartsOf (steps_of_part t) (dues_steps t s) (state_parts t s)
 are-parts t s number =
     let coming = filter (may_come t s.dues) (letters t) in
-    let part = part_in (context_of s) s.dues in
+    let part = part_in (asked_context t (context_of s)) s.dues in
     ap (of_rule number) (all-found t s)
     ∙ by-letter t s number 0 t.rules (zero-add (length t.rules)) (new_letters t s.dues)
     ∙ flat_map-map (λ l. of_rule number (steps_found t s 0 t.rules (l ∷ []))) (new_letter t s.dues) coming
