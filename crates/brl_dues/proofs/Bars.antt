@@ -1,7 +1,9 @@
 -- The bars of a state that begin with a character stand together, and what a step that reads the
 -- character first leaves of the state's dues is what it leaves of these.
-use Rattle.std.proofs.Common.{◌≡◌, ℕ, zero, suc, ◌+◌, ◌-◌, ◌<◌, ◌≤◌, Bool, true, false, ◌&&◌, List, [], ◌∷◌, ◌++◌, Some, None, length, map, filter, take, drop, get_or, refl, sym, ap, ap₂, ◌∙◌, cond, nat_eq, arith, leb, leb-true}
+use Rattle.std.proofs.Common.{◌≡◌, ℕ, zero, suc, ◌+◌, ◌-◌, ◌<◌, ◌≤◌, Bool, true, false, ◌&&◌, IsTrue, List, [], ◌∷◌, ◌++◌, Some, None, length, map, filter, take, drop, get_or, refl, sym, ap, ap₂, ◌∙◌, cond, nat_eq, arith, leb, leb-true}
 use Rattle.std.proofs.lemmas.Bool.{eq-eqb, leb-false, ne_eqb, eqb-true}
+use Rattle.std.proofs.lemmas.List.Elements.{All-filter}
+use Rattle.std.proofs.lemmas.List.Kept.{IsStrictlySortedBy-filter}
 use Rattle.std.proofs.lemmas.List.Sorted.{IsNonDecreasingBy-drop, IsNonDecreasingBy-take}
 use Rattle.std.specs.Cmp.{first_so, nat_cmp_is, second_so}
 use Rattle.std.specs.Cmp.Lexicographic.{slice_cmp}
@@ -19,7 +21,7 @@ use Rattle.brl_states.specs.declared.due.Due.TheVariants.{Need, Bar}
 use Rattle.brl_dues.specs.Carry.{carry, carry_bar, gathered, is_whole, left_of, lefts, settled_if}
 use Rattle.brl_dues.specs.Letters.{bars_from, first_of, lets_in, may_come}
 use Rattle.brl_dues.proofs.Intervals.{all-upto, filter-between}
-use Rattle.brl_states.specs.Order.{AreDues, cond_cmp, due_cmp, in_order}
+use Rattle.brl_states.specs.Order.{AreDues, cond_cmp, due_cmp, in_order, is_proper}
 
 -- ---- No other due matters
 
@@ -126,3 +128,10 @@ needs-first t c dues i h = all-upto (lets_in t c) dues i (λ k d lo lt. bar (get
 
 pub needs-parted : (dues : List Due) → AreDues dues → IsPartitionedBy (λ d. nat_eq (first_of d) 0) dues
 needs-parted dues h i j d le lt e = (let a = dues-rise dues h i j d le lt in let b = eqb-true _ 0 e in eq-eqb _ 0 (omega (arith, a, b)))
+
+-- those of ordered dues that pass a test
+pub passing-dues : (p : Due → Bool) (dues : List Due) → AreDues dues → AreDues (filter p dues)
+passing-dues p dues h = record {
+  proper = All-filter p (λ due. IsTrue (is_proper due)) dues h.proper;
+  ascend = IsStrictlySortedBy-filter due_cmp p dues h.ascend;
+}

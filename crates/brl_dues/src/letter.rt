@@ -115,15 +115,28 @@ fn push_letter<'a>(
         ++ (if does_come table.now dues.now character then new_letter table.now dues.now character ∷ [] else [])) }
 {
     if may_come(table, character, dues) {
-        let fold = fold_of(table, character);
-        let bars = bars_with(character, dues);
-        found.push(Letter::new(alloc, character, fold, bars))?;
+        found.push(new_letter_of(alloc, table, character, dues))?;
     }
     Ok(())
 }
 
+/// A character with its bars among these dues and no rules above.
+pub fn new_letter_of<'a>(
+    alloc: Global,
+    table: &Table,
+    character: char,
+    dues: &'a [Due],
+) -> Letter<'a>
+    requires { AreDues dues.now }
+    ensures { result ≡ new_letter table.now dues.now character }
+{
+    let fold = fold_of(table, character);
+    let bars = bars_with(character, dues);
+    Letter::new(alloc, character, fold, bars)
+}
+
 /// Whether no due refuses a character. Only the needs can, which come first.
-fn may_come(table: &Table, character: char, dues: &[Due]) -> bool
+pub fn may_come(table: &Table, character: char, dues: &[Due]) -> bool
     requires { AreDues dues.now }
     ensures { result ≡ does_come table.now dues.now character }
 {
@@ -139,7 +152,7 @@ fn all_let_in(table: &Table, character: char, dues: &[Due]) -> bool
 }
 
 /// The bars of some dues that begin with a character. They stand together.
-fn bars_with(character: char, dues: &[Due]) -> &[Due]
+pub fn bars_with(character: char, dues: &[Due]) -> &[Due]
     requires { AreDues dues.now }
     ensures bars { result.now ≡ filter (bars_from character) dues.now }
     ensures proper { All (λ due. IsTrue (is_proper due)) result.now }

@@ -4,8 +4,9 @@ ghost use Rattle.brl_rules.specs.Text.{is_text};
 ghost use Rattle.brl_rules.specs.Translation.{translation};
 ghost use Rattle.brl_dues.specs.Due.{met_by_space};
 
-use crate::steps::find_steps;
-use brl_pairs::{Machine, Step};
+use crate::parts::{DuesPart, find_parts};
+use crate::steps::{find_part_steps, find_steps};
+use brl_pairs::{Machine, Parted, Step};
 use brl_rules::{Class, Context, Table, choice_laws, holds, translation_laws};
 use brl_states::{Due, DueList, DuesState};
 use std::alloc::{AllocError, Global};
@@ -59,6 +60,26 @@ impl<'a> Machine for Dues<'a> {
 
     fn ends(&self, state: &DuesState) -> bool {
         state.dues.as_slice().iter().all(is_met_by_space)
+    }
+}
+
+impl<'a> Parted for Dues<'a> {
+    ghost use Rattle.brl_dues.specs.Parts.{steps_of_part};
+
+    type Part = DuesPart;
+
+    ghost steps_of = { steps_of_part };
+
+    fn parts(&self, alloc: Global, state: &DuesState) -> Result<Option<Vec<DuesPart>>, AllocError> {
+        Ok(Some(find_parts(alloc, self.table, state)?))
+    }
+
+    fn part_steps(
+        &self,
+        alloc: Global,
+        part: &DuesPart,
+    ) -> Result<Vec<Step<DuesState>>, AllocError> {
+        find_part_steps(alloc, self.table, part)
     }
 }
 

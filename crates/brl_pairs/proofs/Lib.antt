@@ -16,3 +16,4 @@ pub mod Numbered
 pub mod SplitsLaws
 pub mod Along
 pub mod ListedLaws
+pub mod Filtered

@@ -29,6 +29,17 @@ impl Due {
     }
 }
 
+/// Equal dues. `AllocError` if memory runs out.
+pub fn copy_dues(alloc: Global, dues: &[Due]) -> Result<Vec<Due>, AllocError>
+    ensures { IfOk result (λ copies. copies.items ≡ dues.now) }
+{
+    let mut copies = Vec::with_capacity(alloc, dues.len())?;
+    for due in dues {
+        copies.push(due.copy(alloc)?)?;
+    }
+    Ok(copies)
+}
+
 /// The order of two dues: a need before a bar; needs by their conditions; bars by their characters,
 /// then by their conditions.
 pub fn compare_dues(a: &Due, b: &Due) -> Ordering

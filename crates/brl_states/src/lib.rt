@@ -18,7 +18,7 @@ mod window_state;
 
 pub use caps_free::{CapsFree, HasCaps};
 pub use cert::Cert;
-pub use due::Due;
+pub use due::{Due, copy_dues};
 pub use dues_state::DuesState;
 pub use laws::order_law;
 pub use list::DueList;

@@ -8,7 +8,7 @@ ghost use Rattle.brl_states.specs.SameDues.{dues_Decides, dues_equiv};
 ghost use Rattle.brl_states.specs.Order.{AreDues, in_order as in_order_of, is_proper};
 
 use crate::Due;
-use crate::due::compare_dues;
+use crate::due::{compare_dues, copy_dues};
 use std::alloc::{AllocError, Global};
 use std::hash::{Hash, Hasher};
 use std::marker::Model;
@@ -80,10 +80,7 @@ impl DueList {
     pub fn copy(&self, alloc: Global) -> Result<DueList, AllocError>
         ensures { IfOk result (λ dues. dues ≡ self.now) }
     {
-        let mut items = Vec::with_capacity(alloc, self.items.len())?;
-        for due in &self.items {
-            items.push(due.copy(alloc)?)?;
-        }
+        let items = copy_dues(alloc, self.items.as_slice())?;
         Ok(DueList { items })
     }
 }

@@ -3,14 +3,19 @@
 use Rattle.std.specs.Prelude.{◌≡◌, ℕ, ◌&&◌, IsTrue, List}
 use Rattle.std.specs.List.{filter}
 use Rattle.brl_pairs.specs.Runs.{Behaviour}
+use Rattle.brl_pairs.specs.declared.step.Step.{Step}
 use Rattle.brl_without.specs.LeftOut.{uses_none}
+
+-- the steps that read none of the characters, in their order
+abbrev pub steps_without : {S : Type 0} → List ℕ → List (Step S) → List (Step S)
+steps_without left_out listed = filter (λ x. uses_none left_out x.reads) listed
 
 -- The machine without some characters. Its steps are those that read none of them, in their order;
 -- its texts are those that use none of them, with the same translation.
 abbrev pub without : {S : Type 0} → List ℕ → Behaviour S → Behaviour S
 without left_out m = record {
   start = m.start;
-  steps = λ s. filter (λ x. uses_none left_out x.reads) (m.steps s);
+  steps = λ s. steps_without left_out (m.steps s);
   ends = m.ends;
   is_text = λ text. m.is_text text && uses_none left_out text;
   translation = m.translation;

@@ -1,10 +1,9 @@
 //! A machine without some characters.
 ghost use Rattle.std.specs.Prelude.{◌≡◌};
-ghost use Rattle.std.specs.List.{filter};
-ghost use Rattle.brl_without.specs.LeftOut.{uses_none};
+ghost use Rattle.brl_without.specs.Without.{steps_without as listed_without};
 
 use crate::LeftOut;
-use brl_pairs::{Key, Machine, Step};
+use brl_pairs::{Key, Machine, Parted, Step};
 use std::alloc::{AllocError, Global};
 use std::marker::Model;
 
@@ -55,9 +54,27 @@ impl<'m, M: Machine> Machine for Without<'m, M> {
     }
 }
 
+/// Its parts are those of the machine, without the steps that read one of the characters.
+impl<'m, M: Parted> Parted for Without<'m, M> {
+    ghost use Rattle.brl_without.specs.Without.{steps_without};
+
+    type Part = M::Part;
+
+    ghost steps_of = { λ w part. steps_without w.left_out (M.steps_of w.machine part) };
+
+    fn parts(&self, alloc: Global, state: &M::State) -> Result<Option<Vec<M::Part>>, AllocError> {
+        self.machine.parts(alloc, state)
+    }
+
+    fn part_steps(&self, alloc: Global, part: &M::Part) -> Result<Vec<Step<M::State>>, AllocError> {
+        let steps = self.machine.part_steps(alloc, part)?;
+        Ok(steps_without(self.left_out, steps))
+    }
+}
+
 /// The steps that read none of the characters, in their order.
 fn steps_without<S: Key>(left_out: &LeftOut, listed: Vec<Step<S>>) -> Vec<Step<S>>
-    ensures { result.items ≡ filter (λ x. uses_none left_out.now x.reads) listed.items }
+    ensures { result.items ≡ listed_without left_out.now listed.items }
 {
     let mut kept = listed;
     if !left_out.is_empty() {
