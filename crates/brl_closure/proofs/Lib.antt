@@ -15,6 +15,7 @@ pub mod Passing
 pub mod Growing
 pub mod Slices
 pub mod Additions
+pub mod Adding
 pub mod Edges
 pub mod There
 pub mod Queue

@@ -8,7 +8,7 @@ use Rattle.brl_pairs.specs.Runs.{Behaviour, IsPath, KeepsLaws, Reaches, cells_of
 use Rattle.brl_closure.specs.declared.search.trail.StateOrigin.{StateOrigin}
 use Rattle.brl_closure.specs.declared.search.trail.PairOrigin.{PairOrigin}
 use Rattle.brl_closure.specs.declared.search.trail.Trail.{Trail}
-use Rattle.brl_closure.specs.Answers.{AreTwoPaths}
+use Rattle.brl_closure.specs.Diverging.{AreTextsOfSplit}
 use Rattle.brl_closure.specs.Trail.{TakesStep, IsStateOrigin, IsSplitOf, StaysBehindOf, GetsAheadOf, IsPairOrigin, IsEarlier, HasTwoEnds, IsTraced}
 use Rattle.brl_closure.specs.Path.{IsPlaceTo, IsTextTo, Continues, SplitContinues}
 use Rattle.brl_pairs.proofs.Divergence.{places_differ}
@@ -139,7 +139,7 @@ module _ {S : Type 0} (m : Behaviour S) (t : Trail S) (traced : IsTraced m t) wh
 
   pub two_paths : KeepsLaws m → (number longer shorter : ℕ) (ahead behind left right before : List ℕ) → (h : SplitContinues m t.states number longer shorter ahead behind) → IsTextTo m t.states m.start number before
       → ((x : Step S) → TakesStep m t.states number longer x → left ≡ ahead ++ reverse x.reads) → ((x : Step S) → TakesStep m t.states number shorter x → right ≡ behind ++ reverse x.reads)
-      → AreTwoPaths m (reverse (left ++ before)) (reverse (right ++ before))
+      → AreTextsOfSplit m t.states number longer shorter (reverse (left ++ before)) (reverse (right ++ before))
   two_paths laws number longer shorter ahead behind left right before h w put_left put_right =
       let x = h.split.ahead_step in
       let y = h.split.behind_step in
@@ -147,15 +147,21 @@ module _ {S : Type 0} (m : Behaviour S) (t : Trail S) (traced : IsTraced m t) wh
       let y_here = listed_at number shorter y w.state h.split.behind_taken w.at in
       let heads : x ≢ y = places_differ m laws w.state longer shorter x y h.split.differ x_here y_here in
       record {
-        one = w.path ++ x ∷ h.one;
-        two = w.path ++ y ∷ h.two;
-        one_path = reaches_path m.start w.state w.path (x ∷ h.one) w.reaches ((longer, x_here), h.one_path);
-        two_path = reaches_path m.start w.state w.path (y ∷ h.two) w.reaches ((shorter, y_here), h.two_path);
-        differ = λ same. heads (let tails : x ∷ h.one ≡ y ∷ h.two = append_cancel_left w.path (x ∷ h.one) (y ∷ h.two) same in cc);
-        same_cells = cells_join w.path (x ∷ h.one) ∙ ap (λ (l : List ℕ). cells_of w.path ++ (l ++ cells_of h.one)) h.split.lead
-            ∙ ap (λ (l : List ℕ). cells_of w.path ++ l) (append_assoc y.cells h.pair.lead (cells_of h.one)) ∙ ap (λ (l : List ℕ). cells_of w.path ++ (y.cells ++ l)) h.same_cells ∙ sym (cells_join w.path (y ∷ h.two));
-        left_reads = sym (whole_text left before w.path (x ∷ h.one) (reads_back ahead left x.reads (reads_of h.one) (put_left x h.split.ahead_taken) h.ahead_reads) w.reads);
-        right_reads = sym (whole_text right before w.path (y ∷ h.two) (reads_back behind right y.reads (reads_of h.two) (put_right y h.split.behind_taken) h.behind_reads) w.reads);
+        paths = record {
+          one = w.path ++ x ∷ h.one;
+          two = w.path ++ y ∷ h.two;
+          one_path = reaches_path m.start w.state w.path (x ∷ h.one) w.reaches ((longer, x_here), h.one_path);
+          two_path = reaches_path m.start w.state w.path (y ∷ h.two) w.reaches ((shorter, y_here), h.two_path);
+          differ = λ same. heads (let tails : x ∷ h.one ≡ y ∷ h.two = append_cancel_left w.path (x ∷ h.one) (y ∷ h.two) same in cc);
+          same_cells = cells_join w.path (x ∷ h.one) ∙ ap (λ (l : List ℕ). cells_of w.path ++ (l ++ cells_of h.one)) h.split.lead
+              ∙ ap (λ (l : List ℕ). cells_of w.path ++ l) (append_assoc y.cells h.pair.lead (cells_of h.one)) ∙ ap (λ (l : List ℕ). cells_of w.path ++ (y.cells ++ l)) h.same_cells ∙ sym (cells_join w.path (y ∷ h.two));
+          left_reads = sym (whole_text left before w.path (x ∷ h.one) (reads_back ahead left x.reads (reads_of h.one) (put_left x h.split.ahead_taken) h.ahead_reads) w.reads);
+          right_reads = sym (whole_text right before w.path (y ∷ h.two) (reads_back behind right y.reads (reads_of h.two) (put_right y h.split.behind_taken) h.behind_reads) w.reads);
+        };
+        diverge = λ r s rules. (
+          record { before = w.path; one = x; other = y; first_rest = h.one; second_rest = h.two; differ = heads; first_steps = refl; second_steps = refl },
+          rules x y h.split.ahead_taken h.split.behind_taken,
+        );
       }
 
   -- what continues a pair continues the split that made it

@@ -14,3 +14,4 @@ pub mod Edges
 pub mod Worklist
 pub mod Path
 pub mod Fresh
+pub mod Diverging

@@ -1,6 +1,6 @@
 -- Internal. What a search keeps of the states and pairs that it has found: how each was found, and
 -- nothing twice.
-use Rattle.std.specs.Prelude.{◌≡◌, ◌≢◌, ℕ, ◌+◌, ◌<◌, ◌≤◌, IsTrue, List, [], ◌++◌, ◌⊎◌, length, Some, slice_get}
+use Rattle.std.specs.Prelude.{◌≡◌, ◌≢◌, ℕ, ◌+◌, ◌<◌, ◌≤◌, All, IsTrue, List, [], ◌++◌, ◌⊎◌, length, Some, slice_get}
 use Rattle.brl_pairs.specs.Body.{IsPairOf, NumberPair}
 use Rattle.brl_pairs.specs.declared.step.Step.{Step}
 use Rattle.brl_pairs.specs.Pairs.{swapped}
@@ -10,6 +10,7 @@ use Rattle.brl_closure.specs.declared.search.finder.Finder.{Finder}
 use Rattle.brl_closure.specs.declared.search.finder.Stop.{Stop}
 use Rattle.brl_closure.specs.declared.search.finder.Stop.TheVariants as stop
 use Rattle.brl_closure.specs.declared.search.trail.StateOrigin.{StateOrigin}
+use Rattle.brl_closure.specs.declared.search.trail.Origins.{Origins}
 use Rattle.brl_closure.specs.declared.search.trail.PairOrigin.{PairOrigin}
 use Rattle.brl_closure.specs.declared.search.trail.PairOrigin.TheVariants.{Split, Still, Swapped}
 use Rattle.brl_closure.specs.declared.search.trail.Trail.{Trail}
@@ -150,3 +151,25 @@ pub record Extends {S : Type 0} (old new : Trail S) : Type 0 where
 -- found
 abbrev pub Advances : {M S : Type 0} → (M → Behaviour S) → Finder M S → Trail S → Trail S → Type 0
 Advances behaviour f old new = IsActive behaviour f new × Extends old new
+
+-- ---- How pairs are added
+
+-- Pairs are added to a trail, each with an origin of this kind. Nothing else changes.
+pub record AddsPairs {S : Type 0} (Kind : PairOrigin → Type 0) (old new : Trail S) : Type 0 where
+  pub states : new.states ≡ old.states
+  pub state_origins : new.state_origins.items ≡ old.state_origins.items
+  pub more : List NumberPair
+  pub origins : List PairOrigin
+  pub pairs : new.pairs ≡ old.pairs ++ more
+  pub pair_origins : new.pair_origins.items ≡ old.pair_origins.items ++ origins
+  pub kinds : All Kind origins
+
+-- the origin is one of these two
+abbrev pub IsOneOf : Origins → PairOrigin → Type 0
+IsOneOf two o = (o ≡ two.still) ⊎ (o ≡ two.swapped)
+
+-- the origin is a step of the run behind of the pair with this number
+abbrev pub IsMoveOf : ℕ → PairOrigin → Type 0
+IsMoveOf number (Split state longer shorter) = ⊥
+IsMoveOf number (Still pair place) = pair ≡ number
+IsMoveOf number (Swapped pair place) = pair ≡ number

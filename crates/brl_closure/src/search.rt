@@ -7,6 +7,8 @@
 //! - Inside, a `Finder` finds the states and pairs of a machine, a `Trail` keeps them and how each
 //!   was found, and a `Worklist` has what is left to do.
 //! - The laws state what is reached, and that the search decides.
+//!
+//! `Finder` and `Trail` are public for searches that go on where this one stops.
 mod edges;
 mod explore;
 mod finder;
@@ -20,8 +22,11 @@ mod trail;
 mod worklist;
 
 pub use explore::{Search, Slice, search_machine, search_machine_with};
+pub use finder::{Finder, Stop};
 pub use laws::{
     clash_law, just_reached_law, lead_law, no_limit_law, reached_closed_law, reached_listed_law,
     same_cells_law, short_lead_law, two_ends_law, two_runs_law,
 };
 pub use outcome::Outcome;
+pub use texts::Texts;
+pub use trail::{Origins, PairOrigin, StateOrigin, Trail};

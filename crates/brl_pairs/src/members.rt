@@ -1,5 +1,5 @@
 //! Lists without repeats that find their members by hash.
-ghost use Rattle.std.specs.Prelude.{◌≡◌, ◌↔◌, ℕ, List, [], ◌∷◌, ◌++◌, length, IfSome, IfOk, IsFalse, IsTrue, OnErr, Some, if◌then◌else◌, not, slice_get};
+ghost use Rattle.std.specs.Prelude.{◌≡◌, ◌↔◌, ℕ, List, [], ◌∷◌, ◌++◌, length, IfSome, IfOk, IsFalse, IsTrue, OnErr, Some, if◌then◌else◌, not, slice_get, take};
 ghost use Rattle.std.specs.List.{IsDistinct, list_any};
 ghost use Rattle.std.specs.Option.{option_copied};
 ghost use Rattle.brl_pairs.specs.Members.{HaveOneNumber, IsMember};
@@ -88,5 +88,12 @@ impl<T: Key> Members<T> {
         ensures err { OnErr result (self.new ≡ self.old) }
     {
         Ok(self.items.insert_full(value)?.1)
+    }
+
+    /// Keeps the first `count` members, and drops the others.
+    pub fn truncate(&mut self, count: usize)
+        ensures { self.new ≡ take count self.old }
+    {
+        self.items.truncate(count);
     }
 }

@@ -35,6 +35,7 @@ impl<'m, M: Machine> Finder<'m, M> {
         ensures cells { OnOk result (Stays cells.old cells.new) }
         ensures advances { OnOk result (Advances M.behaviour self.now trail.old trail.new) }
         ensures stopped { IfErr result (IfFault (IsStopped M.behaviour self.now trail.new)) }
+        ensures pairs { trail.new.pairs ≡ trail.old.pairs }
     {
         let origin = StateOrigin { parent: number };
         let next = self.find_state(trail, step.next, origin)?;
@@ -46,8 +47,9 @@ impl<'m, M: Machine> Finder<'m, M> {
         })
     }
 
-    /// The edges of the state with this number, by the list of all its steps.
-    fn list_edges(
+    /// The edges of the state with this number, by the list of all its steps. The next states of
+    /// these steps are added where they haven't been found before, and their cells are kept.
+    pub fn list_edges(
         &self,
         trail: &mut Trail<M::State>,
         cells: &mut Members<Cells>,
@@ -59,6 +61,7 @@ impl<'m, M: Machine> Finder<'m, M> {
         ensures cells { OnOk result (Stays cells.old cells.new) }
         ensures advances { OnOk result (Advances M.behaviour self.now trail.old trail.new) }
         ensures stopped { IfErr result (IfFault (IsStopped M.behaviour self.now trail.new)) }
+        ensures pairs { trail.new.pairs ≡ trail.old.pairs }
     {
         let listed = self
             .machine
@@ -77,7 +80,7 @@ impl<'m, M: Parted> Finder<'m, M> {
     /// The edges of the state with this number, in listed order. The next states of its steps are
     /// added where they haven't been found before, in the order of the steps; the cells of the steps
     /// are kept, and the parts of the steps.
-    pub fn find_edges(
+    pub(crate) fn find_edges(
         &self,
         trail: &mut Trail<M::State>,
         cells: &mut Members<Cells>,

@@ -50,7 +50,7 @@ impl<'m, M: Machine> Finder<'m, M> {
     }
 
     /// The number of a state, from 0. A state that hasn't been found before is added.
-    pub fn find_state(
+    pub(crate) fn find_state(
         &self,
         trail: &mut Trail<M::State>,
         state: M::State,
@@ -61,6 +61,7 @@ impl<'m, M: Machine> Finder<'m, M> {
         ensures number { IfOk result (λ number. slice_get trail.new.states number ≡ Some state) }
         ensures advances { OnOk result (Advances M.behaviour self.now trail.old trail.new) }
         ensures stopped { IfErr result (IfFault (IsStopped M.behaviour self.now trail.new)) }
+        ensures pairs { trail.new.pairs ≡ trail.old.pairs }
     {
         if let Some(number) = trail.states.index_of(&state) {
             return Ok(number as u32);

@@ -24,7 +24,7 @@ pub enum Outcome<S: Key> {
 
 impl<'m, M: Machine> Finder<'m, M> {
     /// The numbers of what was found, once one of them is more than the limit.
-    pub fn counts(&self, trail: &Trail<M::State>) -> Outcome<M::State>
+    pub(crate) fn counts(&self, trail: &Trail<M::State>) -> Outcome<M::State>
         requires traced { IsTraced (M.behaviour self.now.machine.now) trail.now }
         requires passed { HasPassed self.now.limit trail.now }
         ensures { IsOutcome (M.behaviour self.now.machine.now) self.now.limit result }
@@ -36,7 +36,7 @@ impl<'m, M: Machine> Finder<'m, M> {
     }
 
     /// The outcome where the search stops for this reason.
-    pub fn outcome_of(
+    pub(crate) fn outcome_of(
         &self,
         trail: &Trail<M::State>,
         stop: Stop,
@@ -58,7 +58,7 @@ impl<'m, M: Machine> Finder<'m, M> {
     }
 
     /// The body of what was found, where nothing is left to do.
-    pub fn body_of(&self, trail: Trail<M::State>) -> Body<M::State>
+    pub(crate) fn body_of(&self, trail: Trail<M::State>) -> Body<M::State>
         requires { IsFinished M.behaviour self.now trail }
         ensures { IsCertified (M.behaviour self.now.machine.now) self.now.limit result }
     {

@@ -6,7 +6,7 @@ ghost use Rattle.brl_pairs.specs.NumberPairs.{IsFollowed, IsThere};
 ghost use Rattle.brl_pairs.specs.declared.edge.Edge.{Edge as EdgeValue};
 ghost use Rattle.brl_failure.specs.Failure.{IfFault};
 ghost use Rattle.brl_closure.specs.Edges.{Explains, FitsFollowing};
-ghost use Rattle.brl_closure.specs.Trail.{Advances, HasTwoEnds, IsActive, IsPairOrigin, IsStopped};
+ghost use Rattle.brl_closure.specs.Trail.{AddsPairs, Advances, HasTwoEnds, IsActive, IsOneOf, IsPairOrigin, IsStopped};
 
 use crate::search::finder::{Finder, Stop};
 use crate::search::trail::{Origins, PairOrigin, Trail};
@@ -39,6 +39,7 @@ impl<'m, M: Machine> Finder<'m, M> {
         ensures there { OnOk result (IsThere trail.new.pairs pair.ahead pair.behind pair.lead) }
         ensures advances { OnOk result (Advances M.behaviour self.now trail.old trail.new) }
         ensures stopped { IfErr result (IfFault (IsStopped M.behaviour self.now trail.new)) }
+        ensures adds { AddsPairs (λ o. o ≡ origin) trail.old trail.new }
     {
         if is_there_swapped(self.alloc, &trail.pairs, &pair) {
             return Ok(());
@@ -75,6 +76,7 @@ impl<'m, M: Machine> Finder<'m, M> {
         ensures followed { OnOk result ((e : EdgeValue) → e.next ≡ next → e.cells ≡ cells.now → IsFollowed trail.new.pairs ahead lead.now e) }
         ensures advances { OnOk result (Advances M.behaviour self.now trail.old trail.new) }
         ensures stopped { IfErr result (IfFault (IsStopped M.behaviour self.now trail.new)) }
+        ensures adds { AddsPairs (IsOneOf origins) trail.old trail.new }
     {
         match advance(lead, cells) {
             Advanced::Still(rest) => {

@@ -11,7 +11,7 @@ ghost use Rattle.brl_pairs.specs.declared.edge.Edge.{Edge as EdgeValue};
 ghost use Rattle.brl_failure.specs.Failure.{IfFault};
 ghost use Rattle.brl_closure.specs.Edges.{AreKeptEdges, IsExpanded, IsWalked};
 ghost use Rattle.brl_closure.specs.SearchView.{Stays};
-ghost use Rattle.brl_closure.specs.Trail.{Advances, IsActive, IsStopped};
+ghost use Rattle.brl_closure.specs.Trail.{AddsPairs, Advances, IsActive, IsMoveOf, IsStopped};
 
 use crate::search::finder::{Finder, Stop};
 use crate::search::trail::{Origins, PairOrigin, Trail};
@@ -132,6 +132,7 @@ impl<'m, M: Machine> Finder<'m, M> {
         ensures walked { OnOk result (IsWalked (M.behaviour self.now.machine.now) trail.new.states trail.new.pairs number) }
         ensures advances { OnOk result (Advances M.behaviour self.now trail.old trail.new) }
         ensures stopped { IfErr result (IfFault (IsStopped M.behaviour self.now trail.new)) }
+        ensures adds { AddsPairs (IsMoveOf number) trail.old trail.new }
     {
         let lead = pair.lead.as_slice();
         let found = matches(self.alloc, cells, sorted, lead)?;
@@ -174,6 +175,7 @@ impl<'m, M: Machine> Finder<'m, M> {
         ensures walked { OnOk result (IsWalked (M.behaviour self.now.machine.now) trail.new.states trail.new.pairs number) }
         ensures advances { OnOk result (Advances M.behaviour self.now trail.old trail.new) }
         ensures stopped { IfErr result (IfFault (IsStopped M.behaviour self.now trail.new)) }
+        ensures adds { AddsPairs (IsMoveOf number) trail.old trail.new }
     {
         let pair = copy_of(&trail.pairs.as_slice()[number])?;
         let sorted = expanded[pair.behind as usize].as_slice();
@@ -184,7 +186,7 @@ impl<'m, M: Machine> Finder<'m, M> {
 impl<'m, M: Parted> Finder<'m, M> {
     /// Adds the next states of the steps of a state, and its splits. Returns the edges of these
     /// steps in the order of their cells, which are kept.
-    pub fn expand(
+    pub(crate) fn expand(
         &self,
         trail: &mut Trail<M::State>,
         cells: &mut Members<Cells>,

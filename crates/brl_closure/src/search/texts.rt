@@ -3,7 +3,7 @@ ghost use Rattle.std.specs.Prelude.{◌≡◌, ◌<◌, [], ◌++◌, length, If
 ghost use Rattle.brl_pairs.specs.Body.{NumberPair};
 ghost use Rattle.brl_pairs.specs.Runs.{KeepsLaws};
 ghost use Rattle.brl_pairs.specs.declared.step.Step.{Step as StepValue};
-ghost use Rattle.brl_closure.specs.Answers.{AreTwoPaths};
+ghost use Rattle.brl_closure.specs.Diverging.{AreTextsOf, AreTextsOfSplit};
 ghost use Rattle.brl_closure.specs.Trail.{HasTwoEndsAt, IsTraced, TakesStep};
 ghost use Rattle.brl_closure.specs.Path.{HasStepAt, HasStepBehind, IsPlaceTo, IsTextTo, LeadsTo, SplitContinues};
 
@@ -103,7 +103,7 @@ impl<'m, M: Machine> Finder<'m, M> {
         requires laws { KeepsLaws (M.behaviour self.now.machine.now) }
         requires traced { IsTraced (M.behaviour self.now.machine.now) trail.now }
         requires continues { SplitContinues (M.behaviour self.now.machine.now) trail.now.states state longer shorter texts.left.items texts.right.items }
-        ensures { IfOk result (λ texts. AreTwoPaths (M.behaviour self.now.machine.now) texts.left.items texts.right.items) }
+        ensures { IfOk result (λ texts. AreTextsOfSplit (M.behaviour self.now.machine.now) trail.now.states state longer shorter texts.left.items texts.right.items) }
     {
         let Texts {
             left: mut left,
@@ -121,12 +121,12 @@ impl<'m, M: Machine> Finder<'m, M> {
     }
 
     /// The texts that two different paths with the same cells read: those by which a pair with an
-    /// empty lead and two final states was found.
+    /// empty lead and two final states was found. The paths diverge with the two steps that split.
     pub fn texts_of(&self, trail: &Trail<M::State>, number: usize) -> Result<Texts, AllocError>
         requires laws { KeepsLaws (M.behaviour self.now.machine.now) }
         requires traced { IsTraced (M.behaviour self.now.machine.now) trail.now }
         requires ends { HasTwoEndsAt (M.behaviour self.now.machine.now) trail.now.states trail.now.pairs number }
-        ensures { IfOk result (λ texts. AreTwoPaths (M.behaviour self.now.machine.now) texts.left.items texts.right.items) }
+        ensures { IfOk result (λ texts. AreTextsOf (M.behaviour self.now.machine.now) trail.now number texts.left.items texts.right.items) }
     {
         let mut ahead = Vec::new(self.alloc);
         let mut behind = Vec::new(self.alloc);

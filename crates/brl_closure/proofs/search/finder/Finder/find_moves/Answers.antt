@@ -1,4 +1,4 @@
-use Rattle.std.proofs.Common.{◌≡◌, ◌<◌, ℕ, List, length, Some, slice_get, inl, inr, sym, ap, ◌∙◌, subst, arith}
+use Rattle.std.proofs.Common.{◌≡◌, ◌<◌, ℕ, List, length, Some, slice_get, inl, inr, refl, sym, ap, ◌∙◌, subst, arith}
 use Rattle.std.proofs.lemmas.Bool.{cases_eq}
 use Rattle.std.proofs.lemmas.Option.{slice_get_within}
 use Rattle.brl_pairs.proofs.Lists.{same_place}
@@ -13,6 +13,8 @@ use Rattle.brl_pairs.proofs.Unmatched.{unmatched_followed}
 use Rattle.brl_closure.proofs.Edges.{IsFound, edges_more, explains_move, fits_following, found_edge}
 use Rattle.brl_closure.proofs.There.{followed_more}
 use Rattle.brl_closure.proofs.Additions.{advances_refl, advances_trans}
+use Rattle.brl_closure.proofs.Adding.{adds_as, adds_none, adds_trans, move_origin}
+use Rattle.brl_closure.specs.Trail.{IsMoveOf, IsOneOf}
 use Rattle.brl_closure.proofs.search.finder.Finder.find_moves.Given.{Over}
 use Rattle.brl_closure.proofs.search.finder.Finder.find_moves.Goals.{At-loop-edge, In-loop-edge}
 use Rattle.brl_closure.proofs.search.finder.Finder.find_moves.Goals as goal
@@ -35,6 +37,7 @@ are_edges g c =
 pub loop-edge-init : goal.loop-edge-init
 loop-edge-init g c = record {
   advances = advances_refl g.M.Machine.behaviour c.args.self.now c.args.trail.now c.requires.active;
+  adds = adds_none (IsMoveOf c.args.number) c.args.trail.now c.args.trail.now refl refl refl refl;
   followed = λ k s e below. absurd (omega arith);
 }
 
@@ -66,6 +69,7 @@ loop-edge-preserved g c =
     let s = at_hand g here in
     record {
       advances = advances_trans g.M.Machine.behaviour a.self.now a.trail.now c.loop-edge.trail c.follow.new.trail c.loop-edge.invariant.advances c.in_ok-follow.ensures.advances;
+      adds = adds_trans (IsMoveOf a.number) a.trail.now c.loop-edge.trail c.follow.new.trail c.loop-edge.invariant.adds (adds_as (IsOneOf _) (IsMoveOf a.number) c.loop-edge.trail c.follow.new.trail (move_origin a.number _) c.follow.ensures.adds);
       followed = λ k x e below at next cells. elim (cases_eq k c.loop-edge.edge-index) [
         | inl same_number ↦ (
             let same : x ≡ s = same_place items c.loop-edge.edge-index x s (ap (slice_get items) (sym same_number) ∙ at) (is_at items c.loop-edge.edge-index c.loop-edge-test.true) in
@@ -99,3 +103,12 @@ returns-clause-walked g c =
         | inr other ↦ subst (λ (own : List ℕ). IsFollowed c.loop-edge.trail.pairs a.pair.now.ahead own e) c.as_slice-lead.ensures (unmatched_followed c.loop-edge.trail.pairs a.pair.now.ahead lead e other)
       ];
     }
+
+pub returns-in_err-found-clause-adds : goal.returns-in_err-found-clause-adds
+returns-in_err-found-clause-adds g c = adds_none (IsMoveOf c.args.number) c.args.trail.now c.args.trail.now refl refl refl refl
+
+pub returns-in_err-follow-clause-adds : goal.returns-in_err-follow-clause-adds
+returns-in_err-follow-clause-adds g c =
+    let a = c.args in
+    adds_trans (IsMoveOf a.number) a.trail.now c.loop-edge.trail c.follow.new.trail c.loop-edge.invariant.adds
+    (adds_as (IsOneOf _) (IsMoveOf a.number) c.loop-edge.trail c.follow.new.trail (move_origin a.number _) c.follow.ensures.adds)

@@ -6,6 +6,7 @@ use Rattle.brl_closure.specs.Trail.{Advances, HasTwoEnds}
 use Rattle.brl_closure.proofs.Growing.{stays_push, stays_refl}
 use Rattle.brl_closure.proofs.There.{absent_differ, added_absent, nothing_inserted, pair_inserted}
 use Rattle.brl_closure.proofs.Additions.{advances_refl, pair_pushed, pair_active}
+use Rattle.brl_closure.proofs.Adding.{adds_none, adds_one, adds_pair}
 use Rattle.brl_closure.proofs.search.finder.Finder.find_pair.Goals as goal
 use Rattle.brl_pairs.proofs.Lists.{length_push, push_last}
 
@@ -71,3 +72,14 @@ returns-clause-advances g c =
         more_pairs = rw pairs (omega (arith, length_push c.args.trail.now.pairs c.args.pair));
       },
     )
+
+pub returns-then-is_there_swapped-clause-adds : goal.returns-then-is_there_swapped-clause-adds
+returns-then-is_there_swapped-clause-adds g c = adds_none (λ o. o ≡ c.args.origin) c.args.trail.now c.args.trail.now refl refl refl refl
+
+pub returns-in_err-insert-clause-adds : goal.returns-in_err-insert-clause-adds
+returns-in_err-insert-clause-adds g c = adds_none (λ o. o ≡ c.args.origin) c.args.trail.now _ refl refl c.in_err-insert.ensures.err refl
+
+pub returns-then-not-branch-clause-adds : goal.returns-then-not-branch-clause-adds
+returns-then-not-branch-clause-adds g c =
+    adds_none (λ o. o ≡ c.args.origin) c.args.trail.now _ refl refl
+    (nothing_inserted c.args.trail.now.pairs c.insert.new.self c.args.pair c.in_ok-insert.field-0 c.if-not-branch.true c.in_ok-insert.ensures.members) refl

@@ -1,8 +1,10 @@
-use Rattle.std.proofs.Common.{◌++◌, List, ℕ, sym, ◌∙◌, ap, subst}
+use Rattle.std.proofs.Common.{◌++◌, List, ℕ, refl, sym, ◌∙◌, ap, subst}
 use Rattle.std.proofs.lemmas.Result.{on_ok_weaker}
 use Rattle.brl_pairs.specs.NumberPairs.{IsThere}
 use Rattle.brl_pairs.proofs.Unmatched.{apart_unmatched, unmatched_followed}
 use Rattle.brl_closure.proofs.Additions.{advances_refl}
+use Rattle.brl_closure.proofs.Adding.{adds_none}
+use Rattle.brl_closure.specs.Trail.{IsOneOf}
 use Rattle.brl_closure.proofs.There.{followed_still, followed_swapped}
 use Rattle.brl_closure.proofs.search.finder.Finder.follow.Goals as goal
 
@@ -26,3 +28,12 @@ returns-in-Apart-clause-followed g c e next cells = unmatched_followed c.args.tr
 
 pub returns-in-Apart-clause-advances : goal.returns-in-Apart-clause-advances
 returns-in-Apart-clause-advances g c = advances_refl g.M.Machine.behaviour c.args.self.now c.args.trail.now c.requires.active
+
+pub returns-in_err-from_slice-in-Still-clause-adds : goal.returns-in_err-from_slice-in-Still-clause-adds
+returns-in_err-from_slice-in-Still-clause-adds g c = adds_none (IsOneOf c.args.origins) c.args.trail.now c.args.trail.now refl refl refl refl
+
+pub returns-in_err-from_slice-in-Swapped-clause-adds : goal.returns-in_err-from_slice-in-Swapped-clause-adds
+returns-in_err-from_slice-in-Swapped-clause-adds g c = adds_none (IsOneOf c.args.origins) c.args.trail.now c.args.trail.now refl refl refl refl
+
+pub returns-in-Apart-clause-adds : goal.returns-in-Apart-clause-adds
+returns-in-Apart-clause-adds g c = adds_none (IsOneOf c.args.origins) c.args.trail.now c.args.trail.now refl refl refl refl

@@ -29,6 +29,7 @@ loop-step-preserved g c =
     let cells = c.number_step.new.cells in
     record {
       advances = advances_trans g.M.Machine.behaviour c.args.self.now c.args.trail.now c.loop-step.trail c.number_step.new.trail c.loop-step.invariant.advances c.in_ok-edge.ensures.advances;
+      pairs = c.in_ok-edge.ensures.pairs ∙ c.loop-step.invariant.pairs;
       cells = λ k own at. c.in_ok-edge.ensures.cells k own (c.loop-step.invariant.cells k own at);
       listed = subst (λ (es : List ListedEdge). AreListedEdges states cells (c.loop-step.yielded ++ c.in-Some.step ∷ []) es) (sym c.in_ok-push.ensures.items)
           (listed_push c.loop-step.trail.states states c.in_ok-edge.ensures.advances.1.states c.loop-step.cells cells c.in_ok-edge.ensures.cells c.loop-step.yielded c.loop-step.edges.items c.in-Some.step c.in_ok-edge.edge c.loop-step.invariant.listed c.in_ok-edge.ensures.edge);

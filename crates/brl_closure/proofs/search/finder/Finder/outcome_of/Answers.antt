@@ -5,4 +5,4 @@ pub returns-in_ok-texts-in-BothEnd : goal.returns-in_ok-texts-in-BothEnd
 returns-in_ok-texts-in-BothEnd g c =
     let m = g.M.Machine.behaviour c.args.self.now.machine.now in
     let stopped = rw c.in-BothEnd.is at c.requires.stopped in
-    (c.in_ok-texts-in-BothEnd.ensures, two_ends_reached m c.args.trail.now stopped.0 c.in-BothEnd.number stopped.1.pair stopped.1.at stopped.1.ends)
+    (c.in_ok-texts-in-BothEnd.ensures.paths, two_ends_reached m c.args.trail.now stopped.0 c.in-BothEnd.number stopped.1.pair stopped.1.at stopped.1.ends)

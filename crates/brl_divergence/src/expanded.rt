@@ -1,0 +1,71 @@
+//! The steps of the states that have been expanded.
+ghost use Rattle.std.specs.Prelude.{◌≡◌, ◌+◌, ◌<◌, [], length, map, IfErr, IfOk, OnOk};
+ghost use Rattle.brl_closure.specs.Trail.{Advances, HasPassed, IsActive, IsTraced};
+ghost use Rattle.brl_divergence.specs.Expanded.{AreExpanded};
+ghost use Rattle.brl_failure.specs.Failure.{IfFault};
+
+use brl_cells::Cells;
+use brl_closure::{Finder, Stop, Trail};
+use brl_failure::Failure;
+use brl_pairs::{ListedEdge, Machine, Members, Seed, SortedEdge, sort_edges};
+use std::alloc::{AllocError, Global};
+
+/// The steps of the states that have been expanded. States are expanded in the order in which they
+/// are found.
+#[derive(Drop)]
+pub struct Expanded {
+    /// The cells of edges, each once. Edges name them by their numbers.
+    pub cells: Members<Cells>,
+    /// The edges of each state, in the order of their cells.
+    pub edges: Vec<Vec<SortedEdge>>,
+    /// The rules of each state's edges, by their places.
+    pub rules: Vec<Vec<u32>>,
+}
+
+impl Expanded {
+    /// No state is expanded. Cells will be found by hashes of this seed.
+    pub fn new(alloc: Global, seed: Seed) -> Expanded
+        ensures edges { result.edges.items ≡ [] }
+        ensures rules { result.rules.items ≡ [] }
+    {
+        Expanded {
+            cells: Members::new(alloc, seed),
+            edges: Vec::new(alloc),
+            rules: Vec::new(alloc),
+        }
+    }
+}
+
+/// The rules of edges.
+fn rules_of(alloc: Global, edges: &[ListedEdge]) -> Result<Vec<u32>, AllocError>
+    ensures { IfOk result (λ rules. rules.items ≡ map (λ edge. edge.rule) edges.now) }
+{
+    edges.iter().map(|edge| edge.rule).collect(alloc)
+}
+
+/// Expands the next state: its next states are found, and its edges are kept.
+pub fn expand_next<M: Machine>(
+    finder: &Finder<'_, M>,
+    trail: &mut Trail<M::State>,
+    expanded: &mut Expanded,
+) -> Result<(), Failure<Stop>>
+    requires active { IsActive M.behaviour finder.now trail.old }
+    requires expanded { AreExpanded (M.behaviour finder.now.machine.now) trail.old.states expanded.old }
+    requires some { length expanded.old.edges.items < length trail.old.states }
+    requires no_pairs { trail.old.pairs ≡ [] }
+    ensures expanded { OnOk result (AreExpanded (M.behaviour finder.now.machine.now) trail.new.states expanded.new) }
+    ensures count { OnOk result (length expanded.new.edges.items ≡ length expanded.old.edges.items + 1) }
+    ensures advances { OnOk result (Advances M.behaviour finder.now trail.old trail.new) }
+    ensures no_pairs { trail.new.pairs ≡ [] }
+    ensures passed { IfErr result (IfFault (λ _. HasPassed finder.now.limit trail.new)) }
+    ensures traced { IfErr result (IfFault (λ _. IsTraced (M.behaviour finder.now.machine.now) trail.new)) }
+{
+    let number = expanded.edges.len();
+    let edges = finder.list_edges(trail, &mut expanded.cells, number)?;
+    let cells = expanded.cells.as_slice();
+    let sorted = sort_edges(finder.alloc, cells, edges.as_slice())?;
+    let rules = rules_of(finder.alloc, edges.as_slice())?;
+    expanded.edges.push(sorted)?;
+    expanded.rules.push(rules)?;
+    Ok(())
+}

@@ -1,0 +1,249 @@
+//! A listing of a machine's divergences, in slices or at once.
+ghost use Rattle.std.specs.Prelude.{◌≡◌, ◌<◌, ◌≤◌, IfErr, IfOk, length};
+ghost use Rattle.std.specs.Bool.{OnFalse, OnTrue};
+ghost use Rattle.brl_divergence.specs.Answers.{AreDivergencesOf, IfFinished, IfUnfinished};
+ghost use Rattle.brl_divergence.specs.Found.{IsOver};
+ghost use Rattle.brl_divergence.specs.ListingView.{IsAfter, IsOf};
+ghost use Rattle.brl_divergence.specs.Working.{AreSteps, IsDone, IsStep, IsWorking};
+ghost use Rattle.brl_divergence.specs.declared.expanded.Expanded.{Expanded as ExpandedValue};
+ghost use Rattle.brl_failure.specs.Failure.{IfFault};
+
+use crate::divergences::Divergences;
+use crate::expanded::{Expanded, expand_next};
+use crate::explorer::Explorer;
+use crate::found::Found;
+use brl_closure::{Finder, Stop, Trail};
+use brl_failure::Failure;
+use brl_pairs::{Body, Machine, Seed};
+use brl_progress::{NoProgress, Progress, Work};
+use std::alloc::{AllocError, Global};
+use std::collections::BTreeMap;
+use std::marker::Model;
+
+/// A listing that isn't finished. First all states are found and expanded, breadth first. Then the
+/// splits of one state after the other are settled. It ends where all are, or as soon as more than
+/// `limit` states, pairs or listed pairs of rules are found; pairs that are found from a split and
+/// dropped count while they are kept.
+///
+/// A contract sees how many steps are left at most. `list_divergences` runs a listing to its end.
+#[derive(Drop)]
+pub struct Listing<'m, M: Machine> {
+    finder: Finder<'m, M>,
+    expanded: Expanded,
+    found: Found<M::State>,
+    /// The number of states whose splits are settled.
+    settled: usize,
+}
+
+impl<'m, M: Machine> Model for Listing<'m, M> {
+    ghost use Rattle.brl_divergence.specs.ListingView.{ListingView};
+
+    ghost Value = { ListingView M };
+
+    ghost use Rattle.brl_divergence.specs.Working.{IsWorking, steps_left};
+
+    ghost view = { λ l. record {
+      machine = l.finder.machine.now;
+      limit = l.finder.limit;
+      steps_left = steps_left l.finder.limit l.expanded l.settled;
+    } };
+
+    ghost invariant = { λ l. IsWorking M.behaviour l.finder l.expanded l.found l.settled };
+}
+
+/// The progress of a listing.
+#[derive(Drop)]
+pub enum Slice<'m, M: Machine> {
+    /// There is more to do.
+    Unfinished(Listing<'m, M>),
+    Finished(Divergences<M::State>),
+}
+
+impl<'m, M: Machine> Listing<'m, M> {
+    /// The listing of a machine that has found the start. It finds states and pairs by hashes of
+    /// this seed, which is to be drawn from all that the machine depends on.
+    pub fn start(
+        alloc: Global,
+        machine: &'m M,
+        limit: u64,
+        seed: Seed,
+    ) -> Result<Slice<'m, M>, AllocError>
+        requires { limit ≤ 4294967295 }
+        ensures finished { IfOk result (IfFinished (AreDivergencesOf (M.behaviour machine.now) limit)) }
+        ensures unfinished { IfOk result (IfUnfinished (IsOf machine.now limit)) }
+    {
+        let finder = Finder {
+            alloc,
+            machine,
+            limit,
+            seed,
+        };
+        let found = Found {
+            trail: finder.begin()?,
+            list: BTreeMap::new(alloc),
+        };
+        if limit == 0 {
+            return Ok(Slice::Finished(partial(&finder, found)));
+        }
+        Ok(Slice::Unfinished(Listing {
+            finder,
+            expanded: Expanded::new(alloc, seed),
+            found,
+            settled: 0,
+        }))
+    }
+
+    /// How far it is.
+    fn work(&self) -> Work {
+        Work::Search {
+            states: self.found.trail.states.len() as u64,
+            pairs: self.found.trail.pairs.len() as u64,
+        }
+    }
+
+    /// Continues the listing for at most this number of steps. A step expands a state, or settles the
+    /// splits of one. After `AllocError` the listing can't be continued.
+    pub fn run(self, steps: u64) -> Result<Slice<'m, M>, AllocError>
+        ensures finished { IfOk result (IfFinished (AreDivergencesOf (M.behaviour self.entry.machine) self.entry.limit)) }
+        ensures unfinished { IfOk result (IfUnfinished (IsAfter steps self.entry)) }
+    {
+        let Listing {
+            finder,
+            mut expanded,
+            mut found,
+            mut settled,
+        } = self;
+        match run(&finder, &mut expanded, &mut found, &mut settled, steps) {
+            Ok(true) => Ok(Slice::Unfinished(Listing {
+                finder,
+                expanded,
+                found,
+                settled,
+            })),
+            Ok(false) => Ok(Slice::Finished(complete(&finder, found))),
+            Err(Failure::Fault(_)) => Ok(Slice::Finished(partial(&finder, found))),
+            Err(Failure::Memory) => Err(AllocError),
+        }
+    }
+}
+
+/// The most steps that a listing runs before it reports its progress.
+const SLICE: u64 = 16;
+
+/// Lists the divergences of a machine, with a seed as for `Listing::start`.
+pub fn list_divergences<M: Machine>(
+    alloc: Global,
+    machine: &M,
+    limit: u64,
+    seed: Seed,
+) -> Result<Divergences<M::State>, AllocError>
+    requires { limit ≤ 4294967295 }
+    ensures { IfOk result (AreDivergencesOf (M.behaviour machine.now) limit) }
+{
+    list_divergences_with(alloc, machine, limit, seed, &mut NoProgress)
+}
+
+/// Lists the divergences of a machine as `list_divergences` does, and reports its progress to `watch`
+/// before each slice of steps.
+pub fn list_divergences_with<M: Machine, W: Progress>(
+    alloc: Global,
+    machine: &M,
+    limit: u64,
+    seed: Seed,
+    watch: &mut W,
+) -> Result<Divergences<M::State>, AllocError>
+    requires { limit ≤ 4294967295 }
+    ensures { IfOk result (AreDivergencesOf (M.behaviour machine.now) limit) }
+{
+    let mut progress = Listing::start(alloc, machine, limit, seed)?;
+    loop {
+        match progress {
+            Slice::Unfinished(listing) => {
+                watch.report(listing.work());
+                progress = listing.run(SLICE)?;
+            }
+            Slice::Finished(divergences) => return Ok(divergences),
+        }
+    }
+}
+
+/// Takes at most this number of steps. False where nothing is left to do.
+fn run<M: Machine>(
+    finder: &Finder<'_, M>,
+    expanded: &mut Expanded,
+    found: &mut Found<M::State>,
+    settled: &mut usize,
+    steps: u64,
+) -> Result<bool, Failure<Stop>>
+    requires working { IsWorking M.behaviour finder.now expanded.old found.old settled.old }
+    ensures steps { IfOk result (λ more. OnTrue more (AreSteps M.behaviour steps finder.now expanded.old settled.old expanded.new found.new settled.new)) }
+    ensures done { IfOk result (λ more. OnFalse more (IsDone M.behaviour finder.now expanded.new found.new)) }
+    ensures over { IfErr result (IfFault (λ _. IsOver (M.behaviour finder.now.machine.now) finder.now.limit found.new)) }
+{
+    for _ in 0..steps {
+        if !step(finder, expanded, found, settled)? {
+            return Ok(false);
+        }
+    }
+    Ok(true)
+}
+
+/// Expands the next state, or where all are expanded settles the splits of the next one. False where
+/// nothing is left to do.
+fn step<M: Machine>(
+    finder: &Finder<'_, M>,
+    expanded: &mut Expanded,
+    found: &mut Found<M::State>,
+    settled: &mut usize,
+) -> Result<bool, Failure<Stop>>
+    requires working { IsWorking M.behaviour finder.now expanded.old found.old settled.old }
+    ensures step { IfOk result (λ more. OnTrue more (IsStep M.behaviour finder.now expanded.old settled.old expanded.new found.new settled.new)) }
+    ensures done { IfOk result (λ more. OnFalse more (IsDone M.behaviour finder.now expanded.new found.new)) }
+    ensures over { IfErr result (IfFault (λ _. IsOver (M.behaviour finder.now.machine.now) finder.now.limit found.new)) }
+{
+    if expanded.edges.len() < found.trail.states.len() {
+        expand_next(finder, &mut found.trail, expanded)?;
+        return Ok(true);
+    }
+    if *settled < found.trail.states.len() {
+        let explorer = Explorer {
+            finder,
+            expanded: &*expanded,
+        };
+        explorer.settle_state(found, *settled)?;
+        *settled += 1;
+        return Ok(true);
+    }
+    Ok(false)
+}
+
+/// The whole list, and the states and pairs, where nothing is left to do.
+fn complete<M: Machine>(finder: &Finder<'_, M>, found: Found<M::State>) -> Divergences<M::State>
+    requires { (expanded : ExpandedValue) × IsDone M.behaviour finder.now expanded found }
+    ensures { AreDivergencesOf (M.behaviour finder.now.machine.now) finder.now.limit result }
+{
+    let Found { trail, list } = found;
+    let Trail {
+        states: states,
+        pairs: pairs,
+        ..
+    } = trail;
+    Divergences::Complete {
+        list,
+        body: Body::new(states, pairs),
+    }
+}
+
+/// What is listed, and the numbers of what was found, once one of them is more than the limit.
+fn partial<M: Machine>(finder: &Finder<'_, M>, found: Found<M::State>) -> Divergences<M::State>
+    requires { IsOver (M.behaviour finder.now.machine.now) finder.now.limit found }
+    ensures { AreDivergencesOf (M.behaviour finder.now.machine.now) finder.now.limit result }
+{
+    let states = found.trail.states.as_slice().len() as u64;
+    let pairs = found.trail.pairs.len() as u64;
+    Divergences::Partial {
+        list: found.list,
+        states,
+        pairs,
+    }
+}
