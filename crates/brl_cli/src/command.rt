@@ -305,8 +305,9 @@ Searches for a certificate that no two different texts over the table's
 characters give the same cells, however long they are. Where there is one, it is
 written to OUT, and standard output gets how many states and pairs it lists;
 'brl check' accepts it. Where two texts clash, standard output gets their report,
-the exit status is 1, and OUT isn't written. Where more than N states or more
-than N pairs are found, nothing is decided, and the status is 3.
+the exit status is 1, and OUT isn't written. No character of one of them, nor one
+of each, can be left out so that they still clash. Where more than N states or
+more than N pairs are found, nothing is decided, and the status is 3.
 
 With --without only texts that use none of CHARS are searched, and a second line
 after 'certified' names these; 'brl check' with the same option accepts the

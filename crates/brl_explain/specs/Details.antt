@@ -1,7 +1,7 @@
 -- What can be seen in the line of a fault itself. The project's own choice.
-use Rattle.std.specs.Prelude.{ℕ, ◌/◌, ◌%◌, Bool, ◌&&◌, ◌||◌, not, if◌then◌else◌, List, [], ◌∷◌, ◌++◌, Option, Some, None, Result, Ok, Err, codes, flat_map, length, nat_le, nat_lt, option_map}
+use Rattle.std.specs.Prelude.{ℕ, ◌/◌, ◌%◌, Bool, ◌&&◌, ◌||◌, not, if◌then◌else◌, List, [], ◌∷◌, ◌++◌, Option, Some, None, Result, Ok, Err, codes, flat_map, length, nat_eq, nat_le, nat_lt, option_map}
 use Rattle.std.specs.Char.{digit_char}
-use Rattle.std.specs.List.{after_first, before_first, find}
+use Rattle.std.specs.List.{after_first, before_first, find, list_any}
 use Rattle.std.specs.Str.{bytes_eq, chars, encode_utf8_all}
 use Rattle.brl_cells.specs.Dots.{is_among, reading}
 use Rattle.brl_cells.specs.declared.fault.DotsFault.{DotsFault}
@@ -65,9 +65,31 @@ dots_note dots (Err BadDot) = mark_note (odd_mark dots)
 dots_note dots (Err RepeatedDot) = codes "a dot is in a cell twice"
 dots_note dots (Err TooManyCells) = codes "there are more than 16 cells"
 
+-- the note on the dots of one side of a comma
+abbrev pub side_note : List ℕ → List ℕ
+side_note dots = dots_note dots (reading 16 dots)
+
+-- the first of two texts, unless it is empty
+abbrev pub first_filled : List ℕ → List ℕ → List ℕ
+first_filled [] other = other
+first_filled (byte ∷ bytes) other = byte ∷ bytes
+
+-- a comma, which parts the dots of the two cases in `uplow`
+abbrev pub is_comma : ℕ → Bool
+is_comma byte = nat_eq byte 44
+
+-- the note on dots before a comma or, where these are right, on those after it; where both are right, on
+-- the comma
+abbrev pub sides_note : List ℕ → List ℕ → List ℕ
+sides_note upper lower = first_filled (side_note upper) (first_filled (side_note lower) (codes "a comma is read in uplow alone"))
+
+-- the note on dots, which one comma may part
+abbrev pub whole_note : List ℕ → List ℕ
+whole_note dots = if list_any is_comma dots then sides_note (before_first is_comma dots) (after_first is_comma dots) else side_note dots
+
 -- the line of what is wrong with dots
 abbrev pub note_line : List ℕ → List ℕ
-note_line dots = titled (codes "Dots: ") (dots_note dots (reading 16 dots))
+note_line dots = titled (codes "Dots: ") (whole_note dots)
 
 -- what is wrong with the dots that a line names, if its fault is of dots and it names some
 abbrev pub dots_line : List ℕ → List ℕ

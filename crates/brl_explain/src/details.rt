@@ -13,6 +13,8 @@ ghost use Rattle.brl_explain.specs.Details.{
   mark_note as note_on_mark,
   note_line,
   odd_mark as odd_mark_of,
+  sides_note as note_on_sides,
+  whole_note as note_on_whole,
   operand_of as operand_of_line,
   titled,
   unclear_spelling,
@@ -136,7 +138,33 @@ fn push_byte(text: &mut String, byte: u32) -> Result<(), AllocError>
 fn push_dots(alloc: Global, text: &mut String, dots: &str) -> Result<(), AllocError>
     ensures { OnOk result (string_bytes text.new ≡ string_bytes text.old ++ note_line dots.now) }
 {
-    push_titled(text, "Dots: ", dots_note(alloc, dots)?.as_str())
+    push_titled(text, "Dots: ", whole_note(alloc, dots)?.as_str())
+}
+
+/// What is said of dots, which one comma may part.
+fn whole_note(alloc: Global, dots: &str) -> Result<String, AllocError>
+    ensures { IfOk result (λ note. string_bytes note ≡ note_on_whole dots.now) }
+{
+    match dots.split_once(',') {
+        Some((upper, lower)) => sides_note(alloc, upper, lower),
+        None => dots_note(alloc, dots),
+    }
+}
+
+/// What is said of dots before a comma or, where these are right, of those after it; where both are
+/// right, of the comma.
+fn sides_note(alloc: Global, upper: &str, lower: &str) -> Result<String, AllocError>
+    ensures { IfOk result (λ note. string_bytes note ≡ note_on_sides upper.now lower.now) }
+{
+    let note = dots_note(alloc, upper)?;
+    if !note.is_empty() {
+        return Ok(note);
+    }
+    let note = dots_note(alloc, lower)?;
+    if !note.is_empty() {
+        return Ok(note);
+    }
+    String::from_str(alloc, "a comma is read in uplow alone")
 }
 
 /// What is said of dots that spell no cells, or too many; nothing of others.

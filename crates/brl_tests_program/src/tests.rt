@@ -4,6 +4,7 @@ mod cases;
 mod checks;
 mod cuts;
 mod deliveries;
+mod dots;
 mod files;
 mod progress;
 mod report;
