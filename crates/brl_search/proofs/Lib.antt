@@ -1,3 +1,7 @@
+pub mod Diverging
 pub mod OfDues
+pub mod Parts
+pub mod Smallest
 pub mod TableSearch
 pub mod Traces
+pub mod RuleClashes

@@ -1,5 +1,5 @@
 -- What a search of a table finds, from what a search of its machine without some characters finds.
-use Rattle.std.proofs.Common.{◌≡◌, ℕ, List, [], IsTrue, refl, sym, subst}
+use Rattle.std.proofs.Common.{ℕ, Bool, not, List, [], IsTrue, refl, sym, subst}
 use Rattle.std.specs.Cmp.{first_so, second_so}
 use Rattle.brl_dues.specs.Steps.{dues_machine}
 use Rattle.brl_forward.specs.ClashView.{ClashView}
@@ -7,6 +7,7 @@ use Rattle.brl_pairs.specs.Runs.{Behaviour}
 use Rattle.brl_closure.specs.Deciding.{IsClashOf}
 use Rattle.brl_search.specs.Found.{IfCertified, IfClashing, IsFound, IsFoundOver, IsFoundWithout}
 use Rattle.brl_search.specs.Searched.{State, machine_of}
+use Rattle.brl_search.specs.Small.{IsPartOf}
 use Rattle.brl_search.specs.declared.table_search.Found.{Found}
 use Rattle.brl_search.specs.declared.table_search.Found.TheVariants.{Certified, Clashing, Limit}
 use Rattle.brl_states.specs.declared.cert.Cert.TheVariants.{Dues, Window, Word}
@@ -14,9 +15,10 @@ use Rattle.brl_rules.specs.TableView.{TableView}
 use Rattle.brl_rules.specs.Text.{is_text}
 use Rattle.brl_rules.specs.Translation.{IsClash, IsUnambiguous, translation}
 use Rattle.brl_without.specs.Itself.{unambiguous-none, without-none}
-use Rattle.brl_without.specs.LeftOut.{uses_none}
+use Rattle.brl_without.specs.LeftOut.{is_left_out, uses_none}
 use Rattle.brl_without.specs.Tables.{IsClashWithout, IsUnambiguousWithout}
 use Rattle.brl_without.specs.Without.{without}
+use Rattle.brl_search.proofs.Parts.{part-all}
 
 -- a clash of the machine without some characters is one of the table
 pub clash_of_machine : (left_out : List ℕ) (t : TableView) (left right : List ℕ) → IsClashOf (without left_out (dues_machine t)) left right → IsClash t left right (translation t left)
@@ -33,14 +35,16 @@ pub none_of_machine : (left_out : List ℕ) (t : TableView) (left right : List �
     → IsTrue (uses_none left_out left) × IsTrue (uses_none left_out right)
 none_of_machine left_out t left right h = (second_so (is_text t left) _ h.left_text, second_so (is_text t right) _ h.right_text)
 
--- the clash that is found has these texts
-pub clash_without : (left_out : List ℕ) (t : TableView) (left right : List ℕ) (clash : ClashView) → clash.left ≡ left → clash.right ≡ right
+-- the clash that is found has parts of these texts
+pub clash_without : (left_out : List ℕ) (t : TableView) (left right : List ℕ) (clash : ClashView) → IsPartOf clash.left left → IsPartOf clash.right right
     → IsTrue (uses_none left_out left) × IsTrue (uses_none left_out right) → IsClash t clash.left clash.right clash.cells → IsClashWithout left_out t clash.left clash.right clash.cells
-clash_without left_out t left right clash is_left is_right none is = record {
-  clash = is;
-  left_without = subst (λ (text : List ℕ). IsTrue (uses_none left_out text)) (sym is_left) none.0;
-  right_without = subst (λ (text : List ℕ). IsTrue (uses_none left_out text)) (sym is_right) none.1;
-}
+clash_without left_out t left right clash is_left is_right none is =
+    let stays : ℕ → Bool = λ c. not (is_left_out left_out c) in
+    record {
+      clash = is;
+      left_without = part-all stays clash.left left is_left none.0;
+      right_without = part-all stays clash.right right is_right none.1;
+    }
 
 -- ---- Where nothing is left out
 

@@ -1,6 +1,6 @@
 -- The steps of a path of the dues machine are those of the trace of what it reads. So where two
 -- paths diverge, the traces of what they read do.
-use Rattle.std.proofs.Common.{◌≡◌, ℕ, zero, suc, ◌+◌, ◌≤◌, Bool, ◌&&◌, true, false, IsTrue, List, [], ◌∷◌, ◌++◌, inl, inr, Some, length, take, drop, nat_lt, refl, sym, ap, ◌∙◌, subst, arith, drop-drop, length-drop}
+use Rattle.std.proofs.Common.{◌≡◌, ℕ, zero, suc, ◌+◌, ◌≤◌, Bool, ◌&&◌, true, false, List, [], ◌∷◌, ◌++◌, inl, inr, Some, length, take, drop, nat_lt, refl, sym, ap, ◌∙◌, subst, arith, drop-drop, length-drop}
 use Rattle.std.proofs.lemmas.List.{length-append}
 use Rattle.std.specs.Prelude.{slice_get}
 use Rattle.std.specs.List.{AllZip}
@@ -22,7 +22,6 @@ use Rattle.brl_dues.proofs.Exact.{AreKnown, Stepped, path-Gives, stepped}
 use Rattle.brl_dues.proofs.Taking.{Choosing, as_choice, drop-front, form-ReadsSome, signs-front, take-front}
 use Rattle.brl_forward.specs.Trace.{step_at, steps_from, trace_of}
 use Rattle.brl_forward.specs.declared.steps.Traced.{Traced}
-use Rattle.brl_without.specs.LeftOut.{uses_none}
 use Rattle.brl_without.specs.Without.{without}
 use Rattle.brl_without.proofs.Paths.{path_within}
 use Rattle.brl_search.specs.Traces.{ClashesDivergeAt, ClashesDivergeAtWithout, IsSameTraced, IsTraced, PathsAreTraces, TracesDivergeAt}
@@ -116,7 +115,7 @@ both_traced (x ∷ xs) (y ∷ ys) (z ∷ zs) h k =
 
 module _ (t : TableView) (paths : PathsAreTraces t) (rules : List (ℕ × ℕ)) where
   -- the traces of what two paths read diverge where the paths do
-  traces-diverge : (left right : List ℕ) (first second : List (Step DuesState)) → IsPath (dues_machine t) (dues_machine t).start first → IsPath (dues_machine t) (dues_machine t).start second
+  pub traces-diverge : (left right : List ℕ) (first second : List (Step DuesState)) → IsPath (dues_machine t) (dues_machine t).start first → IsPath (dues_machine t) (dues_machine t).start second
       → reads_of first ≡ left → reads_of second ≡ right → DivergeAt rules first second → TracesDivergeAt t rules left right
   traces-diverge left right first second first_path second_path first_reads second_reads diverge =
       let at = diverge.0 in

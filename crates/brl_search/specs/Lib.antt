@@ -1,3 +1,6 @@
 pub mod Found
 pub mod Searched
+pub mod Small
+pub mod Smaller
 pub mod Traces
+pub mod Clashes

@@ -3,6 +3,10 @@
 //! - `search` searches a table and returns what it `Found`. `search_with` has options: the
 //!   characters that the texts don't use, and who hears how far the search is.
 //! - `found_without` makes what is found from the outcome of the machine's search.
+//! - `clashes` lists every pair of rules at which clashing texts diverge, each with a clash, or as
+//!   many as the limit lets it find. `clashes_without` makes the list from that of the machine.
+//! - `small_clash_of` leaves characters out of two `Texts` while they clash, and where a pair of rules
+//!   is given, while `clash_at` says that their traces diverge at it.
 //! - `seed_of` is the seed by which the search hashes what it finds.
 //! - The laws state what is reached of the table's dues machine.
 //!
@@ -22,11 +26,18 @@
 #![tactic(auto)]
 
 mod dues_laws;
+mod keys;
 mod seed;
+mod small;
+mod table_clashes;
 mod table_search;
+mod texts;
 
 pub use dues_laws::{
     dues_certificate_law, dues_closed_law, dues_divergence_law, dues_reached_law, dues_trace_law,
 };
 pub use seed::seed_of;
+pub use small::small_clash_of;
+pub use table_clashes::{ClashList, RuleClash, clashes, clashes_without};
 pub use table_search::{Found, SearchFault, found_without, search, search_with};
+pub use texts::{Texts, clash_at};

@@ -1,16 +1,17 @@
 //! The search of a table.
 ghost use Rattle.std.specs.Prelude.{◌≤◌, ℕ, IfOk};
 ghost use Rattle.brl_closure.specs.Answers.{IsOutcome};
-ghost use Rattle.brl_search.specs.Found.{IfCertified, IsFound, IsFoundWithout};
+ghost use Rattle.brl_search.specs.Found.{IfCertified, IfClashing, IsFound, IsFoundWithout};
 ghost use Rattle.brl_search.specs.Searched.{machine_of};
+ghost use Rattle.brl_search.specs.Small.{IsSmallClash};
 ghost use Rattle.brl_rules.specs.Translation.{IsUnambiguous};
 ghost use Rattle.brl_without.specs.Tables.{IsUnambiguousWithout};
 ghost use Rattle.brl_without.specs.Without.{without};
 
-use crate::seed_of;
+use crate::{Texts, seed_of, small_clash_of};
 use brl_closure::{Outcome, same_cells_law, search_machine_with};
 use brl_dues::{Dues, exact_law};
-use brl_forward::{Clash, clash_of};
+use brl_forward::Clash;
 use brl_pairs::numbered_sets_law;
 use brl_progress::{NoProgress, Progress};
 use brl_rules::Table;
@@ -42,6 +43,7 @@ pub fn search(alloc: Global, table: &Table, limit: u64) -> Result<Found, SearchF
     requires { limit ≤ 4294967295 }
     ensures found { IfOk result (IsFound table.now limit) }
     ensures unambiguous { IfOk result (IfCertified (λ _. IsUnambiguous table.now)) }
+    ensures small { IfOk result (IfClashing (IsSmallClash table.now)) }
 {
     let scope = Scope {
         left_out: &LeftOut::none(alloc),
@@ -62,6 +64,7 @@ pub fn search_with<P: Progress>(
     requires { limit ≤ 4294967295 }
     ensures found { IfOk result (IsFoundWithout scope.entry.left_out.now table.now limit) }
     ensures unambiguous { IfOk result (IfCertified (λ _. IsUnambiguousWithout scope.entry.left_out.now table.now)) }
+    ensures small { IfOk result (IfClashing (IsSmallClash table.now)) }
 {
     let Scope { left_out, progress } = scope;
     let dues = Dues::new(alloc, table);
@@ -80,8 +83,9 @@ pub fn found_without(
     outcome: Outcome<DuesState>,
 ) -> Result<Found, AllocError>
     requires { (limit : ℕ) × IsOutcome (without left_out.now (machine_of table.now)) limit outcome }
-    ensures { (limit : ℕ) → IsOutcome (without left_out.now (machine_of table.now)) limit outcome →
+    ensures found { (limit : ℕ) → IsOutcome (without left_out.now (machine_of table.now)) limit outcome →
         IfOk result (IsFoundWithout left_out.now table.now limit) }
+    ensures small { IfOk result (IfClashing (IsSmallClash table.now)) }
 {
     let dues = Dues::new(alloc, table);
     exact_law(table);
@@ -95,7 +99,7 @@ pub fn found_without(
         }
         Outcome::BothEnd { left, right } => {
             same_cells_law(&machine);
-            let clash = clash_of(alloc, table, left, right)?;
+            let clash = small_clash_of(alloc, table, Texts { left, right }, None)?;
             Ok(Found::Clashing(clash))
         }
         Outcome::Limit { states, pairs } => Ok(Found::Limit { states, pairs }),

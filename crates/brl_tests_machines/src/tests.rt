@@ -2,10 +2,12 @@
 mod accept;
 mod again;
 mod cert;
+mod clashes;
 mod dues;
 mod edges;
 mod pairs;
 mod search;
+mod small;
 mod sorted;
 mod window;
 mod without;

@@ -1,6 +1,9 @@
 //! Edges in the order of their cells: those that a lead can follow, and those that split.
 use brl_cells::{Cells, read_dots};
-use brl_pairs::{Edge, Members, Seed, SortedEdge, earlier_splits, matches, sort_edges, splits_of};
+use brl_pairs::{
+    ListedEdge, Members, Seed, SortedEdge, earlier_splits, keep_cells, matches, sort_edges,
+    splits_of,
+};
 use brl_testing::for_rows_of_3;
 use std::alloc::Global;
 use std::fmt::Write;
@@ -42,14 +45,19 @@ fn cells_of_dots(alloc: Global, dots: &str) -> Result<Cells, Fail> {
     Ok(read_dots(alloc, dots, 16)?)
 }
 
-/// The edges with these cells, of which each leads to the state with the number 0.
-fn edges_of_dots(alloc: Global, field: &str) -> Result<Vec<Edge>, Fail> {
+/// The edges with these cells, which are kept. Each leads to the state with the number 0.
+fn edges_of_dots(
+    alloc: Global,
+    kept: &mut Members<Cells>,
+    field: &str,
+) -> Result<Vec<ListedEdge>, Fail> {
     let mut edges = Vec::new(alloc);
     for dots in field.split(' ') {
         if !dots.is_empty() {
-            edges.push(Edge {
+            let cells = cells_of_dots(alloc, dots)?;
+            edges.push(ListedEdge {
                 rule: 0,
-                cells: cells_of_dots(alloc, dots)?,
+                cells: keep_cells(kept, &cells, 0)?,
                 next: 0,
             })?;
         }
@@ -70,11 +78,12 @@ fn places_text(alloc: Global, edges: &[SortedEdge]) -> Result<String, Fail> {
 }
 
 fn matches_text(alloc: Global, field: &str, lead: &str) -> Result<String, Fail> {
-    let edges = edges_of_dots(alloc, field)?;
-    let lead = cells_of_dots(alloc, lead)?;
     let mut kept = Members::new(alloc, Seed::of(b"cells"));
-    let sorted = sort_edges(alloc, &mut kept, edges.as_slice())?;
-    let found = matches(alloc, kept.as_slice(), sorted.as_slice(), lead.as_slice())?;
+    let edges = edges_of_dots(alloc, &mut kept, field)?;
+    let lead = cells_of_dots(alloc, lead)?;
+    let cells = kept.as_slice();
+    let sorted = sort_edges(alloc, cells, edges.as_slice())?;
+    let found = matches(alloc, cells, sorted.as_slice(), lead.as_slice())?;
     places_text(alloc, found.as_slice())
 }
 
@@ -85,13 +94,13 @@ fn edges_that_match_a_lead(rt: HostRuntime) -> Result<(), Fail> {
 
 fn splits_text(alloc: Global, field: &str, place: &str) -> Result<String, Fail> {
     let place = place.parse()?;
-    let edges = edges_of_dots(alloc, field)?;
+    let mut kept = Members::new(alloc, Seed::of(b"cells"));
+    let edges = edges_of_dots(alloc, &mut kept, field)?;
     if place >= edges.len() {
         return Err(Fail::new("there is no such edge"));
     }
-    let mut kept = Members::new(alloc, Seed::of(b"cells"));
-    let sorted = sort_edges(alloc, &mut kept, edges.as_slice())?;
     let cells = kept.as_slice();
+    let sorted = sort_edges(alloc, cells, edges.as_slice())?;
     let splits = splits_of(alloc, cells, sorted.as_slice(), edges.len())?;
     let found = earlier_splits(alloc, cells, sorted.as_slice(), &splits, place)?;
     places_text(alloc, found.as_slice())

@@ -22,18 +22,19 @@ shows cs left_out u v t left right same one two exact keeps law paths =
     let kept = subst (λ (w : TableView). IsExact (dues_machine w) → IsExact (without left_out (dues_machine w))) two keeps in
     at (kept exact) left right paths
 
-pub clash_of-requires : goal.clash_of-requires
-clash_of-requires c =
+pub small_clash_of-requires : goal.small_clash_of-requires
+small_clash_of-requires c =
     let t = c.args.table.now in
     let left_out = c.args.left_out.now in
     let left = c.in-BothEnd.left.items in
     let right = c.in-BothEnd.right.items in
     let paths : AreTwoPaths (without left_out (dues_machine t)) left right = (rw c.in-BothEnd.is at c.requires.1).0 in
-    clash_of_machine left_out t left right
-    (shows c.new-machine.result.left_out left_out c.new-machine.result.machine c.new-dues.result t left right c.new-machine.ensures.left_out c.new-machine.ensures.machine c.new-dues.ensures.table c.exact_law.ensures (c.exact_without_law.ensures left_out) c.same_cells_law.ensures paths)
+    let clash = clash_of_machine left_out t left right
+    (shows c.new-machine.result.left_out left_out c.new-machine.result.machine c.new-dues.result t left right c.new-machine.ensures.left_out c.new-machine.ensures.machine c.new-dues.ensures.table c.exact_law.ensures (c.exact_without_law.ensures left_out) c.same_cells_law.ensures paths) in
+    record { clash = clash; diverge = tt }
 
-pub returns-in-Closed : goal.returns-in-Closed
-returns-in-Closed c limit outcome =
+pub returns-in-Closed-clause-found : goal.returns-in-Closed-clause-found
+returns-in-Closed-clause-found c limit outcome =
     let t = c.args.table.now in
     let left_out = c.args.left_out.now in
     let m = c.new-machine.result in
@@ -60,8 +61,8 @@ returns-in-Closed c limit outcome =
       certifies = λ few_states few_pairs single. tt;
     }
 
-pub returns-in_ok-clash-in-BothEnd : goal.returns-in_ok-clash-in-BothEnd
-returns-in_ok-clash-in-BothEnd c limit outcome =
+pub returns-in_ok-clash-in-BothEnd-clause-found : goal.returns-in_ok-clash-in-BothEnd-clause-found
+returns-in_ok-clash-in-BothEnd-clause-found c limit outcome =
     let t = c.args.table.now in
     let left_out = c.args.left_out.now in
     let left = c.in-BothEnd.left.items in
@@ -90,8 +91,8 @@ returns-in_ok-clash-in-BothEnd c limit outcome =
           is.differ (single found.left found.right is.left_text is.right_text clash.left_without clash.right_without (is.left_cells ∙ sym is.right_cells)));
     }
 
-pub returns-in-Limit : goal.returns-in-Limit
-returns-in-Limit c limit outcome =
+pub returns-in-Limit-clause-found : goal.returns-in-Limit-clause-found
+returns-in-Limit-clause-found c limit outcome =
     let m = without c.args.left_out.now (dues_machine c.args.table.now) in
     let passed : IsLimit m limit c.in-Limit.states c.in-Limit.pairs = rw c.in-Limit.is at outcome in
     record {

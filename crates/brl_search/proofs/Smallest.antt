@@ -1,0 +1,68 @@
+-- When no character can be left out of the texts of a clash.
+use Rattle.std.proofs.Common.{◌≡◌, ℕ, ◌≤◌, inl, inr, IsTrue, List, Option, length, sym, ap, subst, arith}
+use Rattle.std.specs.List.{remove, remove_range}
+use Rattle.brl_forward.specs.Faults.{IsFaultOf, IsFaultOfTwo}
+use Rattle.brl_forward.specs.declared.fault.ConfirmFault.{ConfirmFault}
+use Rattle.brl_forward.specs.declared.fault.ConfirmFault.TheVariants as confirm
+use Rattle.brl_forward.specs.declared.fault.ForwardFault.{ForwardFault}
+use Rattle.brl_forward.specs.declared.fault.ForwardFault.TheVariants as forward
+use Rattle.brl_forward.specs.declared.fault.Side.TheVariants.{Left, Right}
+use Rattle.brl_forward.proofs.UnknownChars.{first_unknown-of_text}
+use Rattle.brl_rules.specs.TableView.{TableView}
+use Rattle.brl_rules.specs.Text.{is_text}
+use Rattle.brl_rules.specs.Translation.{translation}
+use Rattle.brl_search.specs.Small.{ClashAt, IsSmall}
+use Rattle.brl_search.specs.Smaller.{IsNone, Keeps, key_of}
+use Rattle.brl_search.specs.declared.texts.Texts.{Texts}
+use Rattle.brl_search.proofs.Parts.{part-is, part-part, part-self, remove-past}
+
+-- ---- Texts of the table have no fault
+
+pub no_fault : (t : TableView) (text : List ℕ) (fault : ForwardFault) → IsTrue (is_text t text) → IsFaultOf t text fault → ⊥
+no_fault t text (forward.UnknownChar place) is fault = (let none = first_unknown-of_text t text is in cc)
+
+pub no_fault_of_two : (t : TableView) (left right : List ℕ) (fault : ConfirmFault) → IsTrue (is_text t left) → IsTrue (is_text t right) → IsFaultOfTwo t left right fault → ⊥
+no_fault_of_two t left right (confirm.UnknownChar Left place) is other fault = (let none = first_unknown-of_text t left is in cc)
+no_fault_of_two t left right (confirm.UnknownChar Right place) is other fault = (let none = first_unknown-of_text t right other in let there = fault.1 in cc)
+
+-- ---- Parts of the texts of a clash
+
+module _ (t : TableView) (rules : Option (ℕ × ℕ)) where
+  pub keeps-given : (given : Texts) → ClashAt t rules given.left.items given.right.items → Keeps t rules given given
+  keeps-given given clash = record { clash = clash; left_part = part-self given.left.items; right_part = part-self given.right.items }
+
+  pub keeps-more : (given texts next : Texts) → Keeps t rules given texts → Keeps t rules texts next → Keeps t rules given next
+  keeps-more given texts next h k = record {
+    clash = k.clash;
+    left_part = part-part next.left.items texts.left.items given.left.items k.left_part h.left_part;
+    right_part = part-part next.right.items texts.right.items given.right.items k.right_part h.right_part;
+  }
+
+  -- texts without some of their characters
+  pub keeps-without : (given next : Texts) (i k j l : ℕ) → i ≤ k → j ≤ l → next.left.items ≡ remove_range given.left.items i k → next.right.items ≡ remove_range given.right.items j l
+      → ClashAt t rules next.left.items next.right.items → Keeps t rules given next
+  keeps-without given next i k j l h g left right clash = record {
+    clash = clash;
+    left_part = part-is next.left.items given.left.items i k h left;
+    right_part = part-is next.right.items given.right.items j l g right;
+  }
+
+  -- their translations have one key
+  pub same-key : (left right : List ℕ) → ClashAt t rules left right → key_of (translation t left) ≡ key_of (translation t right)
+  same-key left right clash = ap key_of (sym clash.clash.right_cells)
+
+  -- ---- No character can be left out
+
+  pub small-from_none : (texts : Texts) → ((i j : ℕ) → i ≤ length texts.left.items → j ≤ length texts.right.items → IsNone t rules texts i j) → IsSmall t rules texts.left.items texts.right.items
+  small-from_none texts none =
+      let left = texts.left.items in
+      let right = texts.right.items in
+      record {
+        of_left = λ i within clash.
+            none i (length right) (omega arith) (omega arith) (inl within)
+            (subst (λ (text : List ℕ). ClashAt t rules (remove left i) text) (sym (remove-past right (length right) (omega arith))) clash);
+        of_right = λ j within clash.
+            none (length left) j (omega arith) (omega arith) (inr within)
+            (subst (λ (text : List ℕ). ClashAt t rules text (remove right j)) (sym (remove-past left (length left) (omega arith))) clash);
+        of_both = λ i j within other clash. none i j (omega arith) (omega arith) (inl within) clash;
+      }

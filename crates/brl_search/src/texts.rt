@@ -1,0 +1,166 @@
+//! Two texts, and whether they clash as is wanted.
+ghost use Rattle.std.specs.Prelude.{◌≡◌, ◌↔◌, ◌∷◌, ◌≤◌, ◌<◌, [], IfOk, IsTrue, length};
+ghost use Rattle.std.specs.Cmp.Lexicographic.{pointwise};
+ghost use Rattle.std.specs.List.{remove_range};
+ghost use Rattle.brl_forward.specs.Trace.{trace_of};
+ghost use Rattle.brl_pairs.specs.Divergence.{are_rules};
+ghost use Rattle.brl_rules.specs.Text.{is_text};
+ghost use Rattle.brl_rules.specs.Translation.{IsClash, translation};
+ghost use Rattle.brl_search.specs.Small.{ClashAt};
+ghost use Rattle.brl_search.specs.Smaller.{are_same_steps, diverge_at};
+ghost use Rattle.brl_search.specs.Traces.{TracesDivergeAt};
+
+use brl_cells::Cell;
+use brl_failure::Failure;
+use brl_forward::{Traced, confirm, trace, translate};
+use brl_rules::Table;
+use std::alloc::{AllocError, Global};
+use std::ops::Range;
+
+/// Two texts.
+#[derive(Drop)]
+pub struct Texts {
+    pub left: Vec<char>,
+    pub right: Vec<char>,
+}
+
+impl Texts {
+    /// The two texts, each without the characters at these places.
+    pub(crate) fn without(
+        &self,
+        alloc: Global,
+        left: Range<usize>,
+        right: Range<usize>,
+    ) -> Result<Texts, AllocError>
+        requires left { left.start ≤ length self.now.left.items }
+        requires right { right.start ≤ length self.now.right.items }
+        ensures left { IfOk result (λ texts. texts.left.items ≡ remove_range self.now.left.items left.start left.end) }
+        ensures right { IfOk result (λ texts. texts.right.items ≡ remove_range self.now.right.items right.start right.end) }
+    {
+        Ok(Texts {
+            left: without(alloc, self.left.as_slice(), left)?,
+            right: without(alloc, self.right.as_slice(), right)?,
+        })
+    }
+}
+
+/// A text without the characters at these places.
+pub(crate) fn without(
+    alloc: Global,
+    text: &[char],
+    places: Range<usize>,
+) -> Result<Vec<char>, AllocError>
+    requires { places.start ≤ length text.now }
+    ensures { IfOk result (λ rest. rest.items ≡ remove_range text.now places.start places.end) }
+{
+    let mut rest = Vec::with_capacity(alloc, text.len())?;
+    rest.extend_from_slice(&text[..places.start])?;
+    rest.extend_from_slice(text.get(places.end..).unwrap_or_default())?;
+    Ok(rest)
+}
+
+/// The cells of a text whose characters the table defines.
+pub(crate) fn cells_of(alloc: Global, table: &Table, text: &[char]) -> Result<Vec<Cell>, AllocError>
+    requires { IsTrue (is_text table.now text.now) }
+    ensures { IfOk result (λ cells. cells.items ≡ translation table.now text.now) }
+{
+    match translate(alloc, table, text) {
+        Ok(cells) => Ok(cells),
+        Err(Failure::Fault(_)) => unreachable!(),
+        Err(Failure::Memory) => Err(AllocError),
+    }
+}
+
+/// Whether two texts clash, and where a pair of rules is given, their traces diverge at it.
+pub fn clash_at(
+    alloc: Global,
+    table: &Table,
+    texts: &Texts,
+    rules: Option<(u32, u32)>,
+) -> Result<bool, AllocError>
+    requires left { IsTrue (is_text table.now texts.now.left.items) }
+    requires right { IsTrue (is_text table.now texts.now.right.items) }
+    ensures { IfOk result (λ clash. IsTrue clash ↔ ClashAt table.now rules texts.now.left.items texts.now.right.items) }
+{
+    let clash = do_clash(alloc, table, texts)?;
+    match rules {
+        Some(pair) if clash => traces_diverge(alloc, table, texts, pair),
+        _ => Ok(clash),
+    }
+}
+
+/// Whether two texts clash.
+fn do_clash(alloc: Global, table: &Table, texts: &Texts) -> Result<bool, AllocError>
+    requires left { IsTrue (is_text table.now texts.now.left.items) }
+    requires right { IsTrue (is_text table.now texts.now.right.items) }
+    ensures { IfOk result (λ clash. IsTrue clash ↔
+        IsClash table.now texts.now.left.items texts.now.right.items (translation table.now texts.now.left.items)) }
+{
+    match confirm(alloc, table, texts.left.as_slice(), texts.right.as_slice()) {
+        Ok(found) => Ok(found.is_some()),
+        Err(Failure::Fault(_)) => unreachable!(),
+        Err(Failure::Memory) => Err(AllocError),
+    }
+}
+
+/// Whether the traces of two texts diverge at a pair of rules.
+fn traces_diverge(
+    alloc: Global,
+    table: &Table,
+    texts: &Texts,
+    pair: (u32, u32),
+) -> Result<bool, AllocError>
+    requires left { IsTrue (is_text table.now texts.now.left.items) }
+    requires right { IsTrue (is_text table.now texts.now.right.items) }
+    ensures { IfOk result (λ diverge. IsTrue diverge ↔
+        TracesDivergeAt table.now (pair ∷ []) texts.now.left.items texts.now.right.items) }
+{
+    let left = steps_of(alloc, table, texts.left.as_slice())?;
+    let right = steps_of(alloc, table, texts.right.as_slice())?;
+    Ok(diverge_at(left.as_slice(), right.as_slice(), pair))
+}
+
+/// The trace of a text whose characters the table defines.
+fn steps_of(alloc: Global, table: &Table, text: &[char]) -> Result<Vec<Traced>, AllocError>
+    requires { IsTrue (is_text table.now text.now) }
+    ensures { IfOk result (λ steps. steps.items ≡ trace_of table.now text.now) }
+{
+    match trace(alloc, table, text) {
+        Ok(steps) => Ok(steps),
+        Err(Failure::Fault(_)) => unreachable!(),
+        Err(Failure::Memory) => Err(AllocError),
+    }
+}
+
+/// Whether two traces begin with the same steps, and go on with two steps of this pair of rules.
+fn diverge_at(left: &[Traced], right: &[Traced], pair: (u32, u32)) -> bool
+    ensures { result ≡ diverge_at pair left.now right.now }
+{
+    let mut count = 0;
+    while count < left.len() && count < right.len() {
+        if are_rules(left[count].rule, right[count].rule, pair) {
+            return true;
+        }
+        if !are_same_steps(&left[count], &right[count]) {
+            return false;
+        }
+        count += 1;
+    }
+    false
+}
+
+/// Whether these are the two rule numbers of the pair, in either order.
+fn are_rules(one: u32, other: u32, pair: (u32, u32)) -> bool
+    ensures { result ≡ are_rules one other pair }
+{
+    (pair.0 == one && pair.1 == other) || (pair.0 == other && pair.1 == one)
+}
+
+/// Whether two steps take the same rule, with as many characters and the same cells.
+fn are_same_steps(one: &Traced, other: &Traced) -> bool
+    ensures { result ≡ are_same_steps one.now other.now }
+{
+    one.rule == other.rule
+        && one.length == other.length
+        && one.cells.as_slice() == other.cells.as_slice()
+}
