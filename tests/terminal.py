@@ -1,7 +1,7 @@
 #!/usr/bin/env python3
 """What a terminal shows of the program named while it searches and checks for long, and that nothing is added elsewhere.
 
-A table is made larger until its search takes longer than work that isn't shown."""
+A table is made larger until a search, and then a check, takes longer than work that isn't shown."""
 
 import os
 import pty
@@ -40,11 +40,12 @@ def table_of(count: int, longest: int) -> str:
     return "\n".join(rows) + "\n"
 
 
-def run(words: list[str]) -> tuple[float, int, bytes, bytes]:
-    """The seconds, the status, the output and the standard error of a run that has no terminal."""
+def run(words: list[str]) -> tuple[float, bytes]:
+    """The seconds and the output of a run that has no terminal, and that ends well."""
     began = time.monotonic()
     ran = subprocess.run(words, capture_output=True)
-    return time.monotonic() - began, ran.returncode, ran.stdout, ran.stderr
+    need((ran.returncode, ran.stderr) == (0, b""), f"a {words[1]} ends with status {ran.returncode} and writes {ran.stderr!r}")
+    return time.monotonic() - began, ran.stdout
 
 
 def run_on_terminal(words: list[str]) -> tuple[int, bytes, bytes]:
@@ -78,27 +79,34 @@ def check_shown(command: str, shown: bytes) -> None:
         need(all(one <= other for one, other in zip(before, after)), f"{command} counts back: {shown!r}")
 
 
+def run_long(command: str, words: dict[str, list[str]], table: str) -> bytes:
+    """What this command prints without a terminal, with a table that is made larger until that takes long."""
+    # Longer words make more states. A check takes longer than a search, and a certificate that takes a search long is
+    # larger than one that a check reads.
+    for longest in range(5, 25):
+        Path(table).write_text(table_of(2800, longest))
+        seconds, found = run(words["search"])
+        if command == "check":
+            accepted = found.replace(b"certified", b"accepted")
+            seconds, found = run(words["check"])
+            need(found == accepted, "a check without a terminal differs")
+        if seconds >= LONG:
+            return found
+    sys.exit(f"terminal: no {command} takes {LONG} seconds")
+
+
 def main(program: str) -> None:
     with tempfile.TemporaryDirectory() as folder:
-        table, cert = f"{folder}/t.ctb", f"{folder}/t.cert"
-        search, check = [program, "search", table, cert], [program, "check", table, cert]
-        seconds = 0.0
-        # Longer words make more states. A certificate of still longer ones is larger than a check reads.
-        for longest in range(5, 11):
-            if seconds < LONG:
-                Path(table).write_text(table_of(2800, longest))
-                seconds, status, found, errors = run(search)
-                need((status, errors) == (0, b""), f"a search ends with status {status} and writes {errors!r}")
-        need(seconds >= LONG, f"no search takes {LONG} seconds")
-        accepted = found.replace(b"certified", b"accepted")
-        need(run(check)[1:] == (0, accepted, b""), "a check without a terminal differs")
-        for command, words, want in (("search", search, found), ("check", check, accepted)):
-            status, output, shown = run_on_terminal(words)
+        table = f"{folder}/t.ctb"
+        words = {command: [program, command, table, f"{folder}/t.cert"] for command in SHOWN}
+        for command in words:
+            want = run_long(command, words, table)
+            status, output, shown = run_on_terminal(words[command])
             need((status, output) == (0, want), f"{command} differs on a terminal")
             check_shown(command, shown)
         Path(table).write_text(table_of(5, 5))
-        for words in (search, check):
-            need(run_on_terminal(words)[2] == b"", "work that isn't long is shown")
+        for command in words:
+            need(run_on_terminal(words[command])[2] == b"", "work that isn't long is shown")
     print("terminal: a search and a check show how far they are, and clear what they show")
 
 
