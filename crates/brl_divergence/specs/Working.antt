@@ -44,7 +44,7 @@ pub record IsStep {M S : Type 0} (behaviour : M → Behaviour S) (f : Finder M S
   pub working : IsWorking behaviour f e' it settled'
   pub fewer : steps_left f.limit e' settled' < steps_left f.limit e settled
 
--- the same of this number of steps, each of which leaves one fewer
+-- what this number of steps does: at least so many fewer are left
 pub record AreSteps {M S : Type 0} (behaviour : M → Behaviour S) (steps : ℕ) (f : Finder M S) (e : Expanded) (settled : ℕ) (e' : Expanded) (it : Found S) (settled' : ℕ) : Type 0 where
   pub working : IsWorking behaviour f e' it settled'
   pub fewer : steps_left f.limit e' settled' + steps ≤ steps_left f.limit e settled

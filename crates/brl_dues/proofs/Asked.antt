@@ -28,7 +28,7 @@ use Rattle.brl_dues.proofs.Alike.{AreAlike}
 
 -- ---- Classes
 
--- of numbers of which one is the sum of the others, one isn't 0 where one of the others isn't
+-- a sum of two numbers isn't 0 just where one of the two isn't
 some-of : (m g l : ℕ) → m ≡ l + g → not (nat_eq m 0) ≡ (not (nat_eq g 0) || not (nat_eq l 0))
 some-of m g l e = at (nat_eq g 0) (nat_eq l 0) refl refl
   where
@@ -52,7 +52,7 @@ share-mixed c =
     let b = and_le_r low 0 in
     some-of (bit_and x 11) (bit_and x 3) (bit_and x 8) (omega (arith, mixed, letters, gaps, a, b))
 
--- what is told of classes
+-- which of four kinds of classes a character has: these four answers say it
 record Tells (c : Class) (is_gap is_digit is_letter is_upper : Bool) : Type 0 where
   gap_is : share c gap ≡ is_gap
   digit_is : share c digit ≡ is_digit

@@ -19,7 +19,7 @@ use Rattle.brl_dues.specs.Letters.{bars_from, may_come, new_letter, steps_found}
 abbrev pub class_if : Bool → Class → Class
 class_if b classes = if b then classes else none
 
--- classes of which these things are told: whether they have one of space and punctuation, digit,
+-- the classes that these four answers stand for: space for one of space and punctuation, digit,
 -- letter, and uppercase
 abbrev pub told : Bool → Bool → Bool → Bool → Class
 told has_gap has_digit has_letter has_upper = record {
