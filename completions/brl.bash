@@ -24,14 +24,14 @@ _brl_folders() {
 
 _brl() {
     # help takes one of the other commands
-    local commands='translate clash trace rules explain search check survey cut'
+    local commands='translate clash trace rules explain search clashes check survey cut'
     local word=${COMP_WORDS[COMP_CWORD]} command='' option='' at operands=0
     [[ $word == '=' ]] && word=''
 
     # The command, the option that waits for its value, and the operands before the cursor.
     for ((at = 1; at < COMP_CWORD; at++)); do
         case ${COMP_WORDS[at]} in
-            --form | --limit | --without) option=${COMP_WORDS[at]} ;;
+            --form | --first | --limit | --without) option=${COMP_WORDS[at]} ;;
             =) ;;
             *)
                 if [[ -n $option ]]; then
@@ -50,9 +50,10 @@ _brl() {
     local options='--help'
     case $command in
         '') options='--help --version' ;;
-        translate) options='--form --help' ;;
+        translate) options='--form --lacking --help' ;;
         clash | trace) options='--escapes --help' ;;
         search) options='--limit --without --help' ;;
+        clashes) options='--first --limit --without --help' ;;
         check) options='--without --help' ;;
         survey) options='--brief --help' ;;
         cut) options='--rewrite --help' ;;
@@ -70,7 +71,7 @@ _brl() {
         _brl_reply < <(compgen -W "$commands help" -- "$word")
     else
         case $command:$operands in
-            translate:0 | clash:0 | trace:0 | rules:0 | search:[01] | check:[01] | survey:* | cut:0) _brl_files "$word" ;;
+            translate:0 | clash:0 | trace:0 | rules:0 | clashes:0 | search:[01] | check:[01] | survey:* | cut:0) _brl_files "$word" ;;
             cut:1) _brl_folders "$word" ;;
             help:0) _brl_reply < <(compgen -W "$commands" -- "$word") ;;
         esac

@@ -7,7 +7,7 @@ function __brl_operands
     for word in (commandline -opc)[3..-1]
         if test $takes_value = yes
             set takes_value no
-        else if contains -- $word --form --limit --without
+        else if contains -- $word --form --first --limit --without
             set takes_value yes
         else if not string match -q -- '-*' $word
             set count (math $count + 1)
@@ -39,6 +39,7 @@ complete -c brl -n __brl_is_first -a trace -d 'Show the steps of the translation
 complete -c brl -n __brl_is_first -a rules -d 'List the rules of a table by their numbers'
 complete -c brl -n __brl_is_first -a explain -d 'Say what a fault means'
 complete -c brl -n __brl_is_first -a search -d 'Decide whether any two texts look alike by a table'
+complete -c brl -n __brl_is_first -a clashes -d 'List every pair of rules by which texts look alike'
 complete -c brl -n __brl_is_first -a check -d 'Say whether a certificate proves a table unambiguous'
 complete -c brl -n __brl_is_first -a survey -d 'List the lines of tables that are not read'
 complete -c brl -n __brl_is_first -a cut -d 'Write the lines of a table that are read as a table of its own'
@@ -47,19 +48,22 @@ complete -c brl -n __brl_is_first -a help -d 'Print help on brl or on a command'
 complete -c brl -n 'not __brl_is help' -l help -d 'Print help'
 complete -c brl -n __brl_is_first -l version -d 'Print the version'
 complete -c brl -n '__brl_is translate' -l form -x -a 'ascii unicode' -d 'How cells are written'
-complete -c brl -n '__brl_is search' -l limit -x -d 'How many states and pairs may be found'
+complete -c brl -n '__brl_is translate' -l lacking -d 'Pass over lines with undefined characters, and list these'
+complete -c brl -n '__brl_is search clashes' -l limit -x -d 'How many states and pairs may be found'
 complete -c brl -n '__brl_is clash trace' -l escapes -d 'Read texts as they are spelled in tables and reports'
 complete -c brl -n '__brl_is survey' -l brief -d 'Leave the list of faults out'
 complete -c brl -n '__brl_is cut' -l rewrite -d 'Also read lines that define a character after noback'
-complete -c brl -n '__brl_is search check' -l without -x -d 'Characters that the texts do not use'
+complete -c brl -n '__brl_is clashes' -l first -x -d 'How many lines of each section are shown'
+complete -c brl -n '__brl_is search clashes check' -l without -x -d 'Characters that the texts do not use'
 
 complete -c brl -n '__brl_at translate 0' -F
 complete -c brl -n '__brl_at clash 0' -F
 complete -c brl -n '__brl_at trace 0' -F
 complete -c brl -n '__brl_at rules 0' -F
 complete -c brl -n '__brl_at search 0 1' -F
+complete -c brl -n '__brl_at clashes 0' -F
 complete -c brl -n '__brl_at check 0 1' -F
 complete -c brl -n '__brl_is survey' -F
 complete -c brl -n '__brl_at cut 0' -F
 complete -c brl -n '__brl_at cut 1' -x -a '(__fish_complete_directories)'
-complete -c brl -n '__brl_at help 0' -a 'translate clash trace rules explain search check survey cut'
+complete -c brl -n '__brl_at help 0' -a 'translate clash trace rules explain search clashes check survey cut'

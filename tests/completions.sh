@@ -131,6 +131,9 @@ for shell in bash zsh fish; do
     offers 'brl search --without t'
     offers 'brl search --without ab table.ctb t' table.ctb table.cert tables
     offers 'brl search --limit=5 table.ctb table.cert t'
+    offers 'brl clashes table.ctb t'
+    offers 'brl clashes --first t'
+    offers 'brl clashes --first 5 t' table.ctb table.cert tables
     offers 'brl check table.ctb t' table.ctb table.cert tables
     offers 'brl check --without ab table.ctb t' table.ctb table.cert tables
     offers 'brl check table.ctb table.cert t'

@@ -229,7 +229,9 @@ def is_ended_by_memory(run: Run, ended: Ended, whole: Ended) -> bool:
         return False
     if ended.opened == 0:
         return ended.status in (2, 3) and not ended.out and bool(ended.err)
-    return ended.status == 3 and ended.err in ("Memory\n", run.err + "Memory\n") and (ended.out != whole.out or not ended.out)
+    # All of standard output may be there where what standard error gets after it isn't.
+    is_short = ended.out != whole.out or not ended.out or bool(run.err) and ended.err == "Memory\n"
+    return ended.status == 3 and ended.err in ("Memory\n", run.err + "Memory\n") and is_short
 
 
 def first_files(run: Run, count: int) -> dict[str, str]:
@@ -262,6 +264,8 @@ RUNS = [
     translate("a text is translated", FIRST, "abc a\n", "ABC A\n"),
     translate("three lines are translated", FIRST, "abc a\nb\nc\n", "ABC A\nB\nC\n"),
     translate("an empty table translates nothing", "", "", ""),
+    Run("characters are listed that a table doesn't define", ["translate", "--lacking", "t.ctb"], {"t.ctb": FIRST}, "B\n", 2, "az\nb\nz\n",
+        "lacking z U+007A: count 2, first line 1\n"),
     translate("a rule is used", APART, "aab\n", "AC\n"),
     translate("a word is translated", WORD, "b but\n", ";B B\n"),
     translate("a number is translated", NUMBERS, "1a\n", "#A;A\n"),
@@ -273,6 +277,19 @@ RUNS = [
     search("a table with a notice is searched", "letter a 1\nletter a 12\n", "certified: 2 states, 0 pairs\n",
            err="notice DefinedAgain a at t.ctb:2\n", written="BRLCERT 3\n"),
     Run("a limit is passed", ["search", "--limit", "1", "t.ctb", "o"], {"t.ctb": TWO}, "limit: 2 states, 0 pairs\n", 3),
+    Run("clashes are listed", ["clashes", "t.ctb"], {"t.ctb": ALIKE},
+        "small letters: 1 pairs of rules diverge, and no others\n  x / ab  1-12  t.ctb:3 letter x  t.ctb:1 letter a\n"
+        "1 pairs of rules diverge, and no others\n", 1),
+    Run("a set of characters is listed", ["clashes", "t.ctb"], {"t.ctb": "space \\s 0\nspace \\t 0\nletter a 1\n"},
+        "1 sets of characters have the same cells, classes and flags, and are in no rule; "
+        "below, the first of each represents its set:\n  0  \\s \\t\n"
+        "small letters: 1 pairs of rules diverge, and no others\n"
+        "  1 of other characters of the sets\n1 pairs of rules diverge, and no others\n", 1),
+    Run("no clash is listed", ["clashes", "t.ctb"], {"t.ctb": TWO},
+        "small letters: 0 pairs of rules diverge, and no others\nunambiguous: 2 states, 0 pairs\n"),
+    Run("a list of clashes passes a limit", ["clashes", "--limit", "1", "t.ctb"], {"t.ctb": TWO},
+        "small letters: 0 pairs of rules diverge, and maybe others\nlimit: 2 states, 0 pairs\n"
+        "0 pairs of rules diverge, and maybe others\n", 3),
     check("an empty table's certificate is accepted", "", EMPTY_CERT, "accepted: 1 states, 0 pairs\n", 0),
     check("a certificate of version 1 is accepted", "letter a 1\n", LETTER_CERT, "accepted: 3 states, 1 pairs\n", 0),
     check("a certificate of version 2 is accepted", APART, APART_CERT, "accepted: 3 states, 1 pairs\n", 0),

@@ -7,8 +7,9 @@ use Rattle.brl_closure.specs.declared.check.checker.Accepted.{Accepted}
 use Rattle.brl_accept.specs.declared.judge_fault.JudgeFault.{JudgeFault}
 use Rattle.brl_accept.specs.declared.judge_fault.JudgeFault.TheVariants.{NoTable, NotDefined, Cert, OldVersion, Wide, Refused}
 use Rattle.brl_closure.proofs.Open.{open_where_refused}
-use Rattle.brl_accept.specs.Kinds.{HasVersion, IsClosedFor, OfMachine}
+use Rattle.brl_accept.specs.Kinds.{HasMachine, HasVersion, IsClosedFor, OfMachine}
 use Rattle.brl_cert.specs.Reading.{reading}
+use Rattle.brl_states.specs.Counts.{pair_count, state_count}
 use Rattle.brl_states.specs.declared.cert.Cert.TheVariants.{Dues, Window, Word}
 use Rattle.brl_states.specs.declared.cert.Cert.{Cert as Certificate}
 use Rattle.brl_cert.specs.declared.fault.CertFault.{CertFault}
@@ -32,6 +33,18 @@ pub same_counts : (one other : Accepted) → one.states ≡ other.states → one
 same_counts one other states pairs =
     subst (λ (n : ℕ). ◌≡◌ {A = Accepted} one (record { states = n; pairs = other.pairs })) states
     (subst (λ (n : ℕ). ◌≡◌ {A = Accepted} one (record { states = one.states; pairs = n })) pairs refl)
+
+-- the outcome for the machine of a table is that for the certificate that lists the body
+pub judged : (left_out : List ℕ) (t u : TableView) (cert : Certificate) → u ≡ t → HasMachine t cert → (result : Result Accepted (Failure JudgeFault)) → OnOk result (IsUnambiguousWithout left_out u)
+    → IfOk result (λ accepted. IsClosedFor left_out u cert × (accepted.states ≡ state_count cert) × (accepted.pairs ≡ pair_count cert))
+    → IfErr result (IfFault (λ fault. (refusal : AcceptFault) × (fault ≡ Refused refusal) × OfMachine (λ S m body. IsRefused (without left_out m) body refusal) u cert))
+    → OnOk result (IsUnambiguousWithout left_out t) × IfOk result (IsProved left_out t cert) × IfErr result (IfFault (IsNotProved left_out t cert))
+judged left_out t u cert same has (Ok accepted) single closed refused =
+    (subst (IsUnambiguousWithout left_out) same single, (has, subst (λ (v : TableView). IsClosedFor left_out v cert) same closed.0, same_counts accepted (counted cert) closed.1 closed.2), tt)
+judged left_out t u cert same has (Err (Fault fault)) single closed refused =
+    let moved = subst (λ (v : TableView). OfMachine (λ S m body. IsRefused (without left_out m) body refused.0) v cert) same refused.2 in
+    (tt, tt, subst (IsNotProved left_out t cert) (sym refused.1) (has, moved))
+judged left_out t u cert same has (Err Memory) single closed refused = (tt, tt, tt)
 
 -- what is refused is nowhere accepted
 one_cert : (bytes : List ℕ) (a b : Certificate) → reading bytes ≡ Ok a → reading bytes ≡ Ok b → a ≡ b

@@ -1,7 +1,9 @@
 //! The judge of a certificate for the table that files define.
-ghost use Rattle.std.specs.Prelude.{◌≡◌, ◌⊎◌, ◌↔◌, Err, IfErr, IfOk, IsTrue, Ok, OnOk};
+ghost use Rattle.std.specs.Prelude.{◌≡◌, ◌⊎◌, ◌↔◌, Err, IfErr, IfOk, IsTrue, Ok, OnOk, length};
 ghost use Rattle.brl_accept.specs.Judging.{IsAccepted, IsAcceptedWithout, IsNotProved, IsProved, IsRefusedAs, IsRefusedBy, IsRefusedByWithout, IsRefusedWithout, load_outcome};
 ghost use Rattle.brl_closure.specs.declared.check.checker.Accepted.{Accepted as AcceptedValue};
+ghost use Rattle.brl_closure.specs.Refusals.{IsRefused};
+ghost use Rattle.brl_closure.specs.declared.check.fault.AcceptFault.{AcceptFault};
 ghost use Rattle.brl_failure.specs.Failure.{IfFault};
 ghost use Rattle.brl_failure.specs.declared.failure.Failure.TheVariants as failures;
 ghost use Rattle.brl_accept.specs.Kinds.{HasVersion};
@@ -10,7 +12,10 @@ ghost use Rattle.brl_lines.specs.Outcome.{CountsFailure};
 ghost use Rattle.brl_table.specs.Files.{IsTableOf};
 ghost use Rattle.brl_rules.specs.TableView.{TableView};
 ghost use Rattle.brl_rules.specs.Translation.{IsUnambiguous};
-ghost use Rattle.brl_without.specs.Tables.{AreDefined, IsUnambiguousWithout};
+ghost use Rattle.brl_pairs.specs.Pairs.{IsClosed};
+ghost use Rattle.brl_pairs.specs.Sets.{sets_of};
+ghost use Rattle.brl_without.specs.Tables.{IsUnambiguousWithout};
+ghost use Rattle.brl_without.specs.Without.{IsUnambiguousFor, without};
 
 use crate::JudgeFault;
 use brl_cert::{Cert, read_cert};
@@ -18,14 +23,35 @@ use brl_closure::{Accepted, accept_with};
 use brl_dues::Dues;
 use brl_failure::{Failure, raise};
 use brl_lines::Source;
-use brl_pairs::Body;
+use brl_pairs::{Body, Parted, Seed};
 use brl_progress::{NoProgress, Progress};
 use brl_rules::Table;
-use brl_states::{DuesState, WindowState};
+use brl_states::WindowState;
 use brl_table::{load_table, one_table_law};
 use brl_window::{TooWide, Window};
 use brl_without::{LeftOut, Scope, Without, check_defined, unambiguous_without_law};
 use std::alloc::Global;
+
+/// Judges the states and pairs of a certificate for a machine without some characters.
+fn judge_body<M: Parted, W: Progress>(
+    alloc: Global,
+    machine: &M,
+    left_out: &LeftOut,
+    body: &Body<M::State>,
+    seed: Seed,
+    progress: &mut W,
+) -> Result<Accepted, Failure<JudgeFault>>
+    ensures unambiguous { OnOk result (IsUnambiguousFor left_out.now (M.behaviour machine.now)) }
+    ensures accepted { IfOk result (λ accepted. IsClosed (without left_out.now (M.behaviour machine.now)) (sets_of body.now)
+        × (accepted.states ≡ length body.now.states) × (accepted.pairs ≡ length body.now.pairs)) }
+    ensures refused { IfErr result (IfFault (λ fault. (refusal : AcceptFault) × (fault ≡ JudgeFault.Refused refusal)
+        × IsRefused (without left_out.now (M.behaviour machine.now)) body.now refusal)) }
+{
+    unambiguous_without_law(machine);
+    let without = Without::new(machine, left_out);
+    let accepted = accept_with(alloc, &without, body, seed, progress);
+    raise(accepted, JudgeFault::Refused)
+}
 
 /// Judges the states and pairs of a certificate of version 1 for a table without some characters.
 fn judge_windows<W: Progress>(
@@ -33,6 +59,7 @@ fn judge_windows<W: Progress>(
     table: &Table,
     left_out: &LeftOut,
     body: &Body<WindowState>,
+    seed: Seed,
     progress: &mut W,
 ) -> Result<Accepted, Failure<JudgeFault>>
     ensures unambiguous { OnOk result (IsUnambiguousWithout left_out.now table.now) }
@@ -42,30 +69,7 @@ fn judge_windows<W: Progress>(
     let Ok(window) = Window::new(alloc, table) else {
         return Err(Failure::Fault(JudgeFault::Wide(TooWide)));
     };
-    unambiguous_without_law(&window);
-    let machine = Without::new(&window, left_out);
-    let accepted = accept_with(alloc, &machine, body, progress);
-    raise(accepted, JudgeFault::Refused)
-}
-
-/// Judges the states and pairs of a certificate of version 2 or 3 for a table without some
-/// characters.
-fn judge_dues<W: Progress>(
-    alloc: Global,
-    table: &Table,
-    left_out: &LeftOut,
-    body: &Body<DuesState>,
-    progress: &mut W,
-) -> Result<Accepted, Failure<JudgeFault>>
-    ensures unambiguous { OnOk result (IsUnambiguousWithout left_out.now table.now) }
-    ensures accepted { IfOk result (IsProved left_out.now table.now (Cert.Word body.now)) }
-    ensures refused { IfErr result (IfFault (IsNotProved left_out.now table.now (Cert.Word body.now))) }
-{
-    let dues = Dues::new(alloc, table);
-    unambiguous_without_law(&dues);
-    let machine = Without::new(&dues, left_out);
-    let accepted = accept_with(alloc, &machine, body, progress);
-    raise(accepted, JudgeFault::Refused)
+    judge_body(alloc, &window, left_out, body, seed, progress)
 }
 
 /// Whether certificates of this one's version are for the table: all where it has no word capitals,
@@ -85,6 +89,7 @@ fn judge_read<W: Progress>(
     table: &Table,
     left_out: &LeftOut,
     cert: &Cert,
+    seed: Seed,
     progress: &mut W,
 ) -> Result<Accepted, Failure<JudgeFault>>
     ensures unambiguous { OnOk result (IsUnambiguousWithout left_out.now table.now) }
@@ -94,31 +99,22 @@ fn judge_read<W: Progress>(
     if !has_version(table, cert) {
         return Err(Failure::Fault(JudgeFault::OldVersion));
     }
+    let dues = Dues::new(alloc, table);
     match cert {
-        Cert::Window(listed) => judge_windows(alloc, table, left_out, listed.body(), progress),
-        Cert::Dues(listed) => judge_dues(alloc, table, left_out, listed.body(), progress),
-        Cert::Word(body) => judge_dues(alloc, table, left_out, body, progress),
+        Cert::Window(listed) => judge_windows(
+            alloc,
+            table,
+            left_out,
+            listed.body(),
+            seed,
+            progress,
+        ),
+        Cert::Dues(listed) => judge_body(alloc, &dues, left_out, listed.body(), seed, progress),
+        Cert::Word(body) => judge_body(alloc, &dues, left_out, body, seed, progress),
     }
 }
 
-/// Judges the certificate that bytes spell for a table without some characters, which it defines.
-fn judge_cert<W: Progress>(
-    alloc: Global,
-    table: &Table,
-    left_out: &LeftOut,
-    cert: &[u8],
-    progress: &mut W,
-) -> Result<Accepted, Failure<JudgeFault>>
-    requires defined { AreDefined table.now left_out.now }
-    ensures unambiguous { OnOk result (IsUnambiguousWithout left_out.now table.now) }
-    ensures accepted { IfOk result (IsAcceptedWithout left_out.now table.now cert.now) }
-    ensures refused { IfErr result (IfFault (IsRefusedWithout left_out.now table.now cert.now)) }
-{
-    let cert = raise(read_cert(alloc, cert), JudgeFault::Cert)?;
-    judge_read(alloc, table, left_out, &cert, progress)
-}
-
-/// The same, where the table may not define what is left out.
+/// Judges the certificate that bytes spell for a table without some characters.
 fn judge_table<W: Progress>(
     alloc: Global,
     table: &Table,
@@ -132,7 +128,10 @@ fn judge_table<W: Progress>(
 {
     let defined = check_defined(alloc, table, left_out);
     raise(defined, JudgeFault::NotDefined)?;
-    judge_cert(alloc, table, left_out, cert, progress)
+    // A table gives at most some thousand different cells, so that the certificate alone counts.
+    let seed = Seed::of(cert);
+    let cert = raise(read_cert(alloc, cert), JudgeFault::Cert)?;
+    judge_read(alloc, table, left_out, &cert, seed, progress)
 }
 
 /// Judges a certificate for the table that the file at the path `root` defines. An acceptance gives

@@ -34,7 +34,7 @@ fn spell_after_blank(alloc: Global, character: char) -> Result<String, AllocErro
 }
 
 /// Characters, each spelled after a blank.
-fn spell_one_by_one(alloc: Global, characters: &[char]) -> Result<String, AllocError>
+pub fn spell_one_by_one(alloc: Global, characters: &[char]) -> Result<String, AllocError>
     ensures { IfOk result (λ text. string_bytes text ≡ spelled_one_by_one characters.now) }
 {
     let mut text = String::new(alloc);

@@ -20,7 +20,7 @@ mod text;
 
 pub use answer::{Answer, counts_text, deliver};
 pub use files::{CreateFault, Files, SinkFault};
-pub use left_out::{left_out_of, with_left_out_line};
+pub use left_out::{left_out_of, spell_one_by_one, with_left_out_line};
 pub use new_files::{NewFile, NewFiles};
 pub use prefixes::set_apart;
 pub use run_fault::{EndsRun, RunFault};

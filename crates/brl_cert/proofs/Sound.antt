@@ -212,15 +212,9 @@ module _ {S : Type 0} (form : StateFormat S) (IsState : S → Type 0) (cells : R
       let n : length body.states ≡ s = (Decides-eqb (length body.states) s).0 (first_so _ _ a.0) in
       let m : length body.pairs ≡ p = (Decides-eqb (length body.pairs) p).0 (second_so (eqb (length body.states) s) _ a.0) in
       let same : body ≡ longer = ok_is body longer a.1 in
-      record {
-        each_state = front.each_state;
-        each_pair = front.each_pair;
-        each_lead = front.each_lead;
-        states_differ = front.states_differ;
-        pairs_differ = front.pairs_differ;
-        few_states = subst (λ (z : BodyView S). length z.states ≤ 4294967295) same (omega (arith, is.0));
-        few_pairs = subst (λ (z : BodyView S). length z.pairs ≤ 4294967295) same (omega (arith, is.1));
-      }
+      let few_states = subst (λ (z : BodyView S). length z.states ≤ 4294967295) same (omega (arith, is.0)) in
+      let few_pairs = subst (λ (z : BodyView S). length z.pairs ≤ 4294967295) same (omega (arith, is.1)) in
+      assumption (front, few_states, few_pairs)
 
   body_valid : (n : ℕ) (body : BodyView S) (parts : List (List ℕ)) (out : BodyView S) → IsFront form IsState body → body_of form n body parts ≡ Ok out → IsBody form IsState out
   body_valid n body [] out front e = absurd cc

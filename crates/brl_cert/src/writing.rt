@@ -4,7 +4,6 @@ ghost use Rattle.std.specs.List.{flat_map, join_with_byte};
 ghost use Rattle.brl_cells.specs.Dots.{AreCells};
 ghost use Rattle.brl_cert.specs.Lines.{end_fields, pair_fields, spelled_body, spelled_line, whole_line};
 ghost use Rattle.brl_cert.specs.Reading.{reading, spelling};
-ghost use Rattle.brl_states.specs.declared.cert.Cert.TheVariants.{Dues, Window, Word};
 ghost use Rattle.brl_cert.specs.Valid.{IsBody};
 ghost use Rattle.brl_pairs.specs.Body.{listed};
 ghost use Rattle.brl_cert.specs.declared.line.Line.TheVariants.{State};
@@ -13,7 +12,6 @@ use crate::field::{push_lead, push_number};
 use crate::line::Line;
 use crate::{Cert, Version, Version1, Version2, Version3, certificate_laws};
 use brl_pairs::{Body, Pair};
-use brl_states::{CapsFree, DuesState, WindowState};
 use std::alloc::{AllocError, Global};
 
 /// Writes a state line without its line feed.
@@ -114,36 +112,17 @@ fn push_body<V: Version>(
     Ok(())
 }
 
-/// The bytes of a certificate of version 1.
-fn write_windows(alloc: Global, body: &CapsFree<WindowState>) -> Result<Vec<u8>, AllocError>
-    ensures spelled { IfOk result (λ bytes. bytes.items ≡ spelling (Window body.now)) }
-    ensures read_back { IfOk result (λ bytes. reading bytes.items ≡ Ok (Window body.now)) }
+/// The bytes of a certificate that begins with this header.
+fn write_version<V: Version>(
+    alloc: Global,
+    header: &[u8],
+    body: &Body<V::State>,
+) -> Result<Vec<u8>, AllocError>
+    ensures written { IfOk result (λ bytes. bytes.items ≡ header.now ++ spelled_body V.form body.now) }
+    ensures in_range { OnOk result (IsBody V.form V.is_state body.now) }
 {
-    certificate_laws();
-    let mut out = Vec::from_slice(alloc, b"BRLCERT 1\n")?;
-    push_body::<Version1>(alloc, &mut out, body.body())?;
-    Ok(out)
-}
-
-/// The bytes of a certificate of version 2.
-fn write_dues(alloc: Global, body: &CapsFree<DuesState>) -> Result<Vec<u8>, AllocError>
-    ensures spelled { IfOk result (λ bytes. bytes.items ≡ spelling (Dues body.now)) }
-    ensures read_back { IfOk result (λ bytes. reading bytes.items ≡ Ok (Dues body.now)) }
-{
-    certificate_laws();
-    let mut out = Vec::from_slice(alloc, b"BRLCERT 2\n")?;
-    push_body::<Version2>(alloc, &mut out, body.body())?;
-    Ok(out)
-}
-
-/// The bytes of a certificate of version 3.
-fn write_word(alloc: Global, body: &Body<DuesState>) -> Result<Vec<u8>, AllocError>
-    ensures spelled { IfOk result (λ bytes. bytes.items ≡ spelling (Word body.now)) }
-    ensures read_back { IfOk result (λ bytes. reading bytes.items ≡ Ok (Word body.now)) }
-{
-    certificate_laws();
-    let mut out = Vec::from_slice(alloc, b"BRLCERT 3\n")?;
-    push_body::<Version3>(alloc, &mut out, body)?;
+    let mut out = Vec::from_slice(alloc, header)?;
+    push_body::<V>(alloc, &mut out, body)?;
     Ok(out)
 }
 
@@ -156,9 +135,10 @@ pub fn write_cert(alloc: Global, cert: &Cert) -> Result<Vec<u8>, WriteFault>
     // Reading them gives the certificate back.
     ensures read_back { IfOk result (λ bytes. reading bytes.items ≡ Ok cert.now) }
 {
+    certificate_laws();
     match cert {
-        Cert::Window(body) => write_windows(alloc, body),
-        Cert::Dues(body) => write_dues(alloc, body),
-        Cert::Word(body) => write_word(alloc, body),
+        Cert::Window(listed) => write_version::<Version1>(alloc, b"BRLCERT 1\n", listed.body()),
+        Cert::Dues(listed) => write_version::<Version2>(alloc, b"BRLCERT 2\n", listed.body()),
+        Cert::Word(body) => write_version::<Version3>(alloc, b"BRLCERT 3\n", body),
     }
 }

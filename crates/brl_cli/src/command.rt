@@ -10,6 +10,9 @@ use std::fmt;
 pub enum Task<'a> {
     /// Translate the input to this form by the table whose file is at this path.
     Translate { table: &'a str, form: Form },
+    /// Translate the lines of the input whose characters are all defined by the table whose file is at
+    /// this path, and list the other characters.
+    TranslateDefined { table: &'a str, form: Form },
     /// Answer a question.
     Ask(Question<'a>),
 }
@@ -39,6 +42,15 @@ pub enum Question<'a> {
         table: &'a str,
         cert: &'a str,
         limit: u32,
+        without: Option<&'a str>,
+    },
+    /// At which pairs of rules clashing texts diverge by the table whose file is at a path, of the texts
+    /// that use none of the characters that `without` spells. At most `limit` states, pairs and pairs of
+    /// rules may be found for each section; `first` clashes of each are shown, and all where it is 0.
+    Clashes {
+        table: &'a str,
+        limit: u32,
+        first: u32,
         without: Option<&'a str>,
     },
     /// Which lines of tables are outside the profile or faulty. Their files are at these paths. A
@@ -159,12 +171,14 @@ const TABLE: Operand = Operand {
 /// The options of a command.
 #[derive(Clone, Copy)]
 enum Options {
-    /// How cells are written.
-    Form,
+    /// How cells are written, and whether undefined characters are listed.
+    Translate,
     /// Which characters are left out.
     Without,
     /// How much a search may find, and which characters are left out.
     Search,
+    /// How much a list may find, how much of it is shown, and which characters are left out.
+    Clashes,
     /// Whether faults are listed.
     Brief,
     /// Whether lines are rewritten.
@@ -196,7 +210,13 @@ const TRANSLATE: CommandHelp = CommandHelp {
 Reads standard input line by line and writes the cells of each line to standard
 output, as North American Braille ASCII or as Unicode braille. A line is written
 before the next is translated. The first fault ends the work: standard error
-names it with its line, and the lines before it have been written.",
+names it with its line, and the lines before it have been written.
+
+With --lacking, nothing is written for a line with a character that the table
+doesn't define, and the work goes on. At the end standard error gets a line for
+each such character: how it is spelled in a table, its code point, how often it
+occurs and its first line, in the order of these. Then the status is 2. Another
+fault ends the work as before, without this list.",
     example: "A table is a UTF-8 file. A line defines a character: an opcode (as letter,
 digit, punctuation or space), the character (\\s is a blank) and its dots (0 is
 the blank cell, - joins cells). Or it has a rule: where in a word it applies (as
@@ -209,7 +229,7 @@ Example, a table of four characters and a text:
 
 It prints:
   ABC A",
-    choice: Some(Options::Form),
+    choice: Some(Options::Translate),
     operands: &[TABLE],
 };
 
@@ -331,6 +351,46 @@ It prints:
             takes: Takes::Word,
         },
     ],
+};
+
+/// `brl clashes`.
+const CLASHES: CommandHelp = CommandHelp {
+    name: "clashes",
+    about: "Lists every pair of rules by which texts look alike",
+    long_about: "Lists every pair of rules by which texts look alike
+
+Where two texts have the same cells, their translations go the same way up to a
+place, and there use two different rules. Standard output gets every pair of
+rules at which such texts diverge, however long they are, and no others: first
+for texts of small letters and blanks, then with digits, with capitals, with
+marks, and for all characters. A pair is listed once, in the first section that
+it diverges in. Its line has two texts, their cells, and of each rule the file
+and line, the opcode and the characters. The most suspicious come first: texts of
+the same length by how few characters differ, then short texts. N lines of a
+section are shown, or all for --first 0, and how many more there are.
+
+Characters with the same cells, classes and flags that are in no rule are listed
+as sets before the sections, and one of each set represents the others there.
+
+The last line says how many pairs of rules there are, and the exit status is 1;
+where there are none, the table is unambiguous, and the status is 0. Where a list
+has more than N states, pairs of states or pairs of rules, there may be others
+than those listed, and the status is 3.
+
+With --without only texts that use none of CHARS are looked at, and a line after
+the last one names these. CHARS are spelled as in a table.",
+    example: "Example, a table with two words that have the cells of a shorter text:
+  printf '%s\\n' 'letter a 1' 'letter b 12' 'letter c 14' > three.ctb
+  printf '%s\\n' 'word abc 1-12' 'word bca 12-14' >> three.ctb
+  brl clashes three.ctb
+
+It prints:
+  small letters: 2 pairs of rules diverge, and no others
+    abc / ab  1-12  three.ctb:4 word abc  three.ctb:1 letter a
+    bca / bc  12-14  three.ctb:5 word bca  three.ctb:2 letter b
+  2 pairs of rules diverge, and no others",
+    choice: Some(Options::Clashes),
+    operands: &[TABLE],
 };
 
 /// `brl survey`.
@@ -500,13 +560,18 @@ It prints:
     }],
 };
 
-/// The commands of `brl`.
-static HELPS: [CommandHelp; 9] = [
-    TRANSLATE, CLASH, CHECK, SEARCH, SURVEY, CUT, TRACE, RULES, EXPLAIN,
-];
+/// The commands of `brl` on texts and on all texts, which `brl --help` shows first. The prover's steps
+/// don't suffice for one list of all commands.
+static TEXT_HELPS: [CommandHelp; 5] = [TRANSLATE, CLASH, CHECK, SEARCH, CLASHES];
+
+/// Its commands on lines, rules and faults.
+static LINE_HELPS: [CommandHelp; 5] = [SURVEY, CUT, TRACE, RULES, EXPLAIN];
 
 /// How many states, and how many pairs, a search may find where the words give no limit.
 const USUAL_LIMIT: &str = "1000000";
+
+/// How many clashes of a section are shown where the words don't say.
+const USUAL_FIRST: &str = "12";
 
 /// An operand. Where it takes words, it must be there.
 fn operand_argument<'a>(alloc: Global, operand: Operand) -> Arg<'a> {
@@ -536,6 +601,14 @@ fn form_option<'a>(alloc: Global) -> Arg<'a> {
         .default_value(ASCII)
 }
 
+/// The option of whether undefined characters are listed.
+fn lacking_option<'a>(alloc: Global) -> Arg<'a> {
+    Arg::new(alloc, "lacking")
+        .long("lacking")
+        .help("Pass over lines with characters that the table doesn't define, and list these")
+        .action(ArgAction::SetTrue)
+}
+
 /// The option of how much a search may find.
 fn limit_option<'a>(alloc: Global) -> Arg<'a> {
     Arg::new(alloc, "limit")
@@ -544,6 +617,16 @@ fn limit_option<'a>(alloc: Global) -> Arg<'a> {
         .help("How many states, and how many pairs, may be found")
         .value_parser(value_parser!(u32))
         .default_value(USUAL_LIMIT)
+}
+
+/// The option of how many clashes of a section are shown.
+fn first_option<'a>(alloc: Global) -> Arg<'a> {
+    Arg::new(alloc, "first")
+        .long("first")
+        .value_name("N")
+        .help("How many lines of each section are shown; 0 for all")
+        .value_parser(value_parser!(u32))
+        .default_value(USUAL_FIRST)
 }
 
 /// The option of which characters are left out.
@@ -582,9 +665,17 @@ fn escapes_option<'a>(alloc: Global) -> Arg<'a> {
 fn arguments<'a>(alloc: Global, page: &CommandHelp) -> Result<Vec<Arg<'a>>, AllocError> {
     let mut arguments = Vec::new(alloc);
     match page.choice {
-        Some(Options::Form) => arguments.push(form_option(alloc))?,
+        Some(Options::Translate) => {
+            arguments.push(form_option(alloc))?;
+            arguments.push(lacking_option(alloc))?;
+        }
         Some(Options::Without) => arguments.push(without_option(alloc))?,
         Some(Options::Search) => {
+            arguments.push(limit_option(alloc))?;
+            arguments.push(without_option(alloc))?;
+        }
+        Some(Options::Clashes) => {
+            arguments.push(first_option(alloc))?;
             arguments.push(limit_option(alloc))?;
             arguments.push(without_option(alloc))?;
         }
@@ -609,18 +700,29 @@ fn page_command<'a>(alloc: Global, page: &CommandHelp) -> Result<Command<'a>, Al
         .args(arguments)
 }
 
-/// The command lines of all commands, in the order in which `brl --help` shows them.
-fn page_commands<'a>(alloc: Global) -> Result<Vec<Command<'a>>, AllocError> {
+/// The command lines of these commands, in order.
+fn page_commands<'a>(alloc: Global, pages: &[CommandHelp]) -> Result<Vec<Command<'a>>, AllocError> {
     let mut commands = Vec::new(alloc);
-    for page in &HELPS {
+    for page in pages {
         commands.push(page_command(alloc, page)?)?;
     }
     Ok(commands)
 }
 
+/// The command lines of the commands on texts.
+fn text_commands<'a>(alloc: Global) -> Result<Vec<Command<'a>>, AllocError> {
+    page_commands(alloc, &TEXT_HELPS)
+}
+
+/// The command lines of the commands on lines, rules and faults.
+fn line_commands<'a>(alloc: Global) -> Result<Vec<Command<'a>>, AllocError> {
+    page_commands(alloc, &LINE_HELPS)
+}
+
 /// The command line of `brl`.
 fn whole_command<'a>(alloc: Global) -> Result<Command<'a>, AllocError> {
-    let commands = page_commands(alloc)?;
+    let texts = text_commands(alloc)?;
+    let lines = line_commands(alloc)?;
     Command::new(alloc, "brl")
         .version(VERSION)
         .about(
@@ -629,7 +731,8 @@ fn whole_command<'a>(alloc: Global) -> Result<Command<'a>, AllocError> {
         .after_help(STATUSES)
         .subcommand_required(true)
         .arg_required_else_help(true)
-        .subcommands(commands)
+        .subcommands(texts)?
+        .subcommands(lines)
 }
 
 /// What the words ask for; the first is the program's name.
@@ -675,6 +778,9 @@ fn found_task<'a>(alloc: Global, matches: &ArgMatches<'a>) -> Result<Option<Task
 fn translate_task<'a>(found: &ArgMatches<'a>) -> Option<Task<'a>> {
     let table = found.get_str("table")?;
     let form = form_of(found.get_str("form")?)?;
+    if found.get_flag("lacking") {
+        return Some(Task::TranslateDefined { table, form });
+    }
     Some(Task::Translate { table, form })
 }
 
@@ -722,6 +828,7 @@ fn question_of_one_table<'a>(name: &str, found: &ArgMatches<'a>) -> Option<Quest
         "clash" => clash_question(table, found),
         "check" => check_question(table, found),
         "search" => search_question(table, found),
+        "clashes" => clashes_question(table, found),
         "cut" => cut_question(table, found),
         "trace" => trace_question(table, found),
         _ => None,
@@ -753,6 +860,15 @@ fn search_question<'a>(table: &'a str, found: &ArgMatches<'a>) -> Option<Questio
         table,
         cert: found.get_str("out")?,
         limit: found.get_one("limit")?,
+        without: found.get_str("without"),
+    })
+}
+
+fn clashes_question<'a>(table: &'a str, found: &ArgMatches<'a>) -> Option<Question<'a>> {
+    Some(Question::Clashes {
+        table,
+        limit: found.get_one("limit")?,
+        first: found.get_one("first")?,
         without: found.get_str("without"),
     })
 }

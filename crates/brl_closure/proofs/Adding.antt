@@ -45,28 +45,24 @@ module _ {S : Type 0} (Kind : PairOrigin → Type 0) where
     kinds = All-cons Kind o [] kind (All-nil Kind);
   }
 
-  pub adds_trans : (t u v : Trail S) → AddsPairs Kind t u → AddsPairs Kind u v → AddsPairs Kind t v
-  adds_trans t u v a b = record {
+  -- pairs of one kind are added, and then pairs of another
+  pub adds_then : (First Second : PairOrigin → Type 0) → ((o : PairOrigin) → First o → Kind o) → ((o : PairOrigin) → Second o → Kind o) → (t u v : Trail S) → AddsPairs First t u → AddsPairs Second u v → AddsPairs Kind t v
+  adds_then First Second one two t u v a b = record {
     states = b.states ∙ a.states;
     state_origins = b.state_origins ∙ a.state_origins;
     more = a.more ++ b.more;
     origins = a.origins ++ b.origins;
     pairs = b.pairs ∙ ap (λ (ps : List NumberPair). ps ++ b.more) a.pairs ∙ append_assoc t.pairs a.more b.more;
     pair_origins = b.pair_origins ∙ ap (λ (os : List PairOrigin). os ++ b.origins) a.pair_origins ∙ append_assoc t.pair_origins.items a.origins b.origins;
-    kinds = All-append Kind a.origins b.origins a.kinds b.kinds;
+    kinds = All-append Kind a.origins b.origins (λ k d less. one _ (a.kinds k d less)) (λ k d less. two _ (b.kinds k d less));
   }
 
-  -- the same by another kind
-  pub adds_as : (Other : PairOrigin → Type 0) (t u : Trail S) → ((o : PairOrigin) → Kind o → Other o) → AddsPairs Kind t u → AddsPairs Other t u
-  adds_as Other t u then h = record {
-    states = h.states;
-    state_origins = h.state_origins;
-    more = h.more;
-    origins = h.origins;
-    pairs = h.pairs;
-    pair_origins = h.pair_origins;
-    kinds = λ k d less. then _ (h.kinds k d less);
-  }
+  pub adds_trans : (t u v : Trail S) → AddsPairs Kind t u → AddsPairs Kind u v → AddsPairs Kind t v
+  adds_trans = adds_then Kind Kind (λ o is. is) (λ o is. is)
+
+-- the same by another kind
+pub adds_as : {S : Type 0} (Kind Other : PairOrigin → Type 0) (t u : Trail S) → ((o : PairOrigin) → Kind o → Other o) → AddsPairs Kind t u → AddsPairs Other t u
+adds_as Kind Other t u then h = adds_then Other Kind Kind then then t t u (adds_none Kind t t refl refl refl refl) h
 
 -- one of the two origins of a move
 pub move_origin : (number place : ℕ) (o : PairOrigin) → IsOneOf (record { still = Still number place; swapped = Swapped number place }) o → IsMoveOf number o

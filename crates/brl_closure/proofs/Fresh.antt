@@ -25,7 +25,7 @@ use Rattle.brl_closure.specs.declared.search.fresh.Fresh.{Fresh}
 use Rattle.brl_closure.specs.declared.search.fresh.Next.{Next}
 use Rattle.brl_closure.specs.declared.search.fresh.Place.{Place}
 use Rattle.brl_closure.specs.declared.search.fresh.Place.TheVariants.{Known, New}
-use Rattle.brl_pairs.proofs.Lists.{inside, length_push, mapped_at, mapped_from, push_before, push_cases, push_last}
+use Rattle.brl_pairs.proofs.Lists.{count_push, each_push, inside, mapped_at, mapped_from, push_before, push_last}
 
 none_of : {X : Type 0} (xs : List X) → (0 < length xs → ⊥) → xs ≡ []
 none_of [] h = refl
@@ -51,19 +51,9 @@ module _ {S P : Type 0} (fresh : List (Fresh S P)) where
 
 module _ {S P : Type 0} (old new : PartsView P) (stays : (k : ℕ) (p : P) → slice_get old.parts k ≡ Some p → slice_get new.parts k ≡ Some p) where
   pub numbers_more : (fresh : List (Fresh S P)) (numbers : List ℕ) (f : Fresh S P) (number : ℕ) → HaveNumbers old.parts fresh numbers → slice_get new.parts number ≡ Some f.part → HaveNumbers new.parts (fresh ++ f ∷ []) (numbers ++ number ∷ [])
-  numbers_more fresh numbers f number h at = record {
-    count = length_push numbers number ∙ ap (λ (n : ℕ). n + 1) h.count ∙ sym (length_push fresh f);
-    each = λ k g n g_at n_at. elim (push_cases fresh f k g g_at) [
-      | inl early ↦ elim (push_cases numbers number k n n_at) [
-        | inl known ↦ stays n g.part (h.each k g n early known)
-        | inr last ↦ absurd (let within = slice_get_within fresh k g early in let end = last.0 in let many = h.count in omega (arith, within, end, many))
-      ]
-      | inr late ↦ elim (push_cases numbers number k n n_at) [
-        | inl known ↦ absurd (let within = slice_get_within numbers k n known in let end = late.0 in let many = h.count in omega (arith, within, end, many))
-        | inr last ↦ subst (λ (z : ℕ). slice_get new.parts z ≡ Some g.part) last.1 (subst (λ (z : Fresh S P). slice_get new.parts number ≡ Some z.part) late.1 at)
-      ]
-    ];
-  }
+  numbers_more fresh numbers f number h at =
+      let has : PartsView P → Fresh S P → ℕ → Type 0 = λ kept g n. slice_get kept.parts n ≡ Some g.part in
+      record { count = count_push fresh numbers f number h.count; each = each_push fresh numbers f number h.count (has old) (has new) (λ g n. stays n g.part) h.each at }
 
 -- one more of these parts
 pub one_more : {S P : Type 0} (fresh : List (Fresh S P)) (f : Fresh S P) (part : P) (edges : Vec ListedEdge) → IsOneOf fresh part edges → IsOneOf (fresh ++ f ∷ []) part edges
@@ -134,17 +124,8 @@ module _ {S P : Type 0} (parts : List P) where
   -- one more part
   placed_push : (fresh now : List (Fresh S P)) (listed : List P) (places : List Place) (part : P) (place : Place) → ((p : P) (q : Place) → IsAtPlace parts fresh p q → IsAtPlace parts now p q) → ArePlaced parts fresh listed places → IsAtPlace parts now part place → ArePlaced parts now (listed ++ part ∷ []) (places ++ place ∷ [])
   placed_push fresh now listed places part place more h here = record {
-    count = length_push places place ∙ ap (λ (n : ℕ). n + 1) h.count ∙ sym (length_push listed part);
-    each = λ k p q p_at q_at. elim (push_cases listed part k p p_at) [
-      | inl early ↦ elim (push_cases places place k q q_at) [
-        | inl known ↦ more p q (h.each k p q early known)
-        | inr last ↦ absurd (let within = slice_get_within listed k p early in let end = last.0 in let many = h.count in omega (arith, within, end, many))
-      ]
-      | inr late ↦ elim (push_cases places place k q q_at) [
-        | inl known ↦ absurd (let within = slice_get_within places k q known in let end = late.0 in let many = h.count in omega (arith, within, end, many))
-        | inr last ↦ subst (λ (z : Place). IsAtPlace parts now p z) last.1 (subst (λ (z : P). IsAtPlace parts now z place) late.1 here)
-      ]
-    ];
+    count = count_push listed places part place h.count;
+    each = each_push listed places part place h.count (IsAtPlace parts fresh) (IsAtPlace parts now) more h.each here;
   }
 
   pub placed_known : (fresh : List (Fresh S P)) (listed : List P) (places : List Place) (part : P) (number : ℕ) → ArePlaced parts fresh listed places → slice_get parts number ≡ Some part → ArePlaced parts fresh (listed ++ part ∷ []) (places ++ Known number ∷ [])

@@ -1,14 +1,18 @@
 -- The first two edges of each kind are kept, one edge after the other.
-use Rattle.std.proofs.Common.{◌≡◌, ◌==◌, ℕ, ◌<◌, List, [], ◌∷◌, ◌++◌, ◌⊎◌, inl, inr, length, Bool, true, false, if◌then◌else◌, Some, slice_get, refl, sym, ◌∙◌, ap, subst, arith}
+use Rattle.std.proofs.Common.{◌≡◌, ◌==◌, ℕ, ◌<◌, List, [], ◌∷◌, ◌++◌, ◌⊎◌, inl, inr, ◌+◌, length, get_or, map, take, Bool, true, false, if◌then◌else◌, Some, slice_get, refl, sym, ◌∙◌, ap, subst, add-one, arith}
 use Rattle.std.proofs.lemmas.Bool.{cases_eq}
 use Rattle.std.proofs.lemmas.Bool.Decides.{eqb_tells}
+use Rattle.std.proofs.Math.Seq.{take-suc}
+use Rattle.std.proofs.lemmas.List.{map-append}
 use Rattle.std.proofs.lemmas.Option.{slice_get_within}
-use Rattle.brl_closure.specs.Alike.{AreFirstTwo, HasTwo, IsCounted, IsOfKind, kind_of}
-use Rattle.brl_closure.specs.declared.check.kinds.Kind.{Kind}
+use Rattle.brl_closure.specs.Alike.{AreFirstTwo, HasTwo, IsCounted, IsOfKind, Kind, kind_of, kind_with, number_kind}
+use Rattle.brl_closure.specs.declared.check.kinds.Kind.{Kind as NumberKind}
 use Rattle.brl_closure.proofs.FirstTwo.{all_kept}
+use Rattle.brl_pairs.specs.Listed.{edge_of, edges_with}
 use Rattle.brl_pairs.specs.declared.edge.Edge.{Edge}
+use Rattle.brl_pairs.specs.declared.edge.ListedEdge.{ListedEdge}
 use Rattle.brl_pairs.specs.Members.{IsMember}
-use Rattle.brl_pairs.proofs.Lists.{inside, length_push, push_before, push_cases, push_last}
+use Rattle.brl_pairs.proofs.Lists.{inside, length_push, mapped_at, push_before, push_cases, push_last}
 
 -- ---- A function with another value at one place
 
@@ -187,7 +191,7 @@ module _ (edges kept : List Edge) (once twice : List Kind) (h : ArePassed edges 
 
 -- ---- Counting a kind
 
-module _ (once once' twice twice' : List Kind) (kind : Kind) where
+module _ {K : Type 0} (once once' twice twice' : List K) (kind : K) where
   pub counted_once : (added : Bool) → added ≡ true → once' ≡ (if added then once ++ kind ∷ [] else once) → IsCounted kind once twice once' twice true
   counted_once true new is = inl (refl, is, refl)
   counted_once false new is = cc
@@ -197,3 +201,48 @@ module _ (once once' twice twice' : List Kind) (kind : Kind) where
   counted_again true second known once_is one two twice_is = cc
   counted_again false true known once_is one two twice_is = inr (inl (refl, one, once_is, twice_is))
   counted_again false false known once_is one two twice_is = inr (inr (refl, two refl, once_is, twice_is))
+
+-- a kind that is counted by the number of its cells is counted with its cells
+module _ (cells : List (List ℕ)) (kind : NumberKind) (once twice once' twice' : List NumberKind) where
+  pushed : (kinds kinds' : List NumberKind) → kinds' ≡ kinds ++ kind ∷ [] → map (kind_with cells) kinds' ≡ map (kind_with cells) kinds ++ kind_with cells kind ∷ []
+  pushed kinds kinds' is = ap (map (kind_with cells)) is ∙ map-append (kind_with cells) kinds (kind ∷ [])
+
+  known : (kinds : List NumberKind) → IsMember kinds kind → IsMember (map (kind_with cells) kinds) (kind_with cells kind)
+  known kinds member = (member.0, mapped_at (kind_with cells) kinds member.0 kind member.1)
+
+  pub counted_with : (added : Bool) → IsCounted kind once twice once' twice' added
+      → IsCounted (kind_with cells kind) (map (kind_with cells) once) (map (kind_with cells) twice) (map (kind_with cells) once') (map (kind_with cells) twice') added
+  counted_with added counted = elim counted [
+    | inl first ↦ inl (first.0, pushed once once' first.1, ap (map (kind_with cells)) first.2)
+    | inr other ↦ elim other [
+      | inl second ↦ inr (inl (second.0, known once second.1, ap (map (kind_with cells)) second.2, pushed twice twice' second.3))
+      | inr further ↦ inr (inr (further.0, known twice further.1, ap (map (kind_with cells)) further.2, ap (map (kind_with cells)) further.3))
+    ]
+  ]
+
+-- one more edge, by the number of its cells
+module _ (cells : List (List ℕ)) (edges kept : List ListedEdge) (once twice : List NumberKind) (h : ArePassed (edges_with cells edges) (edges_with cells kept) (map (kind_with cells) once) (map (kind_with cells) twice)) (x : ListedEdge) where
+  pub passed_kept_with : (added : Bool) (kept' : List ListedEdge) (once' twice' : List NumberKind) → IsCounted (number_kind x) once twice once' twice' added → added ≡ true → kept' ≡ kept ++ x ∷ []
+      → ArePassed (edges_with cells (edges ++ x ∷ [])) (edges_with cells kept') (map (kind_with cells) once') (map (kind_with cells) twice')
+  passed_kept_with added kept' once' twice' counted is kept_is =
+      subst (λ (l : List Edge). ArePassed l (edges_with cells kept') (map (kind_with cells) once') (map (kind_with cells) twice')) (sym (map-append (edge_of cells) edges (x ∷ [])))
+      (passed_kept (edges_with cells edges) (edges_with cells kept) (map (kind_with cells) once) (map (kind_with cells) twice) h (edge_of cells x) (kind_with cells (number_kind x)) refl added (edges_with cells kept') (map (kind_with cells) once') (map (kind_with cells) twice')
+      (counted_with cells (number_kind x) once twice once' twice' added counted) is (ap (edges_with cells) kept_is ∙ map-append (edge_of cells) kept (x ∷ [])))
+
+  pub passed_left_with : (added : Bool) (once' twice' : List NumberKind) → IsCounted (number_kind x) once twice once' twice' added → added ≡ false
+      → ArePassed (edges_with cells (edges ++ x ∷ [])) (edges_with cells kept) (map (kind_with cells) once') (map (kind_with cells) twice')
+  passed_left_with added once' twice' counted is =
+      subst (λ (l : List Edge). ArePassed l (edges_with cells kept) (map (kind_with cells) once') (map (kind_with cells) twice')) (sym (map-append (edge_of cells) edges (x ∷ [])))
+      (passed_left (edges_with cells edges) (edges_with cells kept) (map (kind_with cells) once) (map (kind_with cells) twice) h (edge_of cells x) (kind_with cells (number_kind x)) refl added (map (kind_with cells) once') (map (kind_with cells) twice')
+      (counted_with cells (number_kind x) once twice once' twice' added counted) is)
+
+pub first_taken : (edges : List ListedEdge) (k : ℕ) (d : ListedEdge) → k < length edges → take (k + 1) edges ≡ take k edges ++ get_or edges k d ∷ []
+first_taken edges k d within = ap (λ m. take m edges) (add-one k) ∙ take-suc edges k d within
+
+-- those that are kept are among the edges
+pub only_more : (edges kept : List ListedEdge) (k : ℕ) (x : ListedEdge) → slice_get edges k ≡ Some x → ((place : ℕ) (e : ListedEdge) → slice_get kept place ≡ Some e → IsMember edges e)
+    → (place : ℕ) (e : ListedEdge) → slice_get (kept ++ x ∷ []) place ≡ Some e → IsMember edges e
+only_more edges kept k x at only place e there = elim (push_cases kept x place e there) [
+  | inl before ↦ only place e before
+  | inr last ↦ (k, at ∙ ap (λ (z : ListedEdge). Some z) last.1)
+]

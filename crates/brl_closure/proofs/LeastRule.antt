@@ -73,12 +73,11 @@ found_of_earlier cells edges sorted h place e at y there is found those = record
     lead_is : cells_of cells y ≡ e.cells
     lead_is = same_cells_at cells edges sorted h y there place e is at
 
--- the edge that the match with this number names is listed
-pub named_within : (edges : List Edge) (lead : List ℕ) (end : ℕ) (found : List SortedEdge) → AreFound edges lead end found → (listed : List Edge) → listed ≡ edges → (n : ℕ) → n < length found → (edge_at found n).place < length listed
-named_within edges lead end found h listed same n less =
+-- the place of the match with this number is within
+pub named_within : (edges : List Edge) (lead : List ℕ) (end : ℕ) (found : List SortedEdge) → AreFound edges lead end found → (n : ℕ) → n < length found → (edge_at found n).place < length edges
+named_within edges lead end found h n less =
     let e = h.only n (edge_at found n) (is_at found n less) in
-    let within = slice_get_within edges (edge_at found n).place e.0 e.1 in
-    omega (arith, within, ap length same)
+    slice_get_within edges (edge_at found n).place e.0 e.1
 
 -- none of the edges that were found before this one has the property
 abbrev pub NoneAmong : (Edge → Type 0) → List Edge → List SortedEdge → ℕ → Type 0
@@ -132,10 +131,7 @@ module _ (Has : Edge → Type 0) (edges : List Edge) (lead : List ℕ) (end : �
       none y.0 y.1 f.found.edge (omega (arith, within, all)) y.2 (ap (slice_get edges) y.3 ∙ f.found.at) f.found.has
 
   -- the match with this number is read, and the edge that it names
-  module _ (listed : List Edge) (same : listed ≡ edges) (n : ℕ) (less : n < length found) (e : Edge) (is : e ≡ get_or listed (edge_at found n).place e) (none : NoneAmong Has edges found n) where
-    named : slice_get edges (edge_at found n).place ≡ Some e
-    named = read_at listed edges (edge_at found n).place e same (named_within edges lead end found h listed same n less) is
-
+  module _ (n : ℕ) (less : n < length found) (e : Edge) (named : slice_get edges (edge_at found n).place ≡ Some e) (none : NoneAmong Has edges found n) where
     pub read_without : (Has e → ⊥) → NoneAmong Has edges found (n + 1)
     read_without without = one_more_without n (edge_at found n) e none (is_at found n less) named without
 

@@ -6,7 +6,6 @@ pub mod MissingLaws
 pub mod FirstTwo
 pub mod KeptSteps
 pub mod Numbers
-pub mod EdgeSteps
 pub mod MissingAt
 pub mod Deciding
 pub mod Closing
@@ -27,4 +26,6 @@ pub mod Reached
 pub mod TwoRuns
 pub mod Members
 pub mod Listed
+pub mod Listing
 pub mod Fresh
+pub mod KnownLists

@@ -26,17 +26,14 @@ module _ {S : Type 0} (m : Behaviour S) where
     ends = h.lead;
   }
 
+  -- the same step, for a lead that its cells end with after others
+  same_step : (p q : Pair S) (r : HasLeadOfStep m p) → Reached m q.ahead → Reached m q.behind → (front : List ℕ) → r.step.cells ≡ front ++ q.lead → HasLeadOfStep m q
+  same_step p q r ahead behind front ends = record { ahead = ahead; behind = behind; state = r.state; step = r.step; reached = r.reached; listed = r.listed; front = front; ends = ends }
+
   of_still : (p q : Pair S) (x : Step S) → IsListed (m.steps p.behind) x → StaysBehind p x q → HasLeadOfStep m p → HasLeadOfStep m q
-  of_still p q x listed h r = record {
-    ahead = subst (Reached m) (sym h.ahead) r.ahead;
-    behind = subst (Reached m) (sym h.behind) (step r.behind listed);
-    state = r.state;
-    step = r.step;
-    reached = r.reached;
-    listed = r.listed;
-    front = r.front ++ x.cells;
-    ends = r.ends ∙ ap (λ (l : List ℕ). r.front ++ l) h.lead ∙ sym (append_assoc r.front x.cells q.lead);
-  }
+  of_still p q x listed h r =
+      same_step p q r (subst (Reached m) (sym h.ahead) r.ahead) (subst (Reached m) (sym h.behind) (step r.behind listed)) (r.front ++ x.cells)
+      (r.ends ∙ ap (λ (l : List ℕ). r.front ++ l) h.lead ∙ sym (append_assoc r.front x.cells q.lead))
 
   of_swap : (p q : Pair S) (x : Step S) → IsListed (m.steps p.behind) x → GetsAhead p x q → HasLeadOfStep m p → HasLeadOfStep m q
   of_swap p q x listed h r = record {
@@ -56,23 +53,11 @@ module _ {S : Type 0} (m : Behaviour S) where
     | inr swap ↦ of_swap p q h.step h.listed swap r
   ]
 
-  of_other : (p : Pair S) → HasLeadOfStep m p → HasLeadOfStep m (swapped p)
-  of_other p r = record {
-    ahead = r.behind;
-    behind = r.ahead;
-    state = r.state;
-    step = r.step;
-    reached = r.reached;
-    listed = r.listed;
-    front = r.front;
-    ends = r.ends;
-  }
-
   -- the lead of a reached pair is what the cells of one step end with
   pub lead_of : {p : Pair S} → ReachedPair m p → HasLeadOfStep m p
   lead_of (split {s = s} {p = p} reached h) = of_split s p reached h
   lead_of (move {p = p} {q = q} reached h) = of_move p q h (lead_of reached)
-  lead_of (other_order {p = p} reached no_lead) = of_other p (lead_of reached)
+  lead_of (other_order {p = p} reached no_lead) = let r = lead_of reached in same_step p (swapped p) r r.behind r.ahead r.front r.ends
 
   pub short_lead : KeepsLaws m → {p : Pair S} → ReachedPair m p → length p.lead ≤ 1024
   short_lead laws {p} reached =

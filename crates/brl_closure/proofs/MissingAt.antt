@@ -1,6 +1,7 @@
 -- What is missing at the state or the pair with a number is what is missing by its edges.
 use Rattle.std.proofs.Common.{◌≡◌, ℕ, ◌<◌, ◌≤◌, min, max, Bool, List, [], ◌++◌, inl, inr, length, get_or, Option, Some, IsTrue, ◌↔◌, slice_get, refl, sym, ◌∙◌, ap, subst, arith}
 use Rattle.brl_closure.specs.Least.{IsLeast, IsLeastFound, IsLeastPairFound}
+use Rattle.brl_closure.specs.Listing.{IsFirstMissing}
 use Rattle.brl_closure.specs.Refusals.{HasTwoEnds, MissesPair, MissesSplit, MissesState}
 use Rattle.brl_closure.specs.Steps.{HasOfRule, HasOfRules}
 use Rattle.brl_pairs.specs.Members.{HaveOneNumber}
@@ -9,7 +10,7 @@ use Rattle.brl_closure.proofs.MissingLaws.{missing_other_order}
 use Rattle.brl_closure.proofs.Numbers.{at_named, edge_of, has_pair, is_there, names_at, runs, step_of}
 use Rattle.brl_pairs.specs.Body.{BodyView, IsPairOf, NumberPair}
 use Rattle.brl_pairs.specs.Sets.{pair_at, sets_of}
-use Rattle.brl_pairs.specs.Edges.{AreEdges, AreFirstEdges, AreInOrder}
+use Rattle.brl_pairs.specs.Edges.{AreEdges, AreInOrder}
 use Rattle.brl_pairs.specs.NumberPairs.{IsFollowed, IsMissing, IsThere}
 use Rattle.brl_pairs.specs.declared.edge.Edge.{Edge}
 use Rattle.brl_pairs.specs.Runs.{Behaviour, IsInOrder, IsListedAt}
@@ -35,30 +36,25 @@ module _ {S : Type 0} where
   module _ (m : Behaviour S) (body : BodyView S) where
     -- ---- Steps
 
-    -- the steps before this one have edges, and its next state is missing: its rule is the least
-    pub step_least : (k n : ℕ) (s : S) → slice_get body.states k ≡ Some s → IsInOrder (m.steps s) → (edges : List Edge) → AreFirstEdges body.states (m.steps s) n edges
-        → (x : Step S) → IsListedAt (m.steps s) n x → ((sets_of body).has_state x.next → ⊥) → IsLeast (MissesState m body k) x.rule
-    step_least k n s at in_order edges h x x_at missing = record {
-      has = record { state = s; is_state = at; step = x; listed = (n, x_at); has_rule = refl; missing = missing };
-      below_all = λ rule gap.
+    -- the rule of the first step that leads to a missing state is the least
+    pub step_least : (k : ℕ) (s : S) → slice_get body.states k ≡ Some s → IsInOrder (m.steps s) → (rule : ℕ) → IsFirstMissing body.states (m.steps s) rule → IsLeast (MissesState m body k) rule
+    step_least k s at in_order rule first = record {
+      has = record { state = s; is_state = at; step = first.step; listed = (first.place, first.at); has_rule = first.has_rule; missing = first.missing };
+      below_all = λ other gap.
           let same : gap.state ≡ s = same_place body.states k gap.state s gap.is_state at in
           let y_at : IsListedAt (m.steps s) gap.listed.0 gap.step = subst (λ (z : S). IsListedAt (m.steps z) gap.listed.0 gap.step) same gap.listed.1 in
-          subst (λ (r : ℕ). x.rule ≤ r) gap.has_rule (elim (three_ways gap.listed.0 n) [
-            | inl lt ↦ absurd (gap.missing (next_there gap.listed.0 gap.step lt y_at))
+          let own : first.step.rule ≡ rule = first.has_rule in
+          subst (λ (r : ℕ). rule ≤ r) gap.has_rule (elim (three_ways gap.listed.0 first.place) [
+            | inl lt ↦ absurd (gap.missing (first.before gap.listed.0 gap.step lt y_at))
             | inr more ↦ elim more [
               | inl is ↦ (
-                  let one : gap.step ≡ x = same_place (m.steps s) n gap.step x (ap (slice_get (m.steps s)) (sym is) ∙ y_at) x_at in
-                  let rules : gap.step.rule ≡ x.rule = ap (λ (z : Step S). z.rule) one in
-                  omega arith)
-              | inr gt ↦ (in_order n gap.listed.0 x gap.step gt x_at y_at).ascend
+                  let one : gap.step ≡ first.step = same_place (m.steps s) first.place gap.step first.step (ap (slice_get (m.steps s)) (sym is) ∙ y_at) first.at in
+                  let rules : gap.step.rule ≡ first.step.rule = ap (λ (z : Step S). z.rule) one in
+                  omega (arith, own, rules))
+              | inr gt ↦ (let le : first.step.rule ≤ gap.step.rule = (in_order first.place gap.listed.0 first.step gap.step gt first.at y_at).ascend in omega (arith, own, le))
             ]
           ]);
     }
-      where
-        next_there : (j : ℕ) (y : Step S) → j < n → IsListedAt (m.steps s) j y → (sets_of body).has_state y.next
-        next_there j y lt y_at =
-            let e = inside edges j (omega (arith, lt, h.count)) in
-            (e.0.next, (h.each j y e.0 y_at e.1).next)
 
     -- the next states of a state with edges are there
     pub no_state_missing : (k : ℕ) (edges : List Edge) → AreEdges m body.states k edges → (rule : ℕ) → MissesState m body k rule → ⊥

@@ -1,8 +1,7 @@
 -- Edges of one kind miss the same pairs, and two edges miss a pair in either order.
 use Rattle.std.proofs.Common.{◌≡◌, ℕ, List, [], ◌∷◌, ◌++◌, inl, inr, refl, sym, ◌∙◌, ap, subst}
 use Rattle.std.proofs.lemmas.List.{append-nil}
-use Rattle.brl_closure.specs.Alike.{kind_of}
-use Rattle.brl_closure.specs.declared.check.kinds.Kind.{Kind}
+use Rattle.brl_closure.specs.Alike.{Kind, kind_of}
 use Rattle.brl_pairs.specs.Body.{NumberPair}
 use Rattle.brl_pairs.specs.NumberPairs.{IsMissing, IsThere}
 use Rattle.brl_pairs.specs.declared.edge.Edge.{Edge}

@@ -2,14 +2,29 @@
 -- Two edges of one kind have the same cells and the same next state.
 use Rattle.std.specs.Prelude.{◌≡◌, ◌++◌, ◌∷◌, [], ℕ, ◌<◌, ◌⊎◌, Bool, true, false, List, length, Some, slice_get}
 use Rattle.brl_pairs.specs.Members.{IsMember}
-use Rattle.brl_closure.specs.declared.check.kinds.Kind.{Kind}
+use Rattle.brl_closure.specs.declared.check.kinds.Kind.{Kind as NumberKind}
 use Rattle.brl_pairs.specs.Edges.{AreEdges}
+use Rattle.brl_pairs.specs.Sorted.{or_none}
 use Rattle.brl_pairs.specs.declared.edge.Edge.{Edge}
+use Rattle.brl_pairs.specs.declared.edge.ListedEdge.{ListedEdge}
 use Rattle.brl_pairs.specs.Runs.{Behaviour}
+
+-- a next state, by its number, and cells
+pub record Kind : Type 0 where
+  pub next : ℕ
+  pub cells : List ℕ
 
 -- the kind of an edge
 abbrev pub kind_of : Edge → Kind
 kind_of x = record { next = x.next; cells = x.cells }
+
+-- the kind of an edge by the number of its cells
+abbrev pub number_kind : ListedEdge → NumberKind
+number_kind e = record { next = e.next; cells = e.cells }
+
+-- a kind with its cells in place of their number
+abbrev pub kind_with : List (List ℕ) → NumberKind → Kind
+kind_with cells kind = record { next = kind.next; cells = or_none (slice_get cells kind.cells) }
 
 -- the edge at this place is of this kind
 pub record IsOfKind (edges : List Edge) (kind : Kind) (place : ℕ) : Type 0 where
@@ -27,7 +42,7 @@ pub record HasTwo (edges : List Edge) (kind : Kind) : Type 0 where
 
 -- A kind is counted: it becomes the last of those that are there once, or where it is there already of
 -- those that are there twice, if it isn't there either. The answer says whether it was added.
-abbrev pub IsCounted : Kind → List Kind → List Kind → List Kind → List Kind → Bool → Type 0
+abbrev pub IsCounted : {K : Type 0} → K → List K → List K → List K → List K → Bool → Type 0
 IsCounted kind once twice once' twice' added =
     ((added ≡ true) × (once' ≡ once ++ kind ∷ []) × (twice' ≡ twice))
     ⊎ (((added ≡ true) × IsMember once kind × (once' ≡ once) × (twice' ≡ twice ++ kind ∷ []))

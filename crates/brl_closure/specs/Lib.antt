@@ -3,6 +3,7 @@ pub mod Least
 pub mod Steps
 pub mod Sorted
 pub mod Alike
+pub mod Listing
 pub mod SameKind
 pub mod Pass
 pub mod Answers
@@ -15,3 +16,4 @@ pub mod Worklist
 pub mod Path
 pub mod Fresh
 pub mod Diverging
+pub mod KnownSteps

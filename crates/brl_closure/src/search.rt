@@ -8,11 +8,12 @@
 //!   was found, and a `Worklist` has what is left to do.
 //! - The laws state what is reached, and that the search decides.
 //!
-//! `Finder` and `Trail` are public for searches that go on where this one stops.
+//! `Finder`, `Trail` and `KnownSteps` are public for searches that go on where this one stops.
 mod edges;
 mod explore;
 mod finder;
 mod fresh;
+mod known_steps;
 mod laws;
 mod outcome;
 mod pairs;
@@ -23,6 +24,7 @@ mod worklist;
 
 pub use explore::{Search, Slice, search_machine, search_machine_with};
 pub use finder::{Finder, Stop};
+pub use known_steps::KnownSteps;
 pub use laws::{
     clash_law, just_reached_law, lead_law, no_limit_law, reached_closed_law, reached_listed_law,
     same_cells_law, short_lead_law, two_ends_law, two_runs_law,

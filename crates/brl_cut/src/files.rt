@@ -1,5 +1,5 @@
 //! Files in memory, and edits of their lines.
-ghost use Rattle.std.specs.Prelude.{◌≡◌, IfOk, List, [], ◌∷◌, map};
+ghost use Rattle.std.specs.Prelude.{◌≡◌, IfOk, List, [], ◌∷◌, map, string_bytes};
 ghost use Rattle.brl_failure.specs.Failure.{GivesAs};
 ghost use Rattle.brl_lines.specs.Views.{load_fault_view};
 ghost use Rattle.brl_cut.specs.Edits.{edited_files, prefix_in};
@@ -18,6 +18,44 @@ pub(crate) struct Edit {
     pub file: String,
     pub line: u32,
     pub prefix: String,
+}
+
+impl Edit {
+    /// An edit of a line of the file at a path.
+    pub fn new(alloc: Global, file: &str, line: u32, prefix: String) -> Result<Edit, AllocError>
+        ensures { IfOk result (λ edit. edit_view edit ≡ record { file = file.now; line = line; prefix = string_bytes prefix }) }
+    {
+        let file = String::from_str(alloc, file)?;
+        Ok(Edit { file, line, prefix })
+    }
+}
+
+/// A line that becomes a comment.
+pub(crate) trait BecomesComment {
+    ghost use Rattle.std.specs.Prelude.{◌≡◌, IfOk};
+    ghost use Rattle.brl_cut.specs.Edits.{EditView};
+    ghost use Rattle.brl_cut.specs.Files.{edit_view};
+
+    // the edit that makes it one
+    ghost edit_of: { Self → EditView };
+
+    /// The edit that makes it a comment, which says why.
+    fn edit(&self, alloc: Global) -> Result<Edit, AllocError>
+        ensures { IfOk result (λ edit. edit_view edit ≡ edit_of self.now) };
+}
+
+/// The edits that make lines comments.
+pub(crate) fn edits_of<L: BecomesComment>(
+    alloc: Global,
+    lines: &[L],
+) -> Result<Vec<Edit>, AllocError>
+    ensures { IfOk result (λ edits. map edit_view edits.items ≡ map L.edit_of lines.now) }
+{
+    let mut edits = Vec::with_capacity(alloc, lines.len())?;
+    for line in lines {
+        edits.push(line.edit(alloc)?)?;
+    }
+    Ok(edits)
 }
 
 /// What is put before the lines of the file at a path, by their numbers; the last edit of a line

@@ -2,10 +2,10 @@
 ghost use Rattle.std.specs.Prelude.{◌≡◌, IfOk, map};
 ghost use Rattle.brl_lines.specs.Gathered.{left_view};
 ghost use Rattle.brl_table.specs.Survey.{faulty_line_view};
-ghost use Rattle.brl_cut.specs.Cuts.{include_edit as edit_of_include, include_fault as fault_of_include, include_reason, without_include_lines};
-ghost use Rattle.brl_cut.specs.Files.{edit_view, file_view};
+ghost use Rattle.brl_cut.specs.Cuts.{include_fault as fault_of_include, include_reason, without_include_lines};
+ghost use Rattle.brl_cut.specs.Files.{file_view};
 
-use crate::files::{Edit, edit_files};
+use crate::files::{BecomesComment, Edit, edit_files, edits_of};
 use brl_lines::{GatheredFile, IncludeReason, LeftInclude};
 use brl_table::{FaultyLine, TableFault, TableFaultKind};
 use std::alloc::{AllocError, Global};
@@ -21,28 +21,18 @@ fn reason_text(reason: IncludeReason) -> &'static str
     }
 }
 
-/// The edit that makes an include line a comment.
-fn include_edit(alloc: Global, left: &LeftInclude) -> Result<Edit, AllocError>
-    ensures { IfOk result (λ edit. edit_view edit ≡ edit_of_include (left_view left.now)) }
-{
-    let reason = reason_text(left.reason);
-    let name = left.name.as_str();
-    Ok(Edit {
-        file: String::from_str(alloc, left.file.as_str())?,
-        line: left.line,
-        prefix: format!(in alloc; "# {reason} {name}: ")?,
-    })
-}
+impl BecomesComment for LeftInclude {
+    ghost use Rattle.brl_lines.specs.Gathered.{left_view};
+    ghost use Rattle.brl_cut.specs.Cuts.{include_edit};
 
-/// The edits that make include lines comments.
-fn include_edits(alloc: Global, left_out: &[LeftInclude]) -> Result<Vec<Edit>, AllocError>
-    ensures { IfOk result (λ edits. map edit_view edits.items ≡ map edit_of_include (map left_view left_out.now)) }
-{
-    let mut edits = Vec::with_capacity(alloc, left_out.len())?;
-    for left in left_out {
-        edits.push(include_edit(alloc, left)?)?;
+    ghost edit_of = { λ left. include_edit (left_view left) };
+
+    fn edit(&self, alloc: Global) -> Result<Edit, AllocError> {
+        let reason = reason_text(self.reason);
+        let name = self.name.as_str();
+        let prefix = format!(in alloc; "# {reason} {name}: ")?;
+        Edit::new(alloc, self.file.as_str(), self.line, prefix)
     }
-    Ok(edits)
 }
 
 /// Files where these include lines are comments.
@@ -53,7 +43,7 @@ pub(crate) fn without_lines(
 ) -> Result<Vec<GatheredFile>, AllocError>
     ensures { IfOk result (λ new. map file_view new.items ≡ without_include_lines (map left_view left_out.now) (map file_view files.now)) }
 {
-    let edits = include_edits(alloc, left_out)?;
+    let edits = edits_of(alloc, left_out)?;
     edit_files(alloc, files, edits.as_slice())
 }
 

@@ -44,12 +44,7 @@ pub(crate) fn push_if_put(
     let mut prefix = line_text(alloc, new)?;
     prefix.push_str(" # ")?;
     if is_definition(alloc, new)? && prefix.len() <= MOST_PREFIX_BYTES {
-        let file = String::from_str(alloc, new.file)?;
-        edits.push(Edit {
-            file,
-            line: new.line,
-            prefix,
-        })?;
+        edits.push(Edit::new(alloc, new.file, new.line, prefix)?)?;
     }
     Ok(())
 }

@@ -4,11 +4,11 @@ ghost use Rattle.brl_failure.specs.Failure.{IfFault};
 ghost use Rattle.brl_lines.specs.Lines.{location_of};
 ghost use Rattle.brl_lines.specs.Views.{line_view, load_fault_view, location_view};
 ghost use Rattle.brl_table.specs.Survey.{faulty_line_view};
-ghost use Rattle.brl_cut.specs.Files.{edit_view, file_view};
+ghost use Rattle.brl_cut.specs.Files.{file_view};
 ghost use Rattle.brl_cut.specs.Rounds.{IsSurveyed, IsUnsettled, SettlesTo};
-ghost use Rattle.brl_cut.specs.Settling.{fault_edit as edit_of_fault, lines_among};
+ghost use Rattle.brl_cut.specs.Settling.{lines_among};
 
-use crate::files::{Edit, edit_files, load_files};
+use crate::files::{BecomesComment, Edit, edit_files, edits_of, load_files};
 use brl_failure::Failure;
 use brl_lines::{GatheredFile, Line, LoadFault, Location};
 use brl_table::{FaultyLine, survey};
@@ -62,29 +62,19 @@ fn places_of_lines(alloc: Global, lines: &[Line<'_>]) -> Result<Vec<Location>, A
     Ok(places)
 }
 
-/// The edit that makes a faulty line a comment, which says why.
-fn fault_edit(alloc: Global, faulty: &FaultyLine) -> Result<Edit, AllocError>
-    ensures { IfOk result (λ edit. edit_view edit ≡ edit_of_fault (faulty_line_view faulty.now)) }
-{
-    let fault = &faulty.fault;
-    let kind = fault.kind;
-    let subject = fault.subject.as_str();
-    Ok(Edit {
-        file: String::from_str(alloc, fault.file.as_str())?,
-        line: fault.line,
-        prefix: format!(in alloc; "# {kind} {subject}: ")?,
-    })
-}
+impl BecomesComment for FaultyLine {
+    ghost use Rattle.brl_table.specs.Survey.{faulty_line_view};
+    ghost use Rattle.brl_cut.specs.Settling.{fault_edit};
 
-/// The edits that make faulty lines comments.
-fn fault_edits(alloc: Global, found: &[FaultyLine]) -> Result<Vec<Edit>, AllocError>
-    ensures { IfOk result (λ edits. map edit_view edits.items ≡ map edit_of_fault (map faulty_line_view found.now)) }
-{
-    let mut edits = Vec::with_capacity(alloc, found.len())?;
-    for faulty in found {
-        edits.push(fault_edit(alloc, faulty)?)?;
+    ghost edit_of = { λ faulty. fault_edit (faulty_line_view faulty) };
+
+    fn edit(&self, alloc: Global) -> Result<Edit, AllocError> {
+        let fault = &self.fault;
+        let kind = fault.kind;
+        let subject = fault.subject.as_str();
+        let prefix = format!(in alloc; "# {kind} {subject}: ")?;
+        Edit::new(alloc, fault.file.as_str(), fault.line, prefix)
     }
-    Ok(edits)
 }
 
 /// Makes lines comments until a survey of the table whose root is at a path finds none faulty: again
@@ -108,7 +98,7 @@ pub(crate) fn settle(
                 places: surveyed.places,
             });
         }
-        let edits = fault_edits(alloc, surveyed.faulty.as_slice())?;
+        let edits = edits_of(alloc, surveyed.faulty.as_slice())?;
         files = edit_files(alloc, files.as_slice(), edits.as_slice())?;
         found.append(&mut surveyed.faulty)?;
     }

@@ -17,6 +17,7 @@ use Rattle.brl_closure.specs.Trail.{TakesStep}
 use Rattle.brl_closure.specs.declared.search.finder.Finder.{Finder}
 use Rattle.brl_closure.proofs.Closed.{earlier_longer, ends_apart, later_longer, moves_there, steps_there}
 use Rattle.brl_closure.proofs.Growing.{stays_refl, stays_trans}
+use Rattle.brl_closure.proofs.KnownLists.{none_known}
 use Rattle.brl_closure.proofs.Naming.{named_at}
 use Rattle.brl_divergence.specs.Found.{AreSettled, AreSettledAt, IsSettledState, IsSound, Keeps}
 use Rattle.brl_divergence.specs.Listed.{rules_of}
@@ -106,6 +107,7 @@ module _ {M S : Type 0} (behaviour : M → Behaviour S) (f : Finder M S) (e : Ex
     };
     listed = h.listed;
     few = let none : btree_map_len it.list ≡ 0 = ap length h.no_rules in omega (arith, none);
+    known = none_known (behaviour f.machine.now) it.trail.states it.known h.no_known;
   }
 
   -- so the splits of states can be settled

@@ -114,6 +114,10 @@ module _ {S : Type 0} (m : Behaviour S) where
         let within : number < length e.edges.items = slice_get_within e.edges.items number one.sorted one.at in
         slice_get_read e.rules.items (length e.rules.items) number rules refl (omega (arith, within, h.many)) is
 
+    -- the place of an edge is within the rules that are read for it
+    pub read_within : (number : ℕ) (x : SortedEdge) → IsEdgeOf e number x → (rules : Vec ℕ) → rules ≡ get_or e.rules.items number rules → (read : List ℕ) → read ≡ rules.items → x.place < length read
+    read_within number x one rules is read same = subst (λ (l : List ℕ). x.place < length l) (sym same) (place_within number x one rules (rules_read number x one rules is))
+
   module _ (states : List S) (number : ℕ) (cells : List (List ℕ)) (sorted : List SortedEdge) (rules : List ℕ) (h : AreStepsOf m states number cells sorted rules) where
     -- a place has an edge
     pub place_there : (place : ℕ) → place < length rules → (x : SortedEdge) × Contains sorted x × (x.place ≡ place)

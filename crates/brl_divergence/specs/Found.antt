@@ -8,6 +8,7 @@ use Rattle.brl_pairs.specs.Runs.{Behaviour}
 use Rattle.brl_pairs.specs.declared.edge.Edge.{Edge}
 use Rattle.brl_pairs.specs.declared.step.Step.{Step}
 use Rattle.brl_closure.specs.Edges.{IsWalked}
+use Rattle.brl_closure.specs.KnownSteps.{AreKnown}
 use Rattle.brl_closure.specs.SearchView.{Stays}
 use Rattle.brl_closure.specs.Trail.{IsActive, IsTraced, TakesStep}
 use Rattle.brl_closure.specs.declared.search.finder.Finder.{Finder}
@@ -63,11 +64,12 @@ pub record IsExplored {M S : Type 0} (behaviour : M → Behaviour S) (f : Finder
   pub ready : AreAllExpanded behaviour f e t
   pub walked : (n : ℕ) → n < length t.pairs → IsWalked (behaviour f.machine.now) t.states t.pairs n
 
--- and each listed pair of rules has its texts
+-- and each listed pair of rules has its texts, and the steps that are kept are those of their states
 pub record IsSound {M S : Type 0} (behaviour : M → Behaviour S) (f : Finder M S) (e : Expanded) (it : Found S) : Type 0 where
   pub explored : IsExplored behaviour f e it.trail
   pub listed : IsListed (behaviour f.machine.now) it.list
   pub few : btree_map_len it.list ≤ f.limit
+  pub known : AreKnown (behaviour f.machine.now) it.trail.states it.known
 
 -- no state is added, and what is found stays found
 pub record Keeps {S : Type 0} (old new : Found S) : Type 0 where

@@ -11,7 +11,7 @@ use Rattle.brl_divergence.specs.Found.{IsSettledState, IsSound}
 use Rattle.brl_divergence.specs.declared.expanded.Expanded.{Expanded}
 use Rattle.brl_divergence.specs.declared.found.Found.{Found}
 
--- states are expanded, and neither a pair nor a pair of rules is found yet
+-- states are expanded, and neither a pair nor a pair of rules is found yet, nor are steps kept
 pub record IsExpanding {M S : Type 0} (behaviour : M → Behaviour S) (f : Finder M S) (e : Expanded) (it : Found S) : Type 0 where
   pub active : IsActive behaviour f it.trail
   pub expanded : AreExpanded (behaviour f.machine.now) it.trail.states e
@@ -19,6 +19,7 @@ pub record IsExpanding {M S : Type 0} (behaviour : M → Behaviour S) (f : Finde
   pub no_pairs : it.trail.pairs ≡ []
   pub listed : IsListed (behaviour f.machine.now) it.list
   pub no_rules : IsEmpty it.list
+  pub no_known : it.known.lists.items ≡ []
 
 -- all states are expanded, and the splits of the first ones are settled
 pub record IsSettling {M S : Type 0} (behaviour : M → Behaviour S) (f : Finder M S) (e : Expanded) (it : Found S) (settled : ℕ) : Type 0 where

@@ -142,7 +142,9 @@ impl<'a, 'm, M: Machine> Explorer<'a, 'm, M> {
         match self.explore(&mut found.trail, state, first, second) {
             Ok(()) => Ok(()),
             Err(Failure::Fault(Stop::BothEnd(number))) => {
-                let texts = self.finder.texts_of(&found.trail, number)?;
+                let texts = self
+                    .finder
+                    .texts_of(&found.trail, &mut found.known, number)?;
                 take_back(&mut found.trail, kept);
                 self.list(&mut found.list, rules, texts)?;
                 if found.list.len() as u64 > self.finder.limit {

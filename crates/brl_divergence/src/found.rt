@@ -2,14 +2,16 @@
 ghost use Rattle.std.specs.Prelude.{◌≡◌, take};
 
 use crate::RuleTexts;
-use brl_closure::Trail;
+use brl_closure::{KnownSteps, Trail};
 use brl_pairs::Key;
 
-/// What a listing has found: states and pairs, and the pairs of rules that are listed.
+/// What a listing has found: states and pairs, and the pairs of rules that are listed. The steps of
+/// states on the way to texts are kept.
 #[derive(Drop)]
 pub struct Found<S: Key> {
     pub trail: Trail<S>,
     pub list: RuleTexts,
+    pub known: KnownSteps<S>,
 }
 
 /// Keeps the first `count` pairs, and drops those that were found after them.

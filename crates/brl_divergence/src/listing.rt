@@ -12,7 +12,7 @@ use crate::divergences::Divergences;
 use crate::expanded::{Expanded, expand_next};
 use crate::explorer::Explorer;
 use crate::found::Found;
-use brl_closure::{Finder, Stop, Trail};
+use brl_closure::{Finder, KnownSteps, Stop, Trail};
 use brl_failure::Failure;
 use brl_pairs::{Body, Machine, Seed};
 use brl_progress::{NoProgress, Progress, Work};
@@ -81,6 +81,7 @@ impl<'m, M: Machine> Listing<'m, M> {
         let found = Found {
             trail: finder.begin()?,
             list: BTreeMap::new(alloc),
+            known: KnownSteps::new(alloc),
         };
         if limit == 0 {
             return Ok(Slice::Finished(partial(&finder, found)));
@@ -222,7 +223,7 @@ fn complete<M: Machine>(finder: &Finder<'_, M>, found: Found<M::State>) -> Diver
     requires { (expanded : ExpandedValue) × IsDone M.behaviour finder.now expanded found }
     ensures { AreDivergencesOf (M.behaviour finder.now.machine.now) finder.now.limit result }
 {
-    let Found { trail, list } = found;
+    let Found { trail, list, .. } = found;
     let Trail {
         states: states,
         pairs: pairs,

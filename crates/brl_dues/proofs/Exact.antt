@@ -19,7 +19,7 @@ use Rattle.brl_dues.specs.Due.{due_met, dues_met, met_by_space}
 use Rattle.brl_dues.specs.Capitals.{further, is_upper}
 use Rattle.brl_dues.specs.CaseForm.{CaseForm, IsForm, folded, may_read}
 use Rattle.brl_states.specs.DuesContext.{context_of}
-use Rattle.brl_dues.specs.Steps.{dues_machine, next_dues, step_of}
+use Rattle.brl_dues.specs.Steps.{IsStep, dues_machine, next_dues, step_of}
 use Rattle.brl_dues.proofs.Forms.{listed-IsStep, there-lt}
 use Rattle.brl_dues.proofs.InCapsRun.{upper-defined}
 use Rattle.brl_dues.proofs.StepLaw.{none_fits, option_met, step-met}
@@ -107,11 +107,8 @@ pub record Gives (t : TableView) (s : DuesState) (path : List (Step DuesState)) 
 
 -- a step of a path
 pub record Stepped (t : TableView) (s : DuesState) (x : Step DuesState) (u : List ℕ) : Type 0 where
-  pub form : CaseForm
-  pub is_form : IsForm t s.before form
-  pub dues : List Due
-  pub left : next_dues t s form ≡ Some dues
-  pub step : x ≡ step_of t s form dues
+  pub taken : IsStep t s x
+  pub open taken use *
   pub takes : Takes t s form u
   pub in_caps_run : is_in_caps_run t s.before (form.reads ++ u) ≡ form.run
   pub choice : chosen t s.before (form.reads ++ u) ≡ as_choice form
@@ -121,11 +118,7 @@ stepped t law s x listed u met =
     let h = listed-IsStep t s x listed in
     let takes = step-back t s h.form h.is_form h.dues h.left u (ap (λ (y : Step DuesState). dues_met t u y.next.dues) (sym h.step) ∙ met) in
     record {
-      form = h.form;
-      is_form = h.is_form;
-      dues = h.dues;
-      left = h.left;
-      step = h.step;
+      taken = h;
       takes = takes;
       in_caps_run = form-in_caps_run t s.before h.form h.is_form u takes.next;
       choice = form-chosen t law s.before h.form h.is_form u takes.after takes.next takes.none;

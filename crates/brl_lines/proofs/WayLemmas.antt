@@ -17,7 +17,7 @@ use Rattle.brl_lines.specs.declared.way.Way.{Way}
 use Rattle.brl_lines.specs.declared.way.StopKind.TheVariants as stops
 
 -- the answer for a path, by what is stored for it
-known-answer : (entries : KnownPaths) (path : List ℕ) → known_answer entries path ≡ option_map answer_of_known (lookup (λ k. bytes_eq path (string_bytes k)) entries)
+pub known-answer : (entries : KnownPaths) (path : List ℕ) → known_answer entries path ≡ option_map answer_of_known (lookup (λ k. bytes_eq path (string_bytes k)) entries)
 known-answer [] path = refl
 known-answer (entry ∷ entries) path = by_test (bytes_eq path (string_bytes entry.0)) (known-answer entries path)
   where
@@ -26,13 +26,6 @@ known-answer (entry ∷ entries) path = by_test (bytes_eq path (string_bytes ent
         ≡ option_map answer_of_known (cond b (Some entry.1) (lookup (λ k. bytes_eq path (string_bytes k)) entries))
     by_test true h = refl
     by_test false h = h
-
-pub known-some : (entries : KnownPaths) (path : List ℕ) (known : Known) → Some known ≡ lookup (λ k. bytes_eq path (string_bytes k)) entries
-    → known_answer entries path ≡ Some (answer_of_known known)
-known-some entries path known e = known-answer entries path ∙ ap (option_map answer_of_known) (sym e)
-
-pub known-none : (entries : KnownPaths) (path : List ℕ) → None ≡ lookup (λ k. bytes_eq path (string_bytes k)) entries → known_answer entries path ≡ None
-known-none entries path e = known-answer entries path ∙ ap (option_map answer_of_known) (sym e)
 
 -- ---- one file
 

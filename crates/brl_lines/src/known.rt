@@ -1,7 +1,8 @@
 //! What is known of paths: the file there, or that there is none.
 ghost use Rattle.std.specs.Prelude.{◌≡◌, IfErr, option_map, string_bytes};
+ghost use Rattle.std.specs.Option.{option_copied};
 ghost use Rattle.brl_lines.specs.Answer.{Unchanged};
-ghost use Rattle.brl_lines.specs.Gathered.{FindsOut, IsMissingOr, IsUnread, known_answer, known_answers};
+ghost use Rattle.brl_lines.specs.Gathered.{FindsOut, IsMissingOr, IsUnread, answer_of_known, known_answer, known_answers};
 ghost use Rattle.brl_lines.specs.Gathering.{held, is_missing as is_missing_by};
 ghost use Rattle.brl_lines.specs.Outcome.{AreGiven, CountsFailure};
 ghost use Rattle.brl_lines.specs.Views.{location_ref_view};
@@ -23,6 +24,13 @@ pub(crate) enum Known {
     File(KnownFile),
 }
 
+/// What is known of a path.
+fn known_at<'a>(known: &'a IndexMap<String, Known>, path: &str) -> Option<&'a Known>
+    ensures { option_map answer_of_known (option_copied result) ≡ known_answer known.entry.now.entries path.now }
+{
+    known.get(path)
+}
+
 /// The file at a path, where it is known to be there.
 pub(crate) fn file_at_path<'a>(
     known: &'a IndexMap<String, Known>,
@@ -30,10 +38,9 @@ pub(crate) fn file_at_path<'a>(
 ) -> Option<&'a KnownFile>
     ensures { option_map (λ file. string_bytes file.now.file.whole) result ≡ held (known_answer known.entry.now.entries path.now) }
 {
-    match known.get(path) {
+    match known_at(known, path) {
         Some(Known::File(file)) => Some(file),
-        Some(Known::Missing) => None,
-        None => None,
+        _ => None,
     }
 }
 
@@ -41,11 +48,7 @@ pub(crate) fn file_at_path<'a>(
 pub(crate) fn is_missing(known: &IndexMap<String, Known>, path: &str) -> bool
     ensures { result ≡ is_missing_by (known_answer known.now.entries path.now) }
 {
-    match known.get(path) {
-        Some(Known::File(_)) => false,
-        Some(Known::Missing) => true,
-        None => false,
-    }
+    matches!(known_at(known, path), Some(Known::Missing))
 }
 
 /// Reads what is at a path. The place is the include line that names it; at the root, which has

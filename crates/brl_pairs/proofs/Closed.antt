@@ -1,16 +1,19 @@
--- Closed sets of states and pairs: two paths to final states that give the same cells are one path,
--- or diverge at one of the pairs of rules but for which the sets are closed.
+-- Closed sets of states and pairs: two paths to final states that give the same cells differ by
+-- exchanges alone, up to a place where they diverge at one of the pairs of rules but for which the sets
+-- are closed. Where no steps are exchanged they are one path up to there.
 use Rattle.std.proofs.Common.{◌≡◌, ◌≢◌, ℕ, ◌+◌, ◌≤◌, Bool, true, false, ◌&&◌, ◌||◌, nat_eq, IsTrue, List, [], ◌∷◌, ◌++◌, ◌⊎◌, inl, inr, length, zero, suc, Some, refl, sym, ◌∙◌, ap, ap₂, subst, arith, eq-eqb}
 use Rattle.std.specs.Prelude.{slice_get}
 use Rattle.std.specs.Cmp.{first_so, second_so}
 use Rattle.std.proofs.lemmas.List.{append_cancel_left}
+use Rattle.std.proofs.lemmas.List.Elements.{same_from_all_zip}
 use Rattle.std.proofs.lemmas.Bool.{cases_eq, eqb-true}
 use Rattle.brl_pairs.specs.declared.step.Pair.{Pair}
 use Rattle.brl_pairs.specs.declared.step.Step.{Step}
 use Rattle.brl_pairs.specs.Runs.{Accepts, Behaviour, IsExact, IsListed, IsPath, KeepsLaws, IsUnambiguous, reads_of, cells_of}
 use Rattle.brl_pairs.specs.Pairs.{Sets, HasPair, IsClosed, swapped}
-use Rattle.brl_pairs.specs.Divergence.{Divergence, DivergeAt, DivergeOnlyAt, HasEachClash, HasEachDivergence, HaveRules, IsClosedBut, IsCompleteList, IsUnambiguousBut, has_rules}
-use Rattle.brl_pairs.proofs.Divergence.{diverge_once, divergence_after, either_rules, no_divergence, one_step, places_differ}
+use Rattle.brl_pairs.specs.Exchanges.{AreAlike, AreExcused, DifferByExchanges, DifferByExchangesBut, DivergeAfterExchanges, IsClosedUpTo, PathsDifferByExchangesBut, TextsDifferByExchangesBut}
+use Rattle.brl_pairs.specs.Divergence.{DivergeAt, DivergeOnlyAt, HasEachClash, HasEachDivergence, HaveRules, IsClosedBut, IsCompleteList, IsUnambiguousBut, has_rules}
+use Rattle.brl_pairs.proofs.Divergence.{diverge_once, either_rules, no_divergence, one_step, places_differ}
 
 -- of two lists that begin a list, one begins the other
 pub split_appends : {A : Type 0} (a b c d : List A) → a ++ b ≡ c ++ d
@@ -30,7 +33,34 @@ both_empty : {A : Type 0} (xs ys : List A) → xs ++ ys ≡ [] → (xs ≡ []) �
 both_empty [] ys e = (refl, e)
 both_empty (x ∷ xs) ys e = cc
 
-module _ {S : Type 0} (m : Behaviour S) (sets : Sets S) (laws : KeepsLaws m) (rules : List (ℕ × ℕ)) (closed : IsClosedBut m rules sets) where
+module _ {S : Type 0} (exchanged rules : List (ℕ × ℕ)) where
+  -- the two steps in the other order
+  excused_back : (x y : Step S) → AreExcused exchanged rules x y → AreExcused exchanged rules y x
+  excused_back x y (inl have) = inl (either_rules rules y.rule x.rule ∙ have)
+  excused_back x y (inr exchange) = inr (record {
+    rules = either_rules exchanged y.rule x.rule ∙ exchange.rules;
+    cells = sym exchange.cells;
+    next = sym exchange.next;
+  })
+
+  -- with a step before each, which are alike
+  after : (x y : Step S) (first second : List (Step S)) → AreAlike exchanged x y → DifferByExchangesBut exchanged rules first second → DifferByExchangesBut exchanged rules (x ∷ first) (y ∷ second)
+  after x y first second alike (inl rest) = inl (alike, rest)
+  after x y first second alike (inr at) = inr (record {
+    first_before = x ∷ at.first_before;
+    second_before = y ∷ at.second_before;
+    one = at.one;
+    other = at.other;
+    first_rest = at.first_rest;
+    second_rest = at.second_rest;
+    before = (alike, at.before);
+    differ = at.differ;
+    pair = at.pair;
+    first_steps = ap (λ (l : List (Step S)). x ∷ l) at.first_steps;
+    second_steps = ap (λ (l : List (Step S)). y ∷ l) at.second_steps;
+  })
+
+module _ {S : Type 0} (m : Behaviour S) (sets : Sets S) (laws : KeepsLaws m) (exchanged rules : List (ℕ × ℕ)) (closed : IsClosedUpTo m exchanged rules sets) where
   -- the runs of such pairs, of at most n steps together, don't end with the same cells
   abbrev Apart : (Pair S → Type 0) → ℕ → Type 0
   Apart Has n = (p : Pair S) → Has p → (first second : List (Step S)) → IsPath m p.ahead first → IsPath m p.behind second
@@ -82,10 +112,10 @@ module _ {S : Type 0} (m : Behaviour S) (sets : Sets S) (laws : KeepsLaws m) (ru
   never zero = ended
   never (suc n) = moved n (never n)
 
-  -- runs that split and end with the same cells do so at one of the pairs of rules
-  split_rules : (s : S) → sets.has_state s → (i j : ℕ) (x y : Step S) → i ≢ j → slice_get (m.steps s) i ≡ Some x → slice_get (m.steps s) j ≡ Some y → (rest : List ℕ) → x.cells ≡ y.cells ++ rest
-      → (first second : List (Step S)) → IsPath m x.next first → IsPath m y.next second → rest ++ cells_of first ≡ cells_of second → HaveRules rules x y
-  split_rules s has i j x y differ x_at y_at rest longer first second a b same =
+  -- runs that split and end with the same cells do so with two steps that are excused
+  split_excused : (s : S) → sets.has_state s → (i j : ℕ) (x y : Step S) → i ≢ j → slice_get (m.steps s) i ≡ Some x → slice_get (m.steps s) j ≡ Some y → (rest : List ℕ) → x.cells ≡ y.cells ++ rest
+      → (first second : List (Step S)) → IsPath m x.next first → IsPath m y.next second → rest ++ cells_of first ≡ cells_of second → AreExcused exchanged rules x y
+  split_excused s has i j x y differ x_at y_at rest longer first second a b same =
       let p : Pair S = record { ahead = x.next; behind = y.next; lead = rest } in
       let n = length first + length second in
       elim (closed.splits s p has (record {
@@ -100,57 +130,116 @@ module _ {S : Type 0} (m : Behaviour S) (sets : Sets S) (laws : KeepsLaws m) (ru
         behind = refl;
         lead = longer;
       })) [
-        | inl have ↦ have
+        | inl excused ↦ excused
         | inr there ↦ absurd (either n (never n) p there first second a b (omega arith) same)
       ]
 
   -- two such steps, of which either has the longer cells
-  next_rules : (s : S) → sets.has_state s → (i j : ℕ) (x y : Step S) → i ≢ j → slice_get (m.steps s) i ≡ Some x → slice_get (m.steps s) j ≡ Some y
-      → (first second : List (Step S)) → IsPath m x.next first → IsPath m y.next second → x.cells ++ cells_of first ≡ y.cells ++ cells_of second → HaveRules rules x y
-  next_rules s has i j x y differ x_at y_at first second a b e =
+  next_excused : (s : S) → sets.has_state s → (i j : ℕ) (x y : Step S) → i ≢ j → slice_get (m.steps s) i ≡ Some x → slice_get (m.steps s) j ≡ Some y
+      → (first second : List (Step S)) → IsPath m x.next first → IsPath m y.next second → x.cells ++ cells_of first ≡ y.cells ++ cells_of second → AreExcused exchanged rules x y
+  next_excused s has i j x y differ x_at y_at first second a b e =
       elim (split_appends x.cells (cells_of first) y.cells (cells_of second) e) [
-        | inl t ↦ split_rules s has i j x y differ x_at y_at t.0 t.1 first second a b t.2
-        | inr t ↦ either_rules rules x.rule y.rule ∙ split_rules s has j i y x (λ h. differ (sym h)) y_at x_at t.0 t.2 second first b a (sym t.3)
+        | inl t ↦ split_excused s has i j x y differ x_at y_at t.0 t.1 first second a b t.2
+        | inr t ↦ excused_back exchanged rules y x (split_excused s has j i y x (λ h. differ (sym h)) y_at x_at t.0 t.2 second first b a (sym t.3))
       ]
 
-  -- with the same step before each
-  after : (x y : Step S) (first second : List (Step S)) → x ≡ y → (first ≡ second) ⊎ DivergeAt rules first second → (x ∷ first ≡ y ∷ second) ⊎ DivergeAt rules (x ∷ first) (y ∷ second)
-  after x y first second same (inl one) = inl (ap (λ (z : Step S). z ∷ first) same ∙ ap (λ (l : List (Step S)). y ∷ l) one)
-  after x y first second same (inr at) = inr (divergence_after x y first second same at.0, at.1)
-
-  -- two paths from a state of the set that give the same cells are one, or diverge at such rules
-  diverge_from : (s : S) → sets.has_state s → (first second : List (Step S)) → IsPath m s first → IsPath m s second → cells_of first ≡ cells_of second
-      → (first ≡ second) ⊎ DivergeAt rules first second
-  diverge_from s has [] [] a b e = inl refl
-  diverge_from s has [] (y ∷ second) a b e = absurd (gives_cells s y second b.0 (sym e))
-  diverge_from s has (x ∷ first) [] a b e = absurd (gives_cells s x first a.0 e)
-  diverge_from s has (x ∷ first) (y ∷ second) a b e =
+  -- two paths from a state of the set that give the same cells differ by exchanges, to their ends or
+  -- up to a place where they diverge at one of the pairs of rules
+  differ_from : (s : S) → sets.has_state s → (first second : List (Step S)) → IsPath m s first → IsPath m s second → cells_of first ≡ cells_of second
+      → DifferByExchangesBut exchanged rules first second
+  differ_from s has [] [] a b e = inl tt
+  differ_from s has [] (y ∷ second) a b e = absurd (gives_cells s y second b.0 (sym e))
+  differ_from s has (x ∷ first) [] a b e = absurd (gives_cells s x first a.0 e)
+  differ_from s has (x ∷ first) (y ∷ second) a b e =
+      let on : AreAlike exchanged x y → x.cells ≡ y.cells → x.next ≡ y.next → DifferByExchangesBut exchanged rules (x ∷ first) (y ∷ second) = λ alike cells next.
+      (let from_y : IsPath m y.next first = subst (λ (r : S). IsPath m r first) next a.1 in
+      let left : cells_of first ≡ cells_of second =
+      append_cancel_left y.cells (cells_of first) (cells_of second) (ap (λ (l : List ℕ). l ++ cells_of first) (sym cells) ∙ e) in
+      after exchanged rules x y first second alike (differ_from y.next (closed.steps s y has b.0) first second from_y b.1 left)) in
       elim (cases_eq a.0.0 b.0.0) [
         | inl same ↦ (
             let one : x ≡ y = one_step (m.steps s) a.0.0 b.0.0 x y same a.0.1 b.0.1 in
-            let from_y : IsPath m y.next first = subst (λ (z : Step S). IsPath m z.next first) one a.1 in
-            let left : cells_of first ≡ cells_of second =
-            append_cancel_left y.cells (cells_of first) (cells_of second) (subst (λ (z : Step S). z.cells ++ cells_of first ≡ y.cells ++ cells_of second) one e) in
-            after x y first second one (diverge_from y.next (closed.steps s y has b.0) first second from_y b.1 left))
-        | inr other ↦ inr (
-          record {
-            before = [];
-            one = x;
-            other = y;
-            first_rest = first;
-            second_rest = second;
-            differ = places_differ m laws s a.0.0 b.0.0 x y other a.0.1 b.0.1;
-            first_steps = refl;
-            second_steps = refl;
-          },
-          next_rules s has a.0.0 b.0.0 x y other a.0.1 b.0.1 first second a.1 b.1 e,
-        )
+            on (inl one) (ap (λ (z : Step S). z.cells) one) (ap (λ (z : Step S). z.next) one))
+        | inr other ↦
+            elim (next_excused s has a.0.0 b.0.0 x y other a.0.1 b.0.1 first second a.1 b.1 e) [
+              | inl have ↦ inr (record {
+                first_before = [];
+                second_before = [];
+                one = x;
+                other = y;
+                first_rest = first;
+                second_rest = second;
+                before = tt;
+                differ = places_differ m laws s a.0.0 b.0.0 x y other a.0.1 b.0.1;
+                pair = have;
+                first_steps = refl;
+                second_steps = refl;
+              })
+              | inr exchange ↦ on (inr exchange) exchange.cells exchange.next
+            ]
       ]
+
+  -- two such paths from the start
+  pub paths_differ_from_closed : PathsDifferByExchangesBut exchanged rules m
+  paths_differ_from_closed first second a b e = differ_from m.start closed.start first second a b e
+
+  -- and the paths of two texts with the same translation
+  pub texts_differ_from_closed : TextsDifferByExchangesBut exchanged rules m
+  texts_differ_from_closed left right is_left is_right same =
+      let p = laws.accepts left is_left in
+      let q = laws.accepts right is_right in
+      (p, q, paths_differ_from_closed p.path q.path p.is_path q.is_path (p.cells ∙ same ∙ sym q.cells))
+
+-- ---- No exchanges
+
+-- no pair of rules is one of none
+none_have : (r s : ℕ) → IsTrue (has_rules [] r s) → ⊥
+none_have r s h = cc
+
+module _ {S : Type 0} where
+  -- lists that differ by no exchanges are the same
+  same_without_exchanges : (first second : List (Step S)) → DifferByExchanges [] first second → first ≡ second
+  same_without_exchanges first second h = sym (same_from_all_zip (AreAlike []) first second h one)
+    where
+      one : (x y : Step S) → AreAlike [] x y → y ≡ x
+      one x y (inl same) = sym same
+      one x y (inr exchange) = absurd (none_have x.rule y.rule exchange.rules)
+
+  -- lists that diverge after none diverge
+  diverge_without_exchanges : (rules : List (ℕ × ℕ)) (first second : List (Step S)) → DivergeAfterExchanges [] rules first second → DivergeAt rules first second
+  diverge_without_exchanges rules first second at = (
+    record {
+      before = at.second_before;
+      one = at.one;
+      other = at.other;
+      first_rest = at.first_rest;
+      second_rest = at.second_rest;
+      differ = at.differ;
+      first_steps = at.first_steps ∙ ap (λ (l : List (Step S)). l ++ at.one ∷ at.first_rest) (same_without_exchanges at.first_before at.second_before at.before);
+      second_steps = at.second_steps;
+    },
+    at.pair,
+  )
+
+module _ {S : Type 0} (m : Behaviour S) (sets : Sets S) (laws : KeepsLaws m) (rules : List (ℕ × ℕ)) (closed : IsClosedBut m rules sets) where
+  -- closed sets are closed with no exchanges
+  closed_without_exchanges : IsClosedUpTo m [] rules sets
+  closed_without_exchanges = record {
+    start = closed.start;
+    steps = closed.steps;
+    splits = λ s p has h. elim (closed.splits s p has h) [ inl have ↦ inl (inl have) | inr there ↦ inr there ];
+    moves = closed.moves;
+    ends = closed.ends;
+  }
 
   -- sets that are closed but for some pairs of rules leave paths with the same cells no other place
   -- to diverge at
   pub diverges_from_closed : DivergeOnlyAt rules m
-  diverges_from_closed first second a b e = diverge_from m.start closed.start first second a b e
+  diverges_from_closed first second a b e =
+      elim (paths_differ_from_closed m sets laws [] rules closed_without_exchanges first second a b e) [
+        | inl same ↦ inl (same_without_exchanges first second same)
+        | inr at ↦ inr (diverge_without_exchanges rules first second at)
+      ]
 
 -- ---- Lists of pairs of rules
 
@@ -174,10 +263,6 @@ module _ {S : Type 0} (m : Behaviour S) where
         | inl one ↦ inl (sym p.reads ∙ ap reads_of one ∙ q.reads)
         | inr diverge ↦ inr (p, q, diverge)
       ]
-
-  -- no pair of rules is one of none
-  none_have : (r s : ℕ) → IsTrue (has_rules [] r s) → ⊥
-  none_have r s h = cc
 
   -- closed sets are closed but for no pairs of rules
   closed_but_none : (sets : Sets S) → IsClosed m sets → IsClosedBut m [] sets

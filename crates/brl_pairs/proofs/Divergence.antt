@@ -1,7 +1,7 @@
 -- Where two lists of steps diverge, and the runs of pairs that have diverged. Where two paths with
 -- the same cells diverge at some pairs of rules alone, the states and pairs that runs lead to are
 -- closed but for these, where those of a pair diverge at none of them.
-use Rattle.std.proofs.Common.{◌≡◌, ◌≢◌, ℕ, Bool, true, false, ◌&&◌, ◌||◌, nat_eq, IsTrue, List, [], ◌∷◌, ◌++◌, ◌⊎◌, inl, inr, Some, refl, sym, ◌∙◌, ap, ap₂, subst, append_assoc, append-nil}
+use Rattle.std.proofs.Common.{◌≡◌, ◌≢◌, ℕ, Bool, true, false, ◌&&◌, ◌||◌, nat_eq, IsTrue, List, [], ◌∷◌, ◌++◌, ◌⊎◌, inl, inr, Some, refl, sym, ◌∙◌, ap, subst, append_assoc, append-nil}
 use Rattle.std.specs.Prelude.{slice_get}
 use Rattle.std.proofs.lemmas.List.{append_cancel_left}
 use Rattle.brl_pairs.specs.declared.step.Pair.{Pair}
@@ -79,19 +79,6 @@ module _ {S : Type 0} where
     differ = at.differ;
     first_steps = at.first_steps;
     second_steps = ap (λ (l : List (Step S)). l ++ x ∷ []) at.second_steps ∙ append_assoc at.before (at.other ∷ at.second_rest) (x ∷ []);
-  }
-
-  -- with the same step before each
-  abbrev pub divergence_after : (x y : Step S) (first second : List (Step S)) → x ≡ y → Divergence first second → Divergence (x ∷ first) (y ∷ second)
-  divergence_after x y first second same at = record {
-    before = y ∷ at.before;
-    one = at.one;
-    other = at.other;
-    first_rest = at.first_rest;
-    second_rest = at.second_rest;
-    differ = at.differ;
-    first_steps = ap₂ (λ (z : Step S) (l : List (Step S)). z ∷ l) same at.first_steps;
-    second_steps = ap (λ (l : List (Step S)). y ∷ l) at.second_steps;
   }
 
   -- the lists exchanged

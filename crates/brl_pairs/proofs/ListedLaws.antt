@@ -1,15 +1,14 @@
 -- Steps by numbers: more of them, more states and cells, and the edges that they are.
-use Rattle.std.proofs.Common.{◌≡◌, ◌⊎◌, ℕ, ◌+◌, ◌<◌, List, [], ◌∷◌, ◌++◌, length, map, Some, slice_get, inl, inr, refl, sym, ◌∙◌, ap, subst, arith}
+use Rattle.std.proofs.Common.{◌≡◌, ℕ, ◌+◌, List, [], ◌∷◌, ◌++◌, Some, slice_get, inl, inr, refl, sym, ◌∙◌, ap, subst, arith}
 use Rattle.std.proofs.lemmas.Option.{slice_get_within}
 use Rattle.std.proofs.lemmas.List.{length-map}
-use Rattle.brl_pairs.specs.Edges.{AreEdges, AreFirstEdges, IsEdge}
+use Rattle.brl_pairs.specs.Edges.{AreEdges, IsEdge}
 use Rattle.brl_pairs.specs.Listed.{AreEdgesOf, AreListedEdges, HaveCells, IsByNumbers, edge_of, edges_with}
-use Rattle.brl_pairs.specs.Runs.{Behaviour, IsListedAt}
+use Rattle.brl_pairs.specs.Runs.{Behaviour}
 use Rattle.brl_pairs.specs.Sorted.{or_none}
-use Rattle.brl_pairs.specs.declared.edge.Edge.{Edge}
 use Rattle.brl_pairs.specs.declared.edge.ListedEdge.{ListedEdge}
 use Rattle.brl_pairs.specs.declared.step.Step.{Step}
-use Rattle.brl_pairs.proofs.Lists.{inside, length_push, mapped_from, push_cases}
+use Rattle.brl_pairs.proofs.Lists.{count_push, each_push, inside, mapped_from}
 
 pub none_listed : {S : Type 0} (states : List S) (cells : List (List ℕ)) → AreListedEdges states cells [] []
 none_listed states cells = record { count = refl; each = λ place x e at there. cc }
@@ -26,17 +25,8 @@ module _ {S : Type 0} (old new : List S) (stays : (k : ℕ) (s : S) → slice_ge
   -- one more step
   pub listed_push : (xs : List (Step S)) (es : List ListedEdge) (x : Step S) (e : ListedEdge) → AreListedEdges old before xs es → IsByNumbers new after x e → AreListedEdges new after (xs ++ x ∷ []) (es ++ e ∷ [])
   listed_push xs es x e h own = record {
-    count = length_push es e ∙ ap (λ (n : ℕ). n + 1) h.count ∙ sym (length_push xs x);
-    each = λ place y d at there. elim (push_cases xs x place y at) [
-      | inl early ↦ elim (push_cases es e place d there) [
-        | inl known ↦ still_by_numbers y d (h.each place y d early known)
-        | inr last ↦ absurd (let within = slice_get_within xs place y early in let end = last.0 in let many = h.count in omega (arith, within, end, many))
-      ]
-      | inr late ↦ elim (push_cases es e place d there) [
-        | inl known ↦ absurd (let within = slice_get_within es place d known in let end = late.0 in let many = h.count in omega (arith, within, end, many))
-        | inr last ↦ subst (λ (z : ListedEdge). IsByNumbers new after y z) last.1 (subst (λ (z : Step S). IsByNumbers new after z e) late.1 own)
-      ]
-    ];
+    count = count_push xs es x e h.count;
+    each = each_push xs es x e h.count (IsByNumbers old before) (IsByNumbers new after) still_by_numbers h.each own;
   }
 
 -- ---- The edges that they are

@@ -1,6 +1,6 @@
 -- Elements of a list by their places.
-use Rattle.std.proofs.Common.{◌≡◌, ℕ, zero, suc, ◌+◌, ◌<◌, List, [], ◌∷◌, ◌++◌, ◌⊎◌, inl, inr, length, map, Some, slice_get, refl, ap, subst, arith, length-append, get_or, set, replicate}
-use Rattle.std.proofs.lemmas.Option.{slice_get_read}
+use Rattle.std.proofs.Common.{◌≡◌, ℕ, zero, suc, ◌+◌, ◌<◌, List, [], ◌∷◌, ◌++◌, ◌⊎◌, inl, inr, length, map, Some, slice_get, refl, ap, sym, ◌∙◌, subst, arith, length-append, get_or, set, replicate}
+use Rattle.std.proofs.lemmas.Option.{slice_get_read, slice_get_within}
 
 -- a place is before another, or it is the same, or it is after it
 pub three_ways : (k l : ℕ) → (k < l) ⊎ ((k ≡ l) ⊎ (l < k))
@@ -58,6 +58,24 @@ module _ {X : Type 0} where
   replicate_at zero x k y at = cc
   replicate_at (suc n) x zero y at = cc
   replicate_at (suc n) x (suc k) y at = replicate_at n x k y at
+
+-- two lists of one length with an element more each, and what holds of two elements at one place
+module _ {X Y : Type 0} (xs : List X) (ys : List Y) (x : X) (y : Y) (count : length ys ≡ length xs) where
+  pub count_push : length (ys ++ y ∷ []) ≡ length (xs ++ x ∷ [])
+  count_push = length_push ys y ∙ ap (λ (n : ℕ). n + 1) count ∙ sym (length_push xs x)
+
+  pub each_push : (Old New : X → Y → Type 0) → ((a : X) (b : Y) → Old a b → New a b) → ((k : ℕ) (a : X) (b : Y) → slice_get xs k ≡ Some a → slice_get ys k ≡ Some b → Old a b) → New x y
+      → (k : ℕ) (a : X) (b : Y) → slice_get (xs ++ x ∷ []) k ≡ Some a → slice_get (ys ++ y ∷ []) k ≡ Some b → New a b
+  each_push Old New weaker each own k a b a_at b_at = elim (push_cases xs x k a a_at) [
+    | inl early ↦ elim (push_cases ys y k b b_at) [
+      | inl known ↦ weaker a b (each k a b early known)
+      | inr last ↦ absurd (let within = slice_get_within xs k a early in let end = last.0 in omega (arith, within, end, count))
+    ]
+    | inr late ↦ elim (push_cases ys y k b b_at) [
+      | inl known ↦ absurd (let within = slice_get_within ys k b known in let end = late.0 in omega (arith, within, end, count))
+      | inr last ↦ subst (New a) last.1 (subst (λ (z : X). New z y) late.1 own)
+    ]
+  ]
 
 module _ {X Y : Type 0} (f : X → Y) where
   -- what a function gives for the elements, by their places

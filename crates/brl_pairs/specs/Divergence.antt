@@ -108,19 +108,23 @@ pub record IsCompleteList {S : Type 0} (m : Behaviour S) (rules : List (ℕ × �
 
 -- ---- Closed sets
 
--- The sets are closed under a machine's steps, but for splits into two steps of one of these pairs
--- of rules.
-pub record IsClosedBut {S : Type 0} (m : Behaviour S) (rules : List (ℕ × ℕ)) (sets : Sets S) : Type 0 where
+-- The sets are closed under a machine's steps, but for splits into two steps of this kind.
+pub record IsClosedExcept {S : Type 0} (m : Behaviour S) (Kind : Step S → Step S → Type 0) (sets : Sets S) : Type 0 where
   -- the start is one of the states
   pub start : sets.has_state m.start
   -- each step from one of the states leads to one of them
   pub steps : (s : S) (x : Step S) → sets.has_state s → IsListed (m.steps s) x → sets.has_state x.next
-  -- each split of one of the states is into steps of one of the pairs of rules, or among the pairs
-  pub splits : (s : S) (p : Pair S) → sets.has_state s → (h : Splits (m.steps s) p) → HaveRules rules h.longer h.shorter ⊎ HasPair sets p
+  -- each split of one of the states is into steps of this kind, or among the pairs
+  pub splits : (s : S) (p : Pair S) → sets.has_state s → (h : Splits (m.steps s) p) → Kind h.longer h.shorter ⊎ HasPair sets p
   -- where the run behind of one of the pairs takes a step, the pair that follows is among the pairs
   pub moves : (p q : Pair S) → sets.has_pair p → Follows m p q → HasPair sets q
   -- none of the pairs has an empty lead and two final states
   pub ends : (p : Pair S) → sets.has_pair p → p.lead ≡ [] → IsTrue (m.ends p.ahead) → IsTrue (m.ends p.behind) → ⊥
+
+-- The sets are closed under a machine's steps, but for splits into two steps of one of these pairs
+-- of rules.
+abbrev pub IsClosedBut : {S : Type 0} → Behaviour S → List (ℕ × ℕ) → Sets S → Type 0
+IsClosedBut m rules sets = IsClosedExcept m (HaveRules rules) sets
 
 -- Two runs lead from the start to the states of a pair. They diverge with two steps of this kind,
 -- and the first gives the cells of the second and then the lead.

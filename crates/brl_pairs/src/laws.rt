@@ -3,6 +3,7 @@
 ghost use Rattle.std.specs.Prelude.{◌≡◌, ◌↔◌, ℕ, List, Option};
 ghost use Rattle.brl_pairs.specs.declared.step.Pair.{Pair as PairValue};
 ghost use Rattle.brl_pairs.specs.Divergence.{DivergeOnce, DivergeOnlyAt, DivergeWhereListed, HasEachClash, HasEachDivergence, IsClosedBut, IsCompleteList, IsUnambiguousBut, has_rules, sets_apart};
+ghost use Rattle.brl_pairs.specs.Exchanges.{IsClosedUpTo, PathsDifferByExchangesBut, TextsDifferByExchangesBut};
 ghost use Rattle.brl_pairs.specs.Pairs.{AdvanceDecides, IsClosed, Sets as SetsValue, numbered};
 ghost use Rattle.brl_pairs.specs.Runs.{IsExact, IsUnambiguous};
 
@@ -58,6 +59,30 @@ pub fn numbered_divergence_law<M: Machine>(machine: &M)
         IsClosedBut (M.behaviour machine.now) rules (numbered states pairs) → IsUnambiguousBut rules (M.behaviour machine.now) }
     ensures each { (rules : List (ℕ × ℕ)) (states : ℕ → Option M.State) (pairs : ℕ → Option (PairValue M.State)) →
         IsClosedBut (M.behaviour machine.now) rules (numbered states pairs) → HasEachDivergence rules (M.behaviour machine.now) }
+{
+    let _ = machine.start();
+}
+
+/// The theorem for sets that are closed but for some exchanges, and for some pairs of rules: any two
+/// paths to final states that give the same cells are the same step by step, but for exchanges of steps
+/// with the same cells that lead to the same state, to their ends or up to a place where they go on with
+/// two different steps of one of the pairs of rules. So any two texts with the same translation have
+/// paths that do so.
+pub fn exchange_law<M: Machine, C: Sets<M::State>>(machine: &M)
+    ensures paths { (exchanged rules : List (ℕ × ℕ)) → IsClosedUpTo (M.behaviour machine.now) exchanged rules C.sets →
+        PathsDifferByExchangesBut exchanged rules (M.behaviour machine.now) }
+    ensures texts { (exchanged rules : List (ℕ × ℕ)) → IsClosedUpTo (M.behaviour machine.now) exchanged rules C.sets →
+        TextsDifferByExchangesBut exchanged rules (M.behaviour machine.now) }
+{
+    let _ = machine.start();
+}
+
+/// The same for sets that are given by numbers.
+pub fn numbered_exchange_law<M: Machine>(machine: &M)
+    ensures paths { (exchanged rules : List (ℕ × ℕ)) (states : ℕ → Option M.State) (pairs : ℕ → Option (PairValue M.State)) →
+        IsClosedUpTo (M.behaviour machine.now) exchanged rules (numbered states pairs) → PathsDifferByExchangesBut exchanged rules (M.behaviour machine.now) }
+    ensures texts { (exchanged rules : List (ℕ × ℕ)) (states : ℕ → Option M.State) (pairs : ℕ → Option (PairValue M.State)) →
+        IsClosedUpTo (M.behaviour machine.now) exchanged rules (numbered states pairs) → TextsDifferByExchangesBut exchanged rules (M.behaviour machine.now) }
 {
     let _ = machine.start();
 }

@@ -37,8 +37,9 @@ pub use edge::{Edge, ListedEdge};
 pub use edge_laws::{edges_law, unmatched_law};
 pub use key::Key;
 pub use laws::{
-    Sets, advance_law, closed_sets_law, divergence_law, divergence_sets_law,
-    numbered_divergence_law, numbered_sets_law, one_divergence_law, one_list_law,
+    Sets, advance_law, closed_sets_law, divergence_law, divergence_sets_law, exchange_law,
+    numbered_divergence_law, numbered_exchange_law, numbered_sets_law, one_divergence_law,
+    one_list_law,
 };
 pub use lead::{Advanced, advance};
 pub use machine::Machine;

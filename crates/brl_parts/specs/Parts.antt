@@ -6,14 +6,15 @@ use Rattle.brl_pairs.specs.Listed.{AreListedEdges}
 use Rattle.brl_pairs.specs.declared.edge.ListedEdge.{ListedEdge}
 use Rattle.brl_pairs.specs.declared.step.Step.{Step}
 
--- parts, and the edges of each by its number
+-- parts, the edges of each by its number, and the number of edges of all parts
 pub record PartsView (P : Type 0) : Type 0 where
   pub parts : List P
   pub edges : List (Vec ListedEdge)
+  pub count : ℕ
 
 -- no parts
 abbrev pub no_parts : {P : Type 0} → PartsView P
-no_parts = record { parts = []; edges = [] }
+no_parts = record { parts = []; edges = []; count = 0 }
 
 -- this part is kept under this number with these edges
 pub record IsKept {P : Type 0} (kept : PartsView P) (number : ℕ) (part : P) (edges : Vec ListedEdge) : Type 0 where

@@ -1,7 +1,8 @@
 //! Parts with their steps by numbers.
-ghost use Rattle.std.specs.Prelude.{◌≡◌, ◌<◌, ◌≤◌, ◌⊎◌, ℕ, All, IfOk, IfSome, OnErr, Some, length, slice_get};
+ghost use Rattle.std.specs.Prelude.{◌≡◌, ◌↔◌, ◌+◌, ◌<◌, ◌≤◌, ◌⊎◌, ℕ, All, IfOk, IfSome, IsTrue, OnErr, OnOk, Some, length, slice_get};
 ghost use Rattle.std.specs.Global.{Vec as VecValue};
 ghost use Rattle.std.specs.List.{flat_map};
+ghost use Rattle.brl_pairs.specs.Members.{IsMember};
 ghost use Rattle.brl_pairs.specs.declared.edge.ListedEdge.{ListedEdge as EdgeValue};
 ghost use Rattle.brl_parts.specs.Parts.{AreByRule, IsKept, edges_of, no_parts};
 
@@ -12,8 +13,8 @@ use std::marker::Model;
 /// The most edges that are kept: 48 MB of them.
 const MOST_EDGES: usize = 4_000_000;
 
-/// Parts of a machine's steps, each once, with its steps by numbers. A contract sees the parts and
-/// the edges of each.
+/// Parts of a machine's steps, each once, with its steps by numbers. A contract sees the parts, the
+/// edges of each, and the number of edges of all parts.
 #[derive(Drop)]
 pub struct Parts<P: Key> {
     parts: Members<P>,
@@ -29,7 +30,7 @@ impl<P: Key> Model for Parts<P> {
 
     ghost Value = { PartsView P };
 
-    ghost view = { λ p. record { parts = p.parts; edges = p.edges.items } };
+    ghost view = { λ p. record { parts = p.parts; edges = p.edges.items; count = p.count } };
 
     ghost invariant = { λ p. length p.parts ≤ length p.edges.items };
 }
@@ -46,8 +47,10 @@ impl<P: Key> Parts<P> {
         }
     }
 
-    /// Whether as many edges are kept as should be: then it is time to begin anew with no parts.
-    pub fn is_full(&self) -> bool {
+    /// Whether more than 4,000,000 edges are kept: then it is time to begin anew with no parts.
+    pub fn is_full(&self) -> bool
+        ensures { IsTrue result ↔ (4000000 < self.now.count) }
+    {
         self.count > MOST_EDGES
     }
 
@@ -58,13 +61,16 @@ impl<P: Key> Parts<P> {
         self.parts.index_of(part)
     }
 
-    /// Keeps a part with these edges, unless it is kept already, and returns its number. The parts
-    /// before keep their numbers and edges. After `AllocError` they do too.
+    /// Keeps a part with these edges, and returns its number. A part that is kept already keeps the
+    /// edges that it has. The parts before keep their numbers and edges. After `AllocError` they do
+    /// too.
     pub fn add(&mut self, part: P, edges: Vec<ListedEdge>) -> Result<usize, AllocError>
         ensures number { IfOk result (λ number. slice_get self.new.parts number ≡ Some part) }
+        ensures known { IsMember self.old.parts part → OnOk result (self.new ≡ self.old) }
+        ensures count { (IsMember self.old.parts part → ⊥) → OnOk result (self.new.count ≡ self.old.count + length edges.items) }
         ensures kept { (k : ℕ) (p : P) (own : VecValue EdgeValue) → IsKept self.new k p own → IsKept self.old k p own ⊎ ((p ≡ part) × (own ≡ edges)) }
         ensures stays { (k : ℕ) (p : P) → slice_get self.old.parts k ≡ Some p → slice_get self.new.parts k ≡ Some p }
-        ensures err { OnErr result (self.new.parts ≡ self.old.parts) }
+        ensures err { OnErr result ((self.new.parts ≡ self.old.parts) × (self.new.count ≡ self.old.count)) }
     {
         if let Some(number) = self.parts.index_of(&part) {
             return Ok(number);

@@ -19,46 +19,15 @@ use Rattle.brl_table.specs.Reading.{dedup, insert_new}
 use Rattle.brl_table.specs.Survey.{faulty_line_view}
 use Rattle.brl_table.specs.declared.faulty.FaultyLine.{FaultyLine}
 use Rattle.brl_report.specs.Survey.{AreCounts, CountView, count_among, count_cmp, opcodes_of, tally}
-use Rattle.brl_rules.proofs.Facts.{or-twice, or-assoc, or-false}
+use Rattle.brl_table.proofs.Inserting.{any-fold, put-known, put-new}
 
 -- ---- Whether an opcode came before
 
-same-as : (x y c : List ℕ) → bytes_eq x y ≡ true → bytes_eq c y ≡ bytes_eq c x
-same-as x y c h = ap (bytes_eq c) (sym ((bytes_decides x y).0 h))
-
-any-put : (c x : List ℕ) (xs : List (List ℕ)) → list_any (bytes_eq c) (insert_new bytes_eq xs x) ≡ list_any (bytes_eq c) xs || bytes_eq c x
-any-put c x [] = or-false (bytes_eq c x)
-any-put c x (y ∷ ys) = cases (bytes_eq x y) refl (any-put c x ys)
-  where
-    cases : (b : Bool) → bytes_eq x y ≡ b → list_any (bytes_eq c) (insert_new bytes_eq ys x) ≡ list_any (bytes_eq c) ys || bytes_eq c x
-        → list_any (bytes_eq c) (cond b (y ∷ ys) (y ∷ insert_new bytes_eq ys x)) ≡ (bytes_eq c y || list_any (bytes_eq c) ys) || bytes_eq c x
-    cases true e more = or-twice (bytes_eq c y) (list_any (bytes_eq c) ys) ∙ ap (λ b. (bytes_eq c y || list_any (bytes_eq c) ys) || b) (same-as x y c e)
-    cases false e more = ap (λ b. bytes_eq c y || b) more ∙ or-assoc (bytes_eq c y) (list_any (bytes_eq c) ys) (bytes_eq c x)
-
-any-fold : (c : List ℕ) (cs xs : List (List ℕ)) → list_any (bytes_eq c) (fold (insert_new bytes_eq) xs cs) ≡ list_any (bytes_eq c) xs || list_any (bytes_eq c) cs
-any-fold c [] xs = sym (or-false (list_any (bytes_eq c) xs))
-any-fold c (x ∷ cs) xs =
-    any-fold c cs (insert_new bytes_eq xs x) ∙ ap (λ b. b || list_any (bytes_eq c) cs) (any-put c x xs)
-    ∙ sym (or-assoc (list_any (bytes_eq c) xs) (bytes_eq c x) (list_any (bytes_eq c) cs))
+same-as : (c x y : List ℕ) → bytes_eq x y ≡ true → bytes_eq c y ≡ bytes_eq c x
+same-as c x y h = ap (bytes_eq c) (sym ((bytes_decides x y).0 h))
 
 any-dedup : (c : List ℕ) (xs : List (List ℕ)) → list_any (bytes_eq c) (dedup bytes_eq xs) ≡ list_any (bytes_eq c) xs
-any-dedup c xs = any-fold c xs []
-
-put-known : (x : List ℕ) (xs : List (List ℕ)) → list_any (bytes_eq x) xs ≡ true → insert_new bytes_eq xs x ≡ xs
-put-known x [] h = cc
-put-known x (y ∷ ys) h = cases (bytes_eq x y) h (put-known x ys)
-  where
-    cases : (b : Bool) → b || list_any (bytes_eq x) ys ≡ true → (list_any (bytes_eq x) ys ≡ true → insert_new bytes_eq ys x ≡ ys) → cond b (y ∷ ys) (y ∷ insert_new bytes_eq ys x) ≡ y ∷ ys
-    cases true k more = refl
-    cases false k more = ap (λ zs. y ∷ zs) (more k)
-
-put-new : (x : List ℕ) (xs : List (List ℕ)) → list_any (bytes_eq x) xs ≡ false → insert_new bytes_eq xs x ≡ xs ++ x ∷ []
-put-new x [] h = refl
-put-new x (y ∷ ys) h = cases (bytes_eq x y) h (put-new x ys)
-  where
-    cases : (b : Bool) → b || list_any (bytes_eq x) ys ≡ false → (list_any (bytes_eq x) ys ≡ false → insert_new bytes_eq ys x ≡ ys ++ x ∷ []) → cond b (y ∷ ys) (y ∷ insert_new bytes_eq ys x) ≡ y ∷ (ys ++ x ∷ [])
-    cases true k more = cc
-    cases false k more = ap (λ zs. y ∷ zs) (more k)
+any-dedup c xs = any-fold bytes_eq same-as c xs []
 
 none-counted : (p : List ℕ → Bool) (xs : List (List ℕ)) → count_by p xs ≡ 0 → list_any p xs ≡ false
 none-counted p [] h = refl
@@ -83,10 +52,10 @@ module _ (opcodes : List (List ℕ)) (opcode : List ℕ) where
   dedup-more = fold-append (insert_new bytes_eq) [] opcodes (opcode ∷ [])
 
   pub names-known : (count_by (bytes_eq opcode) opcodes ≡ 0 → ⊥) → dedup bytes_eq (opcodes ++ opcode ∷ []) ≡ dedup bytes_eq opcodes
-  names-known some = dedup-more ∙ put-known opcode (dedup bytes_eq opcodes) (any-dedup opcode opcodes ∙ some-counted (bytes_eq opcode) opcodes some)
+  names-known some = dedup-more ∙ put-known bytes_eq opcode (dedup bytes_eq opcodes) (any-dedup opcode opcodes ∙ some-counted (bytes_eq opcode) opcodes some)
 
   pub names-new : count_by (bytes_eq opcode) opcodes ≡ 0 → dedup bytes_eq (opcodes ++ opcode ∷ []) ≡ dedup bytes_eq opcodes ++ opcode ∷ []
-  names-new none = dedup-more ∙ put-new opcode (dedup bytes_eq opcodes) (any-dedup opcode opcodes ∙ none-counted (bytes_eq opcode) opcodes none)
+  names-new none = dedup-more ∙ put-new bytes_eq opcode (dedup bytes_eq opcodes) (any-dedup opcode opcodes ∙ none-counted (bytes_eq opcode) opcodes none)
 
   pub numbers-more : (old new : List ℕ → Option ℕ) (number : ℕ) → number ≡ count_by (bytes_eq opcode) opcodes
       → ((name : List ℕ) → new name ≡ update bytes_eq old opcode (Some (number + 1)) name) → ((name : List ℕ) → unwrap_or (old name) 0 ≡ count_by (bytes_eq name) opcodes)

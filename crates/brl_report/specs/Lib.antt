@@ -6,3 +6,4 @@ pub mod Rules
 pub mod Trace
 pub mod Survey
 pub mod Tally
+pub mod ClashLine

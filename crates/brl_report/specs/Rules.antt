@@ -10,6 +10,8 @@ use Rattle.brl_lines.specs.Spelling.{text_spelling}
 use Rattle.brl_lines.specs.Tokens.{LineView}
 use Rattle.brl_report.specs.Rows.{place_text}
 use Rattle.brl_report.specs.declared.rules.Listed.{Listed}
+use Rattle.brl_report.specs.declared.rules.RuleForm.{RuleForm}
+use Rattle.brl_report.specs.declared.rules.RuleForm.TheVariants as form
 use Rattle.brl_rules.specs.TableView.{TableView, info_of}
 use Rattle.brl_rules.specs.declared.rule.Info.{Info}
 use Rattle.brl_rules.specs.declared.rule.Rule.{Rule}
@@ -94,9 +96,28 @@ listed_line t lines number x =
     number_and_opcode t lines number x ++ after_blanks (encode_utf8_all (text_spelling x.characters)) ++ after_blanks (spelling x.cells)
     ++ after_blanks (place_text t x.file x.line) ++ codes "\n"
 
+-- a rule within a line: the file and line, the opcode, and its characters as they are spelled
+abbrev pub noted_rule : TableView → List LineView → ListedView → List ℕ
+noted_rule t lines x =
+    after_blanks (place_text t x.file x.line) ++ codes " " ++ opcode_at (file_name t x.file) x.line lines ++ codes " "
+    ++ encode_utf8_all (text_spelling x.characters)
+
+-- a rule with a number in a form
+abbrev pub listed_text : RuleForm → TableView → List LineView → ℕ → ListedView → List ℕ
+listed_text form.Line t lines number x = listed_line t lines number x
+listed_text form.Note t lines number x = noted_rule t lines x
+
+-- the rule with a number in a form, if there is one
+abbrev pub rule_text : RuleForm → TableView → List LineView → ℕ → List ℕ
+rule_text written t lines number = option_map_or (listed_text written t lines number) (rule_with_number t number) []
+
 -- the line of the rule with a number, if there is one
 abbrev pub rule_line : TableView → List LineView → ℕ → List ℕ
-rule_line t lines number = option_map_or (listed_line t lines number) (rule_with_number t number) []
+rule_line t lines number = rule_text form.Line t lines number
+
+-- the rule with a number within a line, if there is one
+abbrev pub rule_note : TableView → List LineView → ℕ → List ℕ
+rule_note t lines number = rule_text form.Note t lines number
 
 -- the lines of the rules with these numbers
 abbrev pub rules_text : TableView → List LineView → List ℕ → List ℕ

@@ -7,13 +7,15 @@ ghost use Rattle.brl_report.specs.Rules.{
   first_unknown as first_unknown_of,
   is_at as is_line_at,
   listed_line,
+  listed_text,
   listed_view,
+  noted_rule,
   number_and_opcode,
   opcode_at as opcode_among,
   own_definition,
   rule_count as count_of_rules,
-  rule_line,
   rule_numbers as numbers_of_rules,
+  rule_text,
   rules_text,
 };
 ghost use Rattle.std.specs.Option.{option_map_or};
@@ -32,6 +34,15 @@ struct Listed<'a> {
     cells: &'a [Cell],
     file: usize,
     line: u32,
+}
+
+/// How a rule is written.
+#[derive(Clone, Copy)]
+pub(crate) enum RuleForm {
+    /// As a line of the list of rules.
+    Line,
+    /// Within a line: the file and line, the opcode and the characters.
+    Note,
 }
 
 /// How many numbers the rules of a table have: those in rank, and after them the own definitions of
@@ -74,24 +85,25 @@ pub fn rules_report(
 {
     let mut text = String::new(alloc);
     for number in numbers {
-        push_rule(alloc, table, lines, *number, &mut text)?;
+        push_rule(alloc, table, lines, *number, RuleForm::Line, &mut text)?;
     }
     Ok(text)
 }
 
-/// Appends the line of the rule with a number, if there is one.
-fn push_rule(
+/// Appends the rule with a number in a form, if there is one.
+pub(crate) fn push_rule(
     alloc: Global,
     table: &Table,
     lines: &[Line<'_>],
     number: u32,
+    form: RuleForm,
     text: &mut String,
 ) -> Result<(), AllocError>
-    ensures { OnOk result (string_bytes text.new ≡ string_bytes text.old ++ rule_line table.now (map line_view lines.now) number) }
+    ensures { OnOk result (string_bytes text.new ≡ string_bytes text.old ++ rule_text form table.now (map line_view lines.now) number) }
 {
     table.law();
     let Some(rule) = table.rules_in_rank().get(number as usize) else {
-        return push_own(alloc, table, lines, number, text);
+        return push_own(alloc, table, lines, number, form, text);
     };
     let listed = Listed {
         characters: rule.chars.as_slice(),
@@ -99,20 +111,21 @@ fn push_rule(
         file: rule.file,
         line: rule.line,
     };
-    push_listed(alloc, table, lines, number, listed, text)
+    push_listed(alloc, table, lines, number, form, listed, text)
 }
 
-/// Appends the line of the own definition of a character, if one has this number.
+/// Appends the own definition of a character in a form, if one has this number.
 fn push_own(
     alloc: Global,
     table: &Table,
     lines: &[Line<'_>],
     number: u32,
+    form: RuleForm,
     text: &mut String,
 ) -> Result<(), AllocError>
     requires { length table.now.rules ≤ number }
-    ensures { let line = listed_line table.now (map line_view lines.now) number in
-        OnOk result (string_bytes text.new ≡ string_bytes text.old ++ option_map_or line (own_definition table.now (number - length table.now.rules)) []) }
+    ensures { let written = listed_text form table.now (map line_view lines.now) number in
+        OnOk result (string_bytes text.new ≡ string_bytes text.old ++ option_map_or written (own_definition table.now (number - length table.now.rules)) []) }
 {
     table.law();
     let place = number - table.rules_in_rank().len() as u32;
@@ -129,11 +142,30 @@ fn push_own(
         file: info.file,
         line: info.line,
     };
-    push_listed(alloc, table, lines, number, listed, text)
+    push_listed(alloc, table, lines, number, form, listed, text)
+}
+
+/// Appends a rule with this number in a form.
+fn push_listed(
+    alloc: Global,
+    table: &Table,
+    lines: &[Line<'_>],
+    number: u32,
+    form: RuleForm,
+    listed: Listed<'_>,
+    text: &mut String,
+) -> Result<(), AllocError>
+    requires { listed.file < length table.now.files }
+    ensures { OnOk result (string_bytes text.new ≡ string_bytes text.old ++ listed_text form table.now (map line_view lines.now) number (listed_view listed.entry)) }
+{
+    match form {
+        RuleForm::Line => push_listed_line(alloc, table, lines, number, listed, text),
+        RuleForm::Note => push_note(alloc, table, lines, listed, text),
+    }
 }
 
 /// Appends the line of a rule with this number.
-fn push_listed(
+fn push_listed_line(
     alloc: Global,
     table: &Table,
     lines: &[Line<'_>],
@@ -150,6 +182,25 @@ fn push_listed(
     let place = place_text(alloc, table, listed.file, listed.line)?;
     push_after_blanks(text, place.as_str())?;
     text.push('\n')
+}
+
+/// Appends the file and line of a rule, its opcode and its characters, after two blanks.
+fn push_note(
+    alloc: Global,
+    table: &Table,
+    lines: &[Line<'_>],
+    listed: Listed<'_>,
+    text: &mut String,
+) -> Result<(), AllocError>
+    requires { listed.file < length table.now.files }
+    ensures { OnOk result (string_bytes text.new ≡ string_bytes text.old ++ noted_rule table.now (map line_view lines.now) (listed_view listed.entry)) }
+{
+    let place = place_text(alloc, table, listed.file, listed.line)?;
+    push_after_blanks(text, place.as_str())?;
+    text.push(' ')?;
+    text.push_str(opcode_at(table.file_name(listed.file), listed.line, lines))?;
+    text.push(' ')?;
+    text.push_str(spell_chars(alloc, listed.characters)?.as_str())
 }
 
 /// Appends the number of a rule, and its opcode.
@@ -169,7 +220,7 @@ fn push_number_and_opcode(
 }
 
 /// Appends an entry after two blanks.
-fn push_after_blanks(text: &mut String, entry: &str) -> Result<(), AllocError>
+pub(crate) fn push_after_blanks(text: &mut String, entry: &str) -> Result<(), AllocError>
     ensures { OnOk result (string_bytes text.new ≡ string_bytes text.old ++ after_blanks entry.now) }
 {
     text.push_str("  ")?;

@@ -1,5 +1,5 @@
 -- The clash of a pair of rules, from the texts of two paths that diverge at it.
-use Rattle.std.proofs.Common.{◌≡◌, ℕ, ◌+◌, ◌<◌, ◌≤◌, ◌⊎◌, All, List, [], ◌∷◌, ◌++◌, length, sym, ◌∙◌, ap, subst, arith, append_assoc}
+use Rattle.std.proofs.Common.{◌≡◌, ℕ, ◌+◌, ◌<◌, ◌≤◌, ◌⊎◌, All, List, [], ◌∷◌, ◌++◌, Some, length, sym, ◌∙◌, ap, subst, arith, append_assoc}
 use Rattle.std.specs.Map.{keys_of}
 use Rattle.std.proofs.lemmas.List.Elements.{All-head, All-tail}
 use Rattle.std.specs.BTreeMap.{btree_map_len}
@@ -13,11 +13,10 @@ use Rattle.brl_dues.specs.Steps.{dues_machine}
 use Rattle.brl_forward.specs.ClashView.{ClashView}
 use Rattle.brl_pairs.specs.Runs.{IsExact}
 use Rattle.brl_rules.specs.TableView.{TableView}
-use Rattle.brl_rules.specs.Translation.{IsClash, translation}
-use Rattle.brl_search.specs.Small.{IsPartOf}
-use Rattle.brl_search.proofs.Parts.{part-self}
+use Rattle.brl_rules.specs.Translation.{IsClash}
+use Rattle.brl_search.specs.Small.{ClashAt, IsPartOf, IsSmall}
 use Rattle.brl_search.specs.Clashes.{IsOverLimit, IsRuleClash, rules_of_clashes}
-use Rattle.brl_search.specs.Traces.{PathsAreTraces}
+use Rattle.brl_search.specs.Traces.{TracesDivergeAsPaths, TracesDivergeAt}
 use Rattle.brl_search.specs.declared.table_clashes.RuleClash.{RuleClash}
 use Rattle.brl_search.proofs.TableSearch.{clash_of_machine, clash_without, none_of_machine}
 use Rattle.brl_search.proofs.Traces.{traces-diverge}
@@ -31,21 +30,26 @@ module _ (left_out : List ℕ) (t : TableView) (exact : IsExact (without left_ou
       let at = clash_at (without left_out (dues_machine t)) exact rules.0 rules.1 texts.left.items texts.right.items h.texts in
       record { left_text = at.left_text; right_text = at.right_text; differ = at.differ; same_cells = at.same_cells }
 
-  pub texts_clash : IsClash t texts.left.items texts.right.items (translation t texts.left.items)
-  texts_clash = clash_of_machine left_out t texts.left.items texts.right.items clash
-
   -- and their traces diverge at the pair of rules
-  pub rule_clash : PathsAreTraces t → (it : ClashView) → it.left ≡ texts.left.items → it.right ≡ texts.right.items → IsClash t it.left it.right it.cells
-      → IsRuleClash left_out t (record { lesser = rules.0; greater = rules.1; clash = it })
-  rule_clash traces it left right is =
+  pub texts_clash_at : TracesDivergeAsPaths t → ClashAt t (Some rules) texts.left.items texts.right.items
+  texts_clash_at as_paths =
       let m = dues_machine t in
       let two = h.texts.0 in
       record {
-        in_order = h.in_order;
-        clash = clash_without left_out t texts.left.items texts.right.items it (subst (IsPartOf it.left) left (part-self it.left)) (subst (IsPartOf it.right) right (part-self it.right)) (none_of_machine left_out t texts.left.items texts.right.items clash) is;
-        diverge = traces-diverge t traces (rules ∷ []) it.left it.right two.one two.two (path_within left_out m m.start two.one two.one_path).0 (path_within left_out m m.start two.two two.two_path).0
-            (two.left_reads ∙ sym left) (two.right_reads ∙ sym right) h.texts.1;
+        clash = clash_of_machine left_out t texts.left.items texts.right.items clash;
+        diverge = traces-diverge t as_paths (rules ∷ []) texts.left.items texts.right.items two.one two.two (path_within left_out m m.start two.one two.one_path).0
+            (path_within left_out m m.start two.two two.two_path).0 two.left_reads two.right_reads h.texts.1;
       }
+
+  -- so do parts of them that are found to clash, if they are small
+  pub rule_clash : (it : ClashView) → IsPartOf it.left texts.left.items → IsPartOf it.right texts.right.items → IsClash t it.left it.right it.cells → TracesDivergeAt t (rules ∷ []) it.left it.right
+      → IsSmall t (Some rules) it.left it.right → IsRuleClash left_out t (record { lesser = rules.0; greater = rules.1; clash = it })
+  rule_clash it left right is diverge small = record {
+    in_order = h.in_order;
+    clash = clash_without left_out t texts.left.items texts.right.items it left right (none_of_machine left_out t texts.left.items texts.right.items clash) is;
+    diverge = diverge;
+    small = small;
+  }
 
 -- as many clashes as pairs of rules
 pub as_many_rules : (list : List RuleClash) (rules : RuleTexts) → rules_of_clashes list ≡ rules_of rules → length list ≡ btree_map_len rules

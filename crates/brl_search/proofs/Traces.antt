@@ -1,6 +1,7 @@
 -- The steps of a path of the dues machine are those of the trace of what it reads. So where two
--- paths diverge, the traces of what they read do.
-use Rattle.std.proofs.Common.{◌≡◌, ℕ, zero, suc, ◌+◌, ◌≤◌, Bool, ◌&&◌, true, false, List, [], ◌∷◌, ◌++◌, inl, inr, Some, length, take, drop, nat_lt, refl, sym, ap, ◌∙◌, subst, arith, drop-drop, length-drop}
+-- paths diverge, the traces of what they read do: steps of one state are one step exactly where they
+-- have one rule and read the same, both in a run of capitals or both out of one.
+use Rattle.std.proofs.Common.{◌≡◌, ◌≢◌, ℕ, zero, suc, ◌+◌, ◌<◌, ◌≤◌, Bool, ◌&&◌, true, false, List, [], ◌∷◌, ◌++◌, inl, inr, Some, length, take, drop, nat_lt, refl, sym, ap, ◌∙◌, subst, subst₂, arith, drop-drop, length-drop}
 use Rattle.std.proofs.lemmas.List.{length-append}
 use Rattle.std.specs.Prelude.{slice_get}
 use Rattle.std.specs.List.{AllZip}
@@ -12,19 +13,20 @@ use Rattle.brl_rules.specs.declared.context.Context.{Context}
 use Rattle.brl_rules.specs.Choice.{Choice, chosen}
 use Rattle.brl_rules.specs.Indicators.{indicators, indicators_before}
 use Rattle.brl_rules.specs.TableView.{TableView}
-use Rattle.brl_rules.specs.Text.{context_after_all, context_at}
+use Rattle.brl_rules.specs.Text.{context_after_all, context_at, is_in_caps_run}
 use Rattle.brl_rules.specs.Translation.{chosen_at}
 use Rattle.brl_rules.proofs.OneByOne.{Translating}
 use Rattle.brl_states.specs.declared.dues_state.DuesState.{DuesState}
 use Rattle.brl_states.specs.DuesContext.{context_of}
+use Rattle.brl_dues.specs.Due.{dues_met}
 use Rattle.brl_dues.specs.Steps.{dues_machine}
-use Rattle.brl_dues.proofs.Exact.{AreKnown, Stepped, path-Gives, stepped}
-use Rattle.brl_dues.proofs.Taking.{Choosing, as_choice, drop-front, form-ReadsSome, signs-front, take-front}
+use Rattle.brl_dues.proofs.Exact.{AreKnown, Stepped, one-form, one-step, path-Gives, step-back, stepped}
+use Rattle.brl_dues.proofs.Taking.{Choosing, as_choice, drop-front, form-ReadsSome, form-in_caps_run, signs-front, take-front}
 use Rattle.brl_forward.specs.Trace.{step_at, steps_from, trace_of}
 use Rattle.brl_forward.specs.declared.steps.Traced.{Traced}
 use Rattle.brl_without.specs.Without.{without}
 use Rattle.brl_without.proofs.Paths.{path_within}
-use Rattle.brl_search.specs.Traces.{ClashesDivergeAt, ClashesDivergeAtWithout, IsSameTraced, IsTraced, PathsAreTraces, TracesDivergeAt}
+use Rattle.brl_search.specs.Traces.{ClashesDivergeAt, ClashesDivergeAtWithout, IsSameStep, IsTraced, PathsAreTraces, TracesDivergeAsPaths, TracesDivergeAt, begins_in_caps_run}
 
 in_text : (i : ℕ) (text : List ℕ) (x : ℕ) (rest : List ℕ) → drop i text ≡ x ∷ rest → nat_lt i (length text) ≡ true
 in_text i text x rest e = (let size = sym (length-drop i text) ∙ ap length e in lt-ltb i (length text) (omega (arith, size)))
@@ -36,102 +38,206 @@ at_end i text e = (let size = sym (length-drop i text) ∙ ap length e in le-ltb
 abbrev Further : TableView → Type 0
 Further t = (text : List ℕ) (i count : ℕ) → count ≤ length (drop i text) → context_after_all t (context_at t text i) (take count (drop i text)) ≡ context_at t text (i + count)
 
+-- a step from a state, before what the rest of its path reads, as the trace of the text has it at a
+-- position
+record Walked (t : TableView) (text : List ℕ) (i : ℕ) (s : DuesState) (x : Step DuesState) (path : List (Step DuesState)) : Type 0 where
+  stepped_by : Stepped t s x (reads_of path)
+  met : dues_met t (reads_of path) x.next.dues ≡ true
+  traced : IsTraced text x (step_at t text i)
+  run : begins_in_caps_run t text (step_at t text i) ≡ stepped_by.form.run
+  within : nat_lt i (length text) ≡ true
+  next : context_of x.next ≡ context_at t text (i + (chosen_at t text i).taken)
+  left : drop (i + (chosen_at t text i).taken) text ≡ reads_of path
+  fewer : length (reads_of path) < length (reads_of (x ∷ path))
+
 module _ (t : TableView) (choosing : Choosing t) (translating : Translating t) (known : AreKnown t) (further : Further t) where
   -- one step
-  one-traced : (text : List ℕ) (i : ℕ) (s : DuesState) (x : Step DuesState) (u : List ℕ) → context_of s ≡ context_at t text i → drop i text ≡ x.reads ++ u → Stepped t s x u → IsTraced x (step_at t text i)
-  one-traced text i s x u here rest h =
+  walked : (text : List ℕ) (i : ℕ) (s : DuesState) (x : Step DuesState) (path : List (Step DuesState)) → IsPath (dues_machine t) s (x ∷ path) → context_of s ≡ context_at t text i
+      → drop i text ≡ reads_of (x ∷ path) → Walked t text i s x path
+  walked text i s x path p here rest =
+      let u = reads_of path in
+      let met = (path-Gives t choosing translating known x.next path p.1).met in
+      let h = stepped t choosing s x p.0 u met in
+      let r = form-ReadsSome t s.before h.form h.is_form in
       let reads : x.reads ≡ h.form.reads = ap (λ (y : Step DuesState). y.reads) h.step in
+      let begins : x.reads ≡ r.character ∷ r.others = reads ∙ r.reads in
       let front : drop i text ≡ h.form.reads ++ u = rest ∙ ap (λ l. l ++ u) reads in
       let choice : chosen_at t text i ≡ as_choice h.form =
       ap (λ (c : Context). chosen t c.classes (drop i text)) (sym here) ∙ ap (chosen t s.before) front ∙ h.choice in
       let signs : indicators t (context_at t text i) (drop i text) ≡ indicators_before t (context_of s) h.form.run h.form.reads =
       ap (λ (c : Context). indicators t c (drop i text)) (sym here) ∙ ap (indicators t (context_of s)) front
       ∙ signs-front t (context_of s) h.form u (form-ReadsSome t s.before h.form h.is_form) h.in_caps_run in
+      let run : is_in_caps_run t (context_at t text i).classes (drop i text) ≡ h.form.run =
+      ap (λ (c : Context). is_in_caps_run t c.classes (drop i text)) (sym here) ∙ ap (is_in_caps_run t s.before) front ∙ h.in_caps_run in
+      let count : length x.reads ≡ (chosen_at t text i).taken = ap length reads ∙ sym (ap (λ (c : Choice). c.taken) choice) in
+      let size = ap length begins in
+      let whole = ap length rest in
+      let joined = length-append x.reads u in
+      let room : length x.reads ≤ length (drop i text) = omega (arith, whole, joined) in
+      let own : x.reads ≡ take (length x.reads) (drop i text) = sym (ap (take (length x.reads)) rest ∙ take-front x.reads u) in
       record {
-        rule = ap (λ (y : Step DuesState). y.rule) h.step ∙ sym (ap (λ (c : Choice). c.number) choice);
-        length = ap length reads ∙ sym (ap (λ (c : Choice). c.taken) choice);
-        cells = ap (λ (y : Step DuesState). y.cells) h.step ∙ ap (λ l. l ++ h.form.cells) (sym signs)
-            ∙ ap (λ (c : Choice). indicators t (context_at t text i) (drop i text) ++ c.cells) (sym choice);
+        stepped_by = h;
+        met = met;
+        traced = record {
+          rule = ap (λ (y : Step DuesState). y.rule) h.step ∙ sym (ap (λ (c : Choice). c.number) choice);
+          length = count;
+          reads = own ∙ ap (λ n. take n (drop i text)) count;
+          cells = ap (λ (y : Step DuesState). y.cells) h.step ∙ ap (λ l. l ++ h.form.cells) (sym signs)
+              ∙ ap (λ (c : Choice). indicators t (context_at t text i) (drop i text) ++ c.cells) (sym choice);
+        };
+        run = run;
+        within = in_text i text r.character (r.others ++ u) (rest ∙ ap (λ l. l ++ u) begins);
+        next = ap (λ (y : Step DuesState). context_of y.next) h.step
+            ∙ ap (λ l. context_after_all t (context_of s) l) (sym reads)
+            ∙ ap (λ c. context_after_all t c x.reads) here
+            ∙ ap (λ l. context_after_all t (context_at t text i) l) own
+            ∙ further text i (length x.reads) room
+            ∙ ap (λ k. context_at t text (i + k)) count;
+        left = ap (λ k. drop (i + k) text) (sym count) ∙ sym (drop-drop (length x.reads) i text) ∙ ap (drop (length x.reads)) rest ∙ drop-front x.reads u;
+        fewer = omega (arith, size, joined);
       }
 
   -- the steps from a position on
   traced : (text : List ℕ) (n i : ℕ) (s : DuesState) (path : List (Step DuesState)) → IsPath (dues_machine t) s path → context_of s ≡ context_at t text i → drop i text ≡ reads_of path
-      → length (reads_of path) ≤ n → AllZip IsTraced path (steps_from t text n i)
+      → length (reads_of path) ≤ n → AllZip (IsTraced text) path (steps_from t text n i)
   traced text zero i s [] p here rest few = tt
   traced text (suc n) i s [] p here rest few = rw (at_end i text rest) tt
-  traced text zero i s (x ∷ path) p here rest few =
-      let u = reads_of path in
-      let h = stepped t choosing s x p.0 u (path-Gives t choosing translating known x.next path p.1).met in
-      let r = form-ReadsSome t s.before h.form h.is_form in
-      let size = ap length (ap (λ (y : Step DuesState). y.reads) h.step ∙ r.reads) in
-      absurd (omega (arith, size, few, length-append x.reads u))
+  traced text zero i s (x ∷ path) p here rest few = (let size = (walked text i s x path p here rest).fewer in absurd (omega (arith, few, size)))
   traced text (suc n) i s (x ∷ path) p here rest few =
-      let u = reads_of path in
-      let h = stepped t choosing s x p.0 u (path-Gives t choosing translating known x.next path p.1).met in
-      let r = form-ReadsSome t s.before h.form h.is_form in
-      let reads : x.reads ≡ h.form.reads = ap (λ (y : Step DuesState). y.reads) h.step in
-      let begins : x.reads ≡ r.character ∷ r.others = reads ∙ r.reads in
-      let one = one-traced text i s x u here rest h in
-      let taken : (chosen_at t text i).taken ≡ length x.reads = sym one.length in
-      let within : nat_lt i (length text) ≡ true = in_text i text r.character (r.others ++ u) (rest ∙ ap (λ l. l ++ u) begins) in
-      let whole = ap length rest in
-      let joined = length-append x.reads u in
-      let room : length x.reads ≤ length (drop i text) = omega (arith, whole, joined) in
-      let next : context_of x.next ≡ context_at t text (i + (chosen_at t text i).taken) =
-      ap (λ (y : Step DuesState). context_of y.next) h.step
-      ∙ ap (λ l. context_after_all t (context_of s) l) (sym reads)
-      ∙ ap (λ c. context_after_all t c x.reads) here
-      ∙ ap (λ l. context_after_all t (context_at t text i) l) (sym (ap (take (length x.reads)) rest ∙ take-front x.reads u))
-      ∙ further text i (length x.reads) room
-      ∙ ap (λ k. context_at t text (i + k)) (sym taken) in
-      let left : drop (i + (chosen_at t text i).taken) text ≡ u =
-      ap (λ k. drop (i + k) text) taken ∙ sym (drop-drop (length x.reads) i text) ∙ ap (drop (length x.reads)) rest ∙ drop-front x.reads u in
-      let size = ap length begins in
-      rw within (one, traced text n (i + (chosen_at t text i).taken) x.next path p.1 next left (omega (arith, size, few, joined)))
+      let w = walked text i s x path p here rest in
+      let size = w.fewer in
+      rw w.within (w.traced, traced text n (i + (chosen_at t text i).taken) x.next path p.1 w.next w.left (omega (arith, size, few)))
 
   pub paths-are-traces : PathsAreTraces t
   unfolding trace_of
   paths-are-traces path p = traced (reads_of path) (length (reads_of path)) 0 (dues_machine t).start path p refl refl (omega arith)
 
--- ---- Divergence
+  -- ---- Divergence
 
--- what steps and one step more are in a trace
-steps_there : (before : List (Step DuesState)) (x : Step DuesState) (rest : List (Step DuesState)) (ys : List Traced) → AllZip IsTraced (before ++ x ∷ rest) ys
-    → (y : Traced) × (slice_get ys (length before) ≡ Some y) × IsTraced x y × AllZip IsTraced before (take (length before) ys)
-steps_there [] x rest [] h = absurd h
-steps_there [] x rest (y ∷ ys) h = (y, refl, h.0, tt)
-steps_there (b ∷ before) x rest [] h = absurd h
-steps_there (b ∷ before) x rest (y ∷ ys) h = (let r = steps_there before x rest ys h.1 in (r.0, r.1, r.2, (h.0, r.3)))
+  -- a step of one state begins in a run of capitals whatever follows, or never
+  one-run : (s : DuesState) (x : Step DuesState) (u v : List ℕ) → dues_met t u x.next.dues ≡ true → (h : Stepped t s x u) (k : Stepped t s x v) → h.form.run ≡ k.form.run
+  one-run s x u v met h k =
+      let takes = step-back t s k.form k.is_form k.dues k.left u (ap (λ (y : Step DuesState). dues_met t u y.next.dues) (sym k.step) ∙ met) in
+      let reads : h.form.reads ≡ k.form.reads = ap (λ (y : Step DuesState). y.reads) (sym h.step ∙ k.step) in
+      sym h.in_caps_run ∙ ap (λ l. is_in_caps_run t s.before (l ++ u)) reads ∙ form-in_caps_run t s.before k.form k.is_form u takes.next
 
--- two traces of the same steps
-both_traced : (xs : List (Step DuesState)) (ys zs : List Traced) → AllZip IsTraced xs ys → AllZip IsTraced xs zs → AllZip IsSameTraced ys zs
-both_traced [] [] [] h k = tt
-both_traced [] (y ∷ ys) zs h k = absurd h
-both_traced [] [] (z ∷ zs) h k = absurd k
-both_traced (x ∷ xs) [] zs h k = absurd h
-both_traced (x ∷ xs) (y ∷ ys) [] h k = absurd k
-both_traced (x ∷ xs) (y ∷ ys) (z ∷ zs) h k =
-    (record { rule = sym h.0.rule ∙ k.0.rule; length = sym h.0.length ∙ k.0.length; cells = sym h.0.cells ∙ k.0.cells }, both_traced xs ys zs h.1 k.1)
+  -- one step of a state is the same step in both texts
+  same-step : (left right : List ℕ) (i j : ℕ) (s : DuesState) (x : Step DuesState) (path other : List (Step DuesState)) → Walked t left i s x path → Walked t right j s x other
+      → IsSameStep t left right (step_at t left i) (step_at t right j)
+  same-step left right i j s x path other v w = record {
+    rule = sym v.traced.rule ∙ w.traced.rule;
+    reads = sym v.traced.reads ∙ w.traced.reads;
+    cells = sym v.traced.cells ∙ w.traced.cells;
+    run = v.run ∙ one-run s x (reads_of path) (reads_of other) v.met v.stepped_by w.stepped_by ∙ sym w.run;
+  }
 
-module _ (t : TableView) (paths : PathsAreTraces t) (rules : List (ℕ × ℕ)) where
+  -- steps of one state that are the same in both texts are one step
+  step-from_same : (left right : List ℕ) (i j : ℕ) (s : DuesState) (x y : Step DuesState) (path other : List (Step DuesState)) → Walked t left i s x path → Walked t right j s y other
+      → IsSameStep t left right (step_at t left i) (step_at t right j) → x ≡ y
+  step-from_same left right i j s x y path other v w same =
+      let h = v.stepped_by in
+      let k = w.stepped_by in
+      let number : h.form.number ≡ k.form.number =
+      ap (λ (z : Step DuesState). z.rule) (sym h.step) ∙ v.traced.rule ∙ same.rule ∙ sym w.traced.rule ∙ ap (λ (z : Step DuesState). z.rule) k.step in
+      let reads : h.form.reads ≡ k.form.reads =
+      ap (λ (z : Step DuesState). z.reads) (sym h.step) ∙ v.traced.reads ∙ same.reads ∙ sym w.traced.reads ∙ ap (λ (z : Step DuesState). z.reads) k.step in
+      let form = one-form t s.before h.form k.form h.is_form k.is_form number reads (sym v.run ∙ same.run ∙ w.run) in
+      one-step t s x y h.form k.form h.dues k.dues form h.left k.left h.step k.step
+
+  -- from a state on, the steps of two traces diverge where those of two paths do
+  record Apart (left right : List ℕ) (xs ys : List Traced) (x y : Step DuesState) : Type 0 where
+    place : ℕ
+    one : Traced
+    other : Traced
+    before : AllZip (IsSameStep t left right) (take place xs) (take place ys)
+    one_there : slice_get xs place ≡ Some one
+    other_there : slice_get ys place ≡ Some other
+    differ : IsSameStep t left right one other → ⊥
+    one_rule : x.rule ≡ one.rule
+    other_rule : y.rule ≡ other.rule
+
+  apart : (left right : List ℕ) (n k i j : ℕ) (s : DuesState) (steps : List (Step DuesState)) (x y : Step DuesState) (path other : List (Step DuesState)) → x ≢ y
+      → IsPath (dues_machine t) s (steps ++ x ∷ path) → IsPath (dues_machine t) s (steps ++ y ∷ other) → context_of s ≡ context_at t left i → context_of s ≡ context_at t right j
+      → drop i left ≡ reads_of (steps ++ x ∷ path) → drop j right ≡ reads_of (steps ++ y ∷ other) → length (reads_of (steps ++ x ∷ path)) ≤ n → length (reads_of (steps ++ y ∷ other)) ≤ k
+      → Apart left right (steps_from t left n i) (steps_from t right k j) x y
+  apart left right zero k i j s [] x y path other differ p q here there rest tail few small = (let size = (walked left i s x path p here rest).fewer in absurd (omega (arith, few, size)))
+  apart left right (suc n) zero i j s [] x y path other differ p q here there rest tail few small = (let size = (walked right j s y other q there tail).fewer in absurd (omega (arith, small, size)))
+  apart left right (suc n) (suc k) i j s [] x y path other differ p q here there rest tail few small =
+      let v = walked left i s x path p here rest in
+      let w = walked right j s y other q there tail in
+      rw (v.within, w.within)
+      record {
+        place = 0;
+        one = step_at t left i;
+        other = step_at t right j;
+        before = tt;
+        one_there = refl;
+        other_there = refl;
+        differ = λ same. differ (step-from_same left right i j s x y path other v w same);
+        one_rule = v.traced.rule;
+        other_rule = w.traced.rule;
+      }
+  apart left right zero k i j s (z ∷ steps) x y path other differ p q here there rest tail few small = (let size = (walked left i s z (steps ++ x ∷ path) p here rest).fewer in absurd (omega (arith, few, size)))
+  apart left right (suc n) zero i j s (z ∷ steps) x y path other differ p q here there rest tail few small =
+      (let size = (walked right j s z (steps ++ y ∷ other) q there tail).fewer in absurd (omega (arith, small, size)))
+  apart left right (suc n) (suc k) i j s (z ∷ steps) x y path other differ p q here there rest tail few small =
+      let v = walked left i s z (steps ++ x ∷ path) p here rest in
+      let w = walked right j s z (steps ++ y ∷ other) q there tail in
+      let v_size = v.fewer in
+      let w_size = w.fewer in
+      let more = apart left right n k (i + (chosen_at t left i).taken) (j + (chosen_at t right j).taken) z.next steps x y path other differ p.1 q.1 v.next w.next v.left w.left
+      (omega (arith, v_size, few)) (omega (arith, w_size, small)) in
+      rw (v.within, w.within)
+      record {
+        place = suc more.place;
+        one = more.one;
+        other = more.other;
+        before = (same-step left right i j s z (steps ++ x ∷ path) (steps ++ y ∷ other) v w, more.before);
+        one_there = more.one_there;
+        other_there = more.other_there;
+        differ = more.differ;
+        one_rule = more.one_rule;
+        other_rule = more.other_rule;
+      }
+
   -- the traces of what two paths read diverge where the paths do
+  pub diverge-as-paths : TracesDivergeAsPaths t
+  unfolding trace_of
+  diverge-as-paths rules first second is_first is_second diverge =
+      let at = diverge.0 in
+      let start = (dues_machine t).start in
+      let one = at.before ++ at.one ∷ at.first_rest in
+      let other = at.before ++ at.other ∷ at.second_rest in
+      let left = reads_of first in
+      let right = reads_of second in
+      let is_one = subst (IsPath (dues_machine t) start) at.first_steps is_first in
+      let is_other = subst (IsPath (dues_machine t) start) at.second_steps is_second in
+      let left_reads : left ≡ reads_of one = ap reads_of at.first_steps in
+      let right_reads : right ≡ reads_of other = ap reads_of at.second_steps in
+      let left_size = ap length left_reads in
+      let right_size = ap length right_reads in
+      let r = apart left right (length left) (length right) 0 0 start at.before at.one at.other at.first_rest at.second_rest at.differ is_one is_other refl refl left_reads right_reads
+      (omega (arith, left_size)) (omega (arith, right_size)) in
+      record {
+        place = r.place;
+        one = r.one;
+        other = r.other;
+        before = r.before;
+        one_there = r.one_there;
+        other_there = r.other_there;
+        differ = r.differ;
+        pair = ap (λ m. has_rules rules m r.other.rule) (sym r.one_rule) ∙ ap (has_rules rules at.one.rule) (sym r.other_rule) ∙ diverge.1;
+      }
+
+both-true : (b c : Bool) → b ≡ true → c ≡ true → (b && c) ≡ true
+both-true b c e f = rw e f
+
+module _ (t : TableView) (as_paths : TracesDivergeAsPaths t) (rules : List (ℕ × ℕ)) where
+  -- texts that two paths read, where these diverge
   pub traces-diverge : (left right : List ℕ) (first second : List (Step DuesState)) → IsPath (dues_machine t) (dues_machine t).start first → IsPath (dues_machine t) (dues_machine t).start second
       → reads_of first ≡ left → reads_of second ≡ right → DivergeAt rules first second → TracesDivergeAt t rules left right
-  traces-diverge left right first second first_path second_path first_reads second_reads diverge =
-      let at = diverge.0 in
-      let of_first : AllZip IsTraced first (trace_of t left) = subst (λ text. AllZip IsTraced first (trace_of t text)) first_reads (paths first first_path) in
-      let of_second : AllZip IsTraced second (trace_of t right) = subst (λ text. AllZip IsTraced second (trace_of t text)) second_reads (paths second second_path) in
-      let a = steps_there at.before at.one at.first_rest (trace_of t left) (subst (λ l. AllZip IsTraced l (trace_of t left)) at.first_steps of_first) in
-      let b = steps_there at.before at.other at.second_rest (trace_of t right) (subst (λ l. AllZip IsTraced l (trace_of t right)) at.second_steps of_second) in
-      record {
-        place = length at.before;
-        one = a.0;
-        other = b.0;
-        before = both_traced at.before (take (length at.before) (trace_of t left)) (take (length at.before) (trace_of t right)) a.3 b.3;
-        one_there = a.1;
-        other_there = b.1;
-        pair = ap (λ r. has_rules rules r b.0.rule) (sym a.2.rule) ∙ ap (has_rules rules at.one.rule) (sym b.2.rule) ∙ diverge.1;
-      }
+  traces-diverge left right first second is_first is_second first_reads second_reads diverge =
+      subst₂ (TracesDivergeAt t rules) first_reads second_reads (as_paths rules first second is_first is_second diverge)
 
   pub clashes-diverge : IsUnambiguousBut rules (dues_machine t) → ClashesDivergeAt rules t
   clashes-diverge but left right is_left is_right same =
@@ -139,9 +245,6 @@ module _ (t : TableView) (paths : PathsAreTraces t) (rules : List (ℕ × ℕ)) 
         | inl one ↦ inl one
         | inr h ↦ inr (traces-diverge left right h.0.path h.1.path h.0.is_path h.1.is_path h.0.reads h.1.reads h.2)
       ]
-
-  both-true : (b c : Bool) → b ≡ true → c ≡ true → (b && c) ≡ true
-  both-true b c e f = rw e f
 
   pub clashes-diverge-without : (left_out : List ℕ) → IsUnambiguousBut rules (without left_out (dues_machine t)) → ClashesDivergeAtWithout left_out rules t
   clashes-diverge-without left_out but left right is_left is_right left_none right_none same =

@@ -1,5 +1,5 @@
 -- Every pair of rules of a table at which clashing texts diverge. These are this project's own choice.
-use Rattle.std.specs.Prelude.{ℕ, ◌+◌, ◌<◌, ◌≤◌, ◌⊎◌, All, List, [], ◌∷◌, length, map}
+use Rattle.std.specs.Prelude.{ℕ, ◌+◌, ◌<◌, ◌≤◌, ◌⊎◌, All, List, [], ◌∷◌, Some, length, map}
 use Rattle.std.specs.List.Sorted.{IsStrictlySortedBy}
 use Rattle.brl_closure.specs.Answers.{IsWithin}
 use Rattle.brl_closure.specs.Reached.{AtLeast, Reached, ReachedPair, SamePair, SameState}
@@ -9,6 +9,7 @@ use Rattle.brl_pairs.specs.Divergence.{IsClosedBut, IsCompleteList}
 use Rattle.brl_pairs.specs.Sets.{sets_of}
 use Rattle.brl_rules.specs.TableView.{TableView}
 use Rattle.brl_search.specs.Searched.{State, machine_of}
+use Rattle.brl_search.specs.Small.{IsSmall}
 use Rattle.brl_search.specs.Traces.{ClashesDivergeAtWithout, TracesDivergeAt}
 use Rattle.brl_search.specs.declared.table_clashes.ClashList.{ClashList}
 use Rattle.brl_search.specs.declared.table_clashes.ClashList.TheVariants.{Complete, Partial}
@@ -20,12 +21,14 @@ use Rattle.brl_without.specs.Without.{without}
 abbrev pub rules_of_clashes : List RuleClash → List (ℕ × ℕ)
 rules_of_clashes list = map (λ (c : RuleClash). (c.lesser, c.greater)) list
 
--- two texts that use none of some characters clash, and their traces diverge at this pair of rules,
--- the lesser number of which stands first
+-- Two texts that use none of some characters clash, and their traces diverge at this pair of rules,
+-- the lesser number of which stands first. No character can be left out of them so that they clash
+-- and diverge there.
 pub record IsRuleClash (left_out : List ℕ) (t : TableView) (c : RuleClash) : Type 0 where
   pub in_order : c.lesser ≤ c.greater
   pub clash : IsClashWithout left_out t c.clash.left c.clash.right c.clash.cells
   pub diverge : TracesDivergeAt t ((c.lesser, c.greater) ∷ []) c.clash.left c.clash.right
+  pub small : IsSmall t (Some (c.lesser, c.greater)) c.clash.left c.clash.right
 
 -- the pairs of rules ascend, so none is listed twice, and each has such a clash
 pub record AreRuleClashes (left_out : List ℕ) (t : TableView) (list : List RuleClash) : Type 0 where

@@ -1,5 +1,6 @@
 -- Internal. How the texts of a clash are made smaller.
-use Rattle.std.specs.Prelude.{◌≡◌, ◌<◌, ◌≤◌, ◌+◌, ◌*◌, ◌%◌, ◌^◌, ◌⊎◌, ◌&&◌, ◌||◌, ◌==◌, ℕ, Bool, false, List, [], ◌∷◌, Option, length, nat_eq, slice_index}
+use Rattle.std.specs.Prelude.{◌≡◌, ◌<◌, ◌≤◌, ◌+◌, ◌*◌, ◌%◌, ◌^◌, ◌⊎◌, ◌&&◌, ◌==◌, ℕ, Bool, false, List, [], ◌∷◌, Option, if◌then◌else◌, length, nat_eq, slice_index}
+use Rattle.std.specs.Bool.{beq}
 use Rattle.std.specs.Cmp.Lexicographic.{pointwise}
 use Rattle.std.specs.List.{fold, remove}
 use Rattle.brl_forward.specs.declared.steps.Traced.{Traced}
@@ -7,6 +8,7 @@ use Rattle.brl_pairs.specs.Divergence.{are_rules}
 use Rattle.brl_rules.specs.TableView.{TableView}
 use Rattle.brl_rules.specs.Translation.{translation}
 use Rattle.brl_search.specs.Small.{ClashAt, IsPartOf}
+use Rattle.brl_search.specs.Traces.{begins_in_caps_run, taken}
 use Rattle.brl_search.specs.declared.texts.Texts.{Texts}
 
 -- texts that clash, at the pair of rules where one is given, and are parts of two others
@@ -43,12 +45,16 @@ pub record AreKeysOf (t : TableView) (text keys : List ℕ) : Type 0 where
 
 -- ---- Traces
 
--- whether two steps of traces take the same rule, with as many characters and the same cells
-abbrev pub are_same_steps : Traced → Traced → Bool
-are_same_steps x y = (x.rule == y.rule) && (x.length == y.length) && pointwise nat_eq x.cells y.cells
+-- whether two steps of two texts are the same
+abbrev pub are_same_steps : TableView → List ℕ → List ℕ → Traced → Traced → Bool
+are_same_steps t left right x y =
+    (x.rule == y.rule) && pointwise nat_eq x.cells y.cells && pointwise nat_eq (taken left x) (taken right y)
+    && beq (begins_in_caps_run t left x) (begins_in_caps_run t right y)
 
--- whether two traces begin with the same steps, and go on with two steps of this pair of rules
-abbrev pub diverge_at : ℕ × ℕ → List Traced → List Traced → Bool
-diverge_at pair [] ys = false
-diverge_at pair (x ∷ xs) [] = false
-diverge_at pair (x ∷ xs) (y ∷ ys) = are_rules x.rule y.rule pair || (are_same_steps x y && diverge_at pair xs ys)
+-- whether two traces begin with the same steps, and go on with two different ones of this pair of
+-- rules
+abbrev pub diverge_at : TableView → List ℕ → List ℕ → ℕ × ℕ → List Traced → List Traced → Bool
+diverge_at t left right pair [] ys = false
+diverge_at t left right pair (x ∷ xs) [] = false
+diverge_at t left right pair (x ∷ xs) (y ∷ ys) =
+    if are_same_steps t left right x y then diverge_at t left right pair xs ys else are_rules x.rule y.rule pair

@@ -15,7 +15,7 @@ ghost use Rattle.brl_closure.specs.Deciding.{ListsJustReached, all_pairs, reache
 ghost use Rattle.brl_closure.specs.Reached.{AtMost, Reached, ReachedPair, SamePair, SameState};
 ghost use Rattle.brl_rules.specs.TableView.{TableView};
 ghost use Rattle.brl_rules.specs.Translation.{IsUnambiguous};
-ghost use Rattle.brl_search.specs.Traces.{ClashesDivergeAt, ClashesDivergeAtWithout, PathsAreTraces};
+ghost use Rattle.brl_search.specs.Traces.{ClashesDivergeAt, ClashesDivergeAtWithout, PathsAreTraces, TracesDivergeAsPaths};
 ghost use Rattle.brl_without.specs.Without.{without};
 
 use brl_closure::{just_reached_law, reached_closed_law};
@@ -61,9 +61,11 @@ pub fn dues_certificate_law(alloc: Global, table: &Table)
 }
 
 /// The steps of each path of a table's dues machine are, one by one, those of the trace of what it
-/// reads: the same rules, with as many characters and the same cells.
+/// reads: the same rules, for the same characters, with the same cells. So where two paths diverge,
+/// the traces of what they read do, at the same pair of rules.
 pub fn dues_trace_law(table: &Table)
-    ensures { PathsAreTraces table.now }
+    ensures steps { PathsAreTraces table.now }
+    ensures diverge { TracesDivergeAsPaths table.now }
 {
     choice_laws();
     translation_laws();
@@ -72,7 +74,7 @@ pub fn dues_trace_law(table: &Table)
 
 /// Where the dues machine of a table is unambiguous but for some pairs of rules, any two texts of
 /// the table that are translated to the same cells are equal, or their traces begin with the same
-/// steps and go on with two steps of one of these pairs. Where the machine without some characters
+/// steps and go on with two different ones of one of these pairs. Where the machine without some characters
 /// is so, this holds of the texts that use none of them.
 pub fn dues_divergence_law(table: &Table)
     ensures texts { (rules : List (ℕ × ℕ)) → IsUnambiguousBut rules (dues_machine table.now) → ClashesDivergeAt rules table.now }

@@ -7,10 +7,10 @@ ghost use Rattle.brl_search.specs.Searched.{machine_of};
 ghost use Rattle.brl_without.specs.Without.{without};
 
 use crate::dues_laws::{dues_divergence_law, dues_trace_law};
-use crate::seed_of;
+use crate::{Texts, seed_of, small_clash_of};
 use brl_divergence::{Divergences, RuleTexts, complete_list_law, list_divergences_with};
 use brl_dues::{Dues, exact_law};
-use brl_forward::{Clash, clash_of};
+use brl_forward::Clash;
 use brl_pairs::Body;
 use brl_progress::Progress;
 use brl_rules::Table;
@@ -18,7 +18,8 @@ use brl_states::DuesState;
 use brl_without::{LeftOut, Scope, Without, exact_without_law};
 use std::alloc::{AllocError, Global};
 
-/// A pair of rules, by their numbers, and a clash whose texts diverge at it.
+/// A pair of rules, by their numbers, and a clash whose texts diverge at it. No character can be left
+/// out of these so that they clash and diverge there.
 #[derive(Drop)]
 pub struct RuleClash {
     pub lesser: u32,
@@ -103,7 +104,7 @@ pub fn clashes_without(
     }
 }
 
-/// The clash of each pair of rules, from its texts.
+/// The clash of each pair of rules, made small from its texts.
 fn rule_clashes(
     alloc: Global,
     table: &Table,
@@ -121,7 +122,11 @@ fn rule_clashes(
     let mut rest = list;
     let mut clashes = Vec::new(alloc);
     while let Some((rules, texts)) = rest.pop_first() {
-        let clash = clash_of(alloc, table, texts.left, texts.right)?;
+        let given = Texts {
+            left: texts.left,
+            right: texts.right,
+        };
+        let clash = small_clash_of(alloc, table, given, Some(rules))?;
         clashes.push(RuleClash {
             lesser: rules.0,
             greater: rules.1,

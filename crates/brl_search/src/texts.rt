@@ -1,19 +1,18 @@
 //! Two texts, and whether they clash as is wanted.
 ghost use Rattle.std.specs.Prelude.{◌≡◌, ◌↔◌, ◌∷◌, ◌≤◌, ◌<◌, [], IfOk, IsTrue, length};
-ghost use Rattle.std.specs.Cmp.Lexicographic.{pointwise};
 ghost use Rattle.std.specs.List.{remove_range};
 ghost use Rattle.brl_forward.specs.Trace.{trace_of};
 ghost use Rattle.brl_pairs.specs.Divergence.{are_rules};
-ghost use Rattle.brl_rules.specs.Text.{is_text};
+ghost use Rattle.brl_rules.specs.Text.{classes_before, is_text};
 ghost use Rattle.brl_rules.specs.Translation.{IsClash, translation};
 ghost use Rattle.brl_search.specs.Small.{ClashAt};
 ghost use Rattle.brl_search.specs.Smaller.{are_same_steps, diverge_at};
-ghost use Rattle.brl_search.specs.Traces.{TracesDivergeAt};
+ghost use Rattle.brl_search.specs.Traces.{TracesDivergeAt, begins_in_caps_run, taken};
 
 use brl_cells::Cell;
 use brl_failure::Failure;
 use brl_forward::{Traced, confirm, trace, translate};
-use brl_rules::Table;
+use brl_rules::{Class, Table};
 use std::alloc::{AllocError, Global};
 use std::ops::Range;
 
@@ -117,7 +116,7 @@ fn traces_diverge(
 {
     let left = steps_of(alloc, table, texts.left.as_slice())?;
     let right = steps_of(alloc, table, texts.right.as_slice())?;
-    Ok(diverge_at(left.as_slice(), right.as_slice(), pair))
+    Ok(diverge_at(table, texts, left.as_slice(), right.as_slice(), pair))
 }
 
 /// The trace of a text whose characters the table defines.
@@ -132,17 +131,21 @@ fn steps_of(alloc: Global, table: &Table, text: &[char]) -> Result<Vec<Traced>, 
     }
 }
 
-/// Whether two traces begin with the same steps, and go on with two steps of this pair of rules.
-fn diverge_at(left: &[Traced], right: &[Traced], pair: (u32, u32)) -> bool
-    ensures { result ≡ diverge_at pair left.now right.now }
+/// Whether two traces begin with the same steps, and go on with two different ones of this pair of
+/// rules.
+fn diverge_at(
+    table: &Table,
+    texts: &Texts,
+    left: &[Traced],
+    right: &[Traced],
+    pair: (u32, u32),
+) -> bool
+    ensures { result ≡ diverge_at table.now texts.now.left.items texts.now.right.items pair left.now right.now }
 {
     let mut count = 0;
     while count < left.len() && count < right.len() {
-        if are_rules(left[count].rule, right[count].rule, pair) {
-            return true;
-        }
-        if !are_same_steps(&left[count], &right[count]) {
-            return false;
+        if !are_same_steps(table, texts, &left[count], &right[count]) {
+            return are_rules(left[count].rule, right[count].rule, pair);
         }
         count += 1;
     }
@@ -156,11 +159,47 @@ fn are_rules(one: u32, other: u32, pair: (u32, u32)) -> bool
     (pair.0 == one && pair.1 == other) || (pair.0 == other && pair.1 == one)
 }
 
-/// Whether two steps take the same rule, with as many characters and the same cells.
-fn are_same_steps(one: &Traced, other: &Traced) -> bool
-    ensures { result ≡ are_same_steps one.now other.now }
+/// Whether a step of the left text and one of the right text are the same: they take the same rule,
+/// for the same characters, with the same cells, and both begin in a run of capitals, or neither
+/// does.
+fn are_same_steps(table: &Table, texts: &Texts, one: &Traced, other: &Traced) -> bool
+    ensures { result ≡ are_same_steps table.now texts.now.left.items texts.now.right.items one.now other.now }
 {
+    let left = texts.left.as_slice();
+    let right = texts.right.as_slice();
     one.rule == other.rule
-        && one.length == other.length
         && one.cells.as_slice() == other.cells.as_slice()
+        && taken(left, one) == taken(right, other)
+        && begins_in_caps_run(table, left, one) == begins_in_caps_run(table, right, other)
+}
+
+/// The characters of a text that one of its steps takes.
+fn taken<'a>(text: &'a [char], step: &Traced) -> &'a [char]
+    ensures { result.now ≡ taken text.now step.now }
+{
+    let rest = text.get(step.start..).unwrap_or_default();
+    rest.get(..step.length).unwrap_or(rest)
+}
+
+/// Whether the characters that a step of a text takes begin in a run of capitals.
+fn begins_in_caps_run(table: &Table, text: &[char], step: &Traced) -> bool
+    ensures { result ≡ begins_in_caps_run table.now text.now step.now }
+{
+    let rest = text.get(step.start..).unwrap_or_default();
+    table.is_in_caps_run(classes_before(table, text, step.start), rest)
+}
+
+/// The classes of the character before a position of a text, and class space at its start.
+fn classes_before(table: &Table, text: &[char], position: usize) -> Class
+    ensures { result ≡ classes_before table.now text.now position }
+{
+    if position == 0 {
+        return Class::SPACE;
+    }
+    match text.get(position - 1) {
+        Some(character) => table
+            .info(*character)
+            .map_or(Class::NONE, |info| info.classes),
+        None => Class::SPACE,
+    }
 }

@@ -1,5 +1,6 @@
 pub mod Order
 pub mod SameDues
+pub mod SameContext
 pub mod DuesContext
 pub mod SameDuesState
 pub mod WindowContext

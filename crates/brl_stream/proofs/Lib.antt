@@ -5,3 +5,4 @@ pub mod OutputLemmas
 pub mod StreamLemmas
 pub mod VerdictLemmas
 pub mod BufferLemmas
+pub mod LackingLemmas

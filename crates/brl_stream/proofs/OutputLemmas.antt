@@ -13,8 +13,8 @@ use Rattle.brl_rules.specs.Translation.{translation}
 use Rattle.brl_forward.specs.Faults.{first_unknown, IsFaultOf}
 use Rattle.brl_forward.specs.declared.fault.ForwardFault.{ForwardFault}
 use Rattle.brl_forward.specs.declared.fault.ForwardFault.TheVariants as forward
-use Rattle.brl_stream.specs.Output.{LineResult, at_line, mark_of, marks_of, with_feed, unless_unknown, output_of}
-use Rattle.brl_stream.specs.Writing.{IsMade, Pushes, WritesOutput, WritesBefore, line_fault_of}
+use Rattle.brl_stream.specs.Output.{LineResult, at_line, mark_of, marks_of, with_feed, unless_unknown, output_by, output_of, passing_over}
+use Rattle.brl_stream.specs.Writing.{IsMade, IsPassedOver, Pushes, WritesOutput, WritesBefore, line_fault_of}
 use Rattle.brl_stream.specs.declared.fault.LineFault.TheVariants as faults
 use Rattle.brl_stream.specs.declared.fault.LineFault.{LineFault}
 use Rattle.brl_stream.specs.declared.fault.StreamFault.{StreamFault}
@@ -100,33 +100,106 @@ output_of-own : (t : TableView) (form : Form) (line : List ℕ) → (output_of t
 unfolding output_of
 output_of-own t form line = own (nat_lt 65536 (length line)) (is_utf8 line) (first_unknown t (chars line)) (marks_of form (translation t (chars line)))
 
--- nothing was written of a line without output
-nothing_written : (t : TableView) (form : Form) (line : List ℕ) (contents : Option (List ℕ)) (fault : LineFault) → output_of t form line ≡ Err fault → WritesBefore (output_of t form line) contents contents fault
-nothing_written t form line contents faults.InputFailed made = absurd ((output_of-own t form line).0 made)
-nothing_written t form line contents faults.OutputFailed made = absurd ((output_of-own t form line).1 made)
-nothing_written t form line contents (faults.UnknownChar position) made = (made, Appends-nil contents)
-nothing_written t form line contents faults.NoAscii made = (made, Appends-nil contents)
-nothing_written t form line contents faults.InputNotUtf8 made = (made, Appends-nil contents)
-nothing_written t form line contents faults.InputLineTooLong made = (made, Appends-nil contents)
-nothing_written t form line contents faults.InputTooLong made = (made, Appends-nil contents)
+module _ (t : TableView) (form : Form) (line buffer : List ℕ) (number : ℕ) where
+  -- a fault that isn't passed over is that of the line
+  told_is : (passes : Bool) (fault : LineFault) (found : StreamFault) → IsPassedOver passes number (failures.Fault fault) (Err (failures.Fault found)) → output_of t form line ≡ Err fault
+      → (found ≡ at_line number fault) × (output_by passes t form line ≡ Err fault)
+  told_is true (faults.UnknownChar position) found h made = absurd h
+  told_is true faults.NoAscii found h made = (h, ap passing_over made)
+  told_is true faults.InputNotUtf8 found h made = (h, ap passing_over made)
+  told_is true faults.InputFailed found h made = (h, ap passing_over made)
+  told_is true faults.OutputFailed found h made = (h, ap passing_over made)
+  told_is true faults.InputLineTooLong found h made = (h, ap passing_over made)
+  told_is true faults.InputTooLong found h made = (h, ap passing_over made)
+  told_is false (faults.UnknownChar position) found h made = (h, made)
+  told_is false faults.NoAscii found h made = (h, made)
+  told_is false faults.InputNotUtf8 found h made = (h, made)
+  told_is false faults.InputFailed found h made = (h, made)
+  told_is false faults.OutputFailed found h made = (h, made)
+  told_is false faults.InputLineTooLong found h made = (h, made)
+  told_is false faults.InputTooLong found h made = (h, made)
 
-pub stopped : (t : TableView) (form : Form) (line buffer : List ℕ) (number : ℕ) (contents : Option (List ℕ)) (failure : Failure LineFault) (told : Failure StreamFault)
-    → IsMade (output_of t form line) buffer (Err failure) → IsChanged (λ fault other. other ≡ at_line number fault) failure told → WritesOutput (output_of t form line) number contents contents (Err told)
-stopped t form line buffer number contents failures.Memory failures.Memory made same = Appends-nil contents
-stopped t form line buffer number contents failures.Memory (failures.Fault other) made same = absurd same
-stopped t form line buffer number contents (failures.Fault fault) failures.Memory made same = absurd same
-stopped t form line buffer number contents (failures.Fault fault) (failures.Fault other) made same =
-    subst (λ (f : StreamFault). WritesOutput (output_of t form line) number contents contents (Err (failures.Fault f))) (sym same) (refl, nothing_written t form line contents fault made)
+  -- a line that is passed over has an unknown character
+  passed_is : (passes : Bool) (fault : LineFault) (done : Unit {0}) → IsPassedOver passes number (failures.Fault fault) (Ok done) → output_of t form line ≡ Err fault
+      → (output_by passes t form line ≡ Ok []) × ((position : ℕ) × (fault ≡ faults.UnknownChar position))
+  passed_is true (faults.UnknownChar position) done h made = (ap passing_over made, (position, refl))
+  passed_is false (faults.UnknownChar position) done h made = cc
+  passed_is passes faults.NoAscii done h made = absurd h
+  passed_is passes faults.InputNotUtf8 done h made = absurd h
+  passed_is passes faults.InputFailed done h made = absurd h
+  passed_is passes faults.OutputFailed done h made = absurd h
+  passed_is passes faults.InputLineTooLong done h made = absurd h
+  passed_is passes faults.InputTooLong done h made = absurd h
 
--- a line without output is no failed write
-pub not_written : (t : TableView) (form : Form) (line buffer : List ℕ) (number : ℕ) (failure : Failure LineFault) (told : Failure StreamFault)
-    → IsMade (output_of t form line) buffer (Err failure) → IsChanged (λ fault other. other ≡ at_line number fault) failure told → told ≡ failures.Fault (at_line number faults.OutputFailed) → ⊥
-not_written t form line buffer number failures.Memory failures.Memory made same h = cc
-not_written t form line buffer number failures.Memory (failures.Fault other) made same h = absurd same
-not_written t form line buffer number (failures.Fault fault) failures.Memory made same h = absurd same
-not_written t form line buffer number (failures.Fault fault) (failures.Fault other) made same h =
-    let one : other ≡ at_line number faults.OutputFailed = cc in
-    (output_of-own t form line).1 (made ∙ ap Err (ap (λ f. f.fault) (sym same ∙ one)))
+  -- a line without output was passed over, or its fault is told; nothing was written
+  pub passed_over : (passes : Bool) (contents : Option (List ℕ)) (failure : Failure LineFault) (r : Result (Unit {0}) (Failure StreamFault)) → IsMade (output_of t form line) buffer (Err failure)
+      → IsPassedOver passes number failure r → WritesOutput (output_by passes t form line) number contents contents r
+  passed_over passes contents failure (Err failures.Memory) made h = Appends-nil contents
+  passed_over passes contents failures.Memory (Ok done) made h = absurd h
+  passed_over passes contents failures.Memory (Err (failures.Fault found)) made h = absurd h
+  passed_over passes contents (failures.Fault fault) (Ok done) made h = let passed = passed_is passes fault done h made in ([], passed.0, Appends-nil contents)
+  passed_over passes contents (failures.Fault fault) (Err (failures.Fault found)) made h =
+      let told = told_is passes fault found h made in
+      subst (λ (f : StreamFault). WritesOutput (output_by passes t form line) number contents contents (Err (failures.Fault f))) (sym told.0) (refl, nothing_written fault told.1 made)
+    where
+      nothing_written : (fault : LineFault) → output_by passes t form line ≡ Err fault → output_of t form line ≡ Err fault → WritesBefore (output_by passes t form line) contents contents fault
+      nothing_written faults.InputFailed same made = absurd ((output_of-own t form line).0 made)
+      nothing_written faults.OutputFailed same made = absurd ((output_of-own t form line).1 made)
+      nothing_written (faults.UnknownChar position) same made = (same, Appends-nil contents)
+      nothing_written faults.NoAscii same made = (same, Appends-nil contents)
+      nothing_written faults.InputNotUtf8 same made = (same, Appends-nil contents)
+      nothing_written faults.InputLineTooLong same made = (same, Appends-nil contents)
+      nothing_written faults.InputTooLong same made = (same, Appends-nil contents)
+
+  -- a line without output is no failed write
+  pub not_written : (passes : Bool) (failure : Failure LineFault) (r : Result (Unit {0}) (Failure StreamFault)) → IsMade (output_of t form line) buffer (Err failure) → IsPassedOver passes number failure r
+      → r ≡ Err (failures.Fault (at_line number faults.OutputFailed)) → ⊥
+  not_written passes failure (Ok done) made h same = cc
+  not_written passes failure (Err failures.Memory) made h same = cc
+  not_written passes failures.Memory (Err (failures.Fault found)) made h same = absurd h
+  not_written passes (failures.Fault fault) (Err (failures.Fault found)) made h same =
+      let told = told_is passes fault found h made in
+      let one : found ≡ at_line number faults.OutputFailed = cc in
+      (output_of-own t form line).1 (made ∙ ap Err (ap (λ f. f.fault) (sym told.0 ∙ one)))
+
+  -- a line that was passed over has an unknown character
+  pub unknown_is : (passes : Bool) (failure : Failure LineFault) (done : Unit {0}) → IsMade (output_of t form line) buffer (Err failure) → IsPassedOver passes number failure (Ok done)
+      → (position : ℕ) × (failure ≡ failures.Fault (faults.UnknownChar position))
+  unknown_is passes failures.Memory done made h = absurd h
+  unknown_is passes (failures.Fault fault) done made h = let passed = (passed_is passes fault done h made).1 in (passed.0, ap failures.Fault passed.1)
+
+-- the output of a line that has one is the same where lines are passed over
+pub output_by-made : (passes : Bool) (t : TableView) (form : Form) (line bytes : List ℕ) → output_of t form line ≡ Ok bytes → output_by passes t form line ≡ Ok bytes
+output_by-made true t form line bytes made = ap passing_over made
+output_by-made false t form line bytes made = made
+
+pub output_by-long : (passes : Bool) (t : TableView) (form : Form) → RefusesLong (output_by passes t form)
+output_by-long true t form line h = ap passing_over (output_of-long t form line h)
+output_by-long false t form line h = output_of-long t form line h
+
+-- the characters of a line that has an output are defined
+pub made_text : (t : TableView) (form : Form) (line bytes : List ℕ) → output_of t form line ≡ Ok bytes → is_text t (chars line) ≡ true
+unfolding output_of
+made_text t form line bytes made = by_tests (nat_lt 65536 (length line)) (is_utf8 line) (first_unknown t (chars line)) refl made
+  where
+    all_known : (xs : List ℕ) (n : ℕ) → position_from (λ c. not (is_defined t c)) n xs ≡ None → is_text t xs ≡ true
+    all_known [] n h = refl
+    all_known (x ∷ xs) n h = first (is_defined t x) h (all_known xs (n + 1))
+      where
+        first : (b : Bool) → cond (not b) (Some n) (position_from (λ c. not (is_defined t c)) (n + 1) xs) ≡ None
+            → (position_from (λ c. not (is_defined t c)) (n + 1) xs ≡ None → is_text t xs ≡ true) → b && is_text t xs ≡ true
+        first true e more = more e
+        first false e more = absurd (some_is e)
+          where
+            some_is : Some n ≡ None → ⊥
+            some_is e = cc
+
+    by_tests : (long text : Bool) (unknown : Option ℕ) → first_unknown t (chars line) ≡ unknown
+        → cond long (Err faults.InputLineTooLong) (cond text (unless_unknown unknown (with_feed (marks_of form (translation t (chars line))))) (Err faults.InputNotUtf8)) ≡ Ok bytes → is_text t (chars line) ≡ true
+    by_tests true text unknown e h = cc
+    by_tests false false unknown e h = cc
+    by_tests false true (Some position) e h = cc
+    by_tests false true None e h = all_known (chars line) 0 (sym (position_from-zero (λ c. not (is_defined t c)) (chars line)) ∙ e)
 
 -- a fact of the value of a success
 pub value_has : {T E : Type 0} (P : T → Type 0) (step : Result T E) (x : T) → step ≡ Ok x → IfOk step P → P x

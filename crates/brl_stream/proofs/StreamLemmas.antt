@@ -7,8 +7,8 @@ use Rattle.std.specs.Prelude.{map, IsErrAnd}
 use Rattle.std.specs.List.{concat}
 use Rattle.std.specs.Io.KnownBytes.{Appends, Consumes, IsAtEnd}
 use Rattle.brl_rules.specs.TableView.{TableView}
-use Rattle.brl_stream.specs.InputLines.{without_return}
-use Rattle.brl_stream.specs.Output.{LineResult, at_line, decided, verdict_within, verdict, output_of, HasWritten, HasWrittenBefore, ReadsFew, DecidesBefore}
+use Rattle.brl_stream.specs.InputLines.{lines_of, without_return}
+use Rattle.brl_stream.specs.Output.{LineResult, at_line, decided, verdict_within, verdict, verdict_of_defined, outcome_of, output_by, output_of, HasWritten, HasWrittenBefore, ReadsFew, DecidesBefore}
 use Rattle.brl_stream.specs.InputBuffer.{BufferView, IsRest, IsReadOn, IsWithin, HasNoFeed, HasLine, HasLongLine, IsOpen, IsTail, ReadsNext}
 use Rattle.brl_stream.specs.Writing.{WritesOutput, WritesBefore}
 use Rattle.brl_stream.specs.declared.fault.LineFault.{LineFault}
@@ -18,21 +18,22 @@ use Rattle.brl_failure.specs.declared.failure.Failure.{Failure}
 use Rattle.brl_failure.specs.declared.failure.Failure.TheVariants as failures
 use Rattle.brl_cells.specs.declared.form.Form.{Form}
 use Rattle.brl_stream.proofs.KnownBytes.{Appends-trans, Appends-nil}
-use Rattle.brl_stream.proofs.OutputLemmas.{output_of-long}
+use Rattle.brl_stream.proofs.LineLemmas.{lines_of-line, lines_of-plain}
 use Rattle.brl_stream.proofs.VerdictLemmas.{RefusesLong, decided-line, decided-short, verdict-line, verdict-last, verdict-nil, verdict-too_long, verdict-long}
 
--- whole lines with these outputs
-pub record IsGone (output : List ℕ → LineResult) (gone : List ℕ) (outputs : List (List ℕ)) : Type 0 where
+-- these whole lines, with these outputs
+pub record IsGone (output : List ℕ → LineResult) (gone : List ℕ) (outputs lines : List (List ℕ)) : Type 0 where
   pub verdict : (most : ℕ) (more : List ℕ) → length gone ≤ most → verdict_within output most (gone ++ more) ≡ map Ok outputs ++ verdict_within output (most - length gone) more
   pub decided : (more : List ℕ) → decided output (gone ++ more) ≡ map Ok outputs ++ decided output more
+  pub taken : (more : List ℕ) → lines_of (gone ++ more) ≡ lines ++ lines_of more
 
-pub gone_none : (output : List ℕ → LineResult) → IsGone output [] []
-gone_none output = record { verdict = λ most more h. ap (λ n. verdict_within output n more) (omega arith); decided = λ more. refl }
+pub gone_none : (output : List ℕ → LineResult) → IsGone output [] [] []
+gone_none output = record { verdict = λ most more h. ap (λ n. verdict_within output n more) (omega arith); decided = λ more. refl; taken = λ more. refl }
 
 -- one more line was taken
-pub gone_more : (output : List ℕ → LineResult) (gone row : List ℕ) (outputs : List (List ℕ)) (bytes : List ℕ) → IsGone output gone outputs → HasNoFeed row → output (without_return row) ≡ Ok bytes
-    → IsGone output (gone ++ (row ++ 10 ∷ [])) (outputs ++ bytes ∷ [])
-gone_more output gone row outputs bytes is plain made =
+pub gone_more : (output : List ℕ → LineResult) (gone row : List ℕ) (outputs lines : List (List ℕ)) (bytes : List ℕ) → IsGone output gone outputs lines → HasNoFeed row → output (without_return row) ≡ Ok bytes
+    → IsGone output (gone ++ (row ++ 10 ∷ [])) (outputs ++ bytes ∷ []) (lines ++ without_return row ∷ [])
+gone_more output gone row outputs lines bytes is plain made =
     record {
       verdict = λ most more h.
           let room : length gone ≤ most = omega (arith, h, whole) in
@@ -45,6 +46,9 @@ gone_more output gone row outputs bytes is plain made =
       decided = λ more.
           ap (decided output) (again more) ∙ is.decided (row ++ 10 ∷ more) ∙ ap (λ ls. map Ok outputs ++ ls) (decided-line output row more plain)
           ∙ one (decided output more);
+      taken = λ more.
+          ap lines_of (again more) ∙ is.taken (row ++ 10 ∷ more) ∙ ap (λ ls. lines ++ ls) (lines_of-line row more plain)
+          ∙ sym (append_assoc lines (without_return row ∷ []) (lines_of more));
     }
   where
     whole : length (gone ++ (row ++ 10 ∷ [])) ≡ length gone + length (row ++ 10 ∷ [])
@@ -69,27 +73,27 @@ has_whole bytes len whole line =
     omega (arith, line.5, all, count)
 
 -- the lines before the buffer were taken, and the rest follows the buffer
-pub record IsAt (output : List ℕ → LineResult) (input : List ℕ) (w : BufferView) (rest : List ℕ) (outputs : List (List ℕ)) : Type 0 where
+pub record IsAt (output : List ℕ → LineResult) (input : List ℕ) (w : BufferView) (rest : List ℕ) (outputs lines : List (List ℕ)) : Type 0 where
   pub gone : List ℕ
   pub whole : input ≡ gone ++ (w.bytes ++ rest)
   pub counted : length gone + length w.bytes ≡ w.taken
-  pub is_gone : IsGone output gone outputs
+  pub is_gone : IsGone output gone outputs lines
 
-pub at_start : (output : List ℕ → LineResult) (input : List ℕ) (w : BufferView) → w.bytes ≡ [] → w.taken ≡ 0 → IsAt output input w input []
+pub at_start : (output : List ℕ → LineResult) (input : List ℕ) (w : BufferView) → w.bytes ≡ [] → w.taken ≡ 0 → IsAt output input w input [] []
 at_start output input w none zero_taken =
     record { gone = []; whole = sym (ap (λ l. l ++ input) none); counted = let none_there = ap length none in omega (arith, none_there, zero_taken); is_gone = gone_none output }
 
 -- more was read
-pub at_read : (output : List ℕ → LineResult) (input rest : List ℕ) (outputs : List (List ℕ)) (old new : BufferView) (before after : Option (List ℕ)) → IsAt output input old rest outputs
-    → IsReadOn old new before after → IsRest old.longer before rest → (later : List ℕ) × IsRest new.longer after later × IsAt output input new later outputs
-at_read output input rest outputs old new before after is read follows =
+pub at_read : (output : List ℕ → LineResult) (input rest : List ℕ) (outputs lines : List (List ℕ)) (old new : BufferView) (before after : Option (List ℕ)) → IsAt output input old rest outputs lines
+    → IsReadOn old new before after → IsRest old.longer before rest → (later : List ℕ) × IsRest new.longer after later × IsAt output input new later outputs lines
+at_read output input rest outputs lines old new before after is read follows =
     let same = read.same rest follows in (
       same.0,
       same.1,
       record { gone = is.gone; whole = is.whole ∙ ap (λ l. is.gone ++ l) same.2; counted = omega (arith, is.counted, read.counted); is_gone = is.is_gone },
     )
 
-module _ (output : List ℕ → LineResult) (law : RefusesLong output) (input rest : List ℕ) (outputs : List (List ℕ)) (w : BufferView) (is : IsAt output input w rest outputs) (within : IsWithin w) where
+module _ (output : List ℕ → LineResult) (law : RefusesLong output) (input rest : List ℕ) (outputs lines : List (List ℕ)) (w : BufferView) (is : IsAt output input w rest outputs lines) (within : IsWithin w) where
   -- the lines of the input are those that were taken, and those of the buffer and the rest
   pub lines_at : verdict_within output 16777216 input ≡ map Ok outputs ++ verdict_within output (16777216 - length is.gone) (w.bytes ++ rest)
   lines_at = ap (verdict_within output 16777216) is.whole ∙ is.is_gone.verdict 16777216 (w.bytes ++ rest) (omega (arith, is.counted, within.limit))
@@ -113,7 +117,7 @@ module _ (output : List ℕ → LineResult) (law : RefusesLong output) (input re
               ∙ verdict-line output (16777216 - length is.gone) line.0 (line.1 ++ rest) line.3 row_room ∙ ap (λ l. output l ∷ others) (sym line.4)),
         )
 
-    pub next_at : (bytes : List ℕ) → output (take len w.bytes) ≡ Ok bytes → IsAt output input (record w { bytes = drop whole w.bytes }) rest (outputs ++ bytes ∷ [])
+    pub next_at : (bytes : List ℕ) → output (take len w.bytes) ≡ Ok bytes → IsAt output input (record w { bytes = drop whole w.bytes }) rest (outputs ++ bytes ∷ []) (lines ++ take len w.bytes ∷ [])
     next_at bytes made =
         let split : line.0 ++ 10 ∷ line.1 ≡ (line.0 ++ 10 ∷ []) ++ line.1 = sym (append_assoc line.0 (10 ∷ []) line.1) in
         let count : length (line.0 ++ 10 ∷ []) ≡ length line.0 + 1 = length-append line.0 (10 ∷ []) in
@@ -129,7 +133,7 @@ module _ (output : List ℕ → LineResult) (law : RefusesLong output) (input re
               ∙ sym (append_assoc is.gone (line.0 ++ 10 ∷ []) (line.1 ++ rest))
               ∙ ap (λ l. (is.gone ++ (line.0 ++ 10 ∷ [])) ++ (l ++ rest)) (sym left);
           counted = omega (arith, gone_count, count, ap length left, all, all_count, is.counted);
-          is_gone = gone_more output is.gone line.0 outputs bytes is.is_gone line.3 (ap output (sym line.4) ∙ made);
+          is_gone = subst (λ (row : List ℕ). IsGone output (is.gone ++ (line.0 ++ 10 ∷ [])) (outputs ++ bytes ∷ []) (lines ++ row ∷ [])) (sym line.4) (gone_more output is.gone line.0 outputs lines bytes is.is_gone line.3 (ap output (sym line.4) ∙ made));
         }
 
   -- ---- the end of the input
@@ -167,6 +171,24 @@ module _ (output : List ℕ → LineResult) (law : RefusesLong output) (input re
       by_bytes [] plain h room = absurd (omega arith)
       by_bytes (b ∷ bs) plain h room = verdict-last output (16777216 - length is.gone) b bs plain room
 
+  -- the lines of the input, where it ends before a line or with one
+  pub lines_end_at : (after : Option (List ℕ)) → IsTail w.bytes w.longer after → length w.bytes ≡ 0 → IsRest w.longer after rest → lines_of input ≡ lines
+  lines_end_at after tail none follows =
+      ap lines_of is.whole ∙ is.is_gone.taken (w.bytes ++ rest) ∙ ap (λ bs. lines ++ lines_of bs) (empty w.bytes none ∙ no_rest after tail follows) ∙ append-nil lines
+    where
+      empty : (bs : List ℕ) → length bs ≡ 0 → bs ++ rest ≡ rest
+      empty [] h = refl
+      empty (b ∷ bs) h = absurd (omega (arith, h))
+
+  pub lines_last_at : (after : Option (List ℕ)) → IsTail w.bytes w.longer after → 0 < length w.bytes → IsRest w.longer after rest → lines_of input ≡ lines ++ w.bytes ∷ []
+  lines_last_at after tail some follows =
+      ap lines_of is.whole ∙ is.is_gone.taken (w.bytes ++ rest) ∙ ap (λ bs. lines ++ lines_of bs) (ap (λ l. w.bytes ++ l) (no_rest after tail follows) ∙ append-nil w.bytes)
+      ∙ ap (λ ls. lines ++ ls) (by_bytes w.bytes tail.0 some)
+    where
+      by_bytes : (bs : List ℕ) → HasNoFeed bs → 0 < length bs → lines_of bs ≡ bs ∷ []
+      by_bytes [] plain h = absurd (omega arith)
+      by_bytes (b ∷ bs) plain h = lines_of-plain b bs plain
+
   -- ---- lines without an end
 
   pub long_at : HasLongLine w.bytes → (others : List LineResult) × (verdict_within output 16777216 input ≡ map Ok outputs ++ Err faults.InputLineTooLong ∷ others)
@@ -192,13 +214,13 @@ module _ (output : List ℕ → LineResult) (law : RefusesLong output) (input re
 
 -- ---- what was read
 
-reads_by : (output : List ℕ → LineResult) (input rest : List ℕ) (outputs : List (List ℕ)) (w : BufferView) (after : Option (List ℕ)) → IsAt output input w rest outputs → IsWithin w
+reads_by : (output : List ℕ → LineResult) (input rest : List ℕ) (outputs lines : List (List ℕ)) (w : BufferView) (after : Option (List ℕ)) → IsAt output input w rest outputs lines → IsWithin w
     → (longer : Bool) → IsRest longer after rest → ReadsFew (Some input) after
-reads_by output input rest outputs w after is within false follows =
+reads_by output input rest outputs lines w after is within false follows =
     let whole = is.whole ∙ sym (append_assoc is.gone w.bytes rest) in
     let count = length-append is.gone w.bytes in
     (is.gone ++ w.bytes, subst (λ (o : Option (List ℕ)). Consumes (Some input) o (is.gone ++ w.bytes)) (sym follows) whole, omega (arith, count, is.counted, within.limit))
-reads_by output input rest outputs w after is within true follows =
+reads_by output input rest outputs lines w after is within true follows =
     let b = follows.0 in
     let left = follows.1 in
     let got = (is.gone ++ w.bytes) ++ b ∷ [] in
@@ -208,18 +230,18 @@ reads_by output input rest outputs w after is within true follows =
     let more = length-append (is.gone ++ w.bytes) (b ∷ []) in
     (got, subst (λ (o : Option (List ℕ)). Consumes (Some input) o got) (sym follows.2) whole, omega (arith, count, more, is.counted, within.limit))
 
--- the progress of a stream, once its input is known
-abbrev pub HasProgressed : (List ℕ → LineResult) → Option (List ℕ) → Option (List ℕ) → BufferView → Option (List ℕ) → Option (List ℕ) → ℕ → Type 0
-HasProgressed output before after w old new number = (input : List ℕ) → before ≡ Some input
-    → (rest : List ℕ) × (outputs : List (List ℕ)) × IsRest w.longer after rest × IsAt output input w rest outputs × Appends old new (concat outputs) × (number ≡ length outputs + 1)
+-- the progress of a stream, once its input is known: these lines were taken
+abbrev pub HasProgressed : (List ℕ → LineResult) → List (List ℕ) → Option (List ℕ) → Option (List ℕ) → BufferView → Option (List ℕ) → Option (List ℕ) → ℕ → Type 0
+HasProgressed output lines before after w old new number = (input : List ℕ) → before ≡ Some input
+    → (rest : List ℕ) × (outputs : List (List ℕ)) × IsRest w.longer after rest × IsAt output input w rest outputs lines × Appends old new (concat outputs) × (number ≡ length outputs + 1)
 
-pub reads_few : (output : List ℕ → LineResult) (before after old new : Option (List ℕ)) (w : BufferView) (number : ℕ) → HasProgressed output before after w old new number → IsWithin w → ReadsFew before after
-reads_few output None after old new w number progress within = ([], tt, omega arith)
-reads_few output (Some input) after old new w number progress within = let s = progress input refl in reads_by output input s.0 s.1 w after s.3 within w.longer s.2
+pub reads_few : (output : List ℕ → LineResult) (lines : List (List ℕ)) (before after old new : Option (List ℕ)) (w : BufferView) (number : ℕ) → HasProgressed output lines before after w old new number → IsWithin w → ReadsFew before after
+reads_few output lines None after old new w number progress within = ([], tt, omega arith)
+reads_few output lines (Some input) after old new w number progress within = let s = progress input refl in reads_by output input s.0 s.1 lines w after s.3 within w.longer s.2
 
-pub decides_before : (output : List ℕ → LineResult) (before after old new : Option (List ℕ)) (w : BufferView) (number : ℕ) → HasProgressed output before after w old new number → IsWithin w → IsOpen w.bytes → w.longer ≡ false
+pub decides_before : (output : List ℕ → LineResult) (taken : List (List ℕ)) (before after old new : Option (List ℕ)) (w : BufferView) (number : ℕ) → HasProgressed output taken before after w old new number → IsWithin w → IsOpen w.bytes → w.longer ≡ false
     → (input : List ℕ) → before ≡ Some input → DecidesBefore number output before after
-decides_before output before after old new w number progress within line longer input known =
+decides_before output taken before after old new w number progress within line longer input known =
     let s = progress input known in
     let is = s.3 in
     let follows : after ≡ Some s.0 = subst (λ (b : Bool). IsRest b after s.0) longer s.2 in
@@ -238,6 +260,10 @@ decides_before output before after old new w number progress within line longer 
 pub verdict-is : (t : TableView) (form : Form) (input : List ℕ) → verdict t form input ≡ verdict_within (output_of t form) 16777216 input
 unfolding verdict
 verdict-is t form input = refl
+
+pub verdict_of_defined-is : (t : TableView) (form : Form) (input : List ℕ) → verdict_of_defined t form input ≡ verdict_within (output_by true t form) 16777216 input
+unfolding verdict_of_defined
+verdict_of_defined-is t form input = refl
 
 module _ (lines : List LineResult) (outputs : List (List ℕ)) (number : ℕ) (a b c : Option (List ℕ)) (so_far : Appends a b (concat outputs)) (count : number ≡ length outputs + 1) where
   same_out : Appends b c [] → Appends a c (concat outputs)
@@ -274,29 +300,29 @@ module _ (lines : List LineResult) (outputs : List (List ℕ)) (number : ℕ) (a
       (outputs ++ t.0 ∷ [], progress ∙ ap (λ r. map Ok outputs ++ r ∷ []) t.1 ∙ sym (map-append Ok outputs (t.0 ∷ [])), more_out t.0 t.2)
 
 -- a line that could not be read
-pub next_written : (t : TableView) (form : Form) (law : RefusesLong (output_of t form)) (before after old new : Option (List ℕ)) (w : BufferView) (number : ℕ) → HasProgressed (output_of t form) before after w old new number → IsWithin w
-    → (fault : LineFault) → ReadsNext w.bytes w.longer after (Err fault) → (input : List ℕ) → before ≡ Some input → HasWritten (verdict t form input) old new (Err (failures.Fault (at_line number fault)))
-next_written t form law before after old new w number progress within fault tells input known =
-    subst (λ (ls : List LineResult). HasWritten ls old new (Err (failures.Fault (at_line number fault)))) (sym (verdict-is t form input)) (by_fault fault tells)
+pub next_written : (output : List ℕ → LineResult) (law : RefusesLong output) (lines : List (List ℕ)) (before after old new : Option (List ℕ)) (w : BufferView) (number : ℕ)
+    → HasProgressed output lines before after w old new number → IsWithin w → (fault : LineFault) → ReadsNext w.bytes w.longer after (Err fault) → (input : List ℕ) → before ≡ Some input
+    → HasWritten (verdict_within output 16777216 input) old new (Err (failures.Fault (at_line number fault)))
+next_written output law taken before after old new w number progress within fault tells input known = by_fault fault tells
   where
-    s : (rest : List ℕ) × (outputs : List (List ℕ)) × IsRest w.longer after rest × IsAt (output_of t form) input w rest outputs × Appends old new (concat outputs) × (number ≡ length outputs + 1)
+    s : (rest : List ℕ) × (outputs : List (List ℕ)) × IsRest w.longer after rest × IsAt output input w rest outputs taken × Appends old new (concat outputs) × (number ≡ length outputs + 1)
     s = progress input known
 
-    by_fault : (fault : LineFault) → ReadsNext w.bytes w.longer after (Err fault) → HasWritten (verdict_within (output_of t form) 16777216 input) old new (Err (failures.Fault (at_line number fault)))
+    by_fault : (fault : LineFault) → ReadsNext w.bytes w.longer after (Err fault) → HasWritten (verdict_within output 16777216 input) old new (Err (failures.Fault (at_line number fault)))
     by_fault (faults.UnknownChar position) n = absurd n
     by_fault faults.NoAscii n = absurd n
     by_fault faults.InputNotUtf8 n = absurd n
     by_fault faults.OutputFailed n = absurd n
     by_fault faults.InputFailed n =
-        (s.1, verdict_within (output_of t form) (16777216 - length s.3.gone) (w.bytes ++ s.0), lines_at (output_of t form) law input s.0 s.1 w s.3 within, s.5, s.4)
+        (s.1, verdict_within output (16777216 - length s.3.gone) (w.bytes ++ s.0), lines_at output law input s.0 s.1 taken w s.3 within, s.5, s.4)
     by_fault faults.InputTooLong n =
-        let lines = too_long_at (output_of t form) law input s.0 s.1 w s.3 within after n.0 n.1 s.2 in
+        let lines = too_long_at output law input s.0 s.1 taken w s.3 within after n.0 n.1 s.2 in
         (s.1, lines.0, lines.1, s.5, s.4)
     by_fault faults.InputLineTooLong (inl n) =
-        let lines = long_at (output_of t form) law input s.0 s.1 w s.3 within n in
+        let lines = long_at output law input s.0 s.1 taken w s.3 within n in
         (s.1, lines.0, lines.1, s.5, s.4)
     by_fault faults.InputLineTooLong (inr n) =
-        let lines = long_last_at (output_of t form) law input s.0 s.1 w s.3 within after n.0 n.1 s.2 in
+        let lines = long_last_at output law input s.0 s.1 taken w s.3 within after n.0 n.1 s.2 in
         (s.1, lines.0, lines.1, s.5, s.4)
 
 -- a fault names one line, and has one kind
@@ -311,51 +337,74 @@ err_is (Err e) fault h = ap Err h
 
 -- ---- from line to line
 
-pub progress_start : (output : List ℕ → LineResult) (before new : Option (List ℕ)) (w : BufferView) → w.bytes ≡ [] → w.taken ≡ 0 → w.longer ≡ false → HasProgressed output before before w new new 1
+pub progress_start : (output : List ℕ → LineResult) (before new : Option (List ℕ)) (w : BufferView) → w.bytes ≡ [] → w.taken ≡ 0 → w.longer ≡ false → HasProgressed output [] before before w new new 1
 progress_start output before new w none zero_taken longer = λ input known.
     (input, [], subst (λ (b : Bool). IsRest b before input) (sym longer) known, at_start output input w none zero_taken, Appends-nil new, omega arith)
 
-pub progress_read : (output : List ℕ → LineResult) (before after later old new : Option (List ℕ)) (w next : BufferView) (number : ℕ) → HasProgressed output before after w old new number → IsReadOn w next after later
-    → HasProgressed output before later next old new number
-progress_read output before after later old new w next number progress read = λ input known.
+pub progress_read : (output : List ℕ → LineResult) (lines : List (List ℕ)) (before after later old new : Option (List ℕ)) (w next : BufferView) (number : ℕ) → HasProgressed output lines before after w old new number → IsReadOn w next after later
+    → HasProgressed output lines before later next old new number
+progress_read output lines before after later old new w next number progress read = λ input known.
     let s = progress input known in
-    let at = at_read output input s.0 s.1 w next after later s.3 read s.2 in
+    let at = at_read output input s.0 s.1 lines w next after later s.3 read s.2 in
     (at.0, s.1, at.1, at.2, s.4, s.5)
 
-module _ (t : TableView) (form : Form) (before after old new written : Option (List ℕ)) (w : BufferView) (number : ℕ) (progress : HasProgressed (output_of t form) before after w old new number) (within : IsWithin w) where
+module _ (output : List ℕ → LineResult) (law : RefusesLong output) (taken : List (List ℕ)) (before after old new written : Option (List ℕ)) (w : BufferView) (number : ℕ)
+    (progress : HasProgressed output taken before after w old new number) (within : IsWithin w) where
   -- one more line was written
-  pub progress_next : (len whole : ℕ) → HasLine w.bytes len whole → WritesOutput (output_of t form (take len w.bytes)) number new written (Ok tt)
-      → HasProgressed (output_of t form) before after (record w { bytes = drop whole w.bytes }) old written (number + 1)
+  pub progress_next : (len whole : ℕ) → HasLine w.bytes len whole → WritesOutput (output (take len w.bytes)) number new written (Ok tt)
+      → HasProgressed output (taken ++ take len w.bytes ∷ []) before after (record w { bytes = drop whole w.bytes }) old written (number + 1)
   progress_next len whole line wrote = λ input known.
       let s = progress input known in
       let count = length-append s.1 (wrote.0 ∷ []) in (
         s.0,
         s.1 ++ wrote.0 ∷ [],
         s.2,
-        next_at (output_of t form) (output_of-long t form) input s.0 s.1 w s.3 within len whole line wrote.0 wrote.1,
+        next_at output law input s.0 s.1 taken w s.3 within len whole line wrote.0 wrote.1,
         more_out [] s.1 number old new written s.4 s.5 wrote.0 wrote.2,
         omega (arith, s.5, count),
       )
 
   -- a line was read, and not all of it was written
-  pub line_written : (len whole : ℕ) → HasLine w.bytes len whole → (fault : Failure StreamFault) → WritesOutput (output_of t form (take len w.bytes)) number new written (Err fault)
-      → (input : List ℕ) → before ≡ Some input → HasWritten (verdict t form input) old written (Err fault)
+  pub line_written : (len whole : ℕ) → HasLine w.bytes len whole → (fault : Failure StreamFault) → WritesOutput (output (take len w.bytes)) number new written (Err fault)
+      → (input : List ℕ) → before ≡ Some input → HasWritten (verdict_within output 16777216 input) old written (Err fault)
   line_written len whole line fault wrote = λ input known.
       let s = progress input known in
-      let lines = line_at (output_of t form) (output_of-long t form) input s.0 s.1 w s.3 within len whole line in
-      err_written (verdict t form input) s.1 number old new written s.4 s.5 (output_of t form (take len w.bytes)) lines.0 (verdict-is t form input ∙ lines.1) fault wrote
+      let lines = line_at output law input s.0 s.1 taken w s.3 within len whole line in
+      err_written (verdict_within output 16777216 input) s.1 number old new written s.4 s.5 (output (take len w.bytes)) lines.0 lines.1 fault wrote
 
-  pub tail_written : (len : ℕ) → IsTail w.bytes w.longer after → len ≡ length w.bytes → 0 < len → (r : Result (Unit {0}) (Failure StreamFault)) → WritesOutput (output_of t form (take len w.bytes)) number new written r
-      → (input : List ℕ) → before ≡ Some input → HasWritten (verdict t form input) old written r
-  tail_written len tail is some r wrote = λ input known.
-      let s = progress input known in
-      let all : take len w.bytes ≡ w.bytes = ap (λ n. take n w.bytes) is ∙ take-length w.bytes in
-      let lines = last_at (output_of t form) (output_of-long t form) input s.0 s.1 w s.3 within after tail (omega (arith, is, some)) s.2 in
-      last_written (verdict t form input) s.1 number old new written s.4 s.5 (output_of t form (take len w.bytes)) (verdict-is t form input ∙ lines ∙ ap (λ l. map Ok s.1 ++ output_of t form l ∷ []) (sym all)) r wrote
+  -- the last line, without its end
+  module _ (len : ℕ) (tail : IsTail w.bytes w.longer after) (is : len ≡ length w.bytes) (some : 0 < len) where
+    all : take len w.bytes ≡ w.bytes
+    all = ap (λ n. take n w.bytes) is ∙ take-length w.bytes
+
+    pub tail_written : (r : Result (Unit {0}) (Failure StreamFault)) → WritesOutput (output (take len w.bytes)) number new written r
+        → (input : List ℕ) → before ≡ Some input → HasWritten (verdict_within output 16777216 input) old written r
+    tail_written r wrote = λ input known.
+        let s = progress input known in
+        let lines = last_at output law input s.0 s.1 taken w s.3 within after tail (omega (arith, is, some)) s.2 in
+        last_written (verdict_within output 16777216 input) s.1 number old new written s.4 s.5 (output (take len w.bytes)) (lines ∙ ap (λ l. map Ok s.1 ++ output l ∷ []) (sym all)) r wrote
+
+    pub tail_taken : (input : List ℕ) → before ≡ Some input → lines_of input ≡ taken ++ take len w.bytes ∷ []
+    tail_taken input known =
+        let s = progress input known in
+        lines_last_at output law input s.0 s.1 taken w s.3 within after tail (omega (arith, is, some)) s.2 ∙ ap (λ l. taken ++ l ∷ []) (sym all)
 
 -- every line was written
-pub all_written : (t : TableView) (form : Form) (before after old new : Option (List ℕ)) (w : BufferView) (number : ℕ) → HasProgressed (output_of t form) before after w old new number → IsWithin w
-    → IsTail w.bytes w.longer after → length w.bytes ≡ 0 → (input : List ℕ) → before ≡ Some input → HasWritten (verdict t form input) old new (Ok tt)
-all_written t form before after old new w number progress within tail none = λ input known.
-    let s = progress input known in
-    (s.1, verdict-is t form input ∙ end_at (output_of t form) (output_of-long t form) input s.0 s.1 w s.3 within after tail none s.2, s.4)
+module _ (output : List ℕ → LineResult) (law : RefusesLong output) (taken : List (List ℕ)) (before after old new : Option (List ℕ)) (w : BufferView) (number : ℕ)
+    (progress : HasProgressed output taken before after w old new number) (within : IsWithin w) (tail : IsTail w.bytes w.longer after) (none : length w.bytes ≡ 0) where
+  pub all_written : (input : List ℕ) → before ≡ Some input → HasWritten (verdict_within output 16777216 input) old new (Ok tt)
+  all_written input known =
+      let s = progress input known in
+      (s.1, end_at output law input s.0 s.1 taken w s.3 within after tail none s.2, s.4)
+
+  pub all_taken : (input : List ℕ) → before ≡ Some input → lines_of input ≡ taken
+  all_taken input known =
+      let s = progress input known in
+      lines_end_at output law input s.0 s.1 taken w s.3 within after tail none s.2
+
+-- where memory runs out after all lines were written, some first lines were written
+pub all_then_memory : {T : Type 0} (lines : List LineResult) (old new : Option (List ℕ)) (r : Result T (Failure StreamFault)) → IsErrAnd r (λ e. e ≡ failures.Memory) → HasWritten lines old new (Ok tt)
+    → HasWritten lines old new (outcome_of r)
+all_then_memory lines old new (Ok value) h written = absurd h
+all_then_memory lines old new (Err failure) h written =
+    subst (λ (f : Failure StreamFault). HasWritten lines old new (Err f)) (sym h) (written.0, [], written.1 ∙ sym (append-nil (map Ok written.0)), written.2)

@@ -1,5 +1,5 @@
 -- What the lines of an input give, and what a stream writes. This is the project's own choice.
-use Rattle.std.specs.Prelude.{ℕ, ◌≡◌, ◌≤◌, ◌+◌, if◌then◌else◌, nat_lt, nat_le, Bool, List, [], ◌∷◌, ◌++◌, length, take, map, Option, None, Some, option_map, Result, Ok, Err}
+use Rattle.std.specs.Prelude.{ℕ, ◌≡◌, ◌≤◌, ◌+◌, if◌then◌else◌, nat_lt, nat_le, Bool, true, false, List, [], ◌∷◌, ◌++◌, length, take, map, Option, None, Some, option_map, Result, Ok, Err}
 use Rattle.std.specs.List.{list_any, concat}
 use Rattle.std.specs.Fmt.{option_append}
 use Rattle.std.specs.Char.{encode_utf8}
@@ -59,6 +59,17 @@ output_of t form line =
     else if is_utf8 line then unless_unknown (first_unknown t (chars line)) (with_feed (marks_of form (translation t (chars line))))
     else Err faults.InputNotUtf8
 
+-- what a line gives where lines with a character that the table doesn't define are passed over:
+-- nothing for such a line
+abbrev pub passing_over : LineResult → LineResult
+passing_over (Err (faults.UnknownChar position)) = Ok []
+passing_over output = output
+
+-- what a line gives, by whether such lines are passed over
+abbrev pub output_by : Bool → TableView → Form → List ℕ → LineResult
+output_by true t form = λ line. passing_over (output_of t form line)
+output_by false t form = output_of t form
+
 -- the line is too long whatever follows: a carriage return at its end may belong to a line feed
 abbrev pub is_long : List ℕ → Bool
 is_long line = nat_lt most_line (length (without_return line))
@@ -76,6 +87,10 @@ verdict_within output most input =
 -- what the lines of an input give
 unfoldable pub verdict : TableView → Form → List ℕ → List LineResult
 verdict t form input = verdict_within (output_of t form) most_input input
+
+-- what they give where lines with a character that the table doesn't define are passed over
+unfoldable pub verdict_of_defined : TableView → Form → List ℕ → List LineResult
+verdict_of_defined t form input = verdict_within (output_by true t form) most_input input
 
 -- a fault at the line with this number
 abbrev pub at_line : ℕ → LineFault → StreamFault
@@ -110,6 +125,11 @@ ReadsFew old new = (got : List ℕ) × Consumes old new got × (length got ≤ m
 abbrev pub DecidesBefore : ℕ → (List ℕ → LineResult) → Option (List ℕ) → Option (List ℕ) → Type 0
 DecidesBefore n output old new =
     (got : List ℕ) × Consumes old new got × (length got ≤ most_input) × (length (decided output got) + 1 ≡ n)
+
+-- how a call ended, without its value
+abbrev pub outcome_of : {T : Type 0} → Result T (Failure StreamFault) → Result (Unit {0}) (Failure StreamFault)
+outcome_of (Ok value) = Ok tt
+outcome_of (Err failure) = Err failure
 
 -- the call ended with this fault at some line
 abbrev pub EndsBy : LineFault → Result (Unit {0}) (Failure StreamFault) → Type 0

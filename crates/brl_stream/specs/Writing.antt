@@ -1,10 +1,10 @@
 -- Internal. How the output of one line is made and written.
-use Rattle.std.specs.Prelude.{ℕ, ◌≡◌, List, [], ◌++◌, Option, None, Some, option_map, Result, Ok, Err}
+use Rattle.std.specs.Prelude.{ℕ, ◌≡◌, Bool, true, List, [], ◌++◌, Option, None, Some, option_map, Result, Ok, Err}
 use Rattle.std.specs.Io.KnownBytes.{Appends}
 use Rattle.brl_failure.specs.Failure.{IfFault}
 use Rattle.brl_failure.specs.declared.failure.Failure.{Failure}
 use Rattle.brl_failure.specs.declared.failure.Failure.TheVariants as failures
-use Rattle.brl_stream.specs.Output.{LineResult}
+use Rattle.brl_stream.specs.Output.{LineResult, at_line}
 use Rattle.brl_stream.specs.declared.fault.LineFault.{LineFault}
 use Rattle.brl_stream.specs.declared.fault.LineFault.TheVariants as faults
 use Rattle.brl_stream.specs.declared.fault.StreamFault.{StreamFault}
@@ -24,6 +24,15 @@ Pushes marks old new (Err failure) = IfFault (λ fault. (marks ≡ None) × (fau
 abbrev pub IsMade : LineResult → List ℕ → Result (Unit {0}) (Failure LineFault) → Type 0
 IsMade output buffer (Ok done) = output ≡ Ok buffer
 IsMade output buffer (Err failure) = IfFault (λ fault. output ≡ Err fault) failure
+
+-- a line without output was passed over, or ends the stream by its fault at this line
+abbrev pub IsPassedOver : Bool → ℕ → Failure LineFault → Result (Unit {0}) (Failure StreamFault) → Type 0
+IsPassedOver passes number (failures.Fault (faults.UnknownChar position)) (Ok done) = passes ≡ true
+IsPassedOver passes number failure (Ok done) = ⊥
+IsPassedOver passes number failure (Err failures.Memory) = Unit {0}
+IsPassedOver passes number failures.Memory (Err (failures.Fault found)) = ⊥
+IsPassedOver true number (failures.Fault (faults.UnknownChar position)) (Err (failures.Fault found)) = ⊥
+IsPassedOver passes number (failures.Fault fault) (Err (failures.Fault found)) = found ≡ at_line number fault
 
 -- what was written of a line's output before this fault
 abbrev pub WritesBefore : LineResult → Option (List ℕ) → Option (List ℕ) → LineFault → Type 0

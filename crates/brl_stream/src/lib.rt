@@ -1,6 +1,8 @@
 //! Streams: the input of a reader is translated line by line, and written to a writer. `Input` and
 //! `Output` are the reader and the writer, which `Counting` makes of those of the standard library;
 //! `translate_lines` does the work. `StreamFault` is the first fault, with its line, from 1.
+//! `translate_defined_lines` passes over the lines with a character that the table doesn't define, and
+//! lists these characters.
 //!
 //! By a table of the lines `letter a 1` and `letter b 12`:
 //!
@@ -18,6 +20,7 @@
 mod buffer;
 mod device;
 mod fault;
+mod lacking;
 mod line;
 mod output;
 mod stream;
@@ -25,4 +28,5 @@ mod stream;
 pub use brl_cells::Form;
 pub use device::{Counting, Failed, Input, Output};
 pub use fault::{LineFault, StreamFault};
-pub use stream::translate_lines;
+pub use lacking::Lacking;
+pub use stream::{translate_defined_lines, translate_lines};

@@ -1,12 +1,15 @@
 //! The output of one line.
-ghost use Rattle.std.specs.Prelude.{◌≡◌, ◌≢◌, ◌≤◌, [], length, OnOk, IsErrOf};
+ghost use Rattle.std.specs.Prelude.{◌≡◌, ◌≢◌, ◌≤◌, ◌<◌, ◌+◌, ◌^◌, ◌++◌, [], ℕ, List, length, Err, IfOk, OnOk, IsErrOf};
 ghost use Rattle.std.specs.Str.{chars};
-ghost use Rattle.brl_stream.specs.Output.{at_line as fault_at, mark_of, marks_of, output_of};
+ghost use Rattle.brl_stream.specs.Output.{at_line as fault_at, mark_of, marks_of, output_by, output_of};
+ghost use Rattle.brl_stream.specs.Lacking.{Use, summary, uses_in};
+ghost use Rattle.brl_stream.specs.Noting.{IsNoted};
 ghost use Rattle.brl_failure.specs.Failure.{IsChanged};
 ghost use Rattle.brl_failure.specs.declared.failure.Failure.TheVariants as failures;
-ghost use Rattle.brl_stream.specs.Writing.{Pushes, IsMade, WritesOutput, line_fault_of as of_forward};
+ghost use Rattle.brl_stream.specs.Writing.{Pushes, IsMade, IsPassedOver, WritesOutput, line_fault_of as of_forward};
 
-use crate::{Form, LineFault, Output, StreamFault};
+use crate::lacking::{Noted, list_noted, note};
+use crate::{Form, Lacking, LineFault, Output, StreamFault};
 use brl_cells::{Cell, to_ascii, to_unicode};
 use brl_failure::{Failure, raise};
 use brl_forward::{ForwardFault, translate};
@@ -34,28 +37,88 @@ impl Scratch {
     }
 }
 
-/// Writes the output of the line with this number, in one write.
+/// What is kept from line to line: buffers, and what was noted.
+#[derive(Drop)]
+pub struct Kept {
+    /// Whether a line with a character that the table doesn't define is passed over, and these
+    /// characters are noted; else it is a fault.
+    passes: bool,
+    noted: Noted,
+    scratch: Scratch,
+}
+
+impl Kept {
+    /// Nothing was noted yet. It takes no memory yet.
+    pub fn new(alloc: Global, passes: bool) -> Kept
+        ensures passes { result.passes ≡ passes }
+        ensures noted { IsNoted [] result.noted.entries }
+    {
+        Kept {
+            passes,
+            noted: Noted::new(alloc),
+            scratch: Scratch::new(alloc),
+        }
+    }
+
+    /// The characters that were noted.
+    pub fn list(&self, alloc: Global) -> Result<Vec<Lacking>, AllocError>
+        ensures { IfOk result (λ list. (uses : List Use) → IsNoted uses self.now.noted.entries → list.items ≡ summary uses) }
+    {
+        list_noted(alloc, &self.noted)
+    }
+}
+
+/// Writes the output of the line with this number, in one write. The characters that the table
+/// doesn't define are noted where such a line is passed over.
 pub fn write_line<W: Output>(
     alloc: Global,
     table: &Table,
     form: Form,
     line: &[u8],
     number: u64,
-    scratch: &mut Scratch,
+    kept: &mut Kept,
     writer: &mut W,
 ) -> Result<(), Failure<StreamFault>>
-    requires { length line.now ≤ 65536 }
-    ensures written { WritesOutput (output_of table.now form line.now) number (W.contents writer.old) (W.contents writer.new)
+    requires short { length line.now ≤ 65536 }
+    requires few { (uses : List Use) × IsNoted uses kept.old.noted.entries × (length uses + length line.now < 2 ^ 64) }
+    ensures written { WritesOutput (output_by kept.old.passes table.now form line.now) number (W.contents writer.old) (W.contents writer.new)
         result }
+    ensures noted { OnOk result ((uses : List Use) → IsNoted uses kept.old.noted.entries
+        → IsNoted (uses ++ uses_in table.now number (chars line.now)) kept.new.noted.entries) }
+    ensures passes { kept.new.passes ≡ kept.old.passes }
     ensures cause { IsErrOf result (failures.Fault (fault_at number LineFault.OutputFailed)) → W.failures writer.new ≢ W.failures writer.old }
     ensures calm { OnOk result (W.failures writer.new ≡ W.failures writer.old) }
 {
-    if let Err(failure) = make_output(alloc, table, form, line, scratch) {
-        return Err(at_line(number, failure));
+    if let Err(failure) = make_output(alloc, table, form, line, &mut kept.scratch) {
+        return pass_over(table, number, failure, kept);
     }
-    match writer.put(scratch.output.as_slice()) {
+    match writer.put(kept.scratch.output.as_slice()) {
         Ok(()) => Ok(()),
         Err(_) => Err(at_line(number, Failure::Fault(LineFault::OutputFailed))),
+    }
+}
+
+/// Passes over a line without output, where it is one to be passed over, and notes the characters
+/// that the table doesn't define. The characters of the line are in the buffer.
+fn pass_over(
+    table: &Table,
+    number: u64,
+    failure: Failure<LineFault>,
+    kept: &mut Kept,
+) -> Result<(), Failure<StreamFault>>
+    requires { (position : ℕ) → failure ≡ failures.Fault (LineFault.UnknownChar position)
+        → (uses : List Use) × IsNoted uses kept.old.noted.entries × (length uses + length kept.old.scratch.text.items < 2 ^ 64) }
+    ensures passed { IsPassedOver kept.old.passes number failure result }
+    ensures noted { OnOk result ((uses : List Use) → IsNoted uses kept.old.noted.entries
+        → IsNoted (uses ++ uses_in table.now number kept.old.scratch.text.items) kept.new.noted.entries) }
+    ensures passes { kept.new.passes ≡ kept.old.passes }
+{
+    match failure {
+        Failure::Fault(LineFault::UnknownChar(_)) if kept.passes => {
+            note(table, kept.scratch.text.as_slice(), number, &mut kept.noted)?;
+            Ok(())
+        }
+        failure => Err(at_line(number, failure)),
     }
 }
 
@@ -87,7 +150,8 @@ fn make_output(
     scratch: &mut Scratch,
 ) -> Result<(), Failure<LineFault>>
     requires { length line.now ≤ 65536 }
-    ensures { IsMade (output_of table.now form line.now) scratch.new.output.items result }
+    ensures made { IsMade (output_of table.now form line.now) scratch.new.output.items result }
+    ensures text { (position : ℕ) → result ≡ Err (failures.Fault (LineFault.UnknownChar position)) → scratch.new.text.items ≡ chars line.now }
 {
     let Ok(text) = str::from_utf8(line) else {
         return Err(Failure::Fault(LineFault::InputNotUtf8));

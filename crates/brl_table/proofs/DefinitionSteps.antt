@@ -19,7 +19,8 @@ use Rattle.brl_table.specs.declared.item.Definition.{Definition}
 use Rattle.brl_rules.specs.declared.rule.Info.{Info}
 use Rattle.brl_table.specs.Reading.{Listed, insert_new, dedup, about, defined_characters, defined_classes, defined_entries, first_literary, first_plain, first_uplow, defined_info, is_repeated, notice_of, notices_after, numbered}
 use Rattle.brl_table.specs.Building.{info_first, is_known, merged, none_listed, CharactersRepresent}
-use Rattle.brl_table.proofs.NumberedEntries.{absent, any-fold, found-numbered, is_there, length-numbered, numbered-new, numbered-old, neither, put-known, single-fold, there}
+use Rattle.brl_table.proofs.Inserting.{any-fold, put-known}
+use Rattle.brl_table.proofs.NumberedEntries.{absent, found-numbered, is_there, length-numbered, numbered-new, numbered-old, neither, single-fold, there}
 use Rattle.brl_rules.proofs.Facts.{not_above, nat_eq-sym}
 
 -- ---- whether a character is known
@@ -29,7 +30,7 @@ any-map c [] = refl
 any-map c (d ∷ defined) = ap (λ b. nat_eq c d.character || b) (any-map c defined)
 
 pub known-listed : (defined : List Definition) (c : ℕ) → list_any (nat_eq c) (defined_characters defined) ≡ is_known defined c
-known-listed defined c = any-fold c (map (λ d. d.character) defined) [] ∙ any-map c defined
+known-listed defined c = any-fold nat_eq (λ c x y e. ap (nat_eq c) (sym (eqb-true x y e))) c (map (λ d. d.character) defined) [] ∙ any-map c defined
 
 pub known-found : (defined : List Definition) (listed : Listed) (c : ℕ) → is_there (lookup (nat_eq c) (defined_entries defined listed)) ≡ is_known defined c
 known-found defined listed c = found-numbered (defined_info defined listed) c 0 (defined_characters defined) ∙ known-listed defined c
@@ -205,7 +206,7 @@ module _ (defined : List Definition) (d : Definition) where
       let known : is_known defined c ≡ true = sym (known-found defined none_listed c) ∙ there (lookup (nat_eq c) (defined_entries defined none_listed)) old look in
       let single = single-fold (map (λ x. x.character) defined) [] tt in
       let step = numbered-old (defined_info defined none_listed) (defined_info (defined ++ d ∷ []) none_listed) c (info-other none_listed) (merged d) (info-again known none_listed) 0 (defined_characters defined) old single look in
-      let stay : defined_characters defined ≡ defined_characters (defined ++ d ∷ []) = sym (characters-more ∙ put-known c (defined_characters defined) (known-listed defined c ∙ known)) in
+      let stay : defined_characters defined ≡ defined_characters (defined ++ d ∷ []) = sym (characters-more ∙ put-known nat_eq c (defined_characters defined) (known-listed defined c ∙ known)) in
       set ∙ ap (λ i. set_value (nat_eq c) characters i) is ∙ ap (λ es. set_value (nat_eq c) es (merged d old)) e
       ∙ step ∙ ap (numbered (defined_info (defined ++ d ∷ []) none_listed) 0) stay
 
@@ -286,12 +287,6 @@ literary-is defined listed characters c e =
 -- the characters of plain lines, with one more definition
 abbrev PlainMore : Definition → (ℕ → Bool) → (ℕ → Bool) → Type 0
 PlainMore d old after = (c : ℕ) → after c ≡ cond d.literary (old c) (cond (nat_eq d.character c) true (old c))
-
-pub plain-kept : (d : Definition) (old after : ℕ → Bool) → d.literary ≡ true → ((c : ℕ) → after c ≡ old c) → PlainMore d old after
-plain-kept d old after h e c = e c ∙ ap (λ l. cond l (old c) (cond (nat_eq d.character c) true (old c))) (sym h)
-
-pub plain-inserted : (d : Definition) (old after : ℕ → Bool) → d.literary ≡ false → ((c : ℕ) → after c ≡ cond (nat_eq d.character c) true (old c)) → PlainMore d old after
-plain-inserted d old after h e c = e c ∙ ap (λ l. cond l (old c) (cond (nat_eq d.character c) true (old c))) (sym h)
 
 module _ (defined : List Definition) (d : Definition) (characters : Characters) (represents : CharactersRepresent defined characters) where
   pub again-literary : (b : Bool) → b ≡ option_map_or (λ i. i.literary) (lookup (nat_eq d.character) characters.infos.entries) false → d.literary ≡ true → b ≡ is_repeated defined d

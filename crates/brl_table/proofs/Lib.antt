@@ -1,4 +1,5 @@
 pub mod Commas
+pub mod Inserting
 pub mod NumberedEntries
 pub mod DefinitionSteps
 pub mod ListSteps

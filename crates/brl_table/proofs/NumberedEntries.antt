@@ -8,13 +8,13 @@ use Rattle.std.proofs.lemmas.Bool.Decides.{nat_tests}
 use Rattle.indexmap.specs.IndexMap.{insert_entry}
 use Rattle.brl_rules.specs.declared.rule.Info.{Info}
 use Rattle.brl_table.specs.Reading.{insert_new, numbered}
-use Rattle.brl_rules.proofs.Facts.{nat_eq-sym, or-false, or-assoc, or-twice}
+use Rattle.brl_rules.proofs.Facts.{nat_eq-sym}
 
 pub neither : (a b : Bool) → a || b ≡ false → (a ≡ false) × (b ≡ false)
 neither true b h = cc
 neither false b h = (refl, h)
 
--- ---- no character or-twice
+-- ---- no character twice
 
 abbrev pub IsSingle : List ℕ → Type 0
 IsSingle [] = Unit {0}
@@ -101,21 +101,6 @@ pub is_there : {X : Type 0} → Option X → Bool
 is_there None = false
 is_there (Some x) = true
 
-pub any-put : (c x : ℕ) (xs : List ℕ) → list_any (nat_eq c) (insert_new nat_eq xs x) ≡ list_any (nat_eq c) xs || nat_eq c x
-any-put c x [] = or-false (nat_eq c x)
-any-put c x (y ∷ ys) = cases (nat_eq x y) refl (any-put c x ys)
-  where
-    cases : (b : Bool) → nat_eq x y ≡ b → list_any (nat_eq c) (insert_new nat_eq ys x) ≡ list_any (nat_eq c) ys || nat_eq c x
-        → list_any (nat_eq c) (cond b (y ∷ ys) (y ∷ insert_new nat_eq ys x)) ≡ (nat_eq c y || list_any (nat_eq c) ys) || nat_eq c x
-    cases true e more = rw (eqb-true x y e) (or-twice (nat_eq c y) (list_any (nat_eq c) ys))
-    cases false e more = ap (λ b. nat_eq c y || b) more ∙ or-assoc (nat_eq c y) (list_any (nat_eq c) ys) (nat_eq c x)
-
-pub any-fold : (c : ℕ) (cs xs : List ℕ) → list_any (nat_eq c) (fold (insert_new nat_eq) xs cs) ≡ list_any (nat_eq c) xs || list_any (nat_eq c) cs
-any-fold c [] xs = sym (or-false (list_any (nat_eq c) xs))
-any-fold c (x ∷ cs) xs =
-    any-fold c cs (insert_new nat_eq xs x) ∙ ap (λ b. b || list_any (nat_eq c) cs) (any-put c x xs)
-    ∙ sym (or-assoc (list_any (nat_eq c) xs) (nat_eq c x) (list_any (nat_eq c) cs))
-
 -- exactly the characters have an entry
 pub found-numbered : (f : ℕ → ℕ → Info) (c n : ℕ) (xs : List ℕ) → is_there (lookup (nat_eq c) (numbered f n xs)) ≡ list_any (nat_eq c) xs
 unfolding is_there
@@ -126,15 +111,6 @@ found-numbered f c n (x ∷ xs) = cases (nat_eq c x) (found-numbered f c (n + 1)
         → is_there (cond b (Some (f n x)) (lookup (nat_eq c) (numbered f (n + 1) xs))) ≡ b || list_any (nat_eq c) xs
     cases true more = refl
     cases false more = more
-
--- a character that is in the list stays where it is
-pub put-known : (c : ℕ) (xs : List ℕ) → list_any (nat_eq c) xs ≡ true → insert_new nat_eq xs c ≡ xs
-put-known c [] h = cc
-put-known c (x ∷ xs) h = cases (nat_eq c x) h (put-known c xs)
-  where
-    cases : (b : Bool) → b || list_any (nat_eq c) xs ≡ true → (list_any (nat_eq c) xs ≡ true → insert_new nat_eq xs c ≡ xs) → cond b (x ∷ xs) (x ∷ insert_new nat_eq xs c) ≡ x ∷ xs
-    cases true k more = refl
-    cases false k more = ap (λ ys. x ∷ ys) (more k)
 
 pub there : {X : Type 0} (o : Option X) (x : X) → o ≡ Some x → is_there o ≡ true
 unfolding is_there

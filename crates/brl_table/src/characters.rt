@@ -1,7 +1,7 @@
 //! The characters of a table that is being read, and its rules over them.
-ghost use Rattle.std.specs.Prelude.{◌≡◌, ◌+◌, ◌≤◌, ◌∷◌, ◌++◌, [], IfOk, List, OnOk, None, Some, length, map, if◌then◌else◌};
+ghost use Rattle.std.specs.Prelude.{◌≡◌, ◌+◌, ◌≤◌, ◌∷◌, ◌++◌, [], IfOk, List, OnOk, None, Some, length, map, nat_eq, true, ℕ, if◌then◌else◌};
 ghost use Rattle.std.specs.List.{flat_map, list_any};
-ghost use Rattle.indexmap.specs.IndexSet.{IsEmpty};
+ghost use Rattle.indexmap.specs.IndexSet.{IsEmpty, contains};
 ghost use Rattle.brl_table.specs.declared.item.Definition.{Definition};
 ghost use Rattle.brl_table.specs.Reading.{Listed, defined_characters, defined_entries, definition_in, is_repeated as is_repeated_by, own_cells as own_cells_of, rule_of};
 ghost use Rattle.brl_table.specs.Building.{with_role, info_first, merged, listed_more, none_listed, over, CharactersRepresent};
@@ -47,9 +47,7 @@ impl Characters {
     {
         let again = self.is_repeated(definition);
         update_infos(&mut self.infos, definition)?;
-        if !definition.literary {
-            self.plain.insert(definition.character)?;
-        }
+        insert_plain(&mut self.plain, definition)?;
         if again {
             self.notices.push(Notice {
                 character: definition.character,
@@ -193,6 +191,17 @@ impl Characters {
         }
         Cells::from_slice(alloc, cells.as_slice())
     }
+}
+
+/// Adds the character of a plain definition to those with a plain line.
+fn insert_plain(plain: &mut IndexSet<char>, definition: &Definition) -> Result<(), AllocError>
+    ensures { OnOk result ((c : ℕ) → contains nat_eq plain.new c ≡ (if definition.now.literary then contains nat_eq plain.old c
+        else (if nat_eq definition.now.character c then true else contains nat_eq plain.old c))) }
+{
+    if !definition.literary {
+        plain.insert(definition.character)?;
+    }
+    Ok(())
 }
 
 /// Updates the infos with a definition of a character.

@@ -26,6 +26,13 @@ use brl_failure::Failure;
 use brl_lines::{Token, chars_of};
 use std::alloc::Global;
 
+/// An opcode and its operands.
+#[derive(Clone, Copy)]
+pub(crate) struct Words<'a> {
+    pub opcode: &'a str,
+    pub operands: &'a [Token<'a>],
+}
+
 /// A fault of this kind about a word.
 pub(crate) fn refuse<T>(
     alloc: Global,
@@ -41,13 +48,12 @@ pub(crate) fn refuse<T>(
 /// The first operand of an opcode.
 pub(crate) fn one_operand<'a>(
     alloc: Global,
-    opcode: &str,
-    operands: &[Token<'a>],
+    words: Words<'a>,
 ) -> Result<&'a str, Failure<WordFault>>
-    ensures { GivesAs (λ word. word.now) (λ f. f) (first_operand opcode.now (map token_view operands.now)) result }
+    ensures { GivesAs (λ word. word.now) (λ f. f) (first_operand words.entry.opcode.now (map token_view words.entry.operands.now)) result }
 {
-    let Some(first) = operands.first() else {
-        return refuse(alloc, TableFaultKind::MissingOperand, opcode);
+    let Some(first) = words.operands.first() else {
+        return refuse(alloc, TableFaultKind::MissingOperand, words.opcode);
     };
     Ok(first.text)
 }
@@ -55,13 +61,12 @@ pub(crate) fn one_operand<'a>(
 /// The first two operands of an opcode.
 pub(crate) fn two_operands<'a>(
     alloc: Global,
-    opcode: &str,
-    operands: &[Token<'a>],
+    words: Words<'a>,
 ) -> Result<(&'a str, &'a str), Failure<WordFault>>
-    ensures { GivesAs (λ two. (two.0.now, two.1.now)) (λ f. f) (first_operands opcode.now (map token_view operands.now)) result }
+    ensures { GivesAs (λ two. (two.0.now, two.1.now)) (λ f. f) (first_operands words.entry.opcode.now (map token_view words.entry.operands.now)) result }
 {
-    let [first, second, ..] = operands else {
-        return refuse(alloc, TableFaultKind::MissingOperand, opcode);
+    let [first, second, ..] = words.operands else {
+        return refuse(alloc, TableFaultKind::MissingOperand, words.opcode);
     };
     Ok((first.text, second.text))
 }

@@ -13,6 +13,12 @@ use Rattle.brl_search.specs.Searched.{certificate_of}
 use Rattle.brl_tool.proofs.OfFiles.{of_files}
 use Rattle.brl_rules.specs.TableView.{TableView}
 use Rattle.brl_answers.proofs.DeliveryLemmas.{none_changes}
+use Rattle.brl_clashes.proofs.Verdicts.{clash as clash_listed, unambiguous as none_listed}
+use Rattle.brl_clashes.specs.Sections.{outcome_of}
+use Rattle.brl_clashes.specs.declared.verdict.Outcome.{Outcome}
+use Rattle.brl_clashes.specs.declared.verdict.Outcome.TheVariants.{Unambiguous, Clashing, Unfinished}
+use Rattle.brl_table.specs.Reading.{table_of}
+use Rattle.brl_tool.specs.Diagnosing.{DiagnosesByFile, status_of_outcome}
 use Rattle.brl_cut.specs.Cuts.{IsReadAs, written_path}
 use Rattle.brl_cut.specs.Edits.{Texts}
 use Rattle.brl_tool.specs.Comparing.{ComparesByFile, ComparesByWords, IsComparison}
@@ -49,6 +55,17 @@ never_refuted fault e = cc
 unrefuted : (loaded : Bool) → cond loaded Done Faulty ≡ Refuted → ⊥
 unrefuted true e = cc
 unrefuted false e = cc
+
+-- a list of clashes has the status of its outcome
+no_pair : (o : Outcome) → status_of_outcome o ≡ Done → o ≡ Unambiguous
+no_pair Unambiguous e = refl
+no_pair Clashing e = absurd cc
+no_pair Unfinished e = absurd cc
+
+some_pair : (o : Outcome) → status_of_outcome o ≡ Refuted → o ≡ Clashing
+some_pair Unambiguous e = absurd cc
+some_pair Clashing e = refl
+some_pair Unfinished e = absurd cc
 
 -- what is spelled is known where there is an answer
 spelled_in : (spelled : Result (List ℕ) CharsFault) (is_bad : RunFault → Type 0) (promises : List ℕ → Result Answer RunFault → Type 0) (answer : Answer) → BySpelled spelled is_bad promises (Ok answer)
@@ -146,6 +163,16 @@ module _ (before after : World) (same_file : MayBeSame) where
         )
         | inr (inr (states, pairs, limit_is, says)) ↦ ((λ done. let e = sym says.0 ∙ done in cc), (λ refuted. let e = sym says.0 ∙ refuted in cc))
       ]
+  means (question.Clashes path limit first option) answer is files prints =
+      let (left_out, spelled, listed) = spelled_in (spelled_by (option_copied option)) (IsBadLeftOut (option_copied option)) (λ left_out. DiagnosesByFile left_out before.gives path.now limit first) answer is in
+      let (paths, lines, are, passes, (sections, found, (text, text_is, says))) = listed in
+      let table : IsTableOf before.gives path.now (table_of lines) = of_files before.gives path.now paths (table_of lines) (lines, are, passes, refl) in
+      let shown : Prints before after text = subst (Prints before after) says.1 prints in (
+        (λ done. (left_out, spelled, table_of lines, table, none_listed (table_of lines) left_out limit sections found (no_pair (outcome_of sections) (sym says.0 ∙ done)), (lines, first, sections, text, text_is, shown))),
+        (λ refuted.
+            let (left, right, cells, clash) = clash_listed (table_of lines) left_out limit sections found (some_pair (outcome_of sections) (sym says.0 ∙ refuted)) in
+            ((path.now, left_out, left, right, cells, table_of lines, table, clash, (lines, first, sections, text, text_is, shown)), subst (FilesAfter before.gives after.gives) says.2 files)),
+      )
 
   -- ---- Only a search and a cut have files to write
 
@@ -178,6 +205,10 @@ module _ (before after : World) (same_file : MayBeSame) where
   keeps (question.Check path cert option) (Ok answer) status is (written, writes, e) =
       let (left_out, spelled, judges) = spelled_in (spelled_by (option_copied option)) (IsBadLeftOut (option_copied option)) (λ left_out. Judges left_out before.gives path.now cert.now) answer is in
       none_changes before after answer written (judgement_has_none left_out path.now judges.checks.0 answer judges.checks.2) writes
+  keeps (question.Clashes path limit first option) (Ok answer) status is (written, writes, e) =
+      let (left_out, spelled, listed) = spelled_in (spelled_by (option_copied option)) (IsBadLeftOut (option_copied option)) (λ left_out. DiagnosesByFile left_out before.gives path.now limit first) answer is in
+      let (paths, lines, are, passes, (sections, found, (text, text_is, says))) = listed in
+      none_changes before after answer written says.2 writes
   keeps asked (Err fault) status is (stay, still, e) = stay
 
   -- the answer to a question was delivered

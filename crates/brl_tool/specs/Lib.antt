@@ -8,3 +8,4 @@ pub mod Surveying
 pub mod Tracing
 pub mod Verdicts
 pub mod Notices
+pub mod Diagnosing

@@ -1,6 +1,7 @@
 -- What a run of the program comes to. The project's own choice. `same` says which paths may name one
 -- file, `input` what is left of the input where that is known.
-use Rattle.std.specs.Prelude.{ℕ, ◌≡◌, ◌<◌, ◌⊎◌, List, ◌++◌, false, map, Option, Result, Ok, Err, codes}
+use Rattle.std.specs.Prelude.{ℕ, ◌≡◌, ◌<◌, ◌==◌, ◌⊎◌, if◌then◌else◌, length, List, ◌++◌, false, map, Option, Result, Ok, Err, String, codes, string_bytes}
+use Rattle.std.specs.Global.{Global}
 use Rattle.std.specs.Option.{option_copied}
 use Rattle.brl_accept.specs.Judging.{IsAcceptedWithout, counted}
 use Rattle.brl_cert.specs.Reading.{spelling}
@@ -12,7 +13,11 @@ use Rattle.brl_search.specs.Searched.{State, certificate_of}
 use Rattle.brl_cells.specs.declared.form.Form.{Form}
 use Rattle.brl_rules.specs.TableView.{TableView}
 use Rattle.brl_rules.specs.Translation.{IsClash}
+use Rattle.brl_clashes.specs.ClashesText.{IsClashesText}
+use Rattle.brl_clashes.specs.declared.section.Section.{Section}
+use Rattle.brl_lines.specs.Tokens.{LineView}
 use Rattle.brl_tool.specs.Comparing.{ComparesByWords}
+use Rattle.brl_tool.specs.Diagnosing.{DiagnosesByFile}
 use Rattle.brl_cut.specs.Cuts.{IsReadAs, written_path}
 use Rattle.brl_tool.specs.Cutting.{CutsByFile, new_file_view}
 use Rattle.brl_tool.specs.Explaining.{Explains}
@@ -24,7 +29,7 @@ use Rattle.brl_answers.specs.Files.{GivesAlso, MayBeSame, OthersStay}
 use Rattle.brl_answers.specs.Making.{AreNew, AreWritten}
 use Rattle.brl_answers.specs.Prefixes.{begins_as_answer}
 use Rattle.brl_answers.specs.Status.{code_of, status_of}
-use Rattle.brl_tool.specs.Streams.{TranslatesByFile}
+use Rattle.brl_tool.specs.Streams.{TranslatesByFile, TranslatesDefinedByFile}
 use Rattle.brl_tool.specs.Surveying.{SurveysByFiles}
 use Rattle.brl_tool.specs.Tracing.{TracesByWord}
 use Rattle.brl_answers.specs.declared.answer.Answer.{Answer}
@@ -38,7 +43,7 @@ use Rattle.brl_cli.specs.declared.command.Question.{Question}
 use Rattle.brl_cli.specs.declared.command.Question.TheVariants as question
 use Rattle.brl_cli.specs.declared.command.Task.{Task}
 use Rattle.brl_cli.specs.declared.command.Task.TheVariants as task
-use Rattle.brl_without.specs.Tables.{IsUnambiguousWithout}
+use Rattle.brl_without.specs.Tables.{IsClashWithout, IsUnambiguousWithout}
 
 -- ---- What a question is answered
 
@@ -54,6 +59,8 @@ Answers (question.Check path cert option) gives same outcome =
     ByLeftOut (option_copied option) (λ left_out. Judges left_out gives path.now cert.now) outcome
 Answers (question.Search path out limit option) gives same outcome =
     ByLeftOut (option_copied option) (λ left_out. SearchesByFile left_out gives same path.now out.now limit) outcome
+Answers (question.Clashes path limit first option) gives same outcome =
+    ByLeftOut (option_copied option) (λ left_out. DiagnosesByFile left_out gives path.now limit first) outcome
 
 -- ---- What the status says of a question
 
@@ -73,6 +80,20 @@ ReportsRefusal before after = (rest : List ℕ) × Prints before after (codes "r
 abbrev pub ReportsClash : World → World → Type 0
 ReportsClash before after =
     (path left right cells : List ℕ) × (t : TableView) × IsTableOf before.gives path t × IsClash t left right cells × Prints before after (report_text t left right cells)
+
+-- the text of a list of clashes of the table of the file at some path was written, by which two texts
+-- clash that use none of what is left out
+abbrev pub ReportsClashes : World → World → Type 0
+ReportsClashes before after =
+    (path left_out left right cells : List ℕ) × (t : TableView) × IsTableOf before.gives path t × IsClashWithout left_out t left right cells
+    × ((lines : List LineView) × (first : ℕ) × (sections : List Section) × (text : List ℕ) × IsClashesText t lines left_out first sections text × Prints before after text)
+
+-- the text of a list of clashes was written, and the table of the file at the path is unambiguous
+-- without the characters that the option leaves out
+abbrev pub ReportsNoClash : World → World → List ℕ → Option (List ℕ) → Type 0
+ReportsNoClash before after path option =
+    (left_out : List ℕ) × (spelled_by option ≡ Ok left_out) × (t : TableView) × IsTableOf before.gives path t × IsUnambiguousWithout left_out t
+    × ((lines : List LineView) × (first : ℕ) × (sections : List Section) × (text : List ℕ) × IsClashesText t lines left_out first sections text × Prints before after text)
 
 -- a certificate was written that a judge accepts for the table of the file at the path, and that
 -- table is unambiguous, both without the characters that the option leaves out; no other file
@@ -95,6 +116,7 @@ WritesTable before after path dir =
 abbrev pub MeansDone : Question → World → World → Type 0
 MeansDone (question.Check path cert option) before after = ReportsAcceptance before after path.now (option_copied option)
 MeansDone (question.Search path out limit option) before after = ReportsCertificate before after path.now out.now (option_copied option)
+MeansDone (question.Clashes path limit first option) before after = ReportsNoClash before after path.now (option_copied option)
 MeansDone (question.Cut path dir rewrite) before after = WritesTable before after path.now dir.now
 MeansDone asked before after = Unit {0}
 
@@ -103,6 +125,7 @@ abbrev pub MeansRefuted : Question → World → World → Type 0
 MeansRefuted (question.Clash path left right escapes) before after = ReportsClash before after
 MeansRefuted (question.Check path cert option) before after = ReportsRefusal before after
 MeansRefuted (question.Search path out limit option) before after = ReportsClash before after
+MeansRefuted (question.Clashes path limit first option) before after = ReportsClashes before after
 MeansRefuted asked before after = ⊥
 
 -- no file changes, unless a table was searched or cut
@@ -132,9 +155,24 @@ Translates path form input before after status =
     × ((outcome : Result (Unit {0}) RunFault) × TranslatesByFile before.gives path form input before.contents after.contents outcome
     × (status ≡ stream_status outcome))
 
+-- the status after the translation of the lines without undefined characters: a fault where a
+-- character is listed
+abbrev pub defined_status : Result (String Global) RunFault → Status
+defined_status (Ok text) = if length (string_bytes text) == 0 then Done else Faulty
+defined_status (Err fault) = status_of fault
+
+-- the input's lines without undefined characters were translated by the table of the file at a path,
+-- which changes no file
+abbrev pub TranslatesDefined : List ℕ → Form → Option (List ℕ) → World → World → Status → Type 0
+TranslatesDefined path form input before after status =
+    KeepsFiles before after
+    × ((outcome : Result (String Global) RunFault) × TranslatesDefinedByFile before.gives path form input before.contents after.contents outcome
+    × (status ≡ defined_status outcome))
+
 -- a task was done, with the paths, texts, form, option and limit that it has
 abbrev pub Performs : Task → MayBeSame → Option (List ℕ) → World → World → Status → Type 0
 Performs (task.Translate path form) same input before after status = Translates path.now form input before after status
+Performs (task.TranslateDefined path form) same input before after status = TranslatesDefined path.now form input before after status
 Performs (task.Ask asked) same input before after status = Asks asked same before after status
 
 -- The answer with help or the version. It begins as no answer of a command does.

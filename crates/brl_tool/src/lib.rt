@@ -1,7 +1,7 @@
 //! `run`, the program over any files and streams.
 //!
 //! `program` has what each command's words lead to. `translate`, `clash`, `trace`, `rules`, `survey` and
-//! `cut` do the work of these commands by the files of a table, `search` and `check` that of theirs, and
+//! `cut` do the work of these commands by the files of a table, `search`, `clashes` and `check` that of theirs, and
 //! `explain` has what a fault means, and
 //! `notices` writes the notices of a table that is searched. What all but `translate` give is an answer
 //! (brl_answers).
@@ -11,6 +11,7 @@
 
 mod check;
 mod clash;
+mod clashes;
 mod cut;
 mod explain;
 mod laws;
@@ -24,10 +25,12 @@ mod translate;
 
 pub use brl_answers::{CreateFault, Files, SinkFault};
 pub use brl_stream::{
-    Counting, Failed, Form, Input, LineFault, Output, StreamFault, translate_lines,
+    Counting, Failed, Form, Input, Lacking, LineFault, Output, StreamFault,
+    translate_defined_lines, translate_lines,
 };
 pub use check::check_by_words;
 pub use clash::compare_by_words;
+pub use clashes::list_clashes_by_words;
 pub use cut::cut_by_file;
 pub use explain::explain_line;
 pub use laws::prefixes_law;
@@ -36,4 +39,4 @@ pub use rules::list_rules_by_file;
 pub use search::search_by_words;
 pub use survey::survey_by_files;
 pub use trace::trace_by_word;
-pub use translate::translate_by_file;
+pub use translate::{translate_by_file, translate_defined_by_file};

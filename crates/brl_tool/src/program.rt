@@ -2,17 +2,18 @@
 ghost use Rattle.std.specs.Prelude.{◌≡◌, ◌≢◌, ◌⊎◌};
 ghost use Rattle.brl_lines.specs.Answer.{Unchanged};
 ghost use Rattle.brl_answers.specs.Delivery.{world};
-ghost use Rattle.brl_tool.specs.Running.{Answers, Asks, IsHelp, IsStatus, Performs, Replies, ReportsClash, ReportsRefusal, Runs, Translates};
+ghost use Rattle.brl_tool.specs.Running.{Answers, Asks, IsHelp, IsStatus, Performs, Replies, ReportsClash, ReportsClashes, ReportsRefusal, Runs, Translates, TranslatesDefined};
 
 use crate::check::check_by_words;
 use crate::clash::compare_by_words;
+use crate::clashes::list_clashes_by_words;
 use crate::cut::cut_by_file;
 use crate::explain::explain_line;
 use crate::rules::list_rules_by_file;
 use crate::search::search_by_words;
 use crate::survey::survey_by_files;
 use crate::trace::trace_by_word;
-use crate::translate::translate_by_file;
+use crate::translate::{translate_by_file, translate_defined_by_file};
 use crate::{Files, Form, Input, Output};
 use brl_answers::{Answer, RunFault, Status, deliver, set_apart};
 use brl_cli::{NotATask, Question, Task, task_of};
@@ -27,7 +28,7 @@ use std::io::Write;
 ///
 /// Standard output gets the translation, what was found of two texts, of a certificate, by a search or
 /// by a survey, the steps of a text, the rules of a table, what a fault means, or help or the version where these are asked for. Standard error
-/// gets the notices of a table that is searched, one line for a fault (a survey has one for each table
+/// gets the notices of a table that is searched, the characters that are listed as lacking, one line for a fault (a survey has one for each table
 /// that can't be loaded, and goes on), or the text of a use fault; what can't be written there is dropped
 /// and changes no status. It is also told how far a search or a check is, and when that has ended, before
 /// its answer is delivered. Faults come in the order of the work: the words, and what they spell, the
@@ -51,7 +52,7 @@ pub fn run<F: Files, I: Input, O: Output, E: Write + Progress>(
         (world (F.gives files.new) (O.failures out.new) (O.contents out.new)) result }
     ensures clash { let before = world (F.gives files.old) (O.failures out.old) (O.contents out.old) in
         let after = world (F.gives files.new) (O.failures out.new) (O.contents out.new) in
-        result ≡ 1 → ReportsClash before after ⊎ ReportsRefusal before after }
+        result ≡ 1 → ReportsClash before after ⊎ ReportsRefusal before after ⊎ ReportsClashes before after }
     ensures same { result ≡ 1 → Unchanged (F.gives files.old) (F.gives files.new) }
 {
     match task_of(alloc, words) {
@@ -74,6 +75,9 @@ fn perform<F: Files, I: Input, O: Output, E: Write + Progress>(
 {
     match task {
         Task::Translate { table, form } => translate(alloc, files, table, form, input, out, err),
+        Task::TranslateDefined { table, form } => {
+            translate_defined(alloc, files, table, form, input, out, err)
+        }
         Task::Ask(question) => ask(alloc, question, files, out, err),
     }
 }
@@ -93,6 +97,30 @@ fn translate<F: Files, I: Input, O: Output, E: Write>(
 {
     match translate_by_file(alloc, files, table, form, input, out) {
         Ok(()) => Status::Done,
+        Err(fault) => fault.report(err),
+    }
+}
+
+/// `brl translate --lacking`. Standard error gets the lines of the characters that the table doesn't
+/// define.
+fn translate_defined<F: Files, I: Input, O: Output, E: Write>(
+    alloc: Global,
+    files: &mut F,
+    table: &str,
+    form: Form,
+    input: &mut I,
+    out: &mut O,
+    err: &mut E,
+) -> Status
+    ensures { TranslatesDefined table.now form (I.remaining input.old) (world (F.gives files.old) (O.failures out.old) (O.contents out.old))
+        (world (F.gives files.new) (O.failures out.new) (O.contents out.new)) result }
+{
+    match translate_defined_by_file(alloc, files, table, form, input, out) {
+        Ok(lacking) if lacking.is_empty() => Status::Done,
+        Ok(lacking) => {
+            let _ = err.write_all(lacking.as_bytes());
+            Status::Faulty
+        }
         Err(fault) => fault.report(err),
     }
 }
@@ -162,6 +190,16 @@ fn answer<F: Files, E: Write + Progress>(
             without,
         } => {
             let outcome = search_by_words(alloc, files, table, cert, limit, without, err);
+            err.end();
+            outcome
+        }
+        Question::Clashes {
+            table,
+            limit,
+            first,
+            without,
+        } => {
+            let outcome = list_clashes_by_words(alloc, files, table, limit, first, without, err);
             err.end();
             outcome
         }

@@ -1,15 +1,15 @@
 //! `brl translate`: a stream, translated line by line.
-ghost use Rattle.std.specs.Prelude.{◌≡◌};
+ghost use Rattle.std.specs.Prelude.{◌≡◌, IfOk, string_bytes};
 ghost use Rattle.brl_lines.specs.Answer.{Unchanged};
 ghost use Rattle.brl_lines.specs.Outcome.{CountsFailure};
 ghost use Rattle.brl_answers.specs.Answers.{load_outcome};
-ghost use Rattle.brl_tool.specs.Streams.{TranslatesByFile};
+ghost use Rattle.brl_tool.specs.Streams.{TranslatesByFile, TranslatesDefinedByFile, code_point, lacking_line, lacking_lines};
 
 use brl_answers::RunFault;
-use brl_lines::Source;
-use brl_stream::{Form, Input, Output, translate_lines};
+use brl_lines::{Source, spell_chars};
+use brl_stream::{Form, Input, Lacking, Output, translate_defined_lines, translate_lines};
 use brl_table::load_table;
-use std::alloc::Global;
+use std::alloc::{AllocError, Global};
 
 /// Translates the input, line by line, by the table whose file is at a path.
 pub fn translate_by_file<S: Source, R: Input, W: Output>(
@@ -28,6 +28,60 @@ pub fn translate_by_file<S: Source, R: Input, W: Output>(
     let table = load_table(alloc, source, path)?;
     match translate_lines(alloc, &table, form, reader, writer) {
         Ok(()) => Ok(()),
+        Err(failure) => Err(failure.into()),
+    }
+}
+
+/// The code point of a character, as `U+2019`.
+fn code_point_text(alloc: Global, character: char) -> Result<String, AllocError>
+    ensures { IfOk result (λ text. string_bytes text ≡ code_point character) }
+{
+    let code = u32::from(character);
+    format!(in alloc; "U+{code:04X}")
+}
+
+/// The line of a character that the table doesn't define.
+fn lacking_text(alloc: Global, lacking: Lacking) -> Result<String, AllocError>
+    ensures { IfOk result (λ text. string_bytes text ≡ lacking_line lacking) }
+{
+    let character = lacking.character;
+    let spelled = spell_chars(alloc, &[character])?;
+    let code = code_point_text(alloc, character)?;
+    let count = lacking.count.to_string(alloc)?;
+    let line = lacking.line.to_string(alloc)?;
+    format!(in alloc; "lacking {spelled} {code}: count {count}, first line {line}\n")
+}
+
+/// The lines of these characters.
+fn lacking_texts(alloc: Global, list: &[Lacking]) -> Result<String, AllocError>
+    ensures { IfOk result (λ text. string_bytes text ≡ lacking_lines list.now) }
+{
+    let mut text = String::new(alloc);
+    for lacking in list {
+        text.push_str(lacking_text(alloc, *lacking)?.as_str())?;
+    }
+    Ok(text)
+}
+
+/// Translates the lines of the input whose characters are all defined by the table whose file is at a
+/// path. Answers the lines that name the other characters, in the order of their first uses; the text
+/// is empty where there are none.
+pub fn translate_defined_by_file<S: Source, R: Input, W: Output>(
+    alloc: Global,
+    source: &mut S,
+    path: &str,
+    form: Form,
+    reader: &mut R,
+    writer: &mut W,
+) -> Result<String, RunFault>
+    ensures translates { TranslatesDefinedByFile (S.gives source.old) path.now form (R.remaining reader.old)
+        (W.contents writer.old) (W.contents writer.new) result }
+    ensures count { CountsFailure (S.faults source.old) (S.faults source.new) (load_outcome result) }
+    ensures same { Unchanged (S.gives source.old) (S.gives source.new) }
+{
+    let table = load_table(alloc, source, path)?;
+    match translate_defined_lines(alloc, &table, form, reader, writer) {
+        Ok(list) => Ok(lacking_texts(alloc, list.as_slice())?),
         Err(failure) => Err(failure.into()),
     }
 }

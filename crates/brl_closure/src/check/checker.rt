@@ -10,7 +10,8 @@ use crate::AcceptFault;
 use crate::check::missing::has_two_ends_at;
 use crate::check::pass::find_missing;
 use brl_failure::Failure;
-use brl_pairs::{Body, Machine, numbered_sets_law};
+use brl_pairs::{Body, Machine, Parted, Seed, numbered_sets_law};
+use brl_parts::Whole;
 use brl_progress::{NoProgress, Progress};
 use std::alloc::Global;
 
@@ -22,10 +23,11 @@ pub struct Accepted {
 }
 
 /// Checks that no state, no split and no pair is missing.
-fn check_missing<M: Machine, W: Progress>(
+fn check_missing<M: Parted, W: Progress>(
     alloc: Global,
     machine: &M,
     body: &Body<M::State>,
+    seed: Seed,
     watch: &mut W,
 ) -> Result<(), Failure<AcceptFault>>
     requires laws { KeepsLaws (M.behaviour machine.now) }
@@ -35,7 +37,7 @@ fn check_missing<M: Machine, W: Progress>(
     ensures moves { OnOk result (MissesNoPair (M.behaviour machine.now) body.now) }
     ensures refused { IfErr result (IfFault (IsRefused (M.behaviour machine.now) body.now)) }
 {
-    let missing = find_missing(alloc, machine, body, watch)?;
+    let missing = find_missing(alloc, machine, body, seed, watch)?;
     if let Some(split) = missing.split {
         return Err(Failure::Fault(AcceptFault::SplitMissing {
             state: split.state,
@@ -70,10 +72,11 @@ fn check_ends<M: Machine>(machine: &M, body: &Body<M::State>) -> Result<(), Fail
 }
 
 /// Checks that the states and pairs are closed.
-fn check<M: Machine, W: Progress>(
+fn check<M: Parted, W: Progress>(
     alloc: Global,
     machine: &M,
     body: &Body<M::State>,
+    seed: Seed,
     watch: &mut W,
 ) -> Result<(), Failure<AcceptFault>>
     ensures closed { OnOk result (IsClosed (M.behaviour machine.now) (sets_of body.now)) }
@@ -82,7 +85,7 @@ fn check<M: Machine, W: Progress>(
     if !body.has_state(&machine.start()) {
         return Err(Failure::Fault(AcceptFault::NoStart));
     }
-    check_missing(alloc, machine, body, watch)?;
+    check_missing(alloc, machine, body, seed, watch)?;
     check_ends(machine, body)
 }
 
@@ -91,7 +94,8 @@ fn check<M: Machine, W: Progress>(
 ///
 /// Otherwise the fault is the first of `NoStart`, `StateMissing`, `SplitMissing`, `PairMissing` and
 /// `BothEnd` that applies. It names the least state or pair to which it applies, and then the least
-/// rules, of two rules the lesser one first.
+/// rules, of two rules the lesser one first. The cells of steps are found by hashes that a machine's
+/// maker can foresee; `accept_with` takes a seed for them.
 pub fn accept<M: Machine>(
     alloc: Global,
     machine: &M,
@@ -108,14 +112,18 @@ pub fn accept<M: Machine>(
     // States and pairs that are refused are not closed.
     ensures not_closed { IfErr result (IfFault (λ _. IsClosed (M.behaviour machine.now) (sets_of body.now) → ⊥)) }
 {
-    accept_with(alloc, machine, body, &mut NoProgress)
+    let seed = Seed::of(b"accept");
+    accept_with(alloc, &Whole::new(machine), body, seed, &mut NoProgress)
 }
 
 /// Checks states and pairs as `accept` does, and reports its progress to `watch` after each state.
-pub fn accept_with<M: Machine, W: Progress>(
+/// The parts of the machine's steps are listed once each. They and their cells are found by hashes of
+/// this seed, which is to be drawn from all that the machine and the body depend on.
+pub fn accept_with<M: Parted, W: Progress>(
     alloc: Global,
     machine: &M,
     body: &Body<M::State>,
+    seed: Seed,
     watch: &mut W,
 ) -> Result<Accepted, Failure<AcceptFault>>
     ensures closed { OnOk result (IsClosed (M.behaviour machine.now) (sets_of body.now)) }
@@ -126,7 +134,7 @@ pub fn accept_with<M: Machine, W: Progress>(
     ensures not_closed { IfErr result (IfFault (λ _. IsClosed (M.behaviour machine.now) (sets_of body.now) → ⊥)) }
 {
     numbered_sets_law(machine);
-    check(alloc, machine, body, watch)?;
+    check(alloc, machine, body, seed, watch)?;
     Ok(Accepted {
         states: body.state_count(),
         pairs: body.pair_count(),

@@ -1,19 +1,20 @@
 //! The edges of a state that decide which pairs are missing: the first two of each kind.
-ghost use Rattle.std.specs.Prelude.{◌≡◌, [], IfOk, OnOk};
-ghost use Rattle.brl_closure.specs.Alike.{AreFirstTwo, IsCounted, kind_of};
+ghost use Rattle.std.specs.Prelude.{◌≡◌, ℕ, IfOk, List, Some, slice_get};
+ghost use Rattle.brl_closure.specs.Alike.{AreFirstTwo, IsCounted, number_kind};
+ghost use Rattle.brl_pairs.specs.Listed.{HaveCells, edges_with};
+ghost use Rattle.brl_pairs.specs.Members.{IsMember};
+ghost use Rattle.brl_pairs.specs.declared.edge.ListedEdge.{ListedEdge as EdgeValue};
 
+use crate::check::sorted::Sorted;
 use brl_cells::Cells;
-use brl_pairs::{Edge, Key, Members, Seed};
+use brl_pairs::{Key, ListedEdge, Members, Seed, SortedEdge, sort_edges};
 use std::alloc::{AllocError, Global};
 
-/// Up to this number of edges all are kept, since looking up their kinds costs more than it saves.
-const FEW_EDGES: usize = 256;
-
-/// What decides which pair follows an edge: the number of its next state, and its cells.
+/// What decides which pair follows an edge: the number of its next state, and that of its cells.
 #[derive(PartialEq, Eq, Hash, Drop)]
 struct Kind {
     next: u32,
-    cells: Cells,
+    cells: u32,
 }
 
 impl Key for Kind {
@@ -24,78 +25,80 @@ impl Key for Kind {
 
 impl Kind {
     /// The kind of an edge.
-    fn of(edge: &Edge) -> Result<Kind, AllocError>
-        ensures { IfOk result (λ kind. kind ≡ kind_of edge.now) }
+    fn of(edge: &ListedEdge) -> Kind
+        ensures { result ≡ number_kind edge.now }
     {
-        Ok(Kind {
+        Kind {
             next: edge.next,
-            cells: edge.cells.copy()?,
-        })
-    }
-}
-
-/// The edges in their order, without those that have two of their kind before them. Edges of one
-/// kind miss the same pairs, so further ones tell nothing new; the second one is kept, since two
-/// edges of one kind split with each other. Where there are few edges, all are kept.
-pub fn first_two_of_each_kind(alloc: Global, edges: Vec<Edge>) -> Result<Vec<Edge>, AllocError>
-    ensures { IfOk result (λ kept. AreFirstTwo edges.items kept.items) }
-{
-    if edges.len() <= FEW_EDGES {
-        return Ok(edges);
-    }
-    let mut kept = Vec::new(alloc);
-    keep_first_two(alloc, edges, &mut kept)?;
-    Ok(kept)
-}
-
-/// The seed by which the kinds of these edges are found. It is drawn from the edges, so that nobody
-/// can choose kinds that have one hash.
-fn seed_of(alloc: Global, edges: &[Edge]) -> Result<Seed, AllocError> {
-    let mut bytes = Vec::new(alloc);
-    for edge in edges {
-        push_edge(&mut bytes, edge)?;
-    }
-    Ok(Seed::of(bytes.as_slice()))
-}
-
-/// Adds what an edge's kind consists of: the number of its next state, and its cells.
-fn push_edge(bytes: &mut Vec<u8>, edge: &Edge) -> Result<(), AllocError> {
-    bytes.extend_from_slice(&edge.next.to_le_bytes())?;
-    bytes.extend_from_slice(&edge.cells.len().to_le_bytes())?;
-    for cell in edge.cells.as_slice() {
-        bytes.push(cell.0)?;
-    }
-    Ok(())
-}
-
-/// Adds the edges that have less than two of their kind before them.
-fn keep_first_two(alloc: Global, edges: Vec<Edge>, kept: &mut Vec<Edge>) -> Result<(), AllocError>
-    requires { kept.old.items ≡ [] }
-    ensures { OnOk result (AreFirstTwo edges.items kept.new.items) }
-{
-    let seed = seed_of(alloc, edges.as_slice())?;
-    let mut once = Members::new(alloc, seed);
-    let mut twice = Members::new(alloc, seed);
-    for edge in edges {
-        if count(&edge, &mut once, &mut twice)? {
-            kept.push(edge)?;
+            cells: edge.cells,
         }
     }
-    Ok(())
+}
+
+/// The edges in their order, sorted by their cells, without those that have two of their kind before
+/// them. Edges of one kind miss the same pairs, so further ones tell nothing new; the second one is
+/// kept, since two edges of one kind split with each other. Where no three edges have the same
+/// cells, all are kept. Kinds are found by hashes of this seed.
+pub fn sort_first_two<'c>(
+    alloc: Global,
+    cells: &'c [Cells],
+    edges: Vec<ListedEdge>,
+    seed: Seed,
+) -> Result<Sorted<'c>, AllocError>
+    requires { HaveCells cells.now edges.items }
+    ensures { IfOk result (λ sorted. AreFirstTwo (edges_with cells.now edges.items) sorted) }
+{
+    let sorted = sort_edges(alloc, cells, edges.as_slice())?;
+    if !has_three_alike(sorted.as_slice()) {
+        return Sorted::new(alloc, cells, edges, sorted);
+    }
+    let kept = first_two_of_each_kind(alloc, edges.as_slice(), seed)?;
+    let sorted = sort_edges(alloc, cells, kept.as_slice())?;
+    Sorted::new(alloc, cells, kept, sorted)
+}
+
+/// Whether three of these edges, which are in the order of their cells, have the same ones.
+fn has_three_alike(sorted: &[SortedEdge]) -> bool {
+    for place in 2..sorted.len() {
+        if sorted[place - 2].cells == sorted[place].cells {
+            return true;
+        }
+    }
+    false
+}
+
+/// The edges in their order that have less than two of their kind before them.
+fn first_two_of_each_kind(
+    alloc: Global,
+    edges: &[ListedEdge],
+    seed: Seed,
+) -> Result<Vec<ListedEdge>, AllocError>
+    ensures first_two { IfOk result (λ kept. (cells : List (List ℕ)) → AreFirstTwo (edges_with cells edges.now) (edges_with cells kept.items)) }
+    ensures only { IfOk result (λ kept. (place : ℕ) (e : EdgeValue) → slice_get kept.items place ≡ Some e → IsMember edges.now e) }
+{
+    let mut once = Members::new(alloc, seed);
+    let mut twice = Members::new(alloc, seed);
+    let mut kept = Vec::new(alloc);
+    for edge in edges {
+        if count(edge, &mut once, &mut twice)? {
+            kept.push(*edge)?;
+        }
+    }
+    Ok(kept)
 }
 
 /// Counts the kind of an edge: adds it to the kinds that are there once, and where it is there to
 /// those that are there twice. Whether it was added.
 fn count(
-    edge: &Edge,
+    edge: &ListedEdge,
     once: &mut Members<Kind>,
     twice: &mut Members<Kind>,
 ) -> Result<bool, AllocError>
-    ensures { IfOk result (IsCounted (kind_of edge.now) once.old twice.old once.new twice.new) }
+    ensures { IfOk result (IsCounted (number_kind edge.now) once.old twice.old once.new twice.new) }
 {
-    if once.insert(Kind::of(edge)?)? {
+    if once.insert(Kind::of(edge))? {
         return Ok(true);
     }
-    let added = twice.insert(Kind::of(edge)?)?;
+    let added = twice.insert(Kind::of(edge))?;
     Ok(added)
 }

@@ -36,16 +36,15 @@ fn missing_pair(
     pairs: &Members<Pair<u32>>,
     ahead: u32,
     lead: &[Cell],
-    edges: &Sorted,
+    edges: &Sorted<'_>,
 ) -> Result<Option<u32>, AllocError>
     requires { AreInOrder edges.now }
     ensures { IfOk result (IsLeastFound (HasOfRule (IsMissing pairs.now ahead lead.now) edges.now)) }
 {
-    let listed = edges.edges();
     let found = edges.matches(alloc, lead)?;
     for matching in found.as_slice() {
-        let edge = &listed[matching.place as usize];
-        if is_missing(alloc, pairs, ahead, lead, edge)? {
+        let edge = edges.edge(alloc, matching.place as usize)?;
+        if is_missing(alloc, pairs, ahead, lead, &edge)? {
             return Ok(Some(edge.rule));
         }
     }
@@ -57,7 +56,7 @@ fn missing_pair(
 fn missing_split_with(
     alloc: Global,
     pairs: &Members<Pair<u32>>,
-    edges: &Sorted,
+    edges: &Sorted<'_>,
     second: usize,
 ) -> Result<Option<u32>, AllocError>
     requires in_order { AreInOrder edges.now }
@@ -65,13 +64,12 @@ fn missing_split_with(
     ensures { IfOk result (λ found. (later : EdgeValue) → slice_get edges.now second ≡ Some later
         → IsLeastFound (HasBefore (λ earlier. IsMissing pairs.now earlier.next earlier.cells later) edges.now second) found) }
 {
-    let listed = edges.edges();
-    let later = &listed[second];
+    let later = edges.edge(alloc, second)?;
     let found = edges.earlier(alloc, second)?;
     for matching in found.as_slice() {
-        let earlier = &listed[matching.place as usize];
+        let earlier = edges.edge(alloc, matching.place as usize)?;
         let lead = earlier.cells.as_slice();
-        if is_missing(alloc, pairs, earlier.next, lead, later)? {
+        if is_missing(alloc, pairs, earlier.next, lead, &later)? {
             return Ok(Some(earlier.rule));
         }
     }
@@ -99,15 +97,16 @@ fn lesser(one: Option<(u32, u32)>, other: Option<(u32, u32)>) -> Option<(u32, u3
 fn missing_split(
     alloc: Global,
     pairs: &Members<Pair<u32>>,
-    edges: &Sorted,
+    edges: &Sorted<'_>,
 ) -> Result<Option<(u32, u32)>, AllocError>
     requires { AreInOrder edges.now }
     ensures { IfOk result (IsLeastPairFound (HasOfRules (λ earlier. IsMissing pairs.now earlier.next earlier.cells) edges.now)) }
 {
     let mut best = None;
-    for (second, later) in edges.edges().iter().enumerate() {
+    for second in 0..edges.len() {
         let found = missing_split_with(alloc, pairs, edges, second)?;
-        best = lesser(best, found.map(|first| (first, later.rule)));
+        let rule = edges.rule_at(second);
+        best = lesser(best, found.map(|first| (first, rule)));
     }
     Ok(best)
 }
@@ -118,7 +117,7 @@ pub fn missing_split_at<M: Machine>(
     alloc: Global,
     machine: &M,
     body: &Body<M::State>,
-    edges: &Sorted,
+    edges: &Sorted<'_>,
     state: u32,
 ) -> Result<Option<MissingSplit>, AllocError>
     requires edges { AreFirstTwoAt (M.behaviour machine.now) body.now.states state edges.now }
@@ -142,7 +141,7 @@ pub fn missing_pair_at<M: Machine>(
     alloc: Global,
     machine: &M,
     body: &Body<M::State>,
-    edges: &Sorted,
+    edges: &Sorted<'_>,
     number: usize,
 ) -> Result<Option<u32>, AllocError>
     requires number { number < length body.now.pairs }

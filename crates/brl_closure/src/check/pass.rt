@@ -7,13 +7,13 @@ ghost use Rattle.brl_failure.specs.Failure.{IfFault};
 ghost use Rattle.brl_pairs.specs.Runs.{KeepsLaws};
 
 use crate::AcceptFault;
-use crate::check::edges::edges_of;
-use crate::check::kinds::first_two_of_each_kind;
+use crate::check::edges::{KeptParts, edges_of};
+use crate::check::kinds::sort_first_two;
 use crate::check::missing::{MissingPair, MissingSplit, missing_pair_at, missing_split_at};
 use crate::check::pairs_by_state::{PairsByTrailingState, pairs_by_trailing_state};
 use crate::check::sorted::Sorted;
 use brl_failure::Failure;
-use brl_pairs::{Body, Key, Machine};
+use brl_pairs::{Body, Key, Machine, Parted, Seed};
 use brl_progress::{Progress, Work};
 use std::alloc::{AllocError, Global};
 
@@ -42,7 +42,7 @@ fn missing_pair_after<M: Machine>(
     machine: &M,
     body: &Body<M::State>,
     behind: &PairsByTrailingState,
-    edges: &Sorted,
+    edges: &Sorted<'_>,
     state: u32,
     least: Option<MissingPair>,
 ) -> Result<Option<MissingPair>, AllocError>
@@ -73,7 +73,7 @@ fn missing_after<M: Machine>(
     machine: &M,
     body: &Body<M::State>,
     behind: &PairsByTrailingState,
-    edges: &Sorted,
+    edges: &Sorted<'_>,
     state: u32,
     missing: Missing,
 ) -> Result<Missing, AllocError>
@@ -96,10 +96,12 @@ fn missing_after<M: Machine>(
 
 /// What is missing, by one pass over the states that holds the edges of one state at a time. A
 /// watcher is told of each state. The fault is the first step that leads to no state of the body.
-pub fn find_missing<M: Machine, W: Progress>(
+/// Parts, cells and kinds are found by hashes of this seed.
+pub fn find_missing<M: Parted, W: Progress>(
     alloc: Global,
     machine: &M,
     body: &Body<M::State>,
+    seed: Seed,
     watch: &mut W,
 ) -> Result<Missing, Failure<AcceptFault>>
     requires laws { KeepsLaws (M.behaviour machine.now) }
@@ -109,15 +111,16 @@ pub fn find_missing<M: Machine, W: Progress>(
     ensures refused { IfErr result (IfFault (IsRefused (M.behaviour machine.now) body.now)) }
 {
     let behind = pairs_by_trailing_state(alloc, body)?;
+    let mut kept = KeptParts::new(alloc, seed);
     let mut missing = Missing {
         split: None,
         pair: None,
     };
     for state in 0..body.state_count() {
         watch.report(work_at(body, state));
-        let edges = edges_of(alloc, machine, body, state as usize)?;
-        let kept = first_two_of_each_kind(alloc, edges)?;
-        let sorted = Sorted::new(alloc, kept)?;
+        kept.forget_parts(alloc, seed);
+        let edges = edges_of(alloc, machine, body, &mut kept, state as usize)?;
+        let sorted = sort_first_two(alloc, kept.cells.as_slice(), edges, seed)?;
         missing = missing_after(alloc, machine, body, &behind, &sorted, state, missing)?;
     }
     Ok(missing)

@@ -1,87 +1,89 @@
 //! The edges of one state, with those that a lead can follow.
-ghost use Rattle.std.specs.Prelude.{◌≡◌, ◌<◌, [], IfOk, List, Some, length, slice_get};
+ghost use Rattle.std.specs.Prelude.{◌≡◌, ◌<◌, IfOk, List, Some, length, slice_get};
 ghost use Rattle.brl_closure.specs.Sorted.{AreFound};
-ghost use Rattle.brl_pairs.specs.Sorted.{AreByNumbers, IsSortedOf};
+ghost use Rattle.brl_pairs.specs.Listed.{edges_with};
+ghost use Rattle.brl_pairs.specs.Sorted.{IsSortedOf};
 ghost use Rattle.brl_pairs.specs.Splits.{AreSplits};
 ghost use Rattle.brl_pairs.specs.declared.edge.Edge.{Edge as EdgeValue};
 
 use brl_cells::{Cell, Cells};
 use brl_pairs::{
-    Edge, SortedEdge, Splits, as_u32, earlier_splits, matches, sort_by_cells, splits_of,
+    Edge, ListedEdge, SortedEdge, Splits, cells_at, earlier_splits, matches, splits_of,
 };
 use std::alloc::{AllocError, Global};
 use std::marker::Model;
 
-/// The edges of a state. A contract sees them in listed order.
+/// The edges of a state. A contract sees them in listed order, with their cells.
 #[derive(Drop)]
-pub struct Sorted {
-    edges: Vec<Edge>,
-    /// The cells of each edge, by its place.
-    cells: Vec<Cells>,
+pub struct Sorted<'c> {
+    cells: &'c [Cells],
+    edges: Vec<ListedEdge>,
     sorted: Vec<SortedEdge>,
     splits: Splits,
 }
 
-impl Model for Sorted {
+impl<'c> Model for Sorted<'c> {
     ghost Value = { List EdgeValue };
 
-    ghost view = { λ s. s.edges.items };
+    ghost view = { λ s. edges_with s.cells.now s.edges.items };
 
-    ghost invariant = { λ s. IsSortedOf s.cells.items s.edges.items s.sorted.items × AreSplits s.cells.items s.sorted.items s.splits };
+    ghost invariant = { λ s. IsSortedOf s.cells.now (edges_with s.cells.now s.edges.items) s.sorted.items × AreSplits s.cells.now s.sorted.items s.splits };
 }
 
-/// The edges by their places, which are the numbers of their cells too.
-fn number_own(
-    alloc: Global,
-    edges: &[Edge],
-    cells: &mut Vec<Cells>,
-) -> Result<Vec<SortedEdge>, AllocError>
-    requires { cells.old.items ≡ [] }
-    ensures { IfOk result (λ numbered. AreByNumbers cells.new.items edges.now numbered.items) }
-{
-    let mut numbered = Vec::with_capacity(alloc, edges.len())?;
-    for (place, edge) in edges.iter().enumerate() {
-        let number = as_u32(place)?;
-        let copy = edge.cells.copy()?;
-        cells.push(copy)?;
-        numbered.push(SortedEdge {
-            cells: number,
-            next: edge.next,
-            place: number,
-        })?;
-    }
-    Ok(numbered)
-}
-
-impl Sorted {
-    /// The same edges, sorted by their cells.
-    pub fn new(alloc: Global, edges: Vec<Edge>) -> Result<Sorted, AllocError>
-        ensures { IfOk result (λ sorted. sorted ≡ edges.items) }
+impl<'c> Sorted<'c> {
+    /// The edges with these cells, which are also given in the order of their cells.
+    pub fn new(
+        alloc: Global,
+        cells: &'c [Cells],
+        edges: Vec<ListedEdge>,
+        sorted: Vec<SortedEdge>,
+    ) -> Result<Sorted<'c>, AllocError>
+        requires { IsSortedOf cells.now (edges_with cells.now edges.items) sorted.items }
+        ensures { IfOk result (λ own. own ≡ edges_with cells.now edges.items) }
     {
-        let mut cells = Vec::new(alloc);
-        let numbered = number_own(alloc, edges.as_slice(), &mut cells)?;
-        let sorted = sort_by_cells(cells.as_slice(), numbered);
-        let splits = splits_of(alloc, cells.as_slice(), sorted.as_slice(), edges.len())?;
+        let splits = splits_of(alloc, cells, sorted.as_slice(), edges.len())?;
         Ok(Sorted {
-            edges,
             cells,
+            edges,
             sorted,
             splits,
         })
     }
 
-    /// The edges in listed order.
-    pub fn edges(&self) -> &[Edge]
-        ensures { result.now ≡ self.now }
+    /// The number of edges.
+    pub fn len(&self) -> usize
+        ensures { result ≡ length self.now }
     {
-        self.edges.as_slice()
+        self.edges.len()
+    }
+
+    /// The rule of the edge at this place of the listed order, from 0.
+    pub fn rule_at(&self, place: usize) -> u32
+        requires { place < length self.now }
+        ensures { (e : EdgeValue) → slice_get self.now place ≡ Some e → result ≡ e.rule }
+    {
+        self.edges[place].rule
+    }
+
+    /// The edge at this place of the listed order, from 0.
+    pub fn edge(&self, alloc: Global, place: usize) -> Result<Edge, AllocError>
+        requires { place < length self.now }
+        ensures { IfOk result (λ edge. slice_get self.now place ≡ Some edge) }
+    {
+        let listed = self.edges[place];
+        let own = cells_at(self.cells, listed.cells);
+        Ok(Edge {
+            rule: listed.rule,
+            cells: Cells::from_slice(alloc, own)?,
+            next: listed.next,
+        })
     }
 
     /// The edges whose cells begin this lead or begin with it, by ascending place.
     pub fn matches(&self, alloc: Global, lead: &[Cell]) -> Result<Vec<SortedEdge>, AllocError>
         ensures { IfOk result (λ found. AreFound self.now lead.now (length self.now) found.items) }
     {
-        matches(alloc, self.cells.as_slice(), self.sorted.as_slice(), lead)
+        matches(alloc, self.cells, self.sorted.as_slice(), lead)
     }
 
     /// The edges before the one at this place whose cells begin its cells or begin with them, by
@@ -90,7 +92,12 @@ impl Sorted {
         requires { place < length self.now }
         ensures { IfOk result (λ found. (e : EdgeValue) → slice_get self.now place ≡ Some e → AreFound self.now e.cells place found.items) }
     {
-        let cells = self.cells.as_slice();
-        earlier_splits(alloc, cells, self.sorted.as_slice(), &self.splits, place)
+        earlier_splits(
+            alloc,
+            self.cells,
+            self.sorted.as_slice(),
+            &self.splits,
+            place,
+        )
     }
 }

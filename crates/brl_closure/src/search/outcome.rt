@@ -6,6 +6,7 @@ ghost use Rattle.brl_closure.specs.Trail.{HasPassed, IsStopped, IsTraced};
 ghost use Rattle.brl_closure.specs.Worklist.{IsFinished};
 
 use crate::search::finder::{Finder, Stop};
+use crate::search::known_steps::KnownSteps;
 use crate::search::trail::Trail;
 use brl_pairs::{Body, Key, Machine};
 use std::alloc::AllocError;
@@ -48,7 +49,8 @@ impl<'m, M: Machine> Finder<'m, M> {
         match stop {
             Stop::Limit => Ok(self.counts(trail)),
             Stop::BothEnd(number) => {
-                let texts = self.texts_of(trail, number)?;
+                let mut known = KnownSteps::new(self.alloc);
+                let texts = self.texts_of(trail, &mut known, number)?;
                 Ok(Outcome::BothEnd {
                     left: texts.left,
                     right: texts.right,

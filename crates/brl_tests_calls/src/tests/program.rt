@@ -3,7 +3,10 @@ use brl_failure::Failure;
 use brl_lines::MapSource;
 use brl_table::Table;
 use brl_testing::{Listener, one_file, table_of};
-use brl_tool::{Counting, CreateFault, Files, Form, SinkFault, StreamFault, run, translate_lines};
+use brl_tool::{
+    Counting, CreateFault, Files, Form, Lacking, SinkFault, StreamFault, run,
+    translate_defined_lines, translate_lines,
+};
 use std::alloc::Global;
 use std::test::Fail;
 
@@ -31,9 +34,35 @@ fn is_streamed(alloc: Global, table: &Table, form: Form, input: &[u8], want: &[u
     done.is_ok() && out.device.as_slice() == want
 }
 
+fn is_listed(alloc: Global, table: &Table, input: &[u8], want: Lacking) -> bool {
+    let mut out = Counting::new(Vec::new(alloc));
+    let mut reader = Counting::new(input);
+    let done: Result<Vec<Lacking>, Failure<StreamFault>> = translate_defined_lines(
+        alloc,
+        table,
+        Form::Ascii,
+        &mut reader,
+        &mut out,
+    );
+    match done {
+        Ok(list) => list.as_slice() == [want].as_slice(),
+        Err(_) => false,
+    }
+}
+
 fn streams(alloc: Global, table: &Table) -> bool {
     is_streamed(alloc, table, Form::Ascii, b"a\n", b"A\n")
         && is_streamed(alloc, table, Form::Unicode, b"a\n", "\u{2801}\n".as_bytes())
+        && is_listed(
+            alloc,
+            table,
+            b"a\n~\n",
+            Lacking {
+                character: '~',
+                count: 1,
+                line: 2,
+            },
+        )
         && !is_streamed(alloc, table, Form::Ascii, b"z\n", b"")
 }
 

@@ -1,24 +1,28 @@
 //! Every pair of rules at which the texts of worked tables diverge.
+use brl_divergence::{Divergences, Listing, Slice};
+use brl_dues::Dues;
 use brl_forward::confirm;
 use brl_progress::NoProgress;
 use brl_rules::Table;
-use brl_search::{ClashList, RuleClash, clashes};
-use brl_testing::{chars, for_rows_of_4, table_of};
+use brl_search::{ClashList, RuleClash, clashes, seed_of};
+use brl_states::DuesState;
+use brl_testing::{chars, for_rows_of_4, for_tables_of_4, table_of};
 use brl_without::{LeftOut, Scope};
-use std::alloc::Global;
+use std::alloc::{AllocError, Global};
 use std::test::Fail;
 
 /// A table's lines, the characters that are left out, the limit, and what is listed: each pair of
-/// rules with two texts that diverge there.
+/// rules with two texts that diverge there. A list that may lack some has the numbers of states and
+/// pairs first.
 const LISTS: &str = "\
 ||9|complete
 letter a 1; letter b 12||9|complete
 letter a 1; letter b 1||9|complete; 0+1 a b
 letter a 1; letter b 1; letter c 1||9|complete; 0+1 a b; 0+2 a c; 1+2 b c
 letter a 1; letter b 1; letter c 1||3|complete; 0+1 a b; 0+2 a c; 1+2 b c
-letter a 1; letter b 1; letter c 1||2|partial; 0+1 a b; 0+2 a c; 1+2 b c
-letter a 1; letter b 1; letter c 1||1|partial
-letter a 1||0|partial
+letter a 1; letter b 1; letter c 1||2|partial 2 0; 0+1 a b; 0+2 a c; 1+2 b c
+letter a 1; letter b 1; letter c 1||1|partial 2 0
+letter a 1||0|partial 1 0
 letter a 1; letter b 12; letter x 1-12||9|complete; 0+2 x ab
 letter a 1; letter b 12; letter x 1-12|b|9|complete
 letter a 1; letter b 12; letter x 1-12|x|9|complete
@@ -26,6 +30,9 @@ letter a 1; letter b 12; letter c 14; letter x 1-12-14||9|complete; 0+3 x abc
 letter a 1; letter b 12; letter c 14; always ab 14||9|complete; 0+3 ab c
 space \\s 0; letter b 12; letter u 136; letter t 2345; word but 12||99|complete; 0+2 but b
 space \\s 0; letter b 12; letter u 136; letter t 2345; word but 12; word b 56-12||99|complete
+uplow Aa 1; letter b 2; always ab 12||99|complete; 0+0 Ab ab; 1+2 A a
+uplow Aa 1; letter b 2; always ab 12|A|99|complete
+uplow Aa 1; uplow Bb 12; capsletter 6; begcapsword 6||99|complete; 0+0 AA Aa; 0+1 AAA AAa; 2+2 BA Ba; 2+3 AAB AAb
 ";
 
 /// Appends a pair of rules and its texts. It is told where these don't clash.
@@ -75,11 +82,74 @@ fn told_of(alloc: Global, lines: &str, left_out: &str, limit: &str) -> Result<St
             "complete",
             list.as_slice(),
         ),
-        ClashList::Partial { list, .. } => told_of_list(alloc, &table, "partial", list.as_slice()),
+        ClashList::Partial {
+            list,
+            states,
+            pairs,
+        } => {
+            let word = format!(in alloc; "partial {states} {pairs}")?;
+            told_of_list(alloc, &table, word.as_str(), list.as_slice())
+        }
     }
 }
 
 #[test]
 fn worked_lists(rt: HostRuntime) -> Result<(), Fail> {
     for_rows_of_4(rt.alloc(), LISTS, told_of)
+}
+
+/// A table's lines, how many steps the listing of its machine runs in two slices, and what it has
+/// found then. Each step expands a state or settles the splits of one, and a last one ends it.
+const SLICES: &str = "\
+letter a 1; letter b 1|0|0|unfinished
+letter a 1; letter b 1|4|0|unfinished
+letter a 1; letter b 1|5|0|complete: 1 pairs of rules
+letter a 1; letter b 1|3|2|complete: 1 pairs of rules
+letter a 1; letter b 1|5|9|complete: 1 pairs of rules
+letter a 1; letter b 1; letter c 1|1|9|complete: 3 pairs of rules
+";
+
+/// The listing after `steps` more steps, if it isn't finished.
+fn next_slice<'m>(
+    progress: Slice<'m, Dues<'m>>,
+    steps: u64,
+) -> Result<Slice<'m, Dues<'m>>, AllocError> {
+    match progress {
+        Slice::Unfinished(listing) => listing.run(steps),
+        Slice::Finished(divergences) => Ok(Slice::Finished(divergences)),
+    }
+}
+
+/// What a listing has found, in words.
+fn told_of_divergences(
+    alloc: Global,
+    divergences: &Divergences<DuesState>,
+) -> Result<String, AllocError> {
+    match divergences {
+        Divergences::Complete { list, .. } => {
+            let count = list.len();
+            format!(in alloc; "complete: {count} pairs of rules")
+        }
+        Divergences::Partial { list, .. } => {
+            let count = list.len();
+            format!(in alloc; "partial: {count} pairs of rules")
+        }
+    }
+}
+
+/// What the listing of a table's machine has found after two slices.
+fn told_of_slices(alloc: Global, table: &Table, first: &str, second: &str) -> Result<String, Fail> {
+    let dues = Dues::new(alloc, table);
+    let start = Listing::start(alloc, &dues, 9, seed_of(alloc, table)?)?;
+    let once = next_slice(start, u64::from_str_radix(first, 10)?)?;
+    let twice = next_slice(once, u64::from_str_radix(second, 10)?)?;
+    match twice {
+        Slice::Unfinished(_) => Ok(String::from_str(alloc, "unfinished")?),
+        Slice::Finished(divergences) => Ok(told_of_divergences(alloc, &divergences)?),
+    }
+}
+
+#[test]
+fn listings_run_in_slices(rt: HostRuntime) -> Result<(), Fail> {
+    for_tables_of_4(rt.alloc(), SLICES, told_of_slices)
 }

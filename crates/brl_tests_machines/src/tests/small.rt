@@ -26,6 +26,14 @@ letter a 1; letter b 1; letter c 12; always bc 1-12|ac,bc|0,1|ac,bc
 letter a 1; letter b 1; letter c 12; always bc 1-12|ac,bc||a,b
 space \\s 0; letter b 12; letter u 136; letter t 2345; word but 12|t but,t b||but,b
 letter a 1; litdigit 1 1; numsign 3456|a1a,a11||1a,11
+uplow Aa 1; letter b 2; always ab 12|abab,abAb|0,0|ab,Ab
+uplow Aa 1; letter b 2; always ab 12|aba,abA|0,0|no clash
+uplow Aa 1; letter b 2; always ab 12|aba,abA|2,1|a,A
+uplow Aa 1; letter b 2; always ab 12|abab,abAb|0,1|no clash
+uplow Aa 1; uplow Bb 12; capsletter 6; begcapsword 6|bAB,bAb|0,0|AB,Ab
+uplow Aa 1; uplow Bb 12; capsletter 6; begcapsword 6|AB,Ab|2,3|no clash
+uplow Aa 1; uplow Bb 12; capsletter 6; begcapsword 6|AAB,AAb|2,3|AAB,AAb
+uplow Aa 1; uplow Bb 12; capsletter 6; begcapsword 6|AAB,AAb|0,0|no clash
 ";
 
 /// The two texts of a clash, as a field.

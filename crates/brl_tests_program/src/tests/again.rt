@@ -11,6 +11,7 @@ use std::test::Fail;
 const ROWS: &str = "\
 t.ctb: space \\s 0; letter a 1; letter b 12; letter c 14|brl,translate,t.ctb|abc a|ABC A||0
 t.ctb: #|brl,translate,t.ctb||||0
+t.ctb: space \\s 0; letter a 1; letter b 12; letter c 14|brl,translate,--lacking,t.ctb|az; b|B|lacking z U+007A: count 1, first line 1|2
 t.ctb: letter a 1; letter b 12; letter x 1-12; always ab 14|brl,translate,t.ctb|aab|AC||0
 t.ctb: space \\s 0; letter b 12; letter u 136; letter t 2345; word but 12; word b 56-12|brl,translate,t.ctb|b but|;B B||0
 t.ctb: letter a 1; litdigit 1 1; numsign 3456; nocontractsign 56; numericnocontchars a|brl,translate,t.ctb|1a|#A;A||0

@@ -8,6 +8,13 @@ t.ctb: space \\s 0; letter a 1; letter b 12; letter c 14|brl,translate,t.ctb||||
 t.ctb: space \\s 0; letter a 1; letter b 12; letter c 14|brl,translate,t.ctb|az||F1 UnknownChar 1 at line 1|2
 t.ctb: space \\s 0; letter a 1; letter b 12; letter c 14|brl,translate,t.ctb|ab; c; az; b|AB; C|F1 UnknownChar 1 at line 3|2
 t.ctb: letter q 17|brl,translate,t.ctb|q||U1 NoAscii at line 1|2
+t.ctb: space \\s 0; letter a 1; letter b 12; letter c 14|brl,translate,--lacking,t.ctb|az; b; zyaz; c|B; C|lacking z U+007A: count 3, first line 1; lacking y U+0079: count 1, first line 3|2
+t.ctb: space \\s 0; letter a 1; letter b 12; letter c 14|brl,translate,--lacking,t.ctb|abc a|ABC A||0
+t.ctb: space \\s 0; letter a 1; letter b 12; letter c 14|brl,translate,--lacking,t.ctb||||0
+t.ctb: letter a 1|brl,translate,--lacking,t.ctb|a; a a; \u{e9}\u{1f600}|A|lacking \\s U+0020: count 1, first line 2; lacking \u{e9} U+00E9: count 1, first line 3; lacking \u{1f600} U+1F600: count 1, first line 3|2
+t.ctb: letter q 17|brl,translate,--lacking,t.ctb|z; q; y||U1 NoAscii at line 2|2
+t.ctb: letter q 17|brl,translate,--lacking,--form,unicode,t.ctb|zq; q|\u{2841}|lacking z U+007A: count 1, first line 1|2
+t.ctb: letter a|brl,translate,--lacking,t.ctb|a||B2 MissingOperand letter at t.ctb:1|2
 t.ctb: pass2 @1 @2|brl,translate,t.ctb|||B1 OutsideProfile pass2 at t.ctb:1|2
 t.ctb: letter a 1; letter a 12|brl,translate,t.ctb|a|A||0
 t.ctb: letter a|brl,translate,t.ctb|||B2 MissingOperand letter at t.ctb:1|2
@@ -251,6 +258,23 @@ pub const EXPLANATIONS: &str = "\
 |brl,explain,no clash|||error: no fault is written as no clash|2
 ";
 
+/// Lists of clashes, in the same form.
+pub const CLASHES: &str = "\
+t.ctb: letter a 1; letter b 12|brl,clashes,t.ctb||small letters: 0 pairs of rules diverge, and no others; unambiguous: 2 states, 0 pairs||0
+t.ctb: letter a 1; letter b 12; letter x 1-12|brl,clashes,t.ctb||small letters: 1 pairs of rules diverge, and no others;   x / ab  1-12  t.ctb:3 letter x  t.ctb:1 letter a; 1 pairs of rules diverge, and no others||1
+t.ctb: letter a 1; punctuation . 1|brl,clashes,t.ctb||small letters: 0 pairs of rules diverge, and no others; with marks: 1 pairs of rules diverge, and no others;   a / .  1  t.ctb:1 letter a  t.ctb:2 punctuation .; 1 pairs of rules diverge, and no others||1
+t.ctb: letter a 1; punctuation . 1|brl,clashes,t.ctb,--without,.||small letters: 0 pairs of rules diverge, and no others; unambiguous: 2 states, 0 pairs; without: .||0
+t.ctb: digit 1 1; letter a 1|brl,clashes,t.ctb||small letters: 0 pairs of rules diverge, and no others; with digits: 1 pairs of rules diverge, and no others;   1 / a  1  t.ctb:1 digit 1  t.ctb:2 letter a; 1 pairs of rules diverge, and no others||1
+t.ctb: uplow Aa 1; letter b 12; letter x 1-12; sign + 346; math = 346|brl,clashes,t.ctb||small letters: 1 pairs of rules diverge, and no others;   x / ab  1-12  t.ctb:3 letter x  t.ctb:1 uplow a; with capitals: 2 more pairs of rules diverge, and no others;   A / a  1  t.ctb:1 uplow A  t.ctb:1 uplow a;   x / Ab  1-12  t.ctb:3 letter x  t.ctb:1 uplow A; all characters: 1 more pairs of rules diverge, and no others;   + / =  346  t.ctb:4 sign +  t.ctb:5 math =; 4 pairs of rules diverge, and no others||1
+t.ctb: letter a 1; letter b 1; letter c 1; always ab 2; always bc 2|brl,clashes,t.ctb,--first,1||small letters: 4 pairs of rules diverge, and no others;   a / b  1  t.ctb:1 letter a  t.ctb:2 letter b;   3 more; 4 pairs of rules diverge, and no others||1
+t.ctb: letter a 1; letter b 12; letter x 1-12|brl,clashes,t.ctb,--limit,0||small letters: 0 pairs of rules diverge, and maybe others; limit: 1 states, 0 pairs; 0 pairs of rules diverge, and maybe others||3
+t.ctb: letter a 1|brl,clashes,t.ctb,--without,a||small letters: 0 pairs of rules diverge, and no others; unambiguous: 1 states, 0 pairs; without: a||0
+t.ctb: letter a 19|brl,clashes,t.ctb|||B4 BadDots 19 at t.ctb:1|2
+t.ctb: letter a 1|brl,clashes,t.ctb,--without,b|||U8 UndefinedLeftOut b|2
+|brl,clashes,t.ctb,--without,a\\q|||U9 BadLeftOut a\\q|2
+|brl,clashes,t.ctb|||L1 NotFound t.ctb|2
+";
+
 /// Searches and checks without some characters, in the same form.
 pub const WITHOUT: &str = "\
 t.ctb: space \\s 0; space \\x00a0 0; letter a 1; letter b 12|brl,search,t.ctb,o,--without,\\x00a0||certified: 2 states, 0 pairs; without: \u{a0}||0
@@ -340,6 +364,11 @@ brl,search,t.ctb,o,--limit,4294967295||L1 NotFound t.ctb|2
 brl,search,t.ctb,o,--limit,4294967296||invalid value '4294967296' for '--limit <N>'|2
 brl,search,t.ctb,o,--limit,-1||'-1'|2
 brl,search,t.ctb,o,--limit,ten||invalid value 'ten' for '--limit <N>'|2
+brl,clashes,--help|brl clashes three.ctb||0
+brl,clashes,--help|--first <N>||0
+brl,clashes||<TABLE>|2
+brl,clashes,t.ctb,o||unexpected argument 'o'|2
+brl,clashes,t.ctb,--first,ten||invalid value 'ten' for '--first <N>'|2
 brl,cut,--help|brl cut far.ctb near||0
 brl,cut,--help|--rewrite||0
 brl,cut,t.ctb||<DIR>|2

@@ -97,6 +97,7 @@ fn worked_runs(rt: HostRuntime) -> Result<(), Fail> {
         cases::TRACES,
         cases::RULES,
         cases::EXPLANATIONS,
+        cases::CLASHES,
         cases::WITHOUT,
     ] {
         for_rows_of_4(alloc, rows, answer_of)?;

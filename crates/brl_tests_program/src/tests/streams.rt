@@ -5,7 +5,10 @@ use brl_rules::Table;
 use brl_testing::{
     Full, Slow, agree, bytes_of, field_of_bytes, for_rows_of_2, for_rows_of_3, with_table,
 };
-use brl_tool::{Counting, Form, Input, LineFault, Output, StreamFault, translate_lines};
+use brl_tool::{
+    Counting, Form, Input, Lacking, LineFault, Output, StreamFault, translate_defined_lines,
+    translate_lines,
+};
 use std::alloc::Global;
 use std::io;
 use std::test::Fail;
@@ -259,6 +262,117 @@ fn an_endless_line_ends(rt: HostRuntime) -> Result<(), Fail> {
     let alloc = rt.alloc();
     let given = with_table(alloc, LINES, |table| endless_line_answer(alloc, table))?;
     agree("one line", given.as_str(), "U5 InputLineTooLong at line 1|")
+}
+
+/// The characters that a stream lists, each with its count and its first line, or the text of its
+/// fault; and what it has written, as two fields.
+fn list_and_output(
+    alloc: Global,
+    outcome: Result<Vec<Lacking>, Failure<StreamFault>>,
+    written: &[u8],
+) -> Result<String, Fail> {
+    let mut text = String::new(alloc);
+    match outcome {
+        Ok(list) => {
+            for Lacking {
+                character,
+                count,
+                line,
+            } in &list {
+                write!(text, "{character} {count} {line},")?;
+            }
+        }
+        Err(fault) => write!(text, "{fault}")?,
+    }
+    let output = field_of_bytes(alloc, written)?;
+    Ok(format!(in alloc; "{text}|{output}")?)
+}
+
+/// The input, the list, and what is written.
+const LISTED: &str = "\
+abc a;||ABC A;
+az;b;zyaz;c|z 3 1,y 1 3,|B;C;
+yz\r;z|y 1 1,z 2 1,|
+||
+b;;z;a|z 1 3,|B;;A;
+zq;q|U1 NoAscii at line 2|
+z;!|U2 InputNotUtf8 at line 2|
+";
+
+fn listed_by(alloc: Global, table: &Table, input: &[u8]) -> Result<String, Fail> {
+    let mut reader = input;
+    let mut writer = Counting::new(Vec::new(alloc));
+    let outcome = translate_defined_lines(alloc, table, Form::Ascii, &mut reader, &mut writer);
+    list_and_output(alloc, outcome, writer.device.as_slice())
+}
+
+fn listed(alloc: Global, input: &str) -> Result<String, Fail> {
+    let input = bytes_of(alloc, input)?;
+    with_table(
+        alloc,
+        LINES,
+        |table| listed_by(alloc, table, input.as_slice()),
+    )
+}
+
+#[test]
+fn undefined_characters_are_listed(rt: HostRuntime) -> Result<(), Fail> {
+    for_rows_of_2(rt.alloc(), LISTED, listed)
+}
+
+/// The bytes that a reader gives before it fails, what is answered, and what is written.
+const LISTED_SLOWLY: &str = "az;b;z|U3 InputFailed at line 3|B;\n";
+
+fn list_slowly(alloc: Global, table: &Table, bytes: &[u8]) -> Result<String, Fail> {
+    let mut reader = Counting::new(Slow { bytes });
+    let mut writer = Counting::new(Vec::new(alloc));
+    let outcome = translate_defined_lines(alloc, table, Form::Ascii, &mut reader, &mut writer);
+    list_and_output(alloc, outcome, writer.device.as_slice())
+}
+
+fn slow_list(alloc: Global, bytes: &str) -> Result<String, Fail> {
+    let bytes = bytes_of(alloc, bytes)?;
+    with_table(
+        alloc,
+        LINES,
+        |table| list_slowly(alloc, table, bytes.as_slice()),
+    )
+}
+
+#[test]
+fn a_reader_fails_before_the_list(rt: HostRuntime) -> Result<(), Fail> {
+    for_rows_of_2(rt.alloc(), LISTED_SLOWLY, slow_list)
+}
+
+/// How many writes the writer takes, the input, what is answered, and what is written.
+const LISTED_UNTIL_FULL: &str = "1|z;abc a;b;c;|U4 OutputFailed at line 3|ABC A;\n";
+
+fn list_until_full(
+    alloc: Global,
+    table: &Table,
+    writes: u32,
+    input: &[u8],
+) -> Result<String, Fail> {
+    let mut reader = input;
+    let mut writer = Counting::new(Full {
+        left: writes,
+        taken: Vec::new(alloc),
+    });
+    let outcome = translate_defined_lines(alloc, table, Form::Ascii, &mut reader, &mut writer);
+    list_and_output(alloc, outcome, writer.device.taken.as_slice())
+}
+
+fn list_of_full_writer(alloc: Global, writes: &str, input: &str) -> Result<String, Fail> {
+    let writes = writes.parse()?;
+    let input = bytes_of(alloc, input)?;
+    with_table(alloc, LINES, |table| {
+        list_until_full(alloc, table, writes, input.as_slice())
+    })
+}
+
+#[test]
+fn a_writer_fails_before_the_list(rt: HostRuntime) -> Result<(), Fail> {
+    for_rows_of_3(rt.alloc(), LISTED_UNTIL_FULL, list_of_full_writer)
 }
 
 /// Whether a fault at line 3 is printed so.

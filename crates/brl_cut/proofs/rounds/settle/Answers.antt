@@ -1,6 +1,7 @@
 use Rattle.std.proofs.Common.{◌≡◌, ◌∙◌, ◌++◌, List, suc, ap, map, sym}
 use Rattle.std.proofs.lemmas.List.{map-append}
 use Rattle.std.proofs.lemmas.Result.{err_from_is_err_and}
+use Rattle.std.proofs.lemmas.Simd.{map-map}
 use Rattle.brl_failure.specs.Raised.{if_fault-weaker}
 use Rattle.brl_table.specs.Survey.{FaultyLineView, faulty_line_view}
 use Rattle.brl_cut.specs.Edits.{EditView, Texts, edited_files}
@@ -28,7 +29,7 @@ loop-preserved c =
     let told = c.in_ok-surveyed.ensures.found in
     let faulty : map faulty_line_view c.in_ok-surveyed.surveyed.faulty.items ≡ faulty_in root before =
     told.2 ∙ sym (faulty-found root (map file_view c.as_slice.result.now) told.0 told.1) ∙ ap (faulty_in root) now in
-    let edits = ap (map edit_view) c.as_slice-in-loop-3.ensures.value ∙ c.in_ok-edits.ensures ∙ ap (map fault_edit) (ap (map faulty_line_view) c.as_slice-in-loop.ensures.value ∙ faulty) in (
+    let edits = ap (map edit_view) c.as_slice-in-loop-3.ensures.value ∙ c.in_ok-edits.ensures ∙ sym (map-map fault_edit faulty_line_view c.as_slice-in-loop.result.now) ∙ ap (map fault_edit) (ap (map faulty_line_view) c.as_slice-in-loop.ensures.value ∙ faulty) in (
       suc inv.0,
       c.in_ok-files.ensures ∙ ap (λ (es : List EditView). edited_files es (map file_view c.as_slice-in-loop-2.result.now)) edits
           ∙ ap (edited_files (map fault_edit (faulty_in root before))) (ap (map file_view) c.as_slice-in-loop-2.ensures.value ∙ inv.1),

@@ -7,7 +7,7 @@ use Rattle.brl_rules.specs.TableView.{TableView}
 use Rattle.brl_without.specs.Without.{without}
 use Rattle.brl_search.specs.Clashes.{IsRuleClash, rules_of_clashes}
 use Rattle.brl_search.specs.declared.table_clashes.RuleClash.{RuleClash}
-use Rattle.brl_search.proofs.RuleClashes.{first_left, one_more_rule, rule_clash, texts_clash}
+use Rattle.brl_search.proofs.RuleClashes.{first_left, one_more_rule, rule_clash, texts_clash_at}
 use Rattle.brl_search.proofs.table_clashes.rule_clashes.Goals.{In-Some}
 use Rattle.brl_search.proofs.table_clashes.rule_clashes.Goals as goal
 
@@ -25,10 +25,10 @@ left : (c : In-Some) → IsDivergence (without c.args.left_out.now (dues_machine
 left c =
     first_left (IsDivergence (without c.args.left_out.now (dues_machine c.args.table.now))) c.loop-rules.rest.entries c.pop_first.new.self.entries (c.in-Some.rules, c.in-Some.texts) (removal c) c.loop-rules.invariant.rest
 
-pub clash_of-requires : goal.clash_of-requires
-clash_of-requires c =
-    let here = (goal.at.clash_of-requires c).In-Some in
-    texts_clash c.args.left_out.now c.args.table.now (exact here) c.in-Some.rules c.in-Some.texts (left here).0
+pub small_clash_of-requires : goal.small_clash_of-requires
+small_clash_of-requires c =
+    let here = (goal.at.small_clash_of-requires c).In-Some in
+    texts_clash_at c.args.left_out.now c.args.table.now (exact here) c.in-Some.rules c.in-Some.texts (left here).0 c.dues_trace_law.ensures.diverge
 
 pub loop-rules-preserved : goal.loop-rules-preserved
 loop-rules-preserved c =
@@ -42,7 +42,8 @@ loop-rules-preserved c =
     record {
       each = subst (All (IsRuleClash left_out t)) (sym c.in_ok-push.ensures.items)
           (All-push (IsRuleClash left_out t) done it c.loop-rules.invariant.each
-          (rule_clash left_out t (exact here) rules c.in-Some.texts (left here).0 c.dues_trace_law.ensures clash c.in_ok-clash.ensures.left c.in_ok-clash.ensures.right c.in_ok-clash.ensures.clash));
+          (rule_clash left_out t (exact here) rules c.in-Some.texts (left here).0 clash c.in_ok-clash.ensures.left c.in_ok-clash.ensures.right c.in_ok-clash.ensures.clash
+          c.in_ok-clash.ensures.diverge c.in_ok-clash.ensures.small));
       rest = (left here).1;
       rules = ap (λ (l : List RuleClash). rules_of_clashes l ++ rules_of c.pop_first.new.self) c.in_ok-push.ensures.items
           ∙ one_more_rule done it (rules, c.in-Some.texts) c.loop-rules.rest.entries c.pop_first.new.self.entries (rules_of c.args.list) (removal here) refl c.loop-rules.invariant.rules;

@@ -12,26 +12,25 @@ found c = subst (AreFound c.args.edges.now c.args.lead.now (length c.args.edges.
 pub loop-matching-init : goal.loop-matching-init
 loop-matching-init c = λ k x e below. absurd (omega arith)
 
-pub bounds-listed-matching : goal.bounds-listed-matching
-bounds-listed-matching c =
+pub edge-requires : goal.edge-requires
+edge-requires c =
     let a = c.args in
-    named_within a.edges.now a.lead.now (length a.edges.now) c.as_slice-matching-items.result.now (found (goal.at.bounds-listed-matching c).After-as_slice-matching-items)
-    c.edges-listed.result.now c.edges-listed.ensures c.loop-matching.matching-index c.loop-matching-test.true
+    named_within a.edges.now a.lead.now (length a.edges.now) c.as_slice-matching-items.result.now (found (goal.at.edge-requires c).After-as_slice-matching-items) c.loop-matching.matching-index c.loop-matching-test.true
 
 pub returns-then-branch : goal.returns-then-branch
 returns-then-branch c =
     let a = c.args in
-    let e = c.index-listed-matching.result in
+    let e = c.in_ok-edge.edge in
     least_of_all (IsMissing a.pairs.now a.ahead a.lead.now) a.edges.now e.rule
     (read_least (IsMissing a.pairs.now a.ahead a.lead.now) a.edges.now a.lead.now (length a.edges.now) c.as_slice-matching-items.result.now (found (goal.at.returns-then-branch c).After-as_slice-matching-items) (missing_matches a.pairs.now a.ahead a.lead.now)
-    c.edges-listed.result.now c.edges-listed.ensures c.loop-matching.matching-index c.loop-matching-test.true e c.index-listed-matching.is c.loop-matching.invariant
+    c.loop-matching.matching-index c.loop-matching-test.true e c.in_ok-edge.ensures c.loop-matching.invariant
     c.requires (c.in_ok-is_missing.ensures.0 c.if-branch.true))
 
 pub loop-matching-preserved : goal.loop-matching-preserved
 loop-matching-preserved c =
     let a = c.args in
     read_without (IsMissing a.pairs.now a.ahead a.lead.now) a.edges.now a.lead.now (length a.edges.now) c.as_slice-matching-items.result.now (found (goal.at.loop-matching-preserved c).After-as_slice-matching-items) (missing_matches a.pairs.now a.ahead a.lead.now)
-    c.edges-listed.result.now c.edges-listed.ensures c.loop-matching.matching-index c.loop-matching-test.true c.index-listed-matching.result c.index-listed-matching.is c.loop-matching.invariant
+    c.loop-matching.matching-index c.loop-matching-test.true c.in_ok-edge.edge c.in_ok-edge.ensures c.loop-matching.invariant
     (refuted c.in_ok-is_missing.field-0 c.in_ok-is_missing.ensures c.if-branch.false)
 
 pub returns : goal.returns

@@ -1,18 +1,22 @@
-use Rattle.std.proofs.Common.{List, length, get_or, ◌∙◌, ap, arith, rules}
+use Rattle.std.proofs.Common.{◌≡◌, ◌<◌, ℕ, List, Option, length, ◌∙◌, ap, sym, arith, rules}
+use Rattle.std.specs.Option.{option_map}
+use Rattle.std.proofs.lemmas.Option.{get_or_from_slice_get}
 use Rattle.brl_closure.proofs.LeastSplit.{split_all, split_step}
+use Rattle.brl_pairs.proofs.Lists.{inside}
 use Rattle.brl_pairs.specs.NumberPairs.{IsMissing}
-use Rattle.brl_pairs.specs.declared.edge.Edge.{Edge}
 use Rattle.brl_closure.proofs.check.missing.missing_split.Goals as goal
 
 pub loop-second-preserved : goal.loop-second-preserved
 loop-second-preserved c =
     let a = c.args in
-    let y = c.later-item.result in
-    split_step (λ earlier. IsMissing a.pairs.now earlier.next earlier.cells) a.edges.now c.loop-second.second y (omega (arith, ap length c.edges-later-items.ensures))
-    (c.later-item.is ∙ ap (λ (l : List Edge). get_or l c.loop-second.second y) c.edges-later-items.ensures)
+    let n = c.loop-second.second in
+    let within : n < length a.edges.now = omega (arith, c.len-second-end.ensures) in
+    let y = inside a.edges.now n within in
+    let paired : c.map.result ≡ option_map (λ (first : ℕ). (first, c.rule_at-rule.result)) c.in_ok-found.found = search rules in
+    split_step (λ earlier. IsMissing a.pairs.now earlier.next earlier.cells) a.edges.now n y.0 within (sym (get_or_from_slice_get a.edges.now n y.0 y.0 y.1))
     c.loop-second.best c.loop-second.invariant c.in_ok-found.found c.in_ok-found.ensures
-    c.map.result (search rules) c.lesser-best.result c.lesser-best.ensures
+    c.map.result (paired ∙ ap (λ (r : ℕ). option_map (λ (first : ℕ). (first, r)) c.in_ok-found.found) (c.rule_at-rule.ensures y.0 y.1)) c.lesser-best.result c.lesser-best.ensures
 
 pub returns : goal.returns
 returns c =
-    split_all (λ earlier. IsMissing c.args.pairs.now earlier.next earlier.cells) c.args.edges.now c.loop-second.second (omega (arith, ap length c.edges-later-items.ensures)) c.loop-second.best c.loop-second.invariant
+    split_all (λ earlier. IsMissing c.args.pairs.now earlier.next earlier.cells) c.args.edges.now c.loop-second.second (omega (arith, c.len-second-end.ensures)) c.loop-second.best c.loop-second.invariant

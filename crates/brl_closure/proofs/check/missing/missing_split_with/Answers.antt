@@ -10,54 +10,53 @@ use Rattle.brl_closure.proofs.check.missing.missing_split_with.Goals.{After-as_s
 use Rattle.brl_closure.proofs.check.missing.missing_split_with.Goals as goal
 
 -- the later edge, and the earlier ones that match its cells
-found : (c : After-as_slice-matching-items) → (slice_get c.args.edges.now c.args.second ≡ Some c.index-listed-second.result)
-    × AreFound c.args.edges.now c.index-listed-second.result.cells c.args.second c.as_slice-matching-items.result.now
+found : (c : After-as_slice-matching-items) → (slice_get c.args.edges.now c.args.second ≡ Some c.in_ok-later.later)
+    × AreFound c.args.edges.now c.in_ok-later.later.cells c.args.second c.as_slice-matching-items.result.now
 found c =
     let edges = c.args.edges.now in
     let second = c.args.second in
-    let y = c.index-listed-second.result in
-    let y_at = read_at c.edges-listed.result.now edges second y c.edges-listed.ensures (omega (arith, c.requires.within, ap length c.edges-listed.ensures)) c.index-listed-second.is in
+    let y = c.in_ok-later.later in
+    let y_at = c.in_ok-later.ensures in
     (y_at, subst (AreFound edges y.cells second) (sym c.as_slice-matching-items.ensures.value) (c.in_ok-found.ensures y y_at))
 
 -- what the test says of the earlier edge
-tells : (c : In_ok-is_missing) → IsTrue c.in_ok-is_missing.field-0 ↔ IsMissing c.args.pairs.now c.index-listed-matching.result.next c.index-listed-matching.result.cells c.index-listed-second.result
+tells : (c : In_ok-is_missing) → IsTrue c.in_ok-is_missing.field-0 ↔ IsMissing c.args.pairs.now c.in_ok-earlier.earlier.next c.in_ok-earlier.earlier.cells c.in_ok-later.later
 tells c =
-    let e = c.index-listed-matching.result in
-    subst (λ (cells : List ℕ). IsTrue c.in_ok-is_missing.field-0 ↔ IsMissing c.args.pairs.now e.next cells c.index-listed-second.result) c.as_slice-lead.ensures c.in_ok-is_missing.ensures
+    let e = c.in_ok-earlier.earlier in
+    subst (λ (cells : List ℕ). IsTrue c.in_ok-is_missing.field-0 ↔ IsMissing c.args.pairs.now e.next cells c.in_ok-later.later) c.as_slice-lead.ensures c.in_ok-is_missing.ensures
 
 pub loop-matching-init : goal.loop-matching-init
 loop-matching-init c = λ k x e below. absurd (omega arith)
 
-pub bounds-listed-matching : goal.bounds-listed-matching
-bounds-listed-matching c =
+pub edge-requires-in-loop-matching : goal.edge-requires-in-loop-matching
+edge-requires-in-loop-matching c =
     let a = c.args in
-    let y = c.index-listed-second.result in
-    named_within a.edges.now y.cells a.second c.as_slice-matching-items.result.now (found (goal.at.bounds-listed-matching c).After-as_slice-matching-items).1
-    c.edges-listed.result.now c.edges-listed.ensures c.loop-matching.matching-index c.loop-matching-test.true
+    let y = c.in_ok-later.later in
+    named_within a.edges.now y.cells a.second c.as_slice-matching-items.result.now (found (goal.at.edge-requires-in-loop-matching c).After-as_slice-matching-items).1 c.loop-matching.matching-index c.loop-matching-test.true
 
 pub returns-then-branch : goal.returns-then-branch
 returns-then-branch c = λ later later_at.
     let a = c.args in
-    let y = c.index-listed-second.result in
-    let e = c.index-listed-matching.result in
+    let y = c.in_ok-later.later in
+    let e = c.in_ok-earlier.earlier in
     let those = found (goal.at.returns-then-branch c).After-as_slice-matching-items in
     subst (λ (z : Edge). IsLeast (HasBefore (λ earlier. IsMissing a.pairs.now earlier.next earlier.cells z) a.edges.now a.second) e.rule) (same_place a.edges.now a.second y later those.0 later_at)
     (read_least (λ (z : Edge). IsMissing a.pairs.now z.next z.cells y) a.edges.now y.cells a.second c.as_slice-matching-items.result.now those.1 (split_matches a.pairs.now y)
-    c.edges-listed.result.now c.edges-listed.ensures c.loop-matching.matching-index c.loop-matching-test.true e c.index-listed-matching.is c.loop-matching.invariant
+    c.loop-matching.matching-index c.loop-matching-test.true e c.in_ok-earlier.ensures c.loop-matching.invariant
     c.requires.in_order ((tells (goal.at.returns-then-branch c).In_ok-is_missing).0 c.if-branch.true))
 
 pub loop-matching-preserved : goal.loop-matching-preserved
 loop-matching-preserved c =
     let a = c.args in
-    let y = c.index-listed-second.result in
+    let y = c.in_ok-later.later in
     read_without (λ (z : Edge). IsMissing a.pairs.now z.next z.cells y) a.edges.now y.cells a.second c.as_slice-matching-items.result.now (found (goal.at.loop-matching-preserved c).After-as_slice-matching-items).1 (split_matches a.pairs.now y)
-    c.edges-listed.result.now c.edges-listed.ensures c.loop-matching.matching-index c.loop-matching-test.true c.index-listed-matching.result c.index-listed-matching.is c.loop-matching.invariant
+    c.loop-matching.matching-index c.loop-matching-test.true c.in_ok-earlier.earlier c.in_ok-earlier.ensures c.loop-matching.invariant
     (refuted c.in_ok-is_missing.field-0 (tells (goal.at.loop-matching-preserved c).In_ok-is_missing) c.if-branch.false)
 
 pub returns : goal.returns
 returns c = λ later later_at.
     let a = c.args in
-    let y = c.index-listed-second.result in
+    let y = c.in_ok-later.later in
     let those = found (goal.at.returns c).After-as_slice-matching-items in
     subst (λ (z : Edge). (rule : ℕ) → HasBefore (λ earlier. IsMissing a.pairs.now earlier.next earlier.cells z) a.edges.now a.second rule → ⊥) (same_place a.edges.now a.second y later those.0 later_at)
     (none_before (λ (z : Edge). IsMissing a.pairs.now z.next z.cells y) a.edges.now y.cells a.second c.as_slice-matching-items.result.now those.1 (split_matches a.pairs.now y)

@@ -1,20 +1,50 @@
-use Rattle.std.proofs.Common.{◌≡◌, ℕ, length, subst, arith}
+use Rattle.std.proofs.Common.{◌≡◌, ◌<◌, ℕ, List, length, sym, subst, arith}
+use Rattle.brl_pairs.specs.Edges.{AreEdges}
+use Rattle.brl_pairs.specs.Listed.{HaveCells, edges_with}
+use Rattle.brl_pairs.proofs.ListedLaws.{edges_of_state, have_cells}
+use Rattle.brl_closure.specs.Alike.{AreFirstTwo}
 use Rattle.brl_closure.specs.Pass.{IsMissingBelow}
 use Rattle.brl_closure.specs.Refusals.{MissesState}
 use Rattle.brl_closure.proofs.Closing.{step_within}
 use Rattle.brl_closure.proofs.LeastLaws.{one_more}
+use Rattle.brl_closure.proofs.Listing.{kept_or_none, none_kept}
 use Rattle.brl_closure.proofs.MissingAt.{no_state_missing}
 use Rattle.brl_closure.proofs.check.pass.find_missing.Goals as goal
+
+pub loop-state-init : goal.loop-state-init
+loop-state-init g c = record {
+  missing = ((λ k l r lt gap. absurd (omega (arith, lt))), (λ k r h. absurd (let lt : h.state < 0 = h.below in omega (arith, lt))));
+  steps = λ k rule lt gap. absurd (omega (arith, lt));
+  kept = none_kept (g.M.Parted.steps_of c.args.machine.now) c.args.body.now.states c.new-kept.result.cells c.new-kept.result.parts c.new-kept.ensures;
+}
+
+pub edges_of-requires-clause-kept : goal.edges_of-requires-clause-kept
+edges_of-requires-clause-kept g c =
+    kept_or_none (g.M.Parted.steps_of c.args.machine.now) c.args.body.now.states c.loop-state.kept.cells c.forget_parts.new.self.cells c.forget_parts.ensures.cells c.loop-state.kept.parts c.forget_parts.new.self.parts c.forget_parts.ensures.parts c.loop-state.invariant.kept
+
+pub sort_first_two-requires : goal.sort_first_two-requires
+sort_first_two-requires g c =
+    subst (λ (own : List (List ℕ)). HaveCells own c.in_ok-edges.edges.items) (sym c.as_slice.ensures.members)
+    (have_cells (g.M.Machine.behaviour c.args.machine.now) c.args.body.now.states c.edges_of.new.kept.cells c.loop-state.state c.in_ok-edges.edges.items c.in_ok-edges.ensures.edges)
+
+pub missing_after-requires-clause-edges : goal.missing_after-requires-clause-edges
+missing_after-requires-clause-edges g c = record {
+  edges = edges_with c.edges_of.new.kept.cells c.in_ok-edges.edges.items;
+  are_edges = edges_of_state (g.M.Machine.behaviour c.args.machine.now) c.args.body.now.states c.edges_of.new.kept.cells c.loop-state.state c.in_ok-edges.edges.items c.in_ok-edges.ensures.edges;
+  first_two = subst (λ (own : List (List ℕ)). AreFirstTwo (edges_with own c.in_ok-edges.edges.items) c.in_ok-sorted.sorted) c.as_slice.ensures.members c.in_ok-sorted.ensures;
+}
 
 pub loop-state-preserved : goal.loop-state-preserved
 loop-state-preserved g c =
     let m = g.M.Machine.behaviour c.args.machine.now in
     let body = c.args.body.now in
     let state = c.loop-state.state in
+    let edges = edges_of_state m body.states c.edges_of.new.kept.cells state c.in_ok-edges.edges.items c.in_ok-edges.ensures.edges in
     record {
       missing = c.in_ok-missing.ensures;
       steps = λ k rule lt gap. one_more (λ n. (r : ℕ) × MissesState m body n r) state (λ n below h. c.loop-state.invariant.steps n h.0 below h.1)
-          (λ h. no_state_missing m body state c.in_ok-edges.edges.items c.in_ok-edges.ensures.edges h.0 h.1) k lt (rule, gap);
+          (λ h. no_state_missing m body state (edges_with c.edges_of.new.kept.cells c.in_ok-edges.edges.items) edges h.0 h.1) k lt (rule, gap);
+      kept = c.in_ok-edges.ensures.kept;
     }
 
 pub returns-clause-missing : goal.returns-clause-missing

@@ -1,5 +1,6 @@
 use Rattle.std.proofs.Common.{◌≡◌, ℕ, List, inr, length, take, sym, ◌∙◌, ap, subst, arith}
 use Rattle.std.specs.Global.{Vec}
+use Rattle.brl_closure.specs.KnownSteps.{AreKnown}
 use Rattle.brl_closure.specs.declared.search.trail.StateOrigin.{StateOrigin}
 use Rattle.brl_divergence.specs.Expanded.{AreTwoEdges}
 use Rattle.brl_divergence.specs.Found.{IsExplored, IsOfSplit}
@@ -43,7 +44,7 @@ list-requires-clause-divergence g c =
     record {
       in_order = rules_ascend m a.found.now.trail.states a.self.now.expanded.now.cells a.state a.first.now a.second.now c.rules_of-rules.result edges c.requires.sound.explored.ready.active.laws;
       texts = texts_diverge g.M.Machine.behaviour a.self.now.finder.now a.self.now.expanded.now a.found.now.trail c.explore.new.trail a.self.now.expanded.now.cells a.state a.first.now a.second.now c.rules_of-rules.result
-          c.requires.sound.explored edges c.explore.ensures.adds end.number stopped.1 texts.left.items texts.right.items c.in_ok-texts-in-Err-Fault-BothEnd.ensures;
+          c.requires.sound.explored edges c.explore.ensures.adds end.number stopped.1 texts.left.items texts.right.items c.in_ok-texts-in-Err-Fault-BothEnd.ensures.texts;
     }
 
 -- where the pairs are dropped, all is as before
@@ -69,6 +70,18 @@ returns-then-len-self-clause-over g c =
       rules = omega (arith, listed.one_more, c.requires.sound.few);
     }
 
+pub texts_of-requires-clause-known : goal.texts_of-requires-clause-known
+texts_of-requires-clause-known g c =
+    subst (λ (xs : List g.row.M-State.Denot). AreKnown (g.M.Machine.behaviour c.args.self.now.finder.now.machine.now) xs c.args.found.now.known) (sym c.explore.ensures.adds.states) c.requires.sound.known
+
+pub returns-in-Ok-clause-sound : goal.returns-in-Ok-clause-sound
+returns-in-Ok-clause-sound g c = record {
+  explored = c.in-Ok.ensures.explored;
+  listed = c.requires.sound.listed;
+  few = c.requires.sound.few;
+  known = subst (λ (xs : List g.row.M-State.Denot). AreKnown (g.M.Machine.behaviour c.args.self.now.finder.now.machine.now) xs c.args.found.now.known) (sym c.explore.ensures.adds.states) c.requires.sound.known;
+}
+
 pub returns-in-Ok-clause-keeps : goal.returns-in-Ok-clause-keeps
 returns-in-Ok-clause-keeps g c = record {
   states = c.explore.ensures.adds.states;
@@ -81,6 +94,8 @@ returns-else-len-self-clause-sound g c = record {
   explored = dropped g (goal.at.returns-else-len-self-clause-sound g c).After-list;
   listed = c.in_ok-list-in-Err-Fault-BothEnd.ensures.listed;
   few = omega (arith, c.if-len-self.false, c.len.ensures.len);
+  known = subst (λ (xs : List g.row.M-State.Denot). AreKnown (g.M.Machine.behaviour c.args.self.now.finder.now.machine.now) xs c.texts_of.new.known) (sym c.take_back.ensures.states)
+      c.in_ok-texts-in-Err-Fault-BothEnd.ensures.known;
 }
 
 pub returns-else-len-self-clause-settled : goal.returns-else-len-self-clause-settled
@@ -88,7 +103,7 @@ returns-else-len-self-clause-settled g c =
     let a = c.args in
     let m = g.M.Machine.behaviour a.self.now.finder.now.machine.now in
     let states = c.take_back.ensures.states ∙ c.explore.ensures.adds.states in
-    settled_by_list m (record { trail = c.take_back.new.trail; list = c.list.new.list }) a.self.now.expanded.now.cells a.state a.first.now a.second.now c.rules_of-rules.result
+    settled_by_list m (record { trail = c.take_back.new.trail; list = c.list.new.list; known = c.texts_of.new.known }) a.self.now.expanded.now.cells a.state a.first.now a.second.now c.rules_of-rules.result
     (subst (λ (xs : List g.row.M-State.Denot). AreTwoEdges m xs a.self.now.expanded.now.cells a.state a.first.now a.second.now c.rules_of-rules.result) (sym states)
     (two g (goal.at.returns-else-len-self-clause-settled g c).After-rules_of-rules))
     c.in_ok-list-in-Err-Fault-BothEnd.ensures.there

@@ -31,12 +31,16 @@ is_mark c =
     c.mark_of.ensures ∙ ap (mark_of c.args.self.now c.args.run) c.character-item.is
     ∙ behind-mark c.args.self.now c.args.run c.in_ok-others.others.now c.loop-character.character-index c.character-item.result c.loop-character.invariant.inside c.loop-character-test.true
 
--- it is there, where there is one
+-- it is there, where there is one, and the rules that end behind it are those that go on so
 is_there : (c : In-Some) → let xs = behind_first c.args.self.now c.args.run c.in_ok-others.others.now in let k = c.loop-character.character-index in
-    c.mark_of.result ≡ slice_get xs k → (k < length xs) × ((d : ℕ) → c.in-Some.mark ≡ get_or xs k d)
+    c.mark_of.result ≡ slice_get xs k
+    → (k < length xs) × ((at : List ℕ) → ends_at c.loop-character.node.now (c.in-Some.mark ∷ at) ≡ ends_of c.args.self.now.rules (c.args.fold ∷ (take k xs ++ get_or xs k 0 ∷ at)))
 is_there c is =
+    let xs = behind_first c.args.self.now c.args.run c.in_ok-others.others.now in
+    let k = c.loop-character.character-index in
     let some : c.mark_of.result ≡ Some c.in-Some.mark = search rules in
-    mark-there (behind_first c.args.self.now c.args.run c.in_ok-others.others.now) c.loop-character.character-index c.in-Some.mark (sym some ∙ is)
+    let there = mark-there xs k c.in-Some.mark (sym some ∙ is) in
+    (there.0, λ at. c.loop-character.invariant.node (c.in-Some.mark ∷ at) ∙ ap (λ m. ends_of c.args.self.now.rules (c.args.fold ∷ (take k xs ++ m ∷ at))) (there.1 0))
 
 pub returns-in_err-others : goal.returns-in_err-others
 returns-in_err-others c = c.from_residual.ensures ∙ sym (rest-none c.args.self.now c.args.before c.args.rest.now c.in_err-others.ensures.cases)
@@ -68,14 +72,11 @@ returns-in_default c =
 
 pub returns-in_default-branch : goal.returns-in_default-branch
 returns-in_default-branch c =
-    let t = c.args.self.now in
     let here = goal.at.returns-in_default-branch c in
-    let behind = behind_of here.In_ok-others in
-    let k = c.loop-character.character-index in
     let there = is_there here.In-Some (is_mark here.After-mark_of) in
     c.loop-character.invariant.best
-    ∙ rest-no_branch t c.args.before c.args.rest.now c.args.fold behind (is_compared here.In_ok-others) k 0 there.0
-    (λ at. c.in_default-branch.ensures at ∙ c.loop-character.invariant.node (c.in-Some.mark ∷ at) ∙ ap (λ m. ends_of t.rules (c.args.fold ∷ (take k behind ++ m ∷ at))) (there.1 0))
+    ∙ rest-no_branch c.args.self.now c.args.before c.args.rest.now c.args.fold (behind_of here.In_ok-others) (is_compared here.In_ok-others) c.loop-character.character-index 0 there.0
+    (λ at. c.in_default-branch.ensures at ∙ there.1 at)
 
 pub loop-character-preserved : goal.loop-character-preserved
 loop-character-preserved c =
@@ -85,9 +86,7 @@ loop-character-preserved c =
     let k = c.loop-character.character-index in
     let there = is_there here.In-Some (is_mark here.After-mark_of) in
     let node-is : (at : List ℕ) → ends_at c.in_Some-branch.branch.now at ≡ ends_of t.rules (c.args.fold ∷ (take (k + 1) behind ++ at)) = λ at.
-    c.in_Some-branch.ensures at ∙ c.loop-character.invariant.node (c.in-Some.mark ∷ at)
-    ∙ ap (λ m. ends_of t.rules (c.args.fold ∷ (take k behind ++ m ∷ at))) (there.1 0)
-    ∙ ap (λ cs. ends_of t.rules (c.args.fold ∷ cs)) (one_more k 0 behind at there.0) in
+    c.in_Some-branch.ensures at ∙ there.1 at ∙ ap (λ cs. ends_of t.rules (c.args.fold ∷ cs)) (one_more k 0 behind at there.0) in
     record {
       inside = omega (arith, there.0);
       node = node-is;

@@ -7,13 +7,12 @@ use Rattle.brl_closure.proofs.LeastRule.{found_of_sorted}
 use Rattle.brl_closure.proofs.check.sorted.Sorted.matches.Goals as goal
 
 pub matches-requires : goal.matches-requires
-matches-requires c = rw (c.as_slice.ensures.value, c.as_slice-2.ensures.value) c.self.invariant.0.ascending
+matches-requires c = rw (c.as_slice.ensures.value) c.self.invariant.0.ascending
 
 pub returns : goal.returns
 returns c =
     let s = c.self.inside in
     IfOk-weaker c.matches.result _ _
-    (λ found those. found_of_sorted s.cells.items c.args.self.now s.sorted.items (subst (λ (edges : List Edge). IsSortedOf s.cells.items edges s.sorted.items) c.self.view_is c.self.invariant.0) c.args.lead.now found.items
-    (subst (λ (cells : List (List ℕ)). AreMatches cells s.sorted.items c.args.lead.now found.items) c.as_slice.ensures.value
-    (subst (λ (sorted : List SortedEdge). AreMatches c.as_slice.result.now sorted c.args.lead.now found.items) c.as_slice-2.ensures.value those)))
+    (λ found those. found_of_sorted s.cells.now c.args.self.now s.sorted.items (subst (λ (edges : List Edge). IsSortedOf s.cells.now edges s.sorted.items) c.self.view_is c.self.invariant.0) c.args.lead.now found.items
+    (subst (λ (sorted : List SortedEdge). AreMatches s.cells.now sorted c.args.lead.now found.items) c.as_slice.ensures.value those))
     c.matches.ensures

@@ -1,4 +1,4 @@
-use Rattle.std.proofs.Common.{◌≡◌, Bool, true, false, not, length, Some, slice_get, inl, inr, refl, sym, ◌∙◌, ap, subst, arith}
+use Rattle.std.proofs.Common.{◌≡◌, Bool, true, false, not, slice_get, inl, inr, refl, sym, ◌∙◌, ap, arith}
 use Rattle.std.proofs.lemmas.Bool.{cases_eq}
 use Rattle.std.proofs.lemmas.Option.{slice_get_within}
 use Rattle.brl_pairs.specs.declared.step.Step.{Step}
@@ -11,13 +11,9 @@ is_true false h = cc
 
 pub loop-place-init : goal.loop-place-init
 loop-place-init g c =
-    let m = g.M.Machine.behaviour c.args.self.now.machine.now in
-    let p = c.requires in
+    let p = c.requires.leads in
     let taken = p.1.taken in
-    let s = c.index-states-number.result in
-    let at = read_at c.args.states.now c.args.states.now c.args.number s refl (slice_get_within c.args.states.now c.args.number taken.state taken.at) c.index-states-number.is in
-    let same = same_place c.args.states.now c.args.number taken.state s taken.at at in
-    (p.0, omega arith, p.1.step, ap (λ l. slice_get l p.0) (c.in_ok-listed.ensures ∙ ap m.steps (sym same)) ∙ taken.listed, p.1.next)
+    (p.0, omega arith, p.1.step, ap (λ l. slice_get l p.0) (c.in_ok-listed.ensures.steps taken.state taken.at) ∙ taken.listed, p.1.next)
 
 pub index-requires : goal.index-requires
 index-requires g c =
@@ -42,19 +38,21 @@ loop-place-preserved g c =
       | inr other ↦ (inv.0, omega (arith, inv.1, other), inv.2, inv.3, inv.4)
     ]
 
-pub returns : goal.returns
-returns g c =
+pub returns-clause-place : goal.returns-clause-place
+returns-clause-place g c =
     let m = g.M.Machine.behaviour c.args.self.now.machine.now in
     let inv = c.loop-place.invariant in
     let listed = c.in_ok-listed.listed.items in
     let place = c.loop-place.place in
-    let taken = c.requires.1.taken in
-    let s = c.index-states-number.result in
-    let at = read_at c.args.states.now c.args.states.now c.args.number s refl (slice_get_within c.args.states.now c.args.number taken.state taken.at) c.index-states-number.is in
+    let taken = c.requires.leads.1.taken in
     let within = slice_get_within listed inv.0 inv.2 inv.3 in
-    let here = read_at listed (m.steps s) place c.index.result.now c.in_ok-listed.ensures (omega (arith, within, inv.1)) c.index.ensures in
+    let here = read_at listed (m.steps taken.state) place c.index.result.now (c.in_ok-listed.ensures.steps taken.state taken.at) (omega (arith, within, inv.1)) c.index.ensures in
     record {
       step = c.index.result.now;
-      taken = record { state = s; at = at; listed = here };
+      taken = record { state = taken.state; at = taken.at; listed = here };
       next = g.met.M.State.Key.same c.index.result.now.next c.args.to.now (is_true (g.M.State.PartialEq.eq c.index.result.now.next c.args.to.now) (sym c.ne.ensures ∙ c.loop-place-test.false));
     }
+
+pub returns-clause-known : goal.returns-clause-known
+returns-clause-known g c =
+    c.in_ok-put.ensures (g.M.Machine.behaviour c.args.self.now.machine.now) c.args.states.now c.in_ok-listed.ensures.known (λ s at. inr (c.in_ok-listed.ensures.steps s at))

@@ -27,6 +27,7 @@ loop-pair-init g c = record {
   continues = rw (c.new-ahead.ensures.items, c.new-behind.ensures.items)
       (ends_continue (g.M.Machine.behaviour c.args.self.now.machine.now) c.args.trail.now c.requires.traced c.args.number c.requires.ends.pair c.requires.ends.at c.requires.ends.ends);
   among = λ r s from come low. low;
+  known = c.requires.known;
 }
 
 pub index-requires : goal.index-requires
@@ -34,9 +35,9 @@ index-requires g c =
     let within = slice_get_within c.args.trail.now.pairs c.loop-pair.found c.loop-pair.invariant.continues.pair c.loop-pair.invariant.continues.at in
     omega (arith, within, c.requires.traced.pair_origins, c.args.trail.now.pair_origins.ok.0)
 
-pub push_behind-requires : goal.push_behind-requires
-push_behind-requires g c =
-    let by = subst (IsPairOrigin (g.M.Machine.behaviour c.args.self.now.machine.now) c.args.trail.now.states c.args.trail.now.pairs c.loop-pair.invariant.continues.pair) c.in-Still.is (origin g (goal.at.push_behind-requires g c).After-index).1 in
+pub push_behind-requires-clause-step : goal.push_behind-requires-clause-step
+push_behind-requires-clause-step g c =
+    let by = subst (IsPairOrigin (g.M.Machine.behaviour c.args.self.now.machine.now) c.args.trail.now.states c.args.trail.now.pairs c.loop-pair.invariant.continues.pair) c.in-Still.is (origin g (goal.at.push_behind-requires-clause-step g c).After-index).1 in
     record { pair = by.0; at = by.1; step = record { step = by.2.step; taken = by.2.taken } }
 
 pub loop-pair-smaller-in-Still : goal.loop-pair-smaller-in-Still
@@ -47,13 +48,14 @@ loop-pair-preserved-in-Still g c =
     let by = subst (IsPairOrigin (g.M.Machine.behaviour c.args.self.now.machine.now) c.args.trail.now.states c.args.trail.now.pairs c.loop-pair.invariant.continues.pair) c.in-Still.is (origin g (goal.at.loop-pair-preserved-in-Still g c).After-index).1 in
     record {
       continues = still_back (g.M.Machine.behaviour c.args.self.now.machine.now) c.args.trail.now c.requires.traced c.loop-pair.found c.in-Still.pair c.in-Still.place c.loop-pair.ahead.items c.loop-pair.behind.items c.push_behind.new.text.items c.loop-pair.invariant.continues by.0 by.1 by.2
-          (c.in_ok-push_behind-in-Still.ensures by.0 by.2.step by.1 by.2.taken);
+          (c.in_ok-push_behind-in-Still.ensures.text by.0 by.2.step by.1 by.2.taken);
       among = λ r s from come low. subst (ComesOf (g.M.Machine.behaviour c.args.self.now.machine.now) c.args.trail.now.states r s from) c.in-Still.is (come_at g (goal.at.loop-pair-preserved-in-Still g c).After-index r s from come low);
+      known = c.in_ok-push_behind-in-Still.ensures.known;
     }
 
-pub push_behind-requires-in-Swapped : goal.push_behind-requires-in-Swapped
-push_behind-requires-in-Swapped g c =
-    let by = subst (IsPairOrigin (g.M.Machine.behaviour c.args.self.now.machine.now) c.args.trail.now.states c.args.trail.now.pairs c.loop-pair.invariant.continues.pair) c.in-Swapped.is (origin g (goal.at.push_behind-requires-in-Swapped g c).After-index).1 in
+pub push_behind-requires-in-Swapped-clause-step : goal.push_behind-requires-in-Swapped-clause-step
+push_behind-requires-in-Swapped-clause-step g c =
+    let by = subst (IsPairOrigin (g.M.Machine.behaviour c.args.self.now.machine.now) c.args.trail.now.states c.args.trail.now.pairs c.loop-pair.invariant.continues.pair) c.in-Swapped.is (origin g (goal.at.push_behind-requires-in-Swapped-clause-step g c).After-index).1 in
     record { pair = by.0; at = by.1; step = record { step = by.2.step; taken = by.2.taken } }
 
 pub loop-pair-smaller : goal.loop-pair-smaller
@@ -65,8 +67,9 @@ loop-pair-preserved g c =
     record {
       continues = rw (c.swap.ensures.x_after, c.swap.ensures.y_after)
           (swapped_back (g.M.Machine.behaviour c.args.self.now.machine.now) c.args.trail.now c.requires.traced c.loop-pair.found c.in-Swapped.pair c.in-Swapped.place c.loop-pair.ahead.items c.loop-pair.behind.items c.push_behind-in-Swapped.new.text.items c.loop-pair.invariant.continues by.0 by.1 by.2
-          (c.in_ok-push_behind-in-Swapped.ensures by.0 by.2.step by.1 by.2.taken));
+          (c.in_ok-push_behind-in-Swapped.ensures.text by.0 by.2.step by.1 by.2.taken));
       among = λ r s from come low. subst (ComesOf (g.M.Machine.behaviour c.args.self.now.machine.now) c.args.trail.now.states r s from) c.in-Swapped.is (come_at g (goal.at.loop-pair-preserved g c).After-index r s from come low);
+      known = c.in_ok-push_behind-in-Swapped.ensures.known;
     }
 
 pub texts_of_split-requires-clause-continues : goal.texts_of_split-requires-clause-continues
@@ -74,8 +77,8 @@ texts_of_split-requires-clause-continues g c =
     let by = subst (IsPairOrigin (g.M.Machine.behaviour c.args.self.now.machine.now) c.args.trail.now.states c.args.trail.now.pairs c.loop-pair.invariant.continues.pair) c.in-Split.is (origin g (goal.at.texts_of_split-requires-clause-continues g c).After-index).1 in
     split_continues (g.M.Machine.behaviour c.args.self.now.machine.now) c.args.trail.now c.requires.traced c.loop-pair.found c.in-Split.state c.in-Split.longer c.in-Split.shorter c.loop-pair.ahead.items c.loop-pair.behind.items c.loop-pair.invariant.continues by
 
-pub returns-in-Split : goal.returns-in-Split
-returns-in-Split g c =
+pub returns-in-Split-clause-texts : goal.returns-in-Split-clause-texts
+returns-in-Split-clause-texts g c =
     let m = g.M.Machine.behaviour c.args.self.now.machine.now in
     let t = c.args.trail.now in
     IfOk-weaker c.texts_of_split.result
@@ -83,6 +86,6 @@ returns-in-Split g c =
     (λ texts. AreTextsOf m t c.args.number texts.left.items texts.right.items)
     (λ texts h. record {
       paths = h.paths;
-      diverge = λ r s from come low. h.diverge r s (subst (ComesOf m t.states r s from) c.in-Split.is (come_at g (goal.at.returns-in-Split g c).After-index r s from come low));
+      diverge = λ r s from come low. h.diverge r s (subst (ComesOf m t.states r s from) c.in-Split.is (come_at g (goal.at.returns-in-Split-clause-texts g c).After-index r s from come low));
     })
-    c.texts_of_split.ensures
+    c.texts_of_split.ensures.texts

@@ -1,0 +1,4 @@
+pub mod Verdicts
+mod Lines
+mod Listed
+mod Shown

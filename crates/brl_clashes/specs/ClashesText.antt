@@ -1,0 +1,85 @@
+-- The text of a list of clashes: the sets of characters, its sections, and a verdict. The project's
+-- own choice.
+use Rattle.std.specs.Prelude.{ℕ, ◌≡◌, ◌-◌, ◌==◌, Bool, true, false, if◌then◌else◌, List, [], ◌∷◌, ◌++◌, codes, flat_map, length, slice_get}
+use Rattle.std.specs.Fmt.{decimal}
+use Rattle.std.specs.Option.{option_map_or}
+use Rattle.brl_answers.specs.Answers.{counts_line, spelled_one_by_one, with_left_out_line}
+use Rattle.brl_cells.specs.Dots.{spelling}
+use Rattle.brl_clashes.specs.SectionText.{IsSectionText, others_note}
+use Rattle.brl_clashes.specs.Sections.{listed_after, listed_pairs, outcome_of}
+use Rattle.brl_clashes.specs.Sets.{openers, plain, set_among}
+use Rattle.brl_clashes.specs.declared.section.Section.{Section}
+use Rattle.brl_clashes.specs.declared.verdict.Outcome.{Outcome}
+use Rattle.brl_clashes.specs.declared.verdict.Outcome.TheVariants.{Unambiguous, Clashing, Unfinished}
+use Rattle.brl_lines.specs.Tokens.{LineView}
+use Rattle.brl_rules.specs.TableView.{TableView, info_of}
+use Rattle.brl_search.specs.declared.table_clashes.ClashList.{ClashList}
+use Rattle.brl_search.specs.declared.table_clashes.ClashList.TheVariants.{Complete, Partial}
+
+-- ---- Sets of characters
+
+-- the cells of a character in dots
+abbrev pub dots_of : TableView → ℕ → List ℕ
+dots_of t c = option_map_or (λ info. spelling info.cells) (info_of t c) []
+
+-- the line of the set of a character among these: the cells, and the characters as they are spelled
+abbrev pub set_line : TableView → List ℕ → ℕ → List ℕ
+set_line t characters c = codes "  " ++ dots_of t c ++ codes " " ++ spelled_one_by_one (set_among t characters c) ++ codes "\n"
+
+-- the line before the lines of this many sets; empty where there are none
+abbrev pub sets_heading : ℕ → List ℕ
+sets_heading count =
+    if count == 0 then []
+    else decimal count
+    ++ codes " sets of characters have the same cells, classes and flags, and are in no rule; below, the first of each represents its set:\n"
+
+-- the lines of all sets, after how many there are
+abbrev pub sets_text : TableView → List ℕ → List ℕ
+sets_text t characters = sets_heading (length (openers t characters)) ++ flat_map (set_line t characters) (openers t characters)
+
+-- ---- The verdict
+
+-- how many states and pairs a list rests on, after a word
+abbrev pub counts_of : List ℕ → ClashList → List ℕ
+counts_of word (Complete list body) = counts_line word (length body.states) (length body.pairs)
+counts_of word (Partial list states pairs) = counts_line word states pairs
+
+-- the same of the last of these sections
+abbrev pub last_counts : List ℕ → List Section → List ℕ
+last_counts word sections = option_map_or (λ s. counts_of word s.found) (slice_get sections (length sections - 1)) []
+
+-- how many pairs of rules there are, and whether there may be others
+abbrev pub pairs_line : ℕ → Bool → List ℕ
+pairs_line count whole = decimal count ++ (others_note whole ++ codes "\n")
+
+-- the counts that are said: of a table that is unambiguous, and those at which a limit was passed
+abbrev pub verdict_counts : Outcome → List Section → List ℕ
+verdict_counts Unambiguous sections = last_counts (codes "unambiguous") sections
+verdict_counts Clashing sections = []
+verdict_counts Unfinished sections = last_counts (codes "limit") sections
+
+-- how many pairs of rules diverge, where some are listed
+abbrev pub verdict_pairs : Outcome → ℕ → List ℕ
+verdict_pairs Unambiguous count = []
+verdict_pairs Clashing count = pairs_line count true
+verdict_pairs Unfinished count = pairs_line count false
+
+-- the last lines: the table is unambiguous, or this many pairs of rules diverge
+abbrev pub verdict_text : List Section → List ℕ
+verdict_text sections = verdict_counts (outcome_of sections) sections ++ verdict_pairs (outcome_of sections) (length (listed_pairs sections))
+
+-- ---- The whole text
+
+-- the texts of sections, one after another, after sections with these pairs of rules
+abbrev pub AreSectionTexts : TableView → List LineView → List ℕ → ℕ → List (ℕ × ℕ) → List Section → List ℕ → Type 0
+AreSectionTexts t lines characters first before [] text = text ≡ []
+AreSectionTexts t lines characters first before (s ∷ sections) text =
+    (front rest : List ℕ) × IsSectionText t lines characters first before s front
+    × AreSectionTexts t lines characters first (listed_after before s) sections rest × (text ≡ front ++ rest)
+
+-- the text of a list of clashes: the sets of characters, the sections, and the verdict, with the line
+-- of what is left out
+abbrev pub IsClashesText : TableView → List LineView → List ℕ → ℕ → List Section → List ℕ → Type 0
+IsClashesText t lines left_out first sections text =
+    (parts : List ℕ) × AreSectionTexts t lines (plain t left_out) first [] sections parts
+    × (text ≡ sets_text t (plain t left_out) ++ parts ++ with_left_out_line left_out (verdict_text sections))

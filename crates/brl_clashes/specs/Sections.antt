@@ -1,0 +1,73 @@
+-- The sections of a list of clashes: what is found for the texts of some kinds of characters, and of
+-- one kind more in each section. The project's own choice.
+use Rattle.std.specs.Prelude.{ℕ, ◌≡◌, ◌==◌, All, Bool, true, false, if◌then◌else◌, IsTrue, List, [], ◌++◌, Some, length, not, slice_get}
+use Rattle.std.specs.List.{filter, fold, list_all}
+use Rattle.brl_clashes.specs.Kinds.{left_out_in, section_kinds}
+use Rattle.brl_clashes.specs.ListedPairs.{has_pair}
+use Rattle.brl_clashes.specs.declared.section.Section.{Section}
+use Rattle.brl_clashes.specs.declared.verdict.Outcome.{Outcome}
+use Rattle.brl_clashes.specs.declared.verdict.Outcome.TheVariants.{Unambiguous, Clashing, Unfinished}
+use Rattle.brl_rules.specs.TableView.{TableView}
+use Rattle.brl_rules.specs.Translation.{IsClash}
+use Rattle.brl_search.specs.Clashes.{AreClashes, rules_of_clashes}
+use Rattle.brl_search.specs.declared.table_clashes.ClashList.{ClashList}
+use Rattle.brl_search.specs.declared.table_clashes.ClashList.TheVariants.{Complete, Partial}
+use Rattle.brl_search.specs.declared.table_clashes.RuleClash.{RuleClash}
+
+-- ---- What is listed
+
+-- the clashes of a list
+abbrev pub clashes_of : ClashList → List RuleClash
+clashes_of (Complete list body) = list.items
+clashes_of (Partial list states pairs) = list.items
+
+-- whether a list has every pair of rules at which clashing texts diverge
+abbrev pub is_whole : ClashList → Bool
+is_whole (Complete list body) = true
+is_whole (Partial list states pairs) = false
+
+-- whether all of these sections have
+abbrev pub are_whole : List Section → Bool
+are_whole sections = list_all (λ s. is_whole s.found) sections
+
+-- whether a list has no pair of rules
+abbrev pub lists_none : ClashList → Bool
+lists_none found = length (clashes_of found) == 0
+
+-- whether none of these sections has a pair of rules
+abbrev pub list_none : List Section → Bool
+list_none sections = list_all (λ s. lists_none s.found) sections
+
+-- the clashes of a section at pairs of rules that aren't among those of the sections before it
+abbrev pub new_in : List (ℕ × ℕ) → Section → List RuleClash
+new_in before s = filter (λ clash. not (has_pair before (clash.lesser, clash.greater))) (clashes_of s.found)
+
+-- the pairs of rules of the sections so far, each once
+abbrev pub listed_after : List (ℕ × ℕ) → Section → List (ℕ × ℕ)
+listed_after before s = before ++ rules_of_clashes (new_in before s)
+
+-- the pairs of rules of all of these sections, each once
+abbrev pub listed_pairs : List Section → List (ℕ × ℕ)
+listed_pairs sections = fold listed_after [] sections
+
+-- what sections come to: there is no pair of rules; or these, and no others; or maybe others
+abbrev pub outcome_of : List Section → Outcome
+outcome_of sections =
+    if are_whole sections then (if list_none sections then Unambiguous else Clashing) else Unfinished
+
+-- the texts of each of these clashes clash by a table
+abbrev pub AreClashesOf : TableView → List RuleClash → Type 0
+AreClashesOf t clashes = All (λ x. IsClash t x.clash.left x.clash.right x.clash.cells) clashes
+
+-- ---- The sections of a table
+
+-- the section with this number, from 0: its kind, and what is found with a limit for the texts that
+-- use neither what is left out nor a character of a later section
+pub record IsSection (t : TableView) (left_out : List ℕ) (limit place : ℕ) (s : Section) : Type 0 where
+  pub kind : slice_get (section_kinds t left_out) place ≡ Some s.kind
+  pub clashes : AreClashes (left_out_in t left_out place) t limit s.found
+
+-- these are the sections of a table; where all are whole, none is missing
+pub record AreSections (t : TableView) (left_out : List ℕ) (limit : ℕ) (sections : List Section) : Type 0 where
+  pub each : (place : ℕ) (s : Section) → slice_get sections place ≡ Some s → IsSection t left_out limit place s
+  pub all : IsTrue (are_whole sections) → length sections ≡ length (section_kinds t left_out)

@@ -1,0 +1,85 @@
+//! The text of a list of clashes.
+ghost use Rattle.std.specs.Prelude.{◌≡◌, [], ℕ, All, IfOk, List, OnOk, map, string_bytes};
+ghost use Rattle.brl_clashes.specs.ClashesText.{AreSectionTexts, IsClashesText};
+ghost use Rattle.brl_clashes.specs.Sections.{AreClashesOf, AreSections, clashes_of, listed_pairs};
+ghost use Rattle.brl_clashes.specs.Kinds.{table_characters};
+ghost use Rattle.brl_clashes.specs.Sets.{first_number as number_of_first};
+ghost use Rattle.brl_lines.specs.Views.{line_view};
+
+use crate::Section;
+use crate::kind::kept_characters;
+use crate::listed_pairs::ListedPairs;
+use crate::representatives::first_numbers;
+use crate::section_text::section_text;
+use crate::sets::{plain_characters, sets_text};
+use crate::verdict::{outcome_of, verdict_counts, verdict_pairs};
+use brl_answers::with_left_out_line;
+use brl_lines::Line;
+use brl_rules::Table;
+use brl_without::LeftOut;
+use std::alloc::{AllocError, Global};
+
+/// The text of the sections of a table with these lines: the sets of characters that the table treats
+/// as one, of which the first represents the others; for each section the pairs of rules that no earlier
+/// one lists, `first` of them, and all where that is 0; and what they come to, with a line of what is
+/// left out.
+///
+/// Every line ends with LF. `AllocError` if memory runs out.
+pub fn sections_text(
+    alloc: Global,
+    table: &Table,
+    lines: &[Line<'_>],
+    left_out: &LeftOut,
+    first: usize,
+    sections: Vec<Section>,
+) -> Result<String, AllocError>
+    requires { (limit : ℕ) × AreSections table.now left_out.now limit sections.items }
+    ensures { IfOk result (λ text. IsClashesText table.now (map line_view lines.now) left_out.now first sections.items (string_bytes text)) }
+{
+    let outcome = outcome_of(sections.as_slice());
+    let counts = verdict_counts(alloc, outcome, sections.as_slice())?;
+    let kept = kept_characters(alloc, table, left_out)?;
+    let plain = plain_characters(alloc, table, kept)?;
+    let mut text = sets_text(alloc, table, plain.as_slice())?;
+    let firsts = first_numbers(alloc, table, plain.as_slice())?;
+    let mut listed = ListedPairs::new(alloc);
+    let parts = parts(
+        alloc,
+        table,
+        lines,
+        firsts.as_slice(),
+        first,
+        &mut listed,
+        sections,
+    )?;
+    text.push_str(parts.as_str())?;
+    let mut verdict = counts;
+    verdict.push_str(verdict_pairs(alloc, outcome, listed.len())?.as_str())?;
+    text.push_str(with_left_out_line(alloc, verdict, left_out)?.as_str())?;
+    Ok(text)
+}
+
+/// The texts of sections one after another, where none was before. Their pairs of rules are listed.
+fn parts(
+    alloc: Global,
+    table: &Table,
+    lines: &[Line<'_>],
+    firsts: &[u32],
+    first: usize,
+    listed: &mut ListedPairs,
+    sections: Vec<Section>,
+) -> Result<String, AllocError>
+    requires firsts { (characters : List ℕ) × (firsts.now ≡ map (number_of_first table.now characters) (table_characters table.now)) }
+    requires none { listed.old ≡ [] }
+    requires clashes { All (λ s. AreClashesOf table.now (clashes_of s.found)) sections.items }
+    ensures text { (characters : List ℕ) → firsts.now ≡ map (number_of_first table.now characters) (table_characters table.now)
+        → IfOk result (λ text. AreSectionTexts table.now (map line_view lines.now) characters first [] sections.items (string_bytes text)) }
+    ensures listed { OnOk result (listed.new ≡ listed_pairs sections.items) }
+{
+    let mut text = String::new(alloc);
+    for section in sections {
+        let part = section_text(alloc, table, lines, firsts, first, listed, section)?;
+        text.push_str(part.as_str())?;
+    }
+    Ok(text)
+}

@@ -1,0 +1,28 @@
+//! The list of every pair of rules of a table at which clashing texts diverge, as an author reads it.
+//!
+//! - `list_sections` lists them in `Section`s: first for the texts of small letters and blanks, then
+//!   with digits, with capitals, with marks, and for all. Each section is a list of its own, complete
+//!   for its texts.
+//! - `sections_text` is their text: the sets of characters that the table treats as one; of each section
+//!   the pairs of rules that no earlier one lists, the most suspicious first; and a verdict.
+//! - `outcome_of` says what the sections come to.
+//!
+//! Room 5, the program (docs/dev/ARCHITECTURE.md). The definitions begin in `specs/ClashesText.antt`.
+#![tactic(auto)]
+
+mod clashes_text;
+mod kind;
+mod listed_pairs;
+mod order;
+mod representatives;
+mod section;
+mod section_text;
+mod sections;
+mod sets;
+mod verdict;
+
+pub use clashes_text::sections_text;
+pub use kind::Kind;
+pub use section::Section;
+pub use sections::list_sections;
+pub use verdict::{Outcome, outcome_of};

@@ -1,0 +1,124 @@
+//! What the sections of a list come to.
+ghost use Rattle.std.specs.Prelude.{◌≡◌, IfOk, string_bytes};
+ghost use Rattle.brl_clashes.specs.ClashesText.{
+  counts_of as counts_after,
+  last_counts as last_counts_of,
+  pairs_line as line_of_pairs,
+  verdict_counts as counts_of_verdict,
+  verdict_pairs as pairs_of_verdict,
+};
+ghost use Rattle.brl_clashes.specs.SectionText.{others_note as note_of_others};
+ghost use Rattle.brl_clashes.specs.Sections.{are_whole as all_whole, list_none as none_listed, outcome_of as outcome_of_sections};
+
+use crate::Section;
+use crate::section::{is_whole, lists_none};
+use brl_answers::counts_text;
+use brl_search::ClashList;
+use std::alloc::{AllocError, Global};
+
+/// What the sections of a list come to.
+#[derive(Clone, Copy)]
+pub enum Outcome {
+    /// No pair of rules is listed, and no texts clash.
+    Unambiguous,
+    /// The pairs of rules that are listed diverge, and no others.
+    Clashing,
+    /// A limit was passed: there may be other pairs of rules than those that are listed.
+    Unfinished,
+}
+
+/// What these sections come to.
+pub fn outcome_of(sections: &[Section]) -> Outcome
+    ensures { result ≡ outcome_of_sections sections.now }
+{
+    if !are_whole(sections) {
+        return Outcome::Unfinished;
+    }
+    if !list_none(sections) {
+        return Outcome::Clashing;
+    }
+    Outcome::Unambiguous
+}
+
+/// Whether all of these sections are whole.
+fn are_whole(sections: &[Section]) -> bool
+    ensures { result ≡ all_whole sections.now }
+{
+    sections.iter().all(|s| is_whole(&s.found))
+}
+
+/// Whether none of these sections lists a pair of rules.
+fn list_none(sections: &[Section]) -> bool
+    ensures { result ≡ none_listed sections.now }
+{
+    sections.iter().all(|s| lists_none(&s.found))
+}
+
+/// The counts that are said of what sections come to, and empty where none are.
+pub fn verdict_counts(
+    alloc: Global,
+    outcome: Outcome,
+    sections: &[Section],
+) -> Result<String, AllocError>
+    ensures { IfOk result (λ text. string_bytes text ≡ counts_of_verdict outcome sections.now) }
+{
+    match outcome {
+        Outcome::Unambiguous => last_counts(alloc, "unambiguous", sections),
+        Outcome::Clashing => Ok(String::new(alloc)),
+        Outcome::Unfinished => last_counts(alloc, "limit", sections),
+    }
+}
+
+/// The counts of the last of these sections after a word.
+fn last_counts(alloc: Global, word: &str, sections: &[Section]) -> Result<String, AllocError>
+    ensures { IfOk result (λ text. string_bytes text ≡ last_counts_of word.now sections.now) }
+{
+    match sections.last() {
+        Some(section) => counts_of(alloc, word, &section.found),
+        None => Ok(String::new(alloc)),
+    }
+}
+
+/// How many states and pairs a list rests on, after a word.
+fn counts_of(alloc: Global, word: &str, found: &ClashList) -> Result<String, AllocError>
+    ensures { IfOk result (λ text. string_bytes text ≡ counts_after word.now found.now) }
+{
+    match found {
+        ClashList::Complete { body, .. } => {
+            let states = u64::from(body.state_count());
+            let pairs = u64::from(body.pair_count());
+            counts_text(alloc, word, states, pairs)
+        }
+        ClashList::Partial { states, pairs, .. } => counts_text(alloc, word, *states, *pairs),
+    }
+}
+
+/// How many pairs of rules diverge, and whether others may; empty where none are listed.
+pub fn verdict_pairs(alloc: Global, outcome: Outcome, count: usize) -> Result<String, AllocError>
+    ensures { IfOk result (λ text. string_bytes text ≡ pairs_of_verdict outcome count) }
+{
+    match outcome {
+        Outcome::Unambiguous => Ok(String::new(alloc)),
+        Outcome::Clashing => pairs_line(alloc, count, true),
+        Outcome::Unfinished => pairs_line(alloc, count, false),
+    }
+}
+
+/// How many pairs of rules diverge, and whether others may.
+fn pairs_line(alloc: Global, count: usize, whole: bool) -> Result<String, AllocError>
+    ensures { IfOk result (λ text. string_bytes text ≡ line_of_pairs count whole) }
+{
+    let note = others_note(whole);
+    format!(in alloc; "{count}{note}\n")
+}
+
+/// What is said of a number of pairs of rules: that no others diverge, or that others may.
+pub fn others_note(whole: bool) -> &'static str
+    ensures { result.now ≡ note_of_others whole }
+{
+    if whole {
+        " pairs of rules diverge, and no others"
+    } else {
+        " pairs of rules diverge, and maybe others"
+    }
+}

@@ -1,0 +1,11 @@
+use Rattle.std.proofs.Common.{sym, subst}
+use Rattle.std.proofs.lemmas.Result.{IfOk-weaker}
+use Rattle.brl_pairs.specs.Listed.{edges_with}
+use Rattle.brl_closure.specs.Alike.{AreFirstTwo}
+use Rattle.brl_closure.proofs.FirstTwo.{all_kept}
+use Rattle.brl_closure.proofs.check.kinds.sort_first_two.Goals as goal
+
+pub returns-then-not-has_three_alike : goal.returns-then-not-has_three_alike
+returns-then-not-has_three_alike c =
+    let edges = edges_with c.args.cells.now c.args.edges.items in
+    IfOk-weaker c.new.result _ _ (λ own is. subst (AreFirstTwo edges) (sym is) (all_kept edges)) c.new.ensures

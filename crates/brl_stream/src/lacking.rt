@@ -1,0 +1,74 @@
+//! The characters that lines have and the table doesn't define.
+ghost use Rattle.std.specs.Prelude.{◌≡◌, ◌+◌, ◌^◌, ◌<◌, ◌++◌, ◌∷◌, [], IfOk, List, OnOk, length};
+ghost use Rattle.brl_stream.specs.Lacking.{summary, uses_in, Use};
+ghost use Rattle.brl_stream.specs.Noting.{IsNoted};
+
+use brl_rules::Table;
+use indexmap::IndexMap;
+use std::alloc::{AllocError, Global};
+
+/// A character that lines have and the table doesn't define: how often they have it, and the number
+/// of the first line that has it, from 1.
+#[derive(Clone, Copy, PartialEq, Eq, Debug)]
+pub struct Lacking {
+    pub character: char,
+    pub count: u64,
+    pub line: u64,
+}
+
+/// How often a character was found, and the number of the first line that has it, from 1.
+#[derive(Clone, Copy)]
+pub struct Found {
+    count: u64,
+    line: u64,
+}
+
+/// The characters that were found, in the order of their first uses.
+pub type Noted = IndexMap<char, Found>;
+
+/// Notes the characters of a line that the table doesn't define.
+pub fn note(table: &Table, text: &[char], number: u64, noted: &mut Noted) -> Result<(), AllocError>
+    requires { (uses : List Use) × IsNoted uses noted.old.entries × (length uses + length text.now < 2 ^ 64) }
+    ensures { OnOk result ((uses : List Use) → IsNoted uses noted.old.entries → IsNoted (uses ++ uses_in table.now number text.now) noted.new.entries) }
+{
+    for character in text {
+        if table.info(*character).is_none() {
+            note_use(*character, number, noted)?;
+        }
+    }
+    Ok(())
+}
+
+/// Notes a use of a character in the line with this number.
+fn note_use(character: char, number: u64, noted: &mut Noted) -> Result<(), AllocError>
+    requires { (uses : List Use) × IsNoted uses noted.old.entries × (length uses + 1 < 2 ^ 64) }
+    ensures { OnOk result ((uses : List Use) → IsNoted uses noted.old.entries → IsNoted (uses ++ (character, number) ∷ []) noted.new.entries) }
+{
+    let found = match noted.get(&character) {
+        Some(found) => Found {
+            count: found.count + 1,
+            line: found.line,
+        },
+        None => Found {
+            count: 1,
+            line: number,
+        },
+    };
+    noted.insert(character, found)?;
+    Ok(())
+}
+
+/// The characters that were noted.
+pub fn list_noted(alloc: Global, noted: &Noted) -> Result<Vec<Lacking>, AllocError>
+    ensures { IfOk result (λ list. (uses : List Use) → IsNoted uses noted.now.entries → list.items ≡ summary uses) }
+{
+    let mut list = Vec::with_capacity(alloc, noted.len())?;
+    for (character, found) in noted.iter() {
+        list.push(Lacking {
+            character: *character,
+            count: found.count,
+            line: found.line,
+        })?;
+    }
+    Ok(list)
+}
