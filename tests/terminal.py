@@ -1,7 +1,7 @@
 #!/usr/bin/env python3
 """What a terminal shows of the program named while it searches and checks for long, and that nothing is added elsewhere.
 
-A table is made larger until a search, and then a check, takes longer than work that isn't shown."""
+A table is made larger until a search takes longer than work that isn't shown, and a certificate until a check does."""
 
 import os
 import pty
@@ -20,6 +20,7 @@ SHOWN = {
 }
 # After so many seconds work is shown, and so many a search must take here.
 QUIET, LONG = 2, 4
+MAKE_WORST = Path(__file__).parent.parent / "bench" / "make-worst"
 LETTERS = {"a": "1", "b": "12", "c": "14", "d": "145", "e": "15", "f": "124", "g": "1245", "h": "125"}
 
 
@@ -79,17 +80,25 @@ def check_shown(command: str, shown: bytes) -> None:
         need(all(one <= other for one, other in zip(before, after)), f"{command} counts back: {shown!r}")
 
 
-def run_long(command: str, words: dict[str, list[str]], table: str) -> bytes:
-    """What this command prints without a terminal, with a table that is made larger until that takes long."""
-    # Longer words make more states. A check takes longer than a search, and a certificate that takes a search long is
-    # larger than one that a check reads.
-    for longest in range(5, 25):
-        Path(table).write_text(table_of(2800, longest))
-        seconds, found = run(words["search"])
-        if command == "check":
-            accepted = found.replace(b"certified", b"accepted")
-            seconds, found = run(words["check"])
-            need(found == accepted, "a check without a terminal differs")
+def make_search_longer(table: str, step: int) -> None:
+    """A table that takes a search longer with each step: longer words make more states."""
+    Path(f"{table}.ctb").write_text(table_of(2800, 5 + step))
+
+
+def make_check_longer(table: str, step: int) -> None:
+    """A certificate that takes a check longer with each step. It has states whose parts differ, since one that takes long by
+    its length alone is larger than a check reads."""
+    subprocess.run([MAKE_WORST, "parts", table, str(64 << step)], check=True)
+
+
+LONGER = {"search": make_search_longer, "check": make_check_longer}
+
+
+def run_long(command: str, words: list[str], table: str) -> bytes:
+    """What this command prints without a terminal, where that takes long."""
+    for step in range(20):
+        LONGER[command](table, step)
+        seconds, found = run(words)
         if seconds >= LONG:
             return found
     sys.exit(f"terminal: no {command} takes {LONG} seconds")
@@ -97,14 +106,14 @@ def run_long(command: str, words: dict[str, list[str]], table: str) -> bytes:
 
 def main(program: str) -> None:
     with tempfile.TemporaryDirectory() as folder:
-        table = f"{folder}/t.ctb"
-        words = {command: [program, command, table, f"{folder}/t.cert"] for command in SHOWN}
+        table = f"{folder}/t"
+        words = {command: [program, command, f"{table}.ctb", f"{table}.cert"] for command in SHOWN}
         for command in words:
-            want = run_long(command, words, table)
+            want = run_long(command, words[command], table)
             status, output, shown = run_on_terminal(words[command])
             need((status, output) == (0, want), f"{command} differs on a terminal")
             check_shown(command, shown)
-        Path(table).write_text(table_of(5, 5))
+        Path(f"{table}.ctb").write_text(table_of(5, 5))
         for command in words:
             need(run_on_terminal(words[command])[2] == b"", "work that isn't long is shown")
     print("terminal: a search and a check show how far they are, and clear what they show")
