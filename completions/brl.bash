@@ -51,7 +51,7 @@ _brl() {
     case $command in
         '') options='--help --version' ;;
         translate) options='--form --lacking --help' ;;
-        clash | trace) options='--escapes --help' ;;
+        clash | trace) options='--escapes --lines --help' ;;
         search) options='--limit --without --help' ;;
         clashes) options='--first --limit --without --help' ;;
         check) options='--without --help' ;;

@@ -51,6 +51,7 @@ complete -c brl -n '__brl_is translate' -l form -x -a 'ascii unicode' -d 'How ce
 complete -c brl -n '__brl_is translate' -l lacking -d 'Pass over lines with undefined characters, and list these'
 complete -c brl -n '__brl_is search clashes' -l limit -x -d 'How many states and pairs may be found'
 complete -c brl -n '__brl_is clash trace' -l escapes -d 'Read texts as they are spelled in tables and reports'
+complete -c brl -n '__brl_is clash trace' -l lines -d 'Show the lines of the table by which each step is made'
 complete -c brl -n '__brl_is survey' -l brief -d 'Leave the list of faults out'
 complete -c brl -n '__brl_is cut' -l rewrite -d 'Also read lines that define a character after noback'
 complete -c brl -n '__brl_is clashes' -l first -x -d 'How many lines of each section are shown'

@@ -122,6 +122,8 @@ for shell in bash zsh fish; do
     offers 'brl trace table.ctb t'
     offers 'brl trace --escapes t' table.ctb table.cert tables
     offers 'brl clash --escapes table.ctb text t'
+    offers 'brl trace --escapes --lines t' table.ctb table.cert tables
+    offers 'brl clash --lines table.ctb text t'
     offers 'brl rules table.ctb t'
     offers 'brl explain t'
     offers 'brl search table.ctb t' table.ctb table.cert tables

@@ -60,6 +60,19 @@ left from 0:
 right from 0:
   x  1-12  t.ctb:3
 """
+LINES_REPORT = """\
+left: ab
+right: x
+cells: 1-12
+left from 0:
+  a  1   t.ctb:1
+    t.ctb:1: letter a 1
+  b  12  t.ctb:2
+    t.ctb:2: letter b 12
+right from 0:
+  x  1-12  t.ctb:3
+    t.ctb:3: letter x 1-12
+"""
 
 SURVEY = """\
 table: t.ctb
@@ -112,6 +125,16 @@ text: 1a
 cells: 3456-1-56-1
   1  3456  1  t.ctb:2
   a  56    1  t.ctb:1
+"""
+LINES_TRACE = """\
+text: 1a
+cells: 3456-1-56-1
+  1  3456  1  t.ctb:2
+    t.ctb:3: numsign 3456
+    t.ctb:2: litdigit 1 1
+  a  56    1  t.ctb:1
+    t.ctb:4: nocontractsign 56
+    t.ctb:1: letter a 1
 """
 
 
@@ -303,6 +326,8 @@ RUNS = [
     Run("a text is traced", ["trace", "t.ctb", "1a"], {"t.ctb": NUMBERS}, TRACE),
     Run("two texts with escapes clash", ["clash", "--escapes", "t.ctb", "a\\x0062", "x"], {"t.ctb": ALIKE}, REPORT, 1),
     Run("a text with escapes is traced", ["trace", "--escapes", "t.ctb", "\\x0031a"], {"t.ctb": NUMBERS}, TRACE),
+    Run("a text is traced with lines", ["trace", "--lines", "t.ctb", "1a"], {"t.ctb": NUMBERS}, LINES_TRACE),
+    Run("two texts with lines clash", ["clash", "--lines", "t.ctb", "ab", "x"], {"t.ctb": ALIKE}, LINES_REPORT, 1),
     Run("a text has a bad escape", ["clash", "--escapes", "t.ctb", "a", "\\q"], {"t.ctb": ALIKE}, status=2, err="F2 BadText \\q\n"),
     Run("rules are listed", ["rules", "t.ctb"], {"t.ctb": "include u.ctb\nalways ab 14\n", "u.ctb": TWO}, RULES),
     Run("a rule is listed", ["rules", "t.ctb", "0"], {"t.ctb": TWO + "noback always ab 14\n"}, "0  always  ab  14  t.ctb:3\n"),

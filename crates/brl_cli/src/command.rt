@@ -20,13 +20,12 @@ pub enum Task<'a> {
 /// What is answered by one text.
 #[derive(Drop)]
 pub enum Question<'a> {
-    /// Whether two texts clash by the table whose file is at this path. With escapes the texts are
-    /// spelled as operands of a table.
+    /// Whether two texts clash by the table whose file is at this path.
     Clash {
         table: &'a str,
         left: &'a str,
         right: &'a str,
-        escapes: bool,
+        options: TextOptions,
     },
     /// Whether the certificate in the file at one path is one for the table whose file is at another,
     /// for the texts that use none of the characters that `without` spells.
@@ -76,13 +75,21 @@ pub enum Question<'a> {
         dir: &'a str,
         rewrite: bool,
     },
-    /// What the steps of a text's translation are by the table whose file is at this path. With escapes
-    /// the text is spelled as an operand of a table.
+    /// What the steps of a text's translation are by the table whose file is at this path.
     Trace {
         table: &'a str,
         text: &'a str,
-        escapes: bool,
+        options: TextOptions,
     },
+}
+
+/// How texts are read, and what is shown of their steps.
+#[derive(Clone, Copy)]
+pub struct TextOptions {
+    /// Whether texts are read as they are spelled in operands of a table.
+    pub escapes: bool,
+    /// Whether each step is followed by the lines of the table by which it is made.
+    pub lines: bool,
 }
 
 /// Why the words ask for no work: a use fault, or help or the version that was asked for, or memory
@@ -183,8 +190,8 @@ enum Options {
     Brief,
     /// Whether lines are rewritten.
     Rewrite,
-    /// Whether texts have escapes.
-    Escapes,
+    /// Whether texts have escapes, and whether the lines of steps are shown.
+    Texts,
 }
 
 /// A command, as its help shows it.
@@ -249,7 +256,10 @@ file and line of the rule. A blank is written \\s, a backslash \\\\, and control
 characters as in a table, so that each text can be copied into one. With
 --escapes LEFT and RIGHT are read like that, so texts of a report are given as
 they are there. Else a blank is a blank, and a backslash one: a report's \\s would
-be a backslash and an s.",
+be a backslash and an s.
+
+With --lines each step is followed by the lines of the table by which it is made:
+those of its indicators, and that of its rule.",
     example: "Example, a table in which x looks like ab:
   printf '%s\\n' 'letter a 1' 'letter b 12' 'letter x 1-12' > alike.ctb
   brl clash alike.ctb ab x
@@ -263,7 +273,7 @@ It prints:
     b  12  alike.ctb:2
   right from 0:
     x  1-12  alike.ctb:3",
-    choice: Some(Options::Escapes),
+    choice: Some(Options::Texts),
     operands: &[
         TABLE,
         Operand {
@@ -476,7 +486,10 @@ and a line for each step: the characters that it reads, the cells of the
 indicators before them (- for none), the cells of the rule, and the file and line
 of the rule. A blank is written \\s, a backslash \\\\, and control characters as in
 a table. With --escapes TEXT is read like that, so a text of a report is given as
-it is there. Else a blank is a blank, and a backslash one.",
+it is there. Else a blank is a blank, and a backslash one.
+
+With --lines each step is followed by the lines of the table by which it is made:
+those of its indicators, and that of its rule.",
     example: "Example, a table of a letter, its capital and a digit:
   printf '%s\\n' 'uplow Aa 1' 'capsletter 6' 'litdigit 1 1' 'numsign 3456' > steps.ctb
   brl trace steps.ctb Aa1
@@ -487,7 +500,7 @@ It prints:
     A  6     1  steps.ctb:1
     a  -     1  steps.ctb:1
     1  3456  1  steps.ctb:3",
-    choice: Some(Options::Escapes),
+    choice: Some(Options::Texts),
     operands: &[
         TABLE,
         Operand {
@@ -661,6 +674,14 @@ fn escapes_option<'a>(alloc: Global) -> Arg<'a> {
         .action(ArgAction::SetTrue)
 }
 
+/// The option of whether the lines of steps are shown.
+fn lines_option<'a>(alloc: Global) -> Arg<'a> {
+    Arg::new(alloc, "lines")
+        .long("lines")
+        .help("Show the lines of the table by which each step is made")
+        .action(ArgAction::SetTrue)
+}
+
 /// The arguments of a command: its options, if any, and its operands.
 fn arguments<'a>(alloc: Global, page: &CommandHelp) -> Result<Vec<Arg<'a>>, AllocError> {
     let mut arguments = Vec::new(alloc);
@@ -681,7 +702,10 @@ fn arguments<'a>(alloc: Global, page: &CommandHelp) -> Result<Vec<Arg<'a>>, Allo
         }
         Some(Options::Brief) => arguments.push(brief_option(alloc))?,
         Some(Options::Rewrite) => arguments.push(rewrite_option(alloc))?,
-        Some(Options::Escapes) => arguments.push(escapes_option(alloc))?,
+        Some(Options::Texts) => {
+            arguments.push(escapes_option(alloc))?;
+            arguments.push(lines_option(alloc))?;
+        }
         None => {}
     }
     for operand in page.operands {
@@ -838,13 +862,20 @@ fn question_of_one_table<'a>(name: &str, found: &ArgMatches<'a>) -> Option<Quest
 fn clash_question<'a>(table: &'a str, found: &ArgMatches<'a>) -> Option<Question<'a>> {
     let left = found.get_str("left")?;
     let right = found.get_str("right")?;
-    let escapes = found.get_flag("escapes");
+    let options = text_options(found);
     Some(Question::Clash {
         table,
         left,
         right,
-        escapes,
+        options,
     })
+}
+
+fn text_options(found: &ArgMatches<'_>) -> TextOptions {
+    TextOptions {
+        escapes: found.get_flag("escapes"),
+        lines: found.get_flag("lines"),
+    }
 }
 
 fn check_question<'a>(table: &'a str, found: &ArgMatches<'a>) -> Option<Question<'a>> {
@@ -883,11 +914,11 @@ fn cut_question<'a>(table: &'a str, found: &ArgMatches<'a>) -> Option<Question<'
 
 fn trace_question<'a>(table: &'a str, found: &ArgMatches<'a>) -> Option<Question<'a>> {
     let text = found.get_str("text")?;
-    let escapes = found.get_flag("escapes");
+    let options = text_options(found);
     Some(Question::Trace {
         table,
         text,
-        escapes,
+        options,
     })
 }
 

@@ -17,3 +17,4 @@ pub mod SplitsLaws
 pub mod Along
 pub mod ListedLaws
 pub mod Filtered
+mod RankLaws

@@ -12,6 +12,7 @@ pub mod Sets
 pub mod Edges
 pub mod NumberPairs
 pub mod Sorted
+pub mod Ranks
 pub mod Splits
 pub mod Parted
 pub mod Listed

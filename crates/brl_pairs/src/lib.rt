@@ -11,7 +11,7 @@
 //! - `Body` has states, and pairs that name two of them by their numbers. An `Edge` is a step with
 //!   the number of its next state: that is looked up once, and from then on only numbers and cells
 //!   are compared.
-//! - The edges of a state are sorted by their cells. `matches` looks up those that a lead can follow,
+//! - The edges of a state are sorted by their cells, which `KeptCells` has once each. `matches` looks up those that a lead can follow,
 //!   and `earlier_splits` those with which an edge splits.
 //!
 //! Room 2, any machine (docs/dev/ARCHITECTURE.md). The definitions begin in `specs/Runs.antt`.
@@ -20,6 +20,7 @@
 mod body;
 mod edge;
 mod edge_laws;
+mod kept_cells;
 mod key;
 mod laws;
 mod lead;
@@ -35,6 +36,7 @@ mod step;
 pub use body::Body;
 pub use edge::{Edge, ListedEdge};
 pub use edge_laws::{edges_law, unmatched_law};
+pub use kept_cells::KeptCells;
 pub use key::Key;
 pub use laws::{
     Sets, advance_law, closed_sets_law, divergence_law, divergence_sets_law, exchange_law,
@@ -47,8 +49,6 @@ pub use members::Members;
 pub use number_pairs::{is_missing, is_there, is_there_swapped};
 pub use parted::Parted;
 pub use seed::{Seed, SeededHasher};
-pub use sorted::{
-    SortedEdge, as_u32, cells_at, cells_of, keep_cells, matches, sort_by_cells, sort_edges,
-};
+pub use sorted::{SortedEdge, as_u32, cells_at, cells_of, matches, sort_edges};
 pub use splits::{Splits, earlier_splits, splits_of};
 pub use step::{Pair, Step};

@@ -1,5 +1,5 @@
 mod Places
 mod Known
-mod RuleLemmas
 mod Common
 mod Tallies
+mod StepPlaces

@@ -3,6 +3,7 @@ pub mod Header
 pub mod Steps
 pub mod Rows
 pub mod Rules
+pub mod Sources
 pub mod Trace
 pub mod Survey
 pub mod Tally

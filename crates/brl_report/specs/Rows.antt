@@ -7,6 +7,8 @@ use Rattle.std.specs.Str.{chars, encode_utf8_all}
 use Rattle.unicode_width.specs.Width.{str_width}
 use Rattle.brl_cells.specs.Dots.{spelling}
 use Rattle.brl_lines.specs.Spelling.{text_spelling}
+use Rattle.brl_lines.specs.Tokens.{LineView}
+use Rattle.brl_report.specs.Sources.{step_sources}
 use Rattle.brl_report.specs.declared.row.CellColumns.{CellColumns}
 use Rattle.brl_report.specs.declared.row.CellColumns.TheVariants.{Joined, Parted}
 use Rattle.brl_report.specs.declared.row.Widths.{Widths}
@@ -16,12 +18,14 @@ use Rattle.brl_rules.specs.declared.rule.Info.{Info}
 use Rattle.brl_rules.specs.declared.rule.Rule.{Rule}
 
 -- the columns of a line: a step's characters as they are spelled, the cells of its indicators if
--- they have a column of their own, its cells in dots, and the location of its rule
+-- they have a column of their own, its cells in dots, and the location of its rule; and the lines of
+-- the table that follow it
 pub record RowView : Type 0 where
   pub characters : List ℕ
   pub indicators : Option (List ℕ)
   pub dots : List ℕ
   pub place : List ℕ
+  pub sources : List ℕ
 
 -- a file and one of its lines, as FILE:LINE
 abbrev pub place_text : TableView → ℕ → ℕ → List ℕ
@@ -57,13 +61,14 @@ abbrev pub rule_cells : CellColumns → ReportStep → List ℕ
 rule_cells Joined x = x.step.cells
 rule_cells Parted x = drop x.step.indicators x.step.cells
 
--- the columns of a step
-abbrev pub row_of : TableView → CellColumns → ReportStep → RowView
-row_of t columns x = record {
+-- the columns of a step, and the lines by which it is made
+abbrev pub row_of : TableView → List LineView → CellColumns → ReportStep → RowView
+row_of t lines columns x = record {
   characters = encode_utf8_all (text_spelling x.characters);
   indicators = indicators_column columns x;
   dots = spelling (rule_cells columns x);
   place = place_of_rule t (slice_get t.rules x.step.rule) x.characters;
+  sources = step_sources t lines x;
 }
 
 -- the width of a text on a terminal
@@ -95,16 +100,16 @@ abbrev pub column_if : ℕ → Option (List ℕ) → List ℕ
 column_if width None = []
 column_if width (Some entry) = column width entry
 
--- the line of a step, with these widths of its columns
+-- the line of a step, with these widths of its columns, and the lines that follow it
 abbrev pub row_line : Widths → RowView → List ℕ
 row_line widths row =
     column widths.characters row.characters ++ column_if widths.indicators row.indicators ++ column widths.dots row.dots
-    ++ codes "  " ++ row.place ++ codes "\n"
+    ++ codes "  " ++ row.place ++ codes "\n" ++ row.sources
 
 -- the lines of some steps, whose columns are as wide as their widest entries
 abbrev pub row_lines : List RowView → List ℕ
 row_lines rows = flat_map (row_line (widths_of rows)) rows
 
 -- the lines of some steps of a table
-abbrev pub step_lines : TableView → CellColumns → List ReportStep → List ℕ
-step_lines t columns steps = row_lines (map (row_of t columns) steps)
+abbrev pub step_lines : TableView → List LineView → CellColumns → List ReportStep → List ℕ
+step_lines t lines columns steps = row_lines (map (row_of t lines columns) steps)

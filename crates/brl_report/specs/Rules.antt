@@ -1,6 +1,7 @@
 -- The list of a table's rules, by the numbers that traces and refusals give them. The project's own
 -- choice.
 use Rattle.std.specs.Prelude.{ℕ, Bool, ◌&&◌, ◌==◌, ◌+◌, ◌-◌, if◌then◌else◌, List, [], ◌∷◌, ◌++◌, Option, Some, None, codes, flat_map, length, map, nat_le, option_map, slice_get}
+use Rattle.std.specs.Borrow.{Bor}
 use Rattle.std.specs.Fmt.{decimal}
 use Rattle.std.specs.List.{find, range_with_len}
 use Rattle.std.specs.Option.{option_and_then, option_map_or, option_or, unwrap_or}
@@ -8,6 +9,8 @@ use Rattle.std.specs.Str.{bytes_eq, encode_utf8_all}
 use Rattle.brl_cells.specs.Dots.{spelling}
 use Rattle.brl_lines.specs.Spelling.{text_spelling}
 use Rattle.brl_lines.specs.Tokens.{LineView}
+use Rattle.brl_lines.specs.Views.{line_view}
+use Rattle.brl_lines.specs.declared.line.Line.{Line}
 use Rattle.brl_report.specs.Rows.{place_text}
 use Rattle.brl_report.specs.declared.rules.Listed.{Listed}
 use Rattle.brl_report.specs.declared.rules.RuleForm.{RuleForm}
@@ -17,6 +20,10 @@ use Rattle.brl_rules.specs.declared.rule.Info.{Info}
 use Rattle.brl_rules.specs.declared.rule.Rule.{Rule}
 
 -- ---- The opcode of a line
+
+-- a line that is borrowed
+abbrev pub borrowed_line_view : Bor Line → LineView
+borrowed_line_view line = line_view line.now
 
 -- whether a line is at this place
 abbrev pub is_at : List ℕ → ℕ → LineView → Bool
@@ -29,8 +36,21 @@ defining_opcode line =
 
 -- the opcode of the first of these lines at a place
 abbrev pub opcode_at : List ℕ → ℕ → List LineView → List ℕ
-opcode_at file number [] = []
-opcode_at file number (line ∷ lines) = if is_at file number line then defining_opcode line else opcode_at file number lines
+opcode_at file number lines = option_map_or defining_opcode (find (is_at file number) lines) []
+
+-- ---- A line as it stands in its file
+
+-- the words of a line, with a blank between two
+abbrev pub words_of : LineView → List ℕ
+words_of line = line.opcode.text ++ flat_map (λ word. codes " " ++ word.text) line.operands
+
+-- a line by which a rule or an indicator is defined: its file and number, and its words
+abbrev pub source_line : LineView → List ℕ
+source_line line = codes "    " ++ line.file ++ codes ":" ++ decimal line.line ++ codes ": " ++ words_of line ++ codes "\n"
+
+-- the first of these lines that is so, if one is
+abbrev pub first_source : (LineView → Bool) → List LineView → List ℕ
+first_source is_so lines = option_map_or source_line (find is_so lines) []
 
 -- ---- The rules by their numbers
 
@@ -106,6 +126,7 @@ noted_rule t lines x =
 abbrev pub listed_text : RuleForm → TableView → List LineView → ℕ → ListedView → List ℕ
 listed_text form.Line t lines number x = listed_line t lines number x
 listed_text form.Note t lines number x = noted_rule t lines x
+listed_text form.Source t lines number x = first_source (is_at (file_name t x.file) x.line) lines
 
 -- the rule with a number in a form, if there is one
 abbrev pub rule_text : RuleForm → TableView → List LineView → ℕ → List ℕ

@@ -7,14 +7,20 @@ use Rattle.brl_forward.specs.Trace.{trace_of}
 use Rattle.brl_forward.specs.declared.steps.Traced.{Traced}
 use Rattle.brl_report.specs.declared.steps.ReportStep.{ReportStep}
 use Rattle.brl_rules.specs.TableView.{TableView}
+use Rattle.brl_rules.specs.Text.{context_at, is_in_caps_run}
 
--- a step with the characters that it reads
-abbrev pub report_step : List ℕ → Traced → ReportStep
-report_step text step = record { step = step; characters = take step.length (drop step.start text) }
+-- a step with the characters that it reads, its context, and whether it begins in a run of capitals
+abbrev pub report_step : TableView → List ℕ → Traced → ReportStep
+report_step t text step = record {
+  step = step;
+  characters = take step.length (drop step.start text);
+  here = context_at t text step.start;
+  run = is_in_caps_run t (context_at t text step.start).classes (drop step.start text);
+}
 
 -- the steps of a text's translation
 abbrev pub report_steps : TableView → List ℕ → List ReportStep
-report_steps t text = map (report_step text) (trace_of t text)
+report_steps t text = map (report_step t text) (trace_of t text)
 
 -- whether the rules, the characters and the cells of two steps are the same
 abbrev pub are_same : ReportStep → ReportStep → Bool

@@ -18,12 +18,13 @@ mod rows;
 mod rules;
 mod side;
 mod skipped;
+mod sources;
 mod steps;
 mod survey;
 mod trace;
 
 pub use clash_line::push_clash_line;
-pub use clash_report::{ReportFault, report};
+pub use clash_report::{ReportFault, report, report_with};
 pub use cut_report::report_of_cut;
 pub use rules::{first_unknown, rule_numbers, rules_report};
 pub use skipped::skipped_report;

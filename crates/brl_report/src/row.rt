@@ -1,5 +1,6 @@
 //! The lines of a report that list the steps of a text.
-ghost use Rattle.std.specs.Prelude.{◌≡◌, ◌<◌, ◌++◌, IfOk, OnOk, Some, length, option_map, slice_get, string_bytes, take, drop};
+ghost use Rattle.std.specs.Prelude.{◌≡◌, ◌<◌, ◌++◌, IfOk, OnOk, Some, length, map, option_map, slice_get, string_bytes, take, drop};
+ghost use Rattle.brl_lines.specs.Views.{line_view};
 ghost use Rattle.brl_report.specs.Rows.{
   cells_or_none,
   column,
@@ -14,9 +15,10 @@ ghost use Rattle.brl_report.specs.Rows.{
   widths_of,
 };
 
+use crate::sources::step_sources;
 use crate::steps::ReportStep;
 use brl_cells::{Cell, write_dots};
-use brl_lines::spell_chars;
+use brl_lines::{Line, spell_chars};
 use brl_rules::Table;
 use std::alloc::{AllocError, Global};
 use std::marker::Model;
@@ -40,6 +42,8 @@ pub struct Row {
     indicators: Option<String>,
     dots: String,
     place: String,
+    /// The lines of the table that follow it.
+    sources: String,
 }
 
 impl Model for Row {
@@ -53,6 +57,7 @@ impl Model for Row {
       indicators = option_map string_bytes r.indicators;
       dots = string_bytes r.dots;
       place = string_bytes r.place;
+      sources = string_bytes r.sources;
     } };
 }
 
@@ -130,24 +135,27 @@ fn rule_cells(columns: CellColumns, step: &ReportStep) -> &[Cell]
 }
 
 impl Row {
-    /// The columns of a step.
+    /// The columns of a step, and the lines by which it is made, among these lines of the table.
     pub fn of(
         alloc: Global,
         table: &Table,
+        lines: &[Line<'_>],
         columns: CellColumns,
         step: &ReportStep,
     ) -> Result<Row, AllocError>
-        ensures { IfOk result (λ row. row ≡ row_of table.now columns step.now) }
+        ensures { IfOk result (λ row. row ≡ row_of table.now (map line_view lines.now) columns step.now) }
     {
         Ok(Row {
             characters: spell_chars(alloc, step.characters.as_slice())?,
             indicators: indicators_column(alloc, columns, step)?,
             dots: write_dots(alloc, rule_cells(columns, step))?,
             place: place_of(alloc, table, step)?,
+            sources: step_sources(alloc, table, lines, step)?,
         })
     }
 
-    /// Appends the line to a text, with these widths of its first two columns.
+    /// Appends the line to a text, with these widths of its first two columns, and the lines that
+    /// follow it.
     pub fn push_line(
         &self,
         alloc: Global,
@@ -161,7 +169,8 @@ impl Row {
         push_column(alloc, text, self.dots.as_str(), widths.dots)?;
         text.push_str("  ")?;
         text.push_str(self.place.as_str())?;
-        text.push('\n')
+        text.push('\n')?;
+        text.push_str(self.sources.as_str())
     }
 }
 

@@ -1,8 +1,9 @@
 //! The list of a table's rules, by their numbers.
-ghost use Rattle.std.specs.Prelude.{◌≡◌, ◌++◌, ◌-◌, ◌<◌, ◌≤◌, [], IfOk, OnOk, flat_map, length, map, string_bytes};
+ghost use Rattle.std.specs.Prelude.{◌≡◌, ◌++◌, ◌-◌, ◌<◌, ◌≤◌, [], IfOk, OnOk, flat_map, length, map, option_map, string_bytes};
 ghost use Rattle.brl_lines.specs.Views.{line_view};
 ghost use Rattle.brl_report.specs.Rules.{
   after_blanks,
+  borrowed_line_view,
   defining_opcode as opcode_of_line,
   first_unknown as first_unknown_of,
   is_at as is_line_at,
@@ -17,7 +18,10 @@ ghost use Rattle.brl_report.specs.Rules.{
   rule_numbers as numbers_of_rules,
   rule_text,
   rules_text,
+  source_line,
+  words_of,
 };
+ghost use Rattle.std.specs.List.{find};
 ghost use Rattle.std.specs.Option.{option_map_or};
 
 use crate::row::place_text;
@@ -43,6 +47,8 @@ pub(crate) enum RuleForm {
     Line,
     /// Within a line: the file and line, the opcode and the characters.
     Note,
+    /// As the line of the table by which it is defined.
+    Source,
 }
 
 /// How many numbers the rules of a table have: those in rank, and after them the own definitions of
@@ -161,6 +167,10 @@ fn push_listed(
     match form {
         RuleForm::Line => push_listed_line(alloc, table, lines, number, listed, text),
         RuleForm::Note => push_note(alloc, table, lines, listed, text),
+        RuleForm::Source => {
+            let file = table.file_name(listed.file);
+            push_source(line_at(file, listed.line, lines), text)
+        }
     }
 }
 
@@ -231,12 +241,14 @@ pub(crate) fn push_after_blanks(text: &mut String, entry: &str) -> Result<(), Al
 fn opcode_at<'a>(file: &str, number: u32, lines: &[Line<'a>]) -> &'a str
     ensures { result.now ≡ opcode_among file.now number (map line_view lines.now) }
 {
-    for line in lines {
-        if is_at(line, file, number) {
-            return defining_opcode(line);
-        }
-    }
-    ""
+    line_at(file, number, lines).map_or("", defining_opcode)
+}
+
+/// The first of these lines at a place.
+fn line_at<'l, 'a>(file: &str, number: u32, lines: &'l [Line<'a>]) -> Option<&'l Line<'a>>
+    ensures { option_map borrowed_line_view result ≡ find (is_line_at file.now number) (map line_view lines.now) }
+{
+    lines.iter().find(|line| is_at(line, file, number))
 }
 
 /// Whether a line is at this place.
@@ -255,4 +267,29 @@ fn defining_opcode<'a>(line: &Line<'a>) -> &'a str
         return line.opcode.text;
     }
     line.operands.first().map_or("", |next| next.text)
+}
+
+/// Appends a line of a table by which something is defined, if there is one: its file and number, and
+/// its words.
+pub(crate) fn push_source(line: Option<&Line<'_>>, text: &mut String) -> Result<(), AllocError>
+    ensures { OnOk result (string_bytes text.new ≡ string_bytes text.old ++ option_map_or source_line (option_map borrowed_line_view line) []) }
+{
+    let Some(line) = line else {
+        return Ok(());
+    };
+    write!(text, "    {}:{}: ", line.file, line.line)?;
+    push_words(line, text)?;
+    text.push('\n')
+}
+
+/// Appends the words of a line, with a blank between two.
+fn push_words(line: &Line<'_>, text: &mut String) -> Result<(), AllocError>
+    ensures { OnOk result (string_bytes text.new ≡ string_bytes text.old ++ words_of (line_view line.now)) }
+{
+    text.push_str(line.opcode.text)?;
+    for word in &line.operands {
+        text.push(' ')?;
+        text.push_str(word.text)?;
+    }
+    Ok(())
 }

@@ -1,10 +1,12 @@
 //! One side of the report: the steps of a text from where the two translations diverge.
-ghost use Rattle.std.specs.Prelude.{◌≡◌, ◌++◌, OnOk, string_bytes, drop};
+ghost use Rattle.std.specs.Prelude.{◌≡◌, ◌++◌, OnOk, map, string_bytes, drop};
+ghost use Rattle.brl_lines.specs.Views.{line_view};
 ghost use Rattle.brl_report.specs.Report.{report_of, side};
 
 use crate::row::CellColumns;
 use crate::rows::push_steps;
 use crate::steps::{ReportStep, common_prefix};
+use brl_lines::Line;
 use brl_rules::Table;
 use std::alloc::{AllocError, Global};
 
@@ -12,15 +14,16 @@ use std::alloc::{AllocError, Global};
 fn push_side(
     alloc: Global,
     table: &Table,
+    lines: &[Line<'_>],
     text: &mut String,
     name: &str,
     steps: &[ReportStep],
 ) -> Result<(), AllocError>
-    ensures { OnOk result (string_bytes text.new ≡ string_bytes text.old ++ side table.now name.now steps.now) }
+    ensures { OnOk result (string_bytes text.new ≡ string_bytes text.old ++ side table.now (map line_view lines.now) name.now steps.now) }
 {
     let start = steps.first().map_or(0, |first| first.step.start);
     write!(text, "{name} from {start}:\n")?;
-    push_steps(alloc, table, text, CellColumns::Joined, steps)
+    push_steps(alloc, table, lines, text, CellColumns::Joined, steps)
 }
 
 /// The steps from index `count` on.
@@ -34,13 +37,14 @@ fn after(steps: &[ReportStep], count: usize) -> &[ReportStep]
 pub fn push_sides(
     alloc: Global,
     table: &Table,
+    lines: &[Line<'_>],
     text: &mut String,
     left: &[ReportStep],
     right: &[ReportStep],
 ) -> Result<(), AllocError>
-    ensures { OnOk result (string_bytes text.new ≡ report_of table.now (string_bytes text.old) left.now right.now) }
+    ensures { OnOk result (string_bytes text.new ≡ report_of table.now (map line_view lines.now) (string_bytes text.old) left.now right.now) }
 {
     let shared = common_prefix(left, right);
-    push_side(alloc, table, text, "left", after(left, shared))?;
-    push_side(alloc, table, text, "right", after(right, shared))
+    push_side(alloc, table, lines, text, "left", after(left, shared))?;
+    push_side(alloc, table, lines, text, "right", after(right, shared))
 }

@@ -3,12 +3,12 @@ ghost use Rattle.std.specs.Prelude.{◌≡◌, IsTrue, IfErr, IfOk, take, drop};
 ghost use Rattle.brl_failure.specs.Failure.{IfFault};
 ghost use Rattle.brl_forward.specs.Faults.{IsFaultOf};
 ghost use Rattle.brl_report.specs.Steps.{are_same, common_prefix, report_step, report_steps};
-ghost use Rattle.brl_rules.specs.Text.{is_text};
+ghost use Rattle.brl_rules.specs.Text.{context_at, is_text};
 
 use brl_cells::Chars;
 use brl_failure::Failure;
 use brl_forward::{ForwardFault, Traced, trace};
-use brl_rules::Table;
+use brl_rules::{Context, Table, choice_laws, translation_laws};
 use std::alloc::{AllocError, Global};
 
 /// A step of a translation, with the characters that it reads.
@@ -16,6 +16,10 @@ use std::alloc::{AllocError, Global};
 pub struct ReportStep {
     pub step: Traced,
     pub characters: Chars,
+    /// What is known of the characters before it.
+    pub here: Context,
+    /// Whether it begins in a run of capitals.
+    pub run: bool,
 }
 
 /// The characters that a step reads of its text.
@@ -37,13 +41,39 @@ pub fn traced_steps(
     ensures text { IfOk result (λ _. IsTrue (is_text table.now text.now)) }
     ensures fault { IfErr result (IfFault (IsFaultOf table.now text.now)) }
 {
+    choice_laws();
+    translation_laws();
     let steps = trace(alloc, table, text)?;
     let mut found = Vec::new(alloc);
+    let mut here = Context::START;
     for step in steps {
-        let characters = taken(alloc, text, &step)?;
-        found.push(ReportStep { step, characters })?;
+        let reported = report_step(alloc, table, text, here, step)?;
+        here = table.context_after(here, reported.characters.as_slice());
+        found.push(reported)?;
     }
     Ok(found)
+}
+
+/// A step with the characters that it reads, after this context.
+fn report_step(
+    alloc: Global,
+    table: &Table,
+    text: &[char],
+    here: Context,
+    step: Traced,
+) -> Result<ReportStep, AllocError>
+    requires { here ≡ context_at table.now text.now step.start }
+    ensures { IfOk result (λ reported. reported ≡ report_step table.now text.now step) }
+{
+    let characters = taken(alloc, text, &step)?;
+    let rest = text.get(step.start..).unwrap_or_default();
+    let run = table.is_in_caps_run(here.classes, rest);
+    Ok(ReportStep {
+        step,
+        characters,
+        here,
+        run,
+    })
 }
 
 /// The steps of the translation of a text whose characters the table defines.

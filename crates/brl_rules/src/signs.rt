@@ -37,6 +37,15 @@ impl Sign {
         Sign::EndCapsWord,
     ];
 
+    /// All indicators, in the order in which they come where several are used.
+    pub const ORDER: [Sign; 5] = [
+        Sign::EndCapsWord,
+        Sign::NoContractSign,
+        Sign::NumSign,
+        Sign::BegCapsWord,
+        Sign::CapsLetter,
+    ];
+
     /// The number of indicators.
     const COUNT: usize = 5;
 
@@ -150,10 +159,26 @@ impl Table {
     ) -> Result<(), AllocError>
         ensures { OnOk result (cells.new.items ≡ cells.old.items ++ used_cells self.now here run info.now sign) }
     {
-        if is_used(self, here, run, info, sign) {
+        if self.uses_indicator(here, run, info, sign) {
             cells.extend_from_slice(self.indicator(sign))?;
         }
         Ok(())
+    }
+
+    /// Whether the table uses an indicator before a character with this info, which is in a run of
+    /// capitals or isn't.
+    pub fn uses_indicator(&self, here: Context, run: bool, info: &Info, sign: Sign) -> bool
+        ensures { result ≡ is_used self.now here run info.now sign }
+    {
+        let is_capital = info.classes.intersects(Class::UPPERCASE);
+        let after_run = here.run && self.has_word_capitals();
+        match sign {
+            Sign::EndCapsWord => after_run && info.classes.intersects(Class::LETTER) && !is_capital,
+            Sign::NoContractSign => here.numeric && info.nocont,
+            Sign::NumSign => info.literary && !here.numeric,
+            Sign::BegCapsWord => is_capital && run && !here.classes.intersects(Class::UPPERCASE),
+            Sign::CapsLetter => is_capital && !run,
+        }
     }
 }
 
@@ -164,18 +189,3 @@ fn may_use_signs(here: Context, info: &Info) -> bool
     here.run || info.nocont || info.literary || info.classes.intersects(Class::UPPERCASE)
 }
 
-/// Whether a table uses an indicator before a character with this info, which is in a run of capitals
-/// or isn't.
-fn is_used(table: &Table, here: Context, run: bool, info: &Info, sign: Sign) -> bool
-    ensures { result ≡ is_used table.now here run info.now sign }
-{
-    let is_capital = info.classes.intersects(Class::UPPERCASE);
-    let after_run = here.run && table.has_word_capitals();
-    match sign {
-        Sign::EndCapsWord => after_run && info.classes.intersects(Class::LETTER) && !is_capital,
-        Sign::NoContractSign => here.numeric && info.nocont,
-        Sign::NumSign => info.literary && !here.numeric,
-        Sign::BegCapsWord => is_capital && run && !here.classes.intersects(Class::UPPERCASE),
-        Sign::CapsLetter => is_capital && !run,
-    }
-}

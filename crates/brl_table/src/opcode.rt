@@ -1,7 +1,7 @@
 //! The opcodes of the profile. specs/Opcodes.antt has the table of them, in three parts; this code
 //! is proved to follow it.
 ghost use Rattle.std.specs.Prelude.{◌≡◌};
-ghost use Rattle.brl_table.specs.Opcodes.{character_opcodes, entry_of, opcode_of, other_opcodes, place_opcodes};
+ghost use Rattle.brl_table.specs.Opcodes.{character_opcodes, entry_of, opcode_of, other_opcodes, place_opcodes, sign_given};
 
 use crate::item::NumericRole;
 use brl_rules::{Class, Place, Sign};
@@ -39,6 +39,16 @@ pub fn opcode_named(word: &str) -> Option<Opcode>
     character_opcode(word)
         .or(place_opcode(word))
         .or(other_opcode(word))
+}
+
+/// The indicator whose cells the lines with this opcode give, if they do.
+pub fn indicator_named(word: &str) -> Option<Sign>
+    ensures { result ≡ sign_given (opcode_of word.now) }
+{
+    match opcode_named(word) {
+        Some(Opcode::Indicator(sign)) => Some(sign),
+        _ => None,
+    }
 }
 
 /// The opcode of a word, if its lines define characters.

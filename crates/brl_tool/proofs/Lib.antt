@@ -7,3 +7,4 @@ pub mod CheckLemmas
 pub mod NoticesLemmas
 pub mod OfFiles
 pub mod SearchLemmas
+pub mod Answered

@@ -1,5 +1,5 @@
 -- The answers of commands begin as answers do.
-use Rattle.std.proofs.Common.{◌≡◌, ℕ, List, [], ◌∷◌, Ok, inl, inr, refl, subst, sym, true}
+use Rattle.std.proofs.Common.{◌≡◌, ℕ, Bool, List, [], ◌∷◌, Ok, inl, inr, refl, subst, sym, true}
 use Rattle.std.specs.Prelude.{codes, string_bytes}
 use Rattle.brl_answers.specs.Answers.{counts_line, with_left_out_line}
 use Rattle.brl_answers.specs.Files.{MayBeSame}
@@ -36,11 +36,11 @@ module _ (gives : FileAnswers) where
     | inr (inr (states, pairs, limit_is, says)) ↦ begins_as _ _ says.1 refl
   ]
 
-  pub clash_begins : (path left right : List ℕ) (answer : Answer) → ComparesByFile gives path left right (Ok answer) → begins_as_answer (string_bytes answer.text) ≡ true
-  clash_begins path left right answer (t, table, is) = elim is [
+  pub clash_begins : (with_lines : Bool) (path left right : List ℕ) (answer : Answer) → ComparesByFile with_lines gives path left right (Ok answer) → begins_as_answer (string_bytes answer.text) ≡ true
+  clash_begins with_lines path left right answer (paths, lines, are, passes, is) = elim is [
     | inl (cells, clash, says) ↦ begins_as _ _ says.1 refl
     | inr (left_is, right_is, none, says) ↦ begins_as _ _ says.1 refl
   ]
 
-  pub trace_begins : (path text : List ℕ) (answer : Answer) → TracesByFile gives path text (Ok answer) → begins_as_answer (string_bytes answer.text) ≡ true
-  trace_begins path text answer (t, table, (known, says)) = begins_as _ _ says.1 refl
+  pub trace_begins : (with_lines : Bool) (path text : List ℕ) (answer : Answer) → TracesByFile with_lines gives path text (Ok answer) → begins_as_answer (string_bytes answer.text) ≡ true
+  trace_begins with_lines path text answer (paths, lines, are, passes, (known, says)) = begins_as _ _ says.1 refl

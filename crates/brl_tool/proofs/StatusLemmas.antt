@@ -1,5 +1,5 @@
 -- What the status says of what was delivered.
-use Rattle.std.proofs.Common.{◌≡◌, ◌≢◌, ◌∙◌, ℕ, suc, Bool, true, false, cond, List, [], ◌∷◌, All, arith, map, inl, inr, Result, Ok, Err, refl, subst, sym}
+use Rattle.std.proofs.Common.{◌≡◌, ◌≢◌, ◌∙◌, ℕ, suc, Bool, ap, true, false, cond, List, [], ◌∷◌, All, arith, map, inl, inr, Result, Ok, Err, refl, subst, sym}
 use Rattle.std.specs.Option.{option_copied}
 use Rattle.std.specs.Prelude.{string_bytes}
 use Rattle.brl_cert.specs.Reading.{spelling}
@@ -10,8 +10,13 @@ use Rattle.brl_lines.specs.Outcome.{AreGiven}
 use Rattle.brl_lines.specs.declared.operand.CharsFault.{CharsFault}
 use Rattle.brl_table.specs.Files.{IsTableOf, IsTableOfFiles}
 use Rattle.brl_search.specs.Searched.{certificate_of}
-use Rattle.brl_tool.proofs.OfFiles.{of_files}
+use Rattle.brl_lines.specs.Tokens.{LineView}
+use Rattle.brl_tool.proofs.OfFiles.{lines_of, of_files}
+use Rattle.brl_tool.specs.ByLines.{shown_lines}
+use Rattle.brl_cli.specs.declared.command.TextOptions.{TextOptions}
 use Rattle.brl_rules.specs.TableView.{TableView}
+use Rattle.brl_rules.specs.Translation.{IsClash}
+use Rattle.brl_report.specs.Report.{report_text}
 use Rattle.brl_answers.proofs.DeliveryLemmas.{none_changes}
 use Rattle.brl_clashes.proofs.Verdicts.{clash as clash_listed, unambiguous as none_listed}
 use Rattle.brl_clashes.specs.Sections.{outcome_of}
@@ -76,12 +81,13 @@ spelled_in spelled is_bad promises answer is = elim is [
 ]
 
 -- an answer of two words is one of two texts
-texts_compared : (escapes : Bool) (gives : FileAnswers) (path left right : List ℕ) (answer : Answer) → ComparesByWords escapes gives path left right (Ok answer)
-    → (l r : List ℕ) × ComparesByFile gives path l r (Ok answer)
-texts_compared escapes gives path left right answer is =
-    let (l, left_is, rest) = spelled_in (text_of escapes left) (IsBadText escapes left) (λ l. ByText escapes right (ComparesByFile gives path l)) answer is in
-    let (r, right_is, compares) = spelled_in (text_of escapes right) (IsBadText escapes right) (ComparesByFile gives path l) answer rest in
-    (l, r, compares)
+texts_compared : (options : TextOptions) (gives : FileAnswers) (path left right : List ℕ) (answer : Answer) → ComparesByWords options gives path left right (Ok answer)
+    → (l r : List ℕ) × ComparesByFile options.lines gives path l r (Ok answer)
+texts_compared options gives path left right answer is =
+    let compares : List ℕ → List ℕ → Result Answer RunFault → Type 0 = ComparesByFile options.lines gives path in
+    let (l, left_is, rest) = spelled_in (text_of options.escapes left) (IsBadText options.escapes left) (λ l. ByText options.escapes right (compares l)) answer is in
+    let (r, right_is, compared) = spelled_in (text_of options.escapes right) (IsBadText options.escapes right) (compares l) answer rest in
+    (l, r, compared)
 
 module _ (before after : World) (same_file : MayBeSame) where
   -- an answer with a status that no fault has was written whole
@@ -120,12 +126,15 @@ module _ (before after : World) (same_file : MayBeSame) where
   IsAnswerTo asked answer = Answers asked before.gives same_file (Ok answer)
 
   means : (asked : Question) (answer : Answer) → IsAnswerTo asked answer → Means asked answer
-  means (question.Clash path left right escapes) answer compares files prints =
-      let (l, r, by_file) = texts_compared escapes before.gives path.now left.now right.now answer compares in
-      let (t, table, is) = by_file in
+  means (question.Clash path left right options) answer compares files prints =
+      let (l, r, by_file) = texts_compared options before.gives path.now left.now right.now answer compares in
+      let (paths, lines, are, passes, is) = by_file in
       elim is [
         | inl (cells, clash, says) ↦
-            ((λ done. tt), (λ refuted. ((path.now, l, r, cells, t, table, clash, subst (Prints before after) says.1 prints), subst (FilesAfter before.gives after.gives) says.2 files)))
+            ((λ done. tt),
+            (λ refuted.
+                ((path.now, l, r, cells, lines, lines_of before.gives path.now paths lines are, passes, clash, (options.lines, subst (Prints before after) says.1 prints)),
+                subst (FilesAfter before.gives after.gives) says.2 files)))
         | inr (left_is, right_is, none, says) ↦ ((λ done. tt), (λ refuted. let e = sym says.0 ∙ refuted in cc))
       ]
   means (question.Survey paths brief) answer (parts, named, are, says) files prints = ((λ done. tt), (λ refuted. absurd (unrefuted _ (sym says.0 ∙ refuted))))
@@ -133,9 +142,9 @@ module _ (before after : World) (same_file : MayBeSame) where
       let written : FilesAfter before.gives after.gives (AllNew made) = subst (FilesAfter before.gives after.gives) are files in
       let read = subst (λ (fs : Texts). IsReadAs fs (written_path dir.now path.now path.now)) (sym (same ∙ is.files_are)) is.read in
       ((λ done. (made.items, written.0, written.1, read)), (λ refuted. let e = sym status ∙ refuted in cc))
-  means (question.Trace path text escapes) answer traces files prints =
-      let (chars, spelled, by_file) = spelled_in (text_of escapes text.now) (IsBadText escapes text.now) (TracesByFile before.gives path.now) answer traces in
-      let (t, table, (known, says)) = by_file in
+  means (question.Trace path text options) answer traces files prints =
+      let (chars, spelled, by_file) = spelled_in (text_of options.escapes text.now) (IsBadText options.escapes text.now) (TracesByFile options.lines before.gives path.now) answer traces in
+      let (paths, lines, are, passes, (known, says)) = by_file in
       ((λ done. tt), (λ refuted. let e = sym says.0 ∙ refuted in cc))
   means (question.Rules path numbers) answer (paths, lines, are, passes, (known, says)) files prints = ((λ done. tt), (λ refuted. let e = sym says.0 ∙ refuted in cc))
   means (question.Explain line) answer (fault, is, says) files prints = ((λ done. tt), (λ refuted. let e = sym says.0 ∙ refuted in cc))
@@ -159,7 +168,11 @@ module _ (before after : World) (same_file : MayBeSame) where
         )
         | inr (inl (left, right, cells, clash, says)) ↦ (
           (λ done. let e = sym says.0 ∙ done in cc),
-          (λ refuted. ((path.now, left, right, cells, t, of_files before.gives path.now paths t table, clash.clash, subst (Prints before after) says.1 prints), subst (FilesAfter before.gives after.gives) says.2 files)),
+          (λ refuted.
+              let (lines, are, passes, is) = table in
+              ((path.now, left, right, cells, lines, lines_of before.gives path.now paths lines are, passes, subst (λ (u : TableView). IsClash u left right cells) is clash.clash,
+              (false, subst (Prints before after) (says.1 ∙ ap (λ (u : TableView). report_text u left right cells) is) prints)),
+              subst (FilesAfter before.gives after.gives) says.2 files)),
         )
         | inr (inr (states, pairs, limit_is, says)) ↦ ((λ done. let e = sym says.0 ∙ done in cc), (λ refuted. let e = sym says.0 ∙ refuted in cc))
       ]
@@ -176,8 +189,8 @@ module _ (before after : World) (same_file : MayBeSame) where
 
   -- ---- Only a search and a cut have files to write
 
-  comparison_has_none : (t : TableView) (left right : List ℕ) (answer : Answer) → IsComparison t left right answer → answer.files ≡ Nothing
-  comparison_has_none t left right answer is = elim is [
+  comparison_has_none : (t : TableView) (lines : List LineView) (left right : List ℕ) (answer : Answer) → IsComparison t lines left right answer → answer.files ≡ Nothing
+  comparison_has_none t lines left right answer is = elim is [
     | inl (cells, clash, says) ↦ says.2
     | inr (l, r, none, says) ↦ says.2
   ]
@@ -191,14 +204,14 @@ module _ (before after : World) (same_file : MayBeSame) where
   keeps : (asked : Question) (outcome : Result Answer RunFault) (status : Status) → Answers asked before.gives same_file outcome → Delivers outcome before after status → KeepsFilesUnlessWritten asked before after
   keeps (question.Search path out limit option) outcome status is delivers = tt
   keeps (question.Cut path dir rewrite) outcome status is delivers = tt
-  keeps (question.Clash path left right escapes) (Ok answer) status compares (written, writes, e) =
-      let (l, r, by_file) = texts_compared escapes before.gives path.now left.now right.now answer compares in
-      let (t, table, is) = by_file in
-      none_changes before after answer written (comparison_has_none t l r answer is) writes
+  keeps (question.Clash path left right options) (Ok answer) status compares (written, writes, e) =
+      let (l, r, by_file) = texts_compared options before.gives path.now left.now right.now answer compares in
+      let (paths, lines, are, passes, is) = by_file in
+      none_changes before after answer written (comparison_has_none (table_of lines) (shown_lines options.lines lines) l r answer is) writes
   keeps (question.Survey paths brief) (Ok answer) status (parts, named, are, says) (written, writes, e) = none_changes before after answer written says.2 writes
-  keeps (question.Trace path text escapes) (Ok answer) status traces (written, writes, e) =
-      let (chars, spelled, by_file) = spelled_in (text_of escapes text.now) (IsBadText escapes text.now) (TracesByFile before.gives path.now) answer traces in
-      let (t, table, (known, says)) = by_file in
+  keeps (question.Trace path text options) (Ok answer) status traces (written, writes, e) =
+      let (chars, spelled, by_file) = spelled_in (text_of options.escapes text.now) (IsBadText options.escapes text.now) (TracesByFile options.lines before.gives path.now) answer traces in
+      let (paths, lines, are, passes, (known, says)) = by_file in
       none_changes before after answer written says.2 writes
   keeps (question.Rules path numbers) (Ok answer) status (paths, lines, are, passes, (known, says)) (written, writes, e) = none_changes before after answer written says.2 writes
   keeps (question.Explain line) (Ok answer) status (fault, is, says) (written, writes, e) = none_changes before after answer written says.2 writes

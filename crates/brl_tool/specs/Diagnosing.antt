@@ -1,9 +1,9 @@
 -- What `brl clashes` answers. The project's own choice.
 use Rattle.std.specs.Prelude.{ℕ, List, Result, Ok, Err}
-use Rattle.brl_answers.specs.Answers.{HasNoTable, HasTextAndStatus}
+use Rattle.brl_answers.specs.Answers.{HasTextAndStatus}
 use Rattle.brl_answers.specs.declared.answer.Answer.{Answer}
 use Rattle.brl_answers.specs.declared.run_fault.RunFault.{RunFault}
-use Rattle.brl_answers.specs.declared.run_fault.RunFault.TheVariants.{Load, Table, NotDefined, Memory}
+use Rattle.brl_answers.specs.declared.run_fault.RunFault.TheVariants.{NotDefined, Memory}
 use Rattle.brl_answers.specs.declared.status.Status.{Status}
 use Rattle.brl_answers.specs.declared.status.Status.TheVariants.{Done, Refuted, Undecided}
 use Rattle.brl_clashes.specs.ClashesText.{IsClashesText}
@@ -12,10 +12,10 @@ use Rattle.brl_clashes.specs.declared.section.Section.{Section}
 use Rattle.brl_clashes.specs.declared.verdict.Outcome.{Outcome}
 use Rattle.brl_clashes.specs.declared.verdict.Outcome.TheVariants.{Unambiguous, Clashing, Unfinished}
 use Rattle.brl_lines.specs.Answer.{FileAnswers}
-use Rattle.brl_lines.specs.Outcome.{AreLinesOfFiles}
 use Rattle.brl_lines.specs.Tokens.{LineView}
 use Rattle.brl_rules.specs.TableView.{TableView}
-use Rattle.brl_table.specs.Reading.{PassesAll, table_of}
+use Rattle.brl_table.specs.Reading.{table_of}
+use Rattle.brl_tool.specs.ByLines.{ByLines}
 use Rattle.brl_without.specs.Tables.{IsUndefined}
 
 -- the status of what sections come to
@@ -38,15 +38,7 @@ Diagnoses left_out t lines limit first (Err (NotDefined fault)) = IsUndefined t 
 Diagnoses left_out t lines limit first (Err Memory) = Unit {0}
 Diagnoses left_out t lines limit first (Err fault) = ⊥
 
--- the same by the lines of the files of the table at a path
-abbrev pub DiagnosesByLines : List ℕ → FileAnswers → List ℕ → ℕ → ℕ → Result Answer RunFault → Type 0
-DiagnosesByLines left_out gives path limit first outcome =
-    (paths : List (List ℕ)) × (lines : List LineView) × AreLinesOfFiles gives path paths lines × PassesAll lines
-    × Diagnoses left_out (table_of lines) lines limit first outcome
-
--- the same, or there is no table at the path
+-- the same by the lines of the table at a path
 abbrev pub DiagnosesByFile : List ℕ → FileAnswers → List ℕ → ℕ → ℕ → Result Answer RunFault → Type 0
-DiagnosesByFile left_out gives path limit first (Err (Load fault)) = HasNoTable gives path (Load fault)
-DiagnosesByFile left_out gives path limit first (Err (Table fault)) = HasNoTable gives path (Table fault)
-DiagnosesByFile left_out gives path limit first (Err Memory) = Unit {0}
-DiagnosesByFile left_out gives path limit first outcome = DiagnosesByLines left_out gives path limit first outcome
+DiagnosesByFile left_out gives path limit first outcome =
+    ByLines gives path (λ lines. Diagnoses left_out (table_of lines) lines limit first) outcome

@@ -1,4 +1,5 @@
 pub mod Running
+pub mod ByLines
 pub mod Comparing
 pub mod Cutting
 pub mod Explaining

@@ -1,16 +1,16 @@
 -- What `brl rules` answers. The project's own choice.
 use Rattle.std.specs.Prelude.{ℕ, ◌≡◌, List, [], ◌∷◌, None, Some, Result, Ok, Err}
 use Rattle.brl_lines.specs.Answer.{FileAnswers}
-use Rattle.brl_lines.specs.Outcome.{AreLinesOfFiles}
 use Rattle.brl_lines.specs.Tokens.{LineView}
 use Rattle.brl_report.specs.Rules.{first_unknown, rule_numbers, rules_text}
 use Rattle.brl_rules.specs.TableView.{TableView}
-use Rattle.brl_table.specs.Reading.{PassesAll, table_of}
-use Rattle.brl_answers.specs.Answers.{HasNoTable, HasTextAndStatus}
+use Rattle.brl_table.specs.Reading.{table_of}
+use Rattle.brl_answers.specs.Answers.{HasTextAndStatus}
 use Rattle.brl_answers.specs.declared.answer.Answer.{Answer}
 use Rattle.brl_answers.specs.declared.run_fault.RunFault.{RunFault}
-use Rattle.brl_answers.specs.declared.run_fault.RunFault.TheVariants.{Load, Table, NoSuchRule, Memory}
+use Rattle.brl_answers.specs.declared.run_fault.RunFault.TheVariants.{NoSuchRule, Memory}
 use Rattle.brl_answers.specs.declared.status.Status.TheVariants.{Done}
+use Rattle.brl_tool.specs.ByLines.{ByLines}
 
 -- the numbers whose rules are listed: those that are given, and where there are none all
 abbrev pub listed_numbers : TableView → List ℕ → List ℕ
@@ -25,15 +25,6 @@ Lists t lines numbers (Err (NoSuchRule number)) = first_unknown t numbers ≡ So
 Lists t lines numbers (Err Memory) = Unit {0}
 Lists t lines numbers (Err fault) = ⊥
 
--- the same by the lines of the files of the table at a path
-abbrev pub ListsByLines : FileAnswers → List ℕ → List ℕ → Result Answer RunFault → Type 0
-ListsByLines gives path numbers outcome =
-    (paths : List (List ℕ)) × (lines : List LineView) × AreLinesOfFiles gives path paths lines × PassesAll lines
-    × Lists (table_of lines) lines numbers outcome
-
--- the same, or there is no table at the path
+-- the same by the lines of the table at a path
 abbrev pub ListsByFile : FileAnswers → List ℕ → List ℕ → Result Answer RunFault → Type 0
-ListsByFile gives path numbers (Err (Load fault)) = HasNoTable gives path (Load fault)
-ListsByFile gives path numbers (Err (Table fault)) = HasNoTable gives path (Table fault)
-ListsByFile gives path numbers (Err Memory) = Unit {0}
-ListsByFile gives path numbers outcome = ListsByLines gives path numbers outcome
+ListsByFile gives path numbers outcome = ByLines gives path (λ lines. Lists (table_of lines) lines numbers) outcome

@@ -1,14 +1,16 @@
 -- What a run of the program comes to. The project's own choice. `same` says which paths may name one
 -- file, `input` what is left of the input where that is known.
-use Rattle.std.specs.Prelude.{ℕ, ◌≡◌, ◌<◌, ◌==◌, ◌⊎◌, if◌then◌else◌, length, List, ◌++◌, false, map, Option, Result, Ok, Err, String, codes, string_bytes}
+use Rattle.std.specs.Prelude.{ℕ, ◌≡◌, ◌<◌, ◌==◌, ◌⊎◌, Bool, if◌then◌else◌, length, List, ◌++◌, false, map, Option, Result, Ok, Err, String, codes, string_bytes}
 use Rattle.std.specs.Global.{Global}
 use Rattle.std.specs.Option.{option_copied}
 use Rattle.brl_accept.specs.Judging.{IsAcceptedWithout, counted}
 use Rattle.brl_cert.specs.Reading.{spelling}
 use Rattle.brl_pairs.specs.Body.{BodyView}
 use Rattle.brl_lines.specs.Answer.{FileAnswers}
+use Rattle.brl_lines.specs.Outcome.{AreLinesOf}
 use Rattle.brl_table.specs.Files.{IsTableOf}
-use Rattle.brl_report.specs.Report.{report_text}
+use Rattle.brl_table.specs.Reading.{PassesAll, table_of}
+use Rattle.brl_report.specs.Report.{report_text_with}
 use Rattle.brl_search.specs.Searched.{State, certificate_of}
 use Rattle.brl_cells.specs.declared.form.Form.{Form}
 use Rattle.brl_rules.specs.TableView.{TableView}
@@ -16,6 +18,7 @@ use Rattle.brl_rules.specs.Translation.{IsClash}
 use Rattle.brl_clashes.specs.ClashesText.{IsClashesText}
 use Rattle.brl_clashes.specs.declared.section.Section.{Section}
 use Rattle.brl_lines.specs.Tokens.{LineView}
+use Rattle.brl_tool.specs.ByLines.{shown_lines}
 use Rattle.brl_tool.specs.Comparing.{ComparesByWords}
 use Rattle.brl_tool.specs.Diagnosing.{DiagnosesByFile}
 use Rattle.brl_cut.specs.Cuts.{IsReadAs, written_path}
@@ -49,9 +52,9 @@ use Rattle.brl_without.specs.Tables.{IsClashWithout, IsUnambiguousWithout}
 
 -- the answer of a command, with the paths, texts, options and limit that it has
 abbrev pub Answers : Question → FileAnswers → MayBeSame → Result Answer RunFault → Type 0
-Answers (question.Clash path left right escapes) gives same outcome = ComparesByWords escapes gives path.now left.now right.now outcome
+Answers (question.Clash path left right options) gives same outcome = ComparesByWords options gives path.now left.now right.now outcome
 Answers (question.Survey paths brief) gives same outcome = SurveysByFiles brief gives (map (λ path. path.now) paths.items) outcome
-Answers (question.Trace path text escapes) gives same outcome = TracesByWord escapes gives path.now text.now outcome
+Answers (question.Trace path text options) gives same outcome = TracesByWord options gives path.now text.now outcome
 Answers (question.Rules path numbers) gives same outcome = ListsByFile gives path.now numbers.items outcome
 Answers (question.Explain line) gives same outcome = Explains line.now outcome
 Answers (question.Cut path dir rewrite) gives same outcome = CutsByFile rewrite gives path.now dir.now outcome
@@ -76,10 +79,13 @@ ReportsAcceptance before after path option =
 abbrev pub ReportsRefusal : World → World → Type 0
 ReportsRefusal before after = (rest : List ℕ) × Prints before after (codes "refused: " ++ rest)
 
--- the report of two texts that clash by the table of the file at some path was written
+-- the report of two texts that clash by the table of the file at some path was written, with lines of
+-- that table or without
 abbrev pub ReportsClash : World → World → Type 0
 ReportsClash before after =
-    (path left right cells : List ℕ) × (t : TableView) × IsTableOf before.gives path t × IsClash t left right cells × Prints before after (report_text t left right cells)
+    (path left right cells : List ℕ) × (lines : List LineView) × AreLinesOf before.gives path lines × PassesAll lines
+    × IsClash (table_of lines) left right cells
+    × ((with_lines : Bool) × Prints before after (report_text_with (table_of lines) (shown_lines with_lines lines) left right cells))
 
 -- the text of a list of clashes of the table of the file at some path was written, by which two texts
 -- clash that use none of what is left out
@@ -122,7 +128,7 @@ MeansDone asked before after = Unit {0}
 
 -- what it means that something was refuted; a survey, a trace, a list of rules and a cut never say so
 abbrev pub MeansRefuted : Question → World → World → Type 0
-MeansRefuted (question.Clash path left right escapes) before after = ReportsClash before after
+MeansRefuted (question.Clash path left right options) before after = ReportsClash before after
 MeansRefuted (question.Check path cert option) before after = ReportsRefusal before after
 MeansRefuted (question.Search path out limit option) before after = ReportsClash before after
 MeansRefuted (question.Clashes path limit first option) before after = ReportsClashes before after

@@ -1,61 +1,100 @@
 //! `brl clash`: whether two texts have the same cells.
+ghost use Rattle.std.specs.Prelude.{map};
 ghost use Rattle.brl_lines.specs.Answer.{Unchanged};
 ghost use Rattle.brl_lines.specs.Outcome.{CountsFailure};
-ghost use Rattle.brl_tool.specs.Comparing.{Compares, ComparesByFile, ComparesByWords};
+ghost use Rattle.brl_lines.specs.Views.{line_view};
 ghost use Rattle.brl_answers.specs.Answers.{load_outcome};
+ghost use Rattle.brl_tool.specs.ByLines.{shown_lines as lines_shown};
+ghost use Rattle.brl_tool.specs.Comparing.{Compares, ComparesByFile, ComparesByWords};
 
+use crate::shown::shown_lines;
 use brl_answers::{Answer, RunFault, Status, text_of_word};
+use brl_cli::TextOptions;
 use brl_forward::confirm;
-use brl_lines::Source;
-use brl_report::report;
+use brl_lines::{Line, Loaded, Source, load};
+use brl_report::report_with;
 use brl_rules::Table;
-use brl_table::load_table;
+use brl_table::table_of_loaded;
 use std::alloc::Global;
 
-/// Compares the texts of two words by the table whose file is at a path; with `escapes` they are read
-/// as operands of a table. The texts are read before the table, the left one first.
+/// Compares the texts of two words by the table whose file is at a path. With escapes they are read as
+/// operands of a table, and with lines each step of a report is followed by the table's lines by which
+/// it is made. The texts are read before the table, the left one first.
 pub fn compare_by_words<S: Source>(
     alloc: Global,
     source: &mut S,
     path: &str,
     left: &str,
     right: &str,
-    escapes: bool,
+    options: TextOptions,
 ) -> Result<Answer, RunFault>
-    ensures compares { ComparesByWords escapes (S.gives source.old) path.now left.now right.now result }
+    ensures compares { ComparesByWords options (S.gives source.old) path.now left.now right.now result }
     ensures count { CountsFailure (S.faults source.old) (S.faults source.new) (load_outcome result) }
     ensures same { Unchanged (S.gives source.old) (S.gives source.new) }
 {
-    let left = text_of_word(alloc, left, escapes)?;
-    let right = text_of_word(alloc, right, escapes)?;
-    compare_by_file(alloc, source, path, left.as_slice(), right.as_slice())
+    let left = text_of_word(alloc, left, options.escapes)?;
+    let right = text_of_word(alloc, right, options.escapes)?;
+    compare_by_file(
+        alloc,
+        source,
+        path,
+        options.lines,
+        left.as_slice(),
+        right.as_slice(),
+    )
 }
 
-/// Compares two texts by the table whose file is at a path. The answer is the report of a clash, or
-/// `no clash`.
+/// Compares two texts by the table whose file is at a path, whose lines are shown or not. The answer is
+/// the report of a clash, or `no clash`.
 pub fn compare_by_file<S: Source>(
     alloc: Global,
     source: &mut S,
     path: &str,
+    with_lines: bool,
     left: &[char],
     right: &[char],
 ) -> Result<Answer, RunFault>
-    ensures compares { ComparesByFile (S.gives source.old) path.now left.now right.now result }
+    ensures compares { ComparesByFile with_lines (S.gives source.old) path.now left.now right.now result }
     ensures count { CountsFailure (S.faults source.old) (S.faults source.new) (load_outcome result) }
     ensures same { Unchanged (S.gives source.old) (S.gives source.new) }
 {
-    let table = load_table(alloc, source, path)?;
-    let answer = compare(alloc, &table, left, right);
+    let loaded = load(alloc, source, path)?;
+    let table = table_of_loaded(alloc, &loaded)?;
+    let answer = compare_by_loaded(alloc, &table, &loaded, with_lines, left, right);
     drop(table);
     answer
 }
 
-/// Compares two texts by a table.
-fn compare(alloc: Global, table: &Table, left: &[char], right: &[char]) -> Result<Answer, RunFault>
-    ensures { Compares table.now left.now right.now result }
+/// Compares two texts by a table of loaded files, whose lines are shown or not.
+fn compare_by_loaded(
+    alloc: Global,
+    table: &Table,
+    loaded: &Loaded,
+    with_lines: bool,
+    left: &[char],
+    right: &[char],
+) -> Result<Answer, RunFault>
+    ensures { Compares table.now (lines_shown with_lines loaded.now.lines) left.now right.now result }
+{
+    let lines = shown_lines(alloc, loaded, with_lines)?;
+    compare(alloc, table, lines.as_slice(), left, right)
+}
+
+/// Compares two texts by a table. A report has those of these lines by which each step is made.
+fn compare(
+    alloc: Global,
+    table: &Table,
+    lines: &[Line<'_>],
+    left: &[char],
+    right: &[char],
+) -> Result<Answer, RunFault>
+    ensures { Compares table.now (map line_view lines.now) left.now right.now result }
 {
     match confirm(alloc, table, left, right)? {
-        Some(clash) => Ok(Answer::new(Status::Refuted, report(alloc, table, &clash)?)),
+        Some(clash) => {
+            let text = report_with(alloc, table, lines, &clash)?;
+            Ok(Answer::new(Status::Refuted, text))
+        }
         None => Ok(Answer::new(Status::Done, String::from_str(alloc, "no clash\n")?)),
     }
 }

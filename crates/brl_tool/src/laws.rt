@@ -1,5 +1,5 @@
 //! Laws of the definitions.
-ghost use Rattle.std.specs.Prelude.{◌≡◌, ℕ, List, Ok, string_bytes, true};
+ghost use Rattle.std.specs.Prelude.{◌≡◌, ℕ, Bool, List, Ok, string_bytes, true};
 ghost use Rattle.brl_answers.specs.Prefixes.{begins_as_answer};
 ghost use Rattle.brl_answers.specs.declared.answer.Answer.{Answer};
 ghost use Rattle.brl_tool.specs.Comparing.{ComparesByFile};
@@ -15,8 +15,8 @@ pub fn prefixes_law<F: Files>(files: &F)
         → begins_as_answer (string_bytes answer.text) ≡ true }
     ensures search { (left_out path out : List ℕ) (limit : ℕ) (answer : Answer) → SearchesByFile left_out (F.gives files.now) F.same_file path out limit (Ok answer)
         → begins_as_answer (string_bytes answer.text) ≡ true }
-    ensures clash { (path left right : List ℕ) (answer : Answer) → ComparesByFile (F.gives files.now) path left right (Ok answer)
+    ensures clash { (with_lines : Bool) (path left right : List ℕ) (answer : Answer) → ComparesByFile with_lines (F.gives files.now) path left right (Ok answer)
         → begins_as_answer (string_bytes answer.text) ≡ true }
-    ensures trace { (path text : List ℕ) (answer : Answer) → TracesByFile (F.gives files.now) path text (Ok answer)
+    ensures trace { (with_lines : Bool) (path text : List ℕ) (answer : Answer) → TracesByFile with_lines (F.gives files.now) path text (Ok answer)
         → begins_as_answer (string_bytes answer.text) ≡ true }
 {}

@@ -19,6 +19,7 @@ mod notices;
 mod program;
 mod rules;
 mod search;
+mod shown;
 mod survey;
 mod trace;
 mod translate;

@@ -155,16 +155,16 @@ fn answer<F: Files, E: Write + Progress>(
             table,
             left,
             right,
-            escapes,
-        } => compare_by_words(alloc, files, table, left, right, escapes),
+            options,
+        } => compare_by_words(alloc, files, table, left, right, options),
         Question::Survey { tables, brief } => {
             survey_by_files(alloc, files, tables.as_slice(), brief, err)
         }
         Question::Trace {
             table,
             text,
-            escapes,
-        } => trace_by_word(alloc, files, table, text, escapes),
+            options,
+        } => trace_by_word(alloc, files, table, text, options),
         Question::Explain { line } => explain_line(alloc, line),
         Question::Rules { table, numbers } => {
             list_rules_by_file(alloc, files, table, numbers.as_slice())

@@ -1,54 +1,82 @@
 //! `brl trace`: the steps of a text's translation.
+ghost use Rattle.std.specs.Prelude.{map};
 ghost use Rattle.brl_lines.specs.Answer.{Unchanged};
 ghost use Rattle.brl_lines.specs.Outcome.{CountsFailure};
+ghost use Rattle.brl_lines.specs.Views.{line_view};
 ghost use Rattle.brl_answers.specs.Answers.{load_outcome};
+ghost use Rattle.brl_tool.specs.ByLines.{shown_lines as lines_shown};
 ghost use Rattle.brl_tool.specs.Tracing.{Traces, TracesByFile, TracesByWord};
 
+use crate::shown::shown_lines;
 use brl_answers::{Answer, RunFault, Status, text_of_word};
-use brl_lines::Source;
+use brl_cli::TextOptions;
+use brl_lines::{Line, Loaded, Source, load};
 use brl_report::trace_report;
 use brl_rules::Table;
-use brl_table::load_table;
+use brl_table::table_of_loaded;
 use std::alloc::Global;
 
-/// Traces the text of a word by the table whose file is at a path; with `escapes` it is read as an
-/// operand of a table. The text is read before the table.
+/// Traces the text of a word by the table whose file is at a path. With escapes it is read as an operand
+/// of a table, and with lines each step is followed by the table's lines by which it is made. The text
+/// is read before the table.
 pub fn trace_by_word<S: Source>(
     alloc: Global,
     source: &mut S,
     path: &str,
     word: &str,
-    escapes: bool,
+    options: TextOptions,
 ) -> Result<Answer, RunFault>
-    ensures traces { TracesByWord escapes (S.gives source.old) path.now word.now result }
+    ensures traces { TracesByWord options (S.gives source.old) path.now word.now result }
     ensures count { CountsFailure (S.faults source.old) (S.faults source.new) (load_outcome result) }
     ensures same { Unchanged (S.gives source.old) (S.gives source.new) }
 {
-    let text = text_of_word(alloc, word, escapes)?;
-    trace_by_file(alloc, source, path, text.as_slice())
+    let text = text_of_word(alloc, word, options.escapes)?;
+    trace_by_file(alloc, source, path, options.lines, text.as_slice())
 }
 
-/// Traces a text by the table whose file is at a path. The answer is the report of the text.
+/// Traces a text by the table whose file is at a path, whose lines are shown or not. The answer is the
+/// report of the text.
 pub fn trace_by_file<S: Source>(
     alloc: Global,
     source: &mut S,
     path: &str,
+    with_lines: bool,
     text: &[char],
 ) -> Result<Answer, RunFault>
-    ensures traces { TracesByFile (S.gives source.old) path.now text.now result }
+    ensures traces { TracesByFile with_lines (S.gives source.old) path.now text.now result }
     ensures count { CountsFailure (S.faults source.old) (S.faults source.new) (load_outcome result) }
     ensures same { Unchanged (S.gives source.old) (S.gives source.new) }
 {
-    let table = load_table(alloc, source, path)?;
-    let answer = trace(alloc, &table, text);
+    let loaded = load(alloc, source, path)?;
+    let table = table_of_loaded(alloc, &loaded)?;
+    let answer = trace_of_loaded(alloc, &table, &loaded, with_lines, text);
     drop(table);
     answer
 }
 
-/// Traces a text by a table.
-fn trace(alloc: Global, table: &Table, text: &[char]) -> Result<Answer, RunFault>
-    ensures { Traces table.now text.now result }
+/// Traces a text by a table of loaded files, whose lines are shown or not.
+fn trace_of_loaded(
+    alloc: Global,
+    table: &Table,
+    loaded: &Loaded,
+    with_lines: bool,
+    text: &[char],
+) -> Result<Answer, RunFault>
+    ensures { Traces table.now (lines_shown with_lines loaded.now.lines) text.now result }
 {
-    let report = trace_report(alloc, table, text)?;
+    let lines = shown_lines(alloc, loaded, with_lines)?;
+    trace(alloc, table, lines.as_slice(), text)
+}
+
+/// Traces a text by a table, with those of these lines by which each step is made.
+fn trace(
+    alloc: Global,
+    table: &Table,
+    lines: &[Line<'_>],
+    text: &[char],
+) -> Result<Answer, RunFault>
+    ensures { Traces table.now (map line_view lines.now) text.now result }
+{
+    let report = trace_report(alloc, table, lines, text)?;
     Ok(Answer::new(Status::Done, report))
 }

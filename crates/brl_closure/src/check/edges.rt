@@ -11,9 +11,8 @@ ghost use Rattle.brl_pairs.specs.Runs.{KeepsLaws};
 ghost use Rattle.brl_parts.specs.Parts.{AreKeptParts, no_parts};
 
 use crate::AcceptFault;
-use brl_cells::Cells;
 use brl_failure::Failure;
-use brl_pairs::{Body, Key, ListedEdge, Machine, Members, Parted, Seed, Step, keep_cells};
+use brl_pairs::{Body, Key, KeptCells, ListedEdge, Machine, Parted, Seed, Step};
 use brl_parts::Parts;
 use std::alloc::{AllocError, Global};
 
@@ -21,7 +20,7 @@ use std::alloc::{AllocError, Global};
 #[derive(Drop)]
 pub struct KeptParts<P: Key> {
     /// The cells of edges, each once. Edges name them by their numbers.
-    pub cells: Members<Cells>,
+    pub cells: KeptCells,
     pub parts: Parts<P>,
 }
 
@@ -31,7 +30,7 @@ impl<P: Key> KeptParts<P> {
         ensures { result.parts ≡ no_parts }
     {
         KeptParts {
-            cells: Members::new(alloc, seed),
+            cells: KeptCells::new(alloc, seed),
             parts: Parts::new(alloc, seed),
         }
     }
@@ -52,7 +51,7 @@ impl<P: Key> KeptParts<P> {
 /// fault is the step's rule, where its next state isn't one of the body.
 fn edge_of<S: Key>(
     body: &Body<S>,
-    cells: &mut Members<Cells>,
+    cells: &mut KeptCells,
     step: &Step<S>,
     likely: u32,
 ) -> Result<ListedEdge, Failure<u32>>
@@ -63,7 +62,7 @@ fn edge_of<S: Key>(
     let Some(next) = body.number_of(&step.next) else {
         return Err(Failure::Fault(step.rule));
     };
-    let kept = keep_cells(cells, &step.cells, likely)?;
+    let kept = cells.keep(&step.cells, likely)?;
     Ok(ListedEdge {
         rule: step.rule,
         cells: kept,
@@ -76,7 +75,7 @@ fn edge_of<S: Key>(
 fn edges_of_steps<S: Key>(
     alloc: Global,
     body: &Body<S>,
-    cells: &mut Members<Cells>,
+    cells: &mut KeptCells,
     steps: Vec<Step<S>>,
 ) -> Result<Vec<ListedEdge>, Failure<u32>>
     ensures edges { IfOk result (λ edges. AreListedEdges body.now.states cells.new steps.items edges.items) }
@@ -99,7 +98,7 @@ fn list_edges<M: Machine>(
     alloc: Global,
     machine: &M,
     body: &Body<M::State>,
-    cells: &mut Members<Cells>,
+    cells: &mut KeptCells,
     number: usize,
 ) -> Result<Vec<ListedEdge>, Failure<AcceptFault>>
     requires laws { KeepsLaws (M.behaviour machine.now) }

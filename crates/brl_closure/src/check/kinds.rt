@@ -6,8 +6,7 @@ ghost use Rattle.brl_pairs.specs.Members.{IsMember};
 ghost use Rattle.brl_pairs.specs.declared.edge.ListedEdge.{ListedEdge as EdgeValue};
 
 use crate::check::sorted::Sorted;
-use brl_cells::Cells;
-use brl_pairs::{Key, ListedEdge, Members, Seed, SortedEdge, sort_edges};
+use brl_pairs::{Key, KeptCells, ListedEdge, Members, Seed, SortedEdge, sort_edges};
 use std::alloc::{AllocError, Global};
 
 /// What decides which pair follows an edge: the number of its next state, and that of its cells.
@@ -41,7 +40,7 @@ impl Kind {
 /// cells, all are kept. Kinds are found by hashes of this seed.
 pub fn sort_first_two<'c>(
     alloc: Global,
-    cells: &'c [Cells],
+    cells: &'c KeptCells,
     edges: Vec<ListedEdge>,
     seed: Seed,
 ) -> Result<Sorted<'c>, AllocError>
@@ -50,11 +49,11 @@ pub fn sort_first_two<'c>(
 {
     let sorted = sort_edges(alloc, cells, edges.as_slice())?;
     if !has_three_alike(sorted.as_slice()) {
-        return Sorted::new(alloc, cells, edges, sorted);
+        return Sorted::new(alloc, cells.as_slice(), edges, sorted);
     }
     let kept = first_two_of_each_kind(alloc, edges.as_slice(), seed)?;
     let sorted = sort_edges(alloc, cells, kept.as_slice())?;
-    Sorted::new(alloc, cells, kept, sorted)
+    Sorted::new(alloc, cells.as_slice(), kept, sorted)
 }
 
 /// Whether three of these edges, which are in the order of their cells, have the same ones.

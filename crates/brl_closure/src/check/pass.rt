@@ -120,7 +120,8 @@ pub fn find_missing<M: Parted, W: Progress>(
         watch.report(work_at(body, state));
         kept.forget_parts(alloc, seed);
         let edges = edges_of(alloc, machine, body, &mut kept, state as usize)?;
-        let sorted = sort_first_two(alloc, kept.cells.as_slice(), edges, seed)?;
+        kept.cells.rank(alloc)?;
+        let sorted = sort_first_two(alloc, &kept.cells, edges, seed)?;
         missing = missing_after(alloc, machine, body, &behind, &sorted, state, missing)?;
     }
     Ok(missing)

@@ -12,9 +12,8 @@ ghost use Rattle.brl_closure.specs.Trail.{Advances, IsActive, IsStopped};
 use crate::search::finder::{Finder, Stop};
 use crate::search::fresh::{Fresh, Parting, Place, keep_parts, next_of, numbers_of};
 use crate::search::trail::{StateOrigin, Trail};
-use brl_cells::Cells;
 use brl_failure::Failure;
-use brl_pairs::{ListedEdge, Machine, Members, Parted, Step, keep_cells};
+use brl_pairs::{KeptCells, ListedEdge, Machine, Parted, Step};
 use brl_parts::Parts;
 use std::alloc::AllocError;
 
@@ -24,7 +23,7 @@ impl<'m, M: Machine> Finder<'m, M> {
     fn number_step(
         &self,
         trail: &mut Trail<M::State>,
-        cells: &mut Members<Cells>,
+        cells: &mut KeptCells,
         number: usize,
         step: Step<M::State>,
         likely: u32,
@@ -39,7 +38,7 @@ impl<'m, M: Machine> Finder<'m, M> {
     {
         let origin = StateOrigin { parent: number };
         let next = self.find_state(trail, step.next, origin)?;
-        let kept = keep_cells(cells, &step.cells, likely)?;
+        let kept = cells.keep(&step.cells, likely)?;
         Ok(ListedEdge {
             rule: step.rule,
             cells: kept,
@@ -52,7 +51,7 @@ impl<'m, M: Machine> Finder<'m, M> {
     pub fn list_edges(
         &self,
         trail: &mut Trail<M::State>,
-        cells: &mut Members<Cells>,
+        cells: &mut KeptCells,
         number: usize,
     ) -> Result<Vec<ListedEdge>, Failure<Stop>>
         requires active { IsActive M.behaviour self.now trail.old }
@@ -83,7 +82,7 @@ impl<'m, M: Parted> Finder<'m, M> {
     pub(crate) fn find_edges(
         &self,
         trail: &mut Trail<M::State>,
-        cells: &mut Members<Cells>,
+        cells: &mut KeptCells,
         parts: &mut Parts<M::Part>,
         number: usize,
     ) -> Result<Vec<ListedEdge>, Failure<Stop>>
@@ -110,7 +109,7 @@ impl<'m, M: Parted> Finder<'m, M> {
     fn join_edges(
         &self,
         trail: &mut Trail<M::State>,
-        cells: &mut Members<Cells>,
+        cells: &mut KeptCells,
         parts: &mut Parts<M::Part>,
         number: usize,
         listed: Vec<M::Part>,
@@ -174,7 +173,7 @@ impl<'m, M: Parted> Finder<'m, M> {
     fn number_parts(
         &self,
         trail: &mut Trail<M::State>,
-        cells: &mut Members<Cells>,
+        cells: &mut KeptCells,
         number: usize,
         fresh: &mut Vec<Fresh<M::State, M::Part>>,
     ) -> Result<(), Failure<Stop>>
@@ -198,7 +197,7 @@ impl<'m, M: Parted> Finder<'m, M> {
     fn number_next(
         &self,
         trail: &mut Trail<M::State>,
-        cells: &mut Members<Cells>,
+        cells: &mut KeptCells,
         number: usize,
         fresh: &mut Fresh<M::State, M::Part>,
         likely: u32,

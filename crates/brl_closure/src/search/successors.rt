@@ -18,7 +18,7 @@ use crate::search::trail::{Origins, PairOrigin, Trail};
 use brl_cells::Cells;
 use brl_failure::Failure;
 use brl_pairs::{
-    ListedEdge, Machine, Members, Pair, Parted, SortedEdge, Splits, cells_at, cells_of,
+    KeptCells, ListedEdge, Machine, Pair, Parted, SortedEdge, Splits, cells_at, cells_of,
     earlier_splits, matches, sort_edges, splits_of,
 };
 use brl_parts::Parts;
@@ -189,7 +189,7 @@ impl<'m, M: Parted> Finder<'m, M> {
     pub(crate) fn expand(
         &self,
         trail: &mut Trail<M::State>,
-        cells: &mut Members<Cells>,
+        cells: &mut KeptCells,
         parts: &mut Parts<M::Part>,
         number: usize,
     ) -> Result<Vec<SortedEdge>, Failure<Stop>>
@@ -204,8 +204,9 @@ impl<'m, M: Parted> Finder<'m, M> {
         ensures stopped { IfErr result (IfFault (IsStopped M.behaviour self.now trail.new)) }
     {
         let edges = self.find_edges(trail, cells, parts, number)?;
+        cells.rank(self.alloc)?;
+        let sorted = sort_edges(self.alloc, cells, edges.as_slice())?;
         let kept = cells.as_slice();
-        let sorted = sort_edges(self.alloc, kept, edges.as_slice())?;
         self.find_splits(trail, number, kept, edges.as_slice(), sorted.as_slice())?;
         Ok(sorted)
     }

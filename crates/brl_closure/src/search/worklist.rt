@@ -6,8 +6,7 @@ ghost use Rattle.std.specs.declared.cmp.Reverse.{Reverse as ReverseValue};
 ghost use Rattle.brl_parts.specs.Parts.{no_parts};
 ghost use Rattle.brl_closure.specs.Worklist.{IsItemOf, IsQueued, NoneIsReady};
 
-use brl_cells::Cells;
-use brl_pairs::{Key, Members, Pair, Seed, SortedEdge};
+use brl_pairs::{Key, KeptCells, Members, Pair, Seed, SortedEdge};
 use brl_parts::Parts;
 use std::alloc::{AllocError, Global};
 use std::cmp::Reverse;
@@ -17,7 +16,7 @@ use std::collections::BinaryHeap;
 #[derive(Drop)]
 pub struct Worklist<P: Key> {
     /// The cells of edges, each once. Edges name them by their numbers.
-    pub cells: Members<Cells>,
+    pub cells: KeptCells,
     /// The parts of steps that have been listed.
     pub parts: Parts<P>,
     /// The edges of each state that has been expanded, in the order of their cells. The other
@@ -36,7 +35,7 @@ impl<P: Key> Worklist<P> {
         ensures queue { heap_items result.queue ≡ [] }
     {
         Worklist {
-            cells: Members::new(alloc, seed),
+            cells: KeptCells::new(alloc, seed),
             parts: Parts::new(alloc, seed),
             expanded: Vec::new(alloc),
             queue: BinaryHeap::new(alloc),

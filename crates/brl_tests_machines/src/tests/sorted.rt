@@ -1,7 +1,7 @@
 //! Edges in the order of their cells: those that a lead can follow, and those that split.
 use brl_cells::{Cells, read_dots};
 use brl_pairs::{
-    ListedEdge, Members, Seed, SortedEdge, earlier_splits, keep_cells, matches, sort_edges,
+    KeptCells, ListedEdge, Seed, SortedEdge, earlier_splits, matches, sort_edges,
     splits_of,
 };
 use brl_testing::for_rows_of_3;
@@ -48,7 +48,7 @@ fn cells_of_dots(alloc: Global, dots: &str) -> Result<Cells, Fail> {
 /// The edges with these cells, which are kept. Each leads to the state with the number 0.
 fn edges_of_dots(
     alloc: Global,
-    kept: &mut Members<Cells>,
+    kept: &mut KeptCells,
     field: &str,
 ) -> Result<Vec<ListedEdge>, Fail> {
     let mut edges = Vec::new(alloc);
@@ -57,7 +57,7 @@ fn edges_of_dots(
             let cells = cells_of_dots(alloc, dots)?;
             edges.push(ListedEdge {
                 rule: 0,
-                cells: keep_cells(kept, &cells, 0)?,
+                cells: kept.keep(&cells, 0)?,
                 next: 0,
             })?;
         }
@@ -78,11 +78,12 @@ fn places_text(alloc: Global, edges: &[SortedEdge]) -> Result<String, Fail> {
 }
 
 fn matches_text(alloc: Global, field: &str, lead: &str) -> Result<String, Fail> {
-    let mut kept = Members::new(alloc, Seed::of(b"cells"));
+    let mut kept = KeptCells::new(alloc, Seed::of(b"cells"));
     let edges = edges_of_dots(alloc, &mut kept, field)?;
     let lead = cells_of_dots(alloc, lead)?;
+    kept.rank(alloc)?;
+    let sorted = sort_edges(alloc, &kept, edges.as_slice())?;
     let cells = kept.as_slice();
-    let sorted = sort_edges(alloc, cells, edges.as_slice())?;
     let found = matches(alloc, cells, sorted.as_slice(), lead.as_slice())?;
     places_text(alloc, found.as_slice())
 }
@@ -94,13 +95,14 @@ fn edges_that_match_a_lead(rt: HostRuntime) -> Result<(), Fail> {
 
 fn splits_text(alloc: Global, field: &str, place: &str) -> Result<String, Fail> {
     let place = place.parse()?;
-    let mut kept = Members::new(alloc, Seed::of(b"cells"));
+    let mut kept = KeptCells::new(alloc, Seed::of(b"cells"));
     let edges = edges_of_dots(alloc, &mut kept, field)?;
     if place >= edges.len() {
         return Err(Fail::new("there is no such edge"));
     }
+    kept.rank(alloc)?;
+    let sorted = sort_edges(alloc, &kept, edges.as_slice())?;
     let cells = kept.as_slice();
-    let sorted = sort_edges(alloc, cells, edges.as_slice())?;
     let splits = splits_of(alloc, cells, sorted.as_slice(), edges.len())?;
     let found = earlier_splits(alloc, cells, sorted.as_slice(), &splits, place)?;
     places_text(alloc, found.as_slice())

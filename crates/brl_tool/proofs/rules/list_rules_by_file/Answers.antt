@@ -1,25 +1,10 @@
-use Rattle.std.proofs.Common.{◌≡◌, ℕ, List, Result, Ok, Err, subst}
-use Rattle.brl_lines.specs.Answer.{FileAnswers}
-use Rattle.brl_lines.specs.Outcome.{AreLinesOfFiles}
-use Rattle.brl_lines.specs.Tokens.{LineView}
-use Rattle.brl_rules.specs.TableView.{TableView}
-use Rattle.brl_table.specs.Reading.{PassesAll, table_of}
-use Rattle.brl_answers.specs.declared.answer.Answer.{Answer}
-use Rattle.brl_answers.specs.declared.run_fault.RunFault.{RunFault}
-use Rattle.brl_answers.specs.declared.run_fault.RunFault.TheVariants.{NoSuchRule, Memory}
-use Rattle.brl_tool.specs.Listing.{Lists, ListsByFile}
+use Rattle.brl_tool.specs.Listing.{Lists}
+use Rattle.brl_tool.proofs.Answered.{answered}
 use Rattle.brl_tool.proofs.rules.list_rules_by_file.Goals as goal
-
-module _ (gives : FileAnswers) (path numbers : List ℕ) (paths : List (List ℕ)) (lines : List LineView) (are : AreLinesOfFiles gives path paths lines) (passes : PassesAll lines) (t : TableView) (is : t ≡ table_of lines) where
-  -- the list is one of the table of these lines
-  answered : (result : Result Answer RunFault) → Lists t lines numbers result → ListsByFile gives path numbers result
-  answered (Ok answer) lists = (paths, lines, are, passes, subst (λ (table : TableView). Lists table lines numbers (Ok answer)) is lists)
-  answered (Err (NoSuchRule number)) lists = (paths, lines, are, passes, subst (λ (table : TableView). Lists table lines numbers (Err (NoSuchRule number))) is lists)
-  answered (Err Memory) lists = tt
-  answered (Err fault) lists = absurd lists
 
 pub returns-clause-lists : goal.returns-clause-lists
 returns-clause-lists g c =
     let loaded = c.in_ok-loaded.loaded in
-    answered (g.S.Source.gives c.args.source.now) c.args.path.now c.args.numbers.now loaded.paths loaded.lines c.in_ok-loaded.ensures.lines c.in_ok-table.ensures.passes c.in_ok-table.table c.in_ok-table.ensures.table
+    answered (g.S.Source.gives c.args.source.now) c.args.path.now (λ t lines. Lists t lines c.args.numbers.now) ((λ t lines fault is. is), (λ t lines fault is. is))
+    loaded.paths loaded.lines c.in_ok-loaded.ensures.lines c.in_ok-table.ensures.passes c.in_ok-table.table c.in_ok-table.ensures.table
     c.list_of_loaded-answer.result c.list_of_loaded-answer.ensures

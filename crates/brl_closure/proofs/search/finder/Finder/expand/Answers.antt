@@ -1,4 +1,4 @@
-use Rattle.std.proofs.Common.{List, ℕ, sym, ◌∙◌, subst}
+use Rattle.std.proofs.Common.{List, ℕ, ap, slice_get, sym, ◌∙◌, subst}
 use Rattle.brl_pairs.specs.Edges.{AreEdges}
 use Rattle.brl_pairs.specs.Listed.{HaveCells, edges_with}
 use Rattle.brl_pairs.specs.Sorted.{IsSortedOf}
@@ -12,14 +12,14 @@ use Rattle.brl_closure.proofs.search.finder.Finder.expand.Goals as goal
 
 pub sort_edges-requires : goal.sort_edges-requires
 sort_edges-requires g c =
-    subst (λ (own : List (List ℕ)). HaveCells own c.as_slice.result.now) (sym c.as_slice-kept.ensures.members)
+    subst (λ (own : List (List ℕ)). HaveCells own c.as_slice.result.now) (sym c.rank.ensures)
     (subst (λ (edges : List ListedEdge). HaveCells c.find_edges.new.cells edges) (sym c.as_slice.ensures.value)
     (have_cells (g.M.Machine.behaviour c.args.self.now.machine.now) c.find_edges.new.trail.states c.find_edges.new.cells c.args.number c.in_ok-edges.edges.items c.in_ok-edges.ensures.edges))
 
 pub find_splits-requires-clause-edges : goal.find_splits-requires-clause-edges
 find_splits-requires-clause-edges g c =
     let m = g.M.Machine.behaviour c.args.self.now.machine.now in
-    subst (λ (own : List (List ℕ)). AreEdges m c.find_edges.new.trail.states c.args.number (edges_with own c.as_slice-2.result.now)) (sym c.as_slice-kept.ensures.members)
+    subst (λ (own : List (List ℕ)). AreEdges m c.find_edges.new.trail.states c.args.number (edges_with own c.as_slice-2.result.now)) (sym (c.as_slice-kept.ensures.members ∙ c.rank.ensures))
     (subst (λ (edges : List ListedEdge). AreEdges m c.find_edges.new.trail.states c.args.number (edges_with c.find_edges.new.cells edges)) (sym c.as_slice-2.ensures.value)
     (edges_of_state m c.find_edges.new.trail.states c.find_edges.new.cells c.args.number c.in_ok-edges.edges.items c.in_ok-edges.ensures.edges))
 
@@ -27,23 +27,26 @@ pub find_splits-requires-clause-sorted : goal.find_splits-requires-clause-sorted
 find_splits-requires-clause-sorted g c =
     let own = c.as_slice-kept.result.now in
     subst (λ (sorted : List SortedEdge). IsSortedOf own (edges_with own c.as_slice-2.result.now) sorted) (sym c.as_slice-3.ensures.value)
-    (subst (λ (edges : List ListedEdge). IsSortedOf own (edges_with own edges) c.in_ok-sorted.sorted.items) (c.as_slice.ensures.value ∙ sym c.as_slice-2.ensures.value) c.in_ok-sorted.ensures)
+    (subst (λ (edges : List ListedEdge). IsSortedOf own (edges_with own edges) c.in_ok-sorted.sorted.items) (c.as_slice.ensures.value ∙ sym c.as_slice-2.ensures.value)
+    (subst (λ (cells : List (List ℕ)). IsSortedOf cells (edges_with cells c.as_slice.result.now) c.in_ok-sorted.sorted.items) (sym c.as_slice-kept.ensures.members) c.in_ok-sorted.ensures))
 
 pub returns-clause-edges : goal.returns-clause-edges
 returns-clause-edges g c =
     let m = g.M.Machine.behaviour c.args.self.now.machine.now in
-    let edges = edges_with c.find_edges.new.cells c.in_ok-edges.edges.items in
+    let own = c.rank.new.self in
+    let edges = edges_with own c.in_ok-edges.edges.items in
     record {
       edges = edges;
       are_edges = edges_more m c.find_edges.new.trail.states c.find_splits.new.trail.states c.in_ok-find_splits.ensures.advances.1.states c.args.number edges
-          (edges_of_state m c.find_edges.new.trail.states c.find_edges.new.cells c.args.number c.in_ok-edges.edges.items c.in_ok-edges.ensures.edges);
-      sorted_of = subst (λ (own : List (List ℕ)). IsSortedOf own (edges_with own c.in_ok-edges.edges.items) c.in_ok-sorted.sorted.items) c.as_slice-kept.ensures.members
-          (subst (λ (listed : List ListedEdge). IsSortedOf c.as_slice-kept.result.now (edges_with c.as_slice-kept.result.now listed) c.in_ok-sorted.sorted.items) c.as_slice.ensures.value c.in_ok-sorted.ensures);
+          (subst (λ (cells : List (List ℕ)). AreEdges m c.find_edges.new.trail.states c.args.number (edges_with cells c.in_ok-edges.edges.items)) (sym c.rank.ensures)
+          (edges_of_state m c.find_edges.new.trail.states c.find_edges.new.cells c.args.number c.in_ok-edges.edges.items c.in_ok-edges.ensures.edges));
+      sorted_of = subst (λ (listed : List ListedEdge). IsSortedOf own (edges_with own listed) c.in_ok-sorted.sorted.items) c.as_slice.ensures.value c.in_ok-sorted.ensures;
     }
 
 pub returns-clause-parts : goal.returns-clause-parts
 returns-clause-parts g c =
-    kept_more (g.M.Parted.steps_of c.args.self.now.machine.now) c.find_edges.new.trail.states c.find_splits.new.trail.states c.in_ok-find_splits.ensures.advances.1.states c.find_edges.new.cells c.find_edges.new.cells (λ k own at. at) c.find_edges.new.parts c.in_ok-edges.ensures.parts
+    kept_more (g.M.Parted.steps_of c.args.self.now.machine.now) c.find_edges.new.trail.states c.find_splits.new.trail.states c.in_ok-find_splits.ensures.advances.1.states c.find_edges.new.cells c.rank.new.self
+    (λ k own at. ap (λ (cells : List (List ℕ)). slice_get cells k) c.rank.ensures ∙ at) c.find_edges.new.parts c.in_ok-edges.ensures.parts
 
 pub returns-clause-advances : goal.returns-clause-advances
 returns-clause-advances g c =
