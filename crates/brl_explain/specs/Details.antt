@@ -7,6 +7,7 @@ use Rattle.brl_cells.specs.Dots.{is_among, reading}
 use Rattle.brl_cells.specs.declared.fault.DotsFault.{DotsFault}
 use Rattle.brl_cells.specs.declared.fault.DotsFault.TheVariants.{BadDot, EmptyCell, RepeatedDot, TooManyCells}
 use Rattle.brl_explain.specs.Explaining.{code_of, is_blank, text_of_fault}
+use Rattle.brl_explain.specs.Opcodes.{opcode_note}
 
 -- ---- Characters
 
@@ -95,9 +96,19 @@ note_line dots = titled (codes "Dots: ") (whole_note dots)
 abbrev pub dots_line : List ℕ → List ℕ
 dots_line line = if bytes_eq (code_of line) (codes "B4") && nat_lt 0 (length (operand_of line)) then note_line (operand_of line) else []
 
+-- ---- Opcodes
+
+-- what is said of the opcode that a line names, if its fault is of an opcode and it names one
+abbrev pub opcode_line : List ℕ → List ℕ
+opcode_line line =
+    if bytes_eq (code_of line) (codes "B1") && nat_lt 0 (length (operand_of line)) then titled (codes "Opcode: ") (opcode_note (operand_of line))
+    else []
+
+-- ---- All that is said
+
 -- what explains a line: the text for its fault, and what can be seen
 abbrev pub explanation : List ℕ → List ℕ → List ℕ
-explanation text line = text ++ dots_line line ++ characters_line line
+explanation text line = text ++ opcode_line line ++ dots_line line ++ characters_line line
 
 -- the same, if there is a text for its fault
 abbrev pub explanation_of : List ℕ → Option (List ℕ)

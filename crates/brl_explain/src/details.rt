@@ -21,6 +21,7 @@ ghost use Rattle.brl_explain.specs.Details.{
 };
 
 use crate::explaining::{after_first_word, code_of, first_word, text_of_fault};
+use crate::opcodes::opcode_note;
 use brl_cells::{DotsFault, read_dots};
 use brl_failure::Failure;
 use std::alloc::{AllocError, Global};
@@ -30,7 +31,7 @@ const MOST_CELLS: usize = 16;
 
 /// What explains the line of a fault, or its code alone, which it begins with or has after `refused:`: the
 /// form of its line, when it comes, for a line of a table what it names, and what to do about it; and what
-/// can be seen in this line: of dots that spell no cells why not, and the characters that may be taken for
+/// can be seen in this line: the opcode that may be meant, of dots that spell no cells why not, and the characters that may be taken for
 /// others or not be seen, by their numbers. `None` where no fault has the code.
 ///
 /// Every line ends with LF. `AllocError` if memory runs out.
@@ -48,9 +49,13 @@ fn explanation(alloc: Global, fault: &str, line: &str) -> Result<String, AllocEr
     ensures { IfOk result (λ text. string_bytes text ≡ explanation_with fault.now line.now) }
 {
     let mut text = String::from_str(alloc, fault)?;
-    let dots = operand_of(line);
-    if code_of(line) == "B4" && !dots.is_empty() {
-        push_dots(alloc, &mut text, dots)?;
+    let operand = operand_of(line);
+    if code_of(line) == "B1" && !operand.is_empty() {
+        let note = opcode_note(alloc, operand)?;
+        push_titled(&mut text, "Opcode: ", note.as_str())?;
+    }
+    if code_of(line) == "B4" && !operand.is_empty() {
+        push_dots(alloc, &mut text, operand)?;
     }
     push_titled(
         &mut text,

@@ -9,6 +9,7 @@
 mod details;
 mod explaining;
 mod faults;
+mod opcodes;
 
 pub use details::explain;
 pub use faults::FAULTS;

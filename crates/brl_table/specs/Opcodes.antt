@@ -2,7 +2,7 @@
 -- places that they give. The manual has them in sections "Character-Definition Opcodes",
 -- "Translation Opcodes", "Braille Indicator Opcodes" and "Miscellaneous Opcodes". That `capsign` is
 -- another name of `capsletter` is this project's own choice.
-use Rattle.std.specs.Prelude.{ℕ, List, [], ◌∷◌, codes, Option, Some, None, if◌then◌else◌}
+use Rattle.std.specs.Prelude.{ℕ, List, [], ◌∷◌, ◌++◌, codes, map, Option, Some, None, if◌then◌else◌}
 use Rattle.std.specs.Option.{option_or}
 use Rattle.std.specs.Str.{bytes_eq}
 use Rattle.brl_table.specs.declared.opcode.Opcode.{Opcode}
@@ -62,6 +62,10 @@ other_opcodes =
     ∷ (codes "numericnocontchars", NumericList NeedsNoContractSign)
     ∷ (codes "include", Include)
     ∷ []
+
+-- the words of all opcodes
+abbrev pub opcode_words : List (List ℕ)
+opcode_words = map (λ entry. entry.0) (character_opcodes ++ place_opcodes ++ other_opcodes)
 
 -- the opcode of a word in one of these tables
 abbrev pub entry_of : List (List ℕ × Opcode) → List ℕ → Option Opcode

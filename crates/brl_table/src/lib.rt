@@ -39,5 +39,5 @@ pub use faulty::{FaultyLine, Findings, good_characters, survey, survey_laws};
 pub use files::{load_table, one_table_law, table_of_loaded};
 pub use liblouis::{OpcodeOrigin, origin_of};
 pub use no_table::NoTable;
-pub use opcode::indicator_named;
+pub use opcode::{OPCODES, indicator_named, opcodes_law};
 pub use table_fault::{TableFault, TableFaultKind};

@@ -1,7 +1,8 @@
 //! The opcodes of the profile. specs/Opcodes.antt has the table of them, in three parts; this code
 //! is proved to follow it.
-ghost use Rattle.std.specs.Prelude.{◌≡◌};
-ghost use Rattle.brl_table.specs.Opcodes.{character_opcodes, entry_of, opcode_of, other_opcodes, place_opcodes, sign_given};
+ghost use Rattle.std.specs.Prelude.{◌≡◌, map};
+ghost use Rattle.brl_table.specs.Opcodes.{character_opcodes, entry_of, opcode_of, opcode_words, other_opcodes, place_opcodes, sign_given};
+ghost use Rattle.brl_table.specs.declared.opcode.TheConstants.{OPCODES};
 
 use crate::item::NumericRole;
 use brl_rules::{Class, Place, Sign};
@@ -31,6 +32,50 @@ pub enum Opcode {
     /// Is replaced by the lines of a file, so that a line that is left has no operand.
     Include,
 }
+
+/// The words of all opcodes of the profile.
+pub const OPCODES: [&str; 35] = [
+    "space",
+    "punctuation",
+    "digit",
+    "letter",
+    "lowercase",
+    "uppercase",
+    "sign",
+    "math",
+    "litdigit",
+    "uplow",
+    "always",
+    "word",
+    "sufword",
+    "prfword",
+    "begword",
+    "begmidword",
+    "midword",
+    "midendword",
+    "endword",
+    "partword",
+    "begnum",
+    "midnum",
+    "endnum",
+    "noback",
+    "nofor",
+    "display",
+    "capsletter",
+    "capsign",
+    "numsign",
+    "nocontractsign",
+    "begcapsword",
+    "endcapsword",
+    "numericmodechars",
+    "numericnocontchars",
+    "include",
+];
+
+/// A law: `OPCODES` has the words of the tables of opcodes, in their order.
+pub fn opcodes_law()
+    ensures { map (λ word. word.now) OPCODES ≡ opcode_words }
+{}
 
 /// The opcode of a word, if it is one of the profile.
 pub fn opcode_named(word: &str) -> Option<Opcode>

@@ -1,4 +1,4 @@
-use Rattle.std.proofs.Common.{sym, subst}
+use Rattle.std.proofs.Common.{◌∙◌, List, ℕ, ap, sym, subst}
 use Rattle.std.proofs.lemmas.Result.{IfOk-weaker}
 use Rattle.brl_pairs.specs.Listed.{edges_with}
 use Rattle.brl_closure.specs.Alike.{AreFirstTwo}
@@ -8,4 +8,6 @@ use Rattle.brl_closure.proofs.check.kinds.sort_first_two.Goals as goal
 pub returns-then-not-has_three_alike : goal.returns-then-not-has_three_alike
 returns-then-not-has_three_alike c =
     let edges = edges_with c.args.cells.now c.args.edges.items in
-    IfOk-weaker c.new.result _ _ (λ own is. subst (AreFirstTwo edges) (sym is) (all_kept edges)) c.new.ensures
+    IfOk-weaker c.new.result _ _
+    (λ own is. subst (AreFirstTwo edges) (sym (is ∙ ap (λ (cells : List (List ℕ)). edges_with cells c.args.edges.items) c.as_slice-then-not-has_three_alike.ensures.members)) (all_kept edges))
+    c.new.ensures

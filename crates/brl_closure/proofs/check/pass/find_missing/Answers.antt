@@ -1,6 +1,7 @@
 use Rattle.std.proofs.Common.{◌≡◌, ◌<◌, ℕ, List, length, sym, subst, arith}
 use Rattle.brl_pairs.specs.Edges.{AreEdges}
 use Rattle.brl_pairs.specs.Listed.{HaveCells, edges_with}
+use Rattle.brl_parts.specs.Parts.{AreKeptParts}
 use Rattle.brl_pairs.proofs.ListedLaws.{edges_of_state, have_cells}
 use Rattle.brl_closure.specs.Alike.{AreFirstTwo}
 use Rattle.brl_closure.specs.Pass.{IsMissingBelow}
@@ -24,14 +25,14 @@ edges_of-requires-clause-kept g c =
 
 pub sort_first_two-requires : goal.sort_first_two-requires
 sort_first_two-requires g c =
-    subst (λ (own : List (List ℕ)). HaveCells own c.in_ok-edges.edges.items) (sym c.as_slice.ensures.members)
+    subst (λ (own : List (List ℕ)). HaveCells own c.in_ok-edges.edges.items) (sym c.rank.ensures)
     (have_cells (g.M.Machine.behaviour c.args.machine.now) c.args.body.now.states c.edges_of.new.kept.cells c.loop-state.state c.in_ok-edges.edges.items c.in_ok-edges.ensures.edges)
 
 pub missing_after-requires-clause-edges : goal.missing_after-requires-clause-edges
 missing_after-requires-clause-edges g c = record {
   edges = edges_with c.edges_of.new.kept.cells c.in_ok-edges.edges.items;
   are_edges = edges_of_state (g.M.Machine.behaviour c.args.machine.now) c.args.body.now.states c.edges_of.new.kept.cells c.loop-state.state c.in_ok-edges.edges.items c.in_ok-edges.ensures.edges;
-  first_two = subst (λ (own : List (List ℕ)). AreFirstTwo (edges_with own c.in_ok-edges.edges.items) c.in_ok-sorted.sorted) c.as_slice.ensures.members c.in_ok-sorted.ensures;
+  first_two = subst (λ (own : List (List ℕ)). AreFirstTwo (edges_with own c.in_ok-edges.edges.items) c.in_ok-sorted.sorted) c.rank.ensures c.in_ok-sorted.ensures;
 }
 
 pub loop-state-preserved : goal.loop-state-preserved
@@ -44,7 +45,7 @@ loop-state-preserved g c =
       missing = c.in_ok-missing.ensures;
       steps = λ k rule lt gap. one_more (λ n. (r : ℕ) × MissesState m body n r) state (λ n below h. c.loop-state.invariant.steps n h.0 below h.1)
           (λ h. no_state_missing m body state (edges_with c.edges_of.new.kept.cells c.in_ok-edges.edges.items) edges h.0 h.1) k lt (rule, gap);
-      kept = c.in_ok-edges.ensures.kept;
+      kept = subst (λ (own : List (List ℕ)). AreKeptParts (g.M.Parted.steps_of c.args.machine.now) body.states own c.edges_of.new.kept.parts) (sym c.rank.ensures) c.in_ok-edges.ensures.kept;
     }
 
 pub returns-clause-missing : goal.returns-clause-missing

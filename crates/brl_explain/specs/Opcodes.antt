@@ -1,0 +1,39 @@
+-- What is said of a word that is no opcode where it stands. The project's own choice.
+use Rattle.std.specs.Prelude.{ℕ, Bool, if◌then◌else◌, List, [], ◌∷◌, ◌++◌, codes, length, nat_le, nat_lt}
+use Rattle.std.specs.List.{find, list_any}
+use Rattle.std.specs.Option.{unwrap_or}
+use Rattle.std.specs.Str.{bytes_eq, chars}
+use Rattle.strsim.specs.Edits.{osa_table}
+use Rattle.brl_table.specs.Opcodes.{opcode_words}
+
+-- how many edits lead from one word to another: a character is added, left out or replaced by another,
+-- or changes places with its neighbour
+abbrev pub edits_between : List ℕ → List ℕ → ℕ
+edits_between from to = (osa_table (chars from) (chars to)).last_row (length (chars to))
+
+-- the first opcode from which at most this number of edits leads to a word; empty where none does
+abbrev pub opcode_within : ℕ → List ℕ → List ℕ
+opcode_within most word = unwrap_or (find (λ opcode. nat_le (edits_between opcode word) most) opcode_words) []
+
+-- the first of two words, unless it is empty
+abbrev pub or_word : List ℕ → List ℕ → List ℕ
+or_word [] other = other
+or_word (byte ∷ bytes) other = byte ∷ bytes
+
+-- the opcode that a word may be meant for: one that is an edit away or, for words of more than four
+-- bytes, two; empty where none is
+abbrev pub nearest_opcode : List ℕ → List ℕ
+nearest_opcode word = or_word (opcode_within 1 word) (if nat_lt 4 (length word) then opcode_within 2 word else [])
+
+-- the question whether an opcode is meant; empty where there is none
+abbrev pub question_of : List ℕ → List ℕ
+question_of [] = []
+question_of (byte ∷ bytes) = codes "did you mean " ++ (byte ∷ bytes) ++ codes "?"
+
+-- whether a word is an opcode
+abbrev pub is_opcode : List ℕ → Bool
+is_opcode word = list_any (λ opcode. bytes_eq opcode word) opcode_words
+
+-- the note on a word that is no opcode where it stands
+abbrev pub opcode_note : List ℕ → List ℕ
+opcode_note word = if is_opcode word then word ++ codes " is read, but not after noback or nofor" else question_of (nearest_opcode word)

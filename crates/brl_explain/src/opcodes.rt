@@ -1,0 +1,65 @@
+//! What is said of a word that is no opcode where it stands.
+ghost use Rattle.std.specs.Prelude.{◌≡◌, IfOk, string_bytes};
+ghost use Rattle.brl_explain.specs.Opcodes.{
+  is_opcode as is_one_of_opcodes,
+  nearest_opcode as nearest,
+  opcode_note as note_on_opcode,
+  opcode_within as first_within,
+};
+
+use brl_table::{OPCODES, opcodes_law};
+use std::alloc::{AllocError, Global};
+use strsim::osa_distance;
+
+/// What is said of a word that is no opcode where it stands: that it is one elsewhere, or which one may
+/// be meant; nothing where none is near.
+pub fn opcode_note(alloc: Global, word: &str) -> Result<String, AllocError>
+    ensures { IfOk result (λ note. string_bytes note ≡ note_on_opcode word.now) }
+{
+    let mut note = String::new(alloc);
+    if is_opcode(word) {
+        note.push_str(word)?;
+        note.push_str(" is read, but not after noback or nofor")?;
+        return Ok(note);
+    }
+    let near = nearest_opcode(alloc, word)?;
+    if !near.is_empty() {
+        note.push_str("did you mean ")?;
+        note.push_str(near)?;
+        note.push('?')?;
+    }
+    Ok(note)
+}
+
+/// Whether a word is an opcode.
+fn is_opcode(word: &str) -> bool
+    ensures { result ≡ is_one_of_opcodes word.now }
+{
+    opcodes_law();
+    OPCODES.iter().any(|opcode| *opcode == word)
+}
+
+/// The opcode that a word may be meant for: one that is an edit away or, for words of more than four
+/// bytes, two; empty where none is.
+fn nearest_opcode(alloc: Global, word: &str) -> Result<&'static str, AllocError>
+    ensures { IfOk result (λ near. near.now ≡ nearest word.now) }
+{
+    let near = opcode_within(alloc, 1, word)?;
+    if !near.is_empty() || word.len() < 5 {
+        return Ok(near);
+    }
+    opcode_within(alloc, 2, word)
+}
+
+/// The first opcode from which at most this number of edits leads to a word; empty where none does.
+fn opcode_within(alloc: Global, most: usize, word: &str) -> Result<&'static str, AllocError>
+    ensures { IfOk result (λ near. near.now ≡ first_within most word.now) }
+{
+    opcodes_law();
+    for opcode in &OPCODES {
+        if osa_distance(alloc, opcode, word)? <= most {
+            return Ok(opcode);
+        }
+    }
+    Ok("")
+}
