@@ -11,9 +11,10 @@ use Rattle.brl_table.specs.Opcodes.{opcode_words}
 abbrev pub edits_between : List ℕ → List ℕ → ℕ
 edits_between from to = (osa_table (chars from) (chars to)).last_row (length (chars to))
 
--- the first opcode from which at most this number of edits leads to a word; empty where none does
-abbrev pub opcode_within : ℕ → List ℕ → List ℕ
-opcode_within most word = unwrap_or (find (λ opcode. nat_le (edits_between opcode word) most) opcode_words) []
+-- the first of these words from which at most this number of edits leads to another; empty where none
+-- does
+abbrev pub word_within : ℕ → List ℕ → List (List ℕ) → List ℕ
+word_within most word words = unwrap_or (find (λ own. nat_le (edits_between own word) most) words) []
 
 -- the first of two words, unless it is empty
 abbrev pub or_word : List ℕ → List ℕ → List ℕ
@@ -23,7 +24,7 @@ or_word (byte ∷ bytes) other = byte ∷ bytes
 -- the opcode that a word may be meant for: one that is an edit away or, for words of more than four
 -- bytes, two; empty where none is
 abbrev pub nearest_opcode : List ℕ → List ℕ
-nearest_opcode word = or_word (opcode_within 1 word) (if nat_lt 4 (length word) then opcode_within 2 word else [])
+nearest_opcode word = or_word (word_within 1 word opcode_words) (if nat_lt 4 (length word) then word_within 2 word opcode_words else [])
 
 -- the question whether an opcode is meant; empty where there is none
 abbrev pub question_of : List ℕ → List ℕ

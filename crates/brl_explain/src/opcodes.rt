@@ -1,11 +1,14 @@
 //! What is said of a word that is no opcode where it stands.
-ghost use Rattle.std.specs.Prelude.{◌≡◌, IfOk, string_bytes};
+ghost use Rattle.std.specs.Prelude.{◌≡◌, IfOk, map, string_bytes};
+ghost use Rattle.std.specs.List.{list_any};
+ghost use Rattle.std.specs.Str.{bytes_eq};
 ghost use Rattle.brl_explain.specs.Opcodes.{
   is_opcode as is_one_of_opcodes,
   nearest_opcode as nearest,
   opcode_note as note_on_opcode,
-  opcode_within as first_within,
+  word_within,
 };
+ghost use Rattle.brl_table.specs.Opcodes.{opcode_words};
 
 use brl_table::{OPCODES, opcodes_law};
 use std::alloc::{AllocError, Global};
@@ -36,7 +39,14 @@ fn is_opcode(word: &str) -> bool
     ensures { result ≡ is_one_of_opcodes word.now }
 {
     opcodes_law();
-    OPCODES.iter().any(|opcode| *opcode == word)
+    is_among(&OPCODES, word)
+}
+
+/// Whether a word is one of these.
+fn is_among(words: &[&str], word: &str) -> bool
+    ensures { result ≡ list_any (λ own. bytes_eq own word.now) (map (λ own. own.now) words.now) }
+{
+    words.contains(&word)
 }
 
 /// The opcode that a word may be meant for: one that is an edit away or, for words of more than four
@@ -53,12 +63,25 @@ fn nearest_opcode(alloc: Global, word: &str) -> Result<&'static str, AllocError>
 
 /// The first opcode from which at most this number of edits leads to a word; empty where none does.
 fn opcode_within(alloc: Global, most: usize, word: &str) -> Result<&'static str, AllocError>
-    ensures { IfOk result (λ near. near.now ≡ first_within most word.now) }
+    ensures { IfOk result (λ near. near.now ≡ word_within most word.now opcode_words) }
 {
     opcodes_law();
-    for opcode in &OPCODES {
-        if osa_distance(alloc, opcode, word)? <= most {
-            return Ok(opcode);
+    near_word(alloc, &OPCODES, most, word)
+}
+
+/// The first of these words from which at most this number of edits leads to another; empty where none
+/// does.
+fn near_word<'a>(
+    alloc: Global,
+    words: &[&'a str],
+    most: usize,
+    word: &str,
+) -> Result<&'a str, AllocError>
+    ensures { IfOk result (λ near. near.now ≡ word_within most word.now (map (λ own. own.now) words.now)) }
+{
+    for own in words {
+        if osa_distance(alloc, own, word)? <= most {
+            return Ok(own);
         }
     }
     Ok("")

@@ -3,3 +3,4 @@ mod Known
 mod Common
 mod Tallies
 mod StepPlaces
+mod LineLemmas

@@ -4,7 +4,8 @@ use Rattle.std.specs.Prelude.{IfSome, option_copied, slice_get}
 use Rattle.std.specs.Borrow.{Bor}
 use Rattle.std.proofs.lemmas.Map.Entries.{All-lookup}
 use Rattle.std.proofs.lemmas.Option.{slice_get_past}
-use Rattle.brl_report.specs.Rows.{place_of_rule, place_text}
+use Rattle.brl_report.specs.Place.{place_text}
+use Rattle.brl_report.specs.Rows.{place_of_rule}
 use Rattle.brl_rules.specs.Limits.{IsEntry, IsTable}
 use Rattle.brl_rules.specs.TableView.{TableView, info_of}
 use Rattle.brl_rules.specs.declared.rule.Info.{Info}

@@ -1,6 +1,7 @@
 pub mod Report
 pub mod Header
 pub mod Steps
+pub mod Place
 pub mod Rows
 pub mod Rules
 pub mod Sources

@@ -1,13 +1,13 @@
 -- The lines of a report that list the steps of a text. The project's own choice.
 use Rattle.std.specs.Prelude.{ℕ, ◌-◌, max, false, List, [], ◌∷◌, ◌++◌, Option, Some, None, codes, fold, flat_map, map, slice_get, take, drop}
-use Rattle.std.specs.Fmt.{decimal}
 use Rattle.std.specs.List.{repeat}
-use Rattle.std.specs.Option.{option_map_or, unwrap_or}
+use Rattle.std.specs.Option.{option_map_or}
 use Rattle.std.specs.Str.{chars, encode_utf8_all}
 use Rattle.unicode_width.specs.Width.{str_width}
 use Rattle.brl_cells.specs.Dots.{spelling}
 use Rattle.brl_lines.specs.Spelling.{text_spelling}
 use Rattle.brl_lines.specs.Tokens.{LineView}
+use Rattle.brl_report.specs.Place.{place_text}
 use Rattle.brl_report.specs.Sources.{step_sources}
 use Rattle.brl_report.specs.declared.row.CellColumns.{CellColumns}
 use Rattle.brl_report.specs.declared.row.CellColumns.TheVariants.{Joined, Parted}
@@ -26,10 +26,6 @@ pub record RowView : Type 0 where
   pub dots : List ℕ
   pub place : List ℕ
   pub sources : List ℕ
-
--- a file and one of its lines, as FILE:LINE
-abbrev pub place_text : TableView → ℕ → ℕ → List ℕ
-place_text t file line = unwrap_or (slice_get t.files file) [] ++ codes ":" ++ decimal line
 
 -- the location of a character's definition: of the line that gave it its cells
 abbrev pub place_of_info : TableView → Option Info → List ℕ
@@ -100,11 +96,15 @@ abbrev pub column_if : ℕ → Option (List ℕ) → List ℕ
 column_if width None = []
 column_if width (Some entry) = column width entry
 
+-- the columns of a step, with these widths
+abbrev pub columns_line : Widths → RowView → List ℕ
+columns_line widths row =
+    column widths.characters row.characters ++ column_if widths.indicators row.indicators ++ column widths.dots row.dots
+    ++ codes "  " ++ row.place ++ codes "\n"
+
 -- the line of a step, with these widths of its columns, and the lines that follow it
 abbrev pub row_line : Widths → RowView → List ℕ
-row_line widths row =
-    column widths.characters row.characters ++ column_if widths.indicators row.indicators ++ column widths.dots row.dots
-    ++ codes "  " ++ row.place ++ codes "\n" ++ row.sources
+row_line widths row = columns_line widths row ++ row.sources
 
 -- the lines of some steps, whose columns are as wide as their widest entries
 abbrev pub row_lines : List RowView → List ℕ

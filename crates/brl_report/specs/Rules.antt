@@ -1,23 +1,28 @@
 -- The list of a table's rules, by the numbers that traces and refusals give them. The project's own
 -- choice.
-use Rattle.std.specs.Prelude.{ℕ, Bool, ◌&&◌, ◌==◌, ◌+◌, ◌-◌, if◌then◌else◌, List, [], ◌∷◌, ◌++◌, Option, Some, None, codes, flat_map, length, map, nat_le, option_map, slice_get}
+use Rattle.std.specs.Prelude.{ℕ, Bool, false, ◌&&◌, ◌==◌, ◌+◌, ◌-◌, if◌then◌else◌, List, [], ◌∷◌, ◌++◌, Option, Some, None, codes, flat_map, length, map, nat_le, option_map, slice_get}
 use Rattle.std.specs.Borrow.{Bor}
 use Rattle.std.specs.Fmt.{decimal}
 use Rattle.std.specs.List.{find, range_with_len}
-use Rattle.std.specs.Option.{option_and_then, option_map_or, option_or, unwrap_or}
+use Rattle.std.specs.Option.{option_and_then, option_map_or, option_or}
 use Rattle.std.specs.Str.{bytes_eq, encode_utf8_all}
 use Rattle.brl_cells.specs.Dots.{spelling}
 use Rattle.brl_lines.specs.Spelling.{text_spelling}
 use Rattle.brl_lines.specs.Tokens.{LineView}
 use Rattle.brl_lines.specs.Views.{line_view}
 use Rattle.brl_lines.specs.declared.line.Line.{Line}
-use Rattle.brl_report.specs.Rows.{place_text}
+use Rattle.brl_report.specs.Place.{file_name, place_text}
 use Rattle.brl_report.specs.declared.rules.Listed.{Listed}
 use Rattle.brl_report.specs.declared.rules.RuleForm.{RuleForm}
+use Rattle.brl_report.specs.declared.rules.Wanted.{Wanted}
+use Rattle.brl_report.specs.declared.rules.Wanted.TheVariants.{At, Giving}
 use Rattle.brl_report.specs.declared.rules.RuleForm.TheVariants as form
+use Rattle.brl_rules.specs.Signs.{is_same_sign}
 use Rattle.brl_rules.specs.TableView.{TableView, info_of}
 use Rattle.brl_rules.specs.declared.rule.Info.{Info}
 use Rattle.brl_rules.specs.declared.rule.Rule.{Rule}
+use Rattle.brl_rules.specs.declared.signs.Sign.{Sign}
+use Rattle.brl_table.specs.Opcodes.{opcode_of, sign_given}
 
 -- ---- The opcode of a line
 
@@ -37,6 +42,17 @@ defining_opcode line =
 -- the opcode of the first of these lines at a place
 abbrev pub opcode_at : List ℕ → ℕ → List LineView → List ℕ
 opcode_at file number lines = option_map_or defining_opcode (find (is_at file number) lines) []
+
+-- ---- A line that is looked for
+
+-- whether a line gives an indicator its cells
+abbrev pub gives_sign : Sign → LineView → Bool
+gives_sign sign line = option_map_or (is_same_sign sign) (sign_given (opcode_of line.opcode.text)) false
+
+-- whether a line is the one that is looked for
+abbrev pub is_wanted : Wanted → LineView → Bool
+is_wanted (At file number) = is_at file.now number
+is_wanted (Giving sign) = gives_sign sign
 
 -- ---- A line as it stands in its file
 
@@ -96,10 +112,6 @@ abbrev pub first_unknown : TableView → List ℕ → Option ℕ
 first_unknown t numbers = find (λ number. nat_le (rule_count t) number) numbers
 
 -- ---- Their lines
-
--- the name of a table's file
-abbrev pub file_name : TableView → ℕ → List ℕ
-file_name t file = unwrap_or (slice_get t.files file) []
 
 -- an entry after two blanks
 abbrev pub after_blanks : List ℕ → List ℕ

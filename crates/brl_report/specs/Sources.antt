@@ -1,22 +1,16 @@
 -- The lines of a table by which a step of a translation is made: those of its indicators, and that of
 -- its rule. The project's own choice.
-use Rattle.std.specs.Prelude.{ℕ, ◌==◌, Bool, false, if◌then◌else◌, List, [], ◌∷◌, ◌++◌, flat_map}
+use Rattle.std.specs.Prelude.{ℕ, if◌then◌else◌, List, [], ◌∷◌, ◌++◌, flat_map}
 use Rattle.std.specs.Option.{option_map_or}
 use Rattle.brl_lines.specs.Tokens.{LineView}
-use Rattle.brl_report.specs.Rules.{first_source, rule_text}
+use Rattle.brl_report.specs.Rules.{first_source, gives_sign, rule_text}
 use Rattle.brl_report.specs.declared.rules.RuleForm.TheVariants.{Source}
 use Rattle.brl_report.specs.declared.steps.ReportStep.{ReportStep}
 use Rattle.brl_rules.specs.Indicators.{is_used, sign_order}
 use Rattle.brl_rules.specs.Infos.{first_info}
-use Rattle.brl_rules.specs.Signs.{is_same_sign}
 use Rattle.brl_rules.specs.TableView.{TableView}
 use Rattle.brl_rules.specs.declared.rule.Info.{Info}
 use Rattle.brl_rules.specs.declared.signs.Sign.{Sign}
-use Rattle.brl_table.specs.Opcodes.{opcode_of, sign_given}
-
--- whether a line gives an indicator its cells
-abbrev pub gives_sign : Sign → LineView → Bool
-gives_sign sign line = option_map_or (is_same_sign sign) (sign_given (opcode_of line.opcode.text)) false
 
 -- the line of an indicator, where it is used before the character with this info
 abbrev pub sign_source : TableView → List LineView → ReportStep → Info → Sign → List ℕ

@@ -5,8 +5,10 @@ ghost use Rattle.brl_report.specs.Rules.{
   after_blanks,
   borrowed_line_view,
   defining_opcode as opcode_of_line,
+  first_source,
   first_unknown as first_unknown_of,
   is_at as is_line_at,
+  is_wanted as is_wanted_line,
   listed_line,
   listed_text,
   listed_view,
@@ -27,7 +29,8 @@ ghost use Rattle.std.specs.Option.{option_map_or};
 use crate::row::place_text;
 use brl_cells::{Cell, write_dots};
 use brl_lines::{Line, spell_chars};
-use brl_rules::Table;
+use brl_rules::{Sign, Table};
+use brl_table::indicator_named;
 use std::alloc::{AllocError, Global};
 use std::slice;
 
@@ -168,8 +171,8 @@ fn push_listed(
         RuleForm::Line => push_listed_line(alloc, table, lines, number, listed, text),
         RuleForm::Note => push_note(alloc, table, lines, listed, text),
         RuleForm::Source => {
-            let file = table.file_name(listed.file);
-            push_source(line_at(file, listed.line, lines), text)
+            let place = Wanted::At(table.file_name(listed.file), listed.line);
+            push_source(lines, place, text)
         }
     }
 }
@@ -241,14 +244,44 @@ pub(crate) fn push_after_blanks(text: &mut String, entry: &str) -> Result<(), Al
 fn opcode_at<'a>(file: &str, number: u32, lines: &[Line<'a>]) -> &'a str
     ensures { result.now ≡ opcode_among file.now number (map line_view lines.now) }
 {
-    line_at(file, number, lines).map_or("", defining_opcode)
+    match first_line(lines, Wanted::At(file, number)) {
+        Some(line) => defining_opcode(line),
+        None => "",
+    }
 }
 
-/// The first of these lines at a place.
-fn line_at<'l, 'a>(file: &str, number: u32, lines: &'l [Line<'a>]) -> Option<&'l Line<'a>>
-    ensures { option_map borrowed_line_view result ≡ find (is_line_at file.now number) (map line_view lines.now) }
+/// Which line of a table is looked for.
+#[derive(Clone, Copy)]
+pub(crate) enum Wanted<'a> {
+    /// That of this file with this number.
+    At(&'a str, u32),
+    /// That which gives this indicator its cells.
+    Giving(Sign),
+}
+
+/// The first of these lines that is looked for.
+pub(crate) fn first_line<'l, 'a>(
+    lines: &'l [Line<'a>],
+    wanted: Wanted<'_>,
+) -> Option<&'l Line<'a>>
+    ensures { option_map borrowed_line_view result ≡ find (is_wanted_line wanted.entry) (map line_view lines.now) }
 {
-    lines.iter().find(|line| is_at(line, file, number))
+    for line in lines {
+        if is_wanted(line, wanted) {
+            return Some(line);
+        }
+    }
+    None
+}
+
+/// Whether a line is the one that is looked for.
+fn is_wanted(line: &Line<'_>, wanted: Wanted<'_>) -> bool
+    ensures { result ≡ is_wanted_line wanted.entry (line_view line.now) }
+{
+    match wanted {
+        Wanted::At(file, number) => is_at(line, file, number),
+        Wanted::Giving(sign) => indicator_named(line.opcode.text) == Some(sign),
+    }
 }
 
 /// Whether a line is at this place.
@@ -269,14 +302,25 @@ fn defining_opcode<'a>(line: &Line<'a>) -> &'a str
     line.operands.first().map_or("", |next| next.text)
 }
 
-/// Appends a line of a table by which something is defined, if there is one: its file and number, and
-/// its words.
-pub(crate) fn push_source(line: Option<&Line<'_>>, text: &mut String) -> Result<(), AllocError>
-    ensures { OnOk result (string_bytes text.new ≡ string_bytes text.old ++ option_map_or source_line (option_map borrowed_line_view line) []) }
+/// Appends the first of these lines that is looked for, if there is one: its file and number, and its
+/// words.
+pub(crate) fn push_source(
+    lines: &[Line<'_>],
+    wanted: Wanted<'_>,
+    text: &mut String,
+) -> Result<(), AllocError>
+    ensures { OnOk result (string_bytes text.new ≡ string_bytes text.old ++ first_source (is_wanted_line wanted.entry) (map line_view lines.now)) }
 {
-    let Some(line) = line else {
-        return Ok(());
-    };
+    match first_line(lines, wanted) {
+        Some(line) => push_source_line(line, text),
+        None => Ok(()),
+    }
+}
+
+/// Appends a line of a table: its file and number, and its words.
+fn push_source_line(line: &Line<'_>, text: &mut String) -> Result<(), AllocError>
+    ensures { OnOk result (string_bytes text.new ≡ string_bytes text.old ++ source_line (line_view line.now)) }
+{
     write!(text, "    {}:{}: ", line.file, line.line)?;
     push_words(line, text)?;
     text.push('\n')

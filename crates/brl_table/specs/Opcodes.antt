@@ -64,7 +64,7 @@ other_opcodes =
     ∷ []
 
 -- the words of all opcodes
-abbrev pub opcode_words : List (List ℕ)
+unfoldable pub opcode_words : List (List ℕ)
 opcode_words = map (λ entry. entry.0) (character_opcodes ++ place_opcodes ++ other_opcodes)
 
 -- the opcode of a word in one of these tables

@@ -73,6 +73,7 @@ pub const OPCODES: [&str; 35] = [
 ];
 
 /// A law: `OPCODES` has the words of the tables of opcodes, in their order.
+#[tactic(auto, unfolding(crate::specs::Opcodes::opcode_words))]
 pub fn opcodes_law()
     ensures { map (λ word. word.now) OPCODES ≡ opcode_words }
 {}

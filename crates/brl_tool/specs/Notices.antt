@@ -2,7 +2,7 @@
 use Rattle.std.specs.Prelude.{ℕ, List, [], ◌∷◌, ◌++◌, codes, flat_map}
 use Rattle.std.specs.Str.{encode_utf8_all}
 use Rattle.brl_lines.specs.Spelling.{text_spelling}
-use Rattle.brl_report.specs.Rows.{place_text}
+use Rattle.brl_report.specs.Place.{place_text}
 use Rattle.brl_rules.specs.TableView.{TableView}
 use Rattle.brl_rules.specs.declared.rule.Notice.{Notice}
 
