@@ -5,6 +5,7 @@ ghost use Rattle.brl_cells.specs.Dots.{reading};
 ghost use Rattle.brl_explain.specs.Details.{
   by_number,
   byte_digits,
+  dots_line,
   dots_note as note_on_dots,
   explanation as explanation_with,
   explanation_of,
@@ -12,6 +13,7 @@ ghost use Rattle.brl_explain.specs.Details.{
   is_virtual as is_virtual_dot,
   mark_note as note_on_mark,
   note_line,
+  opcode_line,
   odd_mark as odd_mark_of,
   sides_note as note_on_sides,
   whole_note as note_on_whole,
@@ -49,20 +51,36 @@ fn explanation(alloc: Global, fault: &str, line: &str) -> Result<String, AllocEr
     ensures { IfOk result (λ text. string_bytes text ≡ explanation_with fault.now line.now) }
 {
     let mut text = String::from_str(alloc, fault)?;
-    let operand = operand_of(line);
-    if code_of(line) == "B1" && !operand.is_empty() {
-        let note = opcode_note(alloc, operand)?;
-        push_titled(&mut text, "Opcode: ", note.as_str())?;
-    }
-    if code_of(line) == "B4" && !operand.is_empty() {
-        push_dots(alloc, &mut text, operand)?;
-    }
+    push_opcode_line(alloc, &mut text, line)?;
+    push_dots_line(alloc, &mut text, line)?;
     push_titled(
         &mut text,
         "Characters:",
         unclear_characters(alloc, line)?.as_str(),
     )?;
     Ok(text)
+}
+
+/// Appends what is said of the opcode that a line names, if its fault is of an opcode and it names one.
+fn push_opcode_line(alloc: Global, text: &mut String, line: &str) -> Result<(), AllocError>
+    ensures { OnOk result (string_bytes text.new ≡ string_bytes text.old ++ opcode_line line.now) }
+{
+    let opcode = operand_of(line);
+    if code_of(line) != "B1" || opcode.is_empty() {
+        return Ok(());
+    }
+    push_titled(text, "Opcode: ", opcode_note(alloc, opcode)?.as_str())
+}
+
+/// Appends what is wrong with the dots that a line names, if its fault is of dots and it names some.
+fn push_dots_line(alloc: Global, text: &mut String, line: &str) -> Result<(), AllocError>
+    ensures { OnOk result (string_bytes text.new ≡ string_bytes text.old ++ dots_line line.now) }
+{
+    let dots = operand_of(line);
+    if code_of(line) != "B4" || dots.is_empty() {
+        return Ok(());
+    }
+    push_dots(alloc, text, dots)
 }
 
 /// The operand that a fault's line names: its third word.

@@ -60,7 +60,7 @@ module _ (t : TableView) (text : List ℕ) where
       → StandsAt step (taken_by first)
   next-place steps first step are begin within is =
       let there : slice_get (trace_of t text) (length first) ≡ Some step =
-          ap (λ (l : List Traced). slice_get l (length first)) (sym are) ∙ slice_get-get_or steps (length first) step within ∙ ap (λ (x : Traced). Some x) (sym is) in
+      ap (λ (l : List Traced). slice_get l (length first)) (sym are) ∙ slice_get-get_or steps (length first) step within ∙ ap (λ (x : Traced). Some x) (sym is) in
       let so_far : taken_by (take (length first) (trace_of t text)) ≡ taken_by first = ap taken_by (ap (take (length first)) (sym are) ∙ sym begin) in
       subst (StandsAt step) so_far (step-place (length first) step there)
 

@@ -260,10 +260,7 @@ pub(crate) enum Wanted<'a> {
 }
 
 /// The first of these lines that is looked for.
-pub(crate) fn first_line<'l, 'a>(
-    lines: &'l [Line<'a>],
-    wanted: Wanted<'_>,
-) -> Option<&'l Line<'a>>
+pub(crate) fn first_line<'l, 'a>(lines: &'l [Line<'a>], wanted: Wanted<'_>) -> Option<&'l Line<'a>>
     ensures { option_map borrowed_line_view result ≡ find (is_wanted_line wanted.entry) (map line_view lines.now) }
 {
     for line in lines {

@@ -24,7 +24,14 @@ pub fn step_sources(
         return Ok(text);
     }
     push_sign_sources(table, lines, step, &mut text)?;
-    push_rule(alloc, table, lines, step.step.rule, RuleForm::Source, &mut text)?;
+    push_rule(
+        alloc,
+        table,
+        lines,
+        step.step.rule,
+        RuleForm::Source,
+        &mut text,
+    )?;
     Ok(text)
 }
 

@@ -188,4 +188,3 @@ fn may_use_signs(here: Context, info: &Info) -> bool
 {
     here.run || info.nocont || info.literary || info.classes.intersects(Class::UPPERCASE)
 }
-

@@ -130,11 +130,13 @@ module _ (before after : World) (same_file : MayBeSame) where
       let (l, r, by_file) = texts_compared options before.gives path.now left.now right.now answer compares in
       let (paths, lines, are, passes, is) = by_file in
       elim is [
-        | inl (cells, clash, says) ↦
-            ((λ done. tt),
-            (λ refuted.
-                ((path.now, l, r, cells, lines, lines_of before.gives path.now paths lines are, passes, clash, (options.lines, subst (Prints before after) says.1 prints)),
-                subst (FilesAfter before.gives after.gives) says.2 files)))
+        | inl (cells, clash, says) ↦ (
+          (λ done. tt),
+          (λ refuted. (
+            (path.now, l, r, cells, lines, lines_of before.gives path.now paths lines are, passes, clash, (options.lines, subst (Prints before after) says.1 prints)),
+            subst (FilesAfter before.gives after.gives) says.2 files,
+          )),
+        )
         | inr (left_is, right_is, none, says) ↦ ((λ done. tt), (λ refuted. let e = sym says.0 ∙ refuted in cc))
       ]
   means (question.Survey paths brief) answer (parts, named, are, says) files prints = ((λ done. tt), (λ refuted. absurd (unrefuted _ (sym says.0 ∙ refuted))))
@@ -169,10 +171,20 @@ module _ (before after : World) (same_file : MayBeSame) where
         | inr (inl (left, right, cells, clash, says)) ↦ (
           (λ done. let e = sym says.0 ∙ done in cc),
           (λ refuted.
-              let (lines, are, passes, is) = table in
-              ((path.now, left, right, cells, lines, lines_of before.gives path.now paths lines are, passes, subst (λ (u : TableView). IsClash u left right cells) is clash.clash,
-              (false, subst (Prints before after) (says.1 ∙ ap (λ (u : TableView). report_text u left right cells) is) prints)),
-              subst (FilesAfter before.gives after.gives) says.2 files)),
+              let (lines, are, passes, is) = table in (
+                (
+                  path.now,
+                  left,
+                  right,
+                  cells,
+                  lines,
+                  lines_of before.gives path.now paths lines are,
+                  passes,
+                  subst (λ (u : TableView). IsClash u left right cells) is clash.clash,
+                  (false, subst (Prints before after) (says.1 ∙ ap (λ (u : TableView). report_text u left right cells) is) prints),
+                ),
+                subst (FilesAfter before.gives after.gives) says.2 files,
+              )),
         )
         | inr (inr (states, pairs, limit_is, says)) ↦ ((λ done. let e = sym says.0 ∙ done in cc), (λ refuted. let e = sym says.0 ∙ refuted in cc))
       ]

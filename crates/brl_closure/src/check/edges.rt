@@ -12,7 +12,7 @@ ghost use Rattle.brl_parts.specs.Parts.{AreKeptParts, no_parts};
 
 use crate::AcceptFault;
 use brl_failure::Failure;
-use brl_pairs::{Body, Key, KeptCells, ListedEdge, Machine, Parted, Seed, Step};
+use brl_pairs::{Body, KeptCells, Key, ListedEdge, Machine, Parted, Seed, Step};
 use brl_parts::Parts;
 use std::alloc::{AllocError, Global};
 

@@ -6,7 +6,7 @@ ghost use Rattle.brl_pairs.specs.Members.{IsMember};
 ghost use Rattle.brl_pairs.specs.declared.edge.ListedEdge.{ListedEdge as EdgeValue};
 
 use crate::check::sorted::Sorted;
-use brl_pairs::{Key, KeptCells, ListedEdge, Members, Seed, SortedEdge, sort_edges};
+use brl_pairs::{KeptCells, Key, ListedEdge, Members, Seed, SortedEdge, sort_edges};
 use std::alloc::{AllocError, Global};
 
 /// What decides which pair follows an edge: the number of its next state, and that of its cells.

@@ -6,7 +6,7 @@ ghost use Rattle.std.specs.declared.cmp.Reverse.{Reverse as ReverseValue};
 ghost use Rattle.brl_parts.specs.Parts.{no_parts};
 ghost use Rattle.brl_closure.specs.Worklist.{IsItemOf, IsQueued, NoneIsReady};
 
-use brl_pairs::{Key, KeptCells, Members, Pair, Seed, SortedEdge};
+use brl_pairs::{KeptCells, Key, Members, Pair, Seed, SortedEdge};
 use brl_parts::Parts;
 use std::alloc::{AllocError, Global};
 use std::cmp::Reverse;

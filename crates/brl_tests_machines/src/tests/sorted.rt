@@ -1,8 +1,7 @@
 //! Edges in the order of their cells: those that a lead can follow, and those that split.
 use brl_cells::{Cells, read_dots};
 use brl_pairs::{
-    KeptCells, ListedEdge, Seed, SortedEdge, earlier_splits, matches, sort_edges,
-    splits_of,
+    KeptCells, ListedEdge, Seed, SortedEdge, earlier_splits, matches, sort_edges, splits_of,
 };
 use brl_testing::for_rows_of_3;
 use std::alloc::Global;

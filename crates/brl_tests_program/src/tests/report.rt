@@ -48,7 +48,10 @@ letter \u{56fd} 1; letter b 12|\u{56fd}b|text: \u{56fd}b; cells: 1-12;   \u{56fd
 
 fn traced(alloc: Global, table: &Table, text: &str) -> Result<String, Fail> {
     let text = chars(alloc, text)?;
-    field_of(alloc, trace_report(alloc, table, text.as_slice())?.as_str())
+    field_of(
+        alloc,
+        trace_report(alloc, table, &[], text.as_slice())?.as_str(),
+    )
 }
 
 #[test]
