@@ -45,17 +45,17 @@ AreDivergencesOf m limit (Partial list states pairs) = IsListed m list × (btree
 -- ---- Slices
 
 -- a fact of what is found, where the listing is finished
-abbrev pub IfFinished : {M S : Type 0} → (Divergences S → Type 0) → Slice M S → Type 0
+abbrev pub IfFinished : {M Part S : Type 0} → (Divergences S → Type 0) → Slice M Part S → Type 0
 IfFinished P (Finished divergences) = P divergences
 IfFinished P progress = Unit {0}
 
 -- a fact of the listing, where it isn't finished
-abbrev pub IfUnfinished : {M S : Type 0} → (ListingView M → Type 0) → Slice M S → Type 0
+abbrev pub IfUnfinished : {M Part S : Type 0} → (ListingView M → Type 0) → Slice M Part S → Type 0
 IfUnfinished P (Unfinished rest) = P rest
 IfUnfinished P progress = Unit {0}
 
 -- how many steps are left at most, and one more for the end: less after each run of at least one
 -- step
-abbrev pub steps_left_in : {M S : Type 0} → Slice M S → ℕ
+abbrev pub steps_left_in : {M Part S : Type 0} → Slice M Part S → ℕ
 steps_left_in (Unfinished rest) = rest.steps_left + 1
 steps_left_in (Finished divergences) = 0

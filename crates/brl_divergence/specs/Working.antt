@@ -1,8 +1,10 @@
 -- Internal. What is left to do in a listing: states to be expanded, and states whose splits are to be
 -- settled.
-use Rattle.std.specs.Prelude.{◌≡◌, ℕ, ◌+◌, ◌-◌, ◌<◌, ◌≤◌, ◌⊎◌, [], length}
+use Rattle.std.specs.Prelude.{◌≡◌, ℕ, ◌+◌, ◌-◌, ◌<◌, ◌≤◌, ◌⊎◌, List, [], length}
 use Rattle.std.specs.BTreeMap.{IsEmpty}
 use Rattle.brl_pairs.specs.Runs.{Behaviour}
+use Rattle.brl_pairs.specs.declared.step.Step.{Step}
+use Rattle.brl_parts.specs.Parts.{AreKeptParts, PartsView}
 use Rattle.brl_closure.specs.Trail.{IsActive}
 use Rattle.brl_closure.specs.declared.search.finder.Finder.{Finder}
 use Rattle.brl_divergence.specs.Answers.{IsListed}
@@ -11,10 +13,12 @@ use Rattle.brl_divergence.specs.Found.{IsSettledState, IsSound}
 use Rattle.brl_divergence.specs.declared.expanded.Expanded.{Expanded}
 use Rattle.brl_divergence.specs.declared.found.Found.{Found}
 
--- states are expanded, and neither a pair nor a pair of rules is found yet, nor are steps kept
-pub record IsExpanding {M S : Type 0} (behaviour : M → Behaviour S) (f : Finder M S) (e : Expanded) (it : Found S) : Type 0 where
+-- states are expanded, with the parts of their steps, and neither a pair nor a pair of rules is found
+-- yet, nor are steps kept
+pub record IsExpanding {M S P : Type 0} (behaviour : M → Behaviour S) (steps_of : M → P → List (Step S)) (f : Finder M S) (e : Expanded) (parts : PartsView P) (it : Found S) : Type 0 where
   pub active : IsActive behaviour f it.trail
   pub expanded : AreExpanded (behaviour f.machine.now) it.trail.states e
+  pub kept_parts : AreKeptParts (steps_of f.machine.now) it.trail.states e.cells parts
   pub there : length e.edges.items ≤ length it.trail.states
   pub no_pairs : it.trail.pairs ≡ []
   pub listed : IsListed (behaviour f.machine.now) it.list
@@ -28,8 +32,8 @@ pub record IsSettling {M S : Type 0} (behaviour : M → Behaviour S) (f : Finder
   pub states : (k : ℕ) → k < settled → IsSettledState (behaviour f.machine.now) it k
 
 -- one of the two: as long as a state isn't expanded, none is settled
-abbrev pub IsWorking : {M S : Type 0} → (M → Behaviour S) → Finder M S → Expanded → Found S → ℕ → Type 0
-IsWorking behaviour f e it settled = (IsExpanding behaviour f e it × (settled ≡ 0)) ⊎ IsSettling behaviour f e it settled
+abbrev pub IsWorking : {M S P : Type 0} → (M → Behaviour S) → (M → P → List (Step S)) → Finder M S → Expanded → PartsView P → Found S → ℕ → Type 0
+IsWorking behaviour steps_of f e parts it settled = (IsExpanding behaviour steps_of f e parts it × (settled ≡ 0)) ⊎ IsSettling behaviour f e it settled
 
 -- all states are expanded, and their splits are settled
 pub record IsDone {M S : Type 0} (behaviour : M → Behaviour S) (f : Finder M S) (e : Expanded) (it : Found S) : Type 0 where
@@ -41,11 +45,11 @@ abbrev pub steps_left : ℕ → Expanded → ℕ → ℕ
 steps_left limit e settled = (limit - length e.edges.items) + (limit - settled)
 
 -- what a step does: fewer are left
-pub record IsStep {M S : Type 0} (behaviour : M → Behaviour S) (f : Finder M S) (e : Expanded) (settled : ℕ) (e' : Expanded) (it : Found S) (settled' : ℕ) : Type 0 where
-  pub working : IsWorking behaviour f e' it settled'
+pub record IsStep {M S P : Type 0} (behaviour : M → Behaviour S) (steps_of : M → P → List (Step S)) (f : Finder M S) (e : Expanded) (settled : ℕ) (e' : Expanded) (parts : PartsView P) (it : Found S) (settled' : ℕ) : Type 0 where
+  pub working : IsWorking behaviour steps_of f e' parts it settled'
   pub fewer : steps_left f.limit e' settled' < steps_left f.limit e settled
 
 -- what this number of steps does: at least so many fewer are left
-pub record AreSteps {M S : Type 0} (behaviour : M → Behaviour S) (steps : ℕ) (f : Finder M S) (e : Expanded) (settled : ℕ) (e' : Expanded) (it : Found S) (settled' : ℕ) : Type 0 where
-  pub working : IsWorking behaviour f e' it settled'
+pub record AreSteps {M S P : Type 0} (behaviour : M → Behaviour S) (steps_of : M → P → List (Step S)) (steps : ℕ) (f : Finder M S) (e : Expanded) (settled : ℕ) (e' : Expanded) (parts : PartsView P) (it : Found S) (settled' : ℕ) : Type 0 where
+  pub working : IsWorking behaviour steps_of f e' parts it settled'
   pub fewer : steps_left f.limit e' settled' + steps ≤ steps_left f.limit e settled

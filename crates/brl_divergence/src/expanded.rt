@@ -1,13 +1,15 @@
 //! The steps of the states that have been expanded.
-ghost use Rattle.std.specs.Prelude.{◌≡◌, ◌+◌, ◌<◌, [], length, map, IfErr, IfOk, OnOk};
+ghost use Rattle.std.specs.Prelude.{◌≡◌, ◌⊎◌, ◌+◌, ◌<◌, [], length, map, IfErr, IfOk, OnOk};
 ghost use Rattle.brl_closure.specs.Trail.{Advances, HasPassed, IsActive, IsTraced};
 ghost use Rattle.brl_divergence.specs.Expanded.{AreExpanded};
 ghost use Rattle.brl_failure.specs.Failure.{IfFault};
+ghost use Rattle.brl_parts.specs.Parts.{AreKeptParts, no_parts};
 
 use brl_cells::Cells;
 use brl_closure::{Finder, Stop, Trail};
 use brl_failure::Failure;
-use brl_pairs::{ListedEdge, Machine, Members, Seed, SortedEdge, sort_edges};
+use brl_pairs::{Key, ListedEdge, Members, Parted, Seed, SortedEdge, sort_edges};
+use brl_parts::Parts;
 use std::alloc::{AllocError, Global};
 
 /// The steps of the states that have been expanded. States are expanded in the order in which they
@@ -43,17 +45,31 @@ fn rules_of(alloc: Global, edges: &[ListedEdge]) -> Result<Vec<u32>, AllocError>
     edges.iter().map(|edge| edge.rule).collect(alloc)
 }
 
-/// Expands the next state: its next states are found, and its edges are kept.
-pub fn expand_next<M: Machine>(
+/// Keeps no parts any more where as many are kept as should be, or where no state is left to be
+/// expanded. New ones will be found by hashes of this seed.
+pub fn forget_parts<P: Key>(alloc: Global, seed: Seed, none_left: bool, parts: &mut Parts<P>)
+    ensures { (parts.new ≡ parts.old) ⊎ (parts.new ≡ no_parts) }
+{
+    if none_left || parts.is_full() {
+        *parts = Parts::new(alloc, seed);
+    }
+}
+
+/// Expands the next state: its next states are found, and its edges are kept. So are the parts of
+/// its steps.
+pub fn expand_next<M: Parted>(
     finder: &Finder<'_, M>,
     trail: &mut Trail<M::State>,
     expanded: &mut Expanded,
+    parts: &mut Parts<M::Part>,
 ) -> Result<(), Failure<Stop>>
     requires active { IsActive M.behaviour finder.now trail.old }
     requires expanded { AreExpanded (M.behaviour finder.now.machine.now) trail.old.states expanded.old }
+    requires parts { AreKeptParts (M.steps_of finder.now.machine.now) trail.old.states expanded.old.cells parts.old }
     requires some { length expanded.old.edges.items < length trail.old.states }
     requires no_pairs { trail.old.pairs ≡ [] }
     ensures expanded { OnOk result (AreExpanded (M.behaviour finder.now.machine.now) trail.new.states expanded.new) }
+    ensures parts { OnOk result (AreKeptParts (M.steps_of finder.now.machine.now) trail.new.states expanded.new.cells parts.new) }
     ensures count { OnOk result (length expanded.new.edges.items ≡ length expanded.old.edges.items + 1) }
     ensures advances { OnOk result (Advances M.behaviour finder.now trail.old trail.new) }
     ensures no_pairs { trail.new.pairs ≡ [] }
@@ -61,7 +77,7 @@ pub fn expand_next<M: Machine>(
     ensures traced { IfErr result (IfFault (λ _. IsTraced (M.behaviour finder.now.machine.now) trail.new)) }
 {
     let number = expanded.edges.len();
-    let edges = finder.list_edges(trail, &mut expanded.cells, number)?;
+    let edges = finder.find_edges(trail, &mut expanded.cells, parts, number)?;
     let cells = expanded.cells.as_slice();
     let sorted = sort_edges(finder.alloc, cells, edges.as_slice())?;
     let rules = rules_of(finder.alloc, edges.as_slice())?;

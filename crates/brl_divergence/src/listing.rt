@@ -9,12 +9,13 @@ ghost use Rattle.brl_divergence.specs.declared.expanded.Expanded.{Expanded as Ex
 ghost use Rattle.brl_failure.specs.Failure.{IfFault};
 
 use crate::divergences::Divergences;
-use crate::expanded::{Expanded, expand_next};
+use crate::expanded::{Expanded, expand_next, forget_parts};
 use crate::explorer::Explorer;
 use crate::found::Found;
 use brl_closure::{Finder, KnownSteps, Stop, Trail};
 use brl_failure::Failure;
-use brl_pairs::{Body, Machine, Seed};
+use brl_pairs::{Body, Machine, Parted, Seed};
+use brl_parts::{Parts, Whole};
 use brl_progress::{NoProgress, Progress, Work};
 use std::alloc::{AllocError, Global};
 use std::collections::BTreeMap;
@@ -27,15 +28,17 @@ use std::marker::Model;
 ///
 /// A contract sees how many steps are left at most. `list_divergences` runs a listing to its end.
 #[derive(Drop)]
-pub struct Listing<'m, M: Machine> {
+pub struct Listing<'m, M: Parted> {
     finder: Finder<'m, M>,
     expanded: Expanded,
+    /// The parts of steps that have been listed, as long as states are to be expanded.
+    parts: Parts<M::Part>,
     found: Found<M::State>,
     /// The number of states whose splits are settled.
     settled: usize,
 }
 
-impl<'m, M: Machine> Model for Listing<'m, M> {
+impl<'m, M: Parted> Model for Listing<'m, M> {
     ghost use Rattle.brl_divergence.specs.ListingView.{ListingView};
 
     ghost Value = { ListingView M };
@@ -48,18 +51,18 @@ impl<'m, M: Machine> Model for Listing<'m, M> {
       steps_left = steps_left l.finder.limit l.expanded l.settled;
     } };
 
-    ghost invariant = { λ l. IsWorking M.behaviour l.finder l.expanded l.found l.settled };
+    ghost invariant = { λ l. IsWorking M.behaviour M.steps_of l.finder l.expanded l.parts l.found l.settled };
 }
 
 /// The progress of a listing.
 #[derive(Drop)]
-pub enum Slice<'m, M: Machine> {
+pub enum Slice<'m, M: Parted> {
     /// There is more to do.
     Unfinished(Listing<'m, M>),
     Finished(Divergences<M::State>),
 }
 
-impl<'m, M: Machine> Listing<'m, M> {
+impl<'m, M: Parted> Listing<'m, M> {
     /// The listing of a machine that has found the start. It finds states and pairs by hashes of
     /// this seed, which is to be drawn from all that the machine depends on.
     pub fn start(
@@ -89,6 +92,7 @@ impl<'m, M: Machine> Listing<'m, M> {
         Ok(Slice::Unfinished(Listing {
             finder,
             expanded: Expanded::new(alloc, seed),
+            parts: Parts::new(alloc, seed),
             found,
             settled: 0,
         }))
@@ -111,13 +115,24 @@ impl<'m, M: Machine> Listing<'m, M> {
         let Listing {
             finder,
             mut expanded,
+            mut parts,
             mut found,
             mut settled,
         } = self;
-        match run(&finder, &mut expanded, &mut found, &mut settled, steps) {
+        let none_left = expanded.edges.len() >= found.trail.states.len();
+        forget_parts(finder.alloc, finder.seed, none_left, &mut parts);
+        match run(
+            &finder,
+            &mut expanded,
+            &mut parts,
+            &mut found,
+            &mut settled,
+            steps,
+        ) {
             Ok(true) => Ok(Slice::Unfinished(Listing {
                 finder,
                 expanded,
+                parts,
                 found,
                 settled,
             })),
@@ -141,12 +156,12 @@ pub fn list_divergences<M: Machine>(
     requires { limit ≤ 4294967295 }
     ensures { IfOk result (AreDivergencesOf (M.behaviour machine.now) limit) }
 {
-    list_divergences_with(alloc, machine, limit, seed, &mut NoProgress)
+    list_divergences_with(alloc, &Whole::new(machine), limit, seed, &mut NoProgress)
 }
 
 /// Lists the divergences of a machine as `list_divergences` does, and reports its progress to `watch`
 /// before each slice of steps.
-pub fn list_divergences_with<M: Machine, W: Progress>(
+pub fn list_divergences_with<M: Parted, W: Progress>(
     alloc: Global,
     machine: &M,
     limit: u64,
@@ -169,20 +184,21 @@ pub fn list_divergences_with<M: Machine, W: Progress>(
 }
 
 /// Takes at most this number of steps. False where nothing is left to do.
-fn run<M: Machine>(
+fn run<M: Parted>(
     finder: &Finder<'_, M>,
     expanded: &mut Expanded,
+    parts: &mut Parts<M::Part>,
     found: &mut Found<M::State>,
     settled: &mut usize,
     steps: u64,
 ) -> Result<bool, Failure<Stop>>
-    requires working { IsWorking M.behaviour finder.now expanded.old found.old settled.old }
-    ensures steps { IfOk result (λ more. OnTrue more (AreSteps M.behaviour steps finder.now expanded.old settled.old expanded.new found.new settled.new)) }
+    requires working { IsWorking M.behaviour M.steps_of finder.now expanded.old parts.old found.old settled.old }
+    ensures steps { IfOk result (λ more. OnTrue more (AreSteps M.behaviour M.steps_of steps finder.now expanded.old settled.old expanded.new parts.new found.new settled.new)) }
     ensures done { IfOk result (λ more. OnFalse more (IsDone M.behaviour finder.now expanded.new found.new)) }
     ensures over { IfErr result (IfFault (λ _. IsOver (M.behaviour finder.now.machine.now) finder.now.limit found.new)) }
 {
     for _ in 0..steps {
-        if !step(finder, expanded, found, settled)? {
+        if !step(finder, expanded, parts, found, settled)? {
             return Ok(false);
         }
     }
@@ -191,19 +207,20 @@ fn run<M: Machine>(
 
 /// Expands the next state, or where all are expanded settles the splits of the next one. False where
 /// nothing is left to do.
-fn step<M: Machine>(
+fn step<M: Parted>(
     finder: &Finder<'_, M>,
     expanded: &mut Expanded,
+    parts: &mut Parts<M::Part>,
     found: &mut Found<M::State>,
     settled: &mut usize,
 ) -> Result<bool, Failure<Stop>>
-    requires working { IsWorking M.behaviour finder.now expanded.old found.old settled.old }
-    ensures step { IfOk result (λ more. OnTrue more (IsStep M.behaviour finder.now expanded.old settled.old expanded.new found.new settled.new)) }
+    requires working { IsWorking M.behaviour M.steps_of finder.now expanded.old parts.old found.old settled.old }
+    ensures step { IfOk result (λ more. OnTrue more (IsStep M.behaviour M.steps_of finder.now expanded.old settled.old expanded.new parts.new found.new settled.new)) }
     ensures done { IfOk result (λ more. OnFalse more (IsDone M.behaviour finder.now expanded.new found.new)) }
     ensures over { IfErr result (IfFault (λ _. IsOver (M.behaviour finder.now.machine.now) finder.now.limit found.new)) }
 {
     if expanded.edges.len() < found.trail.states.len() {
-        expand_next(finder, &mut found.trail, expanded)?;
+        expand_next(finder, &mut found.trail, expanded, parts)?;
         return Ok(true);
     }
     if *settled < found.trail.states.len() {

@@ -1,11 +1,11 @@
 -- Every pair of rules of a table at which clashing texts diverge. These are this project's own choice.
-use Rattle.std.specs.Prelude.{ℕ, ◌+◌, ◌<◌, ◌≤◌, ◌⊎◌, All, List, [], ◌∷◌, Some, length, map}
+use Rattle.std.specs.Prelude.{ℕ, ◌+◌, ◌<◌, ◌≤◌, ◌⊎◌, ◌↔◌, All, IsTrue, List, [], ◌∷◌, Some, length, map}
 use Rattle.std.specs.List.Sorted.{IsStrictlySortedBy}
 use Rattle.brl_closure.specs.Answers.{IsWithin}
 use Rattle.brl_closure.specs.Reached.{AtLeast, Reached, ReachedPair, SamePair, SameState}
 use Rattle.brl_divergence.specs.Listed.{compare_rules}
 use Rattle.brl_pairs.specs.Body.{BodyView}
-use Rattle.brl_pairs.specs.Divergence.{IsClosedBut, IsCompleteList}
+use Rattle.brl_pairs.specs.Divergence.{IsClosedBut, IsCompleteList, has_rules}
 use Rattle.brl_pairs.specs.Sets.{sets_of}
 use Rattle.brl_rules.specs.TableView.{TableView}
 use Rattle.brl_search.specs.Searched.{State, machine_of}
@@ -44,6 +44,19 @@ pub record IsWholeList (left_out : List ℕ) (t : TableView) (limit : ℕ) (list
   pub complete : IsCompleteList (without left_out (machine_of t)) (rules_of_clashes list)
   pub within : IsWithin limit body
   pub few_rules : length list ≤ limit
+
+-- two texts that use none of some characters clash, and their traces diverge at the pair of these two
+-- rules
+pub record ClashesDiverge (left_out : List ℕ) (t : TableView) (r s : ℕ) : Type 0 where
+  pub left : List ℕ
+  pub right : List ℕ
+  pub cells : List ℕ
+  pub clash : IsClashWithout left_out t left right cells
+  pub diverge : TracesDivergeAt t ((r, s) ∷ []) left right
+
+-- a pair of rules is one of these, in either order, just where two such texts diverge at it
+abbrev pub AreJustThose : List ℕ → TableView → List (ℕ × ℕ) → Type 0
+AreJustThose left_out t rules = (r s : ℕ) → IsTrue (has_rules rules r s) ↔ ClashesDiverge left_out t r s
 
 -- one of three numbers is more than the limit, none by more than one, and no more states or pairs are
 -- counted than are reached

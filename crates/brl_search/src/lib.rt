@@ -8,7 +8,8 @@
 //! - `small_clash_of` leaves characters out of two `Texts` while they clash, and where a pair of rules
 //!   is given, while `clash_at` says that their traces diverge at it.
 //! - `seed_of` is the seed by which the search hashes what it finds.
-//! - The laws state what is reached of the table's dues machine.
+//! - The laws state what is reached of the table's dues machine, and that there is one whole list of
+//!   clashes.
 //!
 //! By a table of the lines `letter a 1` and `letter b 12`, with at most a million states and as
 //! many pairs:
@@ -27,6 +28,7 @@
 
 mod dues_laws;
 mod keys;
+mod list_laws;
 mod seed;
 mod small;
 mod table_clashes;
@@ -36,6 +38,7 @@ mod texts;
 pub use dues_laws::{
     dues_certificate_law, dues_closed_law, dues_divergence_law, dues_reached_law, dues_trace_law,
 };
+pub use list_laws::whole_list_law;
 pub use seed::seed_of;
 pub use small::small_clash_of;
 pub use table_clashes::{ClashList, RuleClash, clashes, clashes_without};

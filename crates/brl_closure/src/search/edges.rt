@@ -79,7 +79,7 @@ impl<'m, M: Parted> Finder<'m, M> {
     /// The edges of the state with this number, in listed order. The next states of its steps are
     /// added where they haven't been found before, in the order of the steps; the cells of the steps
     /// are kept, and the parts of the steps.
-    pub(crate) fn find_edges(
+    pub fn find_edges(
         &self,
         trail: &mut Trail<M::State>,
         cells: &mut KeptCells,
@@ -94,6 +94,7 @@ impl<'m, M: Parted> Finder<'m, M> {
         ensures parts { OnOk result (AreKeptParts (M.steps_of self.now.machine.now) trail.new.states cells.new parts.new) }
         ensures advances { OnOk result (Advances M.behaviour self.now trail.old trail.new) }
         ensures stopped { IfErr result (IfFault (IsStopped M.behaviour self.now trail.new)) }
+        ensures pairs { trail.new.pairs ≡ trail.old.pairs }
     {
         let state = &trail.states.as_slice()[number];
         match self.machine.parts(self.alloc, state)? {
@@ -122,6 +123,7 @@ impl<'m, M: Parted> Finder<'m, M> {
         ensures parts { OnOk result (AreKeptParts (M.steps_of self.now.machine.now) trail.new.states cells.new parts.new) }
         ensures advances { OnOk result (Advances M.behaviour self.now trail.old trail.new) }
         ensures stopped { IfErr result (IfFault (IsStopped M.behaviour self.now trail.new)) }
+        ensures pairs { trail.new.pairs ≡ trail.old.pairs }
     {
         let Parting { places, mut fresh } = self.part(parts, listed)?;
         self.number_parts(trail, cells, number, &mut fresh)?;
@@ -184,6 +186,7 @@ impl<'m, M: Parted> Finder<'m, M> {
         ensures cells { OnOk result (Stays cells.old cells.new) }
         ensures advances { OnOk result (Advances M.behaviour self.now trail.old trail.new) }
         ensures stopped { IfErr result (IfFault (IsStopped M.behaviour self.now trail.new)) }
+        ensures pairs { trail.new.pairs ≡ trail.old.pairs }
     {
         let mut likely = 0;
         while let Some(place) = next_of(fresh.as_slice()) {
@@ -210,6 +213,7 @@ impl<'m, M: Parted> Finder<'m, M> {
         ensures cells { OnOk result (Stays cells.old cells.new) }
         ensures advances { OnOk result (Advances M.behaviour self.now trail.old trail.new) }
         ensures stopped { IfErr result (IfFault (IsStopped M.behaviour self.now trail.new)) }
+        ensures pairs { trail.new.pairs ≡ trail.old.pairs }
     {
         let Some(step) = fresh.left.pop() else {
             return Ok(likely);

@@ -17,15 +17,15 @@ pub sort_edges-requires : goal.sort_edges-requires
 sort_edges-requires g c =
     let m = g.M.Machine.behaviour c.args.finder.now.machine.now in
     subst (λ (own : List (List ℕ)). HaveCells own c.as_slice.result.now) (sym c.as_slice-cells.ensures.members)
-    (subst (λ (edges : List ListedEdge). HaveCells c.list_edges.new.cells edges) (sym c.as_slice.ensures.value)
-    (have_cells m c.list_edges.new.trail.states c.list_edges.new.cells c.len-number.result c.in_ok-edges.edges.items c.in_ok-edges.ensures.edges))
+    (subst (λ (edges : List ListedEdge). HaveCells c.find_edges.new.cells edges) (sym c.as_slice.ensures.value)
+    (have_cells m c.find_edges.new.trail.states c.find_edges.new.cells c.len-number.result c.in_ok-edges.edges.items c.in_ok-edges.ensures.edges))
 
 pub returns-clause-expanded : goal.returns-clause-expanded
 returns-clause-expanded g c =
     let m = g.M.Machine.behaviour c.args.finder.now.machine.now in
     let e = c.args.expanded.now in
-    let u = c.list_edges.new.trail in
-    let cells = c.list_edges.new.cells in
+    let u = c.find_edges.new.trail in
+    let cells = c.find_edges.new.cells in
     let edges = edges_with cells c.in_ok-edges.edges.items in
     let count : c.len-number.result ≡ length e.edges.items = omega (arith, c.len-number.ensures, e.edges.ok.0) in
     one_expanded m c.args.trail.now.states u.states e _ c.in_ok-sorted.sorted c.in_ok-rules.rules c.in_ok-edges.ensures.advances.1.states c.in_ok-edges.ensures.cells c.in_ok-push.ensures.items c.in_ok-push-2.ensures.items

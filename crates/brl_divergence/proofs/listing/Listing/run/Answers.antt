@@ -1,9 +1,12 @@
 use Rattle.std.proofs.Common.{ap, arith}
 use Rattle.brl_divergence.specs.ListingView.{ListingView}
+use Rattle.brl_divergence.proofs.Settling.{working_without}
 use Rattle.brl_divergence.proofs.listing.Listing.run.Goals as goal
 
 pub run-requires : goal.run-requires
-run-requires g c = record { working = c.self.invariant }
+run-requires g c = record {
+  working = working_without g.M.Machine.behaviour g.M.Parted.steps_of c.self.inside.finder c.self.inside.expanded c.self.inside.parts c.forget_parts.new.parts c.self.inside.found c.self.inside.settled c.self.invariant c.forget_parts.ensures;
+}
 
 pub returns-in-Ok-true-clause-unfinished : goal.returns-in-Ok-true-clause-unfinished
 returns-in-Ok-true-clause-unfinished g c =

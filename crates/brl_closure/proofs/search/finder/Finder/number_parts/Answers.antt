@@ -25,6 +25,7 @@ loop-place-preserved g c =
     let cells = c.number_next.new.cells in
     record {
       advances = advances_trans g.M.Machine.behaviour c.args.self.now c.args.trail.now c.loop-place.trail c.number_next.new.trail c.loop-place.invariant.advances c.in_ok-likely.ensures.advances;
+      pairs = c.in_ok-likely.ensures.pairs ∙ c.loop-place.invariant.pairs;
       cells = λ k own there. c.in_ok-likely.ensures.cells k own (c.loop-place.invariant.cells k own there);
       partly = All-set (IsPartly m steps_of states cells c.args.number) fresh c.in-Some.place c.number_next.new.fresh c.in_ok-likely.ensures.partly
           (All-weaker (IsPartly m steps_of c.loop-place.trail.states c.loop-place.cells c.args.number) (IsPartly m steps_of states cells c.args.number)

@@ -1,0 +1,19 @@
+//! What a whole list of clashes says of the texts of its table. The law is the contract of a function
+//! that does nothing.
+ghost use Rattle.std.specs.Prelude.{◌≡◌, ℕ, List};
+ghost use Rattle.brl_pairs.specs.Body.{BodyView};
+ghost use Rattle.brl_rules.specs.TableView.{TableView};
+ghost use Rattle.brl_search.specs.Clashes.{AreJustThose, AreRuleClashes, IsWholeList, rules_of_clashes};
+ghost use Rattle.brl_search.specs.Searched.{State};
+ghost use Rattle.brl_search.specs.declared.table_clashes.RuleClash.{RuleClash as ClashValue};
+
+/// A whole list has just the pairs of rules at which the traces of two clashing texts diverge that use
+/// none of what is left out. So there is one list: two whole lists of a table, with whatever limits
+/// and however they were found, have the same pairs of rules in the same order.
+pub fn whole_list_law()
+    ensures just { (left_out : List ℕ) (t : TableView) (limit : ℕ) (list : List ClashValue) (body : BodyView State) →
+        AreRuleClashes left_out t list → IsWholeList left_out t limit list body → AreJustThose left_out t (rules_of_clashes list) }
+    ensures one { (left_out : List ℕ) (t : TableView) (limit most : ℕ) (list other : List ClashValue) (body bodies : BodyView State) →
+        AreRuleClashes left_out t list → IsWholeList left_out t limit list body →
+        AreRuleClashes left_out t other → IsWholeList left_out t most other bodies → rules_of_clashes list ≡ rules_of_clashes other }
+{}
