@@ -5,10 +5,9 @@ ghost use Rattle.brl_divergence.specs.Expanded.{AreExpanded};
 ghost use Rattle.brl_failure.specs.Failure.{IfFault};
 ghost use Rattle.brl_parts.specs.Parts.{AreKeptParts, no_parts};
 
-use brl_cells::Cells;
 use brl_closure::{Finder, Stop, Trail};
 use brl_failure::Failure;
-use brl_pairs::{Key, ListedEdge, Members, Parted, Seed, SortedEdge, sort_edges};
+use brl_pairs::{Key, KeptCells, ListedEdge, Parted, Seed, SortedEdge, sort_edges};
 use brl_parts::Parts;
 use std::alloc::{AllocError, Global};
 
@@ -17,7 +16,7 @@ use std::alloc::{AllocError, Global};
 #[derive(Drop)]
 pub struct Expanded {
     /// The cells of edges, each once. Edges name them by their numbers.
-    pub cells: Members<Cells>,
+    pub cells: KeptCells,
     /// The edges of each state, in the order of their cells.
     pub edges: Vec<Vec<SortedEdge>>,
     /// The rules of each state's edges, by their places.
@@ -31,7 +30,7 @@ impl Expanded {
         ensures rules { result.rules.items ≡ [] }
     {
         Expanded {
-            cells: Members::new(alloc, seed),
+            cells: KeptCells::new(alloc, seed),
             edges: Vec::new(alloc),
             rules: Vec::new(alloc),
         }
@@ -78,8 +77,8 @@ pub fn expand_next<M: Parted>(
 {
     let number = expanded.edges.len();
     let edges = finder.find_edges(trail, &mut expanded.cells, parts, number)?;
-    let cells = expanded.cells.as_slice();
-    let sorted = sort_edges(finder.alloc, cells, edges.as_slice())?;
+    expanded.cells.rank(finder.alloc)?;
+    let sorted = sort_edges(finder.alloc, &expanded.cells, edges.as_slice())?;
     let rules = rules_of(finder.alloc, edges.as_slice())?;
     expanded.edges.push(sorted)?;
     expanded.rules.push(rules)?;
