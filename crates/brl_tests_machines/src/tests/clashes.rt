@@ -145,7 +145,10 @@ fn told_of_divergences(
 fn told_of_slices(alloc: Global, table: &Table, first: &str, second: &str) -> Result<String, Fail> {
     let dues = Dues::new(alloc, table);
     let start = Listing::start(alloc, &dues, 9, seed_of(alloc, table)?)?;
-    let slices = [u64::from_str_radix(first, 10)?, u64::from_str_radix(second, 10)?];
+    let slices = [
+        u64::from_str_radix(first, 10)?,
+        u64::from_str_radix(second, 10)?,
+    ];
     match run_slices(start, slices)? {
         Slice::Unfinished(_) => Ok(String::from_str(alloc, "unfinished")?),
         Slice::Finished(divergences) => Ok(told_of_divergences(alloc, &divergences)?),

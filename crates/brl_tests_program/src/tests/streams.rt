@@ -72,7 +72,10 @@ fn run_stream<R: Input, W: Output>(
     if option == "lacking" {
         return translate_defined_lines(alloc, table, Form::Ascii, reader, writer);
     }
-    none_lacking(alloc, translate_lines(alloc, table, Form::Ascii, reader, writer))
+    none_lacking(
+        alloc,
+        translate_lines(alloc, table, Form::Ascii, reader, writer),
+    )
 }
 
 /// What a stream answers: the text of its fault, or the characters that it lists, each with its count
