@@ -129,7 +129,8 @@ impl<'a, M: Machine> StateEdges<'a, M> {
     {
         edges_law(self.machine);
         self.body.law();
-        let Some((lesser, greater)) = missing_split(self.alloc, self.body.pairs(), self.edges)? else {
+        let Some((lesser, greater)) = missing_split(self.alloc, self.body.pairs(), self.edges)?
+        else {
             return Ok(None);
         };
         Ok(Some(MissingSplit {
@@ -149,7 +150,13 @@ impl<'a, M: Machine> StateEdges<'a, M> {
         edges_law(self.machine);
         self.body.law();
         let pair = &self.body.pairs().as_slice()[number];
-        missing_pair(self.alloc, self.body.pairs(), pair.ahead, pair.lead.as_slice(), self.edges)
+        missing_pair(
+            self.alloc,
+            self.body.pairs(),
+            pair.ahead,
+            pair.lead.as_slice(),
+            self.edges,
+        )
     }
 }
 
