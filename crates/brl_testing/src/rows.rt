@@ -81,7 +81,10 @@ pub fn for_rows_of_4<F: Fn(Global, &str, &str, &str) -> Result<String, Fail>>(
 ) -> Result<(), Fail>
     requires { F.IsAlwaysCallable given }
 {
-    agree_at_rows(rows, |row| given(alloc, row.next()?, row.next()?, row.next()?))
+    agree_at_rows(
+        rows,
+        |row| given(alloc, row.next()?, row.next()?, row.next()?),
+    )
 }
 
 /// Fails at the first row whose last field isn't what is given of those before it.
