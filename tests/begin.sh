@@ -9,3 +9,16 @@ top=$(cd "$(dirname "$0")/.." && pwd) || exit 2
 work=$(mktemp -d)
 trap 'chmod -R u+rwx "$work"; rm -rf "$work"' EXIT
 trap 'exit 2' HUP INT TERM
+
+# A case that fails ends the test: fail CASE [FILE..] prints these files, or what the case left in `out` and `err`.
+fail() {
+    echo "FAILED: $1"
+    shift
+    [ $# -ne 0 ] || set -- out err
+    cat "$@"
+    exit 1
+}
+
+ok() {
+    echo "ok: $1"
+}

@@ -17,13 +17,10 @@ there would be too many. Then
 The same seed makes the same tables. The exit status is 1 where something differs, which is printed.
 """
 
-import argparse
-import random
 import re
-import subprocess
 import sys
 import tempfile
-from collections import Counter, defaultdict
+from collections import defaultdict
 from collections.abc import Iterator
 from itertools import combinations, product, takewhile
 from pathlib import Path
@@ -218,11 +215,6 @@ def is_shown(rules: Rules, listed: set[Rules], others: dict[int, int]) -> bool:
 # ---- The comparison
 
 
-def run(*words: str | Path) -> tuple[int, str]:
-    ran = subprocess.run([str(it) for it in words], capture_output=True, text=True, timeout=60)
-    return ran.returncode, ran.stdout
-
-
 def list_fault(plain: Plain, told: str, status: int, without: str) -> str:
     """What is wrong with a list, if anything."""
     listed: set[Rules] = set()
@@ -247,28 +239,15 @@ def difference(program: str, folder: Path, table: str, without: str) -> tuple[st
     path = folder / "t.ctb"
     path.write_text(table)
     words = ["--without", without.replace(" ", "\\s")] if without else []
-    status, told = run(program, "clashes", "--first", "0", *words, path)
+    status, told = random_tables.run(program, "clashes", "--first", "0", *words, path)
     wrong = list_fault(Plain(Table(str(path))), told, status, without)
     return "failed" if wrong else ["unambiguous", "listed"][status], f"{wrong}\n{told}" if wrong else ""
 
 
 def main(words: list[str]) -> int:
-    reader = argparse.ArgumentParser(description=__doc__.split("\n", 1)[0])
-    reader.add_argument("program")
-    reader.add_argument("--seed", type=int, default=1)
-    reader.add_argument("--count", type=int, default=300)
-    asked = reader.parse_args(words)
-    counts: Counter[str] = Counter()
-    kinds: Counter[str] = Counter()
+    asked = random_tables.asked(__doc__, words)
     with tempfile.TemporaryDirectory() as room:
-        for table, without in random_tables.tables(random.Random(asked.seed), asked.count):
-            came, wrong = difference(asked.program, Path(room), table, without)
-            counts[came] += 1
-            kinds.update(random_tables.kinds(table) if came == "listed" else [])
-            if wrong:
-                print(f"{wrong}\nwithout '{without}':\n{table}", flush=True)
-    lacking = random_tables.lacking(kinds) if asked.count >= random_tables.ENOUGH else ""
-    print("\n".join(filter(None, [f"listed {random_tables.shown(kinds)}", lacking])))
+        counts, lacking = random_tables.compare(asked, "listed", lambda *it: difference(asked.program, Path(room), *it))
     print(f"clashes: {asked.count} tables, {counts['listed']} with clashes, {counts['unambiguous']} without, {counts['failed']} failed")
     return 1 if counts["failed"] or lacking else 0
 

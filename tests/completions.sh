@@ -115,34 +115,22 @@ for shell in bash zsh fish; do
     offers 'brl translate --form u' unicode
     offers 'brl translate --form=' ascii unicode
     offers 'brl translate --form=a' ascii
-    offers 'brl translate --form ascii t' table.ctb table.cert tables
-    offers 'brl translate table.ctb t'
-    offers 'brl clash table.ctb t'
-    offers 'brl clash table.ctb text t'
-    offers 'brl trace table.ctb t'
-    offers 'brl trace --escapes t' table.ctb table.cert tables
-    offers 'brl clash --escapes table.ctb text t'
-    offers 'brl trace --escapes --lines t' table.ctb table.cert tables
-    offers 'brl clash --lines table.ctb text t'
-    offers 'brl rules table.ctb t'
-    offers 'brl explain t'
-    offers 'brl search table.ctb t' table.ctb table.cert tables
-    offers 'brl search table.ctb table.cert t'
-    offers 'brl search --limit t'
-    offers 'brl search --limit 5 t' table.ctb table.cert tables
-    offers 'brl search --without t'
-    offers 'brl search --without ab table.ctb t' table.ctb table.cert tables
-    offers 'brl search --limit=5 table.ctb table.cert t'
-    offers 'brl clashes table.ctb t'
-    offers 'brl clashes --first t'
-    offers 'brl clashes --first 5 t' table.ctb table.cert tables
-    offers 'brl check table.ctb t' table.ctb table.cert tables
-    offers 'brl check --without ab table.ctb t' table.ctb table.cert tables
-    offers 'brl check table.ctb table.cert t'
-    offers 'brl survey table.ctb other.txt t' table.ctb table.cert tables
-    offers 'brl survey --brief t' table.ctb table.cert tables
+    # operands that are no paths, and too many of them
+    for words in \
+        'translate table.ctb' 'clash table.ctb' 'clash table.ctb text' 'trace table.ctb' \
+        'clash --escapes table.ctb text' 'clash --lines table.ctb text' 'rules table.ctb' 'explain' 'search table.ctb table.cert' \
+        'search --limit' 'search --without' 'search --limit=5 table.ctb table.cert' \
+        'clashes table.ctb' 'clashes --first' 'check table.ctb table.cert' 'cut table.ctb tables'; do
+        offers "brl $words t"
+    done
+    # operands that are paths
+    for words in \
+        'translate --form ascii' 'trace --escapes' 'trace --escapes --lines' 'search table.ctb' 'search --limit 5' \
+        'search --without ab table.ctb' 'clashes --first 5' 'check table.ctb' \
+        'check --without ab table.ctb' 'survey table.ctb other.txt' 'survey --brief'; do
+        offers "brl $words t" table.ctb table.cert tables
+    done
     offers 'brl cut table.ctb t' tables
     offers 'brl cut --rewrite table.ctb t' tables
-    offers 'brl cut table.ctb tables t'
     echo "ok: completions of $shell, $count lines"
 done

@@ -9,7 +9,6 @@ the tables have capitals of each kind of tests/random_tables.py; some must have 
 """
 
 import random
-import subprocess
 import sys
 import tempfile
 from collections import Counter
@@ -23,11 +22,6 @@ TABLES = 400
 CASED_TABLES = 200
 
 
-def run(*words: str | Path) -> tuple[int, str]:
-    ran = subprocess.run([str(it) for it in words], capture_output=True, text=True, timeout=60)
-    return ran.returncode, ran.stdout
-
-
 def text(line: str) -> str:
     return line.partition(": ")[2].replace("\\s", " ")
 
@@ -35,10 +29,10 @@ def text(line: str) -> str:
 def fault(program: str, path: Path, cert: Path, left_out: str) -> tuple[str, str]:
     """What the search says of a table without a character, if one is given, and what is wrong with it, if anything."""
     option = ["--without", left_out] if left_out else []
-    status, told = run(program, "search", path, cert, *option)
+    status, told = random_tables.run(program, "search", path, cert, *option)
     first, *others = told.splitlines() or [""]
     if status == 0 and first.startswith("certified: "):
-        accepted = run(program, "check", path, cert, *option)
+        accepted = random_tables.run(program, "check", path, cert, *option)
         wanted = (0, told.replace("certified", "accepted", 1))
         named = others == ([f"without: {left_out}"] if left_out else [])
         return "certified", "" if named and accepted == wanted else f"the certificate isn't accepted: {told}{accepted}"
@@ -46,7 +40,7 @@ def fault(program: str, path: Path, cert: Path, left_out: str) -> tuple[str, str
         left, right = text(first), text(others[0])
         if left_out and left_out in left + right:
             return "clashing", f"{left_out} is used"
-        again = run(program, "clash", path, left, right)
+        again = random_tables.run(program, "clash", path, left, right)
         return "clashing", "" if left != right and again == (1, told) else f"the texts don't clash: {again}"
     return "undecided", f"status {status}: {told}"
 

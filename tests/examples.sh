@@ -33,11 +33,7 @@ same() {
 
 for want in *.brf; do
     name=${want%.brf}
-    if ! "$program" translate "$name.ctb" <"$name.txt" | cmp - "$want"; then
-        echo "FAILED: examples/$name"
-        exit 1
-    fi
-    echo "ok: examples/$name"
+    same "$want" 0 translate "$name.ctb" <"$name.txt"
 done
 
 for want in *.report; do
@@ -48,11 +44,7 @@ done
 
 for want in *.verdict; do
     name=${want%.verdict}
-    if ! "$program" check "$name.ctb" "$name.cert" | cmp - "$want"; then
-        echo "FAILED: examples/$name"
-        exit 1
-    fi
-    echo "ok: examples/$name"
+    same "$want" 0 check "$name.ctb" "$name.cert"
 done
 
 for want in *.found; do

@@ -21,16 +21,6 @@ mkdir -p "$work/clone/out" && cp "$program" "$work/clone/out/brl"
 END
 chmod +x clone/build
 
-fail() {
-    echo "FAILED: $1"
-    cat out err
-    exit 1
-}
-
-ok() {
-    echo "ok: $1"
-}
-
 # Runs ./install with these words.
 install() {
     clone/install "$@" >out 2>err

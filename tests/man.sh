@@ -10,12 +10,6 @@ set -u
 cd "$top" || exit 2
 page=man/brl.1
 
-fail() {
-    echo "FAILED: $1"
-    cat "$2"
-    exit 1
-}
-
 # man's own warnings, and mandoc's that are more than matters of style.
 if command -v man >/dev/null && man --help 2>/dev/null | grep -q -- --warnings; then
     LC_ALL=C.UTF-8 man --warnings -l "$page" >"$work/text" 2>"$work/warnings" && [ -s "$work/text" ] || fail 'man' "$work/warnings"

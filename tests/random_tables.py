@@ -5,10 +5,13 @@ tables have capitals of each kind, and fails where none has: of any number of ta
 same on each run, else of ENOUGH or more.
 """
 
+import argparse
 import random
+import subprocess
 from collections import Counter
-from collections.abc import Iterator
+from collections.abc import Callable, Iterator
 from itertools import cycle
+from pathlib import Path
 
 CELLS = ["1", "2", "12", "3", "13", "1-1", "1-2", "2-1", "12-1", "1-12", "1-1-2"]
 NUMBER_CELLS = ["1", "2", "12", "3", "13", "1-1", "1-2", "12-1", "1-12", "3456-1"]
@@ -146,3 +149,40 @@ def lacking(counts: Counter[str]) -> str:
     """The kinds of capitals that no table has, as a line; nothing where there are none."""
     found = ", ".join(it for it in KINDS if not counts[it])
     return found and f"no table with capitals of the kind: {found}"
+
+
+# ---- What a program says of such tables
+
+# What a program says of a table for the texts without some characters, and what is wrong with it, if anything.
+Difference = Callable[[str, str], tuple[str, str]]
+
+
+def asked(doc: str, words: list[str]) -> argparse.Namespace:
+    """The program that is compared, and of how many tables of which seed."""
+    reader = argparse.ArgumentParser(description=doc.split("\n", 1)[0])
+    reader.add_argument("program")
+    reader.add_argument("--seed", type=int, default=1)
+    reader.add_argument("--count", type=int, default=300)
+    return reader.parse_args(words)
+
+
+def run(*words: str | Path) -> tuple[int, str]:
+    """The status and the output of a program that is called with these words."""
+    ran = subprocess.run([str(it) for it in words], capture_output=True, text=True, timeout=60)
+    return ran.returncode, ran.stdout
+
+
+def compare(asked: argparse.Namespace, wanted: str, difference: Difference) -> tuple[Counter[str], str]:
+    """How often the program says what of the tables; and the kinds of capitals that no table has of
+    which it says what is wanted, where there are tables enough. Prints what is wrong, and these."""
+    counts: Counter[str] = Counter()
+    has: Counter[str] = Counter()
+    for table, without in tables(random.Random(asked.seed), asked.count):
+        came, wrong = difference(table, without)
+        counts[came] += 1
+        has.update(kinds(table) if came == wanted else [])
+        if wrong:
+            print(f"{wrong}\nwithout '{without}':\n{table}", flush=True)
+    lacks = lacking(has) if asked.count >= ENOUGH else ""
+    print("\n".join(filter(None, [f"{wanted} {shown(has)}", lacks])))
+    return counts, lacks

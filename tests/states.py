@@ -15,12 +15,8 @@ the table, or for those that don't use one of its characters. Then
 The same seed makes the same tables. The exit status is 1 where something differs, which is printed.
 """
 
-import argparse
-import random
-import subprocess
 import sys
 import tempfile
-from collections import Counter
 from collections.abc import Iterable, Iterator
 from itertools import chain, combinations, product
 from pathlib import Path
@@ -248,11 +244,6 @@ def paired(left: int, given: tuple[str, ...], right: int, other: tuple[str, ...]
 # ---- The comparison
 
 
-def run(*words: str | Path) -> tuple[int, str]:
-    ran = subprocess.run([str(it) for it in words], capture_output=True, text=True, timeout=60)
-    return ran.returncode, ran.stdout
-
-
 def body(cert: Path) -> tuple[list[str], list[tuple[str, str, str]]]:
     """The lines of the states of a certificate, and its pairs with these lines."""
     rows = cert.read_text().splitlines()
@@ -273,7 +264,7 @@ def difference(program: str, folder: Path, table: str, without: str) -> tuple[st
     path, cert, mine = folder / "t.ctb", folder / "t.cert", folder / "mine.cert"
     path.write_text(table)
     words = ["--without", without.replace(" ", "\\s")] if without else []
-    status, told = run(program, "search", *words, path, cert)
+    status, told = random_tables.run(program, "search", *words, path, cert)
     reached = Reached(Machine(Table(str(path)), without))
     if status not in (0, 1) or reached.is_clash != (status == 1):
         return "failed", f"a clash: {reached.is_clash}; the search: status {status}, {told}"
@@ -288,7 +279,7 @@ def difference(program: str, folder: Path, table: str, without: str) -> tuple[st
         return "failed", f"pairs in the certificate alone: {sorted(set(found) - pairs)}"
     for some in (sorted(pairs), found):
         mine.write_text(certificate(states, some))
-        answer = run(program, "check", *words, path, mine)
+        answer = random_tables.run(program, "check", *words, path, mine)
         if answer[0] != 0 or not answer[1].startswith(f"accepted: {len(states)} states, {len(some)} pairs\n"):
             return "failed", f"the check: {answer}\n{mine.read_text()}"
     return "certified", ""
@@ -302,26 +293,13 @@ def row_fault(program: str, folder: Path) -> str:
 
 
 def main(words: list[str]) -> int:
-    reader = argparse.ArgumentParser(description=__doc__.split("\n", 1)[0])
-    reader.add_argument("program")
-    reader.add_argument("--seed", type=int, default=1)
-    reader.add_argument("--count", type=int, default=300)
-    asked = reader.parse_args(words)
-    counts: Counter[str] = Counter()
-    kinds: Counter[str] = Counter()
+    asked = random_tables.asked(__doc__, words)
     with tempfile.TemporaryDirectory() as room:
         folder = Path(room)
         if wrong := row_fault(asked.program, folder):
-            counts["failed"] += 1
             print(f"{wrong}:\n{ROW}")
-        for table, without in random_tables.tables(random.Random(asked.seed), asked.count):
-            came, wrong = difference(asked.program, folder, table, without)
-            counts[came] += 1
-            kinds.update(random_tables.kinds(table) if came == "certified" else [])
-            if wrong:
-                print(f"{wrong}\nwithout '{without}':\n{table}", flush=True)
-    lacking = random_tables.lacking(kinds) if asked.count >= random_tables.ENOUGH else ""
-    print("\n".join(filter(None, [f"compared {random_tables.shown(kinds)}", lacking])))
+        counts, lacking = random_tables.compare(asked, "certified", lambda *it: difference(asked.program, folder, *it))
+    counts["failed"] += 1 if wrong else 0
     said = f"{counts['certified']} certified and compared, {counts['a clash']} clash, {counts['failed']} failed"
     print(f"states: {asked.count} tables, {said}")
     return 1 if counts["failed"] or lacking else 0

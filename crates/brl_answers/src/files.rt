@@ -23,6 +23,9 @@ pub enum CreateFault {
     Failed,
 }
 
+/// Why a new file wasn't made: for this reason, or memory ran out.
+pub type NewFileFault = Failure<CreateFault>;
+
 /// Files that can be read and written.
 pub trait Files: Source {
     ghost use Rattle.std.specs.Prelude.{◌≡◌, IfErr, IsTrue, MatchBool, OnOk};
@@ -51,12 +54,7 @@ pub trait Files: Source {
     /// Makes a file with these bytes at `path`, and the folders in which it is where they aren't
     /// there. `AlreadyThere` where something is at `path`; no file changes then. `Failed` where it
     /// couldn't be made, and `Memory`: what is at `path` then isn't known. No other file changes.
-    fn create(
-        &mut self,
-        alloc: Global,
-        path: &str,
-        bytes: &[u8],
-    ) -> Result<(), Failure<CreateFault>>
+    fn create(&mut self, alloc: Global, path: &str, bytes: &[u8]) -> Result<(), NewFileFault>
         ensures made { OnOk result (GivesAlso (Self.gives self.new) path.now bytes.now) }
         ensures absent { OnOk result (MayBeAbsent (Self.gives self.old) path.now) }
         ensures there { IfErr result (StaysWhereThere (Self.gives self.old) (Self.gives self.new) path.now) }
@@ -93,12 +91,7 @@ impl Files for MapSource {
     }
 
     /// On an error all files stay as they were.
-    fn create(
-        &mut self,
-        alloc: Global,
-        path: &str,
-        bytes: &[u8],
-    ) -> Result<(), Failure<CreateFault>>
+    fn create(&mut self, alloc: Global, path: &str, bytes: &[u8]) -> Result<(), NewFileFault>
         ensures made { OnOk result (bytes_in self.new path.now ≡ Some bytes.now) }
         ensures there { IsTrue (is_some (bytes_in self.old path.now)) → IsErrOf result (Fault CreateFault.AlreadyThere) }
         ensures absent { bytes_in self.old path.now ≡ None → IfErr result (λ failure. failure ≡ Failure.Memory) }
@@ -148,12 +141,7 @@ impl<R: rt::Files> Files for FileSource<R> {
 
     /// Nothing is ever overwritten, also not through a link. What was written of a file that can't be
     /// written whole is removed, where that can be done.
-    fn create(
-        &mut self,
-        _alloc: Global,
-        path: &str,
-        bytes: &[u8],
-    ) -> Result<(), Failure<CreateFault>> {
+    fn create(&mut self, _alloc: Global, path: &str, bytes: &[u8]) -> Result<(), NewFileFault> {
         create_file(&self.system, path, bytes)
     }
 }

@@ -19,7 +19,7 @@ mod status;
 mod text;
 
 pub use answer::{Answer, counts_text, deliver};
-pub use files::{CreateFault, Files, SinkFault};
+pub use files::{CreateFault, Files, NewFileFault, SinkFault};
 pub use left_out::{left_out_of, spell_one_by_one, with_left_out_line};
 pub use new_files::{NewFile, NewFiles};
 pub use prefixes::set_apart;

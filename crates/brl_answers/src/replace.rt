@@ -1,6 +1,6 @@
 //! Writing and making files of a system so that nothing is lost where that fails.
 
-use crate::files::CreateFault;
+use crate::files::{CreateFault, NewFileFault};
 use brl_failure::Failure;
 use brl_stream::Failed;
 use std::alloc::Global;
@@ -125,11 +125,7 @@ fn new_file_beside<R: Files>(
 
 /// Makes a file with these bytes at a path where nothing is, and the folders in which it is. Where
 /// not all of them can be written, it is removed again.
-pub fn create_file<R: Files>(
-    system: &R,
-    path: &str,
-    bytes: &[u8],
-) -> Result<(), Failure<CreateFault>> {
+pub fn create_file<R: Files>(system: &R, path: &str, bytes: &[u8]) -> Result<(), NewFileFault> {
     if let Err(error) = make_folders_of(system, path) {
         return Err(not_made(&error));
     }
@@ -156,7 +152,7 @@ fn make_folders_of<R: Files>(system: &R, path: &str) -> io::Result<()> {
 }
 
 /// Why a file wasn't made, by an error of the system.
-fn not_made(error: &io::Error) -> Failure<CreateFault> {
+fn not_made(error: &io::Error) -> NewFileFault {
     match error.kind() {
         ErrorKind::OutOfMemory => Failure::Memory,
         _ => Failure::Fault(CreateFault::Failed),

@@ -1,19 +1,20 @@
 -- A state of version 2 or 3 that is read is in range, and its dues are in order.
-use Rattle.std.proofs.Common.{◌≡◌, ◌⊎◌, inl, inr, ℕ, ◌<◌, ◌≤◌, Bool, true, false, cond, eqb, All, List, [], ◌∷◌, length, Option, Some, None, ◌↔◌, refl, subst, arith, IsTrue}
+use Rattle.std.proofs.Common.{◌≡◌, ◌⊎◌, inl, inr, ℕ, ◌<◌, ◌≤◌, Bool, true, false, cond, eqb, All, List, [], ◌∷◌, length, Option, Some, None, ◌↔◌, subst, arith, IsTrue}
 use Rattle.std.specs.List.{AllByRecursion, Contains, slice_split}
 use Rattle.std.proofs.lemmas.List.Elements.{All-contains, All-contains_itself, All-from_recursion, All-weaker}
 use Rattle.brl_rules.specs.declared.class.Class.{Class}
 use Rattle.brl_rules.specs.declared.place.Cond.{Cond}
 use Rattle.brl_rules.specs.declared.place.Cond.TheVariants.{Any, Meets, Avoids}
+use Rattle.brl_states.specs.DuesContext.{state_in}
 use Rattle.brl_states.specs.Order.{AreDues, in_order, is_proper}
 use Rattle.brl_states.specs.declared.due.Due.{Due}
 use Rattle.brl_states.specs.declared.due.Due.TheVariants.{Need, Bar}
 use Rattle.brl_states.specs.declared.dues_state.DuesState.{DuesState}
 use Rattle.brl_cert.specs.Dues.{lenient_any, lenient_due, lenient_dues, lenient_head, lenient_parts, lenient_set, lenient_state, lenient_word, or_else, dues_format, word_format}
-use Rattle.brl_cert.specs.Fields.{◌>>=◌, each, flag, lenient_char, number}
+use Rattle.brl_cert.specs.Fields.{◌>>=◌, each, flag, lenient_char, lenient_context, number}
 use Rattle.brl_cert.specs.Valid.{HasSet, IsDue, IsDuesState, IsCapsFree}
 use Rattle.brl_cert.proofs.DuesLaws.{DuesState-Decides, Fine}
-use Rattle.brl_cert.proofs.Sound.{ReadsStates, each_valid, equal_from_decides, lenient_number-small, some_if, then_some}
+use Rattle.brl_cert.proofs.Sound.{ReadsStates, context_valid, each_valid, equal_from_decides, lenient_number-small, some_if, then_some}
 
 -- the laws of the order of dues, as states that are read need them
 pub record KeepsOrder : Type 0 where
@@ -97,14 +98,13 @@ module _ (order : KeepsOrder) where
 
   state_valid : (b n : List ℕ) (run : Bool) (fields : List (List ℕ)) (s : DuesState) → lenient_state b n run fields ≡ Some s → IsDuesState s × (s.run ≡ run)
   state_valid b n run fields s e =
-      let x = then_some ((number 255).lenient b) (λ before. flag.lenient n >>= λ numeric. each lenient_due fields >>= λ dues. Some (record { before = record { 0 = before }; numeric = numeric; run = run; dues = in_order dues })) s e in
-      let y = then_some (flag.lenient n) (λ numeric. each lenient_due fields >>= λ dues. Some (record { before = record { 0 = x.0 }; numeric = numeric; run = run; dues = in_order dues })) s x.2 in
-      let z = then_some (each lenient_due fields) (λ dues. Some (record { before = record { 0 = x.0 }; numeric = y.0; run = run; dues = in_order dues })) s y.2 in
-      let made : DuesState = record { before = record { 0 = x.0 }; numeric = y.0; run = run; dues = in_order z.0 } in
-      let small : x.0 ≤ 255 = lenient_number-small 10 255 b x.0 x.1 in
+      let x = then_some (lenient_context b n run) (λ here. each lenient_due fields >>= λ dues. Some (state_in here (in_order dues))) s e in
+      let z = then_some (each lenient_due fields) (λ dues. Some (state_in x.0 (in_order dues))) s x.2 in
+      let here = context_valid b n run x.0 x.1 in
+      let small = here.0 in
       let fine : All Fine z.0 = All-from_recursion Fine z.0 (dues_valid fields z.0 z.1) in
-      subst (λ (s : DuesState). IsDuesState s × (s.run ≡ run)) (some_is made s z.2)
-      (record { before = omega (arith, small); each = each_in_order z.0 fine; kept = in_order_kept z.0 fine }, refl)
+      subst (λ (s : DuesState). IsDuesState s × (s.run ≡ run)) (some_is (state_in x.0 (in_order z.0)) s z.2)
+      (record { before = omega (arith, small); each = each_in_order z.0 fine; kept = in_order_kept z.0 fine }, here.1)
 
   owing_valid : (fields : List (List ℕ)) (s : DuesState) → lenient_dues fields ≡ Some s → IsCapsFree IsDuesState (λ z. z.run) s
   owing_valid [] s e = absurd cc

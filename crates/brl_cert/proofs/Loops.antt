@@ -2,7 +2,6 @@
 use Rattle.std.proofs.Common.{◌≡◌, ℕ, zero, suc, ◌+◌, ◌<◌, Bool, true, false, not, ◌&&◌, cond, eqb, List, [], ◌∷◌, length, map, drop, get_or, Result, Ok, Err, IfOk, OnOk, refl, sym, ap, subst, ◌∙◌, arith, length-drop}
 use Rattle.std.proofs.lemmas.Bool.Decides.{nat_tests, Decides-eqb}
 use Rattle.brl_cert.specs.declared.fault.CertFault.{CertFault}
-use Rattle.brl_cert.specs.declared.fault.CertFaultKind.{CertFaultKind}
 use Rattle.brl_cert.specs.declared.fault.CertFaultKind.TheVariants.{Syntax, Truncated}
 use Rattle.brl_cert.specs.declared.line.Line.{Line}
 use Rattle.brl_cert.specs.Lines.{at_line, StateFormat, ◌>>>◌, placed, line_of, add_line, is_end, one_line, body_of}

@@ -16,11 +16,13 @@ use Rattle.brl_cells.specs.declared.fault.DotsFault.TheVariants.{TooManyCells}
 use Rattle.brl_cells.specs.Dots.{AreCells, cells_reading, parts, reading as dots_reading}
 use Rattle.brl_cert.specs.declared.fault.CertFaultKind.TheVariants.{Syntax, NotCanonical, DuplicateState, DuplicatePair, NoSuchState, WrongCount, Version}
 use Rattle.brl_pairs.specs.Body.{BodyView, IsPairOf, NumberPair, same_pair}
-use Rattle.brl_cert.specs.Fields.{◌>>=◌, lenient_number, lenient_lead, is_char, lenient_char, lenient_chars, each, number, flag}
+use Rattle.brl_cert.specs.Fields.{◌>>=◌, lenient_context, lenient_number, lenient_lead, is_char, lenient_char, lenient_chars, each, number, flag}
 use Rattle.brl_cert.specs.declared.line.Line.{Line}
 use Rattle.brl_cert.specs.declared.line.Line.TheVariants.{State, Pair, End}
 use Rattle.brl_cert.specs.Lines.{at_line, StateFormat, ◌>>>◌, placed, count, spelled_line, lenient_line, lenient_pair, lenient_end, strict_line, line_of, may_follow, is_end, add_line, one_line, body_of}
+use Rattle.brl_rules.specs.declared.context.Context.{Context}
 use Rattle.brl_states.specs.declared.window_state.WindowState.{WindowState}
+use Rattle.brl_states.specs.WindowContext.{state_in}
 use Rattle.brl_cert.specs.Window.{window_format, lenient_window}
 use Rattle.brl_cert.specs.Dues.{dues_format, word_format}
 use Rattle.brl_cert.specs.Reading.{reading, certificate_of, version_of, header_of, empty_body, written_so}
@@ -255,16 +257,25 @@ equal_from_decides e decides = record {
   congr = λ x y z h. ap (λ w. e w z) ((decides x y).0 h);
 }
 
+-- the context of lenient fields is in range, and has the run flag
+pub context_valid : (b n : List ℕ) (run : Bool) (here : Context) → lenient_context b n run ≡ Some here → (here.classes.0 ≤ 255) × (here.run ≡ run)
+context_valid b n run here e =
+    let x = then_some ((number 255).lenient b) (λ before. flag.lenient n >>= λ numeric. Some (record { classes = record { 0 = before }; numeric = numeric; run = run })) here e in
+    let y = then_some (flag.lenient n) (λ numeric. Some (record { classes = record { 0 = x.0 }; numeric = numeric; run = run })) here x.2 in
+    let made : Context = record { classes = record { 0 = x.0 }; numeric = y.0; run = run } in
+    let same : made ≡ here = (let g = y.2 in cc) in
+    subst (λ (c : Context). (c.classes.0 ≤ 255) × (c.run ≡ run)) same (lenient_number-small 10 255 b x.0 x.1, refl)
+
 window_valid : (fields : List (List ℕ)) (s : WindowState) → lenient_window fields ≡ Some s → IsCapsFree IsWindowState (λ z. z.run) s
 window_valid (b ∷ n ∷ f ∷ c ∷ []) s e =
-    let w = then_some ((number 255).lenient b) (λ before. flag.lenient n >>= λ numeric. flag.lenient f >>= λ ended. lenient_chars c >>= λ coming. Some (record { before = record { 0 = before }; numeric = numeric; run = false; ended = ended; coming = coming })) s e in
-    let x = then_some (flag.lenient n) (λ numeric. flag.lenient f >>= λ ended. lenient_chars c >>= λ coming. Some (record { before = record { 0 = w.0 }; numeric = numeric; run = false; ended = ended; coming = coming })) s w.2 in
-    let y = then_some (flag.lenient f) (λ ended. lenient_chars c >>= λ coming. Some (record { before = record { 0 = w.0 }; numeric = x.0; run = false; ended = ended; coming = coming })) s x.2 in
-    let z = then_some (lenient_chars c) (λ coming. Some (record { before = record { 0 = w.0 }; numeric = x.0; run = false; ended = y.0; coming = coming })) s y.2 in
-    let made : WindowState = record { before = record { 0 = w.0 }; numeric = x.0; run = false; ended = y.0; coming = z.0 } in
+    let x = then_some (lenient_context b n false) (λ here. flag.lenient f >>= λ ended. lenient_chars c >>= λ coming. Some (state_in here ended coming)) s e in
+    let y = then_some (flag.lenient f) (λ ended. lenient_chars c >>= λ coming. Some (state_in x.0 ended coming)) s x.2 in
+    let z = then_some (lenient_chars c) (λ coming. Some (state_in x.0 y.0 coming)) s y.2 in
+    let here = context_valid b n false x.0 x.1 in
+    let made : WindowState = state_in x.0 y.0 z.0 in
     let same : made ≡ s = (let g = z.2 in cc) in
-    let small : w.0 ≤ 255 = lenient_number-small 10 255 b w.0 w.1 in
-    subst (IsCapsFree IsWindowState (λ (s : WindowState). s.run)) same (record { before = omega (arith, small); coming = chars_valid c z.0 z.1 }, refl)
+    let small = here.0 in
+    subst (IsCapsFree IsWindowState (λ (s : WindowState). s.run)) same (record { before = omega (arith, small); coming = chars_valid c z.0 z.1 }, here.1)
 window_valid fields s e = absurd cc
 
 pub reads_windows : ReadsStates window_format (IsCapsFree IsWindowState (λ s. s.run))

@@ -3,7 +3,6 @@ use Rattle.std.proofs.Common.{◌≡◌, ℕ, eqb, List, ◌∷◌, ◌++◌, Re
 use Rattle.std.specs.Fmt.{digits}
 use Rattle.std.proofs.lemmas.List.Splits.{slice_split_at}
 use Rattle.brl_cert.specs.declared.fault.CertFault.{CertFault}
-use Rattle.brl_cert.specs.declared.fault.CertFaultKind.{CertFaultKind}
 use Rattle.brl_pairs.specs.Body.{BodyView, same_pair}
 use Rattle.brl_cert.specs.Dues.{dues_format, word_format}
 use Rattle.brl_cert.specs.Lines.{StateFormat, spelled_body, body_of, ◌>>>◌}

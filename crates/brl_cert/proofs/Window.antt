@@ -1,8 +1,7 @@
 -- States of version 1 are read back.
-use Rattle.std.proofs.Common.{◌≡◌, Bool, true, false, eqb, Some, refl, sym, ap, subst, arith}
+use Rattle.std.proofs.Common.{◌≡◌, Bool, true, eqb, Some, refl, sym, ap, subst, arith}
 use Rattle.std.specs.Bool.{Decides}
 use Rattle.std.specs.List.{AllByRecursion}
-use Rattle.std.proofs.Math.Bool.{beq}
 use Rattle.std.proofs.lemmas.Bool.Decides.{Decides-eqb, same_from_decides}
 use Rattle.std.proofs.lemmas.Slice.Eq.{bytes_eq-Decides}
 use Rattle.brl_states.specs.declared.window_state.WindowState.{WindowState}

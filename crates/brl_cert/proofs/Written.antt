@@ -1,5 +1,5 @@
 -- Lines that are written, bodies whose states no run goes to, and whole certificates.
-use Rattle.std.proofs.Common.{◌≡◌, Bool, ℕ, ◌+◌, List, [], ◌∷◌, ◌++◌, All, Result, Ok, Err, IfOk, OnOk, sym, ap, ◌∙◌, append_assoc}
+use Rattle.std.proofs.Common.{◌≡◌, Bool, ℕ, List, [], ◌∷◌, ◌++◌, All, Result, Ok, Err, IfOk, OnOk, sym, ap, ◌∙◌, append_assoc}
 use Rattle.std.specs.List.{join_with_byte}
 use Rattle.std.proofs.lemmas.List.{append-nil}
 use Rattle.brl_pairs.specs.Body.{BodyView}

@@ -5,12 +5,13 @@ use Rattle.std.specs.List.{join_with_byte, slice_split}
 use Rattle.brl_rules.specs.declared.class.Class.{Class}
 use Rattle.brl_rules.specs.declared.place.Cond.{Cond}
 use Rattle.brl_rules.specs.declared.place.Cond.TheVariants.{Any, Meets, Avoids}
+use Rattle.brl_states.specs.DuesContext.{state_in}
 use Rattle.brl_states.specs.Order.{in_order, is_proper}
 use Rattle.brl_states.specs.declared.due.Due.{Due}
 use Rattle.brl_states.specs.declared.due.Due.TheVariants.{Need, Bar}
 use Rattle.brl_states.specs.declared.dues_state.DuesState.{DuesState}
 use Rattle.brl_states.specs.contracts.dues_state.DuesStatePartialEq.TheImpl.{eq-value}
-use Rattle.brl_cert.specs.Fields.{◌>>=◌, each, flag, lenient_char, number}
+use Rattle.brl_cert.specs.Fields.{◌>>=◌, each, flag, lenient_char, lenient_context, number}
 use Rattle.brl_cert.specs.Lines.{StateFormat}
 
 -- ---- Spelling
@@ -69,10 +70,10 @@ lenient_parts field =
 abbrev pub lenient_due : List ℕ → Option Due
 lenient_due field = lenient_parts field >>= λ due. if is_proper due then Some due else None
 
--- the dues state of lenient fields: of its classes, its numeric mode, this run flag, and its dues
+-- the dues state of lenient fields: of its classes and its numeric mode, with this run flag, and of its
+-- dues
 abbrev pub lenient_state : List ℕ → List ℕ → Bool → List (List ℕ) → Option DuesState
-lenient_state b n run fields = (number 255).lenient b >>= λ before. flag.lenient n >>= λ numeric. each lenient_due fields >>= λ dues.
-    Some (record { before = record { 0 = before }; numeric = numeric; run = run; dues = in_order dues })
+lenient_state b n run fields = lenient_context b n run >>= λ here. each lenient_due fields >>= λ dues. Some (state_in here (in_order dues))
 
 -- the dues state of lenient fields of version 2
 abbrev pub lenient_dues : List (List ℕ) → Option DuesState

@@ -9,6 +9,7 @@ use Rattle.std.specs.Char.{is_digit}
 use Rattle.std.specs.Fmt.{decimal, digits}
 use Rattle.std.specs.List.{slice_split, join_with_byte, list_all}
 use Rattle.brl_cells.specs.Dots as dots
+use Rattle.brl_rules.specs.declared.context.Context.{Context}
 
 -- a kind of field: its one spelling, and the value of a field that is read leniently
 pub record FieldFormat (A : Type 0) : Type 0 where
@@ -53,6 +54,10 @@ flag = record { spell = spelled_flag; lenient = lenient_flag }
 -- whether a number is the code point of a character
 abbrev pub is_char : ℕ → Bool
 is_char c = nat_lt c 0xD800 || (nat_le 0xE000 c && nat_le c 0x10FFFF)
+
+-- the context of lenient fields: of its classes and of its numeric mode, with this run flag
+abbrev pub lenient_context : List ℕ → List ℕ → Bool → Option Context
+lenient_context b n run = (number 255).lenient b >>= λ before. flag.lenient n >>= λ numeric. Some (record { classes = record { 0 = before }; numeric = numeric; run = run })
 
 -- the character of a field: a code point in hexadecimal
 abbrev pub lenient_char : List ℕ → Option ℕ

@@ -10,8 +10,8 @@ ghost use Rattle.brl_states.specs.Order.{is_proper};
 ghost use Rattle.brl_rules.specs.declared.place.Cond.TheVariants.{Meets, Avoids};
 
 use crate::field::{
-    parts_of, push_char, push_flag, push_more, push_number, read_between_points, read_flag,
-    read_number,
+    parts_of, push_char, push_flag, push_more, push_number, read_between_points, read_context,
+    read_flag, read_number,
 };
 use brl_rules::{Class, Cond};
 use brl_states::{Due, DueList, DuesState};
@@ -147,22 +147,13 @@ fn read_state(
 ) -> Result<Option<DuesState>, AllocError>
     ensures { IfOk result (λ state. state ≡ lenient_state before.now numeric.now run (map (λ field. field.now) dues.now)) }
 {
-    let Some(before) = read_number(before, 10, 255) else {
-        return Ok(None);
-    };
-    let Some(numeric) = read_flag(numeric) else {
+    let Some(here) = read_context(before, numeric, run) else {
         return Ok(None);
     };
     let Some(dues) = read_each_due(alloc, dues)? else {
         return Ok(None);
     };
-    let before = Class(before as u8);
-    Ok(Some(DuesState {
-        before,
-        numeric,
-        run,
-        dues: DueList::in_order(dues),
-    }))
+    Ok(Some(DuesState::from_context(here, DueList::in_order(dues))))
 }
 
 /// The state of the lenient fields of a line of version 2.

@@ -4,10 +4,11 @@ ghost use Rattle.std.specs.Char.{digit_value};
 ghost use Rattle.std.specs.Fmt.{decimal, digits};
 ghost use Rattle.std.specs.List.{flat_map, slice_split};
 ghost use Rattle.brl_cells.specs.Dots.{AreCells};
-ghost use Rattle.brl_cert.specs.Fields.{each, is_char, lenient_char, lenient_chars, lenient_flag, lenient_lead, lenient_number, spelled_chars, spelled_flag, spelled_lead};
+ghost use Rattle.brl_cert.specs.Fields.{each, is_char, lenient_char, lenient_chars, lenient_context, lenient_flag, lenient_lead, lenient_number, spelled_chars, spelled_flag, spelled_lead};
 
 use brl_cells::{Cell, Cells, Chars, read_dots, write_dots};
 use brl_failure::Failure;
+use brl_rules::{Class, Context};
 use std::alloc::{AllocError, Global};
 
 /// The value of a digit in any radix to 36, and 36 for any other byte.
@@ -56,6 +57,19 @@ pub fn read_flag(field: &[u8]) -> Option<bool>
         [b'1'] => Some(true),
         _ => None,
     }
+}
+
+/// The context of lenient fields: of its classes and of its numeric mode, with this run flag.
+pub fn read_context(before: &[u8], numeric: &[u8], run: bool) -> Option<Context>
+    ensures { result ≡ lenient_context before.now numeric.now run }
+{
+    let before = read_number(before, 10, 255)?;
+    let numeric = read_flag(numeric)?;
+    Some(Context {
+        classes: Class(before as u8),
+        numeric,
+        run,
+    })
 }
 
 /// The character of a lenient field.

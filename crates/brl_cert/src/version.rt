@@ -6,9 +6,8 @@ ghost use Rattle.brl_cert.specs.Valid.{IsDuesState, IsWindowState};
 ghost use Rattle.brl_cert.specs.Window.{lenient_window, window_format};
 
 use crate::dues_line::{push_dues, push_word, read_dues, read_word};
-use crate::field::{push_chars, push_flag, push_number, read_chars, read_flag, read_number};
+use crate::field::{push_chars, push_flag, push_number, read_chars, read_context, read_flag};
 use brl_pairs::Key;
-use brl_rules::Class;
 use brl_states::{DuesState, WindowState};
 use std::alloc::{AllocError, Global};
 
@@ -124,10 +123,7 @@ fn read_window(
 ) -> Result<Option<WindowState>, AllocError>
     ensures { IfOk result (λ state. state ≡ lenient_window (before.now ∷ numeric.now ∷ ended.now ∷ coming.now ∷ [])) }
 {
-    let Some(before) = read_number(before, 10, 255) else {
-        return Ok(None);
-    };
-    let Some(numeric) = read_flag(numeric) else {
+    let Some(here) = read_context(before, numeric, false) else {
         return Ok(None);
     };
     let Some(ended) = read_flag(ended) else {
@@ -136,12 +132,5 @@ fn read_window(
     let Some(coming) = read_chars(alloc, coming)? else {
         return Ok(None);
     };
-    let before = Class(before as u8);
-    Ok(Some(WindowState {
-        before,
-        numeric,
-        run: false,
-        ended,
-        coming,
-    }))
+    Ok(Some(WindowState::from_context(here, ended, coming)))
 }

@@ -34,13 +34,7 @@ module _ {S : Type 0} (m : Behaviour S) where
   }
 
   still_more : (xs ys : List S) → Stays xs ys → (q : NumberPair) (place : ℕ) (p : NumberPair) → StaysBehindOf m xs q place p → StaysBehindOf m ys q place p
-  still_more xs ys stays q place p h = record {
-    step = h.step;
-    taken = taken_more xs ys stays q.behind place h.step h.taken;
-    ahead = h.ahead;
-    behind = stays p.behind h.step.next h.behind;
-    lead = h.lead;
-  }
+  still_more xs ys stays q place p h = record { step = h.step; taken = taken_more xs ys stays q.behind place h.step h.taken; ahead = h.ahead; behind = stays p.behind h.step.next h.behind; lead = h.lead }
 
   swapped_more : (xs ys : List S) → Stays xs ys → (q : NumberPair) (place : ℕ) (p : NumberPair) → GetsAheadOf m xs q place p → GetsAheadOf m ys q place p
   swapped_more xs ys stays q place p h = record {

@@ -13,6 +13,7 @@ use Rattle.brl_parts.specs.Parts.{AreKeptParts, IsKept, PartsView, or_no_edges}
 use Rattle.brl_closure.specs.Fresh.{ArePlaced, HasStepLeft, HaveNumbers, IsAmong, IsAtPlace, IsBegun, IsOneOf, IsPartly, IsWhole, IsWithin, LeadsFrom, number_at, part_of}
 use Rattle.brl_closure.specs.SearchView.{Stays}
 use Rattle.brl_closure.proofs.Additions.{taken_more}
+use Rattle.brl_closure.proofs.Listing.{number_is}
 use Rattle.brl_pairs.specs.Listed.{AreListedEdges, IsByNumbers}
 use Rattle.brl_pairs.specs.Runs.{Behaviour, IsListed}
 use Rattle.brl_pairs.proofs.ListedLaws.{listed_push, none_listed, still_listed}
@@ -220,13 +221,7 @@ module _ {S P : Type 0} (old new : PartsView P) (stays : (k : ℕ) (p : P) → s
       → AllZip (IsNumberOf steps_of states cells new) listed (map (number_at numbers) places)
   all_numbers steps_of states cells are all numbers have =
       along-each (IsNumberOf steps_of states cells new) listed (map (number_at numbers) places) (length-map places (number_at numbers) ∙ placed.count)
-      (λ k p n p_at n_at. number_is p n (number_there numbers have k p n p_at n_at))
-    where
-      number_is : (p : P) (n : ℕ) → slice_get new.parts n ≡ Some p → IsNumberOf steps_of states cells new p n
-      number_is p n at =
-          let below = slice_get_within new.parts n p at in
-          let own = inside new.edges n (omega (arith, below, all)) in
-          record { edges = subst (λ (l : List ListedEdge). AreListedEdges states cells (steps_of p) l) (sym (ap or_no_edges own.1)) (are n p own.0 (record { part_at = at; edges_at = own.1 })) }
+      (λ k p n p_at n_at. number_is steps_of states cells new are all p n (number_there numbers have k p n p_at n_at))
 
 -- the parts that are kept, and those that are now
 pub still_kept : {S P : Type 0} (steps_of : P → List (Step S)) (before states : List S) → Stays before states → (was cells : List (List ℕ)) → Stays was cells → (old new : PartsView P) (now : List (Fresh S P)) → AreKeptParts steps_of before was old → All (IsWhole steps_of states cells) now

@@ -77,16 +77,18 @@ numbers_below parts listed numbers have k d within =
     let p = inside listed k (omega (arith, within, count)) in
     slice_get_within parts (get_or numbers k d) p.0 (have.each k p.0 (get_or numbers k d) p.1 (slice_get-get_or numbers k d within))
 
+-- the number of a kept part is one of it
+pub number_is : {S P : Type 0} (steps_of : P → List (Step S)) (states : List S) (cells : List (List ℕ)) (kept : PartsView P) → AreKeptParts steps_of states cells kept → length kept.parts ≤ length kept.edges
+    → (p : P) (n : ℕ) → slice_get kept.parts n ≡ Some p → IsNumberOf steps_of states cells kept p n
+number_is steps_of states cells kept are all p n at =
+    let below = slice_get_within kept.parts n p at in
+    let own = inside kept.edges n (omega (arith, below, all)) in
+    record { edges = subst (λ (l : List ListedEdge). AreListedEdges states cells (steps_of p) l) (sym (ap or_no_edges own.1)) (are n p own.0 (record { part_at = at; edges_at = own.1 })) }
+
 pub numbers_are : {S P : Type 0} (steps_of : P → List (Step S)) (states : List S) (cells : List (List ℕ)) (kept : PartsView P) (listed : List P) (numbers : List ℕ) → AreNumbersOf kept.parts listed numbers
     → AreKeptParts steps_of states cells kept → length kept.parts ≤ length kept.edges → AllZip (IsNumberOf steps_of states cells kept) listed numbers
-numbers_are {S} {P} steps_of states cells kept listed numbers have are all =
-    along-each (IsNumberOf steps_of states cells kept) listed numbers have.count (λ k p n p_at n_at. number_is p n (have.each k p n p_at n_at))
-  where
-    number_is : (p : P) (n : ℕ) → slice_get kept.parts n ≡ Some p → IsNumberOf steps_of states cells kept p n
-    number_is p n at =
-        let below = slice_get_within kept.parts n p at in
-        let own = inside kept.edges n (omega (arith, below, all)) in
-        record { edges = subst (λ (l : List ListedEdge). AreListedEdges states cells (steps_of p) l) (sym (ap or_no_edges own.1)) (are n p own.0 (record { part_at = at; edges_at = own.1 })) }
+numbers_are steps_of states cells kept listed numbers have are all =
+    along-each (IsNumberOf steps_of states cells kept) listed numbers have.count (λ k p n p_at n_at. number_is steps_of states cells kept are all p n (have.each k p n p_at n_at))
 
 -- ---- Some of the edges
 

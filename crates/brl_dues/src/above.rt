@@ -73,23 +73,6 @@ impl<'a> Above<'a> {
         if self.is_settled(past) {
             return Ok(true);
         }
-        self.add_open_bar(alloc, table, before, character, cased, past, found)
-    }
-
-    /// The same out of a run of capitals.
-    fn add_open_bar(
-        &self,
-        alloc: Global,
-        table: &CasedTable<'_>,
-        before: Class,
-        character: char,
-        cased: bool,
-        past: &[char],
-        found: &mut Vec<Due>,
-    ) -> Result<bool, AllocError>
-        requires { cased ≡ (has_word_capitals table.now && is_upper table.now character) }
-        ensures { IfOk result (λ whole. Adds (carry_out table.now before character past.now self.now.0 self.now.1) found.old.items found.new.items whole) }
-    {
         if cased {
             let next = table.further(before, false, character, self.others);
             if next.is_none() {

@@ -4,8 +4,10 @@ ghost use Rattle.brl_rules.specs.Text.{is_text};
 ghost use Rattle.brl_rules.specs.Translation.{translation};
 ghost use Rattle.brl_dues.specs.Due.{met_by_space};
 
+use crate::cased::CasedTable;
+use crate::letter::{new_letter_of, new_letters_of};
 use crate::parts::{DuesPart, find_parts};
-use crate::steps::{find_part_steps, find_steps};
+use crate::steps::list_steps;
 use brl_pairs::{Machine, Parted, Step};
 use brl_rules::{Class, Context, Table, choice_laws, holds, translation_laws};
 use brl_states::{Due, DueList, DuesState};
@@ -55,7 +57,9 @@ impl<'a> Machine for Dues<'a> {
     }
 
     fn moves(&self, alloc: Global, state: &DuesState) -> Result<Vec<Step<DuesState>>, AllocError> {
-        find_steps(alloc, self.table, state)
+        let table = CasedTable::new(alloc, self.table)?;
+        let letters = new_letters_of(alloc, self.table, state.dues.as_slice())?;
+        list_steps(alloc, &table, state, letters)
     }
 
     fn ends(&self, state: &DuesState) -> bool {
@@ -79,7 +83,11 @@ impl<'a> Parted for Dues<'a> {
         alloc: Global,
         part: &DuesPart,
     ) -> Result<Vec<Step<DuesState>>, AllocError> {
-        find_part_steps(alloc, self.table, part)
+        let table = CasedTable::new(alloc, self.table)?;
+        let dues = part.state.dues.as_slice();
+        let mut letters = Vec::with_capacity(alloc, 1)?;
+        letters.push(new_letter_of(alloc, self.table, part.character, dues))?;
+        list_steps(alloc, &table, &part.state, letters)
     }
 }
 

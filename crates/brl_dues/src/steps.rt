@@ -6,14 +6,12 @@ ghost use Rattle.brl_rules.specs.Places.{before_of, holds as does_hold};
 ghost use Rattle.brl_rules.specs.declared.place.Cond.TheVariants.{Any};
 ghost use Rattle.brl_dues.specs.ByFold.{AreByFold};
 ghost use Rattle.brl_dues.specs.Letters.{cased_steps, own_step, rule_step, steps_found, with_rule};
-ghost use Rattle.brl_dues.specs.Parts.{steps_of_part};
 ghost use Rattle.brl_dues.specs.Steps.{dues_steps, is_same_step, with_steps};
 
 use crate::cased::CasedTable;
 use crate::folds::{Place, by_fold, with_fold};
-use crate::letter::{Letter, new_letter_of, new_letters_of};
+use crate::letter::Letter;
 use crate::origin::Origin;
-use crate::parts::DuesPart;
 use crate::step::{Taken, step_with};
 use crate::walk::push_caps_run_steps;
 use brl_pairs::Step;
@@ -21,36 +19,8 @@ use brl_rules::{Cond, Rule, Table, holds};
 use brl_states::DuesState;
 use std::alloc::{AllocError, Global};
 
-/// The steps of a state.
-pub fn find_steps(
-    alloc: Global,
-    table: &Table,
-    state: &DuesState,
-) -> Result<Vec<Step<DuesState>>, AllocError>
-    ensures { IfOk result (λ listed. listed.items ≡ dues_steps table.now state.now) }
-{
-    let cased = CasedTable::new(alloc, table)?;
-    let letters = new_letters_of(alloc, table, state.dues.as_slice())?;
-    list_steps(alloc, &cased, state, letters)
-}
-
-/// The steps of a part of a state's steps.
-pub fn find_part_steps(
-    alloc: Global,
-    table: &Table,
-    part: &DuesPart,
-) -> Result<Vec<Step<DuesState>>, AllocError>
-    ensures { IfOk result (λ listed. listed.items ≡ steps_of_part table.now part.now) }
-{
-    let cased = CasedTable::new(alloc, table)?;
-    let dues = part.state.dues.as_slice();
-    let mut letters = Vec::with_capacity(alloc, 1)?;
-    letters.push(new_letter_of(alloc, table, part.character, dues))?;
-    list_steps(alloc, &cased, &part.state, letters)
-}
-
 /// The steps of a state that begin with one of these characters, which have no rules above yet.
-fn list_steps<'a>(
+pub fn list_steps<'a>(
     alloc: Global,
     table: &'a CasedTable<'_>,
     state: &DuesState,

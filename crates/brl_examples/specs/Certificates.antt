@@ -1,5 +1,5 @@
 -- Worked certificates and faults, written out as lines.
-use Rattle.std.specs.Prelude.{◌≡◌, ℕ, Bool, true, false, List, [], ◌∷◌, ◌++◌, map, Result, Err, codes}
+use Rattle.std.specs.Prelude.{◌≡◌, ℕ, ◌-◌, Bool, true, false, List, [], ◌∷◌, ◌++◌, drop, map, take, Result, Err, codes}
 use Rattle.std.specs.List.{flat_map}
 use Rattle.brl_cert.specs.Lines.{at_line}
 use Rattle.brl_cert.specs.declared.fault.CertFault.{CertFault}
@@ -32,26 +32,6 @@ front = codes "BRLCERT 1" ∷ codes "state 1 0 0 -" ∷ codes "state 8 0 0 61" �
 abbrev pub three_lines : List (List ℕ)
 three_lines = front ++ codes "end 3 1" ∷ []
 
--- the bytes of these lines with another header
-abbrev pub with_header : List ℕ → List ℕ
-with_header line = lines (line ∷ codes "state 1 0 0 -" ∷ codes "state 8 0 0 61" ∷ codes "state 8 0 1 -" ∷ codes "pair 1 2 -" ∷ codes "end 3 1" ∷ [])
-
--- the same with another first state
-abbrev pub with_start : List ℕ → List ℕ
-with_start line = lines (codes "BRLCERT 1" ∷ line ∷ codes "state 8 0 0 61" ∷ codes "state 8 0 1 -" ∷ codes "pair 1 2 -" ∷ codes "end 3 1" ∷ [])
-
--- the same with another second state
-abbrev pub with_state : List ℕ → List ℕ
-with_state line = lines (codes "BRLCERT 1" ∷ codes "state 1 0 0 -" ∷ line ∷ codes "state 8 0 1 -" ∷ codes "pair 1 2 -" ∷ codes "end 3 1" ∷ [])
-
--- the same with another pair
-abbrev pub with_pair : List ℕ → List ℕ
-with_pair line = lines (codes "BRLCERT 1" ∷ codes "state 1 0 0 -" ∷ codes "state 8 0 0 61" ∷ codes "state 8 0 1 -" ∷ line ∷ codes "end 3 1" ∷ [])
-
--- the same with another end line
-abbrev pub with_end : List ℕ → List ℕ
-with_end line = lines (codes "BRLCERT 1" ∷ codes "state 1 0 0 -" ∷ codes "state 8 0 0 61" ∷ codes "state 8 0 1 -" ∷ codes "pair 1 2 -" ∷ line ∷ [])
-
 -- the start alone, which certifies the empty table
 abbrev pub start_alone : Certificate
 start_alone = Window (record { states = state 1 false [] ∷ []; pairs = [] })
@@ -65,61 +45,44 @@ pub record Row : Type 0 where
 abbrev pub row : List ℕ → CertFaultKind → ℕ → Row
 row bytes wrong line = record { bytes = bytes; wrong = wrong; line = line }
 
+-- the same certificate with another line at a number, counted from 1: that line is the first faulty one
+abbrev pub with_line : ℕ → CertFaultKind → List ℕ → Row
+with_line n wrong line = row (lines (take (n - 1) three_lines ++ line ∷ drop n three_lines)) wrong n
+
+-- with each of these lines in turn
+abbrev pub with_each : ℕ → CertFaultKind → List (List ℕ) → List Row
+with_each n wrong texts = map (with_line n wrong) texts
+
+-- with one more line at a number
+abbrev pub with_more : ℕ → CertFaultKind → List ℕ → Row
+with_more n wrong line = row (lines (take (n - 1) three_lines ++ line ∷ drop (n - 1) three_lines)) wrong n
+
 abbrev pub faulty : List Row
 faulty =
-    -- no bytes at all
-    row [] Truncated 1
-    -- a last line without its line feed
-    ∷ row (lines front ++ codes "end 3 ") Truncated 6
-    -- a byte after the end line
-    ∷ row (lines three_lines ++ codes "x") Syntax 7
-    -- the end line is missing
-    ∷ row (lines front) Truncated 6
+    -- no bytes at all; a last line without its line feed; a byte after the end line; no end line
+    (row [] Truncated 1 ∷ row (lines front ++ codes "end 3 ") Truncated 6 ∷ row (lines three_lines ++ codes "x") Syntax 7 ∷ row (lines front) Truncated 6 ∷ [])
     -- a number with a leading zero
-    ∷ row (with_start (codes "state 01 0 0 -")) NotCanonical 2
-    -- a character with a leading zero
-    ∷ row (with_state (codes "state 8 0 0 061")) NotCanonical 3
-    -- a capital hexadecimal digit
-    ∷ row (with_state (codes "state 8 0 0 6A")) NotCanonical 3
-    -- a number that is no character
-    ∷ row (with_state (codes "state 8 0 0 d800")) Syntax 3
-    -- a flag of two digits
-    ∷ row (with_state (codes "state 8 00 0 61")) Syntax 3
-    -- a set of classes over 255
-    ∷ row (with_state (codes "state 256 0 0 61")) Syntax 3
-    -- two blanks between fields
-    ∷ row (with_state (codes "state 8  0 0 61")) Syntax 3
-    -- a state twice
-    ∷ row (lines (codes "BRLCERT 1" ∷ codes "state 1 0 0 -" ∷ codes "state 8 0 0 61" ∷ codes "state 8 0 0 61" ∷ codes "state 8 0 1 -" ∷ codes "pair 1 2 -" ∷ codes "end 3 1" ∷ [])) DuplicateState 4
-    -- a pair twice
-    ∷ row (lines (codes "BRLCERT 1" ∷ codes "state 1 0 0 -" ∷ codes "state 8 0 0 61" ∷ codes "state 8 0 1 -" ∷ codes "pair 1 2 -" ∷ codes "pair 1 2 -" ∷ codes "end 3 1" ∷ [])) DuplicatePair 6
-    -- a pair of a state that is not there
-    ∷ row (with_pair (codes "pair 1 3 -")) NoSuchState 5
-    -- such a pair twice: the state is missed first
-    ∷ row (lines (codes "BRLCERT 1" ∷ codes "state 1 0 0 -" ∷ codes "state 8 0 0 61" ∷ codes "state 8 0 1 -" ∷ codes "pair 1 3 -" ∷ codes "pair 1 3 -" ∷ codes "end 3 1" ∷ [])) NoSuchState 5
+    ++ with_each 2 NotCanonical (codes "state 01 0 0 -" ∷ [])
+    -- a character with a leading zero; a capital hexadecimal digit
+    ++ with_each 3 NotCanonical (codes "state 8 0 0 061" ∷ codes "state 8 0 0 6A" ∷ [])
+    -- a number that is no character; a flag of two digits; a set of classes over 255; two blanks between fields
+    ++ with_each 3 Syntax (codes "state 8 0 0 d800" ∷ codes "state 8 00 0 61" ∷ codes "state 256 0 0 61" ∷ codes "state 8  0 0 61" ∷ [])
+    -- a state twice; a pair twice
+    ++ (with_more 4 DuplicateState (codes "state 8 0 0 61") ∷ with_more 6 DuplicatePair (codes "pair 1 2 -") ∷ [])
+    -- a pair of a state that is not there; such a pair twice: the state is missed first
+    ++ (with_line 5 NoSuchState (codes "pair 1 3 -") ∷ row (lines (take 4 three_lines ++ codes "pair 1 3 -" ∷ codes "pair 1 3 -" ∷ codes "end 3 1" ∷ [])) NoSuchState 5 ∷ [])
     -- dots out of order
-    ∷ row (with_pair (codes "pair 1 2 21")) NotCanonical 5
-    -- a dot twice
-    ∷ row (with_pair (codes "pair 1 2 11")) Syntax 5
-    -- a number of a state over its range
-    ∷ row (with_pair (codes "pair 4294967296 0 -")) Syntax 5
-    -- another number of pairs
-    ∷ row (with_end (codes "end 3 2")) WrongCount 6
-    -- a blank after the end line
-    ∷ row (with_end (codes "end 3 1 ")) Syntax 6
-    -- a state after a pair
-    ∷ row (lines (codes "BRLCERT 1" ∷ codes "state 1 0 0 -" ∷ codes "state 8 0 0 61" ∷ codes "state 8 0 1 -" ∷ codes "pair 1 2 -" ∷ codes "state 9 0 0 -" ∷ codes "end 3 1" ∷ [])) Syntax 6
-    -- a line after the end line
-    ∷ row (lines (codes "BRLCERT 1" ∷ codes "state 1 0 0 -" ∷ codes "state 8 0 0 61" ∷ codes "state 8 0 1 -" ∷ codes "pair 1 2 -" ∷ codes "end 3 1" ∷ codes "" ∷ [])) Syntax 7
+    ++ with_each 5 NotCanonical (codes "pair 1 2 21" ∷ [])
+    -- a dot twice; a number of a state over its range
+    ++ with_each 5 Syntax (codes "pair 1 2 11" ∷ codes "pair 4294967296 0 -" ∷ [])
+    -- another number of pairs; a blank after the end line
+    ++ (with_line 6 WrongCount (codes "end 3 2") ∷ with_line 6 Syntax (codes "end 3 1 ") ∷ [])
+    -- a state after a pair; a line after the end line
+    ++ (with_more 6 Syntax (codes "state 9 0 0 -") ∷ with_more 7 Syntax (codes "") ∷ [])
     -- states of another version than the header's
-    ∷ row (with_header (codes "BRLCERT 2")) Syntax 2
-    -- a version that is not known
-    ∷ row (with_header (codes "BRLCERT 9")) Version 1
-    -- a version with a leading zero: its spelling is tested first
-    ∷ row (with_header (codes "BRLCERT 09")) NotCanonical 1
-    -- a version over its range
-    ∷ row (with_header (codes "BRLCERT 4294967296")) Syntax 1
-    ∷ []
+    ++ (row (lines (codes "BRLCERT 2" ∷ drop 1 three_lines)) Syntax 2 ∷ [])
+    -- a version that is not known; one with a leading zero, as its spelling is tested first; one over its range
+    ++ (with_line 1 Version (codes "BRLCERT 9") ∷ with_line 1 NotCanonical (codes "BRLCERT 09") ∷ with_line 1 Syntax (codes "BRLCERT 4294967296") ∷ [])
 
 -- each row is refused as it says
 abbrev pub AreRefused : List Row → Type 0

@@ -40,13 +40,6 @@ impl<T: Key> Members<T> {
         self.items.len()
     }
 
-    /// Whether there are no members.
-    pub fn is_empty(&self) -> bool
-        ensures { IsTrue result ↔ (self.now ≡ []) }
-    {
-        self.items.is_empty()
-    }
-
     /// The member with this number, from 0.
     pub fn get(&self, index: usize) -> Option<&T>
         ensures { option_copied result ≡ slice_get self.now index }

@@ -68,11 +68,14 @@ lines_in lines path = count_by (λ line. bytes_eq path line.file) lines
 abbrev pub faulty_in : List FaultyLineView → List ℕ → ℕ
 faulty_in found path = count_by (λ faulty. bytes_eq path faulty.fault.file) found
 
+-- the line of the file at a path, where this many of its lines are faulty
+abbrev pub read_in_file : List ℕ → ℕ → ℕ → List ℕ
+read_in_file path faulty lines = codes "file " ++ path ++ codes ": " ++ read_line faulty lines
+
 -- the line of a file that has faulty lines; empty for another
 abbrev pub file_line : List FaultyLineView → List LineView → List ℕ → List ℕ
 file_line found lines path =
-    if nat_lt 0 (faulty_in found path) then codes "file " ++ path ++ codes ": " ++ read_line (faulty_in found path) (lines_in lines path)
-    else []
+    if nat_lt 0 (faulty_in found path) then read_in_file path (faulty_in found path) (lines_in lines path) else []
 
 -- the opcodes of faulty lines
 abbrev pub opcodes_of : List FaultyLineView → List (List ℕ)
@@ -115,8 +118,7 @@ kept_in files path = count_by (bytes_eq path) files
 -- the line of a file that has lines which are left out; empty for another
 abbrev pub cut_file_line : List FaultyLineView → List (List ℕ) → List ℕ → List ℕ
 cut_file_line left_out files path =
-    if nat_lt 0 (faulty_in left_out path) then codes "file " ++ path ++ codes ": " ++ read_line (faulty_in left_out path) (kept_in files path + faulty_in left_out path)
-    else []
+    if nat_lt 0 (faulty_in left_out path) then read_in_file path (faulty_in left_out path) (kept_in files path + faulty_in left_out path) else []
 
 -- the report of a cut that left these lines out, of files with these paths, and rewrote this many,
 -- where lines might be rewritten; and of each line that is kept, the path of its file

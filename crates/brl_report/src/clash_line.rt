@@ -4,7 +4,7 @@ ghost use Rattle.brl_lines.specs.Views.{line_view};
 ghost use Rattle.brl_report.specs.ClashLine.{clash_line, diverges_by, rules_note, spelled_after, texts_note};
 ghost use Rattle.brl_rules.specs.Translation.{IsClash};
 
-use crate::rules::{RuleForm, push_after_blanks, push_rule};
+use crate::rules::{Lined, RuleForm, push_after_blanks};
 use crate::steps::{common_prefix, report_steps};
 use brl_cells::write_dots;
 use brl_forward::Clash;
@@ -29,7 +29,12 @@ pub fn push_clash_line(
 {
     push_texts(alloc, clash, text)?;
     push_after_blanks(text, write_dots(alloc, clash.cells())?.as_str())?;
-    push_rules(alloc, table, lines, clash, rules, text)?;
+    let lined = Lined {
+        alloc,
+        table,
+        lines,
+    };
+    push_rules(&lined, clash, rules, text)?;
     text.push('\n')
 }
 
@@ -56,22 +61,20 @@ fn push_spelled(
 
 /// Appends two rules, that of the left text of a clash first.
 fn push_rules(
-    alloc: Global,
-    table: &Table,
-    lines: &[Line<'_>],
+    lined: &Lined<'_>,
     clash: &Clash,
     rules: (u32, u32),
     text: &mut String,
 ) -> Result<(), AllocError>
-    requires { IsClash table.now clash.now.left clash.now.right clash.now.cells }
-    ensures { OnOk result (string_bytes text.new ≡ string_bytes text.old ++ rules_note table.now (map line_view lines.now) clash.now rules.0 rules.1) }
+    requires { IsClash lined.now.table.now clash.now.left clash.now.right clash.now.cells }
+    ensures { OnOk result (string_bytes text.new ≡ string_bytes text.old ++ rules_note lined.now.table.now (map line_view lined.now.lines.now) clash.now rules.0 rules.1) }
 {
     let (mut first, mut second) = rules;
-    if !diverges_by(alloc, table, clash, first)? {
+    if !diverges_by(lined.alloc, lined.table, clash, first)? {
         (first, second) = (second, first);
     }
-    push_rule(alloc, table, lines, first, RuleForm::Note, text)?;
-    push_rule(alloc, table, lines, second, RuleForm::Note, text)
+    lined.push_rule(first, RuleForm::Note, text)?;
+    lined.push_rule(second, RuleForm::Note, text)
 }
 
 /// Whether the left text's first step that the right one doesn't have is one of this rule.

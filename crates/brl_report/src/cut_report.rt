@@ -5,7 +5,7 @@ ghost use Rattle.brl_table.specs.Survey.{faulty_line_view};
 ghost use Rattle.brl_report.specs.Survey.{IsCutText, cut_file_line, kept_in, kept_note, rewritten_note};
 
 use crate::counts::counts_of;
-use crate::survey::{count_faulty, push_counts, push_read};
+use crate::survey::{count_faulty, push_counts, push_file_read};
 use brl_cut::Cut;
 use brl_table::FaultyLine;
 use std::alloc::{AllocError, Global};
@@ -78,14 +78,10 @@ fn push_file(
 ) -> Result<(), AllocError>
     ensures { OnOk result (string_bytes text.new ≡ string_bytes text.old ++ cut_file_line (map faulty_line_view left_out.now) (map string_bytes files.now) path.now) }
 {
-    let faulty = count_faulty(left_out, path);
-    if faulty == 0 {
-        return Ok(());
+    match count_faulty(left_out, path) {
+        0 => Ok(()),
+        faulty => push_file_read(text, path, faulty, count_kept(files, path) + faulty),
     }
-    text.push_str("file ")?;
-    text.push_str(path)?;
-    text.push_str(": ")?;
-    push_read(text, faulty, count_kept(files, path) + faulty)
 }
 
 /// How many of these paths are this one.

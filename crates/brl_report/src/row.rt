@@ -186,7 +186,7 @@ impl Row {
     }
 }
 
-/// Appends a column to a text, after two blanks.
+/// Appends a column to a text, after two blanks, and padded with blanks to a width.
 fn push_column(
     alloc: Global,
     text: &mut String,
@@ -196,7 +196,9 @@ fn push_column(
     ensures { OnOk result (string_bytes text.new ≡ string_bytes text.old ++ column width entry.now) }
 {
     text.push_str("  ")?;
-    push_filled(alloc, text, entry, width)
+    text.push_str(entry)?;
+    let blanks = " ".repeat(alloc, width.saturating_sub(entry.width()))?;
+    text.push_str(blanks.as_str())
 }
 
 /// The same of a column that may not be there.
@@ -212,20 +214,6 @@ fn push_column_if(
         Some(entry) => push_column(alloc, text, entry.as_str(), width),
         None => Ok(()),
     }
-}
-
-/// Appends a column to a text, padded with blanks to a width.
-fn push_filled(
-    alloc: Global,
-    text: &mut String,
-    entry: &str,
-    width: usize,
-) -> Result<(), AllocError>
-    ensures { OnOk result (string_bytes text.new ≡ string_bytes text.old ++ filled width entry.now) }
-{
-    text.push_str(entry)?;
-    let blanks = " ".repeat(alloc, width.saturating_sub(entry.width()))?;
-    text.push_str(blanks.as_str())
 }
 
 /// The widths of the columns before the location.

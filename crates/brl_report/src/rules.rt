@@ -13,7 +13,6 @@ ghost use Rattle.brl_report.specs.Rules.{
   listed_text,
   listed_view,
   noted_rule,
-  number_and_opcode,
   opcode_at as opcode_among,
   own_definition,
   rule_count as count_of_rules,
@@ -33,6 +32,14 @@ use brl_rules::{Sign, Table};
 use brl_table::indicator_named;
 use std::alloc::{AllocError, Global};
 use std::slice;
+
+/// A table, and the lines of its files.
+#[derive(Clone, Copy)]
+pub(crate) struct Lined<'a> {
+    pub alloc: Global,
+    pub table: &'a Table,
+    pub lines: &'a [Line<'a>],
+}
 
 /// A rule as it is listed: its characters, its cells, and the file and line of its definition.
 #[derive(Clone, Copy)]
@@ -92,144 +99,118 @@ pub fn rules_report(
 ) -> Result<String, AllocError>
     ensures { IfOk result (λ text. string_bytes text ≡ rules_text table.now (map line_view lines.now) numbers.now) }
 {
+    let lined = Lined {
+        alloc,
+        table,
+        lines,
+    };
     let mut text = String::new(alloc);
     for number in numbers {
-        push_rule(alloc, table, lines, *number, RuleForm::Line, &mut text)?;
+        lined.push_rule(*number, RuleForm::Line, &mut text)?;
     }
     Ok(text)
 }
 
-/// Appends the rule with a number in a form, if there is one.
-pub(crate) fn push_rule(
-    alloc: Global,
-    table: &Table,
-    lines: &[Line<'_>],
-    number: u32,
-    form: RuleForm,
-    text: &mut String,
-) -> Result<(), AllocError>
-    ensures { OnOk result (string_bytes text.new ≡ string_bytes text.old ++ rule_text form table.now (map line_view lines.now) number) }
-{
-    table.law();
-    let Some(rule) = table.rules_in_rank().get(number as usize) else {
-        return push_own(alloc, table, lines, number, form, text);
-    };
-    let listed = Listed {
-        characters: rule.chars.as_slice(),
-        cells: rule.cells.as_slice(),
-        file: rule.file,
-        line: rule.line,
-    };
-    push_listed(alloc, table, lines, number, form, listed, text)
-}
-
-/// Appends the own definition of a character in a form, if one has this number.
-fn push_own(
-    alloc: Global,
-    table: &Table,
-    lines: &[Line<'_>],
-    number: u32,
-    form: RuleForm,
-    text: &mut String,
-) -> Result<(), AllocError>
-    requires { length table.now.rules ≤ number }
-    ensures { let written = listed_text form table.now (map line_view lines.now) number in
-        OnOk result (string_bytes text.new ≡ string_bytes text.old ++ option_map_or written (own_definition table.now (number - length table.now.rules)) []) }
-{
-    table.law();
-    let place = number - table.rules_in_rank().len() as u32;
-    if place as usize >= table.char_count() {
-        return Ok(());
+impl<'a> Lined<'a> {
+    /// Appends the rule with a number in a form, if there is one.
+    pub(crate) fn push_rule(
+        &self,
+        number: u32,
+        form: RuleForm,
+        text: &mut String,
+    ) -> Result<(), AllocError>
+        ensures { OnOk result (string_bytes text.new ≡ string_bytes text.old ++ rule_text form self.now.table.now (map line_view self.now.lines.now) number) }
+    {
+        self.table.law();
+        let Some(rule) = self.table.rules_in_rank().get(number as usize) else {
+            return self.push_own(number, form, text);
+        };
+        let listed = Listed {
+            characters: rule.chars.as_slice(),
+            cells: rule.cells.as_slice(),
+            file: rule.file,
+            line: rule.line,
+        };
+        self.push_listed(number, form, listed, text)
     }
-    let character = table.char_at(place);
-    let Some(info) = table.info(character) else {
-        return Ok(());
-    };
-    let listed = Listed {
-        characters: slice::from_ref(&character),
-        cells: info.cells.as_slice(),
-        file: info.file,
-        line: info.line,
-    };
-    push_listed(alloc, table, lines, number, form, listed, text)
-}
 
-/// Appends a rule with this number in a form.
-fn push_listed(
-    alloc: Global,
-    table: &Table,
-    lines: &[Line<'_>],
-    number: u32,
-    form: RuleForm,
-    listed: Listed<'_>,
-    text: &mut String,
-) -> Result<(), AllocError>
-    requires { listed.file < length table.now.files }
-    ensures { OnOk result (string_bytes text.new ≡ string_bytes text.old ++ listed_text form table.now (map line_view lines.now) number (listed_view listed.entry)) }
-{
-    match form {
-        RuleForm::Line => push_listed_line(alloc, table, lines, number, listed, text),
-        RuleForm::Note => push_note(alloc, table, lines, listed, text),
-        RuleForm::Source => {
-            let place = Wanted::At(table.file_name(listed.file), listed.line);
-            push_source(lines, place, text)
+    /// Appends the own definition of a character in a form, if one has this number.
+    fn push_own(&self, number: u32, form: RuleForm, text: &mut String) -> Result<(), AllocError>
+        requires { length self.now.table.now.rules ≤ number }
+        ensures { let written = listed_text form self.now.table.now (map line_view self.now.lines.now) number in
+            OnOk result (string_bytes text.new ≡ string_bytes text.old ++ option_map_or written (own_definition self.now.table.now (number - length self.now.table.now.rules)) []) }
+    {
+        self.table.law();
+        let place = number - self.table.rules_in_rank().len() as u32;
+        if place as usize >= self.table.char_count() {
+            return Ok(());
+        }
+        let character = self.table.char_at(place);
+        let Some(info) = self.table.info(character) else {
+            return Ok(());
+        };
+        let listed = Listed {
+            characters: slice::from_ref(&character),
+            cells: info.cells.as_slice(),
+            file: info.file,
+            line: info.line,
+        };
+        self.push_listed(number, form, listed, text)
+    }
+
+    /// Appends a rule with this number in a form.
+    fn push_listed(
+        &self,
+        number: u32,
+        form: RuleForm,
+        listed: Listed<'_>,
+        text: &mut String,
+    ) -> Result<(), AllocError>
+        requires { listed.file < length self.now.table.now.files }
+        ensures { OnOk result (string_bytes text.new ≡ string_bytes text.old ++ listed_text form self.now.table.now (map line_view self.now.lines.now) number (listed_view listed.entry)) }
+    {
+        match form {
+            RuleForm::Line => self.push_listed_line(number, listed, text),
+            RuleForm::Note => self.push_note(listed, text),
+            RuleForm::Source => {
+                let place = Wanted::At(self.table.file_name(listed.file), listed.line);
+                push_source(self.lines, place, text)
+            }
         }
     }
-}
 
-/// Appends the line of a rule with this number.
-fn push_listed_line(
-    alloc: Global,
-    table: &Table,
-    lines: &[Line<'_>],
-    number: u32,
-    listed: Listed<'_>,
-    text: &mut String,
-) -> Result<(), AllocError>
-    requires { listed.file < length table.now.files }
-    ensures { OnOk result (string_bytes text.new ≡ string_bytes text.old ++ listed_line table.now (map line_view lines.now) number (listed_view listed.entry)) }
-{
-    push_number_and_opcode(table, lines, number, listed, text)?;
-    push_after_blanks(text, spell_chars(alloc, listed.characters)?.as_str())?;
-    push_after_blanks(text, write_dots(alloc, listed.cells)?.as_str())?;
-    let place = place_text(alloc, table, listed.file, listed.line)?;
-    push_after_blanks(text, place.as_str())?;
-    text.push('\n')
-}
+    /// Appends the line of a rule with this number.
+    fn push_listed_line(
+        &self,
+        number: u32,
+        listed: Listed<'_>,
+        text: &mut String,
+    ) -> Result<(), AllocError>
+        requires { listed.file < length self.now.table.now.files }
+        ensures { OnOk result (string_bytes text.new ≡ string_bytes text.old ++ listed_line self.now.table.now (map line_view self.now.lines.now) number (listed_view listed.entry)) }
+    {
+        write!(text, "{number}")?;
+        let opcode = opcode_at(self.table.file_name(listed.file), listed.line, self.lines);
+        push_after_blanks(text, opcode)?;
+        push_after_blanks(text, spell_chars(self.alloc, listed.characters)?.as_str())?;
+        push_after_blanks(text, write_dots(self.alloc, listed.cells)?.as_str())?;
+        let place = place_text(self.alloc, self.table, listed.file, listed.line)?;
+        push_after_blanks(text, place.as_str())?;
+        text.push('\n')
+    }
 
-/// Appends the file and line of a rule, its opcode and its characters, after two blanks.
-fn push_note(
-    alloc: Global,
-    table: &Table,
-    lines: &[Line<'_>],
-    listed: Listed<'_>,
-    text: &mut String,
-) -> Result<(), AllocError>
-    requires { listed.file < length table.now.files }
-    ensures { OnOk result (string_bytes text.new ≡ string_bytes text.old ++ noted_rule table.now (map line_view lines.now) (listed_view listed.entry)) }
-{
-    let place = place_text(alloc, table, listed.file, listed.line)?;
-    push_after_blanks(text, place.as_str())?;
-    text.push(' ')?;
-    text.push_str(opcode_at(table.file_name(listed.file), listed.line, lines))?;
-    text.push(' ')?;
-    text.push_str(spell_chars(alloc, listed.characters)?.as_str())
-}
-
-/// Appends the number of a rule, and its opcode.
-fn push_number_and_opcode(
-    table: &Table,
-    lines: &[Line<'_>],
-    number: u32,
-    listed: Listed<'_>,
-    text: &mut String,
-) -> Result<(), AllocError>
-    requires { listed.file < length table.now.files }
-    ensures { OnOk result (string_bytes text.new ≡ string_bytes text.old ++ number_and_opcode table.now (map line_view lines.now) number (listed_view listed.entry)) }
-{
-    write!(text, "{number}")?;
-    let opcode = opcode_at(table.file_name(listed.file), listed.line, lines);
-    push_after_blanks(text, opcode)
+    /// Appends the file and line of a rule, its opcode and its characters, after two blanks.
+    fn push_note(&self, listed: Listed<'_>, text: &mut String) -> Result<(), AllocError>
+        requires { listed.file < length self.now.table.now.files }
+        ensures { OnOk result (string_bytes text.new ≡ string_bytes text.old ++ noted_rule self.now.table.now (map line_view self.now.lines.now) (listed_view listed.entry)) }
+    {
+        let place = place_text(self.alloc, self.table, listed.file, listed.line)?;
+        push_after_blanks(text, place.as_str())?;
+        text.push(' ')?;
+        text.push_str(opcode_at(self.table.file_name(listed.file), listed.line, self.lines))?;
+        text.push(' ')?;
+        text.push_str(spell_chars(self.alloc, listed.characters)?.as_str())
+    }
 }
 
 /// Appends an entry after two blanks.

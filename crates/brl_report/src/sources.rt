@@ -3,7 +3,7 @@ ghost use Rattle.std.specs.Prelude.{◌≡◌, ◌++◌, IfOk, OnOk, flat_map, m
 ghost use Rattle.brl_lines.specs.Views.{line_view};
 ghost use Rattle.brl_report.specs.Sources.{sign_source, sign_sources, step_sources};
 
-use crate::rules::{RuleForm, Wanted, push_rule, push_source};
+use crate::rules::{Lined, RuleForm, Wanted, push_source};
 use crate::steps::ReportStep;
 use brl_lines::Line;
 use brl_rules::{Info, Sign, Table};
@@ -24,14 +24,12 @@ pub fn step_sources(
         return Ok(text);
     }
     push_sign_sources(table, lines, step, &mut text)?;
-    push_rule(
+    let lined = Lined {
         alloc,
         table,
         lines,
-        step.step.rule,
-        RuleForm::Source,
-        &mut text,
-    )?;
+    };
+    lined.push_rule(step.step.rule, RuleForm::Source, &mut text)?;
     Ok(text)
 }
 

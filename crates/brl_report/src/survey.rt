@@ -2,6 +2,7 @@
 ghost use Rattle.std.specs.Prelude.{◌≡◌, ◌++◌, [], IfOk, OnOk, count_by, flat_map, if◌then◌else◌, map, string_bytes};
 ghost use Rattle.std.specs.Str.{bytes_eq};
 ghost use Rattle.brl_lines.specs.Views.{line_view};
+ghost use Rattle.brl_table.specs.Liblouis.{origin_of as origin_of_opcode};
 ghost use Rattle.brl_table.specs.Survey.{faulty_line_view, findings_view};
 ghost use Rattle.brl_report.specs.Survey.{
   IsSurveyText,
@@ -13,6 +14,7 @@ ghost use Rattle.brl_report.specs.Survey.{
   lines_in,
   origin_note,
   pass_note,
+  read_in_file,
   read_line,
 };
 
@@ -89,15 +91,15 @@ fn push_count(text: &mut String, count: &OpcodeCount) -> Result<(), AllocError>
     text.push_str("opcode ")?;
     text.push_str(opcode)?;
     write!(text, ": {lines}")?;
-    text.push_str(origin_text(origin_of(opcode)))?;
+    text.push_str(origin_text(opcode))?;
     text.push('\n')
 }
 
-/// What the line of a count says of whose opcode it is.
-fn origin_text(origin: OpcodeOrigin) -> &'static str
-    ensures { result.now ≡ origin_note origin }
+/// What the line of a count says of whose opcode this is.
+fn origin_text(opcode: &str) -> &'static str
+    ensures { result.now ≡ origin_note (origin_of_opcode opcode.now) }
 {
-    match origin {
+    match origin_of(opcode) {
         OpcodeOrigin::Profile => "",
         OpcodeOrigin::Liblouis => " (not in the profile)",
         OpcodeOrigin::Unknown => " (not in liblouis)",
@@ -129,14 +131,10 @@ fn push_file(
 ) -> Result<(), AllocError>
     ensures { OnOk result (string_bytes text.new ≡ string_bytes text.old ++ file_line (map faulty_line_view found.now) (map line_view lines.now) path.now) }
 {
-    let faulty = count_faulty(found, path);
-    if faulty == 0 {
-        return Ok(());
+    match count_faulty(found, path) {
+        0 => Ok(()),
+        faulty => push_file_read(text, path, faulty, count_lines(lines, path)),
     }
-    text.push_str("file ")?;
-    text.push_str(path)?;
-    text.push_str(": ")?;
-    push_read(text, faulty, count_lines(lines, path))
 }
 
 /// How many of the faulty lines are of the file at a path.
@@ -170,8 +168,23 @@ fn push_notes(text: &mut String, found: &Findings) -> Result<(), AllocError>
     Ok(())
 }
 
+/// Appends the line of the file at a path, where this many of its lines are faulty.
+pub(crate) fn push_file_read(
+    text: &mut String,
+    path: &str,
+    faulty: usize,
+    lines: usize,
+) -> Result<(), AllocError>
+    ensures { OnOk result (string_bytes text.new ≡ string_bytes text.old ++ read_in_file path.now faulty lines) }
+{
+    text.push_str("file ")?;
+    text.push_str(path)?;
+    text.push_str(": ")?;
+    push_read(text, faulty, lines)
+}
+
 /// Appends how many lines are read: all but the faulty ones.
-pub(crate) fn push_read(text: &mut String, faulty: usize, lines: usize) -> Result<(), AllocError>
+fn push_read(text: &mut String, faulty: usize, lines: usize) -> Result<(), AllocError>
     ensures { OnOk result (string_bytes text.new ≡ string_bytes text.old ++ read_line faulty lines) }
 {
     let read = lines.saturating_sub(faulty);

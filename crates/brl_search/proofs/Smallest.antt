@@ -1,6 +1,10 @@
 -- When no character can be left out of the texts of a clash.
 use Rattle.std.proofs.Common.{◌≡◌, ℕ, ◌≤◌, inl, inr, IsTrue, List, Option, length, sym, ap, subst, arith}
+use Rattle.std.specs.Prelude.{Result, Ok, Err, IfErr}
 use Rattle.std.specs.List.{remove, remove_range}
+use Rattle.brl_failure.specs.Failure.{IfFault}
+use Rattle.brl_failure.specs.declared.failure.Failure.{Failure}
+use Rattle.brl_failure.specs.declared.failure.Failure.TheVariants as failures
 use Rattle.brl_forward.specs.Faults.{IsFaultOf, IsFaultOfTwo}
 use Rattle.brl_forward.specs.declared.fault.ConfirmFault.{ConfirmFault}
 use Rattle.brl_forward.specs.declared.fault.ConfirmFault.TheVariants as confirm
@@ -18,12 +22,24 @@ use Rattle.brl_search.proofs.Parts.{part-is, part-part, part-self, remove-past}
 
 -- ---- Texts of the table have no fault
 
-pub no_fault : (t : TableView) (text : List ℕ) (fault : ForwardFault) → IsTrue (is_text t text) → IsFaultOf t text fault → ⊥
+no_fault : (t : TableView) (text : List ℕ) (fault : ForwardFault) → IsTrue (is_text t text) → IsFaultOf t text fault → ⊥
 no_fault t text (forward.UnknownChar place) is fault = (let none = first_unknown-of_text t text is in cc)
 
-pub no_fault_of_two : (t : TableView) (left right : List ℕ) (fault : ConfirmFault) → IsTrue (is_text t left) → IsTrue (is_text t right) → IsFaultOfTwo t left right fault → ⊥
+no_fault_of_two : (t : TableView) (left right : List ℕ) (fault : ConfirmFault) → IsTrue (is_text t left) → IsTrue (is_text t right) → IsFaultOfTwo t left right fault → ⊥
 no_fault_of_two t left right (confirm.UnknownChar Left place) is other fault = (let none = first_unknown-of_text t left is in cc)
 no_fault_of_two t left right (confirm.UnknownChar Right place) is other fault = (let none = first_unknown-of_text t right other in let there = fault.1 in cc)
+
+-- what is asked of a text of the table's characters has no fault
+pub faultless_text : {T : Type 0} (t : TableView) (text : List ℕ) (outcome : Result T (Failure ForwardFault)) → IsTrue (is_text t text) → IfErr outcome (IfFault (IsFaultOf t text)) → IfErr outcome (IfFault (λ _. ⊥))
+faultless_text t text (Ok value) is fault = tt
+faultless_text t text (Err failures.Memory) is fault = tt
+faultless_text t text (Err (failures.Fault fault)) is applies = no_fault t text fault is applies
+
+-- what is asked of two such texts has none
+pub faultless_texts : {T : Type 0} (t : TableView) (left right : List ℕ) (outcome : Result T (Failure ConfirmFault)) → IsTrue (is_text t left) → IsTrue (is_text t right) → IfErr outcome (IfFault (IsFaultOfTwo t left right)) → IfErr outcome (IfFault (λ _. ⊥))
+faultless_texts t left right (Ok value) is other fault = tt
+faultless_texts t left right (Err failures.Memory) is other fault = tt
+faultless_texts t left right (Err (failures.Fault fault)) is other applies = no_fault_of_two t left right fault is other applies
 
 -- ---- Parts of the texts of a clash
 

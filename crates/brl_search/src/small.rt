@@ -11,6 +11,15 @@ use brl_forward::{Clash, clash_of};
 use brl_rules::Table;
 use std::alloc::{AllocError, Global};
 
+/// Which clashes count: those of a table, and where a pair of rules is given, of texts whose traces
+/// diverge at it.
+#[derive(Clone, Copy)]
+struct Wanted<'a> {
+    alloc: Global,
+    table: &'a Table,
+    rules: Option<(u32, u32)>,
+}
+
 /// The clash of two texts that are known to clash, made small: characters are left out of both until
 /// no one character of either text, nor one of each, can be left out so that they clash. Where a pair
 /// of rules is given, at which the traces of the two texts diverge, only such clashes count.
@@ -32,155 +41,133 @@ pub fn small_clash_of(
     ensures right { IfOk result (λ clash. IsPartOf clash.right texts.right.items) }
     ensures small { IfOk result (λ clash. IsSmall table.now rules clash.left clash.right) }
 {
-    let shorter = without_blocks(alloc, table, texts, rules)?;
-    let small = without_characters(alloc, table, shorter, rules)?;
+    let wanted = Wanted {
+        alloc,
+        table,
+        rules,
+    };
+    let shorter = wanted.without_blocks(texts)?;
+    let small = wanted.without_characters(shorter)?;
     clash_of(alloc, table, small.left, small.right)
 }
 
-/// Two texts that clash, without blocks of their first characters: first long blocks, then shorter
-/// ones.
-fn without_blocks(
-    alloc: Global,
-    table: &Table,
-    given: Texts,
-    rules: Option<(u32, u32)>,
-) -> Result<Texts, AllocError>
-    requires { ClashAt table.now rules given.left.items given.right.items }
-    ensures { IfOk result (Keeps table.now rules given) }
-{
-    let mut size = given.left.len() / 2;
-    let mut texts = given;
-    while size > 0 {
-        texts = without_blocks_of(alloc, table, texts, rules, size)?;
-        size /= 2;
+impl<'a> Wanted<'a> {
+    /// Two texts that clash, without blocks of their first characters: first long blocks, then shorter
+    /// ones.
+    fn without_blocks(&self, given: Texts) -> Result<Texts, AllocError>
+        requires { ClashAt self.now.table.now self.now.rules given.left.items given.right.items }
+        ensures { IfOk result (Keeps self.now.table.now self.now.rules given) }
+    {
+        let mut size = given.left.len() / 2;
+        let mut texts = given;
+        while size > 0 {
+            texts = self.without_blocks_of(texts, size)?;
+            size /= 2;
+        }
+        Ok(texts)
     }
-    Ok(texts)
-}
 
-/// Two texts that clash, without each block of this many characters that can be left out of both at
-/// one place.
-fn without_blocks_of(
-    alloc: Global,
-    table: &Table,
-    given: Texts,
-    rules: Option<(u32, u32)>,
-    size: usize,
-) -> Result<Texts, AllocError>
-    requires clash { ClashAt table.now rules given.left.items given.right.items }
-    requires size { 0 < size }
-    ensures { IfOk result (Keeps table.now rules given) }
-{
-    let mut texts = given;
-    let mut start: usize = 0;
-    while start < texts.left.len() && start < texts.right.len() {
-        let end = start.saturating_add(size);
-        let next = texts.without(alloc, start..end, start..end)?;
-        if clash_at(alloc, table, &next, rules)? {
+    /// Two texts that clash, without each block of this many characters that can be left out of both at
+    /// one place.
+    fn without_blocks_of(&self, given: Texts, size: usize) -> Result<Texts, AllocError>
+        requires clash { ClashAt self.now.table.now self.now.rules given.left.items given.right.items }
+        requires size { 0 < size }
+        ensures { IfOk result (Keeps self.now.table.now self.now.rules given) }
+    {
+        let mut texts = given;
+        let mut start: usize = 0;
+        while start < texts.left.len() && start < texts.right.len() {
+            let end = start.saturating_add(size);
+            let next = texts.without(self.alloc, start..end, start..end)?;
+            if clash_at(self.alloc, self.table, &next, self.rules)? {
+                texts = next;
+            } else {
+                start = end;
+            }
+        }
+        Ok(texts)
+    }
+
+    /// Two texts that clash, without one character of one or of each as often as they clash then.
+    fn without_characters(&self, given: Texts) -> Result<Texts, AllocError>
+        requires { ClashAt self.now.table.now self.now.rules given.left.items given.right.items }
+        ensures texts { IfOk result (Keeps self.now.table.now self.now.rules given) }
+        ensures small { IfOk result (λ texts. IsSmall self.now.table.now self.now.rules texts.left.items texts.right.items) }
+    {
+        let mut texts = given;
+        while let Some(next) = self.without_one(&texts)? {
             texts = next;
-        } else {
-            start = end;
         }
+        Ok(texts)
     }
-    Ok(texts)
-}
 
-/// Two texts that clash, without one character of one or of each as often as they clash then.
-fn without_characters(
-    alloc: Global,
-    table: &Table,
-    given: Texts,
-    rules: Option<(u32, u32)>,
-) -> Result<Texts, AllocError>
-    requires { ClashAt table.now rules given.left.items given.right.items }
-    ensures texts { IfOk result (Keeps table.now rules given) }
-    ensures small { IfOk result (λ texts. IsSmall table.now rules texts.left.items texts.right.items) }
-{
-    let mut texts = given;
-    while let Some(next) = without_one(alloc, table, &texts, rules)? {
-        texts = next;
-    }
-    Ok(texts)
-}
-
-/// Two texts without one character of one or of each, if they clash then.
-fn without_one(
-    alloc: Global,
-    table: &Table,
-    texts: &Texts,
-    rules: Option<(u32, u32)>,
-) -> Result<Option<Texts>, AllocError>
-    requires { ClashAt table.now rules texts.now.left.items texts.now.right.items }
-    ensures keeps { IfOk result (λ found. IfSome found (Keeps table.now rules texts.now)) }
-    ensures smaller { IfOk result (λ found. IfSome found (λ next. size_of next < size_of texts.now)) }
-    ensures none { IfOk result (λ found. IfNone found (IsSmall table.now rules texts.now.left.items texts.now.right.items)) }
-{
-    let keys = Keys {
-        left: keys_of(alloc, table, texts.left.as_slice())?,
-        right: keys_of(alloc, table, texts.right.as_slice())?,
-    };
-    for place in 0..keys.left.len() {
-        let found = without_one_at(alloc, table, texts, rules, &keys, place)?;
-        if found.is_some() {
-            return Ok(found);
-        }
-    }
-    Ok(None)
-}
-
-/// Two texts without the character at a place of the left one, and without none or one of the right
-/// one, if they clash then. The place after the last character stands for the whole text.
-fn without_one_at(
-    alloc: Global,
-    table: &Table,
-    texts: &Texts,
-    rules: Option<(u32, u32)>,
-    keys: &Keys,
-    place: usize,
-) -> Result<Option<Texts>, AllocError>
-    requires clash { ClashAt table.now rules texts.now.left.items texts.now.right.items }
-    requires left { AreKeysOf table.now texts.now.left.items keys.now.left.items }
-    requires right { AreKeysOf table.now texts.now.right.items keys.now.right.items }
-    requires place { place ≤ length texts.now.left.items }
-    ensures keeps { IfOk result (λ found. IfSome found (Keeps table.now rules texts.now)) }
-    ensures smaller { IfOk result (λ found. IfSome found (λ next. size_of next < size_of texts.now)) }
-    ensures none { IfOk result (λ found. IfNone found
-        ((other : ℕ) → other ≤ length texts.now.right.items → IsNone table.now rules texts.now place other)) }
-{
-    for other in 0..keys.right.len() {
-        if keys.left[place] == keys.right[other] {
-            let found = clash_without(alloc, table, texts, rules, (place, other))?;
+    /// Two texts without one character of one or of each, if they clash then.
+    fn without_one(&self, texts: &Texts) -> Result<Option<Texts>, AllocError>
+        requires { ClashAt self.now.table.now self.now.rules texts.now.left.items texts.now.right.items }
+        ensures keeps { IfOk result (λ found. IfSome found (Keeps self.now.table.now self.now.rules texts.now)) }
+        ensures smaller { IfOk result (λ found. IfSome found (λ next. size_of next < size_of texts.now)) }
+        ensures none { IfOk result (λ found. IfNone found (IsSmall self.now.table.now self.now.rules texts.now.left.items texts.now.right.items)) }
+    {
+        let keys = Keys {
+            left: keys_of(self.alloc, self.table, texts.left.as_slice())?,
+            right: keys_of(self.alloc, self.table, texts.right.as_slice())?,
+        };
+        for place in 0..keys.left.len() {
+            let found = self.without_one_at(texts, &keys, place)?;
             if found.is_some() {
                 return Ok(found);
             }
         }
-    }
-    Ok(None)
-}
-
-/// Two texts without the characters at two places, if one of the places is in its text and they
-/// clash then.
-fn clash_without(
-    alloc: Global,
-    table: &Table,
-    texts: &Texts,
-    rules: Option<(u32, u32)>,
-    places: (usize, usize),
-) -> Result<Option<Texts>, AllocError>
-    requires clash { ClashAt table.now rules texts.now.left.items texts.now.right.items }
-    requires left { places.0 ≤ length texts.now.left.items }
-    requires right { places.1 ≤ length texts.now.right.items }
-    ensures keeps { IfOk result (λ found. IfSome found (Keeps table.now rules texts.now)) }
-    ensures smaller { IfOk result (λ found. IfSome found (λ next. size_of next < size_of texts.now)) }
-    ensures none { IfOk result (λ found. IfNone found (IsNone table.now rules texts.now places.0 places.1)) }
-{
-    let (left, right) = places;
-    if left == texts.left.len() && right == texts.right.len() {
-        return Ok(None);
-    }
-    let next = texts.without(alloc, left..left + 1, right..right + 1)?;
-    if clash_at(alloc, table, &next, rules)? {
-        Ok(Some(next))
-    } else {
         Ok(None)
+    }
+
+    /// Two texts without the character at a place of the left one, and without none or one of the right
+    /// one, if they clash then. The place after the last character stands for the whole text.
+    fn without_one_at(
+        &self,
+        texts: &Texts,
+        keys: &Keys,
+        place: usize,
+    ) -> Result<Option<Texts>, AllocError>
+        requires clash { ClashAt self.now.table.now self.now.rules texts.now.left.items texts.now.right.items }
+        requires left { AreKeysOf self.now.table.now texts.now.left.items keys.now.left.items }
+        requires right { AreKeysOf self.now.table.now texts.now.right.items keys.now.right.items }
+        requires place { place ≤ length texts.now.left.items }
+        ensures keeps { IfOk result (λ found. IfSome found (Keeps self.now.table.now self.now.rules texts.now)) }
+        ensures smaller { IfOk result (λ found. IfSome found (λ next. size_of next < size_of texts.now)) }
+        ensures none { IfOk result (λ found. IfNone found
+            ((other : ℕ) → other ≤ length texts.now.right.items → IsNone self.now.table.now self.now.rules texts.now place other)) }
+    {
+        for other in 0..keys.right.len() {
+            if keys.left[place] == keys.right[other] {
+                let found = self.without_at(texts, (place, other))?;
+                if found.is_some() {
+                    return Ok(found);
+                }
+            }
+        }
+        Ok(None)
+    }
+
+    /// Two texts without the characters at two places, if one of the places is in its text and they
+    /// clash then.
+    fn without_at(&self, texts: &Texts, places: (usize, usize)) -> Result<Option<Texts>, AllocError>
+        requires clash { ClashAt self.now.table.now self.now.rules texts.now.left.items texts.now.right.items }
+        requires left { places.0 ≤ length texts.now.left.items }
+        requires right { places.1 ≤ length texts.now.right.items }
+        ensures keeps { IfOk result (λ found. IfSome found (Keeps self.now.table.now self.now.rules texts.now)) }
+        ensures smaller { IfOk result (λ found. IfSome found (λ next. size_of next < size_of texts.now)) }
+        ensures none { IfOk result (λ found. IfNone found (IsNone self.now.table.now self.now.rules texts.now places.0 places.1)) }
+    {
+        let (left, right) = places;
+        if left == texts.left.len() && right == texts.right.len() {
+            return Ok(None);
+        }
+        let next = texts.without(self.alloc, left..left + 1, right..right + 1)?;
+        if clash_at(self.alloc, self.table, &next, self.rules)? {
+            Ok(Some(next))
+        } else {
+            Ok(None)
+        }
     }
 }

@@ -1,6 +1,7 @@
 //! Two texts, and whether they clash as is wanted.
-ghost use Rattle.std.specs.Prelude.{◌≡◌, ◌↔◌, ◌∷◌, ◌≤◌, ◌<◌, [], IfOk, IsTrue, length};
+ghost use Rattle.std.specs.Prelude.{◌≡◌, ◌↔◌, ◌∷◌, ◌≤◌, ◌<◌, [], IfErr, IfOk, IsTrue, length};
 ghost use Rattle.std.specs.List.{remove_range};
+ghost use Rattle.brl_failure.specs.Failure.{IfFault};
 ghost use Rattle.brl_forward.specs.Trace.{trace_of};
 ghost use Rattle.brl_pairs.specs.Divergence.{are_rules};
 ghost use Rattle.brl_rules.specs.Text.{classes_before, is_text};
@@ -58,16 +59,24 @@ pub(crate) fn without(
     Ok(rest)
 }
 
+/// What a call answers that has no fault.
+fn faultless<T, F: Drop>(outcome: Result<T, Failure<F>>) -> Result<T, AllocError>
+    requires { IfErr outcome (IfFault (λ _. ⊥)) }
+    ensures { IfOk result (λ value. outcome ≡ Ok value) }
+{
+    match outcome {
+        Ok(value) => Ok(value),
+        Err(Failure::Fault(_)) => unreachable!(),
+        Err(Failure::Memory) => Err(AllocError),
+    }
+}
+
 /// The cells of a text whose characters the table defines.
 pub(crate) fn cells_of(alloc: Global, table: &Table, text: &[char]) -> Result<Vec<Cell>, AllocError>
     requires { IsTrue (is_text table.now text.now) }
     ensures { IfOk result (λ cells. cells.items ≡ translation table.now text.now) }
 {
-    match translate(alloc, table, text) {
-        Ok(cells) => Ok(cells),
-        Err(Failure::Fault(_)) => unreachable!(),
-        Err(Failure::Memory) => Err(AllocError),
-    }
+    Ok(faultless(translate(alloc, table, text))?)
 }
 
 /// Whether two texts clash, and where a pair of rules is given, their traces diverge at it.
@@ -95,11 +104,8 @@ fn do_clash(alloc: Global, table: &Table, texts: &Texts) -> Result<bool, AllocEr
     ensures { IfOk result (λ clash. IsTrue clash ↔
         IsClash table.now texts.now.left.items texts.now.right.items (translation table.now texts.now.left.items)) }
 {
-    match confirm(alloc, table, texts.left.as_slice(), texts.right.as_slice()) {
-        Ok(found) => Ok(found.is_some()),
-        Err(Failure::Fault(_)) => unreachable!(),
-        Err(Failure::Memory) => Err(AllocError),
-    }
+    let found = faultless(confirm(alloc, table, texts.left.as_slice(), texts.right.as_slice()))?;
+    Ok(found.is_some())
 }
 
 /// Whether the traces of two texts diverge at a pair of rules.
@@ -124,11 +130,7 @@ fn steps_of(alloc: Global, table: &Table, text: &[char]) -> Result<Vec<Traced>, 
     requires { IsTrue (is_text table.now text.now) }
     ensures { IfOk result (λ steps. steps.items ≡ trace_of table.now text.now) }
 {
-    match trace(alloc, table, text) {
-        Ok(steps) => Ok(steps),
-        Err(Failure::Fault(_)) => unreachable!(),
-        Err(Failure::Memory) => Err(AllocError),
-    }
+    Ok(faultless(trace(alloc, table, text))?)
 }
 
 /// Whether two traces begin with the same steps, and go on with two different ones of this pair of

@@ -11,11 +11,19 @@ pub fn cut(row: &str) -> Result<(&str, &str), Fail> {
     Ok(row.split_once('|').ok_or("a field is missing")?)
 }
 
-/// The first two fields of a row, and the fields after them.
-fn cut_twice(row: &str) -> Result<(&str, &str, &str), Fail> {
-    let (first, rest) = cut(row)?;
-    let (second, rest) = cut(rest)?;
-    Ok((first, second, rest))
+/// The fields of a row that aren't read yet.
+#[derive(Drop)]
+struct Fields<'a> {
+    rest: &'a str,
+}
+
+impl<'a> Fields<'a> {
+    /// The next field.
+    fn next(&mut self) -> Result<&'a str, Fail> {
+        let (field, rest) = cut(self.rest)?;
+        self.rest = rest;
+        Ok(field)
+    }
 }
 
 /// Fails a test at a row where another text is given than is wanted.
@@ -51,10 +59,7 @@ pub fn for_rows_of_2<F: Fn(Global, &str) -> Result<String, Fail>>(
 ) -> Result<(), Fail>
     requires { F.IsAlwaysCallable given }
 {
-    agree_at_rows(rows, |row| {
-        let (first, want) = cut(row)?;
-        Ok((given(alloc, first)?, want))
-    })
+    agree_at_rows(rows, |row| given(alloc, row.next()?))
 }
 
 /// Fails at the first row whose third field isn't what is given of the first two.
@@ -65,10 +70,7 @@ pub fn for_rows_of_3<F: Fn(Global, &str, &str) -> Result<String, Fail>>(
 ) -> Result<(), Fail>
     requires { F.IsAlwaysCallable given }
 {
-    agree_at_rows(rows, |row| {
-        let (first, second, want) = cut_twice(row)?;
-        Ok((given(alloc, first, second)?, want))
-    })
+    agree_at_rows(rows, |row| given(alloc, row.next()?, row.next()?))
 }
 
 /// Fails at the first row whose fourth field isn't what is given of the first three.
@@ -79,23 +81,23 @@ pub fn for_rows_of_4<F: Fn(Global, &str, &str, &str) -> Result<String, Fail>>(
 ) -> Result<(), Fail>
     requires { F.IsAlwaysCallable given }
 {
-    agree_at_rows(rows, |row| {
-        let (first, second, rest) = cut_twice(row)?;
-        let (third, want) = cut(rest)?;
-        Ok((given(alloc, first, second, third)?, want))
-    })
+    agree_at_rows(
+        rows,
+        |row| given(alloc, row.next()?, row.next()?, row.next()?),
+    )
 }
 
-/// Fails at the first row whose two texts, what is given and what is wanted, differ.
-fn agree_at_rows<F: Fn(&str) -> Result<(String, &str), Fail>>(
+/// Fails at the first row whose last field isn't what is given of those before it.
+fn agree_at_rows<F: Fn(&mut Fields<'_>) -> Result<String, Fail>>(
     rows: &str,
-    texts: F,
+    given: F,
 ) -> Result<(), Fail>
-    requires { F.IsAlwaysCallable texts }
+    requires { F.IsAlwaysCallable given }
 {
     for row in rows.lines() {
-        let (given, want) = texts(row)?;
-        agree(row, given.as_str(), want)?;
+        let mut fields = Fields { rest: row };
+        let given = given(&mut fields)?;
+        agree(row, given.as_str(), fields.rest)?;
     }
     Ok(())
 }

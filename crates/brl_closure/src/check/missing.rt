@@ -111,47 +111,53 @@ fn missing_split(
     Ok(best)
 }
 
-/// The least rules of two steps from the state with this number that split into a missing pair, by
-/// the first two edges of each kind of that state.
-pub fn missing_split_at<M: Machine>(
-    alloc: Global,
-    machine: &M,
-    body: &Body<M::State>,
-    edges: &Sorted<'_>,
-    state: u32,
-) -> Result<Option<MissingSplit>, AllocError>
-    requires edges { AreFirstTwoAt (M.behaviour machine.now) body.now.states state edges.now }
-    ensures { IfOk result (IsSplitFound (M.behaviour machine.now) body.now state) }
-{
-    edges_law(machine);
-    body.law();
-    let Some((lesser, greater)) = missing_split(alloc, body.pairs(), edges)? else {
-        return Ok(None);
-    };
-    Ok(Some(MissingSplit {
-        state,
-        lesser,
-        greater,
-    }))
+/// States and pairs of a machine, with the first two edges of each kind of one of the states.
+#[derive(Drop)]
+pub struct StateEdges<'a, M: Machine> {
+    pub alloc: Global,
+    pub machine: &'a M,
+    pub body: &'a Body<M::State>,
+    pub edges: &'a Sorted<'a>,
 }
 
-/// The least rule of a step that leads from the pair with this number to a missing pair, by the
-/// first two edges of each kind of the state of its run behind.
-pub fn missing_pair_at<M: Machine>(
-    alloc: Global,
-    machine: &M,
-    body: &Body<M::State>,
-    edges: &Sorted<'_>,
-    number: usize,
-) -> Result<Option<u32>, AllocError>
-    requires number { number < length body.now.pairs }
-    requires edges { AreFirstTwoBehind (M.behaviour machine.now) body.now number edges.now }
-    ensures { IfOk result (IsLeastFound (MissesPair (M.behaviour machine.now) body.now number)) }
-{
-    edges_law(machine);
-    body.law();
-    let pair = &body.pairs().as_slice()[number];
-    missing_pair(alloc, body.pairs(), pair.ahead, pair.lead.as_slice(), edges)
+impl<'a, M: Machine> StateEdges<'a, M> {
+    /// The least rules of two steps from the state with this number that split into a missing pair,
+    /// if it has these edges.
+    pub fn missing_split_at(&self, state: u32) -> Result<Option<MissingSplit>, AllocError>
+        requires { AreFirstTwoAt (M.behaviour self.now.machine.now) self.now.body.now.states state self.now.edges.now }
+        ensures { IfOk result (IsSplitFound (M.behaviour self.now.machine.now) self.now.body.now state) }
+    {
+        edges_law(self.machine);
+        self.body.law();
+        let Some((lesser, greater)) = missing_split(self.alloc, self.body.pairs(), self.edges)?
+        else {
+            return Ok(None);
+        };
+        Ok(Some(MissingSplit {
+            state,
+            lesser,
+            greater,
+        }))
+    }
+
+    /// The least rule of a step that leads from the pair with this number to a missing pair, if the
+    /// state of its run behind has these edges.
+    pub fn missing_pair_at(&self, number: usize) -> Result<Option<u32>, AllocError>
+        requires number { number < length self.now.body.now.pairs }
+        requires edges { AreFirstTwoBehind (M.behaviour self.now.machine.now) self.now.body.now number self.now.edges.now }
+        ensures { IfOk result (IsLeastFound (MissesPair (M.behaviour self.now.machine.now) self.now.body.now number)) }
+    {
+        edges_law(self.machine);
+        self.body.law();
+        let pair = &self.body.pairs().as_slice()[number];
+        missing_pair(
+            self.alloc,
+            self.body.pairs(),
+            pair.ahead,
+            pair.lead.as_slice(),
+            self.edges,
+        )
+    }
 }
 
 /// Whether a lead is empty and both states are final.

@@ -9,9 +9,8 @@ ghost use Rattle.brl_pairs.specs.Runs.{KeepsLaws};
 use crate::AcceptFault;
 use crate::check::edges::{KeptParts, edges_of};
 use crate::check::kinds::sort_first_two;
-use crate::check::missing::{MissingPair, MissingSplit, missing_pair_at, missing_split_at};
+use crate::check::missing::{MissingPair, MissingSplit, StateEdges};
 use crate::check::pairs_by_state::{PairsByTrailingState, pairs_by_trailing_state};
-use crate::check::sorted::Sorted;
 use brl_failure::Failure;
 use brl_pairs::{Body, Key, Machine, Parted, Seed};
 use brl_progress::{Progress, Work};
@@ -38,26 +37,23 @@ fn comes_before(number: u32, least: Option<MissingPair>) -> bool
 /// The least missing pair, once the pairs whose run behind is in one more state are tried too. They
 /// are tried in their order, and only before the least one so far.
 fn missing_pair_after<M: Machine>(
-    alloc: Global,
-    machine: &M,
-    body: &Body<M::State>,
+    at: &StateEdges<'_, M>,
     behind: &PairsByTrailingState,
-    edges: &Sorted<'_>,
     state: u32,
     least: Option<MissingPair>,
 ) -> Result<Option<MissingPair>, AllocError>
-    requires behind { ArePairsBehind (length body.now.states) body.now.pairs behind.now }
-    requires within { state < length body.now.states }
-    requires edges { AreFirstTwoAt (M.behaviour machine.now) body.now.states state edges.now }
-    requires least { IsPairFound (M.behaviour machine.now) body.now state least }
-    ensures { IfOk result (IsPairFound (M.behaviour machine.now) body.now (state + 1)) }
+    requires behind { ArePairsBehind (length at.now.body.now.states) at.now.body.now.pairs behind.now }
+    requires within { state < length at.now.body.now.states }
+    requires edges { AreFirstTwoAt (M.behaviour at.now.machine.now) at.now.body.now.states state at.now.edges.now }
+    requires least { IsPairFound (M.behaviour at.now.machine.now) at.now.body.now state least }
+    ensures { IfOk result (IsPairFound (M.behaviour at.now.machine.now) at.now.body.now (state + 1)) }
 {
     let mut place = behind.first[state as usize];
     while let Some(number) = place {
         if !comes_before(number, least) {
             return Ok(least);
         }
-        let missing = missing_pair_at(alloc, machine, body, edges, number as usize)?;
+        let missing = at.missing_pair_at(number as usize)?;
         if let Some(rule) = missing {
             return Ok(Some(MissingPair { pair: number, rule }));
         }
@@ -69,28 +65,25 @@ fn missing_pair_after<M: Machine>(
 /// What is missing, once one more state is passed. A missing split is named before any missing pair,
 /// so nothing more is looked for after it.
 fn missing_after<M: Machine>(
-    alloc: Global,
-    machine: &M,
-    body: &Body<M::State>,
+    at: &StateEdges<'_, M>,
     behind: &PairsByTrailingState,
-    edges: &Sorted<'_>,
     state: u32,
     missing: Missing,
 ) -> Result<Missing, AllocError>
-    requires behind { ArePairsBehind (length body.now.states) body.now.pairs behind.now }
-    requires within { state < length body.now.states }
-    requires edges { AreFirstTwoAt (M.behaviour machine.now) body.now.states state edges.now }
-    requires missing { IsMissingBelow (M.behaviour machine.now) body.now state missing }
-    ensures { IfOk result (IsMissingBelow (M.behaviour machine.now) body.now (state + 1)) }
+    requires behind { ArePairsBehind (length at.now.body.now.states) at.now.body.now.pairs behind.now }
+    requires within { state < length at.now.body.now.states }
+    requires edges { AreFirstTwoAt (M.behaviour at.now.machine.now) at.now.body.now.states state at.now.edges.now }
+    requires missing { IsMissingBelow (M.behaviour at.now.machine.now) at.now.body.now state missing }
+    ensures { IfOk result (IsMissingBelow (M.behaviour at.now.machine.now) at.now.body.now (state + 1)) }
 {
     if missing.split.is_some() {
         return Ok(missing);
     }
-    let split = missing_split_at(alloc, machine, body, edges, state)?;
+    let split = at.missing_split_at(state)?;
     if split.is_some() {
         return Ok(Missing { split, pair: None });
     }
-    let pair = missing_pair_after(alloc, machine, body, behind, edges, state, missing.pair)?;
+    let pair = missing_pair_after(at, behind, state, missing.pair)?;
     Ok(Missing { split, pair })
 }
 
@@ -122,7 +115,13 @@ pub fn find_missing<M: Parted, W: Progress>(
         let edges = edges_of(alloc, machine, body, &mut kept, state as usize)?;
         kept.cells.rank(alloc)?;
         let sorted = sort_first_two(alloc, &kept.cells, edges, seed)?;
-        missing = missing_after(alloc, machine, body, &behind, &sorted, state, missing)?;
+        let at = StateEdges {
+            alloc,
+            machine,
+            body,
+            edges: &sorted,
+        };
+        missing = missing_after(&at, &behind, state, missing)?;
     }
     Ok(missing)
 }

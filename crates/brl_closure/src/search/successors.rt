@@ -24,42 +24,50 @@ use brl_pairs::{
 use brl_parts::Parts;
 use std::alloc::AllocError;
 
+/// A state that is expanded: its number, and its edges with their cells, in listed order and in the
+/// order of their cells.
+#[derive(Clone, Copy)]
+struct Expanding<'a> {
+    number: usize,
+    cells: &'a [Cells],
+    edges: &'a [ListedEdge],
+    sorted: &'a [SortedEdge],
+}
+
 impl<'m, M: Machine> Finder<'m, M> {
     /// Adds the split of two steps of a state.
     fn find_split(
         &self,
         trail: &mut Trail<M::State>,
-        number: usize,
-        cells: &[Cells],
-        edges: &[ListedEdge],
+        state: &Expanding<'_>,
         first: usize,
         second: usize,
     ) -> Result<(), Failure<Stop>>
         requires active { IsActive M.behaviour self.now trail.old }
-        requires edges { AreEdges (M.behaviour self.now.machine.now) trail.old.states number (edges_with cells.now edges.now) }
+        requires edges { AreEdges (M.behaviour self.now.machine.now) trail.old.states state.now.number (edges_with state.now.cells.now state.now.edges.now) }
         requires in_order { first < second }
-        requires within { second < length edges.now }
-        ensures followed { OnOk result ((x y : EdgeValue) → slice_get (edges_with cells.now edges.now) first ≡ Some x
-            → slice_get (edges_with cells.now edges.now) second ≡ Some y → IsFollowed trail.new.pairs x.next x.cells y) }
+        requires within { second < length state.now.edges.now }
+        ensures followed { OnOk result ((x y : EdgeValue) → slice_get (edges_with state.now.cells.now state.now.edges.now) first ≡ Some x
+            → slice_get (edges_with state.now.cells.now state.now.edges.now) second ≡ Some y → IsFollowed trail.new.pairs x.next x.cells y) }
         ensures advances { OnOk result (Advances M.behaviour self.now trail.old trail.new) }
         ensures stopped { IfErr result (IfFault (IsStopped M.behaviour self.now trail.new)) }
     {
         let origins = Origins {
             still: PairOrigin::Split {
-                state: number,
+                state: state.number,
                 longer: first,
                 shorter: second,
             },
             swapped: PairOrigin::Split {
-                state: number,
+                state: state.number,
                 longer: second,
                 shorter: first,
             },
         };
-        let ahead = edges[first];
-        let lead = cells_at(cells, ahead.cells);
-        let later = edges[second];
-        let cells = cells_at(cells, later.cells);
+        let ahead = state.edges[first];
+        let lead = cells_at(state.cells, ahead.cells);
+        let later = state.edges[second];
+        let cells = cells_at(state.cells, later.cells);
         self.follow(trail, ahead.next, lead, later.next, cells, origins)
     }
 
@@ -67,29 +75,26 @@ impl<'m, M: Machine> Finder<'m, M> {
     fn find_splits_of(
         &self,
         trail: &mut Trail<M::State>,
-        number: usize,
-        cells: &[Cells],
-        edges: &[ListedEdge],
-        sorted: &[SortedEdge],
+        state: &Expanding<'_>,
         splits: &Splits,
         second: usize,
     ) -> Result<(), Failure<Stop>>
         requires active { IsActive M.behaviour self.now trail.old }
-        requires edges { AreEdges (M.behaviour self.now.machine.now) trail.old.states number (edges_with cells.now edges.now) }
-        requires sorted { IsSortedOf cells.now (edges_with cells.now edges.now) sorted.now }
-        requires splits { AreSplits cells.now sorted.now splits.now }
-        requires within { second < length edges.now }
-        ensures followed { OnOk result ((i : ℕ) (x y : EdgeValue) → i < second → slice_get (edges_with cells.now edges.now) i ≡ Some x
-            → slice_get (edges_with cells.now edges.now) second ≡ Some y → IsFollowed trail.new.pairs x.next x.cells y) }
+        requires edges { AreEdges (M.behaviour self.now.machine.now) trail.old.states state.now.number (edges_with state.now.cells.now state.now.edges.now) }
+        requires sorted { IsSortedOf state.now.cells.now (edges_with state.now.cells.now state.now.edges.now) state.now.sorted.now }
+        requires splits { AreSplits state.now.cells.now state.now.sorted.now splits.now }
+        requires within { second < length state.now.edges.now }
+        ensures followed { OnOk result ((i : ℕ) (x y : EdgeValue) → i < second → slice_get (edges_with state.now.cells.now state.now.edges.now) i ≡ Some x
+            → slice_get (edges_with state.now.cells.now state.now.edges.now) second ≡ Some y → IsFollowed trail.new.pairs x.next x.cells y) }
         ensures advances { OnOk result (Advances M.behaviour self.now trail.old trail.new) }
         ensures stopped { IfErr result (IfFault (IsStopped M.behaviour self.now trail.new)) }
     {
-        let found = earlier_splits(self.alloc, cells, sorted, splits, second)?;
+        let found = earlier_splits(self.alloc, state.cells, state.sorted, splits, second)?;
         let mut left = found.len();
         while left > 0 {
             left -= 1;
             let first = found[left].place as usize;
-            self.find_split(trail, number, cells, edges, first, second)?;
+            self.find_split(trail, state, first, second)?;
         }
         Ok(())
     }
@@ -98,21 +103,18 @@ impl<'m, M: Machine> Finder<'m, M> {
     fn find_splits(
         &self,
         trail: &mut Trail<M::State>,
-        number: usize,
-        cells: &[Cells],
-        edges: &[ListedEdge],
-        sorted: &[SortedEdge],
+        state: &Expanding<'_>,
     ) -> Result<(), Failure<Stop>>
         requires active { IsActive M.behaviour self.now trail.old }
-        requires edges { AreEdges (M.behaviour self.now.machine.now) trail.old.states number (edges_with cells.now edges.now) }
-        requires sorted { IsSortedOf cells.now (edges_with cells.now edges.now) sorted.now }
-        ensures expanded { OnOk result (IsExpanded (M.behaviour self.now.machine.now) trail.new.states trail.new.pairs number) }
+        requires edges { AreEdges (M.behaviour self.now.machine.now) trail.old.states state.now.number (edges_with state.now.cells.now state.now.edges.now) }
+        requires sorted { IsSortedOf state.now.cells.now (edges_with state.now.cells.now state.now.edges.now) state.now.sorted.now }
+        ensures expanded { OnOk result (IsExpanded (M.behaviour self.now.machine.now) trail.new.states trail.new.pairs state.now.number) }
         ensures advances { OnOk result (Advances M.behaviour self.now trail.old trail.new) }
         ensures stopped { IfErr result (IfFault (IsStopped M.behaviour self.now trail.new)) }
     {
-        let splits = splits_of(self.alloc, cells, sorted, edges.len())?;
-        for second in 0..edges.len() {
-            self.find_splits_of(trail, number, cells, edges, sorted, &splits, second)?;
+        let splits = splits_of(self.alloc, state.cells, state.sorted, state.edges.len())?;
+        for second in 0..state.edges.len() {
+            self.find_splits_of(trail, state, &splits, second)?;
         }
         Ok(())
     }
@@ -207,7 +209,13 @@ impl<'m, M: Parted> Finder<'m, M> {
         cells.rank(self.alloc)?;
         let sorted = sort_edges(self.alloc, cells, edges.as_slice())?;
         let kept = cells.as_slice();
-        self.find_splits(trail, number, kept, edges.as_slice(), sorted.as_slice())?;
+        let state = Expanding {
+            number,
+            cells: kept,
+            edges: edges.as_slice(),
+            sorted: sorted.as_slice(),
+        };
+        self.find_splits(trail, &state)?;
         Ok(sorted)
     }
 }

@@ -190,7 +190,6 @@ fn adds(members: &mut Members<u32>) -> Result<bool, Fail> {
 /// Whether these are 3 and 5.
 fn are_3_and_5(members: &Members<u32>) -> bool {
     members.len() == 2
-        && !members.is_empty()
         && members.index_of(&5) == Some(1)
         && members.index_of(&4).is_none()
         && members.contains(&3)

@@ -109,15 +109,19 @@ letter a 1; letter b 1|5|9|complete: 1 pairs of rules
 letter a 1; letter b 1; letter c 1|1|9|complete: 3 pairs of rules
 ";
 
-/// The listing after `steps` more steps, if it isn't finished.
-fn next_slice<'m>(
-    progress: Slice<'m, Dues<'m>>,
-    steps: u64,
+/// A listing after slices of these numbers of steps, as far as it isn't finished before.
+fn run_slices<'m>(
+    start: Slice<'m, Dues<'m>>,
+    slices: [u64; 2],
 ) -> Result<Slice<'m, Dues<'m>>, AllocError> {
-    match progress {
-        Slice::Unfinished(listing) => listing.run(steps),
-        Slice::Finished(divergences) => Ok(Slice::Finished(divergences)),
+    let mut progress = start;
+    for steps in slices {
+        progress = match progress {
+            Slice::Unfinished(listing) => listing.run(steps)?,
+            finished => finished,
+        };
     }
+    Ok(progress)
 }
 
 /// What a listing has found, in words.
@@ -141,9 +145,11 @@ fn told_of_divergences(
 fn told_of_slices(alloc: Global, table: &Table, first: &str, second: &str) -> Result<String, Fail> {
     let dues = Dues::new(alloc, table);
     let start = Listing::start(alloc, &dues, 9, seed_of(alloc, table)?)?;
-    let once = next_slice(start, u64::from_str_radix(first, 10)?)?;
-    let twice = next_slice(once, u64::from_str_radix(second, 10)?)?;
-    match twice {
+    let slices = [
+        u64::from_str_radix(first, 10)?,
+        u64::from_str_radix(second, 10)?,
+    ];
+    match run_slices(start, slices)? {
         Slice::Unfinished(_) => Ok(String::from_str(alloc, "unfinished")?),
         Slice::Finished(divergences) => Ok(told_of_divergences(alloc, &divergences)?),
     }

@@ -3,7 +3,8 @@ use brl_examples::translate_bytes;
 use brl_failure::Failure;
 use brl_rules::Table;
 use brl_testing::{
-    Full, Slow, agree, bytes_of, field_of_bytes, for_rows_of_2, for_rows_of_3, with_table,
+    Full, Slow, agree, bytes_of, field_of_bytes, for_rows_of_2, for_rows_of_3, for_rows_of_4,
+    with_table,
 };
 use brl_tool::{
     Counting, Form, Input, Lacking, LineFault, Output, StreamFault, translate_defined_lines,
@@ -51,18 +52,58 @@ impl io::Write for Count {
     }
 }
 
-/// What a stream answers: the text of its fault, or nothing where it was translated to its end.
-fn answer_of(alloc: Global, outcome: Result<(), Failure<StreamFault>>) -> Result<String, Fail> {
-    match outcome {
-        Ok(()) => Ok(String::new(alloc)),
-        Err(fault) => Ok(fault.to_string(alloc)?),
+/// What a stream lists that is only translated: nothing.
+fn none_lacking(
+    alloc: Global,
+    outcome: Result<(), Failure<StreamFault>>,
+) -> Result<Vec<Lacking>, Failure<StreamFault>> {
+    outcome?;
+    Ok(Vec::new(alloc))
+}
+
+/// Translates a stream. With the option `lacking` it lists the characters that the table lacks.
+fn run_stream<R: Input, W: Output>(
+    alloc: Global,
+    option: &str,
+    table: &Table,
+    reader: &mut R,
+    writer: &mut W,
+) -> Result<Vec<Lacking>, Failure<StreamFault>> {
+    if option == "lacking" {
+        return translate_defined_lines(alloc, table, Form::Ascii, reader, writer);
     }
+    none_lacking(
+        alloc,
+        translate_lines(alloc, table, Form::Ascii, reader, writer),
+    )
+}
+
+/// What a stream answers: the text of its fault, or the characters that it lists, each with its count
+/// and its first line.
+fn answer_of(
+    alloc: Global,
+    outcome: Result<Vec<Lacking>, Failure<StreamFault>>,
+) -> Result<String, Fail> {
+    let mut text = String::new(alloc);
+    match outcome {
+        Ok(list) => {
+            for Lacking {
+                character,
+                count,
+                line,
+            } in &list {
+                write!(text, "{character} {count} {line},")?;
+            }
+        }
+        Err(fault) => write!(text, "{fault}")?,
+    }
+    Ok(text)
 }
 
 /// What a stream answers, and what it has written, as two fields.
 fn answer_and_output(
     alloc: Global,
-    outcome: Result<(), Failure<StreamFault>>,
+    outcome: Result<Vec<Lacking>, Failure<StreamFault>>,
     written: &[u8],
 ) -> Result<String, Fail> {
     let answer = answer_of(alloc, outcome)?;
@@ -73,7 +114,7 @@ fn answer_and_output(
 /// The same of an input in memory.
 fn translated_by(alloc: Global, table: &Table, input: &[u8]) -> Result<String, Fail> {
     let mut writer = Counting::new(Vec::new(alloc));
-    let outcome = translate_bytes(alloc, table, input, &mut writer);
+    let outcome = none_lacking(alloc, translate_bytes(alloc, table, input, &mut writer));
     answer_and_output(alloc, outcome, writer.device.as_slice())
 }
 
@@ -130,7 +171,7 @@ fn repeated(alloc: Global, byte: u8, count: usize, end: &[u8]) -> Result<Vec<u8>
 fn is_long_line_translated(alloc: Global, length: usize) -> Result<bool, Fail> {
     let input = repeated(alloc, b'a', length, b"\r\n")?;
     let output = repeated(alloc, b'A', length, b"\n")?;
-    let want = answer_and_output(alloc, Ok(()), output.as_slice())?;
+    let want = answer_and_output(alloc, Ok(Vec::new(alloc)), output.as_slice())?;
     Ok(translated_bytes(alloc, input.as_slice())?.as_str() == want.as_str())
 }
 
@@ -162,43 +203,46 @@ fn a_line_has_no_more_bytes(rt: HostRuntime) -> Result<(), Fail> {
     for_rows_of_3(rt.alloc(), TOO_LONG, long_line_answer)
 }
 
-/// The bytes that the reader gives, what is answered, and what is written.
+/// The option, the bytes that the reader gives before it fails, what is answered, and what is written.
 const INTERRUPTED: &str = "\
-abc a\r;|U3 InputFailed at line 2|ABC A;
-abc a;a|U3 InputFailed at line 2|ABC A;
-abc a\r|U3 InputFailed at line 1|
-|U3 InputFailed at line 1|
+|abc a\r;|U3 InputFailed at line 2|ABC A;
+|abc a;a|U3 InputFailed at line 2|ABC A;
+|abc a\r|U3 InputFailed at line 1|
+||U3 InputFailed at line 1|
+lacking|az;b;z|U3 InputFailed at line 3|B;
 ";
 
-fn read_slowly(alloc: Global, table: &Table, bytes: &[u8]) -> Result<String, Fail> {
+fn read_slowly(alloc: Global, option: &str, table: &Table, bytes: &[u8]) -> Result<String, Fail> {
     let mut reader = Counting::new(Slow { bytes });
     let mut writer = Counting::new(Vec::new(alloc));
-    let outcome = translate_lines(alloc, table, Form::Ascii, &mut reader, &mut writer);
+    let outcome = run_stream(alloc, option, table, &mut reader, &mut writer);
     if reader.failures != 1 {
         return Err(Fail::from("the reader hasn't failed once"));
     }
     answer_and_output(alloc, outcome, writer.device.as_slice())
 }
 
-fn slow_reader_answer(alloc: Global, bytes: &str) -> Result<String, Fail> {
+fn slow_reader_answer(alloc: Global, option: &str, bytes: &str) -> Result<String, Fail> {
     let bytes = bytes_of(alloc, bytes)?;
-    with_table(
-        alloc,
-        LINES,
-        |table| read_slowly(alloc, table, bytes.as_slice()),
-    )
+    with_table(alloc, LINES, |table| {
+        read_slowly(alloc, option, table, bytes.as_slice())
+    })
 }
 
 #[test]
 fn a_reader_fails(rt: HostRuntime) -> Result<(), Fail> {
-    for_rows_of_2(rt.alloc(), INTERRUPTED, slow_reader_answer)
+    for_rows_of_3(rt.alloc(), INTERRUPTED, slow_reader_answer)
 }
 
-/// How many writes the writer takes, the input, what is answered, and what is written.
-const CUT_OFF: &str = "1|abc a;b;c;|U4 OutputFailed at line 2|ABC A;\n";
+/// The option, how many writes the writer takes, the input, what is answered, and what is written.
+const CUT_OFF: &str = "\
+|1|abc a;b;c;|U4 OutputFailed at line 2|ABC A;
+lacking|1|z;abc a;b;c;|U4 OutputFailed at line 3|ABC A;
+";
 
 fn written_until_full(
     alloc: Global,
+    option: &str,
     table: &Table,
     writes: u32,
     input: &[u8],
@@ -208,24 +252,29 @@ fn written_until_full(
         left: writes,
         taken: Vec::new(alloc),
     });
-    let outcome = translate_lines(alloc, table, Form::Ascii, &mut reader, &mut writer);
+    let outcome = run_stream(alloc, option, table, &mut reader, &mut writer);
     if writer.failures != 1 {
         return Err(Fail::from("the writer hasn't failed once"));
     }
     answer_and_output(alloc, outcome, writer.device.taken.as_slice())
 }
 
-fn full_writer_answer(alloc: Global, writes: &str, input: &str) -> Result<String, Fail> {
+fn full_writer_answer(
+    alloc: Global,
+    option: &str,
+    writes: &str,
+    input: &str,
+) -> Result<String, Fail> {
     let writes = writes.parse()?;
     let input = bytes_of(alloc, input)?;
     with_table(alloc, LINES, |table| {
-        written_until_full(alloc, table, writes, input.as_slice())
+        written_until_full(alloc, option, table, writes, input.as_slice())
     })
 }
 
 #[test]
 fn a_writer_fails(rt: HostRuntime) -> Result<(), Fail> {
-    for_rows_of_3(rt.alloc(), CUT_OFF, full_writer_answer)
+    for_rows_of_4(rt.alloc(), CUT_OFF, full_writer_answer)
 }
 
 /// What is answered to an input without end, and how many writes and bytes were written.
@@ -235,7 +284,7 @@ fn short_lines_answer(alloc: Global, table: &Table) -> Result<String, Fail> {
         writes: 0,
         bytes: 0,
     });
-    let outcome = translate_lines(alloc, table, Form::Ascii, &mut reader, &mut writer);
+    let outcome = run_stream(alloc, "", table, &mut reader, &mut writer);
     let answer = answer_of(alloc, outcome)?;
     let Count { writes, bytes } = writer.device;
     Ok(format!(in alloc; "{answer}|{writes}|{bytes}")?)
@@ -253,7 +302,7 @@ fn an_endless_input_ends(rt: HostRuntime) -> Result<(), Fail> {
 fn endless_line_answer(alloc: Global, table: &Table) -> Result<String, Fail> {
     let mut reader = Counting::new(io::repeat(b'a'));
     let mut writer = Counting::new(Vec::new(alloc));
-    let outcome = translate_lines(alloc, table, Form::Ascii, &mut reader, &mut writer);
+    let outcome = run_stream(alloc, "", table, &mut reader, &mut writer);
     answer_and_output(alloc, outcome, writer.device.as_slice())
 }
 
@@ -262,30 +311,6 @@ fn an_endless_line_ends(rt: HostRuntime) -> Result<(), Fail> {
     let alloc = rt.alloc();
     let given = with_table(alloc, LINES, |table| endless_line_answer(alloc, table))?;
     agree("one line", given.as_str(), "U5 InputLineTooLong at line 1|")
-}
-
-/// The characters that a stream lists, each with its count and its first line, or the text of its
-/// fault; and what it has written, as two fields.
-fn list_and_output(
-    alloc: Global,
-    outcome: Result<Vec<Lacking>, Failure<StreamFault>>,
-    written: &[u8],
-) -> Result<String, Fail> {
-    let mut text = String::new(alloc);
-    match outcome {
-        Ok(list) => {
-            for Lacking {
-                character,
-                count,
-                line,
-            } in &list {
-                write!(text, "{character} {count} {line},")?;
-            }
-        }
-        Err(fault) => write!(text, "{fault}")?,
-    }
-    let output = field_of_bytes(alloc, written)?;
-    Ok(format!(in alloc; "{text}|{output}")?)
 }
 
 /// The input, the list, and what is written.
@@ -302,8 +327,8 @@ z;!|U2 InputNotUtf8 at line 2|
 fn listed_by(alloc: Global, table: &Table, input: &[u8]) -> Result<String, Fail> {
     let mut reader = input;
     let mut writer = Counting::new(Vec::new(alloc));
-    let outcome = translate_defined_lines(alloc, table, Form::Ascii, &mut reader, &mut writer);
-    list_and_output(alloc, outcome, writer.device.as_slice())
+    let outcome = run_stream(alloc, "lacking", table, &mut reader, &mut writer);
+    answer_and_output(alloc, outcome, writer.device.as_slice())
 }
 
 fn listed(alloc: Global, input: &str) -> Result<String, Fail> {
@@ -318,61 +343,6 @@ fn listed(alloc: Global, input: &str) -> Result<String, Fail> {
 #[test]
 fn undefined_characters_are_listed(rt: HostRuntime) -> Result<(), Fail> {
     for_rows_of_2(rt.alloc(), LISTED, listed)
-}
-
-/// The bytes that a reader gives before it fails, what is answered, and what is written.
-const LISTED_SLOWLY: &str = "az;b;z|U3 InputFailed at line 3|B;\n";
-
-fn list_slowly(alloc: Global, table: &Table, bytes: &[u8]) -> Result<String, Fail> {
-    let mut reader = Counting::new(Slow { bytes });
-    let mut writer = Counting::new(Vec::new(alloc));
-    let outcome = translate_defined_lines(alloc, table, Form::Ascii, &mut reader, &mut writer);
-    list_and_output(alloc, outcome, writer.device.as_slice())
-}
-
-fn slow_list(alloc: Global, bytes: &str) -> Result<String, Fail> {
-    let bytes = bytes_of(alloc, bytes)?;
-    with_table(
-        alloc,
-        LINES,
-        |table| list_slowly(alloc, table, bytes.as_slice()),
-    )
-}
-
-#[test]
-fn a_reader_fails_before_the_list(rt: HostRuntime) -> Result<(), Fail> {
-    for_rows_of_2(rt.alloc(), LISTED_SLOWLY, slow_list)
-}
-
-/// How many writes the writer takes, the input, what is answered, and what is written.
-const LISTED_UNTIL_FULL: &str = "1|z;abc a;b;c;|U4 OutputFailed at line 3|ABC A;\n";
-
-fn list_until_full(
-    alloc: Global,
-    table: &Table,
-    writes: u32,
-    input: &[u8],
-) -> Result<String, Fail> {
-    let mut reader = input;
-    let mut writer = Counting::new(Full {
-        left: writes,
-        taken: Vec::new(alloc),
-    });
-    let outcome = translate_defined_lines(alloc, table, Form::Ascii, &mut reader, &mut writer);
-    list_and_output(alloc, outcome, writer.device.taken.as_slice())
-}
-
-fn list_of_full_writer(alloc: Global, writes: &str, input: &str) -> Result<String, Fail> {
-    let writes = writes.parse()?;
-    let input = bytes_of(alloc, input)?;
-    with_table(alloc, LINES, |table| {
-        list_until_full(alloc, table, writes, input.as_slice())
-    })
-}
-
-#[test]
-fn a_writer_fails_before_the_list(rt: HostRuntime) -> Result<(), Fail> {
-    for_rows_of_3(rt.alloc(), LISTED_UNTIL_FULL, list_of_full_writer)
 }
 
 /// Whether a fault at line 3 is printed so.

@@ -11,5 +11,4 @@ returns-clause-laws c =
     let t = c.args.self.now in
     let keeps = keeps_of t (subst IsTable c.self.view_is c.law.ensures) in
     let choosing : Choosing c.args.self.now = record { some = c.choice_laws.ensures.some t; room = c.choice_laws.ensures.room t } in
-    let one_by_one = translating c.translation_laws.ensures.rest c.translation_laws.ensures.end c.translation_laws.ensures.rule t in
-    record { good_steps = good_steps t keeps choosing; in_order = in_order t keeps; accepts = accepts t choosing one_by_one }
+    record { good_steps = good_steps t keeps choosing; in_order = in_order t keeps; accepts = accepts t choosing (translating c.translation_laws.ensures.rest c.translation_laws.ensures.end c.translation_laws.ensures.rule t) }

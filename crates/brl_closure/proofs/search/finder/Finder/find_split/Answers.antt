@@ -18,25 +18,25 @@ read_is cells edges place within = mapped_at (edge_of cells) edges place _ (slic
 pub follow-requires-clause-fits : goal.follow-requires-clause-fits
 follow-requires-clause-fits g c =
     let a = c.args in
-    let edges = edges_with a.cells.now a.edges.now in
+    let edges = edges_with a.state.now.cells.now a.state.now.edges.now in
     rw (c.cells_at-lead.ensures, c.cells_at-cells.ensures)
-    (fits_splitting (g.M.Machine.behaviour a.self.now.machine.now) c.requires.active.laws a.trail.now.states a.number edges c.requires.edges a.first a.second (read a.cells.now a.edges.now a.first) (read a.cells.now a.edges.now a.second)
-    (read_is a.cells.now a.edges.now a.first (omega (arith, c.requires.in_order, c.requires.within))) (read_is a.cells.now a.edges.now a.second c.requires.within))
+    (fits_splitting (g.M.Machine.behaviour a.self.now.machine.now) c.requires.active.laws a.trail.now.states a.state.now.number edges c.requires.edges a.first a.second (read a.state.now.cells.now a.state.now.edges.now a.first) (read a.state.now.cells.now a.state.now.edges.now a.second)
+    (read_is a.state.now.cells.now a.state.now.edges.now a.first (omega (arith, c.requires.in_order, c.requires.within))) (read_is a.state.now.cells.now a.state.now.edges.now a.second c.requires.within))
 
 pub follow-requires-clause-explained : goal.follow-requires-clause-explained
 follow-requires-clause-explained g c =
     let a = c.args in
-    let edges = edges_with a.cells.now a.edges.now in
+    let edges = edges_with a.state.now.cells.now a.state.now.edges.now in
     rw (c.cells_at-lead.ensures, c.cells_at-cells.ensures)
-    (explains_split (g.M.Machine.behaviour a.self.now.machine.now) c.requires.active.laws a.trail.now.states a.trail.now.pairs a.number edges c.requires.edges a.first a.second (read a.cells.now a.edges.now a.first) (read a.cells.now a.edges.now a.second)
-    c.requires.in_order (read_is a.cells.now a.edges.now a.first (omega (arith, c.requires.in_order, c.requires.within))) (read_is a.cells.now a.edges.now a.second c.requires.within))
+    (explains_split (g.M.Machine.behaviour a.self.now.machine.now) c.requires.active.laws a.trail.now.states a.trail.now.pairs a.state.now.number edges c.requires.edges a.first a.second (read a.state.now.cells.now a.state.now.edges.now a.first) (read a.state.now.cells.now a.state.now.edges.now a.second)
+    c.requires.in_order (read_is a.state.now.cells.now a.state.now.edges.now a.first (omega (arith, c.requires.in_order, c.requires.within))) (read_is a.state.now.cells.now a.state.now.edges.now a.second c.requires.within))
 
 pub returns-clause-followed : goal.returns-clause-followed
 returns-clause-followed g c =
     let a = c.args in
-    let edges = edges_with a.cells.now a.edges.now in
+    let edges = edges_with a.state.now.cells.now a.state.now.edges.now in
     on_ok_weaker c.follow.result
-    (λ followed x y first second. split_followed c.follow.new.trail.pairs edges a.first a.second (read a.cells.now a.edges.now a.first) (read a.cells.now a.edges.now a.second)
-    (read_is a.cells.now a.edges.now a.first (omega (arith, c.requires.in_order, c.requires.within))) (read_is a.cells.now a.edges.now a.second c.requires.within) c.cells_at-lead.result.now c.cells_at-lead.ensures
-    (followed (read a.cells.now a.edges.now a.second) refl (sym c.cells_at-cells.ensures)) x y first second)
+    (λ followed x y first second. split_followed c.follow.new.trail.pairs edges a.first a.second (read a.state.now.cells.now a.state.now.edges.now a.first) (read a.state.now.cells.now a.state.now.edges.now a.second)
+    (read_is a.state.now.cells.now a.state.now.edges.now a.first (omega (arith, c.requires.in_order, c.requires.within))) (read_is a.state.now.cells.now a.state.now.edges.now a.second c.requires.within) c.cells_at-lead.result.now c.cells_at-lead.ensures
+    (followed (read a.state.now.cells.now a.state.now.edges.now a.second) refl (sym c.cells_at-cells.ensures)) x y first second)
     c.follow.ensures.followed

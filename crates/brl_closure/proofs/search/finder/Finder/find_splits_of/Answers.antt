@@ -21,12 +21,12 @@ loop-left-init g c = record {
 
 pub find_split-requires-clause-edges : goal.find_split-requires-clause-edges
 find_split-requires-clause-edges g c =
-    edges_more (g.M.Machine.behaviour c.args.self.now.machine.now) c.args.trail.now.states c.loop-left.trail.states c.loop-left.invariant.advances.1.states c.args.number (edges_with c.args.cells.now c.args.edges.now) c.requires.edges
+    edges_more (g.M.Machine.behaviour c.args.self.now.machine.now) c.args.trail.now.states c.loop-left.trail.states c.loop-left.invariant.advances.1.states c.args.state.now.number (edges_with c.args.state.now.cells.now c.args.state.now.edges.now) c.requires.edges
 
 pub earlier_splits-requires-clause-there : goal.earlier_splits-requires-clause-there
 earlier_splits-requires-clause-there g c =
     let a = c.args in
-    let e = inside (edges_with a.cells.now a.edges.now) a.second (omega (arith, c.requires.within, length-map a.edges.now (edge_of a.cells.now))) in
+    let e = inside (edges_with a.state.now.cells.now a.state.now.edges.now) a.second (omega (arith, c.requires.within, length-map a.state.now.edges.now (edge_of a.state.now.cells.now))) in
     c.requires.sorted.by_numbers.all a.second e.0 e.1
 
 pub find_split-requires-clause-in_order : goal.find_split-requires-clause-in_order
@@ -58,10 +58,10 @@ pub returns-clause-followed : goal.returns-clause-followed
 returns-clause-followed g c i x y less x_at y_at =
     let a = c.args in
     let those = c.in_ok-found.ensures in
-    let found = found_of_earlier a.cells.now (edges_with a.cells.now a.edges.now) a.sorted.now c.requires.sorted a.second y y_at those.0 those.1 those.2 c.in_ok-found.found.items those.3 in
+    let found = found_of_earlier a.state.now.cells.now (edges_with a.state.now.cells.now a.state.now.edges.now) a.state.now.sorted.now c.requires.sorted a.second y y_at those.0 those.1 those.2 c.in_ok-found.found.items those.3 in
     elim (match_or_not y.cells x.cells) [
       | inl m ↦ (
           let f = found.all i x less x_at m in
-          c.loop-left.invariant.followed f.0 f.1 x y (omega arith) f.2 (ap (slice_get (edges_with a.cells.now a.edges.now)) f.3 ∙ x_at) y_at)
+          c.loop-left.invariant.followed f.0 f.1 x y (omega arith) f.2 (ap (slice_get (edges_with a.state.now.cells.now a.state.now.edges.now)) f.3 ∙ x_at) y_at)
       | inr other ↦ unmatched_followed c.loop-left.trail.pairs x.next x.cells y (λ m. other (match_back x.cells y.cells m))
     ]

@@ -10,7 +10,7 @@ abbrev pub invariant-loop-left : goal.invariant-loop-left
 invariant-loop-left g l = record {
   advances : Advances g.M.Machine.behaviour l.self l.fn.trail l.trail;
   within : l.left ≤ length l.found.items;
-  followed : (k : ℕ) (s : SortedEdge) (x y : Edge) → l.left ≤ k → slice_get l.found.items k ≡ Some s → slice_get (edges_with l.cells l.edges) s.place ≡ Some x → slice_get (edges_with l.cells l.edges) l.second ≡ Some y → IsFollowed l.trail.pairs x.next x.cells y;
+  followed : (k : ℕ) (s : SortedEdge) (x y : Edge) → l.left ≤ k → slice_get l.found.items k ≡ Some s → slice_get (edges_with l.state.cells.now l.state.edges.now) s.place ≡ Some x → slice_get (edges_with l.state.cells.now l.state.edges.now) l.second ≡ Some y → IsFollowed l.trail.pairs x.next x.cells y;
 }
 
 abbrev pub decreases-loop-left : goal.decreases-loop-left

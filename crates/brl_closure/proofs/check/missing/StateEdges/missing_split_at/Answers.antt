@@ -12,7 +12,7 @@ use Rattle.brl_pairs.specs.Members.{HaveOneNumber}
 use Rattle.brl_pairs.specs.Runs.{Behaviour}
 use Rattle.brl_pairs.specs.declared.edge.Edge.{Edge}
 use Rattle.brl_pairs.specs.NumberPairs.{IsMissing}
-use Rattle.brl_closure.proofs.check.missing.missing_split_at.Goals as goal
+use Rattle.brl_closure.proofs.check.missing.StateEdges.missing_split_at.Goals as goal
 
 -- the least rules of the kept edges are those of the state's steps
 least_split : {S : Type 0} (m : Behaviour S) (body : BodyView S) → HaveOneNumber body.states → (state : ℕ) (kept : List Edge) (k : AreFirstTwoAt m body.states state kept)
@@ -25,21 +25,21 @@ least_split m body one state kept k order pairs same found least =
 
 pub missing_split-requires : goal.missing_split-requires
 missing_split-requires g c =
-    let k = c.requires.edges in
-    kept_in_order k.edges c.args.edges.now k.first_two (c.edges_law.ensures c.args.body.now.states c.args.state k.edges k.are_edges)
+    let k = c.requires in
+    kept_in_order k.edges c.args.self.now.edges.now k.first_two (c.edges_law.ensures c.args.self.now.body.now.states c.args.state k.edges k.are_edges)
 
 pub returns-in_default : goal.returns-in_default
 returns-in_default g c =
     let a = c.args in
-    let m = g.M.Machine.behaviour a.machine.now in
+    let m = g.M.Machine.behaviour a.self.now.machine.now in
     let found = c.in_ok-lesser.field-0 in
-    let least = least_split m a.body.now c.law.ensures.states a.state a.edges.now c.requires.edges (c.edges_law.ensures a.body.now.states a.state) c.pairs.result.now c.pairs.ensures found c.in_ok-lesser.ensures in
-    none_found_pair (MissesSplit m a.body.now a.state) found c.in_default.not-Some least
+    let least = least_split m a.self.now.body.now c.law.ensures.states a.state a.self.now.edges.now c.requires (c.edges_law.ensures a.self.now.body.now.states a.state) c.pairs.result.now c.pairs.ensures found c.in_ok-lesser.ensures in
+    none_found_pair (MissesSplit m a.self.now.body.now a.state) found c.in_default.not-Some least
 
 pub returns : goal.returns
 returns g c =
     let a = c.args in
-    let m = g.M.Machine.behaviour a.machine.now in
+    let m = g.M.Machine.behaviour a.self.now.machine.now in
     let found = c.in_ok-lesser.field-0 in
-    let least = least_split m a.body.now c.law.ensures.states a.state a.edges.now c.requires.edges (c.edges_law.ensures a.body.now.states a.state) c.pairs.result.now c.pairs.ensures found c.in_ok-lesser.ensures in
-    (refl, subst (λ (o : Option (ℕ × ℕ)). IsLeastPairFound (MissesSplit m a.body.now a.state) o) c.in-Some.is least)
+    let least = least_split m a.self.now.body.now c.law.ensures.states a.state a.self.now.edges.now c.requires (c.edges_law.ensures a.self.now.body.now.states a.state) c.pairs.result.now c.pairs.ensures found c.in_ok-lesser.ensures in
+    (refl, subst (λ (o : Option (ℕ × ℕ)). IsLeastPairFound (MissesSplit m a.self.now.body.now a.state) o) c.in-Some.is least)

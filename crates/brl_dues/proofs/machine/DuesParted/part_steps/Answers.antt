@@ -6,15 +6,17 @@ use Rattle.brl_states.specs.declared.due.Due.{Due}
 use Rattle.brl_states.specs.declared.dues_state.DuesState.{DuesState}
 use Rattle.brl_dues.specs.LetterView.{LetterView}
 use Rattle.brl_dues.specs.Letters.{new_letter, steps_found}
-use Rattle.brl_dues.proofs.steps.find_part_steps.Goals as goal
+use Rattle.brl_dues.specs.Parts.{steps_of_part}
+use Rattle.brl_dues.proofs.machine.DuesParted.part_steps.Goals as goal
 
 pub returns : goal.returns
 returns c =
-    let t = c.args.table.now in
+    let t = c.self.inside.table.now in
     let s = c.args.part.now.state in
-    subst (λ (found : List (Step DuesState)). IfOk c.list_steps.result (λ listed. listed.items ≡ found))
-    (ap (λ (x : TableView). steps_found x s 0 x.rules c.push.new.self.items) c.in_ok-cased.ensures
+    subst (λ (x : TableView). IfOk c.list_steps.result (λ listed. listed.items ≡ steps_of_part x c.args.part.now)) c.self.view_is
+    (subst (λ (found : List (Step DuesState)). IfOk c.list_steps.result (λ listed. listed.items ≡ found))
+    (ap (λ (x : TableView). steps_found x s 0 x.rules c.push.new.self.items) c.in_ok-table.ensures
     ∙ ap (steps_found t s 0 t.rules)
     (c.in_ok-push.ensures.items
     ∙ ap₂ (λ (ls : List LetterView) (l : LetterView). ls ++ l ∷ []) c.in_ok-letters.ensures.items
-    (c.new_letter_of.ensures ∙ ap (λ (dues : List Due). new_letter t dues c.args.part.now.character) c.as_slice-dues.ensures.dues))) c.list_steps.ensures
+    (c.new_letter_of.ensures ∙ ap (λ (dues : List Due). new_letter t dues c.args.part.now.character) c.as_slice-dues.ensures.dues))) c.list_steps.ensures)
