@@ -1,16 +1,19 @@
 -- Facts that pass from files in memory to those of a cut.
-use Rattle.std.proofs.Common.{◌≡◌, ◌∙◌, ℕ, Bool, List, Result, Ok, Err, IfErr, IfOk, ap, subst}
+use Rattle.std.proofs.Common.{◌≡◌, ◌∙◌, ℕ, Bool, List, Result, Ok, Err, IfErr, IfOk, ap, map, subst, sym}
+use Rattle.std.proofs.lemmas.Simd.{map-map}
 use Rattle.brl_failure.specs.Failure.{IfFault}
 use Rattle.brl_failure.specs.Raised.{if_fault-weaker}
 use Rattle.brl_failure.specs.declared.failure.Failure.{Failure}
 use Rattle.brl_lines.specs.Answer.{FileAnswers}
 use Rattle.brl_lines.specs.GatherFaults.{IsGathered, gathered_view}
+use Rattle.brl_lines.specs.Gathered.{left_view}
 use Rattle.brl_lines.specs.Gathering.{LeftView}
+use Rattle.brl_lines.specs.declared.way.LeftInclude.{LeftInclude}
 use Rattle.brl_lines.specs.declared.gathering.Gathered.{Gathered}
 use Rattle.brl_lines.specs.declared.fault.LoadFault.{LoadFault}
 use Rattle.brl_table.specs.declared.no_table.NoTable.{NoTable}
-use Rattle.brl_cut.specs.Cuts.{IsCutFault, IsReadAs, IsUncut, IsUnreadAs, without_include_lines}
-use Rattle.brl_cut.specs.Edits.{Texts}
+use Rattle.brl_cut.specs.Cuts.{include_edit, IsCutFault, IsReadAs, IsUncut, IsUnreadAs, without_include_lines}
+use Rattle.brl_cut.specs.Edits.{EditView, Texts, edited_files}
 use Rattle.brl_cut.specs.Rounds.{SettlesTo}
 use Rattle.brl_cut.specs.declared.cutting.Cut.{Cut}
 use Rattle.brl_cut.specs.declared.cutting.CutFault.{CutFault}
@@ -21,6 +24,10 @@ use Rattle.brl_cut.specs.declared.rounds.Settled.{Settled}
 pub settled-as : (root : List ℕ) (files start : Texts) (step : Result Settled (Failure LoadFault)) (settled : Settled) → step ≡ Ok settled → IfOk step (SettlesTo root files) → files ≡ start → SettlesTo root start settled
 settled-as root files start step settled e h same =
     subst (λ (fs : Texts). SettlesTo root fs settled) same (subst (λ (r : Result Settled (Failure LoadFault)). IfOk r (SettlesTo root files)) e h)
+
+-- files where include lines are comments are those without these
+pub without-is : (left : List LeftInclude) (new files : Texts) → new ≡ edited_files (map (λ l. include_edit (left_view l)) left) files → new ≡ without_include_lines (map left_view left) files
+without-is left new files e = e ∙ ap (λ (es : List EditView). edited_files es files) (sym (map-map include_edit left_view left))
 
 -- files without include lines, of equal lists
 pub without-from : {new files same_files : Texts} {left same_left : List LeftView} → new ≡ without_include_lines left files → left ≡ same_left → files ≡ same_files → new ≡ without_include_lines same_left same_files

@@ -9,8 +9,8 @@ ghost use Rattle.brl_table.specs.Survey.{faulty_line_view};
 ghost use Rattle.brl_cut.specs.Cuts.{IsCut, IsCutFault, IsCutOf, IsReadAs, IsUncut, IsUnreadAs, name_in, slash_after as slash_between, start_edits, start_files, written_files, written_path as path_written};
 ghost use Rattle.brl_cut.specs.Files.{edit_view, file_view};
 
-use crate::files::source_of;
-use crate::includes::{include_faults, without_lines};
+use crate::files::{source_of, with_comments};
+use crate::includes::include_faults;
 use crate::rewriting::{Rewritten, count_rewritten, rewrite_files};
 use crate::rounds::{Settled, settle};
 use brl_failure::{Failure, raise};
@@ -150,7 +150,7 @@ fn rewrite_gathered(
     ensures files { IfOk result (λ new. map file_view new.files.items ≡ start_files rewrite root.now (gathered_view gathered.now)) }
     ensures edits { IfOk result (λ new. map edit_view new.edits.items ≡ start_edits rewrite root.now (gathered_view gathered.now)) }
 {
-    let files = without_lines(
+    let files = with_comments(
         alloc,
         gathered.files.as_slice(),
         gathered.left_out.as_slice(),

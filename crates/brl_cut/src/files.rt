@@ -45,10 +45,7 @@ pub(crate) trait BecomesComment {
 }
 
 /// The edits that make lines comments.
-pub(crate) fn edits_of<L: BecomesComment>(
-    alloc: Global,
-    lines: &[L],
-) -> Result<Vec<Edit>, AllocError>
+fn edits_of<L: BecomesComment>(alloc: Global, lines: &[L]) -> Result<Vec<Edit>, AllocError>
     ensures { IfOk result (λ edits. map edit_view edits.items ≡ map L.edit_of lines.now) }
 {
     let mut edits = Vec::with_capacity(alloc, lines.len())?;
@@ -101,6 +98,18 @@ pub(crate) fn edit_files(
         new.push(edit_file(alloc, file, edits)?)?;
     }
     Ok(new)
+}
+
+/// Files where these lines are comments.
+pub(crate) fn with_comments<L: BecomesComment>(
+    alloc: Global,
+    files: &[GatheredFile],
+    lines: &[L],
+) -> Result<Vec<GatheredFile>, AllocError>
+    ensures { IfOk result (λ new. map file_view new.items ≡ edited_files (map L.edit_of lines.now) (map file_view files.now)) }
+{
+    let edits = edits_of(alloc, lines)?;
+    edit_files(alloc, files, edits.as_slice())
 }
 
 /// A source that has these files and no others; the last one at a path decides.

@@ -2,11 +2,10 @@
 ghost use Rattle.std.specs.Prelude.{◌≡◌, IfOk, map};
 ghost use Rattle.brl_lines.specs.Gathered.{left_view};
 ghost use Rattle.brl_table.specs.Survey.{faulty_line_view};
-ghost use Rattle.brl_cut.specs.Cuts.{include_fault as fault_of_include, include_reason, without_include_lines};
-ghost use Rattle.brl_cut.specs.Files.{file_view};
+ghost use Rattle.brl_cut.specs.Cuts.{include_fault as fault_of_include, include_reason};
 
-use crate::files::{BecomesComment, Edit, edit_files, edits_of};
-use brl_lines::{GatheredFile, IncludeReason, LeftInclude};
+use crate::files::{BecomesComment, Edit};
+use brl_lines::{IncludeReason, LeftInclude};
 use brl_table::{FaultyLine, TableFault, TableFaultKind};
 use std::alloc::{AllocError, Global};
 
@@ -33,18 +32,6 @@ impl BecomesComment for LeftInclude {
         let prefix = format!(in alloc; "# {reason} {name}: ")?;
         Edit::new(alloc, self.file.as_str(), self.line, prefix)
     }
-}
-
-/// Files where these include lines are comments.
-pub(crate) fn without_lines(
-    alloc: Global,
-    files: &[GatheredFile],
-    left_out: &[LeftInclude],
-) -> Result<Vec<GatheredFile>, AllocError>
-    ensures { IfOk result (λ new. map file_view new.items ≡ without_include_lines (map left_view left_out.now) (map file_view files.now)) }
-{
-    let edits = edits_of(alloc, left_out)?;
-    edit_files(alloc, files, edits.as_slice())
 }
 
 /// An include line that is left out, as a faulty line: one that is left after loading.

@@ -8,7 +8,7 @@ ghost use Rattle.brl_cut.specs.Files.{file_view};
 ghost use Rattle.brl_cut.specs.Rounds.{IsSurveyed, IsUnsettled, SettlesTo};
 ghost use Rattle.brl_cut.specs.Settling.{lines_among};
 
-use crate::files::{BecomesComment, Edit, edit_files, edits_of, load_files};
+use crate::files::{BecomesComment, Edit, load_files, with_comments};
 use brl_failure::Failure;
 use brl_lines::{GatheredFile, Line, LoadFault, Location};
 use brl_table::{FaultyLine, survey};
@@ -98,8 +98,7 @@ pub(crate) fn settle(
                 places: surveyed.places,
             });
         }
-        let edits = edits_of(alloc, surveyed.faulty.as_slice())?;
-        files = edit_files(alloc, files.as_slice(), edits.as_slice())?;
+        files = with_comments(alloc, files.as_slice(), surveyed.faulty.as_slice())?;
         found.append(&mut surveyed.faulty)?;
     }
     Err(Failure::Memory)

@@ -8,8 +8,7 @@ ghost use Rattle.brl_lines.specs.Outcome.{AreLinesOfFiles, IsLoadFault};
 ghost use Rattle.brl_cut.specs.Cuts.{only};
 ghost use Rattle.brl_cut.specs.Skipping.{AreLinesWithout, IsUnloaded, is_of_dictionary as is_dictionary_line, of_dictionaries as lines_of_dictionaries, without_dictionaries};
 
-use crate::files::source_of;
-use crate::includes::without_lines;
+use crate::files::{source_of, with_comments};
 use brl_failure::Failure;
 use brl_lines::{
     GatherFault, Gathered, IncludeReason, LeftInclude, LoadFault, Loaded, Source, gather, load,
@@ -74,7 +73,7 @@ fn load_gathered(
     ensures fault { IfErr result (IsLoadFault (only (without_dictionaries (gathered_view gathered))) root.now) }
 {
     let skipped = of_dictionaries(alloc, gathered.left_out.as_slice())?;
-    let files = without_lines(alloc, gathered.files.as_slice(), skipped.as_slice())?;
+    let files = with_comments(alloc, gathered.files.as_slice(), skipped.as_slice())?;
     let mut source = source_of(alloc, files.as_slice())?;
     let loaded = load(alloc, &mut source, root)?;
     Ok(WithoutDictionaries { loaded, skipped })

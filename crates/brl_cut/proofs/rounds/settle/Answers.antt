@@ -29,10 +29,10 @@ loop-preserved c =
     let told = c.in_ok-surveyed.ensures.found in
     let faulty : map faulty_line_view c.in_ok-surveyed.surveyed.faulty.items ≡ faulty_in root before =
     told.2 ∙ sym (faulty-found root (map file_view c.as_slice.result.now) told.0 told.1) ∙ ap (faulty_in root) now in
-    let edits = ap (map edit_view) c.as_slice-in-loop-3.ensures.value ∙ c.in_ok-edits.ensures ∙ sym (map-map fault_edit faulty_line_view c.as_slice-in-loop.result.now) ∙ ap (map fault_edit) (ap (map faulty_line_view) c.as_slice-in-loop.ensures.value ∙ faulty) in (
+    let edits = sym (map-map fault_edit faulty_line_view c.as_slice-in-loop-2.result.now) ∙ ap (map fault_edit) (ap (map faulty_line_view) c.as_slice-in-loop-2.ensures.value ∙ faulty) in (
       suc inv.0,
-      c.in_ok-files.ensures ∙ ap (λ (es : List EditView). edited_files es (map file_view c.as_slice-in-loop-2.result.now)) edits
-          ∙ ap (edited_files (map fault_edit (faulty_in root before))) (ap (map file_view) c.as_slice-in-loop-2.ensures.value ∙ inv.1),
+      c.in_ok-files.ensures ∙ ap (λ (es : List EditView). edited_files es (map file_view c.as_slice-in-loop.result.now)) edits
+          ∙ ap (edited_files (map fault_edit (faulty_in root before))) (ap (map file_view) c.as_slice-in-loop.ensures.value ∙ inv.1),
       ap (map faulty_line_view) c.in_ok-append.ensures.items ∙ map-append faulty_line_view c.loop.found.items c.in_ok-surveyed.surveyed.faulty.items
           ∙ ap (λ (xs : List FaultyLineView). xs ++ map faulty_line_view c.in_ok-surveyed.surveyed.faulty.items) inv.2
           ∙ ap (λ (xs : List FaultyLineView). found_in_rounds inv.0 root start ++ xs) faulty,
