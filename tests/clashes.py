@@ -226,7 +226,7 @@ def list_fault(plain: Plain, told: str, status: int, without: str) -> str:
             return f"{it.left!r} / {it.right!r}: listed twice, or without lines"
         listed.add(rules)
     folded = sum(int(it) for it in re.findall(r"^  (\d+) of other characters of the sets$", told, re.MULTILINE))
-    counts = re.findall(r"^(\d+) pairs of rules diverge, and no others$", told, re.MULTILINE)
+    counts = re.findall(r"^(\d+) (?:pair of rules diverges|pairs of rules diverge), and no others$", told, re.MULTILINE)
     if status != (1 if listed or folded else 0) or counts != ([str(len(listed) + folded)] if status else []):
         return f"status {status}, {len(listed)} listed and {folded} folded, but it says {counts}"
     others = stand_ins(told, plain)

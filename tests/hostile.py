@@ -301,13 +301,13 @@ RUNS = [
            err="notice DefinedAgain a at t.ctb:2\n", written="BRLCERT 3\n"),
     Run("a limit is passed", ["search", "--limit", "1", "t.ctb", "o"], {"t.ctb": TWO}, "limit: 2 states, 0 pairs\n", 3),
     Run("clashes are listed", ["clashes", "t.ctb"], {"t.ctb": ALIKE},
-        "small letters: 1 pairs of rules diverge, and no others\n  x / ab  1-12  t.ctb:3 letter x  t.ctb:1 letter a\n"
-        "1 pairs of rules diverge, and no others\n", 1),
+        "small letters: 1 pair of rules diverges, and no others\n  x / ab  1-12  t.ctb:3 letter x  t.ctb:1 letter a\n"
+        "1 pair of rules diverges, and no others\n", 1),
     Run("a set of characters is listed", ["clashes", "t.ctb"], {"t.ctb": "space \\s 0\nspace \\t 0\nletter a 1\n"},
         "1 sets of characters have the same cells, classes and flags, and are in no rule; "
         "below, the first of each represents its set:\n  0  \\s \\t\n"
-        "small letters: 1 pairs of rules diverge, and no others\n"
-        "  1 of other characters of the sets\n1 pairs of rules diverge, and no others\n", 1),
+        "small letters: 1 pair of rules diverges, and no others\n"
+        "  1 of other characters of the sets\n1 pair of rules diverges, and no others\n", 1),
     Run("no clash is listed", ["clashes", "t.ctb"], {"t.ctb": TWO},
         "small letters: 0 pairs of rules diverge, and no others\nunambiguous: 2 states, 0 pairs\n"),
     Run("a list of clashes passes a limit", ["clashes", "--limit", "1", "t.ctb"], {"t.ctb": TWO},

@@ -5,7 +5,7 @@ use Rattle.std.specs.Fmt.{decimal}
 use Rattle.std.specs.Option.{option_map_or}
 use Rattle.brl_answers.specs.Answers.{counts_line, spelled_one_by_one, with_left_out_line}
 use Rattle.brl_cells.specs.Dots.{spelling}
-use Rattle.brl_clashes.specs.SectionText.{IsSectionText, others_note}
+use Rattle.brl_clashes.specs.SectionText.{IsSectionText, others_note, pairs_words}
 use Rattle.brl_clashes.specs.Sections.{listed_after, listed_pairs, outcome_of}
 use Rattle.brl_clashes.specs.Sets.{openers, plain, set_among}
 use Rattle.brl_clashes.specs.declared.section.Section.{Section}
@@ -50,7 +50,7 @@ last_counts word sections = option_map_or (λ s. counts_of word s.found) (slice_
 
 -- how many pairs of rules there are, and whether there may be others
 abbrev pub pairs_line : ℕ → Bool → List ℕ
-pairs_line count whole = decimal count ++ (others_note whole ++ codes "\n")
+pairs_line count whole = decimal count ++ (pairs_words count ++ (others_note whole ++ codes "\n"))
 
 -- the counts that are said: of a table that is unambiguous, and those at which a limit was passed
 abbrev pub verdict_counts : Outcome → List Section → List ℕ

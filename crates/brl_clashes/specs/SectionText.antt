@@ -22,9 +22,13 @@ kind_name Capital = codes "with capitals"
 kind_name Mark = codes "with marks"
 kind_name Other = codes "all characters"
 
--- the note after a number of pairs of rules: no others diverge, or others may
+-- the words after this number of pairs of rules
+abbrev pub pairs_words : ℕ → List ℕ
+pairs_words count = if count == 1 then codes " pair of rules diverges" else codes " pairs of rules diverge"
+
+-- the note after these: no others diverge, or others may
 abbrev pub others_note : Bool → List ℕ
-others_note whole = if whole then codes " pairs of rules diverge, and no others" else codes " pairs of rules diverge, and maybe others"
+others_note whole = if whole then codes ", and no others" else codes ", and maybe others"
 
 -- after sections that list pairs of rules, those of a later section are more
 abbrev pub more_note : Bool → List ℕ
@@ -33,7 +37,7 @@ more_note more = if more then codes " more" else []
 -- the first line of a section: its texts, and how many pairs of rules it lists that no earlier
 -- section does
 abbrev pub heading : Kind → ℕ → Bool → Bool → List ℕ
-heading kind count more whole = kind_name kind ++ (codes ": " ++ (decimal count ++ (more_note more ++ (others_note whole ++ codes "\n"))))
+heading kind count more whole = kind_name kind ++ (codes ": " ++ (decimal count ++ (more_note more ++ (pairs_words count ++ (others_note whole ++ codes "\n")))))
 
 -- a line with a number after two blanks and words after it; empty for 0
 abbrev pub number_line : ℕ → List ℕ → List ℕ

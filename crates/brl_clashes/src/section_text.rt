@@ -23,7 +23,7 @@ use crate::listed_pairs::ListedPairs;
 use crate::order::compare_clashes;
 use crate::representatives::is_represented;
 use crate::section::{into_clashes, is_whole};
-use crate::verdict::others_note;
+use crate::verdict::{others_note, pairs_words};
 use crate::{Kind, Section};
 use brl_lines::Line;
 use brl_report::push_clash_line;
@@ -125,8 +125,9 @@ fn heading(
 {
     let name = kind_name(kind);
     let more = more_note(more);
+    let pairs = pairs_words(count);
     let others = others_note(whole);
-    format!(in alloc; "{name}: {count}{more}{others}\n")
+    format!(in alloc; "{name}: {count}{more}{pairs}{others}\n")
 }
 
 /// What is said after the number of pairs of rules where earlier sections list some.

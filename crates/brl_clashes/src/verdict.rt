@@ -7,7 +7,7 @@ ghost use Rattle.brl_clashes.specs.ClashesText.{
   verdict_counts as counts_of_verdict,
   verdict_pairs as pairs_of_verdict,
 };
-ghost use Rattle.brl_clashes.specs.SectionText.{others_note as note_of_others};
+ghost use Rattle.brl_clashes.specs.SectionText.{others_note as note_of_others, pairs_words as words_of_pairs};
 ghost use Rattle.brl_clashes.specs.Sections.{are_whole as all_whole, list_none as none_listed, outcome_of as outcome_of_sections};
 
 use crate::Section;
@@ -108,17 +108,29 @@ pub fn verdict_pairs(alloc: Global, outcome: Outcome, count: usize) -> Result<St
 fn pairs_line(alloc: Global, count: usize, whole: bool) -> Result<String, AllocError>
     ensures { IfOk result (λ text. string_bytes text ≡ line_of_pairs count whole) }
 {
-    let note = others_note(whole);
-    format!(in alloc; "{count}{note}\n")
+    let pairs = pairs_words(count);
+    let others = others_note(whole);
+    format!(in alloc; "{count}{pairs}{others}\n")
 }
 
-/// What is said of a number of pairs of rules: that no others diverge, or that others may.
+/// The words after a number of pairs of rules.
+pub fn pairs_words(count: usize) -> &'static str
+    ensures { result.now ≡ words_of_pairs count }
+{
+    if count == 1 {
+        " pair of rules diverges"
+    } else {
+        " pairs of rules diverge"
+    }
+}
+
+/// What is said after these words: that no others diverge, or that others may.
 pub fn others_note(whole: bool) -> &'static str
     ensures { result.now ≡ note_of_others whole }
 {
     if whole {
-        " pairs of rules diverge, and no others"
+        ", and no others"
     } else {
-        " pairs of rules diverge, and maybe others"
+        ", and maybe others"
     }
 }

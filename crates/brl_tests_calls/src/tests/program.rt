@@ -1,13 +1,16 @@
 //! The program.
+use brl_clashes::{Kind, Outcome, Section, list_sections, outcome_of, sections_text};
 use brl_failure::Failure;
 use brl_lines::MapSource;
+use brl_progress::NoProgress;
 use brl_table::Table;
 use brl_testing::{Listener, one_file, table_of};
 use brl_tool::{
     Counting, CreateFault, Files, Form, Lacking, SinkFault, StreamFault, run,
     translate_defined_lines, translate_lines,
 };
-use std::alloc::Global;
+use brl_without::{LeftOut, Scope};
+use std::alloc::{AllocError, Global};
 use std::test::Fail;
 
 fn is_written(alloc: Global, files: &mut MapSource) -> bool {
@@ -94,6 +97,36 @@ fn runs(alloc: Global) -> Result<bool, Fail> {
     is_run(alloc, &mut files)
 }
 
+/// Whether these are one section, of small letters, and its list isn't empty.
+fn is_of_letters(sections: &[Section]) -> bool {
+    sections.len() == 1
+        && matches!(&sections[0].kind, Kind::Letter)
+        && matches!(outcome_of(sections), Outcome::Clashing)
+}
+
+/// The list of a table's clashes, as an author reads it.
+fn clashes_text(alloc: Global, table: &Table) -> Result<String, AllocError> {
+    let left_out = LeftOut::none(alloc);
+    let scope = Scope {
+        left_out: &left_out,
+        progress: &mut NoProgress,
+    };
+    let sections: Vec<Section> = list_sections(alloc, table, 1000, scope)?;
+    if !is_of_letters(sections.as_slice()) {
+        return Ok(String::new(alloc));
+    }
+    sections_text(alloc, table, &[], &left_out, 0, sections)
+}
+
+fn lists_clashes(alloc: Global) -> Result<bool, Fail> {
+    let table = table_of(alloc, "letter a 1; letter b 12; letter x 1-12")?;
+    let text = clashes_text(alloc, &table)?;
+    Ok(
+        text.as_str()
+            .ends_with("\n1 pair of rules diverges, and no others\n"),
+    )
+}
+
 fn translates(alloc: Global) -> Result<bool, Fail> {
     let table = table_of(alloc, "letter a 1")?;
     Ok(streams(alloc, &table))
@@ -101,6 +134,6 @@ fn translates(alloc: Global) -> Result<bool, Fail> {
 
 #[test]
 fn calls_of_the_program(rt: HostRuntime) -> Result<(), Fail> {
-    assert!(rt; runs(rt.alloc())? && translates(rt.alloc())?);
+    assert!(rt; runs(rt.alloc())? && translates(rt.alloc())? && lists_clashes(rt.alloc())?);
     Ok(())
 }

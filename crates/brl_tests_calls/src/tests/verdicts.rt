@@ -5,15 +5,18 @@ use crate::tests::tables::is_refused;
 use brl_accept::{AcceptFault, Accepted, JudgeFault, accept, judge};
 use brl_cells::Cells;
 use brl_cert::{Body, Cert, CertFault, CertPair, WriteFault, read_cert, write_cert};
+use brl_divergence::{Divergences, list_divergences};
 use brl_dues::{Dues, DuesState};
 use brl_failure::Failure;
 use brl_forward::Clash;
 use brl_lines::MapSource;
+use brl_progress::NoProgress;
 use brl_report::{ReportFault, report};
-use brl_search::{Found, SearchFault, search};
+use brl_search::{ClashList, Found, RuleClash, SearchFault, clashes, search, seed_of};
 use brl_table::Table;
 use brl_testing::{one_file, table_of};
-use std::alloc::Global;
+use brl_without::{LeftOut, Scope};
+use std::alloc::{AllocError, Global};
 use std::test::Fail;
 
 /// The certificate of a table of the letters `a` and `b`.
@@ -106,6 +109,44 @@ fn has_a_report(alloc: Global, table: &Table) -> bool {
     }
 }
 
+/// Whether this is a pair of these rules, with a clash of two texts of one character.
+fn is_rule_clash(clash: &RuleClash, lesser: u32, greater: u32) -> bool {
+    let clash_of: &Clash = &clash.clash;
+    clash.lesser == lesser
+        && clash.greater == greater
+        && clash_of.left().len() == 1
+        && clash_of.right().len() == 1
+}
+
+/// Whether the list of a table's clashes, of two letters with the same cells, has their pair alone.
+fn lists_both(alloc: Global, table: &Table) -> bool {
+    let scope = Scope {
+        left_out: &LeftOut::none(alloc),
+        progress: &mut NoProgress,
+    };
+    let found: Result<ClashList, AllocError> = clashes(alloc, table, 1000, scope);
+    match &found {
+        Ok(ClashList::Complete { list, body }) => {
+            list.len() == 1 && is_rule_clash(&list[0], 0, 1) && body.state_count() == 2
+        }
+        _ => false,
+    }
+}
+
+/// Whether the list of the divergences of a table's machine, of two letters with the same cells, has
+/// their pair alone.
+fn machine_lists_both(alloc: Global, table: &Table) -> Result<bool, Fail> {
+    let dues = Dues::new(alloc, table);
+    let seed = seed_of(alloc, table)?;
+    let found: Result<Divergences<DuesState>, AllocError> = list_divergences(
+        alloc, &dues, 1000, seed,
+    );
+    match &found {
+        Ok(Divergences::Complete { list, .. }) => Ok(list.len() == 1 && list.contains_key(&(0, 1))),
+        _ => Ok(false),
+    }
+}
+
 /// Whether the table of two letters is certified.
 fn certifies(alloc: Global) -> Result<bool, Fail> {
     let table = table_of(alloc, "letter a 1; letter b 12")?;
@@ -115,7 +156,8 @@ fn certifies(alloc: Global) -> Result<bool, Fail> {
 /// Whether the table of two letters with the same cells has a clash, and isn't accepted.
 fn finds_a_clash(alloc: Global) -> Result<bool, Fail> {
     let table = table_of(alloc, "letter a 1; letter b 1")?;
-    Ok(!is_accepted(alloc, &table) && has_a_report(alloc, &table))
+    let is_found = !is_accepted(alloc, &table) && has_a_report(alloc, &table);
+    Ok(is_found && lists_both(alloc, &table) && machine_lists_both(alloc, &table)?)
 }
 
 fn are_reached(alloc: Global) -> Result<bool, Fail> {
