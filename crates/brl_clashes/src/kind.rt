@@ -12,6 +12,7 @@ ghost use Rattle.brl_clashes.specs.Kinds.{
   or_letter,
   table_characters as characters_of,
 };
+ghost use Rattle.brl_clashes.specs.SectionText.{kind_name};
 
 use bitflags::Flags;
 use brl_rules::{Class, Table};
@@ -42,6 +43,19 @@ impl Kind {
             Kind::Capital => 2,
             Kind::Mark => 3,
             Kind::Other => 4,
+        }
+    }
+
+    /// The texts of the section of a kind.
+    pub(crate) fn name(self) -> &'static str
+        ensures { result.now ≡ kind_name self }
+    {
+        match self {
+            Kind::Letter => "small letters",
+            Kind::Digit => "with digits",
+            Kind::Capital => "with capitals",
+            Kind::Mark => "with marks",
+            Kind::Other => "all characters",
         }
     }
 }

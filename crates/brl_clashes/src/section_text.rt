@@ -8,7 +8,6 @@ ghost use Rattle.brl_clashes.specs.SectionText.{
   clash_lines,
   first_ones as first_clashes,
   heading as heading_of,
-  kind_name as name_of_kind,
   more_note as note_of_more,
   number_line,
   rule_clash_line,
@@ -123,7 +122,7 @@ fn heading(
 ) -> Result<String, AllocError>
     ensures { IfOk result (λ text. string_bytes text ≡ heading_of kind count more whole) }
 {
-    let name = kind_name(kind);
+    let name = kind.name();
     let more = more_note(more);
     let pairs = pairs_words(count);
     let others = others_note(whole);
@@ -135,19 +134,6 @@ fn more_note(more: bool) -> &'static str
     ensures { result.now ≡ note_of_more more }
 {
     if more { " more" } else { "" }
-}
-
-/// The texts of the section of a kind.
-fn kind_name(kind: Kind) -> &'static str
-    ensures { result.now ≡ name_of_kind kind }
-{
-    match kind {
-        Kind::Letter => "small letters",
-        Kind::Digit => "with digits",
-        Kind::Capital => "with capitals",
-        Kind::Mark => "with marks",
-        Kind::Other => "all characters",
-    }
 }
 
 /// Appends the lines of the first of these clashes, how many more there are, and how many of a number

@@ -8,15 +8,20 @@ use Rattle.brl_forward.specs.declared.steps.Traced.{Traced}
 use Rattle.brl_report.specs.declared.steps.ReportStep.{ReportStep}
 use Rattle.brl_rules.specs.TableView.{TableView}
 use Rattle.brl_rules.specs.Text.{context_at, is_in_caps_run}
+use Rattle.brl_rules.specs.declared.context.Context.{Context}
 
--- a step with the characters that it reads, its context, and whether it begins in a run of capitals
-abbrev pub report_step : TableView → List ℕ → Traced → ReportStep
-report_step t text step = record {
+-- a step after a context, with the characters that it reads, and whether it begins in a run of capitals
+abbrev pub step_after : TableView → List ℕ → Context → Traced → ReportStep
+step_after t text here step = record {
   step = step;
   characters = take step.length (drop step.start text);
-  here = context_at t text step.start;
-  run = is_in_caps_run t (context_at t text step.start).classes (drop step.start text);
+  here = here;
+  run = is_in_caps_run t here.classes (drop step.start text);
 }
+
+-- a step of a text, after the context of its position
+abbrev pub report_step : TableView → List ℕ → Traced → ReportStep
+report_step t text step = step_after t text (context_at t text step.start) step
 
 -- the steps of a text's translation
 abbrev pub report_steps : TableView → List ℕ → List ReportStep

@@ -2,8 +2,8 @@
 ghost use Rattle.std.specs.Prelude.{◌≡◌, IsTrue, IfErr, IfOk, take, drop};
 ghost use Rattle.brl_failure.specs.Failure.{IfFault};
 ghost use Rattle.brl_forward.specs.Faults.{IsFaultOf};
-ghost use Rattle.brl_report.specs.Steps.{are_same, common_prefix, report_step, report_steps};
-ghost use Rattle.brl_rules.specs.Text.{context_at, is_text};
+ghost use Rattle.brl_report.specs.Steps.{are_same, common_prefix, report_steps, step_after};
+ghost use Rattle.brl_rules.specs.Text.{is_text};
 
 use brl_cells::Chars;
 use brl_failure::Failure;
@@ -47,7 +47,7 @@ pub fn traced_steps(
     let mut found = Vec::new(alloc);
     let mut here = Context::START;
     for step in steps {
-        let reported = report_step(alloc, table, text, here, step)?;
+        let reported = step_after(alloc, table, text, here, step)?;
         here = table.context_after(here, reported.characters.as_slice());
         found.push(reported)?;
     }
@@ -55,15 +55,14 @@ pub fn traced_steps(
 }
 
 /// A step with the characters that it reads, after this context.
-fn report_step(
+fn step_after(
     alloc: Global,
     table: &Table,
     text: &[char],
     here: Context,
     step: Traced,
 ) -> Result<ReportStep, AllocError>
-    requires { here ≡ context_at table.now text.now step.start }
-    ensures { IfOk result (λ reported. reported ≡ report_step table.now text.now step) }
+    ensures { IfOk result (λ reported. reported ≡ step_after table.now text.now here step) }
 {
     let characters = taken(alloc, text, &step)?;
     let rest = text.get(step.start..).unwrap_or_default();

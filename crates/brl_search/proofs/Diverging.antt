@@ -11,6 +11,7 @@ use Rattle.brl_pairs.specs.Divergence.{are_rules}
 use Rattle.brl_rules.specs.TableView.{TableView}
 use Rattle.brl_search.specs.Smaller.{are_same_steps, diverge_at}
 use Rattle.brl_search.specs.Traces.{IsSameStep, TracesDivergeAt, begins_in_caps_run, taken}
+use Rattle.brl_search.proofs.Together.{diverging}
 
 all-true : (b c d e : Bool) → b ≡ true → c ≡ true → d ≡ true → e ≡ true → (b && c && d && e) ≡ true
 all-true b c d e f g h k = rw (f, g, h, k) refl
@@ -117,16 +118,7 @@ pub traces-diverge : (t : TableView) (pair : ℕ × ℕ) (left right : List ℕ)
 traces-diverge t pair left right = (
   λ test.
       (let at = diverge-from_test t left right pair (trace_of t left) (trace_of t right) test in
-      record {
-        place = at.place;
-        one = at.one;
-        other = at.other;
-        before = at.before;
-        one_there = at.one_there;
-        other_there = at.other_there;
-        differ = at.differ;
-        pair = one-pair (are_rules at.one.rule at.other.rule pair) ∙ at.rules;
-      }),
+      diverging t (pair ∷ []) left right at.place at.one at.other at.before at.one_there at.other_there at.differ (one-pair (are_rules at.one.rule at.other.rule pair) ∙ at.rules)),
   λ at.
       test-from_diverge t left right pair (trace_of t left) (trace_of t right) at.place at.one at.other at.before at.one_there at.other_there at.differ
       (sym (one-pair (are_rules at.one.rule at.other.rule pair)) ∙ at.pair),

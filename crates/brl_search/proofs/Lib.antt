@@ -6,3 +6,4 @@ pub mod TableSearch
 pub mod Traces
 pub mod RuleClashes
 mod WholeList
+mod Together

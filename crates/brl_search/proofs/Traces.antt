@@ -27,6 +27,7 @@ use Rattle.brl_forward.specs.declared.steps.Traced.{Traced}
 use Rattle.brl_without.specs.Without.{without}
 use Rattle.brl_without.proofs.Paths.{path_within}
 use Rattle.brl_search.specs.Traces.{ClashesDivergeAt, ClashesDivergeAtWithout, IsSameStep, IsTraced, PathsAreTraces, TracesDivergeAsPaths, TracesDivergeAt, begins_in_caps_run}
+use Rattle.brl_search.proofs.Together.{diverging}
 
 in_text : (i : ℕ) (text : List ℕ) (x : ℕ) (rest : List ℕ) → drop i text ≡ x ∷ rest → nat_lt i (length text) ≡ true
 in_text i text x rest e = (let size = sym (length-drop i text) ∙ ap length e in lt-ltb i (length text) (omega (arith, size)))
@@ -218,16 +219,8 @@ module _ (t : TableView) (choosing : Choosing t) (translating : Translating t) (
       let right_size = ap length right_reads in
       let r = apart left right (length left) (length right) 0 0 start at.before at.one at.other at.first_rest at.second_rest at.differ is_one is_other refl refl left_reads right_reads
       (omega (arith, left_size)) (omega (arith, right_size)) in
-      record {
-        place = r.place;
-        one = r.one;
-        other = r.other;
-        before = r.before;
-        one_there = r.one_there;
-        other_there = r.other_there;
-        differ = r.differ;
-        pair = ap (λ m. has_rules rules m r.other.rule) (sym r.one_rule) ∙ ap (has_rules rules at.one.rule) (sym r.other_rule) ∙ diverge.1;
-      }
+      diverging t rules left right r.place r.one r.other r.before r.one_there r.other_there r.differ
+      (ap (λ m. has_rules rules m r.other.rule) (sym r.one_rule) ∙ ap (has_rules rules at.one.rule) (sym r.other_rule) ∙ diverge.1)
 
 both-true : (b c : Bool) → b ≡ true → c ≡ true → (b && c) ≡ true
 both-true b c e f = rw e f

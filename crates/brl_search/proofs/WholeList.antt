@@ -21,6 +21,7 @@ use Rattle.brl_rules.specs.TableView.{TableView}
 use Rattle.brl_search.specs.Clashes.{AreJustThose, AreRuleClashes, ClashesDiverge, IsRuleClash, rules_of_clashes}
 use Rattle.brl_search.specs.Traces.{ClashesDivergeAtWithout, IsSameStep}
 use Rattle.brl_search.specs.declared.table_clashes.RuleClash.{RuleClash}
+use Rattle.brl_search.proofs.Together.{diverging}
 
 -- ---- Ascending lists
 
@@ -136,16 +137,8 @@ module _ (left_out : List ℕ) (t : TableView) where
           right = c.clash.right;
           cells = c.clash.cells;
           clash = each.0.clash;
-          diverge = record {
-            place = at.place;
-            one = at.one;
-            other = at.other;
-            before = at.before;
-            one_there = at.one_there;
-            other_there = at.other_there;
-            differ = at.differ;
-            pair = pair_again r s at.one.rule at.other.rule (c.lesser, c.greater) here at.pair;
-          };
+          diverge = diverging t ((r, s) ∷ []) c.clash.left c.clash.right at.place at.one at.other at.before at.one_there at.other_there at.differ
+              (pair_again r s at.one.rule at.other.rule (c.lesser, c.greater) here at.pair);
         })
     | inr later ↦ has_clash list each.1 r s later
   ]

@@ -24,7 +24,7 @@ mod survey;
 mod trace;
 mod translate;
 
-pub use brl_answers::{CreateFault, Files, SinkFault};
+pub use brl_answers::{CreateFault, Files, NewFileFault, SinkFault};
 pub use brl_stream::{
     Counting, Failed, Form, Input, Lacking, LineFault, Output, StreamFault,
     translate_defined_lines, translate_lines,

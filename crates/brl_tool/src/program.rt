@@ -2,7 +2,7 @@
 ghost use Rattle.std.specs.Prelude.{◌≡◌, ◌≢◌, ◌⊎◌};
 ghost use Rattle.brl_lines.specs.Answer.{Unchanged};
 ghost use Rattle.brl_answers.specs.Delivery.{world};
-ghost use Rattle.brl_tool.specs.Running.{Answers, Asks, IsHelp, IsStatus, Performs, Replies, ReportsClash, ReportsClashes, ReportsRefusal, Runs, Translates, TranslatesDefined};
+ghost use Rattle.brl_tool.specs.Running.{Answers, Asks, IsHelp, IsStatus, Performs, Replies, ReportsClash, ReportsClashes, ReportsRefusal, Runs, TranslatesDefined};
 
 use crate::check::check_by_words;
 use crate::clash::compare_by_words;
@@ -74,30 +74,16 @@ fn perform<F: Files, I: Input, O: Output, E: Write + Progress>(
         (world (F.gives files.new) (O.failures out.new) (O.contents out.new)) result }
 {
     match task {
-        Task::Translate { table, form } => translate(alloc, files, table, form, input, out, err),
+        Task::Translate { table, form } => {
+            match translate_by_file(alloc, files, table, form, input, out) {
+                Ok(()) => Status::Done,
+                Err(fault) => fault.report(err),
+            }
+        }
         Task::TranslateDefined { table, form } => {
             translate_defined(alloc, files, table, form, input, out, err)
         }
         Task::Ask(question) => ask(alloc, question, files, out, err),
-    }
-}
-
-/// `brl translate`.
-fn translate<F: Files, I: Input, O: Output, E: Write>(
-    alloc: Global,
-    files: &mut F,
-    table: &str,
-    form: Form,
-    input: &mut I,
-    out: &mut O,
-    err: &mut E,
-) -> Status
-    ensures { Translates table.now form (I.remaining input.old) (world (F.gives files.old) (O.failures out.old) (O.contents out.old))
-        (world (F.gives files.new) (O.failures out.new) (O.contents out.new)) result }
-{
-    match translate_by_file(alloc, files, table, form, input, out) {
-        Ok(()) => Status::Done,
-        Err(fault) => fault.report(err),
     }
 }
 

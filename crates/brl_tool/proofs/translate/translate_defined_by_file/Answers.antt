@@ -8,5 +8,4 @@ returns-clause-translates g c =
     stopped_by_stream verdict_of_defined (g.S.Source.gives c.args.source.now) c.args.path.now c.args.form (g.R.Input.remaining c.args.reader.now) (g.W.Output.contents c.args.writer.now) (g.W.Output.contents c.translate_defined_lines.new.writer) c.in_ok-table.table c.in-Err.failure c.into.result (search rules) c.in_ok-table.ensures.table c.in-Err.ensures.written
 
 pub returns-clause-count : goal.returns-clause-count
-returns-clause-count g c =
-    count_at_stream (g.S.Source.faults c.args.source.now) (g.S.Source.faults c.load_table.new.source) c.in-Err.failure c.into.result (search rules) c.in_ok-table.ensures.count
+returns-clause-count g c = search (rules, count_at_stream)

@@ -1,25 +1,22 @@
 use Rattle.std.proofs.Common.{◌≡◌, ◌∙◌, ◌<◌, ◌++◌, ◌∷◌, [], ℕ, Bool, List, Some, true, false, ap, arith, get_or, length, refl, set, slice_get, subst, sym, take}
+use Rattle.std.specs.List.{Contains}
 use Rattle.std.proofs.lemmas.Option.{slice_get-get_or, slice_get_read}
 use Rattle.brl_unused.specs.Marking.{Marks}
 use Rattle.brl_unused.proofs.Marked.{marks-again, marks-new, member, read, read-taken}
 use Rattle.brl_unused.proofs.graph.mark.Goals as goal
 use Rattle.brl_unused.proofs.graph.mark.Goals.{then-not-index+in_ok-push, else-not-index}
 
+-- the state with an index is one of those that the list has room for
+within-count : (states : List ℕ) (i count : ℕ) → i < length states → ((state : ℕ) → Contains states state → state < count) → get_or states i 0 < count
+within-count states i count less all = all (get_or states i 0) (member states i (get_or states i 0) (slice_get-get_or states i 0 less))
+
 pub index-requires : goal.index-requires
 index-requires c =
-    let states = c.args.states.now in
-    let i = c.loop-state.state-index in
-    let at = slice_get-get_or states i 0 c.loop-state-test.true in
-    let within = c.requires (get_or states i 0) (member states i (get_or states i 0) at) in
-    omega (arith, within, c.loop-state.invariant.many)
+    omega (arith, within-count c.args.states.now c.loop-state.state-index (length c.args.live.now.items) c.loop-state-test.true c.requires, c.loop-state.invariant.many)
 
 pub index_mut-requires : goal.index_mut-requires
 index_mut-requires c =
-    let states = c.args.states.now in
-    let i = c.loop-state.state-index in
-    let at = slice_get-get_or states i 0 c.loop-state-test.true in
-    let within = c.requires (get_or states i 0) (member states i (get_or states i 0) at) in
-    omega (arith, within, c.loop-state.invariant.many)
+    omega (arith, within-count c.args.states.now c.loop-state.state-index (length c.args.live.now.items) c.loop-state-test.true c.requires, c.loop-state.invariant.many)
 
 pub loop-state-preserved : goal.loop-state-preserved
 loop-state-preserved c =
