@@ -4,7 +4,7 @@ use Rattle.std.specs.List.{find, list_any}
 use Rattle.std.specs.Option.{unwrap_or}
 use Rattle.std.specs.Str.{bytes_eq, chars}
 use Rattle.strsim.specs.Edits.{osa_table}
-use Rattle.brl_table.specs.Opcodes.{opcode_words}
+use Rattle.brl_table.specs.Words.{opcode_words}
 
 -- how many edits lead from one word to another: a character is added, left out or replaced by another,
 -- or changes places with its neighbour

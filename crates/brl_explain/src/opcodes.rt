@@ -8,7 +8,7 @@ ghost use Rattle.brl_explain.specs.Opcodes.{
   opcode_note as note_on_opcode,
   word_within,
 };
-ghost use Rattle.brl_table.specs.Opcodes.{opcode_words};
+ghost use Rattle.brl_table.specs.Words.{opcode_words};
 
 use brl_table::{OPCODES, opcodes_law};
 use std::alloc::{AllocError, Global};

@@ -22,7 +22,8 @@ use Rattle.brl_rules.specs.TableView.{TableView, info_of}
 use Rattle.brl_rules.specs.declared.rule.Info.{Info}
 use Rattle.brl_rules.specs.declared.rule.Rule.{Rule}
 use Rattle.brl_rules.specs.declared.signs.Sign.{Sign}
-use Rattle.brl_table.specs.Opcodes.{opcode_of, sign_given}
+use Rattle.brl_table.specs.Opcodes.{opcode_of}
+use Rattle.brl_table.specs.Words.{sign_given}
 
 -- ---- The opcode of a line
 

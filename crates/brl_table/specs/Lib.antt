@@ -1,4 +1,5 @@
 pub mod Opcodes
+pub mod Words
 pub mod Items
 pub mod Reading
 pub mod Files

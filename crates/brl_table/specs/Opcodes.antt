@@ -2,14 +2,13 @@
 -- places that they give. The manual has them in sections "Character-Definition Opcodes",
 -- "Translation Opcodes", "Braille Indicator Opcodes" and "Miscellaneous Opcodes". That `capsign` is
 -- another name of `capsletter` is this project's own choice.
-use Rattle.std.specs.Prelude.{ℕ, List, [], ◌∷◌, ◌++◌, codes, map, Option, Some, None, if◌then◌else◌}
+use Rattle.std.specs.Prelude.{ℕ, List, [], ◌∷◌, codes, Option, Some, None, if◌then◌else◌}
 use Rattle.std.specs.Option.{option_or}
 use Rattle.std.specs.Str.{bytes_eq}
 use Rattle.brl_table.specs.declared.opcode.Opcode.{Opcode}
 use Rattle.brl_table.specs.declared.opcode.Opcode.TheVariants.{Plain, Literary, Uplow, Placed, Noback, Nofor, Display, Indicator, NumericList, Include}
 use Rattle.brl_table.specs.declared.item.NumericRole.TheVariants.{KeepsMode, NeedsNoContractSign}
 use Rattle.brl_rules.specs.declared.place.Place.TheVariants.{Always, Word, Sufword, Prfword, Begword, Begmidword, Midword, Midendword, Endword, Partword, Begnum, Midnum, Endnum}
-use Rattle.brl_rules.specs.declared.signs.Sign.{Sign}
 use Rattle.brl_rules.specs.declared.signs.Sign.TheVariants.{CapsLetter, NumSign, NoContractSign, BegCapsWord, EndCapsWord}
 use Rattle.brl_rules.specs.Places.{space, punctuation, digit, letter, lowercase_letter, uppercase_letter, sign, math}
 
@@ -63,10 +62,6 @@ other_opcodes =
     ∷ (codes "include", Include)
     ∷ []
 
--- the words of all opcodes
-unfoldable pub opcode_words : List (List ℕ)
-opcode_words = map (λ entry. entry.0) (character_opcodes ++ place_opcodes ++ other_opcodes)
-
 -- the opcode of a word in one of these tables
 abbrev pub entry_of : List (List ℕ × Opcode) → List ℕ → Option Opcode
 entry_of [] word = None
@@ -75,8 +70,3 @@ entry_of (entry ∷ others) word = if bytes_eq word entry.0 then Some entry.1 el
 -- the opcode of a word, if it is one of the profile
 abbrev pub opcode_of : List ℕ → Option Opcode
 opcode_of word = option_or (entry_of character_opcodes word) (option_or (entry_of place_opcodes word) (entry_of other_opcodes word))
-
--- the indicator whose cells an opcode's lines give, if they do
-abbrev pub sign_given : Option Opcode → Option Sign
-sign_given (Some (Indicator sign)) = Some sign
-sign_given opcode = None

@@ -1,7 +1,8 @@
 //! The opcodes of the profile. specs/Opcodes.antt has the table of them, in three parts; this code
 //! is proved to follow it.
 ghost use Rattle.std.specs.Prelude.{◌≡◌, map};
-ghost use Rattle.brl_table.specs.Opcodes.{character_opcodes, entry_of, opcode_of, opcode_words, other_opcodes, place_opcodes, sign_given};
+ghost use Rattle.brl_table.specs.Opcodes.{character_opcodes, entry_of, opcode_of, other_opcodes, place_opcodes};
+ghost use Rattle.brl_table.specs.Words.{opcode_words, sign_given};
 ghost use Rattle.brl_table.specs.declared.opcode.TheConstants.{OPCODES};
 
 use crate::item::NumericRole;
@@ -73,7 +74,7 @@ pub const OPCODES: [&str; 35] = [
 ];
 
 /// A law: `OPCODES` has the words of the tables of opcodes, in their order.
-#[tactic(auto, unfolding(crate::specs::Opcodes::opcode_words))]
+#[tactic(auto, unfolding(crate::specs::Words::opcode_words))]
 pub fn opcodes_law()
     ensures { map (λ word. word.now) OPCODES ≡ opcode_words }
 {}
