@@ -5,3 +5,4 @@ pub mod Smallest
 pub mod TableSearch
 pub mod Traces
 pub mod RuleClashes
+pub mod Used
