@@ -7,3 +7,4 @@ pub mod Trace
 pub mod Survey
 pub mod Tally
 pub mod ClashLine
+pub mod Unused

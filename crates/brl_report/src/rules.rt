@@ -6,7 +6,7 @@ ghost use Rattle.brl_report.specs.Rules.{
   defining_opcode as opcode_of_line,
   first_unknown as first_unknown_of,
   is_at as is_line_at,
-  listed_line,
+  listed_entry,
   listed_text,
   listed_view,
   noted_rule,
@@ -41,13 +41,15 @@ struct Listed<'a> {
 pub(crate) enum RuleForm {
     /// As a line of the list of rules.
     Line,
+    /// As such a line without its end.
+    Entry,
     /// Within a line: the file and line, the opcode and the characters.
     Note,
 }
 
 /// How many numbers the rules of a table have: those in rank, and after them the own definitions of
 /// its characters.
-fn rule_count(table: &Table) -> u32
+pub(crate) fn rule_count(table: &Table) -> u32
     ensures { result ≡ count_of_rules table.now }
 {
     let rules = table.rules_in_rank().len() as u32;
@@ -159,13 +161,17 @@ fn push_listed(
     ensures { OnOk result (string_bytes text.new ≡ string_bytes text.old ++ listed_text form table.now (map line_view lines.now) number (listed_view listed.entry)) }
 {
     match form {
-        RuleForm::Line => push_listed_line(alloc, table, lines, number, listed, text),
+        RuleForm::Line => {
+            push_entry(alloc, table, lines, number, listed, text)?;
+            text.push('\n')
+        }
+        RuleForm::Entry => push_entry(alloc, table, lines, number, listed, text),
         RuleForm::Note => push_note(alloc, table, lines, listed, text),
     }
 }
 
-/// Appends the line of a rule with this number.
-fn push_listed_line(
+/// Appends the entry of a rule with this number.
+fn push_entry(
     alloc: Global,
     table: &Table,
     lines: &[Line<'_>],
@@ -174,14 +180,13 @@ fn push_listed_line(
     text: &mut String,
 ) -> Result<(), AllocError>
     requires { listed.file < length table.now.files }
-    ensures { OnOk result (string_bytes text.new ≡ string_bytes text.old ++ listed_line table.now (map line_view lines.now) number (listed_view listed.entry)) }
+    ensures { OnOk result (string_bytes text.new ≡ string_bytes text.old ++ listed_entry table.now (map line_view lines.now) number (listed_view listed.entry)) }
 {
     push_number_and_opcode(table, lines, number, listed, text)?;
     push_after_blanks(text, spell_chars(alloc, listed.characters)?.as_str())?;
     push_after_blanks(text, write_dots(alloc, listed.cells)?.as_str())?;
     let place = place_text(alloc, table, listed.file, listed.line)?;
-    push_after_blanks(text, place.as_str())?;
-    text.push('\n')
+    push_after_blanks(text, place.as_str())
 }
 
 /// Appends the file and line of a rule, its opcode and its characters, after two blanks.
