@@ -123,6 +123,9 @@ for shell in bash zsh fish; do
     offers 'brl trace --escapes t' table.ctb table.cert tables
     offers 'brl clash --escapes table.ctb text t'
     offers 'brl rules table.ctb t'
+    offers 'brl unused table.ctb t'
+    offers 'brl unused --limit t'
+    offers 'brl unused --limit 5 t' table.ctb table.cert tables
     offers 'brl explain t'
     offers 'brl search table.ctb t' table.ctb table.cert tables
     offers 'brl search table.ctb table.cert t'

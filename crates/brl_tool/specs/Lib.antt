@@ -9,3 +9,4 @@ pub mod Tracing
 pub mod Verdicts
 pub mod Notices
 pub mod Diagnosing
+pub mod Unused
