@@ -24,7 +24,7 @@ _brl_folders() {
 
 _brl() {
     # help takes one of the other commands
-    local commands='translate clash trace rules explain search clashes check survey cut'
+    local commands='translate clash trace rules unused explain search clashes check survey cut'
     local word=${COMP_WORDS[COMP_CWORD]} command='' option='' at operands=0
     [[ $word == '=' ]] && word=''
 
@@ -54,6 +54,7 @@ _brl() {
         clash | trace) options='--escapes --lines --help' ;;
         search) options='--limit --without --help' ;;
         clashes) options='--first --limit --without --help' ;;
+        unused) options='--limit --help' ;;
         check) options='--without --help' ;;
         survey) options='--brief --help' ;;
         cut) options='--rewrite --help' ;;
@@ -71,7 +72,7 @@ _brl() {
         _brl_reply < <(compgen -W "$commands help" -- "$word")
     else
         case $command:$operands in
-            translate:0 | clash:0 | trace:0 | rules:0 | clashes:0 | search:[01] | check:[01] | survey:* | cut:0) _brl_files "$word" ;;
+            translate:0 | clash:0 | trace:0 | rules:0 | unused:0 | clashes:0 | search:[01] | check:[01] | survey:* | cut:0) _brl_files "$word" ;;
             cut:1) _brl_folders "$word" ;;
             help:0) _brl_reply < <(compgen -W "$commands" -- "$word") ;;
         esac

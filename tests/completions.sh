@@ -118,14 +118,16 @@ for shell in bash zsh fish; do
     # operands that are no paths, and too many of them
     for words in \
         'translate table.ctb' 'clash table.ctb' 'clash table.ctb text' 'trace table.ctb' \
-        'clash --escapes table.ctb text' 'clash --lines table.ctb text' 'rules table.ctb' 'explain' 'search table.ctb table.cert' \
+        'clash --escapes table.ctb text' 'clash --lines table.ctb text' 'rules table.ctb' \
+            'unused table.ctb' 'unused --limit' 'explain' 'search table.ctb table.cert' \
         'search --limit' 'search --without' 'search --limit=5 table.ctb table.cert' \
         'clashes table.ctb' 'clashes --first' 'check table.ctb table.cert' 'cut table.ctb tables'; do
         offers "brl $words t"
     done
     # operands that are paths
     for words in \
-        'translate --form ascii' 'trace --escapes' 'trace --escapes --lines' 'search table.ctb' 'search --limit 5' \
+        'translate --form ascii' 'trace --escapes' 'trace --escapes --lines' 'unused --limit 5' \
+            'search table.ctb' 'search --limit 5' \
         'search --without ab table.ctb' 'clashes --first 5' 'check table.ctb' \
         'check --without ab table.ctb' 'survey table.ctb other.txt' 'survey --brief'; do
         offers "brl $words t" table.ctb table.cert tables

@@ -64,6 +64,12 @@ pub enum Question<'a> {
         table: &'a str,
         numbers: Vec<u32>,
     },
+    /// Which rules of the table whose file is at this path no text uses. At most `limit` states may be
+    /// found.
+    Unused {
+        table: &'a str,
+        limit: u32,
+    },
     /// What the fault of this line means.
     Explain {
         line: &'a str,
@@ -132,8 +138,8 @@ const FORMS: [&str; 2] = [ASCII, UNICODE];
 /// What follows the options in `brl --help`.
 const STATUSES: &str = "Exit status:
   0  the work was done; of two texts: they don't clash; of a certificate: it is accepted;
-     of a search: it found a certificate
-  1  two texts clash; a certificate is refused
+     of a search: it found a certificate; of rules: some text uses each
+  1  two texts clash; a certificate is refused; no text uses some rule
   2  the words, a file, the table, a text, the input or the output had a fault, which standard error names in one line
   3  there was not enough memory, a search decided nothing, or a table is too wide for a certificate of version 1
 
@@ -184,6 +190,8 @@ enum Options {
     Without,
     /// How much a search may find, and which characters are left out.
     Search,
+    /// How many states may be found.
+    States,
     /// How much a list may find, how much of it is shown, and which characters are left out.
     Clashes,
     /// Whether faults are listed.
@@ -546,6 +554,33 @@ It prints:
     ],
 };
 
+/// `brl unused`.
+const UNUSED: CommandHelp = CommandHelp {
+    name: "unused",
+    about: "Lists the rules of a table that no text uses",
+    long_about: "Lists the rules of a table that no text uses
+
+Reads a liblouis table. Standard output gets a line for each rule that the
+translation of no text over the table's characters uses, however long the text
+is, and for no other rule: the line of 'brl rules', and after it the rule that is
+chosen in its place where its characters are a whole text, with the file and
+line, the opcode and the characters. The cells that a line gives a character are
+a rule too.
+
+The last line says how many rules these are, and how many the table has. Where
+there are some, the exit status is 1, else 0. Where more than N states are found,
+no rule is listed, and the status is 3.",
+    example: "Example, a table that has one rule twice:
+  printf '%s\n' 'letter a 1' 'letter b 12' 'always ab 3' 'always ab 4' > twice.ctb
+  brl unused twice.ctb
+
+It prints:
+  1  always  ab  4  twice.ctb:4  in its place:  twice.ctb:3 always ab
+  1 of 4 rules are used by no text",
+    choice: Some(Options::States),
+    operands: &[TABLE],
+};
+
 /// `brl explain`.
 const EXPLAIN: CommandHelp = CommandHelp {
     name: "explain",
@@ -577,8 +612,11 @@ It prints:
 /// don't suffice for one list of all commands.
 static TEXT_HELPS: [CommandHelp; 5] = [TRANSLATE, CLASH, CHECK, SEARCH, CLASHES];
 
-/// Its commands on lines, rules and faults.
-static LINE_HELPS: [CommandHelp; 5] = [SURVEY, CUT, TRACE, RULES, EXPLAIN];
+/// Its commands on lines and steps.
+static LINE_HELPS: [CommandHelp; 3] = [SURVEY, CUT, TRACE];
+
+/// Its commands on rules and faults.
+static RULE_HELPS: [CommandHelp; 3] = [RULES, UNUSED, EXPLAIN];
 
 /// How many states, and how many pairs, a search may find where the words give no limit.
 const USUAL_LIMIT: &str = "1000000";
@@ -628,6 +666,16 @@ fn limit_option<'a>(alloc: Global) -> Arg<'a> {
         .long("limit")
         .value_name("N")
         .help("How many states, and how many pairs, may be found")
+        .value_parser(value_parser!(u32))
+        .default_value(USUAL_LIMIT)
+}
+
+/// The option of how many states may be found.
+fn states_option<'a>(alloc: Global) -> Arg<'a> {
+    Arg::new(alloc, "limit")
+        .long("limit")
+        .value_name("N")
+        .help("How many states may be found")
         .value_parser(value_parser!(u32))
         .default_value(USUAL_LIMIT)
 }
@@ -695,6 +743,7 @@ fn arguments<'a>(alloc: Global, page: &CommandHelp) -> Result<Vec<Arg<'a>>, Allo
             arguments.push(limit_option(alloc))?;
             arguments.push(without_option(alloc))?;
         }
+        Some(Options::States) => arguments.push(states_option(alloc))?,
         Some(Options::Clashes) => {
             arguments.push(first_option(alloc))?;
             arguments.push(limit_option(alloc))?;
@@ -738,15 +787,21 @@ fn text_commands<'a>(alloc: Global) -> Result<Vec<Command<'a>>, AllocError> {
     page_commands(alloc, &TEXT_HELPS)
 }
 
-/// The command lines of the commands on lines, rules and faults.
+/// The command lines of the commands on lines and steps.
 fn line_commands<'a>(alloc: Global) -> Result<Vec<Command<'a>>, AllocError> {
     page_commands(alloc, &LINE_HELPS)
+}
+
+/// The command lines of the commands on rules and faults.
+fn rule_commands<'a>(alloc: Global) -> Result<Vec<Command<'a>>, AllocError> {
+    page_commands(alloc, &RULE_HELPS)
 }
 
 /// The command line of `brl`.
 fn whole_command<'a>(alloc: Global) -> Result<Command<'a>, AllocError> {
     let texts = text_commands(alloc)?;
     let lines = line_commands(alloc)?;
+    let rules = rule_commands(alloc)?;
     Command::new(alloc, "brl")
         .version(VERSION)
         .about(
@@ -756,7 +811,8 @@ fn whole_command<'a>(alloc: Global) -> Result<Command<'a>, AllocError> {
         .subcommand_required(true)
         .arg_required_else_help(true)
         .subcommands(texts)?
-        .subcommands(lines)
+        .subcommands(lines)?
+        .subcommands(rules)
 }
 
 /// What the words ask for; the first is the program's name.
@@ -855,6 +911,7 @@ fn question_of_one_table<'a>(name: &str, found: &ArgMatches<'a>) -> Option<Quest
         "clashes" => clashes_question(table, found),
         "cut" => cut_question(table, found),
         "trace" => trace_question(table, found),
+        "unused" => unused_question(table, found),
         _ => None,
     }
 }
@@ -919,6 +976,13 @@ fn trace_question<'a>(table: &'a str, found: &ArgMatches<'a>) -> Option<Question
         table,
         text,
         options,
+    })
+}
+
+fn unused_question<'a>(table: &'a str, found: &ArgMatches<'a>) -> Option<Question<'a>> {
+    Some(Question::Unused {
+        table,
+        limit: found.get_one("limit")?,
     })
 }
 

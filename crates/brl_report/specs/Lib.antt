@@ -9,3 +9,4 @@ pub mod Trace
 pub mod Survey
 pub mod Tally
 pub mod ClashLine
+pub mod Unused

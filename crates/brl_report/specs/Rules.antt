@@ -122,12 +122,16 @@ after_blanks entry = codes "  " ++ entry
 abbrev pub number_and_opcode : TableView → List LineView → ℕ → ListedView → List ℕ
 number_and_opcode t lines number x = decimal number ++ after_blanks (opcode_at (file_name t x.file) x.line lines)
 
--- the line of a rule with a number: the number and the opcode, its characters as they are spelled, its
+-- the entry of a rule with a number: the number and the opcode, its characters as they are spelled, its
 -- cells in dots, and the file and line
-abbrev pub listed_line : TableView → List LineView → ℕ → ListedView → List ℕ
-listed_line t lines number x =
+abbrev pub listed_entry : TableView → List LineView → ℕ → ListedView → List ℕ
+listed_entry t lines number x =
     number_and_opcode t lines number x ++ after_blanks (encode_utf8_all (text_spelling x.characters)) ++ after_blanks (spelling x.cells)
-    ++ after_blanks (place_text t x.file x.line) ++ codes "\n"
+    ++ after_blanks (place_text t x.file x.line)
+
+-- the line of a rule with a number: its entry alone
+abbrev pub listed_line : TableView → List LineView → ℕ → ListedView → List ℕ
+listed_line t lines number x = listed_entry t lines number x ++ codes "\n"
 
 -- a rule within a line: the file and line, the opcode, and its characters as they are spelled
 abbrev pub noted_rule : TableView → List LineView → ListedView → List ℕ
@@ -138,6 +142,7 @@ noted_rule t lines x =
 -- a rule with a number in a form
 abbrev pub listed_text : RuleForm → TableView → List LineView → ℕ → ListedView → List ℕ
 listed_text form.Line t lines number x = listed_line t lines number x
+listed_text form.Entry t lines number x = listed_entry t lines number x
 listed_text form.Note t lines number x = noted_rule t lines x
 listed_text form.Source t lines number x = first_source (is_at (file_name t x.file) x.line) lines
 
@@ -148,6 +153,10 @@ rule_text written t lines number = option_map_or (listed_text written t lines nu
 -- the line of the rule with a number, if there is one
 abbrev pub rule_line : TableView → List LineView → ℕ → List ℕ
 rule_line t lines number = rule_text form.Line t lines number
+
+-- the entry of the rule with a number, if there is one
+abbrev pub rule_entry : TableView → List LineView → ℕ → List ℕ
+rule_entry t lines number = rule_text form.Entry t lines number
 
 -- the rule with a number within a line, if there is one
 abbrev pub rule_note : TableView → List LineView → ℕ → List ℕ

@@ -3,7 +3,8 @@
 //! clash in one line, with the two rules at which its texts diverge. `trace_report` has one text,
 //! its cells and all its steps. `survey_report` has the lines of a table that have a fault by
 //! themselves, `skipped_report` the dictionaries that a survey skipped. `report_of_cut` says how many
-//! lines of a table are kept in a cut of it. `rules_report` has the rules of a table by their numbers.
+//! lines of a table are kept in a cut of it. `rules_report` has the rules of a table by their numbers,
+//! `unused_report` those that no text uses.
 //!
 //! Room 5, the program (docs/dev/ARCHITECTURE.md). The definitions begin in `specs/Report.antt`.
 #![tactic(auto)]
@@ -22,6 +23,7 @@ mod sources;
 mod steps;
 mod survey;
 mod trace;
+mod unused;
 
 pub use clash_line::push_clash_line;
 pub use clash_report::{ReportFault, report, report_with};
@@ -30,3 +32,4 @@ pub use rules::{first_unknown, rule_numbers, rules_report};
 pub use skipped::skipped_report;
 pub use survey::survey_report;
 pub use trace::trace_report;
+pub use unused::unused_report;

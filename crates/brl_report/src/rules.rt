@@ -9,7 +9,7 @@ ghost use Rattle.brl_report.specs.Rules.{
   first_unknown as first_unknown_of,
   is_at as is_line_at,
   is_wanted as is_wanted_line,
-  listed_line,
+  listed_entry,
   listed_text,
   listed_view,
   noted_rule,
@@ -55,6 +55,8 @@ struct Listed<'a> {
 pub(crate) enum RuleForm {
     /// As a line of the list of rules.
     Line,
+    /// As such a line without its end.
+    Entry,
     /// Within a line: the file and line, the opcode and the characters.
     Note,
     /// As the line of the table by which it is defined.
@@ -63,7 +65,7 @@ pub(crate) enum RuleForm {
 
 /// How many numbers the rules of a table have: those in rank, and after them the own definitions of
 /// its characters.
-fn rule_count(table: &Table) -> u32
+pub(crate) fn rule_count(table: &Table) -> u32
     ensures { result ≡ count_of_rules table.now }
 {
     let rules = table.rules_in_rank().len() as u32;
@@ -170,7 +172,11 @@ impl<'a> Lined<'a> {
         ensures { OnOk result (string_bytes text.new ≡ string_bytes text.old ++ listed_text form self.now.table.now (map line_view self.now.lines.now) number (listed_view listed.entry)) }
     {
         match form {
-            RuleForm::Line => self.push_listed_line(number, listed, text),
+            RuleForm::Line => {
+                self.push_entry(number, listed, text)?;
+                text.push('\n')
+            }
+            RuleForm::Entry => self.push_entry(number, listed, text),
             RuleForm::Note => self.push_note(listed, text),
             RuleForm::Source => {
                 let place = Wanted::At(self.table.file_name(listed.file), listed.line);
@@ -179,15 +185,15 @@ impl<'a> Lined<'a> {
         }
     }
 
-    /// Appends the line of a rule with this number.
-    fn push_listed_line(
+    /// Appends the entry of a rule with this number.
+    fn push_entry(
         &self,
         number: u32,
         listed: Listed<'_>,
         text: &mut String,
     ) -> Result<(), AllocError>
         requires { listed.file < length self.now.table.now.files }
-        ensures { OnOk result (string_bytes text.new ≡ string_bytes text.old ++ listed_line self.now.table.now (map line_view self.now.lines.now) number (listed_view listed.entry)) }
+        ensures { OnOk result (string_bytes text.new ≡ string_bytes text.old ++ listed_entry self.now.table.now (map line_view self.now.lines.now) number (listed_view listed.entry)) }
     {
         write!(text, "{number}")?;
         let opcode = opcode_at(self.table.file_name(listed.file), listed.line, self.lines);
@@ -195,8 +201,7 @@ impl<'a> Lined<'a> {
         push_after_blanks(text, spell_chars(self.alloc, listed.characters)?.as_str())?;
         push_after_blanks(text, write_dots(self.alloc, listed.cells)?.as_str())?;
         let place = place_text(self.alloc, self.table, listed.file, listed.line)?;
-        push_after_blanks(text, place.as_str())?;
-        text.push('\n')
+        push_after_blanks(text, place.as_str())
     }
 
     /// Appends the file and line of a rule, its opcode and its characters, after two blanks.

@@ -7,3 +7,4 @@ pub mod Traces
 pub mod RuleClashes
 mod WholeList
 mod Together
+pub mod Used

@@ -4,3 +4,4 @@ pub mod Small
 pub mod Smaller
 pub mod Traces
 pub mod Clashes
+pub mod Used

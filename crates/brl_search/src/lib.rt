@@ -7,6 +7,7 @@
 //!   many as the limit lets it find. `clashes_without` makes the list from that of the machine.
 //! - `small_clash_of` leaves characters out of two `Texts` while they clash, and where a pair of rules
 //!   is given, while `clash_at` says that their traces diverge at it.
+//! - `unused_rules` lists the rules of a table that no text uses.
 //! - `seed_of` is the seed by which the search hashes what it finds.
 //! - The laws state what is reached of the table's dues machine, and that there is one whole list of
 //!   clashes.
@@ -34,6 +35,7 @@ mod small;
 mod table_clashes;
 mod table_search;
 mod texts;
+mod unused;
 
 pub use dues_laws::{
     dues_certificate_law, dues_closed_law, dues_divergence_law, dues_reached_law, dues_trace_law,
@@ -44,3 +46,4 @@ pub use small::small_clash_of;
 pub use table_clashes::{ClashList, RuleClash, clashes, clashes_without};
 pub use table_search::{Found, SearchFault, found_without, search, search_with};
 pub use texts::{Texts, clash_at};
+pub use unused::{UnusedRules, unused_rules};

@@ -1,7 +1,8 @@
 -- What the status says of what was delivered.
-use Rattle.std.proofs.Common.{◌≡◌, ◌≢◌, ◌∙◌, ℕ, suc, Bool, ap, true, false, cond, List, [], ◌∷◌, All, arith, map, inl, inr, Result, Ok, Err, refl, subst, sym}
+use Rattle.std.proofs.Common.{◌≡◌, ◌≢◌, ◌∙◌, ℕ, suc, Bool, ap, true, false, cond, List, [], ◌∷◌, All, arith, length, map, inl, inr, Result, Ok, Err, refl, subst, sym}
 use Rattle.std.specs.Option.{option_copied}
-use Rattle.std.specs.Prelude.{string_bytes}
+use Rattle.std.proofs.lemmas.Bool.{eqb-true}
+use Rattle.std.specs.Prelude.{◌==◌, string_bytes}
 use Rattle.brl_cert.specs.Reading.{spelling}
 use Rattle.brl_states.specs.declared.cert.Cert.{Cert}
 use Rattle.brl_lines.specs.Answer.{FileAnswers}
@@ -14,6 +15,10 @@ use Rattle.brl_lines.specs.Tokens.{LineView}
 use Rattle.brl_tool.proofs.OfFiles.{lines_of, of_files}
 use Rattle.brl_tool.specs.ByLines.{shown_lines}
 use Rattle.brl_cli.specs.declared.command.TextOptions.{TextOptions}
+use Rattle.brl_search.specs.Used.{AreUnused, AreUnusedRules, IsRule, IsUsed}
+use Rattle.brl_search.specs.declared.unused.UnusedRules.{UnusedRules}
+use Rattle.brl_search.specs.declared.unused.UnusedRules.TheVariants.{Limit, Unused}
+use Rattle.brl_report.specs.Unused.{unused_text}
 use Rattle.brl_rules.specs.TableView.{TableView}
 use Rattle.brl_rules.specs.Translation.{IsClash}
 use Rattle.brl_report.specs.Report.{report_text}
@@ -28,6 +33,7 @@ use Rattle.brl_cut.specs.Cuts.{IsReadAs, written_path}
 use Rattle.brl_cut.specs.Edits.{Texts}
 use Rattle.brl_tool.specs.Comparing.{ComparesByFile, ComparesByWords, IsComparison}
 use Rattle.brl_tool.specs.Tracing.{TracesByFile}
+use Rattle.brl_tool.specs.Unused.{status_of_list, status_of_unused, text_of_unused}
 use Rattle.brl_tool.specs.Verdicts.{IsFileOf, IsJudgement, Judges, SearchesByFile}
 use Rattle.brl_answers.specs.Answers.{BySpelled, ByText, IsBadLeftOut, IsBadText, spelled_by, text_of}
 use Rattle.brl_answers.specs.Delivery.{Delivers, World, KeepsFiles, Prints}
@@ -71,6 +77,29 @@ some_pair : (o : Outcome) → status_of_outcome o ≡ Refuted → o ≡ Clashing
 some_pair Unambiguous e = absurd cc
 some_pair Clashing e = refl
 some_pair Unfinished e = absurd cc
+
+-- a list of unused rules says by its status whether it has one
+some_listed : (none : Bool) → (none ≡ true → ⊥) → cond none Done Refuted ≡ Done → ⊥
+some_listed true some e = some refl
+some_listed false some e = cc
+
+none_unused : (t : TableView) (lines : List LineView) (limit : ℕ) (found : UnusedRules) → AreUnusedRules t limit found → status_of_unused found ≡ Done
+    → (text_of_unused t lines found ≡ unused_text t lines []) × ((number : ℕ) → IsRule t number → IsUsed t number)
+none_unused t lines limit (Unused numbers) rules done = by numbers.items rules done
+  where
+    by : (xs : List ℕ) → AreUnused t xs → status_of_list (length xs) ≡ Done → (unused_text t lines xs ≡ unused_text t lines []) × ((number : ℕ) → IsRule t number → IsUsed t number)
+    by [] are e = (refl, λ number is. elim (are.others number is) [ inl one ↦ absurd (let within = one.1 in omega (arith, within)) | inr used ↦ used ])
+    by (x ∷ xs) are e = absurd (some_listed (length (x ∷ xs) == 0) (λ none. (let size = eqb-true (length (x ∷ xs)) 0 none in omega (arith, size))) e)
+none_unused t lines limit (Limit states) rules done = absurd cc
+
+some_unused : (t : TableView) (lines : List LineView) (limit : ℕ) (found : UnusedRules) → AreUnusedRules t limit found → status_of_unused found ≡ Refuted
+    → (numbers : List ℕ) × (numbers ≢ []) × AreUnused t numbers × (text_of_unused t lines found ≡ unused_text t lines numbers)
+some_unused t lines limit (Unused numbers) rules refuted = (numbers.items, some numbers.items refuted, rules, refl)
+  where
+    some : (xs : List ℕ) → status_of_list (length xs) ≡ Refuted → xs ≢ []
+    some [] e none = cc
+    some (x ∷ xs) e none = cc
+some_unused t lines limit (Limit states) rules refuted = absurd cc
 
 -- what is spelled is known where there is an answer
 spelled_in : (spelled : Result (List ℕ) CharsFault) (is_bad : RunFault → Type 0) (promises : List ℕ → Result Answer RunFault → Type 0) (answer : Answer) → BySpelled spelled is_bad promises (Ok answer)
@@ -149,6 +178,15 @@ module _ (before after : World) (same_file : MayBeSame) where
       let (paths, lines, are, passes, (known, says)) = by_file in
       ((λ done. tt), (λ refuted. let e = sym says.0 ∙ refuted in cc))
   means (question.Rules path numbers) answer (paths, lines, are, passes, (known, says)) files prints = ((λ done. tt), (λ refuted. let e = sym says.0 ∙ refuted in cc))
+  means (question.Unused path limit) answer (paths, lines, are, passes, (found, rules, says)) files prints =
+      let table : IsTableOf before.gives path.now (table_of lines) = of_files before.gives path.now paths (table_of lines) (lines, are, passes, refl) in (
+        (λ done.
+            let (none, all) = none_unused (table_of lines) lines limit found rules (sym says.0 ∙ done) in
+            (table_of lines, table, all, (lines, subst (Prints before after) (says.1 ∙ none) prints))),
+        (λ refuted.
+            let (numbers, some, are_unused, text) = some_unused (table_of lines) lines limit found rules (sym says.0 ∙ refuted) in
+            ((path.now, table_of lines, table, (lines, numbers, some, are_unused, subst (Prints before after) (says.1 ∙ text) prints)), subst (FilesAfter before.gives after.gives) says.2 files)),
+      )
   means (question.Explain line) answer (fault, is, says) files prints = ((λ done. tt), (λ refuted. let e = sym says.0 ∙ refuted in cc))
   means (question.Check path cert option) answer is files prints =
       let (left_out, spelled, judges) = spelled_in (spelled_by (option_copied option)) (IsBadLeftOut (option_copied option)) (λ left_out. Judges left_out before.gives path.now cert.now) answer is in
@@ -226,6 +264,7 @@ module _ (before after : World) (same_file : MayBeSame) where
       let (paths, lines, are, passes, (known, says)) = by_file in
       none_changes before after answer written says.2 writes
   keeps (question.Rules path numbers) (Ok answer) status (paths, lines, are, passes, (known, says)) (written, writes, e) = none_changes before after answer written says.2 writes
+  keeps (question.Unused path limit) (Ok answer) status (paths, lines, are, passes, (found, rules, says)) (written, writes, e) = none_changes before after answer written says.2 writes
   keeps (question.Explain line) (Ok answer) status (fault, is, says) (written, writes, e) = none_changes before after answer written says.2 writes
   keeps (question.Check path cert option) (Ok answer) status is (written, writes, e) =
       let (left_out, spelled, judges) = spelled_in (spelled_by (option_copied option)) (IsBadLeftOut (option_copied option)) (λ left_out. Judges left_out before.gives path.now cert.now) answer is in

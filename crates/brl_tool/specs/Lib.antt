@@ -10,3 +10,4 @@ pub mod Tracing
 pub mod Verdicts
 pub mod Notices
 pub mod Diagnosing
+pub mod Unused

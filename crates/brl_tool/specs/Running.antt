@@ -1,6 +1,6 @@
 -- What a run of the program comes to. The project's own choice. `same` says which paths may name one
 -- file, `input` what is left of the input where that is known.
-use Rattle.std.specs.Prelude.{ℕ, ◌≡◌, ◌<◌, ◌==◌, ◌⊎◌, Bool, if◌then◌else◌, length, List, ◌++◌, false, map, Option, Result, Ok, Err, String, codes, string_bytes}
+use Rattle.std.specs.Prelude.{ℕ, ◌≡◌, ◌≢◌, ◌<◌, ◌==◌, ◌⊎◌, Bool, if◌then◌else◌, length, List, [], ◌++◌, false, map, Option, Result, Ok, Err, String, codes, string_bytes}
 use Rattle.std.specs.Global.{Global}
 use Rattle.std.specs.Option.{option_copied}
 use Rattle.brl_accept.specs.Judging.{IsAcceptedWithout, counted}
@@ -11,7 +11,9 @@ use Rattle.brl_lines.specs.Outcome.{AreLinesOf}
 use Rattle.brl_table.specs.Files.{IsTableOf}
 use Rattle.brl_table.specs.Reading.{PassesAll, table_of}
 use Rattle.brl_report.specs.Report.{report_text_with}
+use Rattle.brl_report.specs.Unused.{unused_text}
 use Rattle.brl_search.specs.Searched.{State, certificate_of}
+use Rattle.brl_search.specs.Used.{AreUnused, IsRule, IsUsed}
 use Rattle.brl_cells.specs.declared.form.Form.{Form}
 use Rattle.brl_rules.specs.TableView.{TableView}
 use Rattle.brl_rules.specs.Translation.{IsClash}
@@ -35,6 +37,7 @@ use Rattle.brl_answers.specs.Status.{code_of, status_of}
 use Rattle.brl_tool.specs.Streams.{TranslatesByFile, TranslatesDefinedByFile}
 use Rattle.brl_tool.specs.Surveying.{SurveysByFiles}
 use Rattle.brl_tool.specs.Tracing.{TracesByWord}
+use Rattle.brl_tool.specs.Unused.{ListsUnusedByFile}
 use Rattle.brl_answers.specs.declared.answer.Answer.{Answer}
 use Rattle.brl_answers.specs.declared.new_files.NewFile.{NewFile}
 use Rattle.brl_answers.specs.declared.run_fault.RunFault.{RunFault}
@@ -56,6 +59,7 @@ Answers (question.Clash path left right options) gives same outcome = ComparesBy
 Answers (question.Survey paths brief) gives same outcome = SurveysByFiles brief gives (map (λ path. path.now) paths.items) outcome
 Answers (question.Trace path text options) gives same outcome = TracesByWord options gives path.now text.now outcome
 Answers (question.Rules path numbers) gives same outcome = ListsByFile gives path.now numbers.items outcome
+Answers (question.Unused path limit) gives same outcome = ListsUnusedByFile gives path.now limit outcome
 Answers (question.Explain line) gives same outcome = Explains line.now outcome
 Answers (question.Cut path dir rewrite) gives same outcome = CutsByFile rewrite gives path.now dir.now outcome
 Answers (question.Check path cert option) gives same outcome =
@@ -101,6 +105,18 @@ ReportsNoClash before after path option =
     (left_out : List ℕ) × (spelled_by option ≡ Ok left_out) × (t : TableView) × IsTableOf before.gives path t × IsUnambiguousWithout left_out t
     × ((lines : List LineView) × (first : ℕ) × (sections : List Section) × (text : List ℕ) × IsClashesText t lines left_out first sections text × Prints before after text)
 
+-- the list of the rules that no text uses was written, of the table of the file at some path
+abbrev pub ReportsUnused : World → World → Type 0
+ReportsUnused before after =
+    (path : List ℕ) × (t : TableView) × IsTableOf before.gives path t
+    × ((lines : List LineView) × (numbers : List ℕ) × (numbers ≢ []) × AreUnused t numbers × Prints before after (unused_text t lines numbers))
+
+-- a list of no rules was written, and each rule of the table of the file at the path is used by some text
+abbrev pub ReportsNoUnused : World → World → List ℕ → Type 0
+ReportsNoUnused before after path =
+    (t : TableView) × IsTableOf before.gives path t × ((number : ℕ) → IsRule t number → IsUsed t number)
+    × ((lines : List LineView) × Prints before after (unused_text t lines []))
+
 -- a certificate was written that a judge accepts for the table of the file at the path, and that
 -- table is unambiguous, both without the characters that the option leaves out; no other file
 -- changed, so the files still define that table
@@ -123,6 +139,7 @@ abbrev pub MeansDone : Question → World → World → Type 0
 MeansDone (question.Check path cert option) before after = ReportsAcceptance before after path.now (option_copied option)
 MeansDone (question.Search path out limit option) before after = ReportsCertificate before after path.now out.now (option_copied option)
 MeansDone (question.Clashes path limit first option) before after = ReportsNoClash before after path.now (option_copied option)
+MeansDone (question.Unused path limit) before after = ReportsNoUnused before after path.now
 MeansDone (question.Cut path dir rewrite) before after = WritesTable before after path.now dir.now
 MeansDone asked before after = Unit {0}
 
@@ -132,6 +149,7 @@ MeansRefuted (question.Clash path left right options) before after = ReportsClas
 MeansRefuted (question.Check path cert option) before after = ReportsRefusal before after
 MeansRefuted (question.Search path out limit option) before after = ReportsClash before after
 MeansRefuted (question.Clashes path limit first option) before after = ReportsClashes before after
+MeansRefuted (question.Unused path limit) before after = ReportsUnused before after
 MeansRefuted asked before after = ⊥
 
 -- no file changes, unless a table was searched or cut

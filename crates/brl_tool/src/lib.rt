@@ -1,7 +1,7 @@
 //! `run`, the program over any files and streams.
 //!
 //! `program` has what each command's words lead to. `translate`, `clash`, `trace`, `rules`, `survey` and
-//! `cut` do the work of these commands by the files of a table, `search`, `clashes` and `check` that of theirs, and
+//! `cut` do the work of these commands by the files of a table, `search`, `clashes`, `unused` and `check` that of theirs, and
 //! `explain` has what a fault means, and
 //! `notices` writes the notices of a table that is searched. What all but `translate` give is an answer
 //! (brl_answers).
@@ -23,6 +23,7 @@ mod shown;
 mod survey;
 mod trace;
 mod translate;
+mod unused;
 
 pub use brl_answers::{CreateFault, Files, NewFileFault, SinkFault};
 pub use brl_stream::{
@@ -41,3 +42,4 @@ pub use search::search_by_words;
 pub use survey::survey_by_files;
 pub use trace::trace_by_word;
 pub use translate::{translate_by_file, translate_defined_by_file};
+pub use unused::list_unused_by_file;

@@ -2,7 +2,7 @@
 ghost use Rattle.std.specs.Prelude.{◌≡◌, ◌≢◌, ◌⊎◌};
 ghost use Rattle.brl_lines.specs.Answer.{Unchanged};
 ghost use Rattle.brl_answers.specs.Delivery.{world};
-ghost use Rattle.brl_tool.specs.Running.{Answers, Asks, IsHelp, IsStatus, Performs, Replies, ReportsClash, ReportsClashes, ReportsRefusal, Runs, TranslatesDefined};
+ghost use Rattle.brl_tool.specs.Running.{Answers, Asks, IsHelp, IsStatus, Performs, Replies, ReportsClash, ReportsClashes, ReportsRefusal, ReportsUnused, Runs, TranslatesDefined};
 
 use crate::check::check_by_words;
 use crate::clash::compare_by_words;
@@ -14,6 +14,7 @@ use crate::search::search_by_words;
 use crate::survey::survey_by_files;
 use crate::trace::trace_by_word;
 use crate::translate::{translate_by_file, translate_defined_by_file};
+use crate::unused::list_unused_by_file;
 use crate::{Files, Form, Input, Output};
 use brl_answers::{Answer, RunFault, Status, deliver, set_apart};
 use brl_cli::{NotATask, Question, Task, task_of};
@@ -22,12 +23,12 @@ use std::alloc::Global;
 use std::io::Write;
 
 /// Does what the words ask for, and answers the exit status: 0 where the work was done, 1 where two
-/// texts clash or a certificate is refused, 2 where the words, a file, the table, a text, the input or
+/// texts clash, a certificate is refused or no text uses some rule, 2 where the words, a file, the table, a text, the input or
 /// the output had a fault, and 3 where memory ran out, a search decided nothing, or a table is too wide
 /// for a certificate of version 1. The first of the words is the program's name.
 ///
 /// Standard output gets the translation, what was found of two texts, of a certificate, by a search or
-/// by a survey, the steps of a text, the rules of a table, what a fault means, or help or the version where these are asked for. Standard error
+/// by a survey, the steps of a text, the rules of a table or those of them that no text uses, what a fault means, or help or the version where these are asked for. Standard error
 /// gets the notices of a table that is searched, the characters that are listed as lacking, one line for a fault (a survey has one for each table
 /// that can't be loaded, and goes on), or the text of a use fault; what can't be written there is dropped
 /// and changes no status. It is also told how far a search or a check is, and when that has ended, before
@@ -52,7 +53,7 @@ pub fn run<F: Files, I: Input, O: Output, E: Write + Progress>(
         (world (F.gives files.new) (O.failures out.new) (O.contents out.new)) result }
     ensures clash { let before = world (F.gives files.old) (O.failures out.old) (O.contents out.old) in
         let after = world (F.gives files.new) (O.failures out.new) (O.contents out.new) in
-        result ≡ 1 → ReportsClash before after ⊎ ReportsRefusal before after ⊎ ReportsClashes before after }
+        result ≡ 1 → ReportsClash before after ⊎ ReportsRefusal before after ⊎ ReportsClashes before after ⊎ ReportsUnused before after }
     ensures same { result ≡ 1 → Unchanged (F.gives files.old) (F.gives files.new) }
 {
     match task_of(alloc, words) {
@@ -154,6 +155,11 @@ fn answer<F: Files, E: Write + Progress>(
         Question::Explain { line } => explain_line(alloc, line),
         Question::Rules { table, numbers } => {
             list_rules_by_file(alloc, files, table, numbers.as_slice())
+        }
+        Question::Unused { table, limit } => {
+            let outcome = list_unused_by_file(alloc, files, table, limit, err);
+            err.end();
+            outcome
         }
         Question::Cut {
             table,

@@ -1,25 +1,24 @@
 -- Live states are marked one by one.
-use Rattle.std.proofs.Common.{◌≡◌, ℕ, zero, suc, ◌+◌, ◌<◌, ◌≤◌, Bool, true, false, not, cond, List, [], ◌∷◌, ◌++◌, length, take, set, get_or, refl, ap, sym, subst, ◌∙◌, arith, Some, Contains, count_by, slice_get, ◌⊎◌, ◌↔◌, inl, inr, append-nil, append_assoc, length-append, take_all}
+use Rattle.std.proofs.Common.{◌≡◌, ℕ, zero, suc, ◌+◌, ◌<◌, ◌≤◌, Bool, true, false, not, cond, List, [], ◌∷◌, ◌++◌, length, take, set, get_or, refl, ap, sym, subst, ◌∙◌, arith, Some, Contains, slice_get, ◌⊎◌, ◌↔◌, inl, inr, append-nil, append_assoc, length-append}
 use Rattle.std.specs.Global.{Vec}
 use Rattle.std.proofs.Math.ListN.{length-set}
-use Rattle.std.proofs.lemmas.List.{take_more}
 use Rattle.std.proofs.lemmas.List.Elements.{Contains-append_left, Contains-append_right, Contains-append_cases, Contains-push, Contains-push_cases}
 use Rattle.std.proofs.lemmas.List.Sums.{sum_by-cons}
 use Rattle.std.proofs.lemmas.Option.{slice_get_read, slice_get_within}
-use Rattle.brl_pairs.proofs.Lists.{inside, three_ways, same_place, set_cases}
+use Rattle.brl_pairs.proofs.Lists.{inside, push_cases, three_ways, same_place, set_cases}
 use Rattle.brl_pairs.proofs.Listing.{at-in, in-Contains}
-use Rattle.brl_unused.specs.Graph.{AreLive, AreWithin, IsLive, final, step}
+use Rattle.brl_unused.specs.Graph.{AreAscending, AreLive, AreWithin, IsLive, final, step}
 use Rattle.brl_unused.specs.Marking.{AreBefore, AreMarked, AreTaken, Leads, Marks, unmarked}
 use Rattle.brl_unused.specs.declared.graph.Transition.{Transition}
 
 -- ---- One mark
 
-mark-there : (live : List Bool) (i : ℕ) → i < length live → slice_get (set live i true) i ≡ Some true
+pub mark-there : (live : List Bool) (i : ℕ) → i < length live → slice_get (set live i true) i ≡ Some true
 mark-there [] i h = absurd (omega arith)
 mark-there (b ∷ bs) zero h = refl
 mark-there (b ∷ bs) (suc i) h = mark-there bs i (omega (arith, h))
 
-mark-kept : (live : List Bool) (i s : ℕ) → slice_get live s ≡ Some true → slice_get (set live i true) s ≡ Some true
+pub mark-kept : (live : List Bool) (i s : ℕ) → slice_get live s ≡ Some true → slice_get (set live i true) s ≡ Some true
 mark-kept [] i s h = cc
 mark-kept (b ∷ bs) zero zero h = refl
 mark-kept (b ∷ bs) zero (suc s) h = h
@@ -43,7 +42,7 @@ mark-fewer (b ∷ bs) (suc i) h =
     let new = sum_by-cons (λ x. cond (not x) 1 0) b (set bs i true) in
     omega (arith, more, old, new)
 
-no_member : (x : ℕ) → Contains [] x → ⊥
+pub no_member : (x : ℕ) → Contains [] x → ⊥
 no_member x h = omega (arith, h.1)
 
 pub marks-none : (live : List Bool) (queue : List ℕ) → Marks [] live queue live queue
@@ -206,42 +205,55 @@ before-more count transitions before t old new are at is = record {
       | inr e ↦ record { transition = t; one = Contains-push transitions t; leaves = e; enters = sym same }
     ]
 
--- ---- The final states
+-- ---- The places that have a mark
 
-pub finals-none : (ends : List Bool) (state : ℕ) → Contains [] state ↔ ((state < 0) × (slice_get ends state ≡ Some true))
-finals-none ends state = (λ h. absurd (no_member state h), λ h. absurd (omega (arith, h.0)))
+pub places-none : (marks : List Bool) (mark : Bool) (place : ℕ) → Contains [] place ↔ ((place < 0) × (slice_get marks place ≡ Some mark))
+places-none marks mark place = (λ h. absurd (no_member place h), λ h. absurd (omega (arith, h.0)))
 
-module _ (ends : List Bool) (finals : List ℕ) (number : ℕ) (are : (state : ℕ) → Contains finals state ↔ ((state < number) × (slice_get ends state ≡ Some true))) where
-  last : (state : ℕ) → state < number + 1 → (state < number) ⊎ (state ≡ number)
-  last state h = elim (three_ways state number) [ inl k ↦ inl k | inr k ↦ elim k [ inl e ↦ inr e | inr g ↦ absurd (omega (arith, h, g)) ] ]
+module _ (marks : List Bool) (mark : Bool) (places : List ℕ) (next : ℕ) (are : (place : ℕ) → Contains places place ↔ ((place < next) × (slice_get marks place ≡ Some mark))) where
+  last : (place : ℕ) → place < next + 1 → (place < next) ⊎ (place ≡ next)
+  last place h = elim (three_ways place next) [ inl k ↦ inl k | inr k ↦ elim k [ inl e ↦ inr e | inr g ↦ absurd (omega (arith, h, g)) ] ]
 
-  pub finals-more : slice_get ends number ≡ Some true → (state : ℕ) → Contains (finals ++ number ∷ []) state ↔ ((state < number + 1) × (slice_get ends state ≡ Some true))
-  finals-more at state = (
-    λ h. elim (Contains-push_cases finals number state h) [
-      | inl k ↦ (let old = (are state).0 k in (omega (arith, old.0), old.1))
-      | inr e ↦ (omega (arith, e), subst (λ n. slice_get ends n ≡ Some true) e at)
+  pub places-more : slice_get marks next ≡ Some mark → (place : ℕ) → Contains (places ++ next ∷ []) place ↔ ((place < next + 1) × (slice_get marks place ≡ Some mark))
+  places-more at place = (
+    λ h. elim (Contains-push_cases places next place h) [
+      | inl k ↦ (let old = (are place).0 k in (omega (arith, old.0), old.1))
+      | inr e ↦ (omega (arith, e), subst (λ n. slice_get marks n ≡ Some mark) e at)
     ],
-    λ h. elim (last state h.0) [
-      | inl k ↦ Contains-append_left finals (number ∷ []) state ((are state).1 (k, h.1))
-      | inr e ↦ subst (λ n. Contains (finals ++ number ∷ []) n) (sym e) (Contains-push finals number)
+    λ h. elim (last place h.0) [
+      | inl k ↦ Contains-append_left places (next ∷ []) place ((are place).1 (k, h.1))
+      | inr e ↦ subst (λ n. Contains (places ++ next ∷ []) n) (sym e) (Contains-push places next)
+    ],
+  )
+
+  pub places-again : (slice_get marks next ≡ Some mark → ⊥) → (place : ℕ) → Contains places place ↔ ((place < next + 1) × (slice_get marks place ≡ Some mark))
+  places-again other place = (
+    λ h. (let old = (are place).0 h in (omega (arith, old.0), old.1)),
+    λ h. elim (last place h.0) [
+      | inl k ↦ (are place).1 (k, h.1)
+      | inr e ↦ absurd (other (subst (λ n. slice_get marks n ≡ Some mark) e h.1))
     ],
   )
 
-  pub finals-again : slice_get ends number ≡ Some false → (state : ℕ) → Contains finals state ↔ ((state < number + 1) × (slice_get ends state ≡ Some true))
-  finals-again at state = (
-    λ h. (let old = (are state).0 h in (omega (arith, old.0), old.1)),
-    λ h. elim (last state h.0) [
-      | inl k ↦ (are state).1 (k, h.1)
-      | inr e ↦ absurd (apart (subst (λ n. slice_get ends n ≡ Some true) e h.1))
-    ],
-  )
-    where
-      apart : slice_get ends number ≡ Some true → ⊥
-      apart other = cc
+  pub ascending-more : AreAscending places → AreAscending (places ++ next ∷ [])
+  ascending-more ascending i j a b less a_at b_at = elim (push_cases places next j b b_at) [
+    | inl early ↦ elim (push_cases places next i a a_at) [
+      | inl first ↦ ascending i j a b less first early
+      | inr end ↦ absurd (let place = end.0 in let within = slice_get_within places j b early in omega (arith, less, place, within))
+    ]
+    | inr late ↦ elim (push_cases places next i a a_at) [
+      | inl first ↦ (let low = ((are a).0 (member places i a first)).0 in let same = late.1 in omega (arith, low, same))
+      | inr end ↦ absurd (let place = end.0 in let other = late.0 in omega (arith, less, place, other))
+    ]
+  ]
 
--- all states were looked at
-pub finals-all : (ends : List Bool) (finals : List ℕ) (number : ℕ) → length ends ≤ number → ((state : ℕ) → Contains finals state ↔ ((state < number) × (slice_get ends state ≡ Some true))) → (state : ℕ) → Contains finals state ↔ (slice_get ends state ≡ Some true)
-finals-all ends finals number all are state = (λ h. ((are state).0 h).1, λ h. (are state).1 (let within = slice_get_within ends state true h in (omega (arith, all, within), h)))
+pub ascending-none : AreAscending []
+ascending-none i j a b less a_at b_at = absurd (let within = slice_get_within [] i a a_at in omega (arith, within))
+
+-- all places were looked at
+pub places-all : (marks : List Bool) (mark : Bool) (places : List ℕ) (next : ℕ) → length marks ≤ next → ((place : ℕ) → Contains places place ↔ ((place < next) × (slice_get marks place ≡ Some mark)))
+    → (place : ℕ) → Contains places place ↔ (slice_get marks place ≡ Some mark)
+places-all marks mark places next all are place = (λ h. ((are place).0 h).1, λ h. (are place).1 (let within = slice_get_within marks place mark h in (omega (arith, all, within), h)))
 
 -- what is read at a place below the length is there
 pub read : {X : Type 0} (xs : List X) (i : ℕ) (x : X) → i < length xs → x ≡ get_or xs i x → slice_get xs i ≡ Some x

@@ -17,3 +17,7 @@ pub data IsLive (ends : List Bool) (transitions : List Transition) : ℕ → Typ
 pub record AreLive (ends : List Bool) (transitions : List Transition) (live : List Bool) : Type 0 where
   pub count : length live ≡ length ends
   pub each : (state : ℕ) → (slice_get live state ≡ Some true) ↔ IsLive ends transitions state
+
+-- each number is less than those after it
+abbrev pub AreAscending : List ℕ → Type 0
+AreAscending numbers = (i j a b : ℕ) → i < j → slice_get numbers i ≡ Some a → slice_get numbers j ≡ Some b → a < b

@@ -1,2 +1,4 @@
 pub mod Graph
 pub mod Marking
+pub mod Taken
+pub mod Exploring

@@ -1,5 +1,5 @@
 -- Internal. How live states are marked: backwards, from the final states on.
-use Rattle.std.specs.Prelude.{ℕ, ◌≡◌, ◌+◌, ◌<◌, ◌⊎◌, ◌++◌, Bool, not, true, List, Some, count_by, length, slice_get}
+use Rattle.std.specs.Prelude.{ℕ, ◌≡◌, ◌+◌, ◌⊎◌, ◌++◌, Bool, not, true, List, Some, count_by, length, slice_get}
 use Rattle.std.specs.Global.{Vec}
 use Rattle.std.specs.List.{Contains}
 use Rattle.brl_unused.specs.Graph.{IsLive}

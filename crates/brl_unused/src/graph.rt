@@ -1,7 +1,7 @@
 //! Transitions between states by their numbers, and the states from which a final state is reached.
 ghost use Rattle.std.specs.Prelude.{◌≡◌, ◌<◌, ◌^◌, ◌↔◌, ℕ, [], true, Some, IfOk, OnOk, length, slice_get};
 ghost use Rattle.std.specs.List.{Contains};
-ghost use Rattle.brl_unused.specs.Graph.{AreLive, AreWithin};
+ghost use Rattle.brl_unused.specs.Graph.{AreAscending, AreLive, AreWithin};
 ghost use Rattle.brl_unused.specs.Marking.{AreBefore, Marks};
 
 use std::alloc::{AllocError, Global};
@@ -44,18 +44,19 @@ fn states_before(
     Ok(before)
 }
 
-/// The final states, by their numbers.
-fn final_states(alloc: Global, ends: &[bool]) -> Result<Vec<u32>, AllocError>
-    requires { length ends.now < 2 ^ 32 }
-    ensures { IfOk result (λ finals. (state : ℕ) → Contains finals.items state ↔ (slice_get ends.now state ≡ Some true)) }
+/// The places that have this mark, ascending.
+pub fn places_of(alloc: Global, marks: &[bool], mark: bool) -> Result<Vec<u32>, AllocError>
+    requires { length marks.now < 2 ^ 32 }
+    ensures each { IfOk result (λ places. (place : ℕ) → Contains places.items place ↔ (slice_get marks.now place ≡ Some mark)) }
+    ensures ascending { IfOk result (λ places. AreAscending places.items) }
 {
-    let mut finals = Vec::new(alloc);
-    for number in 0..ends.len() {
-        if ends[number] {
-            finals.push(number as u32)?;
+    let mut places = Vec::new(alloc);
+    for place in 0..marks.len() {
+        if marks[place] == mark {
+            places.push(place as u32)?;
         }
     }
-    Ok(finals)
+    Ok(places)
 }
 
 /// Marks these states and queues those that weren't marked.
@@ -85,7 +86,7 @@ pub fn live_states(
 {
     let before = states_before(alloc, ends.len(), transitions)?;
     let mut live = Vec::from_slice(alloc, ends)?;
-    let mut queue = final_states(alloc, ends)?;
+    let mut queue = places_of(alloc, ends, true)?;
     let mut next = 0;
     while next < queue.len() {
         let state = queue[next] as usize;

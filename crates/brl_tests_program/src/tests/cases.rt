@@ -258,6 +258,22 @@ pub const EXPLANATIONS: &str = "\
 |brl,explain,no clash|||error: no fault is written as no clash|2
 ";
 
+/// Lists of rules that no text uses, in the same form.
+pub const UNUSED: &str = "\
+t.ctb: letter a 1; letter b 12|brl,unused,t.ctb||each of 2 rules is used by some text||0
+t.ctb: letter a 1; letter b 12; always ab 3; always ab 4|brl,unused,t.ctb||1  always  ab  4  t.ctb:4  in its place:  t.ctb:3 always ab; 1 of 4 rules are used by no text||1
+t.ctb: letter a 1; always a 12|brl,unused,t.ctb||1  letter  a  1  t.ctb:1  in its place:  t.ctb:2 always a; 1 of 2 rules are used by no text||1
+t.ctb: letter a 1; midnum a 3|brl,unused,t.ctb||0  midnum  a  3  t.ctb:2  in its place:  t.ctb:1 letter a; 1 of 2 rules are used by no text||1
+t.ctb: letter a 1; letter b 12; word ab 14; word ab 15; always ab 16|brl,unused,t.ctb||1  word  ab  15  t.ctb:4  in its place:  t.ctb:3 word ab; 1 of 5 rules are used by no text||1
+t.ctb: uplow Aa 1|brl,unused,t.ctb||each of 2 rules is used by some text||0
+t.ctb: letter a 1; word a 12; begword a 2|brl,unused,t.ctb||each of 3 rules is used by some text||0
+t.ctb: letter a 1; letter a 2|brl,unused,t.ctb||each of 1 rules is used by some text|notice DefinedAgain a at t.ctb:2|0
+t.ctb: letter a 1|brl,unused,t.ctb,--limit,1||limit: 2 states||3
+t.ctb: letter a 1|brl,unused,t.ctb,--limit,2||each of 1 rules is used by some text||0
+t.ctb: letter a 19|brl,unused,t.ctb|||B4 BadDots 19 at t.ctb:1|2
+|brl,unused,t.ctb|||L1 NotFound t.ctb|2
+";
+
 /// Lists of clashes, in the same form.
 pub const CLASHES: &str = "\
 t.ctb: letter a 1; letter b 12|brl,clashes,t.ctb||small letters: 0 pairs of rules diverge, and no others; unambiguous: 2 states, 0 pairs||0
@@ -392,6 +408,9 @@ brl,explain,B4 BadDots 1--2 at t.ctb:1|Dots: a cell is empty||0
 brl,explain,B4 BadDots 1-1-1-1-1-1-1-1-1-1-1-1-1-1-1-1-1 at t.ctb:1|Dots: there are more than 16 cells||0
 brl,explain,B1 OutsideProfile always\u{a0}sh at t.ctb:1|Characters: \\x00a0||0
 brl,explain,B3 BadCharacters e\u{301}\u{1f600} at t.ctb:1|Characters: \\x0301 \\z0001f600||0
+brl,unused,--help|brl unused twice.ctb||0
+brl,unused||<TABLE>|2
+brl,unused,--limit,x,t.ctb||invalid value 'x'|2
 brl,rules,--help|brl rules ranked.ctb||0
 brl,rules||<TABLE>|2
 brl,rules,t.ctb,x||invalid value 'x' for '[N]...'|2

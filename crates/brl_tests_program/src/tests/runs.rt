@@ -96,6 +96,7 @@ fn worked_runs(rt: HostRuntime) -> Result<(), Fail> {
         cases::SURVEYS,
         cases::TRACES,
         cases::RULES,
+        cases::UNUSED,
         cases::EXPLANATIONS,
         cases::CLASHES,
         cases::WITHOUT,

@@ -1,13 +1,13 @@
-use Rattle.std.proofs.Common.{rules, ◌≡◌, ◌∙◌, ◌<◌, ◌≤◌, ◌+◌, ◌↔◌, ℕ, Bool, Contains, List, Some, true, ap, arith, get_or, length, length-append, refl, slice_get, subst, sym, take, take_all}
+use Rattle.std.proofs.Common.{rules, ◌≡◌, ℕ, Bool, Contains, List, Some, true, ap, arith, length, length-append, refl, slice_get, subst, sym, take, take_all}
 use Rattle.std.specs.Global.{Vec}
 use Rattle.std.proofs.lemmas.Option.{slice_get_read, slice_get_within}
-use Rattle.brl_unused.specs.Marking.{AreBefore, AreMarked, AreTaken, Marks}
+use Rattle.brl_unused.specs.Marking.{AreMarked, AreTaken, Marks}
 use Rattle.brl_unused.proofs.Marked.{all-live, marked-more, marked-start, member, taken-more, taken-none}
 use Rattle.brl_unused.proofs.graph.live_states.Goals as goal
 
 pub loop-next-init : goal.loop-next-init
 loop-next-init c = record {
-  marked = subst (λ (live : List Bool). AreMarked c.args.ends.now c.args.transitions.now live c.in_ok-queue.queue.items) (sym c.in_ok-live.ensures.items) (marked-start c.args.ends.now c.args.transitions.now c.in_ok-queue.queue.items c.in_ok-queue.ensures);
+  marked = subst (λ (live : List Bool). AreMarked c.args.ends.now c.args.transitions.now live c.in_ok-queue.queue.items) (sym c.in_ok-live.ensures.items) (marked-start c.args.ends.now c.args.transitions.now c.in_ok-queue.queue.items c.in_ok-queue.ensures.each);
   taken = taken-none c.in_ok-before.before.items c.in_ok-live.live.items;
   there = omega arith;
 }

@@ -2,7 +2,7 @@ use Rattle.std.proofs.Common.{◌≡◌, ◌∙◌, ◌<◌, ◌++◌, ◌∷◌
 use Rattle.std.specs.List.{Contains}
 use Rattle.std.proofs.lemmas.Option.{slice_get-get_or, slice_get_read}
 use Rattle.brl_unused.specs.Marking.{Marks}
-use Rattle.brl_unused.proofs.Marked.{marks-again, marks-new, member, read, read-taken}
+use Rattle.brl_unused.proofs.Marked.{marks-again, marks-new, member, read-taken}
 use Rattle.brl_unused.proofs.graph.mark.Goals as goal
 use Rattle.brl_unused.proofs.graph.mark.Goals.{then-not-index+in_ok-push, else-not-index}
 

@@ -1,5 +1,4 @@
-use Rattle.std.proofs.Common.{rules, ◌≡◌, ◌∙◌, ◌<◌, ◌++◌, ◌∷◌, [], ℕ, List, Some, ap, arith, get_or, length, refl, set, slice_get, subst, sym, take}
-use Rattle.std.specs.Global.{Vec}
+use Rattle.std.proofs.Common.{◌≡◌, List, Some, arith, get_or, length, refl, set, slice_get, subst, sym, take}
 use Rattle.std.proofs.lemmas.Option.{slice_get-get_or, slice_get_read}
 use Rattle.brl_unused.specs.Marking.{AreBefore}
 use Rattle.brl_unused.specs.declared.graph.Transition.{Transition}

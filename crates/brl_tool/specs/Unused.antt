@@ -1,0 +1,51 @@
+-- What `brl unused` answers. The project's own choice.
+use Rattle.std.specs.Prelude.{ℕ, ◌==◌, if◌then◌else◌, List, ◌++◌, Result, Ok, Err, codes, length}
+use Rattle.std.specs.Fmt.{decimal}
+use Rattle.brl_answers.specs.Answers.{HasTextAndStatus}
+use Rattle.brl_answers.specs.declared.answer.Answer.{Answer}
+use Rattle.brl_answers.specs.declared.run_fault.RunFault.{RunFault}
+use Rattle.brl_answers.specs.declared.run_fault.RunFault.TheVariants.{Memory}
+use Rattle.brl_answers.specs.declared.status.Status.{Status}
+use Rattle.brl_answers.specs.declared.status.Status.TheVariants.{Done, Refuted, Undecided}
+use Rattle.brl_lines.specs.Answer.{FileAnswers}
+use Rattle.brl_lines.specs.Tokens.{LineView}
+use Rattle.brl_report.specs.Unused.{unused_text}
+use Rattle.brl_rules.specs.TableView.{TableView}
+use Rattle.brl_search.specs.Used.{AreUnusedRules}
+use Rattle.brl_search.specs.declared.unused.UnusedRules.{UnusedRules}
+use Rattle.brl_search.specs.declared.unused.UnusedRules.TheVariants.{Limit, Unused}
+use Rattle.brl_table.specs.Reading.{table_of}
+use Rattle.brl_tool.specs.ByLines.{ByLines}
+
+-- the status of a list of so many rules
+abbrev pub status_of_list : ℕ → Status
+status_of_list rules = if rules == 0 then Done else Refuted
+
+-- the line with the number of states at which the limit was passed
+abbrev pub limit_line : ℕ → List ℕ
+limit_line states = codes "limit: " ++ decimal states ++ codes " states\n"
+
+-- the status of what is found
+abbrev pub status_of_unused : UnusedRules → Status
+status_of_unused (Unused numbers) = status_of_list (length numbers.items)
+status_of_unused (Limit states) = Undecided
+
+-- the text of what is found of a table of these lines
+abbrev pub text_of_unused : TableView → List LineView → UnusedRules → List ℕ
+text_of_unused t lines (Unused numbers) = unused_text t lines numbers.items
+text_of_unused t lines (Limit states) = limit_line states
+
+-- the answer with what is found, with a limit, of the rules that no text uses
+abbrev pub IsUnusedAnswer : TableView → List LineView → ℕ → Answer → Type 0
+IsUnusedAnswer t lines limit answer =
+    (found : UnusedRules) × AreUnusedRules t limit found × HasTextAndStatus (status_of_unused found) (text_of_unused t lines found) answer
+
+-- the rules of a table of these lines that no text uses were listed
+abbrev pub ListsUnused : TableView → List LineView → ℕ → Result Answer RunFault → Type 0
+ListsUnused t lines limit (Ok answer) = IsUnusedAnswer t lines limit answer
+ListsUnused t lines limit (Err Memory) = Unit {0}
+ListsUnused t lines limit (Err fault) = ⊥
+
+-- the same by the lines of the table at a path
+abbrev pub ListsUnusedByFile : FileAnswers → List ℕ → ℕ → Result Answer RunFault → Type 0
+ListsUnusedByFile gives path limit outcome = ByLines gives path (λ lines. ListsUnused (table_of lines) lines limit) outcome
