@@ -1,5 +1,5 @@
 -- What was answered by the lines of a table.
-use Rattle.std.proofs.Common.{◌≡◌, ℕ, List, Result, Ok, Err, absurd, subst}
+use Rattle.std.proofs.Common.{◌≡◌, ℕ, List, Result, Ok, Err, subst}
 use Rattle.brl_lines.specs.Answer.{FileAnswers}
 use Rattle.brl_lines.specs.Outcome.{AreLinesOfFiles}
 use Rattle.brl_lines.specs.Tokens.{LineView}

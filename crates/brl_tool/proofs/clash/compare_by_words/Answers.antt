@@ -7,4 +7,4 @@ use Rattle.brl_tool.proofs.clash.compare_by_words.Goals as goal
 pub returns-in_err-right-clause-compares : goal.returns-in_err-right-clause-compares
 returns-in_err-right-clause-compares g c =
     let p = err_from_is_err_and c.from_residual-in_err-right.result c.from_residual-in_err-right.ensures.1 in
-    inl (c.in_ok-left.left.items, c.in_ok-left.ensures.text, inr (p.0, p.1, subst (IsBadText c.args.escapes c.args.right.now) (sym p.2) c.in_err-right.ensures.bad))
+    inl (c.in_ok-left.left.items, c.in_ok-left.ensures.text, inr (p.0, p.1, subst (IsBadText c.args.options.escapes c.args.right.now) (sym p.2) c.in_err-right.ensures.bad))
