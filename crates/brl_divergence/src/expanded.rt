@@ -7,7 +7,7 @@ ghost use Rattle.brl_parts.specs.Parts.{AreKeptParts, no_parts};
 
 use brl_closure::{Finder, Stop, Trail};
 use brl_failure::Failure;
-use brl_pairs::{Key, KeptCells, ListedEdge, Parted, Seed, SortedEdge, sort_edges};
+use brl_pairs::{KeptCells, Key, ListedEdge, Parted, Seed, SortedEdge, sort_edges};
 use brl_parts::Parts;
 use std::alloc::{AllocError, Global};
 

@@ -73,12 +73,6 @@ pub const OPCODES: [&str; 35] = [
     "include",
 ];
 
-/// A law: `OPCODES` has the words of the tables of opcodes, in their order.
-#[tactic(auto, unfolding(crate::specs::Words::opcode_words))]
-pub fn opcodes_law()
-    ensures { map (λ word. word.now) OPCODES ≡ opcode_words }
-{}
-
 /// The opcode of a word, if it is one of the profile.
 pub fn opcode_named(word: &str) -> Option<Opcode>
     ensures { result ≡ opcode_of word.now }
@@ -158,3 +152,9 @@ fn other_opcode(word: &str) -> Option<Opcode>
         _ => None,
     }
 }
+
+/// A law: `OPCODES` has the words of the tables of opcodes, in their order.
+#[tactic(auto, unfolding(crate::specs::Words::opcode_words))]
+pub fn opcodes_law()
+    ensures { map (λ word. word.now) OPCODES ≡ opcode_words }
+{}
