@@ -20,9 +20,9 @@ use brl_without::LeftOut;
 use std::alloc::{AllocError, Global};
 
 /// The text of the sections of a table with these lines: the sets of characters that the table treats
-/// as one, of which the first represents the others; for each section the pairs of rules that no earlier
-/// one lists, `first` of them, and all where that is 0; and what they come to, with a line of what is
-/// left out.
+/// as one, where the first of a set represents the others; for each section the first `first` pairs of
+/// rules that no earlier one lists, all of them where `first` is 0; and the verdict with its counts, and
+/// the characters that are left out.
 ///
 /// Every line ends with LF. `AllocError` if memory runs out.
 pub fn sections_text(

@@ -98,7 +98,7 @@ dots_line line = if bytes_eq (code_of line) (codes "B4") && nat_lt 0 (length (op
 
 -- ---- Opcodes
 
--- what is said of the opcode that a line names, if its fault is of an opcode and it names one
+-- the note on the opcode that a line names, where its fault is of an opcode
 abbrev pub opcode_line : List ℕ → List ℕ
 opcode_line line =
     if bytes_eq (code_of line) (codes "B1") && nat_lt 0 (length (operand_of line)) then titled (codes "Opcode: ") (opcode_note (operand_of line))

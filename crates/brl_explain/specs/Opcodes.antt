@@ -1,4 +1,4 @@
--- What is said of a word that is no opcode where it stands. The project's own choice.
+-- Notes on words that are no opcodes where they are. The project's own choice.
 use Rattle.std.specs.Prelude.{ℕ, Bool, if◌then◌else◌, List, [], ◌∷◌, ◌++◌, codes, length, nat_le, nat_lt}
 use Rattle.std.specs.List.{find, list_any}
 use Rattle.std.specs.Option.{unwrap_or}
@@ -35,6 +35,6 @@ question_of (byte ∷ bytes) = codes "did you mean " ++ (byte ∷ bytes) ++ code
 abbrev pub is_opcode : List ℕ → Bool
 is_opcode word = list_any (λ opcode. bytes_eq opcode word) opcode_words
 
--- the note on a word that is no opcode where it stands
+-- the note on a word that is no opcode where it is
 abbrev pub opcode_note : List ℕ → List ℕ
 opcode_note word = if is_opcode word then word ++ codes " is read, but not after noback or nofor" else question_of (nearest_opcode word)

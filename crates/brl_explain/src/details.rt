@@ -32,9 +32,9 @@ use std::alloc::{AllocError, Global};
 const MOST_CELLS: usize = 16;
 
 /// What explains the line of a fault, or its code alone, which it begins with or has after `refused:`: the
-/// form of its line, when it comes, for a line of a table what it names, and what to do about it; and what
-/// can be seen in this line: the opcode that may be meant, of dots that spell no cells why not, and the characters that may be taken for
-/// others or not be seen, by their numbers. `None` where no fault has the code.
+/// form of its line, when it comes, for a line of a table what it names, and what to do about it. Notes on
+/// this line follow: the opcode that may be meant, why its dots spell no cells, and by their numbers the
+/// characters that may be taken for others or not be seen. `None` where no fault has the code.
 ///
 /// Every line ends with LF. `AllocError` if memory runs out.
 pub fn explain(alloc: Global, line: &str) -> Result<Option<String>, AllocError>
@@ -61,7 +61,7 @@ fn explanation(alloc: Global, fault: &str, line: &str) -> Result<String, AllocEr
     Ok(text)
 }
 
-/// Appends what is said of the opcode that a line names, if its fault is of an opcode and it names one.
+/// Appends the note on the opcode that a line names, where its fault is of an opcode.
 fn push_opcode_line(alloc: Global, text: &mut String, line: &str) -> Result<(), AllocError>
     ensures { OnOk result (string_bytes text.new ≡ string_bytes text.old ++ opcode_line line.now) }
 {

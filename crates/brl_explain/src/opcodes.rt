@@ -1,4 +1,4 @@
-//! What is said of a word that is no opcode where it stands.
+//! Notes on words that are no opcodes where they are.
 ghost use Rattle.std.specs.Prelude.{◌≡◌, IfOk, map, string_bytes};
 ghost use Rattle.std.specs.List.{list_any};
 ghost use Rattle.std.specs.Str.{bytes_eq};
@@ -14,7 +14,7 @@ use brl_table::{OPCODES, opcodes_law};
 use std::alloc::{AllocError, Global};
 use strsim::osa_distance;
 
-/// What is said of a word that is no opcode where it stands: that it is one elsewhere, or which one may
+/// The note on a word that is no opcode where it is: that it is one elsewhere, or which one may
 /// be meant; nothing where none is near.
 pub fn opcode_note(alloc: Global, word: &str) -> Result<String, AllocError>
     ensures { IfOk result (λ note. string_bytes note ≡ note_on_opcode word.now) }

@@ -17,7 +17,7 @@ first_rule t text = if is_text t text then option_map (λ (x : Traced). x.rule) 
 abbrev pub rule_in_place : TableView → ℕ → Option ℕ
 rule_in_place t number = option_and_then (λ x. first_rule t x.characters) (rule_with_number t number)
 
--- what is said of the rule that is chosen in place of another
+-- the note on the rule that is chosen in place of the one with a number
 abbrev pub in_place_note : TableView → List LineView → ℕ → List ℕ
 in_place_note t lines number = option_map_or (λ other. codes "  in its place:" ++ rule_note t lines other) (rule_in_place t number) []
 

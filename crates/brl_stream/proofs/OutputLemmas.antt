@@ -131,7 +131,7 @@ module _ (t : TableView) (form : Form) (line buffer : List ℕ) (number : ℕ) w
   passed_is passes faults.InputLineTooLong done h made = absurd h
   passed_is passes faults.InputTooLong done h made = absurd h
 
-  -- a line without output was passed over, or its fault is told; nothing was written
+  -- nothing is written of a line that is passed over, or whose fault is the answer
   pub passed_over : (passes : Bool) (contents : Option (List ℕ)) (failure : Failure LineFault) (r : Result (Unit {0}) (Failure StreamFault)) → IsMade (output_of t form line) buffer (Err failure)
       → IsPassedOver passes number failure r → WritesOutput (output_by passes t form line) number contents contents r
   passed_over passes contents failure (Err failures.Memory) made h = Appends-nil contents

@@ -14,7 +14,7 @@ Use = ℕ × ℕ
 abbrev pub uses_in : TableView → ℕ → List ℕ → List Use
 uses_in t number text = map (λ c. (c, number)) (filter (λ c. not (is_defined t c)) text)
 
--- the same in lines, the first of which has this number
+-- the uses in lines; the first line has this number
 abbrev pub uses_from : TableView → ℕ → List (List ℕ) → List Use
 uses_from t number [] = []
 uses_from t number (line ∷ lines) = uses_in t number (chars line) ++ uses_from t (number + 1) lines

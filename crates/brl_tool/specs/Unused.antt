@@ -17,7 +17,7 @@ use Rattle.brl_search.specs.declared.unused.UnusedRules.TheVariants.{Limit, Unus
 use Rattle.brl_table.specs.Reading.{table_of}
 use Rattle.brl_tool.specs.ByLines.{ByLines}
 
--- the status of a list of so many rules
+-- the status of a list with this number of rules
 abbrev pub status_of_list : ℕ → Status
 status_of_list rules = if rules == 0 then Done else Refuted
 

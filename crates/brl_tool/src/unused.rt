@@ -87,7 +87,7 @@ fn answer_of(
     }
 }
 
-/// The status of a list of so many unused rules.
+/// The status of a list with this number of unused rules.
 fn status_of(rules: usize) -> Status
     ensures { result ≡ status_of_list rules }
 {
