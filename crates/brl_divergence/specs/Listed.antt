@@ -24,7 +24,7 @@ rules_of list = keys list
 abbrev pub IsAscending : RuleTexts → Type 0
 IsAscending list = IsOrdered compare_rules list
 
--- the lesser rule number stands first, and the texts are read by two paths with the same cells that
+-- the lesser rule number comes first, and the texts are read by two paths with the same cells that
 -- diverge at these rules
 pub record IsDivergence {S : Type 0} (m : Behaviour S) (listed : (ℕ × ℕ) × Texts) : Type 0 where
   pub in_order : listed.0.0 ≤ listed.0.1

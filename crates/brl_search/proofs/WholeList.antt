@@ -152,7 +152,7 @@ module _ (left_out : List ℕ) (t : TableView) where
 -- ---- One list
 
 module _ (left_out : List ℕ) (t : TableView) where
-  -- of a pair of rules that is listed the lesser number stands first
+  -- of a pair of rules that is listed the lesser number comes first
   first_lesser : (list : List RuleClash) → AllByRecursion (IsRuleClash left_out t) list → (pair : ℕ × ℕ) → IsIn pair (rules_of_clashes list) → pair.0 ≤ pair.1
   first_lesser [] each pair i = absurd i
   first_lesser (c ∷ list) each pair (inl is) = subst (λ (p : ℕ × ℕ). p.0 ≤ p.1) (sym is) each.0.in_order
