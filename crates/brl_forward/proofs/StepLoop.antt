@@ -1,6 +1,7 @@
 -- The loop over the steps of a text.
 use Rattle.std.proofs.Common.{ℕ, zero, suc, ◌+◌, ◌<◌, ◌≤◌, ◌≡◌, Bool, true, false, List, [], ◌∷◌, ◌++◌, length, drop, refl, arith, cond, nat_lt, sym, ◌∙◌, ap, append_assoc, append-nil, length-drop}
 use Rattle.std.proofs.lemmas.Bool.Decides.{nat_tests}
+use Rattle.std.proofs.lemmas.Bool.{ltb-true}
 use Rattle.brl_rules.specs.TableView.{TableView}
 use Rattle.brl_rules.specs.declared.class.Class.{Class}
 use Rattle.brl_rules.specs.Text.{classes_before}
@@ -8,9 +9,6 @@ use Rattle.brl_rules.specs.Choice.{chosen}
 use Rattle.brl_rules.specs.Translation.{chosen_at}
 use Rattle.brl_forward.specs.declared.steps.Traced.{Traced}
 use Rattle.brl_forward.specs.Trace.{step_at, steps_from, trace_of}
-
-in_text : (i n : ℕ) → nat_lt i n ≡ true → i < n
-in_text i n h = grind (arith, nat_tests)
 
 -- no steps after the end of the text
 pub steps_from-end : (t : TableView) (text : List ℕ) (n i : ℕ) → length text ≤ i → steps_from t text n i ≡ []
@@ -39,7 +37,7 @@ steps_from-enough takes t text (suc n) zero i h k = let within : length text ≤
 steps_from-enough takes t text (suc n) (suc m) i h k =
     both (nat_lt i (length text)) (step_at t text i) (steps_from t text n (i + (chosen_at t text i).taken)) (steps_from t text m (i + (chosen_at t text i).taken))
     (λ e.
-    let some : 0 < (chosen_at t text i).taken = taken-some takes t text i (in_text i (length text) e) in
+    let some : 0 < (chosen_at t text i).taken = taken-some takes t text i (ltb-true i (length text) e) in
     steps_from-enough takes t text n m (i + (chosen_at t text i).taken) (omega (arith, h, some)) (omega (arith, k, some)))
 
 first : TakesSome → (t : TableView) (text : List ℕ) (n i : ℕ) → i < length text → length text ≤ n → steps_from t text n i ≡ step_at t text i ∷ steps_from t text n (i + (chosen_at t text i).taken)

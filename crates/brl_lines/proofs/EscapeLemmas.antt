@@ -3,7 +3,7 @@
 use Rattle.std.proofs.Common.{◌≡◌, ◌≢◌, ℕ, zero, suc, ◌+◌, ◌-◌, ◌*◌, ◌^◌, ◌<◌, ◌≤◌, true, false, nat_eq, nat_lt, List, [], ◌∷◌, ◌++◌, length, drop, refl, ap, sym, ◌∙◌, arith, add-one, append-nil, length-append, Bor, MatchOption, IsUtf8, Option, Some, None, lit<}
 use Rattle.std.proofs.Math.Nat.{pow-le-pow_right, pow-suc}
 use Rattle.std.proofs.lemmas.Bool.Decides.{nat_tests}
-use Rattle.std.proofs.lemmas.Bool.{eq-eqb}
+use Rattle.std.proofs.lemmas.Bool.{eq-eqb, lt-ltb}
 use Rattle.std.proofs.lemmas.List.{drop-drop}
 use Rattle.std.proofs.lemmas.Str.{chars-nil, chars_past_char, length-encode, len_utf8_bounds}
 use Rattle.std.specs.Char.{IsScalar, digit_value, is_digit, encode_utf8}
@@ -81,11 +81,8 @@ module _ (count read value : ℕ) (marks : List ℕ) where
   unfolding hexadecimal
   hexadecimal-digit mark digit rest h e good d =
       let some : count - read ≡ suc (count - (read + 1)) = omega arith in
-      let is : is_digit mark 16 ≡ true = below (digit_value mark) good in
+      let is : is_digit mark 16 ≡ true = lt-ltb (digit_value mark) 16 good in
       rw (some, e, is, d) refl
-    where
-      below : (d : ℕ) → d < 16 → nat_lt d 16 ≡ true
-      below d h = grind (arith, nat_tests)
 
 -- one character less is left
 pub one_off : (read : ℕ) (marks left rest : List ℕ) (mark : ℕ) → left ≡ drop read marks → left ≡ mark ∷ rest → rest ≡ drop (read + 1) marks

@@ -1,8 +1,8 @@
 -- Lines after others, and what an include line is replaced by.
-use Rattle.std.proofs.Common.{◌≡◌, ℕ, zero, suc, ◌+◌, ◌<◌, ◌≤◌, true, false, nat_le, List, [], ◌∷◌, ◌++◌, refl, ap, sym, ◌∙◌, arith, append_assoc, append-nil, Option, Some, None, Result, Ok, Err}
-use Rattle.std.proofs.lemmas.Bool.Decides.{nat_tests}
+use Rattle.std.proofs.Common.{◌≡◌, ℕ, zero, suc, ◌+◌, ◌<◌, ◌≤◌, true, false, List, [], ◌∷◌, ◌++◌, refl, ap, sym, ◌∙◌, append_assoc, append-nil, Option, Some, None, Result, Ok, Err}
 use Rattle.std.specs.List.{list_any}
 use Rattle.std.specs.Str.{bytes_eq}
+use Rattle.std.proofs.lemmas.Bool.{le-leb, lt-leb}
 use Rattle.brl_failure.specs.Failure.{◌>>=◌, IfFault}
 use Rattle.brl_failure.specs.declared.failure.Failure.{Failure}
 use Rattle.brl_failure.specs.declared.failure.Failure.TheVariants.{Fault, Memory}
@@ -140,31 +140,25 @@ fails-later gives now stays old new grows want (Fault fault) h = record {
 
 -- ---- what an include line is replaced by
 
-room : (a b : ℕ) → a < b → nat_le b a ≡ false
-room a b h = grind (arith, nat_tests)
-
-no_room : (a b : ℕ) → b ≤ a → nat_le b a ≡ true
-no_room a b h = grind (arith, nat_tests)
-
 module _ (root : List ℕ) (chain : List (List ℕ)) (place : LocationView) (name : List ℕ) (n : ℕ) where
   abbrev path : List ℕ
   path = included root name
 
   pub many : (depth : ℕ) (answer : List ℕ → Option FileAnswer) → most_includes ≤ n → follow depth answer root chain place name n ≡ Err (refusal kinds.TooManyIncludes path (Some place))
   unfolding follow
-  many zero answer h = rw (no_room n most_includes h) refl
-  many (suc depth) answer h = rw (no_room n most_includes h) refl
+  many zero answer h = rw (le-leb most_includes n h) refl
+  many (suc depth) answer h = rw (le-leb most_includes n h) refl
 
   pub cycle : (depth : ℕ) (answer : List ℕ → Option FileAnswer) → n < most_includes → list_any (bytes_eq path) chain ≡ true → follow depth answer root chain place name n ≡ Err (refusal kinds.Cycle path (Some place))
   unfolding follow
-  cycle zero answer h k = rw (room n most_includes h, k) refl
-  cycle (suc depth) answer h k = rw (room n most_includes h, k) refl
+  cycle zero answer h k = rw (lt-leb most_includes n h, k) refl
+  cycle (suc depth) answer h k = rw (lt-leb most_includes n h, k) refl
 
   pub deep : (answer : List ℕ → Option FileAnswer) → n < most_includes → list_any (bytes_eq path) chain ≡ false → follow 0 answer root chain place name n ≡ Err (refusal kinds.TooDeep path (Some place))
   unfolding follow
-  deep answer h k = rw (room n most_includes h, k) refl
+  deep answer h k = rw (lt-leb most_includes n h, k) refl
 
   pub inside : (depth : ℕ) (answer : List ℕ → Option FileAnswer) → n < most_includes → list_any (bytes_eq path) chain ≡ false
       → follow (suc depth) answer root chain place name n ≡ (text_of path (Some place) (answer path) >>= λ text. expanded (follow depth answer root (path ∷ chain)) (lines_in path text) (n + 1))
   unfolding follow
-  inside depth answer h k = rw (room n most_includes h, k) refl
+  inside depth answer h k = rw (lt-leb most_includes n h, k) refl

@@ -8,6 +8,7 @@ use Rattle.std.specs.Map.{lookup, lookup_key, values_of}
 use Rattle.std.specs.Option.{option_map_or}
 use Rattle.std.specs.Prelude.{String, slice_get, string_bytes}
 use Rattle.std.specs.Str.{IsCharBoundary, bytes_eq}
+use Rattle.std.proofs.lemmas.Map.Made.{lookup_key_passes}
 use Rattle.brl_lines.specs.Answer.{FileAnswer, Holds, FileAnswers, most_file_bytes}
 use Rattle.brl_lines.specs.Files.{Files, answer_of_file, answers_of, lines_at, path_at, paths_of, span_lines, text_at}
 use Rattle.brl_lines.specs.Lines.{Answers, LocationView, answer_at, text_of}
@@ -156,14 +157,6 @@ answer_at-lookup (file ∷ files) path = by_test (bytes_eq path (string_bytes fi
     by_test true e = refl
     by_test false e = e
 
-pub key_passes : {K X : Type 0} (test : K → Bool) (es : List (K × X)) (k : K) → lookup_key test es ≡ Some k → test k ≡ true
-key_passes test [] k e = absurd cc
-key_passes test (entry ∷ es) k e = by_test (test entry.0) refl e (key_passes test es k)
-  where
-    by_test : (b : Bool) → test entry.0 ≡ b → cond b (Some entry.0) (lookup_key test es) ≡ Some k → (lookup_key test es ≡ Some k → test k ≡ true) → test k ≡ true
-    by_test true is e more = let same : entry.0 ≡ k = cc in subst (λ x. test x ≡ true) same is
-    by_test false is e more = more e
-
 -- a text that the source gave is good
 module _ (files : Files) (path : List ℕ) (index : ℕ) (name : String Global) (file : CheckedFile) (at : slice_get files index ≡ Some (name, file)) (known : answer_at (answers_of files) path ≡ Some (Holds (string_bytes file.whole))) where
   pub text-known : (answer : List ℕ → Option FileAnswer) → Extends files answer → (place : Option LocationView) → text_of path place (answer path) ≡ Ok (text_at files index)
@@ -181,7 +174,7 @@ pub found-file : (gives : FileAnswers) (files : Files) (path : List ℕ) (index 
     → Finds gives files files path index
 found-file gives files path index name file given at key value =
     let known = answer_at-lookup files path ∙ ap (option_map (λ (f : CheckedFile). Holds (string_bytes f.whole))) value in
-    let path_is : string_bytes name ≡ path = sym ((bytes_eq-Decides path (string_bytes name)).0 (key_passes (λ k. bytes_eq path (string_bytes k)) files name key)) in
+    let path_is : string_bytes name ≡ path = sym ((bytes_eq-Decides path (string_bytes name)).0 (lookup_key_passes (λ k. bytes_eq path (string_bytes k)) files name key)) in
     record {
       grows = grows-none gives files given;
       within = slice_get_within files index (name, file) at;

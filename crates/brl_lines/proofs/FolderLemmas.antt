@@ -1,24 +1,21 @@
 -- The folder of a path, by its last byte.
-use Rattle.std.proofs.Common.{◌≡◌, ◌≢◌, ℕ, ◌+◌, ◌-◌, ◌<◌, ◌≤◌, Bool, true, false, ◌||◌, nat_eq, List, [], ◌∷◌, ◌++◌, length, get_or, take, refl, ap, sym, ◌∙◌, subst, arith, IsUtf8}
+use Rattle.std.proofs.Common.{◌≡◌, ◌≢◌, ℕ, ◌+◌, ◌-◌, ◌<◌, ◌≤◌, true, false, nat_eq, List, [], ◌∷◌, ◌++◌, length, get_or, take, refl, ap, sym, ◌∙◌, subst, arith, IsUtf8}
 use Rattle.std.proofs.lemmas.List.{take_more}
 use Rattle.std.proofs.lemmas.Str.{IsCharBoundary-after_ascii}
 use Rattle.std.specs.List.{list_any}
 use Rattle.std.specs.Str.{IsCharBoundary}
+use Rattle.std.proofs.lemmas.Bool.{or_right}
 use Rattle.brl_lines.proofs.RowLemmas.{not_equal}
 use Rattle.brl_lines.specs.Includes.{folder_of}
 
-or_true : (b : Bool) → (b || true) ≡ true
-or_true true = refl
-or_true false = refl
-
 some_slash : (xs : List ℕ) → list_any (λ c. nat_eq c 47) (xs ++ 47 ∷ []) ≡ true
 some_slash [] = refl
-some_slash (x ∷ xs) = rw (some_slash xs) (or_true (nat_eq x 47))
+some_slash (x ∷ xs) = rw (some_slash xs) (or_right (nat_eq x 47) true refl)
 
 -- a path that ends in a slash
 folder_of-slash : (xs : List ℕ) → folder_of (xs ++ 47 ∷ []) ≡ xs ++ 47 ∷ []
 folder_of-slash [] = refl
-folder_of-slash (x ∷ xs) = rw (some_slash xs, or_true (nat_eq x 47), folder_of-slash xs) refl
+folder_of-slash (x ∷ xs) = rw (some_slash xs, or_right (nat_eq x 47) true refl, folder_of-slash xs) refl
 
 no_slash : (xs : List ℕ) (b : ℕ) → nat_eq b 47 ≡ false → list_any (λ c. nat_eq c 47) (xs ++ b ∷ []) ≡ list_any (λ c. nat_eq c 47) xs
 no_slash [] b e = rw e refl

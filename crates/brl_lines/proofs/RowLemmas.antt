@@ -84,14 +84,11 @@ module _ (text : List ℕ) (i m : ℕ) (before : (n : ℕ) → i ≤ n → n < m
   pub plain_row : (n : ℕ) → i ≤ n → n < m → (nat_eq (get_or text n 0) 10 ≡ false) × ((nat_eq (get_or text n 0) 13 && nat_eq (get_or text (n + 1) 0) 10) ≡ false)
   plain_row n low high = (not_equal _ _ (before n low high), pair_false _ _ (λ r. not_equal _ _ (next_not_feed n low high r)))
 
-pub is_byte : (a b : ℕ) → a ≡ b → nat_eq a b ≡ true
-is_byte a b e = eq-eqb a b e
-
 -- a row that a feed ends, with no return before it
 pub cut_at_feed : (text : List ℕ) (i m : ℕ) → i ≤ m → m < length text → ((n : ℕ) → i ≤ n → n < m → get_or text n 0 ≢ 10) → get_or text m 0 ≡ 10
     → (i < m → get_or text (m - 1) 0 ≢ 13) → rows (piece text i (length text)) ≡ piece text i m ∷ rows (piece text (m + 1) (length text))
 cut_at_feed text i m a b before feed plain =
-    row_grow text (m - i) i m [] (rows (piece text (m + 1) (length text))) (omega arith) b (row_feed text m b (is_byte _ _ feed))
+    row_grow text (m - i) i m [] (rows (piece text (m + 1) (length text))) (omega arith) b (row_feed text m b (eq-eqb _ _ feed))
     (plain_row text i m before (λ h e _. plain h e))
     ∙ ap (λ x. x ∷ rows (piece text (m + 1) (length text))) (append-nil (piece text i m))
 
@@ -100,7 +97,7 @@ pub cut_at_return : (text : List ℕ) (i m : ℕ) → i ≤ m → m + 1 < length
     → rows (piece text i (length text)) ≡ piece text i m ∷ rows (piece text (m + 2) (length text))
 cut_at_return text i m a b before return feed =
     row_grow text (m - i) i m [] (rows (piece text (m + 2) (length text))) (omega arith) (omega arith)
-    (row_return_feed text m b (not_equal _ _ (before m a (omega arith))) (is_byte _ _ return) (is_byte _ _ feed))
+    (row_return_feed text m b (not_equal _ _ (before m a (omega arith))) (eq-eqb _ _ return) (eq-eqb _ _ feed))
     (plain_row text i m (λ n low high. before n low (omega arith)) (λ _ _. before m a (omega arith)))
     ∙ ap (λ x. x ∷ rows (piece text (m + 2) (length text))) (append-nil (piece text i m))
 

@@ -1,6 +1,6 @@
 -- What characters are spelled by, and that it is read back.
 use Rattle.std.proofs.Common.{◌≡◌, ℕ, suc, ◌+◌, ◌*◌, ◌/◌, ◌%◌, ◌<◌, ◌==◌, ◌&&◌, ◌⊎◌, true, false, cond, if◌then◌else◌, Bool, nat_eq, nat_lt, List, [], ◌∷◌, ◌++◌, refl, ap, sym, subst, ◌∙◌, arith, inl, inr, Option, Some, None, Ok, ok_or, option_map, codes, find, length, take, get_or, lit<}
-use Rattle.std.proofs.lemmas.Bool.{eqb-true}
+use Rattle.std.proofs.lemmas.Bool.{eqb-true, and_from, and_parts, lt-ltb}
 use Rattle.std.proofs.lemmas.Bool.Decides.{nat_tests}
 use Rattle.std.proofs.lemmas.List.{flat_map_more, take_more}
 use Rattle.std.proofs.lemmas.Str.{chars-encodes, digit_value-digit_char, encode_ascii, encodes-append}
@@ -14,14 +14,6 @@ use Rattle.brl_lines.proofs.RowLemmas.{not_equal}
 use Rattle.brl_lines.specs.Escapes.{characters_of, hexadecimal, named, numbered, or_else, spelled}
 use Rattle.brl_lines.specs.declared.operand.CharsFault.TheVariants.{BadEscape}
 use Rattle.brl_lines.specs.Spelling.{character_spelling, escape_marks, means, spelled_by_mark, text_spelling}
-
-and_parts : (a b : Bool) → (a && b) ≡ true → (a ≡ true) × (b ≡ true)
-and_parts true b e = (refl, e)
-and_parts false b e = cc
-
-and_whole : (a b : Bool) → a ≡ true → b ≡ true → (a && b) ≡ true
-and_whole true b e f = f
-and_whole false b e f = cc
 
 -- a control character is below 128
 pub control_small : (c : ℕ) → is_ascii_control c ≡ true → c < 128
@@ -73,11 +65,8 @@ none_plain c none = not_equal c 92 (λ e. backslash (subst (λ k. find (means k)
 hexadecimal-more : (count value d : ℕ) (rest : List ℕ) → d < 16 → hexadecimal (suc count) value (digit_char d ∷ rest) ≡ hexadecimal count (value * 16 + d) rest
 unfolding hexadecimal
 hexadecimal-more count value d rest small =
-    let is : nat_lt d 16 ≡ true = below d small in
+    let is : nat_lt d 16 ≡ true = lt-ltb d 16 small in
     rw (digit_value-digit_char d (omega (arith, small)), is) refl
-  where
-    below : (d : ℕ) → d < 16 → nat_lt d 16 ≡ true
-    below d h = grind (arith, nat_tests)
 
 four_digits : (c : ℕ) (rest : List ℕ) → c < 128 → hexadecimal 4 0 (48 ∷ 48 ∷ digit_char (c / 16) ∷ digit_char (c % 16) ∷ rest) ≡ Some c
 unfolding hexadecimal
@@ -119,7 +108,7 @@ text_back (c ∷ text) s =
 
 scalars-append : (xs ys : List ℕ) → all_scalars xs ≡ true → all_scalars ys ≡ true → all_scalars (xs ++ ys) ≡ true
 scalars-append [] ys s t = t
-scalars-append (x ∷ xs) ys s t = let both = and_parts (scalar x) (all_scalars xs) s in and_whole (scalar x) (all_scalars (xs ++ ys)) both.0 (scalars-append xs ys both.1 t)
+scalars-append (x ∷ xs) ys s t = let both = and_parts (scalar x) (all_scalars xs) s in and_from (scalar x) (all_scalars (xs ++ ys)) both.0 (scalars-append xs ys both.1 t)
 
 plain_scalars : (c : ℕ) (control : Bool) → IsScalar c → is_ascii_control c ≡ control
     → all_scalars (if control then codes "\\x00" ++ digit_char (c / 16) ∷ digit_char (c % 16) ∷ [] else c ∷ []) ≡ true
@@ -127,13 +116,13 @@ plain_scalars c true s e =
     let small = control_small c e in
     let high = digit_small (c / 16) (omega arith) in
     let low = digit_small (c % 16) (omega arith) in
-    and_whole (scalar (digit_char (c / 16))) (scalar (digit_char (c % 16)) && true) (low_scalar (digit_char (c / 16)) (omega (arith, high)))
-    (and_whole (scalar (digit_char (c % 16))) true (low_scalar (digit_char (c % 16)) (omega (arith, low))) refl)
-plain_scalars c false s e = and_whole (scalar c) true s refl
+    and_from (scalar (digit_char (c / 16))) (scalar (digit_char (c % 16)) && true) (low_scalar (digit_char (c / 16)) (omega (arith, high)))
+    (and_from (scalar (digit_char (c % 16))) true (low_scalar (digit_char (c % 16)) (omega (arith, low))) refl)
+plain_scalars c false s e = and_from (scalar c) true s refl
 
 character_scalars : (c : ℕ) (found : Option ℕ) → IsScalar c → find (means c) escape_marks ≡ found → all_scalars (spelled_by_mark found c) ≡ true
 character_scalars c None s e = plain_scalars c (is_ascii_control c) s refl
-character_scalars c (Some mark) s e = and_whole (scalar mark) true (find_means c escape_marks mark refl e).1 refl
+character_scalars c (Some mark) s e = and_from (scalar mark) true (find_means c escape_marks mark refl e).1 refl
 
 text_scalars : (text : List ℕ) → all_scalars text ≡ true → all_scalars (text_spelling text) ≡ true
 text_scalars [] s = refl
@@ -159,5 +148,5 @@ pub one_more : (text : List ℕ) (i c : ℕ) (old new : List ℕ) → i < length
 one_more text i c old new h is s front e f =
     let more : take (i + 1) text ≡ take i text ++ c ∷ [] = take_more text i c h ∙ ap (λ d. take i text ++ d ∷ []) (sym is) in (
       spelling_more (take i text) c old new e f ∙ ap (λ cs. encode_utf8_all (text_spelling cs)) (sym more),
-      ap all_scalars more ∙ scalars-append (take i text) (c ∷ []) front (and_whole (scalar c) true s refl),
+      ap all_scalars more ∙ scalars-append (take i text) (c ∷ []) front (and_from (scalar c) true s refl),
     )

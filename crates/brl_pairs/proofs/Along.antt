@@ -1,7 +1,6 @@
 -- Two lists whose elements are related place by place, and lists whose elements ascend by a number.
 use Rattle.std.proofs.Common.{◌≡◌, ℕ, zero, suc, ◌<◌, ◌≤◌, Bool, true, false, not, ◌&&◌, cond, nat_eq, List, [], ◌∷◌, ◌++◌, filter, length, Some, slice_get, inl, inr, refl, sym, ◌∙◌, ap, ap₂, subst, arith}
-use Rattle.std.proofs.lemmas.Bool.{eq-eqb}
-use Rattle.std.proofs.lemmas.Bool.Decides.{nat_tests}
+use Rattle.std.proofs.lemmas.Bool.{eq-eqb, ne_eqb}
 use Rattle.std.proofs.lemmas.List.Elements.{filter_agree}
 use Rattle.std.specs.Cmp.{nat_cmp_is}
 use Rattle.std.specs.List.{AllByRecursion, AllZip, flat_map}
@@ -70,11 +69,8 @@ module _ {X : Type 0} (f : X → ℕ) where
   none-below : (k m : ℕ) (xs : List X) → k < m → AllByRecursion (λ z. m ≤ f z) xs → with_number f k xs ≡ []
   none-below k m [] less h = refl
   none-below k m (x ∷ xs) less h =
-      let other : nat_eq k (f x) ≡ false = differ k (f x) (let a = h.0 in omega (arith, a, less)) in
+      let other : nat_eq k (f x) ≡ false = ne_eqb k (f x) (λ e. (let a = h.0 in omega (arith, a, e, less))) in
       ap (λ t. cond t (x ∷ with_number f k xs) (with_number f k xs)) other ∙ none-below k m xs less h.1
-    where
-      differ : (a b : ℕ) → a < b → nat_eq a b ≡ false
-      differ a b q = grind (arith, nat_tests)
 
   own-first : (x : X) (xs : List X) → with_number f (f x) (x ∷ xs) ≡ x ∷ with_number f (f x) xs
   own-first x xs = ap (λ t. cond t (x ∷ with_number f (f x) xs) (with_number f (f x) xs)) (eq-eqb (f x) (f x) refl)
@@ -121,18 +117,12 @@ module _ {X Y : Type 0} (R : X → Y → Type 0) (f : X → ℕ) (g : Y → ℕ)
 -- two numbers tie exactly where they are equal
 tied : (a b : ℕ) → (not (is_lt (nat_cmp a b)) && not (is_lt (nat_cmp b a))) ≡ nat_eq a b
 tied a b = elim (three_ways a b) [
-  | inl less ↦ ap (λ o. not (is_lt o) && not (is_lt (nat_cmp b a))) (sym (nat_cmp_is a b Less less)) ∙ sym (below a b less)
+  | inl less ↦ ap (λ o. not (is_lt o) && not (is_lt (nat_cmp b a))) (sym (nat_cmp_is a b Less less)) ∙ sym (ne_eqb a b (λ e. omega (arith, e, less)))
   | inr rest ↦ elim rest [
     | inl same ↦ ap₂ (λ o p. not (is_lt o) && not (is_lt p)) (sym (nat_cmp_is a b Equal same)) (sym (nat_cmp_is b a Equal (sym same))) ∙ sym (eq-eqb a b same)
-    | inr more ↦ ap₂ (λ o p. not (is_lt o) && not (is_lt p)) (sym (nat_cmp_is a b Greater more)) (sym (nat_cmp_is b a Less more)) ∙ sym (above a b more)
+    | inr more ↦ ap₂ (λ o p. not (is_lt o) && not (is_lt p)) (sym (nat_cmp_is a b Greater more)) (sym (nat_cmp_is b a Less more)) ∙ sym (ne_eqb a b (λ e. omega (arith, e, more)))
   ]
 ]
-  where
-    below : (m n : ℕ) → m < n → nat_eq m n ≡ false
-    below m n less = grind (arith, nat_tests)
-
-    above : (m n : ℕ) → n < m → nat_eq m n ≡ false
-    above m n more = grind (arith, nat_tests)
 
 -- a stable sort by a number leaves the elements of one number as they are
 pub stable_number : {X : Type 0} (f : X → ℕ) (xs ys : List X) → IsStableByKey f nat_cmp xs ys → (x : X) → with_number f (f x) ys ≡ with_number f (f x) xs

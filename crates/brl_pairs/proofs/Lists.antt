@@ -1,6 +1,7 @@
 -- Elements of a list by their places.
-use Rattle.std.proofs.Common.{◌≡◌, ℕ, zero, suc, ◌+◌, ◌<◌, List, [], ◌∷◌, ◌++◌, ◌⊎◌, inl, inr, length, map, Some, slice_get, refl, ap, sym, ◌∙◌, subst, arith, length-append, get_or, set, replicate}
-use Rattle.std.proofs.lemmas.Option.{slice_get_read, slice_get_within}
+use Rattle.std.proofs.Common.{◌≡◌, ℕ, zero, suc, ◌+◌, ◌<◌, List, [], ◌∷◌, ◌++◌, ◌⊎◌, inl, inr, length, map, Some, slice_get, refl, ap, sym, ◌∙◌, subst, arith, length-append, get_or, set, replicate, take}
+use Rattle.std.proofs.lemmas.Option.{slice_get_read, slice_get_within, get_or_from_slice_get}
+use Rattle.std.proofs.lemmas.List.{take_more}
 
 -- a place is before another, or it is the same, or it is after it
 pub three_ways : (k l : ℕ) → (k < l) ⊎ ((k ≡ l) ⊎ (l < k))
@@ -88,3 +89,7 @@ module _ {X Y : Type 0} (f : X → Y) where
   mapped_from [] k y at = cc
   mapped_from (z ∷ xs) zero y at = (z, refl, (let e : f z ≡ y = cc in e))
   mapped_from (z ∷ xs) (suc k) y at = mapped_from xs k y at
+
+-- the front of a list and its next element
+pub take-got : {X : Type 0} (xs : List X) (k : ℕ) (x : X) → slice_get xs k ≡ Some x → take (k + 1) xs ≡ take k xs ++ x ∷ []
+take-got xs k x at = take_more xs k x (slice_get_within xs k x at) ∙ ap (λ y. take k xs ++ y ∷ []) (get_or_from_slice_get xs k x x at)

@@ -1,5 +1,5 @@
 -- The position of a member of a list without repeats.
-use Rattle.std.proofs.Common.{◌≡◌, ℕ, zero, suc, ◌<◌, ◌⊎◌, inl, inr, Bool, true, false, not, true≢false, List, [], ◌∷◌, length, Option, Some, None, slice_get, position, IfSome, refl, sym, ◌∙◌, ap, subst, arith, get_or}
+use Rattle.std.proofs.Common.{◌≡◌, ℕ, zero, suc, ◌<◌, inl, inr, Bool, true, false, not, true≢false, List, [], ◌∷◌, length, Option, Some, None, slice_get, position, IfSome, refl, sym, ◌∙◌, ap, subst, arith, get_or}
 use Rattle.std.specs.List.{position_or_len, IsDistinct, list_any}
 use Rattle.std.specs.Cmp.{IsEquivalence}
 use Rattle.std.proofs.lemmas.Option.{slice_get-get_or, get_or_from_slice_get, slice_get_read, slice_get_within}
@@ -7,12 +7,9 @@ use Rattle.std.proofs.lemmas.List.Folds.{Any-from_list_any, list_any_at}
 use Rattle.std.proofs.lemmas.List.Quantifiers.{position-Some}
 use Rattle.std.proofs.lemmas.Map.Keys.{apart_from_distinct}
 use Rattle.std.proofs.lemmas.Bool.Decides.{nat_tests}
+use Rattle.std.proofs.lemmas.Bool.{not-false}
 use Rattle.brl_pairs.specs.Members.{HaveOneNumber, IsMember}
-
--- what isn't false is true
-pub not_false : (b : Bool) → not b ≡ false → b ≡ true
-not_false true e = refl
-not_false false e = cc
+use Rattle.brl_pairs.proofs.Lists.{three_ways}
 
 first_at : {X : Type 0} (test : X → Bool) (xs : List X) (k : ℕ) (x : X) → slice_get xs k ≡ Some x → test x ≡ true → ((j : ℕ) (y : X) → j < k → slice_get xs j ≡ Some y → test y ≡ false) → position_or_len test xs ≡ k
 first_at test [] k x at passes before = cc
@@ -24,9 +21,6 @@ first_at test (y ∷ xs) (suc k) x at passes before =
     let failed : test y ≡ false = before zero y (omega arith) refl in
     let rest : position_or_len test xs ≡ k = first_at test xs k x at passes (λ j z l h. before (suc j) z (omega arith) h) in
     rw failed (omega (arith, rest))
-
-three_ways : (i j : ℕ) → (i < j) ⊎ ((i ≡ j) ⊎ (j < i))
-three_ways i j = grind arith
 
 -- a member that passes a test, at the first place where one does
 found_at : {X : Type 0} (test : X → Bool) (xs : List X) (k : ℕ) → position test xs ≡ Some k → (x : X) × (slice_get xs k ≡ Some x) × (test x ≡ true)
@@ -88,4 +82,4 @@ module _ {X : Type 0} {eq : X → X → Bool} (laws : IsEquivalence eq) (same : 
   new v added is was member = true≢false (sym was ∙ is ∙ ap not (member_equal v member))
 
   pub known : (v : X) (added : Bool) → added ≡ not (list_any (eq v) xs) → added ≡ false → IsMember xs v
-  known v added is was = equal_member v (not_false (list_any (eq v) xs) (sym is ∙ was))
+  known v added is was = equal_member v (not-false (list_any (eq v) xs) (sym is ∙ was))

@@ -1,9 +1,9 @@
 -- What the characters of a rule are compared with: in a run of capitals the folds of its capitals.
-use Rattle.std.proofs.Common.{ℕ, zero, suc, ◌<◌, ◌≤◌, ◌≡◌, Bool, true, false, ◌&&◌, List, [], ◌∷◌, length, map, cond, nat_eq, get_or, refl, arith, sym, ◌∙◌, ap, Some, None}
+use Rattle.std.proofs.Common.{ℕ, zero, suc, ◌<◌, ◌≤◌, ◌≡◌, Bool, true, false, ◌&&◌, List, [], ◌∷◌, length, cond, nat_eq, get_or, refl, arith, sym, ◌∙◌, ap, Some, None}
 use Rattle.std.specs.Prelude.{slice_get, slice_index}
 use Rattle.std.specs.List.{starts_with}
 use Rattle.std.specs.Cmp.{first_so, second_so}
-use Rattle.std.proofs.lemmas.Bool.Decides.{nat_tests}
+use Rattle.std.proofs.lemmas.Bool.{eq-eqb}
 use Rattle.brl_rules.specs.TableView.{TableView}
 use Rattle.brl_rules.specs.Text.{classes_of, fold_of, is_capital}
 use Rattle.brl_rules.specs.Choice.{compared, folds_of_capitals}
@@ -75,9 +75,6 @@ behind-length t false rest = omega arith
 
 -- ---- element by element
 
-pub tested : (m n : ℕ) → m ≡ n → nat_eq m n ≡ true
-tested m n h = grind (arith, nat_tests)
-
 -- these are the folds of the rest's first characters, which are capitals
 pub record AreCapitals (t : TableView) (rest chars : List ℕ) : Type 0 where
   pub room : length chars ≤ length rest
@@ -112,7 +109,7 @@ starts_from_capitals t rest [] h = refl
 starts_from_capitals t [] (x ∷ chars) h = absurd (omega (arith, h.room))
 starts_from_capitals t (c ∷ rest) (x ∷ chars) h =
     ap (λ l. starts_with nat_eq l (x ∷ chars)) (folds-capital t c rest (h.capitals 0 (omega arith)))
-    ∙ and-true (nat_eq x (fold_of t c)) (starts_with nat_eq (folds_of_capitals t rest) chars) (tested x (fold_of t c) (sym (h.folds 0 (omega arith))))
+    ∙ and-true (nat_eq x (fold_of t c)) (starts_with nat_eq (folds_of_capitals t rest) chars) (eq-eqb x (fold_of t c) (sym (h.folds 0 (omega arith))))
     (starts_from_capitals t rest chars (record {
       room = omega (arith, h.room);
       capitals = λ k within. h.capitals (suc k) (omega (arith, within));

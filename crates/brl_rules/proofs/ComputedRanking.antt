@@ -1,12 +1,12 @@
 -- Rules that `in_rank` puts in rank are a ranking.
 use Rattle.std.proofs.Common.{ℕ, suc, ◌<◌, ◌≤◌, ◌≡◌, Bool, true, false, cond, List, [], ◌∷◌, refl, arith, sym, ◌∙◌, ap, nat_eq}
-use Rattle.std.specs.Prelude.{nat_le, filter, All}
+use Rattle.std.specs.Prelude.{filter, All}
 use Rattle.std.proofs.lemmas.Bool.Decides.{nat_tests}
 use Rattle.std.proofs.lemmas.List.Elements.{All-nil, All-cons, All-head, All-tail, All-weaker}
 use Rattle.std.proofs.lemmas.List.Kept.{AllPairs-cons}
 use Rattle.brl_rules.specs.declared.rule.Rule.{Rule}
 use Rattle.brl_rules.specs.Rank.{outranks, put_in_rank, in_rank, IsRanking}
-use Rattle.brl_rules.proofs.RankWeight.{weight, of_weight, ties-of_weight, outranked-weight, level-weight, IsByWeight, by_weight-rank}
+use Rattle.brl_rules.proofs.RankWeight.{weight, of_weight, ties-of_weight, outranked-weight, level-weight, IsByWeight, by_weight-rank, by_weight-tail}
 
 -- ---- the rules of each weight are in the order of their lines
 
@@ -59,12 +59,9 @@ none i j d before within = absurd (omega arith)
 behind : (s : Rule) (rules : List Rule) → IsByWeight (s ∷ rules) → All (AtMost s) rules
 behind s rules h k d within = h 0 (suc k) d (omega arith) (omega (arith, within))
 
-tail : (s : Rule) (rules : List Rule) → IsByWeight (s ∷ rules) → IsByWeight rules
-tail s rules h i j d before within = h (suc i) (suc j) d (omega (arith, before)) (omega (arith, within))
-
 put-IsByWeight : (r : Rule) (rules : List Rule) → IsByWeight rules → IsByWeight (put_in_rank r rules)
 put-IsByWeight r [] h = AllPairs-cons AtMost r [] (All-nil (AtMost r)) none
-put-IsByWeight r (s ∷ rules) h = cases (outranks s r) refl (put-IsByWeight r rules (tail s rules h))
+put-IsByWeight r (s ∷ rules) h = cases (outranks s r) refl (put-IsByWeight r rules (by_weight-tail s rules h))
   where
     cases : (b : Bool) → outranks s r ≡ b → IsByWeight (put_in_rank r rules) → IsByWeight (cond b (s ∷ put_in_rank r rules) (r ∷ s ∷ rules))
     cases false e more =

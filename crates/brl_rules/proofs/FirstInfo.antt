@@ -4,6 +4,7 @@ use Rattle.std.specs.Prelude.{All, slice_get}
 use Rattle.std.specs.Option.{option_map_or}
 use Rattle.std.proofs.lemmas.List.Elements.{All-get_or, All-head}
 use Rattle.std.proofs.lemmas.Option.{get_or_from_slice_get, slice_get_within}
+use Rattle.std.proofs.lemmas.Bool.{false_from_ne_true}
 use Rattle.brl_rules.specs.declared.class.Class.{Class}
 use Rattle.brl_rules.specs.declared.rule.Info.{Info}
 use Rattle.brl_rules.specs.declared.rule.Rule.{Rule}
@@ -14,18 +15,16 @@ use Rattle.brl_rules.specs.Text.{fold_of, is_in_caps_run}
 use Rattle.brl_rules.specs.Choice.{Choice, fits, own, chosen}
 use Rattle.brl_rules.proofs.Compared.{behind_first}
 use Rattle.brl_rules.proofs.EntryNumbers.{number_small}
-use Rattle.brl_rules.proofs.TreeWalk.{position-none, not_true, fits-matches, front, chosen-none}
+use Rattle.brl_rules.proofs.TreeWalk.{position-none, fits-matches, front, chosen-none}
+use Rattle.brl_rules.proofs.Facts.{some_is}
 
 pub first_info-got : (t : TableView) (rest : List ℕ) (d : ℕ) → 0 < length rest → first_info t rest ≡ info_of t (get_or rest 0 d)
 first_info-got t [] d some = absurd (omega arith)
 first_info-got t (c ∷ rest) d some = refl
 
-some_character : (c d : ℕ) → Some c ≡ Some d → c ≡ d
-some_character c d h = cc
-
 pub first_info-there : (t : TableView) (rest : List ℕ) (c : ℕ) → slice_get rest 0 ≡ Some c → first_info t rest ≡ info_of t c
 first_info-there t [] c there = cc
-first_info-there t (x ∷ rest) c there = ap (info_of t) (some_character x c there)
+first_info-there t (x ∷ rest) c there = ap (info_of t) (some_is x c there)
 
 module _ (t : TableView) (info : Info) where
   pub some-characters : (rest : List ℕ) → first_info t rest ≡ Some info → 0 < length rest
@@ -78,5 +77,5 @@ pub chosen-undefined : (t : TableView) → IsTable t → (before : Class) (rest 
 chosen-undefined t law before [] d some undefined = absurd (omega arith)
 chosen-undefined t law before (c ∷ rest) d some undefined =
     chosen-none t before (c ∷ rest)
-    (position-none (fits t before (c ∷ rest)) 0 t.rules (λ j r there. not_true (fits t before (c ∷ rest) r) (no_rule t law before c rest undefined j r there)))
+    (position-none (fits t before (c ∷ rest)) 0 t.rules (λ j r there. false_from_ne_true (fits t before (c ∷ rest) r) (no_rule t law before c rest undefined j r there)))
     ∙ own-undefined t c rest undefined

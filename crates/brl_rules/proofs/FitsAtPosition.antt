@@ -5,13 +5,14 @@ use Rattle.std.specs.List.{starts_with}
 use Rattle.std.specs.Option.{option_map_or}
 use Rattle.std.specs.Cmp.{first_so, second_so}
 use Rattle.std.proofs.lemmas.List.{get_or-drop}
+use Rattle.std.proofs.lemmas.Bool.{eq-eqb}
 use Rattle.brl_rules.specs.declared.rule.Rule.{Rule}
 use Rattle.brl_rules.specs.TableView.{TableView}
 use Rattle.brl_rules.specs.Places.{space, holds, before_of, after_of}
 use Rattle.brl_rules.specs.Text.{fold_of, classes_of, classes_at, classes_before}
 use Rattle.brl_rules.specs.Choice.{matches, fits, folds_of_capitals}
 use Rattle.brl_rules.specs.Position.{FitsAt, in_caps_run_at}
-use Rattle.brl_rules.proofs.Compared.{is_cap, capitals_from_starts, starts_from_capitals, tested}
+use Rattle.brl_rules.proofs.Compared.{is_cap, capitals_from_starts, starts_from_capitals}
 use Rattle.brl_rules.proofs.Facts.{same_number, and-true}
 use Rattle.brl_rules.proofs.TakenLengths.{matches-Takes}
 
@@ -28,7 +29,7 @@ items-starts_with : (ys xs : List ℕ) → length xs ≤ length ys → ((k : ℕ
 items-starts_with ys [] room h = refl
 items-starts_with [] (x ∷ xs) room h = absurd (omega (arith, room))
 items-starts_with (y ∷ ys) (x ∷ xs) room h =
-    and-true (nat_eq x y) (starts_with nat_eq ys xs) (tested x y (sym (h 0 (omega arith))))
+    and-true (nat_eq x y) (starts_with nat_eq ys xs) (eq-eqb x y (sym (h 0 (omega arith))))
     (items-starts_with ys xs (omega (arith, room)) (λ k within. h (suc k) (omega (arith, within))))
 
 -- the rest begins with the characters of a rule, element by element
@@ -76,10 +77,10 @@ matches_from_items : (t : TableView) (run : Bool) (rest chars : List ℕ) → Ma
 matches_from_items t run rest [] h = absurd (omega (arith, h.some))
 matches_from_items t run [] (x ∷ xs) h = absurd (omega (arith, h.room))
 matches_from_items t false (c ∷ rest) (x ∷ xs) h =
-    and-true (nat_eq x (fold_of t c)) (starts_with nat_eq rest xs) (tested x (fold_of t c) (sym h.first))
+    and-true (nat_eq x (fold_of t c)) (starts_with nat_eq rest xs) (eq-eqb x (fold_of t c) (sym h.first))
     (items-starts_with rest xs (omega (arith, h.room)) (λ k within. h.others refl (suc k) (omega arith) (omega (arith, within))))
 matches_from_items t true (c ∷ rest) (x ∷ xs) h =
-    and-true (nat_eq x (fold_of t c)) (starts_with nat_eq (folds_of_capitals t rest) xs) (tested x (fold_of t c) (sym h.first))
+    and-true (nat_eq x (fold_of t c)) (starts_with nat_eq (folds_of_capitals t rest) xs) (eq-eqb x (fold_of t c) (sym h.first))
     (starts_from_capitals t rest xs (record {
       room = omega (arith, h.room);
       capitals = λ k within. h.capitals refl (suc k) (omega arith) (omega (arith, within));

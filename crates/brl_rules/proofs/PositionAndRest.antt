@@ -1,8 +1,8 @@
 -- The translation by position is the translation of the rest, and unfolds one rule at a time.
 use Rattle.std.proofs.Common.{ℕ, zero, suc, ◌+◌, ◌≤◌, ◌<◌, ◌≡◌, true, false, List, [], ◌∷◌, ◌++◌, length, take, drop, refl, arith, nat_lt, sym, ◌∙◌, ap, Some, add-zero, length-drop}
 use Rattle.std.proofs.lemmas.List.{drop-drop, length-take-le, take-append-drop}
-use Rattle.std.proofs.lemmas.Bool.Decides.{nat_tests}
 use Rattle.std.specs.List.{slice_get}
+use Rattle.std.proofs.lemmas.Bool.{le-ltb, lt-ltb}
 use Rattle.brl_rules.specs.declared.context.Context.{Context}
 use Rattle.brl_rules.specs.TableView.{TableView}
 use Rattle.brl_rules.specs.Text.{at_start, classes_before, context_at, context_after, context_after_all}
@@ -64,19 +64,11 @@ context_after_all-at t text i (x ∷ xs) ys e =
     rw (← here) (ap (context_at t text) place ∙ more)
 
 -- a position before the end, and the end
-in_text : (i : ℕ) (text : List ℕ) (x : ℕ) (rest : List ℕ) → drop i text ≡ x ∷ rest → nat_lt i (length text) ≡ true
-in_text i text x rest e =
-    let n = length-drop i text in
-    let m : length (drop i text) ≡ suc (length rest) = ap length e in
-    let k : i < length text = omega arith in
-    grind (arith, nat_tests)
+pub in_text : (i : ℕ) (text : List ℕ) (x : ℕ) (rest : List ℕ) → drop i text ≡ x ∷ rest → nat_lt i (length text) ≡ true
+in_text i text x rest e = (let size = sym (length-drop i text) ∙ ap length e in lt-ltb i (length text) (omega (arith, size)))
 
-at_end : (i : ℕ) (text : List ℕ) → drop i text ≡ [] → nat_lt i (length text) ≡ false
-at_end i text e =
-    let n = length-drop i text in
-    let m : length (drop i text) ≡ 0 = ap length e in
-    let k : length text ≤ i = omega arith in
-    grind (arith, nat_tests)
+pub at_end : (i : ℕ) (text : List ℕ) → drop i text ≡ [] → nat_lt i (length text) ≡ false
+at_end i text e = (let size = sym (length-drop i text) ∙ ap length e in le-ltb i (length text) (omega (arith, size)))
 
 -- the step at a position, given the rest there
 step : (t : TableView) (text : List ℕ) (n i : ℕ) (rest : List ℕ) → drop i text ≡ rest

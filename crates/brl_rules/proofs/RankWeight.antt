@@ -1,9 +1,10 @@
 -- Rank by numbers: a rule outranks those of less weight.
-use Rattle.std.proofs.Common.{ℕ, ◌+◌, ◌≤◌, ◌<◌, ◌≡◌, Bool, true, false, not, ◌&&◌, cond, nat_eq, nat_lt, List, length, arith, sym, ◌∙◌, ap}
+use Rattle.std.proofs.Common.{ℕ, suc, ◌+◌, ◌≤◌, ◌<◌, ◌≡◌, Bool, true, false, not, ◌&&◌, cond, nat_eq, nat_lt, List, ◌∷◌, length, arith, sym, ◌∙◌, ap}
 use Rattle.std.specs.Prelude.{◌||◌, AllPairs, filter, slice_index_or}
 use Rattle.std.specs.List.Sorted.{ties}
 use Rattle.std.proofs.lemmas.Bool.Decides.{nat_tests}
 use Rattle.std.proofs.lemmas.List.Elements.{filter_agree}
+use Rattle.std.proofs.lemmas.Bool.{ltb-true}
 use Rattle.brl_rules.specs.declared.rule.Rule.{Rule}
 use Rattle.brl_rules.specs.Places.{is_placed}
 use Rattle.brl_rules.specs.Rank.{outranks, IsInRank}
@@ -37,12 +38,9 @@ pub ties-of_weight : (r : Rule) (rules : List Rule) → filter (ties outranks r)
 unfolding of_weight
 ties-of_weight r rules = filter_agree (ties outranks r) (λ s. nat_eq (weight s) (weight r)) (ties-weight r) rules
 
-below : (m n : ℕ) → nat_lt m n ≡ true → m < n
-below m n h = grind (arith, nat_tests)
-
 -- a rule that another outranks has less weight
 pub outranked-weight : (r s : Rule) → outranks r s ≡ true → weight s < weight r
-outranked-weight r s h = below (weight s) (weight r) (sym (outranks-weight r s) ∙ h)
+outranked-weight r s h = ltb-true (weight s) (weight r) (sym (outranks-weight r s) ∙ h)
 
 -- a rule that another doesn't outrank has no less weight
 pub level-weight : (r s : Rule) → outranks r s ≡ false → weight r ≤ weight s
@@ -54,6 +52,9 @@ weight-level r s h = outranks-weight r s ∙ not_above (weight s) (weight r) h
 -- no rule has more weight than the one before it
 abbrev pub IsByWeight : List Rule → Type 0
 IsByWeight rules = AllPairs (λ r s. weight s ≤ weight r) rules
+
+pub by_weight-tail : (r : Rule) (rules : List Rule) → IsByWeight (r ∷ rules) → IsByWeight rules
+by_weight-tail r rules h i j d before within = h (suc i) (suc j) d (omega (arith, before)) (omega (arith, within))
 
 pub rank-by_weight : (rules : List Rule) → IsInRank rules → IsByWeight rules
 rank-by_weight rules h i j d before within = level-weight (slice_index_or rules j d) (slice_index_or rules i d) (h i j d before within)

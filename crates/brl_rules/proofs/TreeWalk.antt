@@ -4,10 +4,10 @@ use Rattle.std.specs.Prelude.{nat_le, slice_get, is_some}
 use Rattle.std.specs.List.{find, position_from, starts_with}
 use Rattle.std.specs.Option.{option_map_or, option_or}
 use Rattle.std.specs.Cmp.{first_so, second_so}
-use Rattle.std.proofs.lemmas.Bool.{cases_order}
+use Rattle.std.proofs.lemmas.Bool.{cases_order, and_right, eq-eqb, false_from_ne_true, le-leb, lt-leb, ne_eqb}
 use Rattle.std.proofs.lemmas.Bool.Decides.{nat_tests}
 use Rattle.std.proofs.lemmas.List.{take_more}
-use Rattle.std.proofs.lemmas.Option.{get_or_from_slice_get}
+use Rattle.std.proofs.lemmas.Option.{get_or_from_slice_get, slice_get_within}
 use Rattle.brl_rules.specs.declared.class.Class.{Class}
 use Rattle.brl_rules.specs.declared.rule.Info.{Info}
 use Rattle.brl_rules.specs.declared.rule.Rule.{Rule}
@@ -15,11 +15,11 @@ use Rattle.brl_rules.specs.TableView.{TableView, info_of}
 use Rattle.brl_rules.specs.Places.{holds, before_of, after_of}
 use Rattle.brl_rules.specs.Text.{classes_at, is_in_caps_run}
 use Rattle.brl_rules.specs.Choice.{compared, matches, fits, place_allows, place_allows_number, by_rule, own, first_fitting, chosen, chosen_number}
-use Rattle.brl_rules.specs.Rank.{outranks, IsInRank}
+use Rattle.brl_rules.specs.Rank.{IsInRank}
 use Rattle.brl_rules.proofs.RankWeight.{level-length}
 use Rattle.brl_rules.specs.Tree.{is_just, numbers, ends_of}
 use Rattle.brl_rules.proofs.TakenLengths.{fits-Takes, starts_with-length}
-use Rattle.brl_rules.proofs.Facts.{some_is, same_number, not_both, nat_eq-itself, nat_eq-sym}
+use Rattle.brl_rules.proofs.Facts.{some_is, same_number, not_both, nat_eq-itself}
 
 -- ---- the first place at which a test holds
 
@@ -75,37 +75,13 @@ numbers-none test n (r ∷ rules) h (suc k) s is = numbers-none test (n + 1) rul
 abbrev pub length_of : Rule → ℕ
 length_of r = length r.chars
 
-le-true : (w k : ℕ) → w ≤ k → nat_le w k ≡ true
-le-true w k h = grind (arith, nat_tests)
-
-le-false : (w k : ℕ) → k < w → nat_le w k ≡ false
-le-false w k h = grind (arith, nat_tests)
-
-eq-true : (w k : ℕ) → w ≡ k → nat_eq w k ≡ true
-eq-true w k h = grind (arith, nat_tests)
-
-eq-false : (w k : ℕ) → w < k → nat_eq w k ≡ false
-eq-false w k h = grind (arith, nat_tests)
-
-eq-false-above : (w k : ℕ) → k < w → nat_eq w k ≡ false
-eq-false-above w k h = grind (arith, nat_tests)
-
-and-false : (b c : Bool) → c ≡ false → b && c ≡ false
-and-false true c h = h
-and-false false c h = refl
-
 tail : (r : Rule) (rules : List Rule) → IsInRank (r ∷ rules) → IsInRank rules
 tail r rules h i j d before within = h (suc i) (suc j) d (omega (arith, before)) (omega (arith, within))
-
-got_within : (rules : List Rule) (k : ℕ) (s : Rule) → slice_get rules k ≡ Some s → k < length rules
-got_within [] k s is = cc
-got_within (r ∷ rules) zero s is = omega arith
-got_within (r ∷ rules) (suc k) s is = omega (arith, got_within rules k s is)
 
 -- no rule after the first in rank is longer
 shorter : (r : Rule) (rules : List Rule) → IsInRank (r ∷ rules) → (k : ℕ) (s : Rule) → slice_get rules k ≡ Some s → length_of s ≤ length_of r
 shorter r rules h k s is =
-    let within : k < length rules = got_within rules k s is in
+    let within : k < length rules = slice_get_within rules k s is in
     let e : get_or rules k s ≡ s = get_or_from_slice_get rules k s s is in
     let low : length_of (get_or rules k s) ≤ length_of r = level-length (get_or rules k s) r (h 0 (suc k) s (omega arith) (omega (arith, within))) in
     omega (arith, low, ap length_of e)
@@ -137,14 +113,14 @@ rank-step f k n (r ∷ rules) h = by_order (cases_order (length_of r) (k + 1)) (
         → position_from (λ r. f r && nat_le (length_of r) (k + 1)) n (r ∷ rules)
         ≡ option_or (position_from (λ r. f r && nat_eq (length_of r) (k + 1)) n (r ∷ rules)) (position_from (λ r. f r && nat_le (length_of r) k) n (r ∷ rules))
     by_order (inl same) more =
-        rw (le-true (length_of r) (k + 1) (omega arith), eq-true (length_of r) (k + 1) same, le-false (length_of r) k (omega arith)) (as_long (f r) n _ _ _ more)
+        rw (le-leb (length_of r) (k + 1) (omega arith), eq-eqb (length_of r) (k + 1) same, lt-leb (length_of r) k (omega arith)) (as_long (f r) n _ _ _ more)
     by_order (inr (inl less)) more =
         let low : length_of r ≤ k = omega arith in
         let none = position-none (λ r. f r && nat_eq (length_of r) (k + 1)) (n + 1) rules
-        (λ j s is. and-false (f s) (nat_eq (length_of s) (k + 1)) (eq-false (length_of s) (k + 1) (omega (arith, shorter r rules h j s is)))) in
-        rw (le-true (length_of r) (k + 1) (omega arith), eq-false (length_of r) (k + 1) less, le-true (length_of r) k low) (as_short (f r) n _ _ _ none more)
+        (λ j s is. and_right (f s) (nat_eq (length_of s) (k + 1)) (ne_eqb (length_of s) (k + 1) (λ e. omega (arith, e, shorter r rules h j s is)))) in
+        rw (le-leb (length_of r) (k + 1) (omega arith), ne_eqb (length_of r) (k + 1) (λ e. omega (arith, e, less)), le-leb (length_of r) k low) (as_short (f r) n _ _ _ none more)
     by_order (inr (inr above)) more =
-        rw (le-false (length_of r) (k + 1) above, eq-false-above (length_of r) (k + 1) above, le-false (length_of r) k (omega arith)) (too_long (f r) n _ _ _ more)
+        rw (lt-leb (length_of r) (k + 1) above, ne_eqb (length_of r) (k + 1) (λ e. omega (arith, e, above)), lt-leb (length_of r) k (omega arith)) (too_long (f r) n _ _ _ more)
 
 -- ---- rules with just the first characters of a rest
 
@@ -194,15 +170,8 @@ under-true : (b x : Bool) → (b ≡ true → x ≡ true) → b && x ≡ b
 under-true true x h = h refl
 under-true false x h = refl
 
-pub not_true : (b : Bool) → (b ≡ true → ⊥) → b ≡ false
-not_true true h = absurd (h refl)
-not_true false h = refl
-
 one-le : (w : ℕ) → 1 ≤ w → nat_eq w (0 + 1) ≡ nat_le w (0 + 1)
 one-le w h = grind (arith, nat_tests)
-
-some_number : (m n : ℕ) → Some m ≡ Some n → m ≡ n
-some_number m n h = cc
 
 just-itself : (chars : List ℕ) → is_just chars chars ≡ true
 just-itself [] = refl
@@ -276,7 +245,7 @@ module _ (t : TableView) (before : Class) (rest : List ℕ) (first : ℕ) (behin
       → position_from (λ r. fits t before rest r && nat_le (length_of r) k) 0 t.rules ≡ position_from (fits t before rest) 0 t.rules
   no_more k h =
       position-agree (λ r. fits t before rest r && nat_le (length_of r) k) (fits t before rest) 0 t.rules
-      (λ j r there. under-true (fits t before rest r) (nat_le (length_of r) k) (λ does. le-true (length_of r) k (h j r there does)))
+      (λ j r there. under-true (fits t before rest r) (nat_le (length_of r) k) (λ does. le-leb (length_of r) k (h j r there does)))
 
   pub rest-first : find (place_allows_number t before rest) (ends_of t.rules (first ∷ []))
       ≡ position_from (λ r. fits t before rest r && nat_le (length_of r) (0 + 1)) 0 t.rules
@@ -305,7 +274,7 @@ module _ (t : TableView) (before : Class) (rest : List ℕ) (first : ℕ) (behin
   pub rest-no_root : ((at : List ℕ) → [] ≡ ends_of t.rules (first ∷ at)) → position_from (fits t before rest) 0 t.rules ≡ None
   rest-no_root none =
       position-none (fits t before rest) 0 t.rules
-      (λ j r there. not_true (fits t before rest r)
+      (λ j r there. false_from_ne_true (fits t before rest r)
       (λ does.
       let f = front r.chars (fits-matches r does) in
       let just : is_just r.chars (first ∷ f.0) ≡ true = ap (λ chars. is_just chars (first ∷ f.0)) f.1 ∙ just-itself (first ∷ f.0) in
@@ -362,7 +331,7 @@ module _ (t : TableView) (before : Class) (rest : List ℕ) where
       cases : (b : Bool) → fits t before rest r ≡ b → cond b (Some n) (position_from (fits t before rest) (n + 1) rules) ≡ Some place
           → (position_from (fits t before rest) (n + 1) rules ≡ Some place → Found t before rest (n + 1) rules place) → Found t before rest n (r ∷ rules) place
       cases true does e others =
-          let place-is : n ≡ place = some_number n place e in
+          let place-is : n ≡ place = some_is n place e in
           let zero-is : place - n ≡ 0 = omega arith in
           record {
             least = omega arith;
@@ -405,7 +374,7 @@ module _ (t : TableView) (before : Class) (rest : List ℕ) where
       let found = first-some 0 t.rules place h in
       let e : place - 0 ≡ place = omega arith in
       let there : slice_get t.rules place ≡ Some found.rule = ap (slice_get t.rules) (sym e) ∙ found.there in
-      record { rule = found.rule; there = there; within = got_within t.rules place found.rule there; chosen_is = found.chosen_is }
+      record { rule = found.rule; there = there; within = slice_get_within t.rules place found.rule there; chosen_is = found.chosen_is }
 
   -- the rule at the place that is found is chosen
   pub chosen-at : (place : ℕ) → position_from (fits t before rest) 0 t.rules ≡ Some place → (all : List Rule) → all ≡ t.rules
@@ -425,5 +394,5 @@ module _ (t : TableView) (before : Class) (rest : List ℕ) where
       of_rest : (rest : List ℕ) → slice_get rest 0 ≡ Some c → chosen_number t before rest ≡ Some (chosen t before rest).number
       of_rest [] there = cc
       of_rest (x ∷ rest) there =
-          let x-is : x ≡ c = some_number x c there in
+          let x-is : x ≡ c = some_is x c there in
           ap (λ b. cond b (Some (chosen t before (x ∷ rest)).number) None) (ap (λ y. is_some (info_of t y)) x-is ∙ ap is_some known)

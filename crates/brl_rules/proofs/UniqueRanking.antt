@@ -1,15 +1,11 @@
 -- Rules have one ranking only.
 use Rattle.std.proofs.Common.{ℕ, zero, suc, ◌<◌, ◌≤◌, ◌≡◌, Bool, true, false, cond, ◌⊎◌, inl, inr, List, [], ◌∷◌, length, nat_eq, refl, arith, sym, ◌∙◌, ap}
 use Rattle.std.specs.Prelude.{filter, slice_index_or}
-use Rattle.std.proofs.lemmas.Bool.{cases_order}
-use Rattle.std.proofs.lemmas.Bool.Decides.{nat_tests}
+use Rattle.std.proofs.lemmas.Bool.{cases_order, ne_eqb}
 use Rattle.brl_rules.specs.declared.rule.Rule.{Rule}
 use Rattle.brl_rules.specs.Rank.{IsRanking}
-use Rattle.brl_rules.proofs.RankWeight.{weight, of_weight, ties-of_weight, IsByWeight, rank-by_weight}
+use Rattle.brl_rules.proofs.RankWeight.{weight, of_weight, ties-of_weight, IsByWeight, rank-by_weight, by_weight-tail}
 use Rattle.brl_rules.proofs.Facts.{nat_eq-itself}
-
-differ : (m n : ℕ) → m < n → nat_eq m n ≡ false
-differ m n h = grind (arith, nat_tests)
 
 -- each rule has less weight than n
 abbrev AreLighter : ℕ → List Rule → Type 0
@@ -19,7 +15,7 @@ none_as_heavy : (n : ℕ) (rules : List Rule) → AreLighter n rules → of_weig
 unfolding of_weight
 none_as_heavy n [] h = refl
 none_as_heavy n (r ∷ rules) h =
-    rw (differ (weight r) n (h 0 r (omega arith))) (none_as_heavy n rules (λ k d within. h (suc k) d (omega (arith, within))))
+    rw (ne_eqb (weight r) n (λ e. omega (arith, e, h 0 r (omega arith)))) (none_as_heavy n rules (λ k d within. h (suc k) d (omega (arith, within))))
 
 first_counts : (r : Rule) (rules : List Rule) → of_weight (weight r) (r ∷ rules) ≡ r ∷ of_weight (weight r) rules
 unfolding of_weight
@@ -29,9 +25,6 @@ first_counts r rules = rw (nat_eq-itself (weight r)) refl
 at_most_first : (r : Rule) (rules : List Rule) → IsByWeight (r ∷ rules) → (k : ℕ) (d : Rule) → k < length (r ∷ rules) → weight (slice_index_or (r ∷ rules) k d) ≤ weight r
 at_most_first r rules h zero d within = omega arith
 at_most_first r rules h (suc k) d within = h 0 (suc k) d (omega arith) within
-
-behind_first : (r : Rule) (rules : List Rule) → IsByWeight (r ∷ rules) → IsByWeight rules
-behind_first r rules h i j d before within = h (suc i) (suc j) d (omega (arith, before)) (omega (arith, within))
 
 of_none : (n : ℕ) → of_weight n [] ≡ []
 unfolding of_weight
@@ -81,7 +74,7 @@ one_ranking (x ∷ xs) (y ∷ ys) hx hy agree =
     let heads : x ∷ of_weight (weight x) xs ≡ y ∷ of_weight (weight y) ys =
     sym (first_counts x xs) ∙ agree x ∙ ap (λ n. of_weight n (y ∷ ys)) w ∙ first_counts y ys in
     let head : x ≡ y = same_head x y _ _ heads in
-    let tails = one_ranking xs ys (behind_first x xs hx) (behind_first y ys hy)
+    let tails = one_ranking xs ys (by_weight-tail x xs hx) (by_weight-tail y ys hy)
     (λ r. tails_agree (weight r) x xs ys (agree r ∙ ap (λ s. of_weight (weight r) (s ∷ ys)) (sym head))) in
     ap (λ r. r ∷ xs) head ∙ ap (λ rules. y ∷ rules) tails
 
