@@ -6,6 +6,7 @@ use Rattle.std.specs.List.{flat_map, AllWithin}
 use Rattle.std.specs.List.Sorted.{IsNonDecreasingBy, IsPartitionPoint, IsStableByKey, ties}
 use Rattle.std.specs.Ordering.{is_lt, nat_cmp}
 use Rattle.std.specs.declared.cmp.Ordering.TheVariants.{Less, Equal, Greater}
+use Rattle.std.proofs.lemmas.List.Elements.{filter_agree}
 use Rattle.brl_rules.specs.declared.class.Class.{Class}
 use Rattle.brl_rules.specs.declared.rule.Rule.{Rule}
 use Rattle.brl_rules.specs.Places.{after_of}
@@ -63,16 +64,12 @@ tied a b = at (leb a b) refl (leb b a) refl
         let lt = leb-false a b e in
         ap₂ (λ o p. not (is_lt o) && not (is_lt p)) (sym (nat_cmp_is a b Greater lt)) (sym (nat_cmp_is b a Less lt)) ∙ sym (ne_eqb b a (λ same. omega (arith, lt, same)))
 
-filter-alike : {X : Type 0} (p q : X → Bool) → ((x : X) → p x ≡ q x) → (xs : List X) → filter p xs ≡ filter q xs
-filter-alike p q h [] = refl
-filter-alike p q h (x ∷ xs) = ap₂ (λ b l. cond b (x ∷ l) l) (h x) (filter-alike p q h xs)
-
 -- a stable sort by folds leaves the places of one fold as they are
 pub one-fold : (places sorted : List Place) → IsStableByKey (λ (place : Place). place.fold) nat_cmp places sorted → (fold : ℕ) → filter (has_fold fold) sorted ≡ filter (has_fold fold) places
 one-fold places sorted stable fold =
     let at : Place = record { fold = fold; number = 0 } in
     let test = ties (λ (x y : Place). is_lt (nat_cmp x.fold y.fold)) at in
-    let same = filter-alike test (has_fold fold) (λ place. tied fold place.fold) in
+    let same = filter_agree test (has_fold fold) (λ place. tied fold place.fold) in
     sym (same sorted) ∙ stable at ∙ same places
 
 -- ---- One place after another

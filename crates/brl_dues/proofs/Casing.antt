@@ -18,7 +18,7 @@ use Rattle.brl_dues.specs.Letters.{cased_steps, left_by, letter_form, letter_ste
 use Rattle.brl_dues.specs.Steps.{is_same_step, step_if, with_steps}
 use Rattle.brl_dues.proofs.Finding.{flat_map-none}
 use Rattle.brl_dues.proofs.Forms.{from-choices, from-put, from-step_if}
-use Rattle.brl_dues.proofs.Pairwise.{Pairwise, filter-Pairwise, flat_map-Pairwise, map-Pairwise}
+use Rattle.brl_states.proofs.Pairwise.{Pairwise, filter-Pairwise, flat_map-Pairwise, map-Pairwise}
 use Rattle.brl_dues.proofs.Repeats.{apart, with_steps-apart, with_steps-append}
 use Rattle.brl_pairs.proofs.Listing.{IsIn, from-flat_map}
 

@@ -5,6 +5,7 @@ use Rattle.std.specs.List.{flat_map, list_all, starts_with}
 use Rattle.std.specs.Cmp.{first_so, second_so}
 use Rattle.std.specs.Map.{keys_of, lookup}
 use Rattle.std.proofs.lemmas.Bool.{eqb-true}
+use Rattle.std.proofs.lemmas.List.Folds.{list_all-append}
 use Rattle.brl_rules.specs.declared.place.Cond.{Cond}
 use Rattle.brl_rules.specs.declared.rule.Info.{Info}
 use Rattle.brl_rules.specs.Choice.{folds_of_capitals}
@@ -31,10 +32,6 @@ and-true false = refl
 pub and-assoc : (a b c : Bool) → ((a && b) && c) ≡ (a && (b && c))
 and-assoc true b c = refl
 and-assoc false b c = refl
-
-pub list_all-append : {X : Type 0} (p : X → Bool) (xs ys : List X) → list_all p (xs ++ ys) ≡ (list_all p xs && list_all p ys)
-list_all-append p [] ys = refl
-list_all-append p (x ∷ xs) ys = ap (λ b. p x && b) (list_all-append p xs ys) ∙ sym (and-assoc (p x) (list_all p xs) (list_all p ys))
 
 pub list_all-map : {X Y : Type 0} (p : Y → Bool) (q : X → Bool) (f : X → Y) → ((x : X) → p (f x) ≡ q x) → (xs : List X) → list_all p (map f xs) ≡ list_all q xs
 list_all-map p q f h [] = refl

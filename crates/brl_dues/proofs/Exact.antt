@@ -3,6 +3,7 @@ use Rattle.std.proofs.Common.{◌≡◌, ℕ, zero, suc, Bool, true, false, ◌&
 use Rattle.std.specs.Prelude.{slice_get}
 use Rattle.std.specs.List.{list_all, AllByRecursion}
 use Rattle.std.specs.Cmp.{first_so, second_so}
+use Rattle.std.proofs.lemmas.Option.{slice_get_within}
 use Rattle.brl_pairs.specs.declared.step.Step.{Step}
 use Rattle.brl_pairs.specs.Runs.{IsExact, IsListed, IsPath, reads_of, cells_of}
 use Rattle.brl_rules.specs.declared.class.Class.{Class}
@@ -20,7 +21,7 @@ use Rattle.brl_dues.specs.Capitals.{further, is_upper}
 use Rattle.brl_dues.specs.CaseForm.{CaseForm, IsForm, folded, may_read}
 use Rattle.brl_states.specs.DuesContext.{context_of}
 use Rattle.brl_dues.specs.Steps.{IsStep, dues_machine, next_dues, step_of}
-use Rattle.brl_dues.proofs.Forms.{listed-IsStep, there-lt}
+use Rattle.brl_dues.proofs.Forms.{listed-IsStep}
 use Rattle.brl_dues.proofs.InCapsRun.{upper-defined}
 use Rattle.brl_dues.proofs.StepLaw.{none_fits, option_met, step-met}
 use Rattle.brl_dues.proofs.Taking.{Choosing, as_choice, form-ReadsSome, form-agrees, form-chosen, form-in_caps_run, form-translation}
@@ -158,8 +159,8 @@ one-form t before f g (inl h) (inl k) n r e =
     let after : f.after ≡ g.after = h.after ∙ ap (λ (q : Rule). after_of q.place before) rule ∙ sym k.after in
     let next : f.next ≡ g.next = same-next t before f g (h.character ∷ h.others) (k.character ∷ k.others) h.reads k.reads h.next k.next r e in
     λ i. record { number = n i; reads = r i; run = e i; next = next i; after = after i; cells = (h.cells ∙ ap (λ (q : Rule). q.cells) rule ∙ sym k.cells) i; above = (h.above ∙ ap (λ m. take m t.rules) n ∙ sym k.above) i }
-one-form t before f g (inl h) (inr k) n r e = (let low = there-lt t.rules f.number h.rule h.there in let high = k.number in absurd (omega (arith, low, high, n)))
-one-form t before f g (inr h) (inl k) n r e = (let low = there-lt t.rules g.number k.rule k.there in let high = h.number in absurd (omega (arith, low, high, n)))
+one-form t before f g (inl h) (inr k) n r e = (let low = slice_get_within t.rules f.number h.rule h.there in let high = k.number in absurd (omega (arith, low, high, n)))
+one-form t before f g (inr h) (inl k) n r e = (let low = slice_get_within t.rules g.number k.rule k.there in let high = h.number in absurd (omega (arith, low, high, n)))
 one-form t before f g (inr h) (inr k) n r e =
     let both : h.character ∷ [] ≡ k.character ∷ [] = sym h.reads ∙ r ∙ k.reads in
     let same : h.character ≡ k.character = cc in

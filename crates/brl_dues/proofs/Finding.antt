@@ -4,7 +4,7 @@ use Rattle.std.specs.Prelude.{slice_get}
 use Rattle.std.proofs.lemmas.Grind.{flat_map-append}
 use Rattle.std.proofs.lemmas.List.{take_all}
 use Rattle.brl_rules.specs.declared.rule.Info.{Info}
-use Rattle.std.proofs.lemmas.List.Folds.{list_all-append}
+use Rattle.std.proofs.lemmas.List.Folds.{list_all-append, flat_map-map}
 use Rattle.std.specs.List.{flat_map, list_all}
 use Rattle.std.specs.Map.{keys_of}
 use Rattle.std.specs.Option.{option_map_or}
@@ -137,10 +137,6 @@ pub flat_map-flat_map : {X Y Z : Type 0} (f : Y → List Z) (g : X → List Y) (
 flat_map-flat_map f g [] = refl
 flat_map-flat_map f g (x ∷ xs) = flat_map-append f (g x) (flat_map g xs) ∙ ap (λ l. flat_map f (g x) ++ l) (flat_map-flat_map f g xs)
 
-pub flat_map-of_map : {X Y Z : Type 0} (f : Y → List Z) (g : X → Y) (xs : List X) → flat_map f (map g xs) ≡ flat_map (λ x. f (g x)) xs
-flat_map-of_map f g [] = refl
-flat_map-of_map f g (x ∷ xs) = ap (λ l. f (g x) ++ l) (flat_map-of_map f g xs)
-
 -- elements that give nothing may be left out
 flat_map-filter : {X Y : Type 0} (f g : X → List Y) (p : X → Bool) → ((x : X) → f x ≡ cond (p x) (g x) []) → (xs : List X) → flat_map f xs ≡ flat_map g (filter p xs)
 flat_map-filter f g p h [] = refl
@@ -236,12 +232,12 @@ module _ (t : TableView) (s : DuesState) where
       chars (first ∷ others) = first_is others (nat_eq first (fold_of t c))
 
   rule-found : (above : List Rule) (r : Rule) → flat_map (group_steps t s) (groups_of t s.before above r) ≡ flat_map (rule_step t s (length above) r) (map (letter_at t s.before s.dues above) coming)
-  rule-found above r = at (holds (before_of r.place) s.before) refl ∙ sym (flat_map-of_map (rule_step t s (length above) r) (letter_at t s.before s.dues above) coming)
+  rule-found above r = at (holds (before_of r.place) s.before) refl ∙ sym (flat_map-map (rule_step t s (length above) r) (letter_at t s.before s.dues above) coming)
     where
       at : (b : Bool) → holds (before_of r.place) s.before ≡ b
           → flat_map (group_steps t s) (cond b (map (cased_if t s.before above r r.chars) (letters t)) []) ≡ flat_map (λ c. rule_step t s (length above) r (letter_at t s.before s.dues above c)) coming
       at true e =
-          flat_map-of_map (group_steps t s) (cased_if t s.before above r r.chars) (letters t)
+          flat_map-map (group_steps t s) (cased_if t s.before above r r.chars) (letters t)
           ∙ flat_map-filter (λ c. group_steps t s (cased_if t s.before above r r.chars c)) (λ c. rule_step t s (length above) r (letter_at t s.before s.dues above c)) (may_come t s.dues) (λ c. rule-at above r c e) (letters t)
       at false e =
           sym (flat_map-none (λ c. rule_step t s (length above) r (letter_at t s.before s.dues above c))
@@ -273,9 +269,9 @@ module _ (t : TableView) (s : DuesState) where
 
   own-found : flat_map (group_steps t s) (map (own_forms t s.before) (letters t)) ≡ flat_map (own_step t s) (map (letter_at t s.before s.dues t.rules) coming)
   own-found =
-      flat_map-of_map (group_steps t s) (own_forms t s.before) (letters t)
+      flat_map-map (group_steps t s) (own_forms t s.before) (letters t)
       ∙ flat_map-filter (λ c. group_steps t s (own_forms t s.before c)) (λ c. own_step t s (letter_at t s.before s.dues t.rules c)) (may_come t s.dues) own-at (letters t)
-      ∙ sym (flat_map-of_map (own_step t s) (letter_at t s.before s.dues t.rules) coming)
+      ∙ sym (flat_map-map (own_step t s) (letter_at t s.before s.dues t.rules) coming)
 
   found-from : (above rules : List Rule)
       → flat_map (group_steps t s) (groups_from t s.before above rules) ++ flat_map (own_step t s) (map (letter_at t s.before s.dues (above ++ rules)) coming)

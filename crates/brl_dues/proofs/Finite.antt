@@ -10,6 +10,7 @@ use Rattle.std.specs.declared.cmp.Ordering.TheVariants.{Less, Equal, Greater}
 use Rattle.std.proofs.lemmas.Cmp.{eq_by_cmp_equiv, tied_itself}
 use Rattle.std.proofs.lemmas.Map.Keys.{IsDistinct-from_sorted}
 use Rattle.std.proofs.lemmas.Map.Made.{length-le_from_is_member}
+use Rattle.std.proofs.lemmas.Bool.{or_right}
 use Rattle.brl_pairs.specs.Runs.{IsListed}
 use Rattle.brl_pairs.specs.declared.step.Step.{Step}
 use Rattle.brl_rules.specs.declared.class.Class.{Class}
@@ -83,15 +84,11 @@ is-equal Less e = cc
 is-equal Equal e = refl
 is-equal Greater e = cc
 
-or-true : (p q : Bool) → q ≡ true → (p || q) ≡ true
-or-true true q e = refl
-or-true false q e = e
-
 in-member : (d : Due) (us : List Due) → IsIn d us → is_member (eq_by_cmp due_cmp) us d ≡ true
 in-member d [] h = absurd h
 in-member d (e ∷ us) (inl same) =
     subst (λ x. is_member (eq_by_cmp due_cmp) (x ∷ us) d ≡ true) same (ap (λ o. is_eq o || is_member (eq_by_cmp due_cmp) us d) (tied_itself due_total d))
-in-member d (e ∷ us) (inr h) = or-true (eq_by_cmp due_cmp d e) (is_member (eq_by_cmp due_cmp) us d) (in-member d us h)
+in-member d (e ∷ us) (inr h) = or_right (eq_by_cmp due_cmp d e) (is_member (eq_by_cmp due_cmp) us d) (in-member d us h)
 
 member-in : (d : Due) (us : List Due) → is_member (eq_by_cmp due_cmp) us d ≡ true → IsIn d us
 member-in d [] h = cc

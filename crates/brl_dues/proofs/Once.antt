@@ -24,8 +24,8 @@ use Rattle.brl_dues.specs.CaseForm.{CaseForm, IsForm, cased_if, groups, groups_f
 use Rattle.brl_states.specs.DuesContext.{context_of}
 use Rattle.brl_dues.specs.Steps.{dues_steps, group_steps, next_dues, step_of, steps_of}
 use Rattle.brl_dues.proofs.Forms.{from-cased_if, from-group, from-groups_from, from-groups_of, from-own_forms, from-step_if, listed-IsStep}
-use Rattle.brl_dues.proofs.Kept.{Keeps}
-use Rattle.brl_dues.proofs.Pairwise.{Pairwise, append-Pairwise, at-Pairwise, flat_map-Pairwise, map-Pairwise, Pairwise-at, weaken-Pairwise}
+use Rattle.brl_states.proofs.Kept.{Keeps}
+use Rattle.brl_states.proofs.Pairwise.{Pairwise, append-Pairwise, at-Pairwise, flat_map-Pairwise, map-Pairwise, Pairwise-at, weaken-Pairwise}
 use Rattle.brl_dues.proofs.Repeats.{with_steps-differ}
 use Rattle.brl_dues.proofs.Taking.{ReadsSome, form-ReadsSome}
 use Rattle.brl_pairs.proofs.Listing.{IsIn, in-append, from-map}

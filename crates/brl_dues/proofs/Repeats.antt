@@ -11,7 +11,7 @@ use Rattle.brl_states.specs.declared.dues_state.DuesState.{DuesState}
 use Rattle.brl_states.specs.SameDues.{dues_equiv}
 use Rattle.brl_states.specs.SameDuesState.{same_states}
 use Rattle.brl_dues.specs.Steps.{is_same_step, with_step, with_steps}
-use Rattle.brl_dues.proofs.Pairwise.{Pairwise, append-Pairwise, between-Pairwise}
+use Rattle.brl_states.proofs.Pairwise.{Pairwise, append-Pairwise, between-Pairwise}
 use Rattle.brl_pairs.proofs.Listing.{IsIn, in-append, in-left, in-right}
 use Rattle.brl_rules.proofs.Facts.{beq-itself}
 

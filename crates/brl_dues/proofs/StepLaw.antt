@@ -5,6 +5,7 @@ use Rattle.std.proofs.Common.{◌≡◌, ℕ, Bool, true, false, not, ◌&&◌, 
 use Rattle.std.specs.List.{flat_map, list_all}
 use Rattle.std.specs.declared.cmp.Ordering.{Ordering}
 use Rattle.std.specs.declared.cmp.Ordering.TheVariants.{Less, Equal, Greater}
+use Rattle.std.proofs.lemmas.List.Folds.{list_all-append}
 use Rattle.brl_rules.specs.declared.class.Class.{Class}
 use Rattle.brl_rules.specs.declared.rule.Rule.{Rule}
 use Rattle.brl_rules.specs.Choice.{fits}
@@ -22,7 +23,7 @@ use Rattle.brl_dues.specs.CaseForm.{CaseForm}
 use Rattle.brl_states.specs.Order.{due_cmp, place, insert_due, in_order}
 use Rattle.brl_dues.specs.Steps.{next_dues, owed}
 use Rattle.brl_dues.proofs.Carrying.{bars_to-met, carried_met, carry-met, fits_in, need-met}
-use Rattle.brl_dues.proofs.Choices.{list_all-append, list_all-flat_map, list_all-map}
+use Rattle.brl_dues.proofs.Choices.{list_all-flat_map, list_all-map}
 use Rattle.brl_dues.proofs.InCapsRun.{alike-true}
 use Rattle.brl_states.proofs.DueOrder.{due_tied}
 

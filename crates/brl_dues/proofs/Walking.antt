@@ -2,6 +2,7 @@
 use Rattle.std.proofs.Common.{◌≡◌, ℕ, Bool, true, false, ◌&&◌, ◌||◌, List, [], ◌∷◌, ◌++◌, Option, Some, None, map, refl, sym, ap, ◌∙◌, cond, nat_eq, append_assoc, append-nil}
 use Rattle.std.specs.List.{flat_map, list_all, list_any}
 use Rattle.std.specs.Option.{option_map_or}
+use Rattle.std.proofs.lemmas.List.Folds.{flat_map-map}
 use Rattle.brl_pairs.specs.declared.step.Step.{Step}
 use Rattle.brl_rules.specs.declared.place.Cond.{Cond}
 use Rattle.brl_rules.specs.TableView.{TableView}
@@ -16,7 +17,7 @@ use Rattle.brl_dues.specs.LetterView.{LetterView}
 use Rattle.brl_dues.specs.Letters.{bars_of, left_past, left_with, letter_form, letter_step, next_step, caps_run_step, caps_run_steps}
 use Rattle.brl_dues.specs.Steps.{step_if}
 use Rattle.brl_dues.proofs.Casing.{none-in-run}
-use Rattle.brl_dues.proofs.Finding.{flat_map-flat_map, flat_map-none, flat_map-of_map, flat_map-same}
+use Rattle.brl_dues.proofs.Finding.{flat_map-flat_map, flat_map-none, flat_map-same}
 use Rattle.brl_dues.proofs.Gathering.{gathered-broken, gathered-left}
 use Rattle.brl_dues.proofs.Past.{left_past-append}
 
@@ -111,7 +112,7 @@ module _ (t : TableView) (s : DuesState) (l : LetterView) (number : ℕ) (after 
       at : (b : Bool) → flat_map (λ text. caps_run_step t s l number after cells (begun ++ text)) (cond b (map (λ text. c ∷ text) (choices t chars)) [])
           ≡ cond b (caps_run_steps t s l number after cells (begun ++ c ∷ []) chars) []
       at true =
-          flat_map-of_map (λ text. caps_run_step t s l number after cells (begun ++ text)) (λ text. c ∷ text) (choices t chars)
+          flat_map-map (λ text. caps_run_step t s l number after cells (begun ++ text)) (λ text. c ∷ text) (choices t chars)
           ∙ flat_map-same (λ text. caps_run_step t s l number after cells (begun ++ (c ∷ text))) (λ text. caps_run_step t s l number after cells ((begun ++ c ∷ []) ++ text))
           (λ text. ap (caps_run_step t s l number after cells) (sym (append_assoc begun (c ∷ []) text))) (choices t chars)
       at false = refl
@@ -121,7 +122,7 @@ module _ (t : TableView) (s : DuesState) (l : LetterView) (number : ℕ) (after 
       flat_map-flat_map (λ text. caps_run_step t s l number after cells (begun ++ text)) (put_capital t a (choices t chars)) (capitals t)
       ∙ flat_map-same (λ c. flat_map (λ text. caps_run_step t s l number after cells (begun ++ text)) (put_capital t a (choices t chars) c)) (λ c. steps_after begun a chars (capital_of t c))
       (put-steps begun a chars) (capitals t)
-      ∙ sym (flat_map-of_map (steps_after begun a chars) (capital_of t) (capitals t))
+      ∙ sym (flat_map-map (steps_after begun a chars) (capital_of t) (capitals t))
 
   -- each capital's steps, in the loop over capitals
   module _ (begun : List ℕ) (a : ℕ) (chars : List ℕ) (capital : Capital) (now : List (Step DuesState)) where

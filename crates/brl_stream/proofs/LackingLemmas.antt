@@ -1,10 +1,9 @@
 -- One more use of a character that the table doesn't define, and the uses of one more line.
-use Rattle.std.proofs.Common.{◌≡◌, ℕ, zero, suc, ◌+◌, ◌-◌, ◌*◌, ◌&&◌, ◌<◌, ◌≤◌, Bool, true, false, not, ◌||◌, cond, nat_eq, eqb, List, [], ◌∷◌, ◌++◌, length, take, drop, get_or, map, filter, All, count_by, refl, ap, sym, subst, ◌∙◌, arith, Option, None, Some, is_some, append_assoc, append-nil, length-append, inl, inr, Bor, OnOk, Result, Ok, Err}
+use Rattle.std.proofs.Common.{◌≡◌, ℕ, zero, suc, ◌+◌, ◌-◌, ◌*◌, ◌&&◌, ◌<◌, ◌≤◌, Bool, true, false, not, ◌||◌, cond, nat_eq, List, [], ◌∷◌, ◌++◌, length, take, get_or, map, filter, refl, ap, sym, ◌∙◌, arith, None, Some, append_assoc, append-nil, Bor}
 use Rattle.std.specs.List.{list_any}
 use Rattle.std.specs.Str.{chars, chars_after, continuation_len, lead_bits}
 use Rattle.std.specs.Map.{lookup}
 use Rattle.std.proofs.lemmas.Bool.{eqb-true}
-use Rattle.std.proofs.lemmas.Bool.Decides.{eqb_tells}
 use Rattle.std.proofs.lemmas.List.{map-append, take_more}
 use Rattle.std.proofs.lemmas.Simd.{map-map}
 use Rattle.std.proofs.lemmas.Str.{chars-nil}
@@ -13,18 +12,13 @@ use Rattle.std.proofs.lemmas.List.Sums.{count_by-le-length, sum_by-cons, sum_by_
 use Rattle.indexmap.specs.IndexMap.{insert_entry}
 use Rattle.brl_rules.specs.TableView.{TableView}
 use Rattle.brl_rules.specs.Text.{is_defined, is_text}
+use Rattle.brl_rules.proofs.Facts.{nat_eq-itself, nat_eq-sym}
 use Rattle.brl_stream.specs.Lacking.{Use, are_of_one, count_of, first_uses, lacking_of, summary, uses_from, uses_in}
 use Rattle.brl_stream.specs.Noting.{IsNoted, entry_of}
 use Rattle.brl_stream.specs.declared.lacking.Found.{Found}
 use Rattle.brl_stream.specs.declared.lacking.Lacking.{Lacking}
 
 -- ---- Uses of one character
-
-same-back : (a b : ℕ) → nat_eq a b ≡ nat_eq b a
-same-back a b = elim (eqb_tells a b) [
-  | inl x ↦ ap (λ n. nat_eq a n) (sym x.1) ∙ ap (λ n. nat_eq n a) x.1
-  | inr x ↦ elim (eqb_tells b a) [ inl y ↦ absurd (x.1 (sym y.1)) | inr y ↦ x.0 ∙ sym y.0 ]
-]
 
 same-as : (a b c : ℕ) → nat_eq a b ≡ true → nat_eq a c ≡ nat_eq b c
 same-as a b c h = ap (λ n. nat_eq n c) (eqb-true a b h)
@@ -77,7 +71,7 @@ others-same v u fs h = cases (list_any (are_of_one v) fs)
     cases : (b : Bool) → filter (is_other u) (cond b fs (fs ++ v ∷ [])) ≡ filter (is_other u) fs
     cases true = refl
     cases false =
-        filter-append (is_other u) fs (v ∷ []) ∙ ap (λ xs. filter (is_other u) fs ++ xs) (filter-one (is_other u) v false (ap not (same-back u.0 v.0 ∙ h)))
+        filter-append (is_other u) fs (v ∷ []) ∙ ap (λ xs. filter (is_other u) fs ++ xs) (filter-one (is_other u) v false (ap not (nat_eq-sym u.0 v.0 ∙ h)))
         ∙ append-nil (filter (is_other u) fs)
 
 others-more : (v u : Use) (fs : List Use) → are_of_one v u ≡ false → filter (is_other u) (add_use fs v) ≡ add_use (filter (is_other u) fs) v
@@ -86,7 +80,7 @@ others-more v u fs h = cases (list_any (are_of_one v) fs) (any-kept v u fs h)
     cases : (b : Bool) → list_any (are_of_one v) (filter (is_other u) fs) ≡ b → filter (is_other u) (cond b fs (fs ++ v ∷ [])) ≡ add_use (filter (is_other u) fs) v
     cases true e = sym (ap (λ b. cond b (filter (is_other u) fs) (filter (is_other u) fs ++ v ∷ [])) e)
     cases false e =
-        filter-append (is_other u) fs (v ∷ []) ∙ ap (λ xs. filter (is_other u) fs ++ xs) (filter-one (is_other u) v true (ap not (same-back u.0 v.0 ∙ h)))
+        filter-append (is_other u) fs (v ∷ []) ∙ ap (λ xs. filter (is_other u) fs ++ xs) (filter-one (is_other u) v true (ap not (nat_eq-sym u.0 v.0 ∙ h)))
         ∙ sym (ap (λ b. cond b (filter (is_other u) fs) (filter (is_other u) fs ++ v ∷ [])) e)
 
 -- one more use
@@ -123,12 +117,9 @@ apart-fewer p (x ∷ xs) h = cases (p x) (apart-fewer p xs h.1)
     cases true more = (any-fewer p (are_of_one x) xs h.0, more)
     cases false more = more
 
-self-same : (a : ℕ) → nat_eq a a ≡ true
-self-same a = elim (eqb_tells a a) [ inl x ↦ x.0 | inr x ↦ absurd (x.1 refl) ]
-
 first-apart : (us : List Use) → AreApart (first_uses us)
 first-apart [] = tt
-first-apart (u ∷ us) = (any-others u u (first_uses us) (self-same u.0), apart-fewer (is_other u) (first_uses us) (first-apart us))
+first-apart (u ∷ us) = (any-others u u (first_uses us) (nat_eq-itself u.0), apart-fewer (is_other u) (first_uses us) (first-apart us))
 
 -- ---- What was noted
 
@@ -155,7 +146,7 @@ module _ (all : List Use) (v : Use) where
           → map (entry_of all) (w ∷ ws) ≡ map (entry_of (all ++ v ∷ [])) (w ∷ ws)
       cases true e k stay = cc
       cases false e k stay =
-          let apart : are_of_one w v ≡ false = same-back w.0 v.0 ∙ e in
+          let apart : are_of_one w v ≡ false = nat_eq-sym w.0 v.0 ∙ e in
           let count : count_of all w ≡ count_of (all ++ v ∷ []) w = omega (arith, count-more w, ap one_if apart) in
           let more = stay k in
           λ j. (w.0, record { count = count j; line = w.1 }) ∷ more j
@@ -189,7 +180,7 @@ module _ (all : List Use) (v : Use) where
           let is : (entry_of all w).1 ≡ found = cc in
           let others = entries-stay ws (any-same e apart.0) in
           let counted : count_of all w ≡ found.count = ap (λ f. f.count) is in
-          let same : found.count + 1 ≡ count_of (all ++ v ∷ []) w = omega (arith, counted, count-more w, ap one_if (same-back w.0 v.0 ∙ e)) in
+          let same : found.count + 1 ≡ count_of (all ++ v ∷ []) w = omega (arith, counted, count-more w, ap one_if (nat_eq-sym w.0 v.0 ∙ e)) in
           let line : found.line ≡ w.1 = ap (λ f. f.line) (sym is) in
           (λ j. (w.0, record { count = same j; line = line j }) ∷ others j, refl)
         where
@@ -197,7 +188,7 @@ module _ (all : List Use) (v : Use) where
           any-same e none = ap (λ c. list_any (λ u. nat_eq c u.0) ws) (eqb-true v.0 w.0 e) ∙ none
       cases false e k more =
           let m = more k in
-          let count : count_of all w ≡ count_of (all ++ v ∷ []) w = omega (arith, count-more w, ap one_if (same-back w.0 v.0 ∙ e)) in
+          let count : count_of all w ≡ count_of (all ++ v ∷ []) w = omega (arith, count-more w, ap one_if (nat_eq-sym w.0 v.0 ∙ e)) in
           (λ j. (w.0, record { count = count j; line = w.1 }) ∷ m.0 j, m.1)
 
   -- a new character was noted
@@ -207,7 +198,7 @@ module _ (all : List Use) (v : Use) where
       let fs = first_uses all in
       let new = new-entry fs x (sym (ap (lookup (nat_eq v.0)) noted) ∙ h) in
       let zero_before = none-counted all v new.1 in
-      let count : 1 ≡ count_of (all ++ v ∷ []) v = omega (arith, zero_before, count-more v, ap one_if (self-same v.0)) in
+      let count : 1 ≡ count_of (all ++ v ∷ []) v = omega (arith, zero_before, count-more v, ap one_if (nat_eq-itself v.0)) in
       let entry : (v.0, x) ≡ entry_of (all ++ v ∷ []) v = λ j. (v.0, record { count = count j; line = v.1 }) in
       ap (λ es. insert_entry nat_eq es v.0 x) noted ∙ new.0 ∙ ap (λ es. es ++ (v.0, x) ∷ []) (entries-stay fs new.1)
       ∙ ap (λ e. map (entry_of (all ++ v ∷ [])) fs ++ e ∷ []) entry ∙ sym (map-append (entry_of (all ++ v ∷ [])) fs (v ∷ []))
@@ -309,8 +300,3 @@ chars-first b bs = refl
 pub chars-few : (bs : List ℕ) → length (chars bs) ≤ length bs
 chars-few [] = let none = ap length chars-nil in omega (arith, none)
 chars-few (b ∷ bs) = let count = ap length (chars-first b bs) in let few = chars_after-few (continuation_len b) (lead_bits b) bs in omega (arith, count, few)
-
--- what holds after a success follows from what it gives
-pub after_ok : {T E : Type 0} (P Q : Type 0) (r : Result T E) → (P → Q) → OnOk r P → OnOk r Q
-after_ok P Q (Ok value) f h = f h
-after_ok P Q (Err error) f h = tt

@@ -4,7 +4,7 @@ use Rattle.std.proofs.Math.Seq.{drop-cons}
 use Rattle.std.proofs.lemmas.Str.{is_utf8-from_IsUtf8, IsUtf8-from_is_utf8}
 use Rattle.std.proofs.lemmas.Iterator.Adapters.{position_from-zero}
 use Rattle.std.specs.Prelude.{option_map, position, IsErrAnd}
-use Rattle.std.specs.List.{list_all, position_from}
+use Rattle.std.specs.List.{position_from}
 use Rattle.std.specs.Fmt.{option_append}
 use Rattle.std.specs.Str.{chars, is_utf8, IsUtf8}
 use Rattle.brl_rules.specs.TableView.{TableView}
@@ -13,19 +13,21 @@ use Rattle.brl_rules.specs.Translation.{translation}
 use Rattle.brl_forward.specs.Faults.{first_unknown, IsFaultOf}
 use Rattle.brl_forward.specs.declared.fault.ForwardFault.{ForwardFault}
 use Rattle.brl_forward.specs.declared.fault.ForwardFault.TheVariants as forward
+use Rattle.brl_forward.proofs.UnknownChars.{first_unknown-of_text}
 use Rattle.brl_stream.specs.Output.{LineResult, at_line, mark_of, marks_of, with_feed, unless_unknown, output_by, output_of, passing_over}
 use Rattle.brl_stream.specs.Writing.{IsMade, IsPassedOver, Pushes, WritesOutput, WritesBefore, line_fault_of}
 use Rattle.brl_stream.specs.declared.fault.LineFault.TheVariants as faults
 use Rattle.brl_stream.specs.declared.fault.LineFault.{LineFault}
 use Rattle.brl_stream.specs.declared.fault.StreamFault.{StreamFault}
-use Rattle.brl_failure.specs.Failure.{IfFault, IsChanged, IsRaised}
+use Rattle.brl_failure.specs.Failure.{IfFault, IsRaised}
 use Rattle.brl_failure.specs.Raised.{if_err-raised}
 use Rattle.std.specs.Prelude.{IfErr, IfOk}
+use Rattle.std.proofs.lemmas.Bool.{le-ltb, lt-ltb}
 use Rattle.brl_failure.specs.declared.failure.Failure.{Failure}
 use Rattle.brl_failure.specs.declared.failure.Failure.TheVariants as failures
 use Rattle.brl_cells.specs.declared.form.Form.{Form}
 use Rattle.brl_stream.proofs.KnownBytes.{Appends-nil}
-use Rattle.brl_stream.proofs.VerdictLemmas.{RefusesLong, test-true, test-false}
+use Rattle.brl_stream.proofs.VerdictLemmas.{RefusesLong}
 
 -- ---- marks
 
@@ -52,34 +54,22 @@ marks_of-more form cells i cell now later h e m =
 
 -- ---- the output of a line
 
--- each character is defined, so none is unknown
-none_unknown : (p : ℕ → Bool) (n : ℕ) (xs : List ℕ) → list_all p xs ≡ true → position_from (λ x. not (p x)) n xs ≡ None
-none_unknown p n [] h = refl
-none_unknown p n (x ∷ xs) h = first (p x) h (none_unknown p (n + 1) xs)
-  where
-    first : (b : Bool) → (b && list_all p xs) ≡ true → (list_all p xs ≡ true → position_from (λ x. not (p x)) (n + 1) xs ≡ None) → cond (not b) (Some n) (position_from (λ x. not (p x)) (n + 1) xs) ≡ None
-    first true e more = more e
-    first false e more = cc
-
-pub first_unknown-none : (t : TableView) (text : List ℕ) → is_text t text ≡ true → first_unknown t text ≡ None
-first_unknown-none t text h = position_from-zero (λ c. not (is_defined t c)) text ∙ none_unknown (is_defined t) 0 text h
-
 pub output_of-long : (t : TableView) (form : Form) → RefusesLong (output_of t form)
 unfolding output_of
-output_of-long t form line h = let test = test-true 65536 (length line) h in rw test refl
+output_of-long t form line h = let test = lt-ltb 65536 (length line) h in rw test refl
 
 pub output_of-text : (t : TableView) (form : Form) (line : List ℕ) → length line ≤ 65536 → IsUtf8 line
     → output_of t form line ≡ unless_unknown (first_unknown t (chars line)) (with_feed (marks_of form (translation t (chars line))))
 unfolding output_of
 output_of-text t form line short utf8 =
-    let test = test-false 65536 (length line) short in
+    let test = le-ltb 65536 (length line) short in
     let text = is_utf8-from_IsUtf8 line utf8 in
     rw (test, text) refl
 
 pub output_of-not_utf8 : (t : TableView) (form : Form) (line : List ℕ) → length line ≤ 65536 → (IsUtf8 line → ⊥) → output_of t form line ≡ Err faults.InputNotUtf8
 unfolding output_of
 output_of-not_utf8 t form line short not_text =
-    let test = test-false 65536 (length line) short in
+    let test = le-ltb 65536 (length line) short in
     rw test (by_test (is_utf8 line) (λ e. not_text (IsUtf8-from_is_utf8 line e)))
   where
     by_test : (b : Bool) → (b ≡ true → ⊥) → cond b (unless_unknown (first_unknown t (chars line)) (with_feed (marks_of form (translation t (chars line))))) (Err faults.InputNotUtf8) ≡ Err faults.InputNotUtf8
@@ -229,7 +219,7 @@ module _ (t : TableView) (form : Form) (line text : List ℕ) (short : length li
   module _ (cells : List ℕ) (defined : is_text t text ≡ true) (translated : cells ≡ translation t text) where
     marks_made : output_of t form line ≡ with_feed (marks_of form cells)
     marks_made =
-        let none = first_unknown-none t text defined in
+        let none = first_unknown-of_text t text defined in
         output_of-text t form line short utf8 ∙ rw (← is, ← translated, none) refl
 
     pub marks_stop : (old new buffer : List ℕ) (failure : Failure LineFault) → Pushes (marks_of form cells) old new (Err failure) → IsMade (output_of t form line) buffer (Err failure)

@@ -1,7 +1,7 @@
 -- What the lines of an input give: the first line, and the others.
-use Rattle.std.proofs.Common.{◌≡◌, ℕ, suc, ◌+◌, ◌-◌, ◌<◌, ◌≤◌, Bool, true, false, cond, nat_eq, nat_le, nat_lt, List, [], ◌∷◌, ◌++◌, length, take, refl, ap, sym, ◌∙◌, arith, Err, length-append, append_assoc, append-nil, ◌⊎◌, inl, inr}
+use Rattle.std.proofs.Common.{◌≡◌, ℕ, suc, ◌+◌, ◌-◌, ◌<◌, ◌≤◌, Bool, true, false, cond, nat_eq, nat_le, List, [], ◌∷◌, ◌++◌, length, take, refl, ap, sym, ◌∙◌, arith, Err, length-append, append_assoc, append-nil, ◌⊎◌, inl, inr}
 use Rattle.std.proofs.lemmas.Bool.Decides.{leb_tells}
-use Rattle.std.proofs.lemmas.Bool.{le-leb, eqb-true}
+use Rattle.std.proofs.lemmas.Bool.{le-leb, eqb-true, le-ltb, lt-leb, lt-ltb}
 use Rattle.std.proofs.lemmas.List.Folds.{list_any-append}
 use Rattle.std.proofs.Math.Seq.{take-append_seam}
 use Rattle.std.specs.Prelude.{map}
@@ -15,18 +15,6 @@ use Rattle.brl_stream.proofs.LineLemmas.{lines_of-line, lines_of-plain, feeds-li
 abbrev pub RefusesLong : (List ℕ → LineResult) → Type 0
 RefusesLong output = (line : List ℕ) → 65536 < length line → output line ≡ Err faults.InputLineTooLong
 
-pub test-true : (a b : ℕ) → a < b → nat_lt a b ≡ true
-test-true a b h = le-leb _ _ h
-
-pub test-false : (a b : ℕ) → b ≤ a → nat_lt a b ≡ false
-test-false a b h = elim (leb_tells (suc a) b) [ inl x ↦ absurd (omega (arith, x.1)) | inr x ↦ x.0 ]
-
-fits : (a b : ℕ) → a ≤ b → nat_le a b ≡ true
-fits a b h = le-leb _ _ h
-
-exceeds : (a b : ℕ) → b < a → nat_le a b ≡ false
-exceeds a b h = elim (leb_tells a b) [ inl x ↦ absurd (omega (arith, x.1)) | inr x ↦ x.0 ]
-
 -- ---- what bytes decide
 
 pub decided-line : (output : List ℕ → LineResult) (row more : List ℕ) → list_any is_feed row ≡ false
@@ -38,7 +26,7 @@ pub decided-short : (output : List ℕ → LineResult) (bs : List ℕ) → list_
 unfolding decided
 decided-short output [] h short = refl
 decided-short output (b ∷ bs) h short =
-    let test = test-false 65536 (length (without_return (b ∷ bs))) short in
+    let test = le-ltb 65536 (length (without_return (b ∷ bs))) short in
     rw (feeds-plain (b ∷ bs) h, lines_of-plain b bs h, test) refl
 
 pub decided-long : (output : List ℕ → LineResult) (bs : List ℕ) → list_any is_feed bs ≡ false → 65536 < length (without_return bs)
@@ -46,7 +34,7 @@ pub decided-long : (output : List ℕ → LineResult) (bs : List ℕ) → list_a
 unfolding decided
 decided-long output [] h long = absurd (omega arith)
 decided-long output (b ∷ bs) h long =
-    let test = test-true 65536 (length (without_return (b ∷ bs))) long in
+    let test = lt-ltb 65536 (length (without_return (b ∷ bs))) long in
     rw (feeds-plain (b ∷ bs) h, lines_of-plain b bs h, test) refl
 
 -- ---- the verdict, a line at a time
@@ -87,18 +75,18 @@ verdict-line output most row more plain room =
 pub verdict-last : (output : List ℕ → LineResult) (most : ℕ) (b : ℕ) (bs : List ℕ) → list_any is_feed (b ∷ bs) ≡ false → length (b ∷ bs) ≤ most
     → verdict_within output most (b ∷ bs) ≡ output (b ∷ bs) ∷ []
 unfolding verdict_within
-verdict-last output most b bs plain room = let test = fits (length (b ∷ bs)) most room in rw (test, lines_of-plain b bs plain) refl
+verdict-last output most b bs plain room = let test = le-leb (length (b ∷ bs)) most room in rw (test, lines_of-plain b bs plain) refl
 
 pub verdict-nil : (output : List ℕ → LineResult) (most : ℕ) → verdict_within output most [] ≡ []
 unfolding verdict_within
-verdict-nil output most = let test = fits 0 most (omega arith) in rw test refl
+verdict-nil output most = let test = le-leb 0 most (omega arith) in rw test refl
 
 -- no line feed among the bytes that may be used, and more follow
 pub verdict-beyond : (output : List ℕ → LineResult) (most : ℕ) (bs more : List ℕ) → length bs ≡ most → 0 < length more
     → verdict_within output most (bs ++ more) ≡ decided output bs ++ Err faults.InputTooLong ∷ []
 unfolding verdict_within
 verdict-beyond output most bs more full any =
-    let test = exceeds (length (bs ++ more)) most (omega (arith, length-append bs more)) in
+    let test = lt-leb (length (bs ++ more)) most (omega (arith, length-append bs more)) in
     let cut : take most (bs ++ more) ≡ bs = rw (← full) (take-append_seam bs more) in
     rw (test, cut) refl
 

@@ -1,51 +1,13 @@
--- What the machine needs of a table: from what every table keeps, and from the laws of its
--- definitions.
-use Rattle.std.proofs.Common.{ℕ, suc, ◌<◌, ◌≤◌, ◌≡◌, ◌≢◌, false, List, [], ◌∷◌, length, nat_eq, arith, Some, ap}
+-- The longest rule of a table, and what the laws of its definitions say.
+use Rattle.std.proofs.Common.{ℕ, suc, ◌<◌, ◌≤◌, ◌≡◌, List, [], ◌∷◌, length, arith, Some, ap}
 use Rattle.std.specs.Prelude.{AllPairs, slice_get, slice_index_or}
-use Rattle.std.specs.Bool.{⊤}
-use Rattle.std.specs.List.{AllByRecursion, IsDistinct}
-use Rattle.std.specs.Map.{keys_of}
-use Rattle.std.proofs.lemmas.Bool.{eq-eqb}
 use Rattle.brl_rules.specs.declared.class.Class.{Class}
-use Rattle.brl_rules.specs.declared.context.Context.{Context}
 use Rattle.brl_rules.specs.declared.rule.Info.{Info}
 use Rattle.brl_rules.specs.declared.rule.Rule.{Rule}
-use Rattle.brl_rules.specs.declared.signs.Sign.{Sign}
 use Rattle.brl_rules.specs.Choice.{chosen}
-use Rattle.brl_rules.specs.Limits.{IsRule, IsTable}
-use Rattle.brl_rules.specs.Rest.{translation_of_rest, TakesOneRule}
-use Rattle.brl_rules.specs.TableView.{TableView, indicator_cells}
-use Rattle.brl_rules.specs.Text.{at_start}
-use Rattle.brl_rules.specs.Translation.{translation}
+use Rattle.brl_rules.specs.Limits.{IsRule}
+use Rattle.brl_rules.specs.TableView.{TableView}
 use Rattle.brl_window.specs.Windows.{longest}
-use Rattle.brl_rules.proofs.Facts.{each, all_unequal}
-use Rattle.brl_rules.proofs.CellCounts.{Within}
-
--- no member is listed twice
-abbrev pub AreDistinct : {X : Type 0} → List X → Type 0
-AreDistinct [] = ⊤
-AreDistinct (x ∷ xs) = AllByRecursion (λ y. x ≢ y) xs × AreDistinct xs
-
-pub record Keeps (t : TableView) : Type 0 where
-  pub single : AreDistinct (keys_of t.characters)
-  pub own_cells : AllByRecursion (λ e. Within (length e.1.cells) 16) t.characters
-  pub rule_cells : AllByRecursion (λ r. Within (length r.cells) 512) t.rules
-  pub signs_cells : (sign : Sign) → length (indicator_cells t sign) ≤ 16
-
-distinct : (xs : List ℕ) → IsDistinct nat_eq xs → AreDistinct xs
-unfolding IsDistinct
-distinct [] h = tt
-distinct (x ∷ xs) h = (all_unequal x xs h.0, distinct xs h.1)
-
-pub keeps_of : (t : TableView) → IsTable t → Keeps t
-keeps_of t valid = record {
-  single = distinct (keys_of t.characters) valid.parts.distinct;
-  own_cells = each (λ e. Within (length e.1.cells) 16) t.characters
-      (λ k d within. (let entry = valid.parts.entries k d within in record { some = entry.some_cells; room = entry.few_cells }));
-  rule_cells = each (λ r. Within (length r.cells) 512) t.rules
-      (λ k d within. (let rule = valid.parts.rules k d within in record { some = rule.some_cells; room = rule.few_cells }));
-  signs_cells = valid.parts.few.signs;
-}
 
 -- ---- The longest rule
 

@@ -5,23 +5,14 @@ use Rattle.brl_window.specs.Width.{powers}
 use Rattle.std.proofs.lemmas.Grind.{flat_map-append}
 use Rattle.std.specs.List.{flat_map}
 use Rattle.std.specs.Map.{keys_of}
+use Rattle.std.proofs.lemmas.List.{take_all}
 use Rattle.brl_rules.specs.declared.rule.Info.{Info}
 use Rattle.brl_rules.specs.declared.context.Context.{Context}
 use Rattle.brl_rules.specs.TableView.{TableView}
 use Rattle.brl_pairs.specs.declared.step.Step.{Step}
+use Rattle.brl_pairs.proofs.Lists.{take-got}
 use Rattle.brl_states.specs.declared.window_state.WindowState.{WindowState}
 use Rattle.brl_window.specs.Windows.{windows_on, steps_at}
-
-take-next : (letters : List ℕ) (i c : ℕ) → slice_get letters i ≡ Some c → take (i + 1) letters ≡ take i letters ++ c ∷ []
-take-next [] i c h = cc
-take-next (x ∷ xs) zero c h = (let e : x ≡ c = cc in ap (λ y. y ∷ []) e)
-take-next (x ∷ xs) (suc i) c h = ap (λ n. take n (x ∷ xs)) (let e : suc i + 1 ≡ suc (i + 1) = omega arith in e) ∙ ap (λ l. x ∷ l) (take-next xs i c h)
-
-pub take-whole : (letters : List ℕ) (n : ℕ) → length letters ≤ n → take n letters ≡ letters
-take-whole [] zero h = refl
-take-whole [] (suc n) h = refl
-take-whole (x ∷ xs) zero h = absurd (omega (arith, h))
-take-whole (x ∷ xs) (suc n) h = ap (λ l. x ∷ l) (take-whole xs n (omega (arith, h)))
 
 one-more : {X Y : Type 0} (S : X → List Y) (W : ℕ → List X) (before : List ℕ) (c : ℕ) → flat_map S (flat_map W (before ++ c ∷ [])) ≡ flat_map S (flat_map W before) ++ flat_map S (W c)
 one-more S W [] c = ap (λ l. flat_map S l) (append-nil (W c))
@@ -36,7 +27,7 @@ pub found_more : {X Y : Type 0} (S : X → List Y) (W : ℕ → List X) (old fir
 found_more S W old first now new letters i c at h k =
     k ∙ ap (λ l. l ++ flat_map S (W c)) h ∙ append_assoc old (first ++ flat_map S (flat_map W (take i letters))) (flat_map S (W c))
     ∙ ap (λ l. old ++ l) (append_assoc first (flat_map S (flat_map W (take i letters))) (flat_map S (W c)))
-    ∙ ap (λ l. old ++ (first ++ l)) (sym (ap (λ l. flat_map S (flat_map W l)) (take-next letters i c at) ∙ one-more S W (take i letters) c))
+    ∙ ap (λ l. old ++ (first ++ l)) (sym (ap (λ l. flat_map S (flat_map W l)) (take-got letters i c at) ∙ one-more S W (take i letters) c))
 
 pub all_found : (t : TableView) (here : Context) (letters known : List ℕ) (more n : ℕ) (old new : List (Step WindowState)) → 0 < more → length letters ≤ n
     → new ≡ old ++ (steps_at t here (record { known = known; ended = true }) ++ flat_map (steps_at t here) (flat_map (λ c. windows_on letters (more - 1) (known ++ c ∷ [])) (take n letters)))
@@ -44,7 +35,7 @@ pub all_found : (t : TableView) (here : Context) (letters known : List ℕ) (mor
 all_found t here letters known zero n old new some enough h = absurd (omega (arith, some))
 all_found t here letters known (suc more) n old new some enough h =
     h ∙ ap (λ k. old ++ (steps_at t here (record { known = known; ended = true }) ++ flat_map (steps_at t here) (flat_map (λ c. windows_on letters k (known ++ c ∷ [])) (take n letters)))) (let e : suc more - 1 ≡ more = omega arith in e)
-    ∙ ap (λ l. old ++ (steps_at t here (record { known = known; ended = true }) ++ flat_map (steps_at t here) (flat_map (λ c. windows_on letters more (known ++ c ∷ [])) l))) (take-whole letters n enough)
+    ∙ ap (λ l. old ++ (steps_at t here (record { known = known; ended = true }) ++ flat_map (steps_at t here) (flat_map (λ c. windows_on letters more (known ++ c ∷ [])) l))) (take_all n letters enough)
 
 pub first_found : (t : TableView) (here : Context) (known slice : List ℕ) (old new : List (Step WindowState)) → slice ≡ known → new ≡ old ++ steps_at t here (record { known = slice; ended = true })
     → new ≡ old ++ (steps_at t here (record { known = known; ended = true }) ++ [])

@@ -1,9 +1,9 @@
 -- The steps of a window machine are good and in order, and none is listed twice.
-use Rattle.std.proofs.Common.{ℕ, zero, suc, ◌+◌, ◌-◌, ◌≤◌, ◌≡◌, ◌≢◌, Bool, true, false, List, [], ◌∷◌, ◌++◌, length, refl, arith, cond, sym, ◌∙◌, ap, subst, Option, Some, None, is_some, inl, inr, nat_eq, nat_le, length-append, append_assoc, append-nil, slice_get}
+use Rattle.std.proofs.Common.{ℕ, zero, suc, ◌+◌, ◌-◌, ◌≤◌, ◌≡◌, ◌≢◌, Bool, true, false, List, [], ◌∷◌, ◌++◌, length, refl, arith, cond, sym, ◌∙◌, ap, subst, Option, Some, None, inl, inr, nat_le, length-append, append_assoc, append-nil, slice_get}
 use Rattle.std.proofs.lemmas.List.{take-append-drop, length-take-le, append_cancel_left}
 use Rattle.std.proofs.lemmas.Bool.Decides.{nat_tests}
 use Rattle.std.specs.List.{flat_map, AllByRecursion}
-use Rattle.std.specs.Map.{lookup, keys_of}
+use Rattle.std.specs.Map.{keys_of}
 use Rattle.std.specs.Bool.{⊤}
 use Rattle.std.specs.Option.{option_map_or}
 use Rattle.brl_rules.specs.declared.class.Class.{Class}
@@ -22,9 +22,11 @@ use Rattle.brl_pairs.specs.Runs.{IsListed, IsGoodStep, IsInOrder}
 use Rattle.brl_states.specs.declared.window_state.WindowState.{WindowState}
 use Rattle.brl_states.specs.WindowContext.{context_of}
 use Rattle.brl_window.specs.Windows.{width, Window, windows_on, windows, window_step, begins_defined, steps_at, put_in, by_rule_number, steps_found, window_steps}
-use Rattle.brl_window.proofs.Kept.{AreDistinct, Keeps, Choosing, chosen-Takes}
+use Rattle.brl_states.proofs.Kept.{AreDistinct, Keeps}
+use Rattle.brl_states.proofs.Pairwise.{append-Pairwise}
+use Rattle.brl_window.proofs.Kept.{Choosing, chosen-Takes}
 use Rattle.brl_window.proofs.Listing.{from-by_rule_number}
-use Rattle.brl_pairs.proofs.Listing.{IsIn, in-append, from-flat_map, at-in}
+use Rattle.brl_pairs.proofs.Listing.{IsIn, from-flat_map, at-in}
 use Rattle.brl_rules.proofs.CellCounts.{Within, found-cells}
 
 cond-Within : (b : Bool) (x y : Choice) → Within (length x.cells) 512 → Within (length y.cells) 512 → Within (length (cond b x y).cells) 512
@@ -100,11 +102,7 @@ not-in x (y ∷ ys) h (inl e) = h.0 e
 not-in x (y ∷ ys) h (inr k) = not-in x ys h.1 k
 
 distinct-append : {X : Type 0} (xs ys : List X) → AreDistinct xs → AreDistinct ys → ((z : X) → IsIn z xs → IsIn z ys → ⊥) → AreDistinct (xs ++ ys)
-distinct-append [] ys h k none = k
-distinct-append (x ∷ xs) ys h k none = (
-  apart x (xs ++ ys) (λ q. elim (in-append x xs ys q) [ inl a ↦ not-in x xs h.0 a | inr b ↦ none x (inl refl) b ]),
-  distinct-append xs ys h.1 k (λ z a b. none z (inr a) b),
-)
+distinct-append xs ys h k none = append-Pairwise (λ x y. x ≢ y) xs ys h k (λ x y i j e. none x i (subst (λ z. IsIn z ys) (sym e) j))
 
 distinct-flat_map : {X Y : Type 0} (f : X → List Y) (xs : List X) → AreDistinct xs → ((x : X) → AreDistinct (f x))
     → ((x y : X) (z : Y) → IsIn z (f x) → IsIn z (f y) → x ≡ y) → AreDistinct (flat_map f xs)

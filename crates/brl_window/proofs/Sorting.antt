@@ -1,7 +1,7 @@
 -- The order by rule keeps the steps of each rule in their order.
-use Rattle.std.proofs.Common.{ℕ, suc, length, nat_lt, not, ◌&&◌, ◌<◌, ◌≤◌, ◌≡◌, Bool, true, false, List, [], ◌∷◌, filter, refl, arith, cond, sym, ◌∙◌, ap, nat_le, nat_eq, ◌⊎◌, inl, inr}
+use Rattle.std.proofs.Common.{ℕ, suc, length, nat_lt, ◌<◌, ◌≤◌, ◌≡◌, Bool, true, false, List, [], ◌∷◌, filter, refl, arith, cond, sym, ◌∙◌, ap, nat_le, nat_eq, ◌⊎◌, inl, inr}
 use Rattle.std.proofs.lemmas.Bool.Decides.{nat_tests}
-use Rattle.std.proofs.lemmas.Bool.{eqb-true, eq-eqb}
+use Rattle.std.proofs.lemmas.Bool.{eqb-true, eq-eqb, ne_eqb}
 use Rattle.std.proofs.lemmas.List.Elements.{filter_agree}
 use Rattle.std.proofs.lemmas.List.Sorted.{sorted_far, IsStrictWeakOrder-by_number, answers_always}
 use Rattle.std.specs.Borrow.{Bor}
@@ -54,11 +54,8 @@ module _ {S : Type 0} where
   none-below : (k m : ℕ) (ys : List (Step S)) → k < m → AllByRecursion (λ z. m ≤ z.rule) ys → of_rule k ys ≡ []
   none-below k m [] less h = refl
   none-below k m (y ∷ ys) less h =
-      let other : nat_eq k y.rule ≡ false = differ k y.rule (let a = h.0 in omega (arith, a, less)) in
+      let other : nat_eq k y.rule ≡ false = ne_eqb k y.rule (λ e. (let a = h.0 in omega (arith, a, e, less))) in
       ap (λ t. cond t (y ∷ of_rule k ys) (of_rule k ys)) other ∙ none-below k m ys less h.1
-    where
-      differ : (a b : ℕ) → a < b → nat_eq a b ≡ false
-      differ a b q = grind (arith, nat_tests)
 
   own-first : (y : Step S) (ys : List (Step S)) → of_rule y.rule (y ∷ ys) ≡ y ∷ of_rule y.rule ys
   own-first y ys = ap (λ t. cond t (y ∷ of_rule y.rule ys) (of_rule y.rule ys)) (eq-eqb y.rule y.rule refl)

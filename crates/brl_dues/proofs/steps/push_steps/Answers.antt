@@ -1,7 +1,7 @@
 use Rattle.std.proofs.Common.{subst, ◌∙◌}
 use Rattle.brl_rules.specs.Limits.{IsTable}
 use Rattle.brl_dues.proofs.Casing.{longer-apart, no-other, one-other, other-again}
-use Rattle.brl_dues.proofs.Kept.{keeps_of}
+use Rattle.brl_states.proofs.Kept.{keeps_of}
 use Rattle.brl_dues.proofs.steps.push_steps.Goals as goal
 
 pub returns-in_default : goal.returns-in_default

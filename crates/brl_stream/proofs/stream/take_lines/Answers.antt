@@ -8,9 +8,10 @@ use Rattle.brl_stream.specs.declared.fault.LineFault.TheVariants as faults
 use Rattle.brl_stream.specs.declared.fault.StreamFault.{StreamFault}
 use Rattle.brl_failure.specs.declared.failure.Failure.{Failure}
 use Rattle.std.specs.Str.{chars}
+use Rattle.std.proofs.lemmas.Result.{on_ok_weaker}
 use Rattle.brl_stream.specs.Lacking.{Use, uses_from, uses_in}
 use Rattle.brl_stream.specs.Noting.{IsNoted}
-use Rattle.brl_stream.proofs.LackingLemmas.{after_ok, chars-few, uses_from-more, uses_in-few}
+use Rattle.brl_stream.proofs.LackingLemmas.{chars-few, uses_from-more, uses_in-few}
 use Rattle.brl_stream.proofs.OutputLemmas.{output_by-long}
 use Rattle.brl_stream.proofs.StreamLemmas.{progress_start, progress_read, progress_next, line_written, tail_taken, tail_written, all_written, next_written, reads_few, decides_before, err_is, has_whole, same_line}
 use Rattle.brl_stream.proofs.stream.take_lines.Goals as goal
@@ -91,7 +92,7 @@ returns-in-Ok-Last-clause-noted g c = λ input known.
     let all : uses_from table 1 (lines_of input) ≡ uses ++ uses_in table c.loop-fault.number (chars (take len w.bytes)) =
     ap (uses_from table 1) lines ∙ uses_from-more table 1 taken (take len w.bytes) ∙ ap (λ (n : ℕ). uses ++ uses_in table n (chars (take len w.bytes))) (sym c.loop-fault.invariant.1.numbered) in
     let noted = subst (λ (bytes : List ℕ). OnOk c.write_line.result ((us : List Use) → IsNoted us c.loop-fault.kept.noted.entries → IsNoted (us ++ uses_in table c.loop-fault.number (chars (take len bytes))) c.write_line.new.kept.noted.entries)) c.bytes.ensures.bytes c.write_line.ensures.noted in
-    after_ok _ _ c.write_line.result (λ holds. subst (λ (us : List Use). IsNoted us c.write_line.new.kept.noted.entries) (sym all) (holds uses c.loop-fault.invariant.1.noted)) noted
+    on_ok_weaker c.write_line.result (λ holds. subst (λ (us : List Use). IsNoted us c.write_line.new.kept.noted.entries) (sym all) (holds uses c.loop-fault.invariant.1.noted)) noted
 
 pub returns-in-Ok-Last-clause-few : goal.returns-in-Ok-Last-clause-few
 returns-in-Ok-Last-clause-few g c =

@@ -1,7 +1,8 @@
 use Rattle.std.proofs.Common.{subst}
 use Rattle.brl_rules.specs.Limits.{IsTable}
 use Rattle.brl_window.proofs.Accepting.{accepts}
-use Rattle.brl_window.proofs.Kept.{Choosing, keeps_of}
+use Rattle.brl_states.proofs.Kept.{keeps_of}
+use Rattle.brl_window.proofs.Kept.{Choosing}
 use Rattle.brl_window.proofs.Ordering.{good_steps, in_order}
 use Rattle.brl_window.proofs.machine.WindowMachine.start.Goals as goal
 use Rattle.brl_rules.proofs.OneByOne.{translating}
