@@ -5,8 +5,10 @@
 //! `specs/Windows.antt`.
 #![tactic(auto)]
 
+mod laws;
 mod machine;
 mod steps;
 
 pub use brl_states::WindowState;
-pub use machine::{TooWide, Window, window_law};
+pub use laws::window_law;
+pub use machine::{TooWide, Window};

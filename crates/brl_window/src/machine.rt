@@ -1,14 +1,8 @@
 //! The window machine.
-ghost use Rattle.std.specs.Prelude.{◌≡◌, ◌↔◌, ◌<◌, ◌≤◌, IfOk, OnErr, OnOk, min};
-ghost use Rattle.brl_pairs.specs.Runs.{IsListed};
-ghost use Rattle.brl_pairs.specs.declared.step.Step.{Step as StepValue};
-ghost use Rattle.brl_rules.specs.TableView.{TableView};
+ghost use Rattle.std.specs.Prelude.{◌≡◌, ◌<◌, ◌≤◌, IfOk, OnErr, OnOk, min};
 ghost use Rattle.brl_rules.specs.Text.{is_text};
 ghost use Rattle.brl_rules.specs.Translation.{translation};
-ghost use Rattle.brl_window.specs.Steps.{IsStep};
 ghost use Rattle.brl_window.specs.Width.{start_moves};
-ghost use Rattle.brl_window.specs.Windows.{window_steps};
-ghost use Rattle.brl_states.specs.declared.window_state.WindowState.{WindowState as StateValue};
 
 use crate::steps::{find_steps, longest_rule, sort_steps};
 use brl_cells::Chars;
@@ -128,11 +122,3 @@ impl<'a> Parted for Window<'a> {
         Ok(Vec::new(alloc))
     }
 }
-
-/// A law for the crates above: a window machine lists exactly the steps of a state's windows, for
-/// every value of the state type. That each is listed once, by ascending rule number, is a law of
-/// every machine.
-pub fn window_law()
-    ensures { (t : TableView) (s : StateValue) (x : StepValue StateValue) →
-        IsListed (window_steps t s) x ↔ IsStep t s x }
-{}
