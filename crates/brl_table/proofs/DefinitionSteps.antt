@@ -1,12 +1,11 @@
 -- One more definition: the entries, the characters of plain lines, and the notices.
-use Rattle.std.proofs.Common.{ℕ, ◌+◌, ◌<◌, ◌≤◌, ◌≡◌, Bool, true, false, ◌||◌, ◌&&◌, cond, if◌then◌else◌, List, [], ◌∷◌, ◌++◌, length, map, nat_eq, nat_lt, refl, arith, sym, ◌∙◌, ap, Option, Some, None, append-nil, append_assoc}
+use Rattle.std.proofs.Common.{ℕ, ◌+◌, ◌≤◌, ◌≡◌, Bool, true, false, ◌||◌, ◌&&◌, cond, if◌then◌else◌, List, [], ◌∷◌, ◌++◌, length, map, nat_eq, refl, arith, sym, ◌∙◌, ap, Option, Some, None, append-nil, append_assoc}
 use Rattle.std.specs.Prelude.{bit_or, is_some, not}
 use Rattle.std.specs.Int.Bits.{or_zero_l}
 use Rattle.std.specs.List.{find, list_any}
 use Rattle.std.specs.Map.{lookup, set_value}
 use Rattle.std.specs.Option.{option_map_or, option_or}
 use Rattle.std.proofs.lemmas.Bool.{eqb-true, eq-eqb}
-use Rattle.std.proofs.lemmas.Bool.Decides.{nat_tests}
 use Rattle.std.proofs.lemmas.List.{map-append}
 use Rattle.std.proofs.lemmas.List.Folds.{find-append}
 use Rattle.std.proofs.lemmas.List.Sums.{fold-append}
@@ -21,7 +20,7 @@ use Rattle.brl_table.specs.Reading.{Listed, insert_new, dedup, about, defined_ch
 use Rattle.brl_table.specs.Building.{info_first, is_known, merged, none_listed, CharactersRepresent}
 use Rattle.brl_table.proofs.Inserting.{any-fold, put-known}
 use Rattle.brl_table.proofs.NumberedEntries.{absent, found-numbered, is_there, length-numbered, numbered-new, numbered-old, neither, single-fold, there}
-use Rattle.brl_rules.proofs.Facts.{not_above, nat_eq-sym}
+use Rattle.brl_rules.proofs.Facts.{nat_eq-sym}
 
 -- ---- whether a character is known
 
@@ -317,9 +316,6 @@ module _ (defined : List Definition) (d : Definition) (characters : Characters) 
 
 pub count-entries : (defined : List Definition) (listed : Listed) → length (defined_entries defined listed) ≡ length (defined_characters defined)
 count-entries defined listed = length-numbered (defined_info defined listed) 0 (defined_characters defined)
-
-pub above : (m n : ℕ) → m < n → nat_lt m n ≡ true
-above m n h = grind (arith, nat_tests)
 
 put-one_more : (xs : List ℕ) (c : ℕ) → length (insert_new nat_eq xs c) ≤ length xs + 1
 put-one_more [] c = omega arith

@@ -147,8 +147,13 @@ module _ (lines : List Line) (names : List (String Global)) (named : map string_
       let P : Option ℕ → Type 0 = λ o. IsSome o in
       subst P (sym (position_from-zero (λ other. bytes_eq path (string_bytes other)) names) ∙ sym e) some
 
+  -- the line is read with the number that is found for its file
+  pub reads : (found : Option ℕ) (file : ℕ) → found ≡ position (λ other. bytes_eq line.file.now (string_bytes other)) names → found ≡ Some file
+      → item_of file (line_view line) ≡ item_in (files_of (map line_view lines)) (line_view line)
+  reads found file e f = ap (λ k. item_of k (line_view line)) (number-of line.file.now names (files_of (map line_view lines)) found file named e f)
+
   module _ (file : ℕ) (found : file ≡ file_number (files_of (map line_view lines)) line.file.now) where
-    pub says : item_of file (line_view line) ≡ item_in (files_of (map line_view lines)) (line_view line)
+    says : item_of file (line_view line) ≡ item_in (files_of (map line_view lines)) (line_view line)
     says = ap (λ k. item_of k (line_view line)) found
 
     view-is : (other : LineView) → slice_get (map line_view lines) i ≡ Some other → other ≡ line_view line

@@ -2,6 +2,7 @@
 use Rattle.std.proofs.Common.{ℕ, ◌<◌, ◌≤◌, ◌≡◌, Bool, true, false, ◌||◌, ◌==◌, not, cond, List, [], ◌∷◌, ◌++◌, length, nat_lt, refl, arith, sym, ◌∙◌, ap, subst, Some, None, Result, Ok, Err, append-nil}
 use Rattle.std.proofs.lemmas.Bool.Decides.{nat_tests}
 use Rattle.std.proofs.lemmas.Grind.{flat_map-append}
+use Rattle.std.proofs.lemmas.Bool.{lt-ltb}
 use Rattle.brl_lines.specs.Tokens.{LineView}
 use Rattle.brl_table.specs.declared.characters.Characters.{Characters}
 use Rattle.brl_table.specs.declared.item.Item.{Item}
@@ -16,7 +17,7 @@ use Rattle.brl_failure.specs.declared.failure.Failure.TheVariants as failures
 use Rattle.brl_table.specs.Items.{Fault, fault}
 use Rattle.brl_table.specs.Reading.{are_too_many, defined_characters, definition_in, definitions, fault_after, indicated_in, repeats_indicator, opcode_in, indicator_cells, used_in, used_rules}
 use Rattle.brl_table.specs.Building.{Adds, none_listed, SignsRepresent, Represents, CharactersRepresent}
-use Rattle.brl_table.proofs.DefinitionSteps.{above, count-entries}
+use Rattle.brl_table.proofs.DefinitionSteps.{count-entries}
 use Rattle.brl_table.proofs.NumberedEntries.{neither}
 use Rattle.brl_rules.proofs.Facts.{not_below, not_above}
 
@@ -39,7 +40,7 @@ module _ (items : List Item) where
         ∙ ap (λ n. nat_lt 1024 (length (defined_characters (definitions (items ++ item ∷ [])))) || nat_lt 4096 n) rules
 
     pub too_many-characters : 1024 < count → nat_lt 1024 count ≡ are_too_many (items ++ item ∷ [])
-    too_many-characters more = above 1024 count more ∙ sym (ap (λ b. b || nat_lt 4096 used) (above 1024 count more)) ∙ by-numbers
+    too_many-characters more = lt-ltb 1024 count more ∙ sym (ap (λ b. b || nat_lt 4096 used) (lt-ltb 1024 count more)) ∙ by-numbers
 
     pub too_many-rules : count ≤ 1024 → nat_lt 4096 used ≡ are_too_many (items ++ item ∷ [])
     too_many-rules few = sym (ap (λ b. b || nat_lt 4096 used) (not_above 1024 count few)) ∙ by-numbers
@@ -74,7 +75,7 @@ module _ (items : List Item) where
 
 empty_of : (cells : List ℕ) → nat_lt 0 (length cells) ≡ false → cells ≡ []
 empty_of [] h = refl
-empty_of (x ∷ cells) h = let more : nat_lt 0 (length (x ∷ cells)) ≡ true = above 0 (length (x ∷ cells)) (omega arith) in cc (more, h)
+empty_of (x ∷ cells) h = let more : nat_lt 0 (length (x ∷ cells)) ≡ true = lt-ltb 0 (length (x ∷ cells)) (omega arith) in cc (more, h)
 
 some_cells : (n : ℕ) → not (n == 0) ≡ nat_lt 0 n
 some_cells n = grind (arith, nat_tests)

@@ -2,11 +2,10 @@
 use Rattle.std.proofs.Common.{ℕ, zero, suc, ◌+◌, ◌<◌, ◌≡◌, List, [], ◌∷◌, ◌++◌, length, take, drop, refl, arith, sym, ap, ◌∙◌, Some}
 use Rattle.std.specs.Prelude.{flat_map, slice_get}
 use Rattle.std.specs.List.{enumerate_from}
+use Rattle.std.proofs.lemmas.List.{length-append, nil_from_length}
+use Rattle.brl_rules.proofs.Facts.{some_is}
 
 module _ {X : Type 0} where
-  some_same : (x y : X) → Some x ≡ Some y → x ≡ y
-  some_same x y h = cc
-
   -- there is an element at each place
   pub at : (xs : List X) (i : ℕ) → i < length xs → (x : X) × (slice_get xs i ≡ Some x)
   at [] i h = absurd (omega arith)
@@ -15,19 +14,15 @@ module _ {X : Type 0} where
 
   pub take-at : (xs : List X) (i : ℕ) (x : X) → slice_get xs i ≡ Some x → take (suc i) xs ≡ take i xs ++ x ∷ []
   take-at [] i x h = cc
-  take-at (y ∷ ys) zero x h = ap (λ z. z ∷ []) (some_same y x h)
+  take-at (y ∷ ys) zero x h = ap (λ z. z ∷ []) (some_is y x h)
   take-at (y ∷ ys) (suc i) x h = ap (λ zs. y ∷ zs) (take-at ys i x h)
 
   pub drop-at : (xs : List X) (i : ℕ) (x : X) → slice_get xs i ≡ Some x → drop i xs ≡ x ∷ drop (suc i) xs
   drop-at [] i x h = cc
-  drop-at (y ∷ ys) zero x h = ap (λ z. z ∷ ys) (some_same y x h)
+  drop-at (y ∷ ys) zero x h = ap (λ z. z ∷ ys) (some_is y x h)
   drop-at (y ∷ ys) (suc i) x h = drop-at ys i x h
 
 -- ---- Lists that are joined by place
-
-append-empty : {Y : Type 0} (xs ys : List Y) → xs ++ ys ≡ [] → (xs ≡ []) × (ys ≡ [])
-append-empty [] ys h = (refl, h)
-append-empty (x ∷ xs) ys h = cc
 
 module _ {X Y : Type 0} (f : ℕ × X → List Y) where
   abbrev joined : ℕ → List X → List Y
@@ -45,10 +40,10 @@ module _ {X Y : Type 0} (f : ℕ × X → List Y) where
   each-none n [] h place k x e there = cc
   each-none n (y ∷ ys) h place zero x e there =
       let here : place ≡ n = omega (arith, e) in
-      let same = some_same y x there in
-      ap f (ap {B = ℕ × X} (λ p. (p, x)) here ∙ ap {B = ℕ × X} (λ z. (n, z)) (sym same)) ∙ (append-empty (f (n, y)) (joined (n + 1) ys) h).0
+      let same = some_is y x there in
+      ap f (ap {B = ℕ × X} (λ p. (p, x)) here ∙ ap {B = ℕ × X} (λ z. (n, z)) (sym same)) ∙ nil_from_length (f (n, y)) (omega (arith, ap length h, length-append (f (n, y)) (joined (n + 1) ys)))
   each-none n (y ∷ ys) h place (suc k) x e there =
-      each-none (n + 1) ys (append-empty (f (n, y)) (joined (n + 1) ys) h).1 place k x (omega (arith, e)) there
+      each-none (n + 1) ys (nil_from_length (joined (n + 1) ys) (omega (arith, ap length h, length-append (f (n, y)) (joined (n + 1) ys)))) place k x (omega (arith, e)) there
 
   -- one element at a place, and nothing before it
   pub joined-first : (n : ℕ) (xs : List X) (i : ℕ) (x : X) (y : Y) → slice_get xs i ≡ Some x
@@ -56,7 +51,7 @@ module _ {X Y : Type 0} (f : ℕ × X → List Y) where
       → ((place : ℕ) → place ≡ n + i → f (place, x) ≡ y ∷ []) → (rest : List Y) × (joined n xs ≡ y ∷ rest)
   joined-first n [] i x y there before here = absurd (cc)
   joined-first n (z ∷ zs) zero x y there before here =
-      let same = some_same z x there in
+      let same = some_is z x there in
       let first : f (n, z) ≡ y ∷ [] = ap f (ap {B = ℕ × X} (λ w. (n, w)) same) ∙ here n (omega arith) in
       (joined (n + 1) zs, ap (λ ys. ys ++ joined (n + 1) zs) first)
   joined-first n (z ∷ zs) (suc i) x y there before here =

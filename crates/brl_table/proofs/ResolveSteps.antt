@@ -1,9 +1,9 @@
 -- One more line of the second pass.
-use Rattle.std.proofs.Common.{ℕ, ◌+◌, ◌<◌, ◌≡◌, ◌⊎◌, inl, inr, List, [], ◌∷◌, ◌++◌, length, map, take, arith, sym, ◌∙◌, ap, subst, Some, None, get_or}
+use Rattle.std.proofs.Common.{ℕ, ◌+◌, ◌<◌, ◌≡◌, ◌⊎◌, inl, inr, List, [], ◌∷◌, ◌++◌, length, map, take, arith, sym, ◌∙◌, ap, subst, Some, None, get_or, refl}
 use Rattle.std.specs.Prelude.{slice_get, option_map}
 use Rattle.std.proofs.lemmas.Bool.{cases_order}
 use Rattle.std.proofs.lemmas.List.{map-append, take_more}
-use Rattle.std.proofs.lemmas.Option.{slice_get-map, slice_get-get_or}
+use Rattle.std.proofs.lemmas.Option.{slice_get-map, slice_get_read}
 use Rattle.brl_lines.specs.Tokens.{LineView}
 use Rattle.brl_lines.specs.Views.{line_view}
 use Rattle.brl_lines.specs.declared.line.Line.{Line}
@@ -20,12 +20,8 @@ use Rattle.brl_table.specs.Building.{over, IsReferenceFault, IsFirstUnresolved, 
 use Rattle.brl_table.proofs.ItemSteps.{used-more}
 use Rattle.brl_rules.proofs.Facts.{some_is}
 
--- the element at a place
-pub at_place : {X : Type 0} (xs : List X) (i : ℕ) (x : X) → i < length xs → x ≡ get_or xs i x → slice_get xs i ≡ Some x
-at_place xs i x within is = slice_get-get_or xs i x within ∙ ap Some (sym is)
-
 pub line_there : (lines : List Line) (i : ℕ) (line : Line) → i < length lines → line ≡ get_or lines i line → slice_get (map line_view lines) i ≡ Some (line_view line)
-line_there lines i line within is = slice_get-map line_view lines i ∙ ap (option_map line_view) (at_place lines i line within is)
+line_there lines i line within is = slice_get-map line_view lines i ∙ ap (option_map line_view) (slice_get_read lines (length lines) i line refl within is)
 
 module _ (characters : List (ℕ × Info)) (lines : List Line) (items : List Item) (same : length lines ≡ length items) (i : ℕ) (line : Line) (within : i < length lines) (is : line ≡ get_or lines i line) (item : Item) (at : item ≡ get_or items i item) where
   here : (other : LineView) (thing : Item) → slice_get (map line_view lines) i ≡ Some other → slice_get items i ≡ Some thing
@@ -33,7 +29,7 @@ module _ (characters : List (ℕ × Info)) (lines : List Line) (items : List Ite
   here other thing there says none =
       let inside : i < length items = omega arith in
       let e : other ≡ line_view line = some_is other (line_view line) (sym there ∙ line_there lines i line within is) in
-      let f : thing ≡ item = some_is thing item (sym says ∙ at_place items i item inside at) in
+      let f : thing ≡ item = some_is thing item (sym says ∙ slice_get_read items (length items) i item refl inside at) in
       ap (λ l. reference_fault (over characters) l thing) e ∙ ap (reference_fault (over characters) (line_view line)) f ∙ none
 
   pub resolves-next : reference_fault (over characters) (line_view line) item ≡ None → Resolves characters (map line_view lines) items i
@@ -62,7 +58,7 @@ module _ (characters : List (ℕ × Info)) (lines : List Line) (items : List Ite
       → IsFirstUnresolved characters (map line_view lines) items i (line_view line) item wrong
   first-unresolved wrong faulty passed =
       let inside : i < length items = omega arith in
-      record { there = line_there lines i line within is; item_there = at_place items i item inside at; faulty = faulty; passed = passed }
+      record { there = line_there lines i line within is; item_there = slice_get_read items (length items) i item refl inside at; faulty = faulty; passed = passed }
 
 -- the first fault of the second pass, with the file and number of its line
 pub reference-refusal : (characters : List (ℕ × Info)) (lines : List LineView) (items : List Item) (place : ℕ) (view : LineView) (item : Item) (failure : Failure Fault) (reported : Failure TableFault)

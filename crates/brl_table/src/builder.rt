@@ -130,6 +130,7 @@ impl TableBuilder {
     }
 
     /// The first pass over the lines of files with these names.
+    #[tactic(auto, using(crate::proofs::FirstPass::has_file))]
     fn add_all(
         &mut self,
         alloc: Global,

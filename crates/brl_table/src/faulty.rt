@@ -91,6 +91,7 @@ pub fn good_characters(
 
 /// The lines, of files with these names, that have a fault by themselves. The builder has none yet,
 /// and then has the others.
+#[tactic(auto, using(crate::proofs::FirstPass::has_file))]
 fn find_faulty(
     alloc: Global,
     builder: &mut TableBuilder,

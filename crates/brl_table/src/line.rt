@@ -3,15 +3,7 @@ ghost use Rattle.std.specs.Prelude.{ℕ, ◌≡◌, ◌+◌, IfOk, map};
 ghost use Rattle.brl_failure.specs.Failure.{Gives};
 ghost use Rattle.brl_lines.specs.Views.{line_view, token_view};
 ghost use Rattle.brl_table.specs.ItemLimits.{IsItemWithinLimits};
-ghost use Rattle.brl_table.specs.Items.{
-  item_of as item_defined,
-  defined,
-  defined_both,
-  displayed,
-  listed,
-  ruled,
-  ruled_after,
-};
+ghost use Rattle.brl_table.specs.Items.{item_of as item_defined, defined, defined_both, displayed, listed, ruled, ruled_after};
 
 use crate::TableFaultKind;
 use crate::item::{Definition, Item, ListLine, NumericRole, RuleHead, RuleLine};

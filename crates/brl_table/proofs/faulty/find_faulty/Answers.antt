@@ -5,30 +5,24 @@ use Rattle.brl_table.specs.Building.{AreWithinLimits, Represents}
 use Rattle.brl_table.specs.Reading.{fault_after}
 use Rattle.brl_table.specs.declared.faulty.FaultyLine.{FaultyLine}
 use Rattle.brl_table.specs.declared.builder.TableBuilder.{TableBuilder}
-use Rattle.brl_table.proofs.FirstPass.{has_file, number-of, says, there}
+use Rattle.brl_table.proofs.FirstPass.{reads, there}
 use Rattle.brl_table.proofs.ItemSteps.{fault-none}
 use Rattle.brl_table.proofs.SurveySteps.{IsSurveyed, if_fault-holds, surveyed-faulty, surveyed-good}
 use Rattle.brl_table.proofs.faulty.find_faulty.Goals as goal
 use Rattle.brl_table.proofs.faulty.find_faulty.Goals.{in-Err+in_ok-faulty_line+in_ok-push, in_default}
 
-pub unwrap-file-requires : goal.unwrap-file-requires
-unwrap-file-requires c =
-    has_file c.args.lines.now c.args.files.now c.requires.named c.loop-line.line-index c.line-item.result c.loop-line-test.true c.line-item.is c.place_of.result c.place_of.ensures
-
 pub loop-line-preserved : goal.loop-line-preserved
 loop-line-preserved c =
     let lines = c.args.lines.now in
-    let names = c.args.files.now in
-    let named = c.requires.named in
     let i = c.loop-line.line-index in
     let line = c.line-item.result in
     let view = line_view line in
     let before = c.loop-line.invariant in
     let items = c.loop-line.builder.items.items in
     let after = c.add.new.self in
-    let number = number-of line.file.now names _ c.place_of.result c.unwrap-file.result named c.place_of.ensures c.unwrap-file.ensures in
-    let at = there lines names named i line c.loop-line-test.true c.line-item.is in
-    let read = says lines names named i line c.loop-line-test.true c.line-item.is c.unwrap-file.result number in
+    let at = there lines c.args.files.now c.requires.named i line c.loop-line-test.true c.line-item.is in
+    let read =
+    reads lines c.args.files.now c.requires.named i line c.loop-line-test.true c.line-item.is c.place_of.result c.unwrap-file.result c.place_of.ensures c.unwrap-file.ensures in
     elim c.match-add.branch [
       | in-Err+in_ok-faulty_line+in_ok-push w ↦
           (let same = if_fault-holds w.in-Err.failure w.in-Err.ensures.same w.in_ok-faulty_line.ensures.1 in

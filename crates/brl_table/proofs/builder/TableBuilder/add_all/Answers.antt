@@ -4,12 +4,8 @@ use Rattle.std.proofs.lemmas.List.{length-map}
 use Rattle.brl_lines.specs.Views.{line_view}
 use Rattle.brl_table.specs.Building.{Represents}
 use Rattle.brl_table.proofs.SecondPass.{whole}
-use Rattle.brl_table.proofs.FirstPass.{aligned-more, first-fault, limits-more, has_file, number-of, number-within, passes-more, refusal}
+use Rattle.brl_table.proofs.FirstPass.{aligned-more, first-fault, limits-more, number-of, number-within, passes-more, refusal}
 use Rattle.brl_table.proofs.builder.TableBuilder.add_all.Goals as goal
-
-pub unwrap-file-requires : goal.unwrap-file-requires
-unwrap-file-requires c =
-    has_file c.args.lines.now c.args.files.now c.requires.named c.loop-line.line-index c.line-item.result c.loop-line-test.true c.line-item.is c.place_of.result c.place_of.ensures
 
 pub loop-line-preserved : goal.loop-line-preserved
 loop-line-preserved c =
