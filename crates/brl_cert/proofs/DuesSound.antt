@@ -5,6 +5,7 @@ use Rattle.std.proofs.lemmas.List.Elements.{All-contains, All-contains_itself, A
 use Rattle.brl_rules.specs.declared.class.Class.{Class}
 use Rattle.brl_rules.specs.declared.place.Cond.{Cond}
 use Rattle.brl_rules.specs.declared.place.Cond.TheVariants.{Any, Meets, Avoids}
+use Rattle.brl_rules.proofs.Facts.{some_is}
 use Rattle.brl_states.specs.DuesContext.{state_in}
 use Rattle.brl_states.specs.Order.{AreDues, in_order, is_proper}
 use Rattle.brl_states.specs.declared.due.Due.{Due}
@@ -22,9 +23,6 @@ pub record KeepsOrder : Type 0 where
   pub members : (dues : List Due) (due : Due) → Contains (in_order dues) due ↔ Contains dues due
 
 -- ---- One due
-
-some_is : {A : Type 0} (x y : A) → Some x ≡ Some y → x ≡ y
-some_is x y e = cc
 
 head_valid : (asks : Cond) → HasSet asks → (head : List ℕ) (d : Due) → lenient_head asks head ≡ Some d → IsDue d
 head_valid asks h [] d e = absurd cc

@@ -1,5 +1,5 @@
 -- What a field spells is read back from it, and its bytes are above the marks.
-use Rattle.std.proofs.Common.{◌≡◌, ℕ, ◌^◌, ◌<◌, ◌≤◌, Bool, true, false, cond, eqb, ltb, leb, List, [], ◌∷◌, ◌++◌, length, map, filter, All, Some, None, Ok, refl, sym, ap, ◌∙◌, arith, inl, inr}
+use Rattle.std.proofs.Common.{◌≡◌, ℕ, ◌^◌, ◌<◌, ◌≤◌, Bool, true, false, cond, eqb, ltb, List, [], ◌∷◌, ◌++◌, length, map, filter, All, Some, None, Ok, refl, sym, ap, ◌∙◌, arith, inl, inr}
 use Rattle.std.specs.Prelude.{codes}
 use Rattle.std.specs.Str.{bytes_eq}
 use Rattle.std.specs.Str.Parse.{digits_value, IsNumeral, AllDigits}
@@ -7,7 +7,7 @@ use Rattle.std.specs.Char.{is_digit, digit_value}
 use Rattle.std.specs.Fmt.{decimal, digits}
 use Rattle.std.specs.List.{slice_split, join_with_byte, list_all, AllByRecursion}
 use Rattle.std.specs.Cmp.{first_so, second_so}
-use Rattle.std.proofs.lemmas.Bool.{cases_lt}
+use Rattle.std.proofs.lemmas.Bool.{cases_lt, le-leb}
 use Rattle.std.proofs.lemmas.Bool.Decides.{Decides-eqb, Decides-ltb, nat_tests}
 use Rattle.std.proofs.lemmas.Fmt.{digits_is_IsNumeral}
 use Rattle.std.proofs.lemmas.List.Elements.{All-from_recursion, recursion_from_All}
@@ -54,9 +54,6 @@ above_joined low m lt (part ∷ next ∷ parts) h = above_append low part (m ∷
 
 -- ---- numbers
 
-le_true : (a b : ℕ) → a ≤ b → leb a b ≡ true
-le_true a b le = grind (arith, nat_tests)
-
 all_digits : (radix : ℕ) (ds : List ℕ) → AllDigits radix ds → list_all (λ c. is_digit c radix) ds ≡ true
 all_digits radix [] h = refl
 all_digits radix (c ∷ ds) h = rw ((Decides-ltb (digit_value c) radix).1 h.0) (all_digits radix ds h.1)
@@ -74,7 +71,7 @@ digits_above radix (c ∷ ds) le h = (digit_above radix c le h.0, digits_above r
 
 number_from_digits : (radix greatest n : ℕ) (ds : List ℕ) → IsNumeral radix ds → digits_value radix ds ≡ n → n ≤ greatest → lenient_number radix greatest ds ≡ Some n
 number_from_digits radix greatest n ds numeral value le =
-    rw ((Decides-ltb 0 (length ds)).1 numeral.0, all_digits radix ds numeral.1, value, le_true n greatest le) refl
+    rw ((Decides-ltb 0 (length ds)).1 numeral.0, all_digits radix ds numeral.1, value, le-leb n greatest le) refl
 
 pub number_reads : (greatest n : ℕ) → n ≤ greatest → n < 10 ^ 64 → Reads (number greatest) 47 n
 number_reads greatest n le small =

@@ -4,12 +4,13 @@ use Rattle.std.specs.Str.{bytes_eq}
 use Rattle.std.specs.List.{flat_map, join_with_byte, slice_split, list_any}
 use Rattle.std.proofs.lemmas.Slice.Eq.{bytes_eq-Decides}
 use Rattle.std.proofs.lemmas.Bool.Decides.{Decides-eqb}
-use Rattle.std.proofs.lemmas.List.{append-nil, flat_map_more}
+use Rattle.std.proofs.lemmas.List.{append-nil, flat_map_more, nil_from_length}
 use Rattle.std.proofs.lemmas.List.Splits.{join_with_byte-slice_split}
 use Rattle.brl_cert.specs.declared.fault.CertFaultKind.{CertFaultKind}
 use Rattle.brl_cert.specs.declared.fault.CertFaultKind.TheVariants.{Syntax, NotCanonical, DuplicateState, DuplicatePair, NoSuchState, WrongCount, Version}
 use Rattle.brl_pairs.specs.Body.{BodyView, NumberPair, same_pair}
 use Rattle.std.specs.Cmp.{first_so, second_so}
+use Rattle.std.proofs.lemmas.Bool.{eqb-true, not-false}
 use Rattle.brl_cert.specs.declared.line.Line.{Line}
 use Rattle.brl_cert.specs.declared.line.Line.TheVariants.{State, Pair, End}
 use Rattle.brl_cert.specs.Lines.{at_line, StateFormat, placed, ◌>>>◌, spelled_line, whole_line, spelled_body, strict_line, line_of, may_follow, lenient_line, is_end, add_line, one_line, body_of}
@@ -18,7 +19,6 @@ use Rattle.brl_cert.specs.Reading.{spelling, reading, certificate_of, spelled_he
 use Rattle.brl_states.specs.declared.cert.Cert.TheVariants.{Dues, Window, Word}
 use Rattle.brl_states.specs.declared.cert.Cert.{Cert as Certificate}
 use Rattle.brl_cert.specs.Window.{window_format}
-use Rattle.brl_pairs.proofs.Positions.{not_false}
 
 -- the value of a step that did not fail
 pub then_ok : {A B E : Type 0} (r : Result A E) (f : A → Result B E) (y : B) → (r >>> f) ≡ Ok y → (x : A) × (r ≡ Ok x) × (f x ≡ Ok y)
@@ -51,7 +51,7 @@ module _ {S : Type 0} (form : StateFormat S) where
       let a = guard_ok (not (may_follow body x)) Syntax (cond (bytes_eq (spelled_line form x) bytes) (Ok x) (Err NotCanonical)) line e in
       let b = need_ok (bytes_eq (spelled_line form x) bytes) NotCanonical (Ok x) line a.1 in
       let same : x ≡ line = ok_is x line b.1 in
-      subst (λ (z : Line S). (may_follow body z ≡ true) × (spelled_line form z ≡ bytes)) same (not_false (may_follow body x) a.0, (bytes_eq-Decides (spelled_line form x) bytes).0 b.0)
+      subst (λ (z : Line S). (may_follow body z ≡ true) × (spelled_line form z ≡ bytes)) same (not-false (may_follow body x) a.0, (bytes_eq-Decides (spelled_line form x) bytes).0 b.0)
 
   -- the lines of the body, without the end line
   abbrev pub front : BodyView S → List ℕ
@@ -65,13 +65,9 @@ module _ {S : Type 0} (form : StateFormat S) where
   adds : (body : BodyView S) (line : Line S) (longer : BodyView S) → may_follow body line ≡ true → add_line form body line ≡ Ok longer → is_end line ≡ false → front longer ≡ front body ++ whole_line form line
   adds body (State s) longer not_false e open_ =
       let a = guard_ok (list_any (form.same s) body.states) DuplicateState (Ok (record { states = body.states ++ s ∷ []; pairs = body.pairs })) longer e in
-      let none : body.pairs ≡ [] = empty_is body.pairs not_false in
+      let none : body.pairs ≡ [] = nil_from_length body.pairs (eqb-true (length body.pairs) 0 not_false) in
       let more : front (record { states = body.states ++ s ∷ []; pairs = body.pairs }) ≡ front body ++ whole_line form (State s) = rw none (append-nil _ ∙ sym (flat_map_more (λ (x : S). whole_line form (State x)) [] body.states s) ∙ ap (λ (b : List ℕ). b ++ whole_line form (State s)) (sym (append-nil _))) in
       subst (λ (z : BodyView S). front z ≡ front body ++ whole_line form (State s)) (ok_is _ longer a.1) more
-    where
-      empty_is : {A : Type 0} (xs : List A) → eqb (length xs) 0 ≡ true → xs ≡ []
-      empty_is [] h = refl
-      empty_is (x ∷ xs) h = absurd (omega (arith, (Decides-eqb (length (x ∷ xs)) 0).0 h))
   adds body (Pair p) longer not_false e open_ =
       let a = guard_ok (not (ltb p.ahead (length body.states) && ltb p.behind (length body.states))) NoSuchState (cond (list_any (same_pair p) body.pairs) (Err DuplicatePair) (Ok (record { states = body.states; pairs = body.pairs ++ p ∷ [] }))) longer e in
       let b = guard_ok (list_any (same_pair p) body.pairs) DuplicatePair (Ok (record { states = body.states; pairs = body.pairs ++ p ∷ [] })) longer a.1 in

@@ -1,6 +1,7 @@
 -- The lines of a body, one by one.
 use Rattle.std.proofs.Common.{◌≡◌, ℕ, zero, suc, ◌+◌, ◌<◌, Bool, true, false, not, ◌&&◌, cond, eqb, List, [], ◌∷◌, length, map, drop, get_or, Result, Ok, Err, IfOk, OnOk, refl, sym, ap, subst, ◌∙◌, arith, length-drop}
 use Rattle.std.proofs.lemmas.Bool.Decides.{nat_tests, Decides-eqb}
+use Rattle.std.proofs.lemmas.List.{get_or-map, length-map}
 use Rattle.brl_cert.specs.declared.fault.CertFault.{CertFault}
 use Rattle.brl_cert.specs.declared.fault.CertFaultKind.TheVariants.{Syntax, Truncated}
 use Rattle.brl_cert.specs.declared.line.Line.{Line}
@@ -10,15 +11,6 @@ use Rattle.brl_failure.specs.Failure.{IsFaultOf}
 use Rattle.brl_failure.specs.declared.failure.Failure.{Failure}
 use Rattle.brl_failure.specs.declared.failure.Failure.TheVariants as failures
 use Rattle.brl_cert.proofs.Found.{placed_ok}
-
-at_map : {A B : Type 0} (g : A → B) (xs : List A) (i : ℕ) (d : A) (e : B) → i < length xs → get_or (map g xs) i e ≡ g (get_or xs i d)
-at_map g [] i d e lt = absurd (omega arith)
-at_map g (x ∷ xs) zero d e lt = refl
-at_map g (x ∷ xs) (suc i) d e lt = at_map g xs i d e (omega arith)
-
-same_length : {A B : Type 0} (g : A → B) (xs : List A) → length (map g xs) ≡ length xs
-same_length g [] = refl
-same_length g (x ∷ xs) = ap suc (same_length g xs)
 
 module _ {S : Type 0} (form : StateFormat S) where
   pub take_ok : (n : ℕ) (body longer : BodyView S) (bytes : List ℕ) (line : Line S) (r : Result Bool (Failure CertFault)) → placed n (line_of form body bytes) ≡ Ok line → OnOk r (placed n (add_line form body line) ≡ Ok longer) → IfOk r (λ last. last ≡ is_end line)
@@ -57,8 +49,8 @@ module _ {S : Type 0} (form : StateFormat S) where
 
     this : suc i < length xs → whole ≡ (line >>> continued n (get_or (map g xs) (suc i) []) (drop (suc i) (map g xs)) (drop (suc (suc i)) (map g xs)))
     this lt =
-        sym so_far ∙ one_step n body (map g xs) i (omega (arith, same_length g xs))
-        ∙ ap (λ (y : List ℕ). placed n (one_line form body y) >>> continued n (get_or (map g xs) (suc i) []) (drop (suc i) (map g xs)) (drop (suc (suc i)) (map g xs))) (at_map g xs i d [] (omega arith))
+        sym so_far ∙ one_step n body (map g xs) i (omega (arith, length-map xs g))
+        ∙ ap (λ (y : List ℕ). placed n (one_line form body y) >>> continued n (get_or (map g xs) (suc i) []) (drop (suc i) (map g xs)) (drop (suc (suc i)) (map g xs))) (get_or-map g xs i d [] (omega arith))
 
     pub goes_on : suc i < length xs → (longer : BodyView S) (m j : ℕ) → m ≡ suc n → j ≡ suc i → line ≡ Ok (false, longer) → body_of form m longer (drop j (map g xs)) ≡ whole
     goes_on lt longer m j mn ji e = sym (this lt ∙ ap (λ r. r >>> continued n (get_or (map g xs) (suc i) []) (drop (suc i) (map g xs)) (drop (suc (suc i)) (map g xs))) e ∙ ap (λ k. body_of form k longer (drop (suc i) (map g xs))) (sym mn) ∙ ap (λ k. body_of form m longer (drop k (map g xs))) (sym ji))
@@ -72,13 +64,13 @@ module _ {S : Type 0} (form : StateFormat S) where
 
     pub closes : suc (suc i) ≡ length xs → (longer : BodyView S) → line ≡ Ok (true, longer) → (last : ℕ) → last ≡ suc i → eqb (length (g (get_or xs last d))) 0 ≡ true → whole ≡ Ok longer
     closes two longer e last is none =
-        let a : eqb (length (get_or (map g xs) (suc i) [])) 0 ≡ true = ap (λ bs. eqb (length bs) 0) (at_map g xs (suc i) d [] (omega arith)) ∙ ap (λ k. eqb (length (g (get_or xs k d))) 0) (sym is) ∙ none in
-        let b : eqb (length (drop (suc (suc i)) (map g xs))) 0 ≡ true = (Decides-eqb (length (drop (suc (suc i)) (map g xs))) 0).1 (omega (arith, length-drop (suc (suc i)) (map g xs), same_length g xs)) in
+        let a : eqb (length (get_or (map g xs) (suc i) [])) 0 ≡ true = ap (λ bs. eqb (length bs) 0) (get_or-map g xs (suc i) d [] (omega arith)) ∙ ap (λ k. eqb (length (g (get_or xs k d))) 0) (sym is) ∙ none in
+        let b : eqb (length (drop (suc (suc i)) (map g xs))) 0 ≡ true = (Decides-eqb (length (drop (suc (suc i)) (map g xs))) 0).1 (omega (arith, length-drop (suc (suc i)) (map g xs), length-map xs g)) in
         ended (omega arith) longer e ∙ rw (a, b) refl
 
     pub lines_behind : suc (suc i) < length xs → (longer : BodyView S) → line ≡ Ok (true, longer) → (m : ℕ) → m ≡ suc n → whole ≡ Err (at_line m Syntax)
     lines_behind more longer e m mn =
-        let b : eqb (length (drop (suc (suc i)) (map g xs))) 0 ≡ false = (let some : 0 < length (drop (suc (suc i)) (map g xs)) = omega (arith, length-drop (suc (suc i)) (map g xs), same_length g xs) in grind (arith, nat_tests)) in
+        let b : eqb (length (drop (suc (suc i)) (map g xs))) 0 ≡ false = (let some : 0 < length (drop (suc (suc i)) (map g xs)) = omega (arith, length-drop (suc (suc i)) (map g xs), length-map xs g) in grind (arith, nat_tests)) in
         ended (omega arith) longer e ∙ rw b (by_test (eqb (length (get_or (map g xs) (suc i) [])) 0)) ∙ ap (λ k. Err (at_line k Syntax)) (sym mn)
       where
         by_test : (t : Bool) → (let r : Result (BodyView S) CertFault = cond (t && false) (Ok longer) (Err (at_line (suc n) Syntax)) in r) ≡ Err (at_line (suc n) Syntax)
@@ -87,8 +79,8 @@ module _ {S : Type 0} (form : StateFormat S) where
 
     pub bytes_behind : suc (suc i) ≡ length xs → (longer : BodyView S) → line ≡ Ok (true, longer) → (m last : ℕ) → m ≡ suc n → last ≡ suc i → eqb (length (g (get_or xs last d))) 0 ≡ false → whole ≡ Err (at_line m Syntax)
     bytes_behind two longer e m last mn is some =
-        let a : eqb (length (get_or (map g xs) (suc i) [])) 0 ≡ false = ap (λ bs. eqb (length bs) 0) (at_map g xs (suc i) d [] (omega arith)) ∙ ap (λ k. eqb (length (g (get_or xs k d))) 0) (sym is) ∙ some in
+        let a : eqb (length (get_or (map g xs) (suc i) [])) 0 ≡ false = ap (λ bs. eqb (length bs) 0) (get_or-map g xs (suc i) d [] (omega arith)) ∙ ap (λ k. eqb (length (g (get_or xs k d))) 0) (sym is) ∙ some in
         ended (omega arith) longer e ∙ rw a refl ∙ ap (λ k. Err (at_line k Syntax)) (sym mn)
 
   pub cut : {A : Type 0} (g : A → List ℕ) (xs : List A) (n : ℕ) (body : BodyView S) (i : ℕ) (whole : Result (BodyView S) CertFault) → body_of form n body (drop i (map g xs)) ≡ whole → suc i ≡ length xs → (m : ℕ) → m ≡ n → whole ≡ Err (at_line m Truncated)
-  cut g xs n body i whole so_far one m mn = sym so_far ∙ last_line n body (map g xs) i (omega (arith, same_length g xs)) ∙ ap (λ k. Err (at_line k Truncated)) (sym mn)
+  cut g xs n body i whole so_far one m mn = sym so_far ∙ last_line n body (map g xs) i (omega (arith, length-map xs g)) ∙ ap (λ k. Err (at_line k Truncated)) (sym mn)

@@ -11,6 +11,8 @@ use Rattle.std.specs.List.{slice_split, list_any, list_all, AllByRecursion, IsDi
 use Rattle.std.proofs.lemmas.Bool.Decides.{Decides-eqb, Decides-ltb, nat_tests}
 use Rattle.std.proofs.lemmas.List.Elements.{All-from_recursion, All-nil, All-push}
 use Rattle.std.proofs.lemmas.Map.Keys.{IsDistinct-push}
+use Rattle.std.proofs.lemmas.List.{nil_from_length}
+use Rattle.std.proofs.lemmas.Bool.{eqb-true, not-false}
 use Rattle.brl_cells.specs.declared.fault.DotsFault.{DotsFault}
 use Rattle.brl_cells.specs.declared.fault.DotsFault.TheVariants.{TooManyCells}
 use Rattle.brl_cells.specs.Dots.{AreCells, cells_reading, parts, reading as dots_reading}
@@ -32,7 +34,6 @@ use Rattle.brl_cert.specs.Valid.{IsBody, IsCapsFree, IsWindowState, IsDuesState,
 use Rattle.brl_cert.proofs.Ascii.{limited}
 use Rattle.brl_cert.proofs.Found.{then_ok, placed_ok, guard_ok, need_ok, ok_is}
 use Rattle.brl_cert.proofs.Window.{NumberPair-Decides, WindowState-Decides, flips}
-use Rattle.brl_pairs.proofs.Positions.{not_false}
 
 -- ---- The values of fields
 
@@ -164,7 +165,7 @@ module _ {S : Type 0} (form : StateFormat S) (IsState : S → Type 0) (cells : R
   strict_valid body bytes (Some x) line valid e =
       let a = guard_ok (not (may_follow body x)) Syntax (cond (bytes_eq (spelled_line form x) bytes) (Ok x) (Err NotCanonical)) line e in
       let b = need_ok (bytes_eq (spelled_line form x) bytes) NotCanonical (Ok x) line a.1 in
-      subst (λ (z : Line S). (may_follow body z ≡ true) × IsLine IsState z) (ok_is x line b.1) (not_false (may_follow body x) a.0, valid x refl)
+      subst (λ (z : Line S). (may_follow body z ≡ true) × IsLine IsState z) (ok_is x line b.1) (not-false (may_follow body x) a.0, valid x refl)
 
   -- ---- Bodies
 
@@ -172,7 +173,7 @@ module _ {S : Type 0} (form : StateFormat S) (IsState : S → Type 0) (cells : R
   adds_valid : (body : BodyView S) (line : Line S) (longer : BodyView S) → IsFront form IsState body → may_follow body line ≡ true → IsLine IsState line → add_line form body line ≡ Ok longer → IsFront form IsState longer
   adds_valid body (State s) longer front not_false is e =
       let a = guard_ok (list_any (form.same s) body.states) DuplicateState (Ok (record { states = body.states ++ s ∷ []; pairs = body.pairs })) longer e in
-      let none : body.pairs ≡ [] = empty_is body.pairs not_false in
+      let none : body.pairs ≡ [] = nil_from_length body.pairs (eqb-true (length body.pairs) 0 not_false) in
       subst (IsFront form IsState) (ok_is _ longer a.1) record {
         each_state = All-push IsState body.states s front.each_state is;
         each_pair = subst (λ (ps : List NumberPair). All (IsPairOf (length (body.states ++ s ∷ []))) ps) (sym none) (All-nil (IsPairOf (length (body.states ++ s ∷ []))));
@@ -180,10 +181,6 @@ module _ {S : Type 0} (form : StateFormat S) (IsState : S → Type 0) (cells : R
         states_differ = IsDistinct-push reads.equal body.states s front.states_differ a.0;
         pairs_differ = front.pairs_differ;
       }
-    where
-      empty_is : {A : Type 0} (xs : List A) → eqb (length xs) 0 ≡ true → xs ≡ []
-      empty_is [] h = refl
-      empty_is (x ∷ xs) h = absurd (omega (arith, (Decides-eqb (length (x ∷ xs)) 0).0 h))
   adds_valid body (Pair p) longer front not_false is e =
       let a = guard_ok (not (ltb p.ahead (length body.states) && ltb p.behind (length body.states))) NoSuchState (cond (list_any (same_pair p) body.pairs) (Err DuplicatePair) (Ok (record { states = body.states; pairs = body.pairs ++ p ∷ [] }))) longer e in
       let b = guard_ok (list_any (same_pair p) body.pairs) DuplicatePair (Ok (record { states = body.states; pairs = body.pairs ++ p ∷ [] })) longer a.1 in

@@ -2,12 +2,12 @@
 use Rattle.std.proofs.Common.{◌≡◌, Bool, true, false, cond, eqb, List, [], length, refl, arith, sym, ap, ◌∙◌}
 use Rattle.std.proofs.lemmas.Bool.{eqb-true, false≢true}
 use Rattle.std.proofs.lemmas.Option.{slice_get_within}
+use Rattle.std.proofs.lemmas.List.{nil_from_length}
 use Rattle.brl_lines.specs.Tokens.{LineView}
 use Rattle.brl_table.specs.Reading.{PassesAll, PassesBefore, second_pass_fault}
 use Rattle.brl_table.specs.Survey.{FaultyLineView, faulty_line_if, faulty_lines, survey_of, unresolved_lines}
 use Rattle.brl_table.proofs.Places.{each-none, joined-none}
 use Rattle.brl_table.proofs.SurveyLaws.{finds-none, none-faulty}
-use Rattle.brl_table.proofs.UnresolvedSteps.{empty}
 
 module _ (lines : List LineView) where
   abbrev PassesSecond : Type 0
@@ -25,7 +25,7 @@ module _ (lines : List LineView) where
   by-pass own more h = cases (eqb (length own) 0) refl h
     where
       cases : (none : Bool) → eqb (length own) 0 ≡ none → cond none more own ≡ [] → (own ≡ []) × (more ≡ [])
-      cases true e left = (empty own (eqb-true (length own) 0 e), left)
+      cases true e left = (nil_from_length own (eqb-true (length own) 0 e), left)
       cases false e left = absurd (false≢true (sym e ∙ ap (λ found. eqb (length found) 0) left))
 
   pub finds-nothing : ((survey_of lines).faulty ≡ [] → PassesAll lines) × (PassesAll lines → (survey_of lines).faulty ≡ [])

@@ -3,7 +3,7 @@
 use Rattle.std.proofs.Common.{ℕ, suc, ◌≡◌, true, eqb, List, [], ◌∷◌, ◌++◌, length, map, take, refl, arith, sym, ap, ◌∙◌, None, Some, Result, Ok, Err}
 use Rattle.std.specs.Prelude.{slice_get}
 use Rattle.std.proofs.lemmas.Bool.{eqb-true}
-use Rattle.std.proofs.lemmas.List.{length-map, take_all}
+use Rattle.std.proofs.lemmas.List.{length-map, take_all, nil_from_length}
 use Rattle.std.proofs.lemmas.Option.{slice_get_within}
 use Rattle.brl_failure.specs.declared.failure.Failure.{Failure}
 use Rattle.brl_lines.specs.Tokens.{LineView}
@@ -49,13 +49,9 @@ without-rule characters line item old new (Err failure) h = h
 
 -- ---- Whether no line has a fault by itself
 
-pub empty : {X : Type 0} (xs : List X) → length xs ≡ 0 → xs ≡ []
-empty [] h = refl
-empty (x ∷ xs) h = absurd (omega arith)
-
 module _ (lines : List LineView) (own : List FaultyLine) (found : map faulty_line_view own ≡ faulty_lines lines) (count : ℕ) (is_length : count ≡ length own) where
   pub passes-is : passes_first lines ≡ eqb count 0
   passes-is = ap (λ n. eqb n 0) (sym (ap length found) ∙ length-map own faulty_line_view ∙ sym is_length)
 
   pub passes : eqb count 0 ≡ true → PassesFirst lines
-  passes none = (finds-none lines).0 (empty (faulty_lines lines) (eqb-true (length (faulty_lines lines)) 0 (passes-is ∙ none)))
+  passes none = (finds-none lines).0 (nil_from_length (faulty_lines lines) (eqb-true (length (faulty_lines lines)) 0 (passes-is ∙ none)))

@@ -1,7 +1,8 @@
 -- The paths of a machine without some characters are its paths that read none of them.
-use Rattle.std.proofs.Common.{◌≡◌, ◌≢◌, ◌<◌, ◌⊎◌, inl, inr, arith, ℕ, ◌&&◌, Bool, true, IsTrue, List, [], ◌∷◌, ◌++◌, refl, sym, ◌∙◌, ap}
+use Rattle.std.proofs.Common.{◌≡◌, ◌≢◌, ◌<◌, ◌⊎◌, inl, inr, arith, ℕ, ◌&&◌, true, IsTrue, List, [], ◌∷◌, ◌++◌, refl, sym, ◌∙◌, ap}
 use Rattle.std.specs.Cmp.{first_so, second_so}
 use Rattle.std.proofs.lemmas.List.Folds.{list_all-append}
+use Rattle.std.proofs.lemmas.Bool.{and_from}
 use Rattle.brl_pairs.specs.Pairs.{IsClosed, Sets, Splits}
 use Rattle.brl_pairs.specs.Runs.{Accepts, Behaviour, IsExact, IsGoodStep, IsInOrder, IsListed, IsPath, IsUnambiguous, KeepsLaws, reads_of}
 use Rattle.brl_pairs.specs.declared.step.Pair.{Pair}
@@ -12,9 +13,6 @@ use Rattle.brl_without.proofs.Steps.{kept_in_turn, kept_passes, passes_kept}
 
 either_order : (i j : ℕ) → i ≢ j → (i < j) ⊎ (j < i)
 either_order i j differ = grind arith
-
-and_of : (b c : Bool) → b ≡ true → c ≡ true → (b && c) ≡ true
-and_of b c e f = rw e f
 
 module _ (left_out : List ℕ) where
   -- a text in two parts uses none where neither part does
@@ -35,7 +33,7 @@ module _ (left_out : List ℕ) where
     path_within s (x ∷ path) h =
         let step = listed_within s x h.0 in
         let rest = path_within x.next path h.1 in
-        ((step.0, rest.0), joined x.reads (reads_of path) ∙ and_of _ _ step.1 rest.1)
+        ((step.0, rest.0), joined x.reads (reads_of path) ∙ and_from _ _ step.1 rest.1)
 
     pub path_without : (s : S) (path : List (Step S)) → IsPath m s path → uses_none left_out (reads_of path) ≡ true → IsPath (without left_out m) s path
     path_without s [] h none = h
@@ -71,7 +69,7 @@ module _ (left_out : List ℕ) where
     keeps_exact exact = record {
       text = λ path is.
           (let r = path_within m.start path is in
-          and_of _ _ (exact.text path r.0) r.1);
+          and_from _ _ (exact.text path r.0) r.1);
       translates = λ path is. exact.translates path (path_within m.start path is).0;
       one_path = λ path other is also same. exact.one_path path other (path_within m.start path is).0 (path_within m.start other also).0 same;
     }
@@ -97,7 +95,7 @@ module _ (left_out : List ℕ) where
 
     pub unambiguous_for : IsUnambiguous (without left_out m) → IsUnambiguousFor left_out m
     unambiguous_for single left right left_is right_is left_none right_none same =
-        single left right (and_of _ _ left_is left_none) (and_of _ _ right_is right_none) same
+        single left right (and_from _ _ left_is left_none) (and_from _ _ right_is right_none) same
 
     pub unambiguous_from : IsUnambiguousFor left_out m → IsUnambiguous (without left_out m)
     unambiguous_from single left right left_is right_is same =
