@@ -7,21 +7,7 @@ ghost use Rattle.brl_table.specs.Items.{item_of as item_defined};
 ghost use Rattle.brl_table.specs.ItemLimits.{IsItemWithinLimits};
 ghost use Rattle.brl_rules.specs.Limits.{IsRule};
 ghost use Rattle.brl_rules.specs.Rank.{in_rank};
-ghost use Rattle.brl_table.specs.Building.{
-  listed_with,
-  over,
-  FindsReference,
-  Adds,
-  AreAdded,
-  HaveRoles,
-  AreRead,
-  AreWithinLimits,
-  IsReferenceFault,
-  ResolvesLine,
-  Resolves,
-  SignsRepresent,
-  Represents,
-};
+ghost use Rattle.brl_table.specs.Building.{listed_with, over, FindsReference, Adds, AreAdded, HaveRoles, AreRead, AreWithinLimits, IsReferenceFault, ResolvesLine, Resolves, SignsRepresent, Represents};
 ghost use Rattle.brl_table.specs.declared.item.Definition.{Definition};
 ghost use Rattle.brl_table.specs.declared.item.Item.{Item as ItemView};
 ghost use Rattle.brl_table.specs.declared.item.Item.TheVariants as items;
