@@ -1,6 +1,5 @@
 -- Facts of lines that are rewritten.
-use Rattle.std.proofs.Common.{◌≡◌, ◌∙◌, ℕ, zero, suc, ◌<◌, Bool, true, false, ◌&&◌, ◌||◌, ◌==◌, List, [], ◌∷◌, ◌++◌, ap, arith, get_or, length, map, refl, sym}
-use Rattle.std.specs.List.{list_any}
+use Rattle.std.proofs.Common.{◌≡◌, ◌∙◌, ℕ, ◌<◌, ◌&&◌, ◌==◌, List, [], ◌∷◌, ◌++◌, ap, arith, length, map, refl, sym}
 use Rattle.std.proofs.lemmas.List.{append-nil, length-map}
 use Rattle.brl_lines.specs.Tokens.{LineView}
 use Rattle.brl_lines.specs.Views.{token_view}
@@ -34,13 +33,3 @@ few-operands-add edits characters line [] few = sym (append-nil edits)
 few-operands-add edits characters line (a ∷ []) few = sym (append-nil edits)
 few-operands-add edits characters line (a ∷ b ∷ []) few = sym (append-nil edits)
 few-operands-add edits characters line (a ∷ b ∷ c ∷ operands) few = absurd (omega arith)
-
-or_true : (b : Bool) → (b || true) ≡ true
-or_true true = refl
-or_true false = refl
-
--- one of a list passes
-pub any_here : {X Y : Type 0} (p : Y → Bool) (f : X → Y) (xs : List X) (i : ℕ) (d : X) → i < length xs → p (f (get_or xs i d)) ≡ true → list_any p (map f xs) ≡ true
-any_here p f [] i d h e = absurd (omega arith)
-any_here p f (x ∷ xs) zero d h e = rw e refl
-any_here p f (x ∷ xs) (suc i) d h e = rw (any_here p f xs i d (omega arith) e) (or_true (p (f x)))

@@ -2,7 +2,7 @@ use Rattle.std.proofs.Common.{◌∙◌, ap, sym}
 use Rattle.brl_cut.specs.Edits.{is_of}
 use Rattle.brl_cut.specs.Files.{edit_view}
 use Rattle.std.specs.Prelude.{string_bytes}
-use Rattle.brl_cut.proofs.RewriteLemmas.{any_here}
+use Rattle.brl_lines.proofs.ChainLemmas.{any_here}
 use Rattle.brl_cut.proofs.rewriting.is_rewritten.Goals as goal
 
 pub returns-then-is_edit_of : goal.returns-then-is_edit_of
