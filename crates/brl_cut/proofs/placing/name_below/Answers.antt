@@ -1,7 +1,7 @@
 use Rattle.std.proofs.Common.{◌∙◌, ap, drop, false, refl, subst, sym, true}
 use Rattle.std.specs.Str.{IsCharBoundary}
 use Rattle.std.proofs.lemmas.Str.Pattern.{starts_text}
-use Rattle.brl_cut.proofs.cutting.name_below.Goals as goal
+use Rattle.brl_cut.proofs.placing.name_below.Goals as goal
 
 pub returns-in-Some : goal.returns-in-Some
 returns-in-Some c =
