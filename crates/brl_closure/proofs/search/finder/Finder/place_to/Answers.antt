@@ -1,13 +1,9 @@
-use Rattle.std.proofs.Common.{◌≡◌, Bool, true, false, not, slice_get, inl, inr, refl, sym, ◌∙◌, ap, arith}
-use Rattle.std.proofs.lemmas.Bool.{cases_eq}
+use Rattle.std.proofs.Common.{◌≡◌, true, false, not, slice_get, inl, inr, refl, sym, ◌∙◌, ap, arith}
+use Rattle.std.proofs.lemmas.Bool.{cases_eq, not-false}
 use Rattle.std.proofs.lemmas.Option.{slice_get_within}
 use Rattle.brl_pairs.specs.declared.step.Step.{Step}
 use Rattle.brl_pairs.proofs.Lists.{read_at, same_place}
 use Rattle.brl_closure.proofs.search.finder.Finder.place_to.Goals as goal
-
-is_true : (b : Bool) → not b ≡ false → b ≡ true
-is_true true h = refl
-is_true false h = cc
 
 pub loop-place-init : goal.loop-place-init
 loop-place-init g c =
@@ -50,7 +46,7 @@ returns-clause-place g c =
     record {
       step = c.index.result.now;
       taken = record { state = taken.state; at = taken.at; listed = here };
-      next = g.met.M.State.Key.same c.index.result.now.next c.args.to.now (is_true (g.M.State.PartialEq.eq c.index.result.now.next c.args.to.now) (sym c.ne.ensures ∙ c.loop-place-test.false));
+      next = g.met.M.State.Key.same c.index.result.now.next c.args.to.now (not-false (g.M.State.PartialEq.eq c.index.result.now.next c.args.to.now) (sym c.ne.ensures ∙ c.loop-place-test.false));
     }
 
 pub returns-clause-known : goal.returns-clause-known
