@@ -29,6 +29,13 @@ pub if_none : {X : Type 0} (o : Option X) (P : Type 0) → IfNone o P → ((x : 
 if_none (Some x) P h other = absurd (other x refl)
 if_none None P h other = h
 
+-- steps that were yielded are taken, and what was found before them is extended
+pub record AreTakenSoFar {S : Type 0} (m : Behaviour S) (limit : ℕ) (start f : Found S) (number : ℕ) (yielded : List (Step S)) : Type 0 where
+  pub found : AreFound m f
+  pub few : length f.states ≤ limit
+  pub extends : Extends start f
+  pub taken : (x : Step S) → Contains yielded x → HasTransition f number x
+
 -- ---- One more state
 
 module _ {S : Type 0} where

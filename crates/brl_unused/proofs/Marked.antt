@@ -1,12 +1,12 @@
 -- Live states are marked one by one.
-use Rattle.std.proofs.Common.{◌≡◌, ℕ, zero, suc, ◌+◌, ◌<◌, ◌≤◌, Bool, true, false, not, cond, List, [], ◌∷◌, ◌++◌, length, take, set, get_or, refl, ap, sym, subst, ◌∙◌, arith, Some, Contains, slice_get, ◌⊎◌, ◌↔◌, inl, inr, append-nil, append_assoc, length-append}
+use Rattle.std.proofs.Common.{◌≡◌, ℕ, zero, suc, ◌+◌, ◌<◌, ◌≤◌, Bool, true, false, not, cond, List, [], ◌∷◌, ◌++◌, length, take, set, refl, ap, sym, subst, ◌∙◌, arith, Some, Contains, slice_get, ◌⊎◌, ◌↔◌, inl, inr, append-nil, append_assoc, length-append, get_or}
 use Rattle.std.specs.Global.{Vec}
 use Rattle.std.proofs.Math.ListN.{length-set}
 use Rattle.std.proofs.lemmas.List.Elements.{Contains-append_left, Contains-append_right, Contains-append_cases, Contains-push, Contains-push_cases}
 use Rattle.std.proofs.lemmas.List.Sums.{sum_by-cons}
-use Rattle.std.proofs.lemmas.Option.{slice_get_read, slice_get_within}
+use Rattle.std.proofs.lemmas.Option.{slice_get_within, slice_get_read}
 use Rattle.brl_pairs.proofs.Lists.{inside, push_cases, three_ways, same_place, set_cases}
-use Rattle.brl_pairs.proofs.Listing.{at-in, in-Contains}
+use Rattle.brl_pairs.proofs.Numbered.{contained}
 use Rattle.brl_unused.specs.Graph.{AreAscending, AreLive, AreWithin, IsLive, final, step}
 use Rattle.brl_unused.specs.Marking.{AreBefore, AreMarked, AreTaken, Leads, Marks, unmarked}
 use Rattle.brl_unused.specs.declared.graph.Transition.{Transition}
@@ -95,10 +95,6 @@ module _ (states : List ℕ) (live : List Bool) (queue : List ℕ) (live' : List
 
 -- ---- The queue
 
--- what is at a place is in the list
-pub member : {X : Type 0} (xs : List X) (k : ℕ) (x : X) → slice_get xs k ≡ Some x → Contains xs x
-member xs k x at = in-Contains x xs (at-in x xs k at)
-
 pub taken-next : (queue more : List ℕ) (next state : ℕ) → slice_get queue next ≡ Some state → take (next + 1) (queue ++ more) ≡ take next queue ++ state ∷ []
 taken-next [] more next state at = cc
 taken-next (q ∷ qs) more zero state at = let is : q ≡ state = cc in ap (λ n. n ∷ []) is
@@ -108,6 +104,19 @@ taken-next (q ∷ qs) more (suc next) state at =
 
 module _ (ends : List Bool) (transitions : List Transition) (before : List (Vec ℕ)) (are : AreBefore (length ends) transitions before) (within : AreWithin (length ends) transitions) where
   module _ (live : List Bool) (queue : List ℕ) (marked : AreMarked ends transitions live queue) where
+    -- there is a list of the states before a state of the queue
+    pub low : (next state : ℕ) → slice_get queue next ≡ Some state → state < length before
+    low next state at =
+        let on = slice_get_within live state true (marked.marked state (contained queue next state at)) in
+        omega (arith, on, marked.many, are.many)
+
+    -- the next state of the queue, and the list of the states before it
+    pub next_there : (next state : ℕ) (states : Vec ℕ) → next < length queue → state ≡ get_or queue next state → states ≡ get_or before state states
+        → (slice_get queue next ≡ Some state) × (slice_get before state ≡ Some states)
+    next_there next state states within_queue is states_are =
+        let at = slice_get_read queue (length queue) next state refl within_queue is in
+        (at, slice_get_read before (length before) state states refl (low next state at) states_are)
+
     -- the states before the next one are marked
     module _ (next state : ℕ) (states : Vec ℕ) (at : slice_get queue next ≡ Some state) (there : slice_get before state ≡ Some states)
         (taken : AreTaken before live (take next queue)) (live' : List Bool) (queue' : List ℕ) (m : Marks states.items live queue live' queue') where
@@ -119,7 +128,7 @@ module _ (ends : List Bool) (transitions : List Transition) (before : List (Vec 
           | inl k ↦ marked.live_ones s k
           | inr k ↦
               let led = are.others state s states there k.0 in
-              let on = marked.live_ones state (marked.marked state (member queue next state at)) in
+              let on = marked.live_ones state (marked.marked state (contained queue next state at)) in
               subst (IsLive ends transitions) led.leaves (step led.one (subst (IsLive ends transitions) (sym led.enters) on))
         ];
         queued = λ s h. elim (m.only s h) [
@@ -242,7 +251,7 @@ module _ (marks : List Bool) (mark : Bool) (places : List ℕ) (next : ℕ) (are
       | inr end ↦ absurd (let place = end.0 in let within = slice_get_within places j b early in omega (arith, less, place, within))
     ]
     | inr late ↦ elim (push_cases places next i a a_at) [
-      | inl first ↦ (let low = ((are a).0 (member places i a first)).0 in let same = late.1 in omega (arith, low, same))
+      | inl first ↦ (let low = ((are a).0 (contained places i a first)).0 in let same = late.1 in omega (arith, low, same))
       | inr end ↦ absurd (let place = end.0 in let other = late.0 in omega (arith, less, place, other))
     ]
   ]
@@ -254,14 +263,3 @@ ascending-none i j a b less a_at b_at = absurd (let within = slice_get_within []
 pub places-all : (marks : List Bool) (mark : Bool) (places : List ℕ) (next : ℕ) → length marks ≤ next → ((place : ℕ) → Contains places place ↔ ((place < next) × (slice_get marks place ≡ Some mark)))
     → (place : ℕ) → Contains places place ↔ (slice_get marks place ≡ Some mark)
 places-all marks mark places next all are place = (λ h. ((are place).0 h).1, λ h. (are place).1 (let within = slice_get_within marks place mark h in (omega (arith, all, within), h)))
-
--- what is read at a place below the length is there
-pub read : {X : Type 0} (xs : List X) (i : ℕ) (x : X) → i < length xs → x ≡ get_or xs i x → slice_get xs i ≡ Some x
-read xs i x within is = slice_get_read xs (length xs) i x refl within is
-
-pub read-taken : {X : Type 0} (xs : List X) (i : ℕ) (x : X) → slice_get xs i ≡ Some x → take (i + 1) xs ≡ take i xs ++ x ∷ []
-read-taken [] i x at = cc
-read-taken (y ∷ ys) zero x at = let is : y ≡ x = cc in ap (λ z. z ∷ []) is
-read-taken (y ∷ ys) (suc i) x at =
-    let e : suc i + 1 ≡ suc (i + 1) = omega arith in
-    ap (λ n. take n (y ∷ ys)) e ∙ ap (λ zs. y ∷ zs) (read-taken ys i x at)

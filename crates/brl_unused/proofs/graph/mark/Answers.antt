@@ -2,13 +2,15 @@ use Rattle.std.proofs.Common.{◌≡◌, ◌∙◌, ◌<◌, ◌++◌, ◌∷◌
 use Rattle.std.specs.List.{Contains}
 use Rattle.std.proofs.lemmas.Option.{slice_get-get_or, slice_get_read}
 use Rattle.brl_unused.specs.Marking.{Marks}
-use Rattle.brl_unused.proofs.Marked.{marks-again, marks-new, member, read-taken}
+use Rattle.brl_unused.proofs.Marked.{marks-again, marks-new}
 use Rattle.brl_unused.proofs.graph.mark.Goals as goal
 use Rattle.brl_unused.proofs.graph.mark.Goals.{then-not-index+in_ok-push, else-not-index}
+use Rattle.brl_pairs.proofs.Numbered.{contained}
+use Rattle.brl_pairs.proofs.Lists.{take-got}
 
 -- the state with an index is one of those that the list has room for
 within-count : (states : List ℕ) (i count : ℕ) → i < length states → ((state : ℕ) → Contains states state → state < count) → get_or states i 0 < count
-within-count states i count less all = all (get_or states i 0) (member states i (get_or states i 0) (slice_get-get_or states i 0 less))
+within-count states i count less all = all (get_or states i 0) (contained states i (get_or states i 0) (slice_get-get_or states i 0 less))
 
 pub index-requires : goal.index-requires
 index-requires c =
@@ -24,7 +26,7 @@ loop-state-preserved c =
     let i = c.loop-state.state-index in
     let state = get_or states i 0 in
     let at = slice_get-get_or states i 0 c.loop-state-test.true in
-    let within : state < length c.loop-state.live.items = (let low = c.requires state (member states i state at) in omega (arith, low, c.loop-state.invariant.many)) in
+    let within : state < length c.loop-state.live.items = (let low = c.requires state (contained states i state at) in omega (arith, low, c.loop-state.invariant.many)) in
     let so_far = c.loop-state.invariant in
     let live = c.loop-state.live.items in
     let queue = c.loop-state.queue.items in
@@ -40,4 +42,4 @@ loop-state-preserved c =
           (subst (λ (q : List ℕ). Marks (take i states ++ state ∷ []) c.args.live.now.items c.args.queue.now.items live q) (sym (ap (λ v. v.items) w.queue-is))
           (marks-again (take i states) c.args.live.now.items c.args.queue.now.items live queue so_far state (here ∙ ap Some w.if-not-index.false)))
     ] in
-    subst (λ (xs : List ℕ). Marks xs c.args.live.now.items c.args.queue.now.items c.if-not-index.live.items c.if-not-index.queue.items) (sym (read-taken states i state at)) marks
+    subst (λ (xs : List ℕ). Marks xs c.args.live.now.items c.args.queue.now.items c.if-not-index.live.items c.if-not-index.queue.items) (sym (take-got states i state at)) marks

@@ -3,9 +3,10 @@ use Rattle.std.proofs.lemmas.Option.{slice_get-get_or}
 use Rattle.brl_unused.specs.Exploring.{AreMarkedBy}
 use Rattle.brl_unused.specs.declared.graph.Transition.{Transition}
 use Rattle.brl_unused.proofs.Exploring.{mark-nothing, mark-rule}
-use Rattle.brl_unused.proofs.Marked.{member, read-taken}
 use Rattle.brl_unused.proofs.taken.mark_rules.Goals as goal
 use Rattle.brl_unused.proofs.taken.mark_rules.Goals.{then-rule-rules+then-live-transition, else-rule-rules, else-rule-rules-via-then-rule-rules+else-live-transition, else-rule-rules-via-else-rule-rules}
+use Rattle.brl_pairs.proofs.Numbered.{contained}
+use Rattle.brl_pairs.proofs.Lists.{take-got}
 
 none : Transition
 none = record { from = 0; rule = 0; to = 0 }
@@ -16,7 +17,7 @@ bounds-live-transition c =
     let ts = c.args.transitions.now in
     let i = c.loop-transition.transition-index in
     let at = slice_get-get_or ts i none c.loop-transition-test.true in
-    c.requires (get_or ts i none) (member ts i (get_or ts i none) at)
+    c.requires (get_or ts i none) (contained ts i (get_or ts i none) at)
 
 pub loop-transition-preserved : goal.loop-transition-preserved
 unfolding none
@@ -27,7 +28,7 @@ loop-transition-preserved c =
     let t = get_or ts i none in
     let at = slice_get-get_or ts i none c.loop-transition-test.true in
     let marks = c.loop-transition.marks.items in
-    let within : t.to < length live = c.requires t (member ts i t at) in
+    let within : t.to < length live = c.requires t (contained ts i t at) in
     let read = slice_get-get_or live t.to false within in
     let more : AreMarkedBy (take i ts ++ t ∷ []) live c.args.rules c.if-rule-rules.marks.items =
     elim c.if-rule-rules.branch [
@@ -42,7 +43,7 @@ loop-transition-preserved c =
             | else-rule-rules-via-else-rule-rules v ↦ (let high = v.if-rule-rules.false in omega (arith, low, high))
           ]))
     ] in
-    subst (λ (xs : List Transition). AreMarkedBy xs live c.args.rules c.if-rule-rules.marks.items) (sym (read-taken ts i t at)) more
+    subst (λ (xs : List Transition). AreMarkedBy xs live c.args.rules c.if-rule-rules.marks.items) (sym (take-got ts i t at)) more
   where
     differ : (b : Bool) → b ≡ false → Some b ≡ Some true → ⊥
     differ b is_false is_true = cc

@@ -1,15 +1,11 @@
-use Rattle.std.proofs.Common.{◌≡◌, ◌∙◌, Bool, Contains, List, Result, Ok, Err, ap, arith, length, map, subst}
-use Rattle.std.specs.Prelude.{IfOk}
+use Rattle.std.proofs.Common.{◌≡◌, ◌∙◌, Bool, Contains, List, ap, arith, length, map, subst}
 use Rattle.std.proofs.lemmas.List.{length-map}
+use Rattle.std.proofs.lemmas.Result.{IfOk-weaker}
 use Rattle.brl_unused.specs.Exploring.{AreMarkedBy}
 use Rattle.brl_unused.specs.Graph.{AreLive}
 use Rattle.brl_unused.specs.declared.graph.Transition.{Transition}
 use Rattle.brl_unused.proofs.Exploring.{marked_taken, within}
 use Rattle.brl_unused.proofs.taken.marks_of.Goals as goal
-
-if_ok : {A E : Type 0} (P Q : A → Type 0) (r : Result A E) → IfOk r P → ((x : A) → P x → Q x) → IfOk r Q
-if_ok P Q (Ok x) h then = then x h
-if_ok P Q (Err e) h then = tt
 
 pub live_states-requires-clause-within : goal.live_states-requires-clause-within
 live_states-requires-clause-within g c = λ t one.
@@ -38,7 +34,7 @@ returns g c =
     let are : AreLive (map m.ends f.states) f.transitions.items c.in_ok-live.live.items =
     subst (λ (es : List Bool). AreLive es f.transitions.items c.in_ok-live.live.items) ends
     (subst (λ (ts : List Transition). AreLive c.as_slice-2.result.now ts c.in_ok-live.live.items) c.as_slice-transitions.ensures.value c.in_ok-live.ensures) in
-    if_ok _ _ c.mark_rules.result c.mark_rules.ensures (λ marked by.
+    IfOk-weaker c.mark_rules.result _ _ (λ marked by.
     marked_taken m f c.requires.all c.in_ok-live.live.items are c.args.rules marked.items
     (subst (λ (ts : List Transition). AreMarkedBy ts c.in_ok-live.live.items c.args.rules marked.items) c.as_slice-transitions.ensures.value
-    (subst (λ (live : List Bool). AreMarkedBy c.as_slice-transitions.result.now live c.args.rules marked.items) c.as_slice-3.ensures.value by)))
+    (subst (λ (live : List Bool). AreMarkedBy c.as_slice-transitions.result.now live c.args.rules marked.items) c.as_slice-3.ensures.value by))) c.mark_rules.ensures
