@@ -1,8 +1,8 @@
 -- Where each step of a text begins: after the characters of the steps before it.
 use Rattle.std.proofs.Common.{ℕ, zero, suc, ◌+◌, ◌<◌, ◌≡◌, ◌∙◌, Bool, true, false, List, [], ◌∷◌, ◌++◌, ◌≤◌, Some, ap, arith, cond, drop, get_or, length, length-drop, nat_lt, refl, subst, sym, take}
 use Rattle.std.specs.Prelude.{slice_get}
-use Rattle.std.proofs.lemmas.Bool.Decides.{nat_tests}
 use Rattle.std.proofs.lemmas.Option.{slice_get-get_or}
+use Rattle.std.proofs.lemmas.Bool.{ltb-true}
 use Rattle.brl_rules.specs.TableView.{TableView}
 use Rattle.brl_rules.specs.Choice.{chosen}
 use Rattle.brl_rules.specs.Text.{classes_before, context_after_all, context_at}
@@ -25,9 +25,6 @@ module _ (t : TableView) (text : List ℕ) where
   abbrev pub StandsAt : Traced → ℕ → Type 0
   StandsAt step i = (step ≡ step_at t text i) × (i < length text)
 
-  in_text : (i n : ℕ) → nat_lt i n ≡ true → i < n
-  in_text i n h = grind (arith, nat_tests)
-
   same : (x y : Traced) → Some x ≡ Some y → y ≡ x
   same x y is = cc
 
@@ -45,7 +42,7 @@ module _ (t : TableView) (text : List ℕ) where
   from : (n i k : ℕ) (step : Traced) → slice_get (steps_from t text n i) k ≡ Some step → StandsAt step (i + taken_by (take k (steps_from t text n i)))
   from zero i k step is = cc
   from (suc n) i k step is =
-      among (nat_lt i (length text)) i k (steps_from t text n (i + (chosen_at t text i).taken)) step (in_text i (length text))
+      among (nat_lt i (length text)) i k (steps_from t text n (i + (chosen_at t text i).taken)) step (ltb-true i (length text))
       (λ j there. from n (i + (chosen_at t text i).taken) j step there) is
 
   -- the step with a number begins after the characters of those before it

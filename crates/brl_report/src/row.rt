@@ -2,21 +2,9 @@
 ghost use Rattle.std.specs.Prelude.{◌≡◌, ◌<◌, ◌++◌, IfOk, OnOk, Some, length, map, option_map, slice_get, string_bytes, take, drop};
 ghost use Rattle.brl_lines.specs.Views.{line_view};
 ghost use Rattle.brl_report.specs.Place.{place_text};
-ghost use Rattle.brl_report.specs.Rows.{
-  cells_or_none,
-  column,
-  column_if,
-  columns_line,
-  filled,
-  indicators_column,
-  place_of_rule,
-  row_line,
-  row_of,
-  rule_cells,
-  widths_of,
-};
+ghost use Rattle.brl_report.specs.Rows.{cells_or_none, column, column_if, columns_line, filled, indicators_column, place_of_rule, row_line, row_of, rule_cells, widths_of};
 
-use crate::sources::step_sources;
+use crate::rules::Lined;
 use crate::steps::ReportStep;
 use brl_cells::{Cell, write_dots};
 use brl_lines::{Line, spell_chars};
@@ -146,12 +134,17 @@ impl Row {
     ) -> Result<Row, AllocError>
         ensures { IfOk result (λ row. row ≡ row_of table.now (map line_view lines.now) columns step.now) }
     {
+        let lined = Lined {
+            alloc,
+            table,
+            lines,
+        };
         Ok(Row {
             characters: spell_chars(alloc, step.characters.as_slice())?,
             indicators: indicators_column(alloc, columns, step)?,
             dots: write_dots(alloc, rule_cells(columns, step))?,
             place: place_of(alloc, table, step)?,
-            sources: step_sources(alloc, table, lines, step)?,
+            sources: lined.step_sources(step)?,
         })
     }
 

@@ -4,19 +4,7 @@ ghost use Rattle.std.specs.Str.{bytes_eq};
 ghost use Rattle.brl_lines.specs.Views.{line_view};
 ghost use Rattle.brl_table.specs.Liblouis.{origin_of as origin_of_opcode};
 ghost use Rattle.brl_table.specs.Survey.{faulty_line_view, findings_view};
-ghost use Rattle.brl_report.specs.Survey.{
-  IsSurveyText,
-  characters_note,
-  count_line,
-  fault_line,
-  faulty_in,
-  file_line,
-  lines_in,
-  origin_note,
-  pass_note,
-  read_in_file,
-  read_line,
-};
+ghost use Rattle.brl_report.specs.Survey.{IsSurveyText, characters_note, count_line, fault_line, faulty_in, file_line, lines_in, origin_note, pass_note, read_in_file, read_line};
 
 use crate::counts::{OpcodeCount, counts_of};
 use brl_lines::Line;

@@ -2,14 +2,7 @@
 ghost use Rattle.std.specs.Prelude.{◌≡◌, ◌++◌, IfOk, OnOk, flat_map, length, map, string_bytes};
 ghost use Rattle.std.specs.Option.{option_map_or};
 ghost use Rattle.brl_lines.specs.Views.{line_view};
-ghost use Rattle.brl_report.specs.Unused.{
-  first_rule as rule_of_first_step,
-  in_place_note,
-  rule_in_place as rule_chosen_in_place,
-  unused_count,
-  unused_line,
-  unused_text,
-};
+ghost use Rattle.brl_report.specs.Unused.{first_rule as rule_of_first_step, in_place_note, rule_in_place as rule_chosen_in_place, unused_count, unused_line, unused_text};
 
 use crate::rules::{Lined, RuleForm, rule_count};
 use brl_failure::Failure;
@@ -31,54 +24,39 @@ pub fn unused_report(
 ) -> Result<String, AllocError>
     ensures { IfOk result (λ text. string_bytes text ≡ unused_text table.now (map line_view lines.now) numbers.now) }
 {
+    let lined = Lined {
+        alloc,
+        table,
+        lines,
+    };
     let mut text = String::new(alloc);
     for number in numbers {
-        push_unused(alloc, table, lines, *number, &mut text)?;
+        lined.push_unused(*number, &mut text)?;
     }
     push_count(numbers.len(), rule_count(table), &mut text)?;
     Ok(text)
 }
 
-/// Appends the line of an unused rule.
-fn push_unused(
-    alloc: Global,
-    table: &Table,
-    lines: &[Line<'_>],
-    number: u32,
-    text: &mut String,
-) -> Result<(), AllocError>
-    ensures { OnOk result (string_bytes text.new ≡ string_bytes text.old ++ unused_line table.now (map line_view lines.now) number) }
-{
-    let lined = Lined {
-        alloc,
-        table,
-        lines,
-    };
-    lined.push_rule(number, RuleForm::Entry, text)?;
-    push_in_place(alloc, table, lines, number, text)?;
-    text.push('\n')
-}
+impl Lined<'_> {
+    /// Appends the line of an unused rule.
+    fn push_unused(&self, number: u32, text: &mut String) -> Result<(), AllocError>
+        ensures { OnOk result (string_bytes text.new ≡ string_bytes text.old ++ unused_line self.now.table.now (map line_view self.now.lines.now) number) }
+    {
+        self.push_rule(number, RuleForm::Entry, text)?;
+        self.push_in_place(number, text)?;
+        text.push('\n')
+    }
 
-/// Appends the rule that is chosen in place of the one with a number.
-fn push_in_place(
-    alloc: Global,
-    table: &Table,
-    lines: &[Line<'_>],
-    number: u32,
-    text: &mut String,
-) -> Result<(), AllocError>
-    ensures { OnOk result (string_bytes text.new ≡ string_bytes text.old ++ in_place_note table.now (map line_view lines.now) number) }
-{
-    let Some(other) = rule_in_place(alloc, table, number)? else {
-        return Ok(());
-    };
-    text.push_str("  in its place:")?;
-    let lined = Lined {
-        alloc,
-        table,
-        lines,
-    };
-    lined.push_rule(other, RuleForm::Note, text)
+    /// Appends the rule that is chosen in place of the one with a number.
+    fn push_in_place(&self, number: u32, text: &mut String) -> Result<(), AllocError>
+        ensures { OnOk result (string_bytes text.new ≡ string_bytes text.old ++ in_place_note self.now.table.now (map line_view self.now.lines.now) number) }
+    {
+        let Some(other) = rule_in_place(self.alloc, self.table, number)? else {
+            return Ok(());
+        };
+        text.push_str("  in its place:")?;
+        self.push_rule(other, RuleForm::Note, text)
+    }
 }
 
 /// The rule that is chosen in place of the one with a number: for its own characters as a text.

@@ -5,4 +5,4 @@ use Rattle.brl_report.proofs.unused.unused_report.Given as goal
 
 -- the lines of the numbers so far
 abbrev pub invariant-loop-number : goal.invariant-loop-number
-invariant-loop-number l = string_bytes l.text ≡ flat_map (unused_line l.table (map line_view l.lines)) (take l.number-index l.numbers)
+invariant-loop-number l = string_bytes l.text ≡ flat_map (unused_line l.table (map line_view l.fn.lines)) (take l.number-index l.numbers)
