@@ -5,20 +5,17 @@ use Rattle.std.specs.Prelude.{◌||◌, ◌==◌, ◌↔◌, nat_eq, slice_get}
 use Rattle.std.specs.Cmp.{booleans_Decides, first_so, second_so}
 use Rattle.std.specs.Cmp.Lexicographic.{bytes_decides, pointwise}
 use Rattle.std.specs.List.{AllZip}
+use Rattle.std.proofs.lemmas.Bool.{false_from_ne_true}
 use Rattle.brl_forward.specs.Trace.{trace_of}
 use Rattle.brl_forward.specs.declared.steps.Traced.{Traced}
 use Rattle.brl_pairs.specs.Divergence.{are_rules}
 use Rattle.brl_rules.specs.TableView.{TableView}
 use Rattle.brl_search.specs.Smaller.{are_same_steps, diverge_at}
 use Rattle.brl_search.specs.Traces.{IsSameStep, TracesDivergeAt, begins_in_caps_run, taken}
-use Rattle.brl_search.proofs.Together.{diverging}
+use Rattle.brl_search.proofs.Together.{Diverge, at_once, diverging, one_later}
 
 all-true : (b c d e : Bool) → b ≡ true → c ≡ true → d ≡ true → e ≡ true → (b && c && d && e) ≡ true
 all-true b c d e f g h k = rw (f, g, h, k) refl
-
-is-false : (b : Bool) → (b ≡ true → ⊥) → b ≡ false
-is-false true never = absurd (never refl)
-is-false false never = refl
 
 module _ (t : TableView) (left right : List ℕ) where
   -- ---- Steps
@@ -46,44 +43,17 @@ module _ (t : TableView) (left right : List ℕ) where
 
   -- ---- Traces
 
-  -- two lists of steps begin with the same ones, and go on with two different ones of this pair of
-  -- rules
-  record DivergeAs (pair : ℕ × ℕ) (xs ys : List Traced) : Type 0 where
-    place : ℕ
-    one : Traced
-    other : Traced
-    before : AllZip (IsSameStep t left right) (take place xs) (take place ys)
-    one_there : slice_get xs place ≡ Some one
-    other_there : slice_get ys place ≡ Some other
-    differ : IsSameStep t left right one other → ⊥
-    rules : are_rules one.rule other.rule pair ≡ true
+  -- the first steps that differ are those of this pair of rules
+  abbrev AreOf : ℕ × ℕ → Traced → Traced → Type 0
+  AreOf pair one other = are_rules one.rule other.rule pair ≡ true
 
   by-first : (pair : ℕ × ℕ) (x y : Traced) (xs ys : List Traced) (b : Bool) → are_same_steps t left right x y ≡ b
-      → cond b (diverge_at t left right pair xs ys) (are_rules x.rule y.rule pair) ≡ true → (diverge_at t left right pair xs ys ≡ true → DivergeAs pair xs ys) → DivergeAs pair (x ∷ xs) (y ∷ ys)
-  by-first pair x y xs ys true test h more =
-      let rest = more h in
-      record {
-        place = suc rest.place;
-        one = rest.one;
-        other = rest.other;
-        before = (same-from_test x y test, rest.before);
-        one_there = rest.one_there;
-        other_there = rest.other_there;
-        differ = rest.differ;
-        rules = rest.rules;
-      }
-  by-first pair x y xs ys false test h more = record {
-    place = 0;
-    one = x;
-    other = y;
-    before = tt;
-    one_there = refl;
-    other_there = refl;
-    differ = λ same. (let yes = test-from_same x y same in cc);
-    rules = h;
-  }
+      → cond b (diverge_at t left right pair xs ys) (are_rules x.rule y.rule pair) ≡ true → (diverge_at t left right pair xs ys ≡ true → Diverge t left right xs ys (AreOf pair))
+      → Diverge t left right (x ∷ xs) (y ∷ ys) (AreOf pair)
+  by-first pair x y xs ys true test h more = one_later t left right (AreOf pair) x y xs ys (same-from_test x y test) (more h)
+  by-first pair x y xs ys false test h more = at_once t left right (AreOf pair) x y xs ys (λ same. (let yes = test-from_same x y same in cc)) h
 
-  diverge-from_test : (pair : ℕ × ℕ) (xs ys : List Traced) → diverge_at t left right pair xs ys ≡ true → DivergeAs pair xs ys
+  diverge-from_test : (pair : ℕ × ℕ) (xs ys : List Traced) → diverge_at t left right pair xs ys ≡ true → Diverge t left right xs ys (AreOf pair)
   diverge-from_test pair [] ys h = cc
   diverge-from_test pair (x ∷ xs) [] h = cc
   diverge-from_test pair (x ∷ xs) (y ∷ ys) h = by-first pair x y xs ys (are_same_steps t left right x y) refl h (diverge-from_test pair xs ys)
@@ -95,7 +65,7 @@ module _ (t : TableView) (left right : List ℕ) where
   test-from_diverge pair (x ∷ xs) (y ∷ ys) zero one other before there other_there differ rules =
       let first : x ≡ one = cc in
       let second : y ≡ other = cc in
-      let differs : are_same_steps t left right x y ≡ false = is-false (are_same_steps t left right x y) (λ yes. differ (subst₂ (IsSameStep t left right) first second (same-from_test x y yes))) in
+      let differs : are_same_steps t left right x y ≡ false = false_from_ne_true (are_same_steps t left right x y) (λ yes. differ (subst₂ (IsSameStep t left right) first second (same-from_test x y yes))) in
       rw differs (ap (λ (s : Traced). are_rules s.rule y.rule pair) first ∙ ap (λ (s : Traced). are_rules one.rule s.rule pair) second ∙ rules)
   test-from_diverge pair (x ∷ xs) (y ∷ ys) (suc place) one other before there other_there differ rules =
       let rest = test-from_diverge pair xs ys place one other before.1 there other_there differ rules in
@@ -118,7 +88,7 @@ pub traces-diverge : (t : TableView) (pair : ℕ × ℕ) (left right : List ℕ)
 traces-diverge t pair left right = (
   λ test.
       (let at = diverge-from_test t left right pair (trace_of t left) (trace_of t right) test in
-      diverging t (pair ∷ []) left right at.place at.one at.other at.before at.one_there at.other_there at.differ (one-pair (are_rules at.one.rule at.other.rule pair) ∙ at.rules)),
+      diverging t (pair ∷ []) left right at.place at.one at.other at.before at.one_there at.other_there at.differ (one-pair (are_rules at.one.rule at.other.rule pair) ∙ at.are_so)),
   λ at.
       test-from_diverge t left right pair (trace_of t left) (trace_of t right) at.place at.one at.other at.before at.one_there at.other_there at.differ
       (sym (one-pair (are_rules at.one.rule at.other.rule pair)) ∙ at.pair),

@@ -1,8 +1,9 @@
 -- Texts from which some characters are left out.
-use Rattle.std.proofs.Common.{◌≡◌, ◌∙◌, ℕ, zero, suc, ◌+◌, ◌≤◌, Bool, ◌&&◌, true, IsTrue, List, [], ◌∷◌, ◌++◌, inl, inr, length, take, drop, refl, sym, ap, subst, arith}
+use Rattle.std.proofs.Common.{◌≡◌, ◌∙◌, ℕ, zero, suc, ◌+◌, ◌≤◌, Bool, IsTrue, List, [], ◌∷◌, ◌++◌, inl, inr, length, take, drop, refl, sym, ap, subst, arith}
 use Rattle.std.specs.Cmp.{first_so, second_so}
 use Rattle.std.specs.List.{list_all, remove, remove_range}
 use Rattle.std.proofs.lemmas.List.{append-nil, drop_all, take_all}
+use Rattle.std.proofs.lemmas.Bool.{and_from}
 use Rattle.brl_rules.specs.TableView.{TableView}
 use Rattle.brl_rules.specs.Text.{is_defined, is_text}
 use Rattle.brl_search.specs.Small.{IsPartOf}
@@ -42,16 +43,13 @@ part-part (c ∷ text) (d ∷ given) (e ∷ whole) h k =
       | inr rest ↦ inr (part-part (c ∷ text) (d ∷ given) whole h rest)
     ]
 
-both-so : (b c : Bool) → b ≡ true → c ≡ true → (b && c) ≡ true
-both-so b c e f = rw e f
-
 -- what holds of each character of a text holds of each of a part of it
 pub part-all : (p : ℕ → Bool) (text given : List ℕ) → IsPartOf text given → IsTrue (list_all p given) → IsTrue (list_all p text)
 part-all p [] given is all = refl
 part-all p (c ∷ text) [] is all = absurd is
 part-all p (c ∷ text) (d ∷ given) is all =
     elim is [
-      | inl same ↦ both-so (p c) (list_all p text) (ap p same.0 ∙ first_so (p d) (list_all p given) all) (part-all p text given same.1 (second_so (p d) (list_all p given) all))
+      | inl same ↦ and_from (p c) (list_all p text) (ap p same.0 ∙ first_so (p d) (list_all p given) all) (part-all p text given same.1 (second_so (p d) (list_all p given) all))
       | inr rest ↦ part-all p (c ∷ text) given rest (second_so (p d) (list_all p given) all)
     ]
 

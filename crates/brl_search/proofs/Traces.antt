@@ -1,11 +1,10 @@
 -- The steps of a path of the dues machine are those of the trace of what it reads. So where two
 -- paths diverge, the traces of what they read do: steps of one state are one step exactly where they
 -- have one rule and read the same, both in a run of capitals or both out of one.
-use Rattle.std.proofs.Common.{◌≡◌, ◌≢◌, ℕ, zero, suc, ◌+◌, ◌<◌, ◌≤◌, Bool, ◌&&◌, true, false, List, [], ◌∷◌, ◌++◌, inl, inr, Some, length, take, drop, nat_lt, refl, sym, ap, ◌∙◌, subst, subst₂, arith, drop-drop, length-drop}
+use Rattle.std.proofs.Common.{◌≡◌, ◌≢◌, ℕ, zero, suc, ◌+◌, ◌<◌, ◌≤◌, true, List, [], ◌∷◌, ◌++◌, inl, inr, length, take, drop, nat_lt, refl, sym, ap, ◌∙◌, subst, subst₂, arith, drop-drop}
 use Rattle.std.proofs.lemmas.List.{length-append}
-use Rattle.std.specs.Prelude.{slice_get}
 use Rattle.std.specs.List.{AllZip}
-use Rattle.std.proofs.lemmas.Bool.{lt-ltb, le-ltb}
+use Rattle.std.proofs.lemmas.Bool.{and_from}
 use Rattle.brl_pairs.specs.declared.step.Step.{Step}
 use Rattle.brl_pairs.specs.Divergence.{DivergeAt, IsUnambiguousBut, has_rules}
 use Rattle.brl_pairs.specs.Runs.{IsPath, reads_of}
@@ -16,6 +15,7 @@ use Rattle.brl_rules.specs.TableView.{TableView}
 use Rattle.brl_rules.specs.Text.{context_after_all, context_at, is_in_caps_run}
 use Rattle.brl_rules.specs.Translation.{chosen_at}
 use Rattle.brl_rules.proofs.OneByOne.{Translating}
+use Rattle.brl_rules.proofs.PositionAndRest.{in_text, at_end}
 use Rattle.brl_states.specs.declared.dues_state.DuesState.{DuesState}
 use Rattle.brl_states.specs.DuesContext.{context_of}
 use Rattle.brl_dues.specs.Due.{dues_met}
@@ -27,13 +27,7 @@ use Rattle.brl_forward.specs.declared.steps.Traced.{Traced}
 use Rattle.brl_without.specs.Without.{without}
 use Rattle.brl_without.proofs.Paths.{path_within}
 use Rattle.brl_search.specs.Traces.{ClashesDivergeAt, ClashesDivergeAtWithout, IsSameStep, IsTraced, PathsAreTraces, TracesDivergeAsPaths, TracesDivergeAt, begins_in_caps_run}
-use Rattle.brl_search.proofs.Together.{diverging}
-
-in_text : (i : ℕ) (text : List ℕ) (x : ℕ) (rest : List ℕ) → drop i text ≡ x ∷ rest → nat_lt i (length text) ≡ true
-in_text i text x rest e = (let size = sym (length-drop i text) ∙ ap length e in lt-ltb i (length text) (omega (arith, size)))
-
-at_end : (i : ℕ) (text : List ℕ) → drop i text ≡ [] → nat_lt i (length text) ≡ false
-at_end i text e = (let size = sym (length-drop i text) ∙ ap length e in le-ltb i (length text) (omega (arith, size)))
+use Rattle.brl_search.proofs.Together.{Diverge, at_once, diverging, one_later}
 
 -- the context after more characters of a text
 abbrev Further : TableView → Type 0
@@ -145,39 +139,23 @@ module _ (t : TableView) (choosing : Choosing t) (translating : Translating t) (
       let form = one-form t s.before h.form k.form h.is_form k.is_form number reads (sym v.run ∙ same.run ∙ w.run) in
       one-step t s x y h.form k.form h.dues k.dues form h.left k.left h.step k.step
 
-  -- from a state on, the steps of two traces diverge where those of two paths do
-  record Apart (left right : List ℕ) (xs ys : List Traced) (x y : Step DuesState) : Type 0 where
-    place : ℕ
-    one : Traced
-    other : Traced
-    before : AllZip (IsSameStep t left right) (take place xs) (take place ys)
-    one_there : slice_get xs place ≡ Some one
-    other_there : slice_get ys place ≡ Some other
-    differ : IsSameStep t left right one other → ⊥
-    one_rule : x.rule ≡ one.rule
-    other_rule : y.rule ≡ other.rule
+  -- two steps of traces have the rules of two of paths
+  abbrev HaveRules : Step DuesState → Step DuesState → Traced → Traced → Type 0
+  HaveRules x y one other = (x.rule ≡ one.rule) × (y.rule ≡ other.rule)
 
+  -- from a state on, the steps of two traces diverge where those of two paths do
   apart : (left right : List ℕ) (n k i j : ℕ) (s : DuesState) (steps : List (Step DuesState)) (x y : Step DuesState) (path other : List (Step DuesState)) → x ≢ y
       → IsPath (dues_machine t) s (steps ++ x ∷ path) → IsPath (dues_machine t) s (steps ++ y ∷ other) → context_of s ≡ context_at t left i → context_of s ≡ context_at t right j
       → drop i left ≡ reads_of (steps ++ x ∷ path) → drop j right ≡ reads_of (steps ++ y ∷ other) → length (reads_of (steps ++ x ∷ path)) ≤ n → length (reads_of (steps ++ y ∷ other)) ≤ k
-      → Apart left right (steps_from t left n i) (steps_from t right k j) x y
+      → Diverge t left right (steps_from t left n i) (steps_from t right k j) (HaveRules x y)
   apart left right zero k i j s [] x y path other differ p q here there rest tail few small = (let size = (walked left i s x path p here rest).fewer in absurd (omega (arith, few, size)))
   apart left right (suc n) zero i j s [] x y path other differ p q here there rest tail few small = (let size = (walked right j s y other q there tail).fewer in absurd (omega (arith, small, size)))
   apart left right (suc n) (suc k) i j s [] x y path other differ p q here there rest tail few small =
       let v = walked left i s x path p here rest in
       let w = walked right j s y other q there tail in
       rw (v.within, w.within)
-      record {
-        place = 0;
-        one = step_at t left i;
-        other = step_at t right j;
-        before = tt;
-        one_there = refl;
-        other_there = refl;
-        differ = λ same. differ (step-from_same left right i j s x y path other v w same);
-        one_rule = v.traced.rule;
-        other_rule = w.traced.rule;
-      }
+      (at_once t left right (HaveRules x y) (step_at t left i) (step_at t right j) (steps_from t left n (i + (chosen_at t left i).taken)) (steps_from t right k (j + (chosen_at t right j).taken))
+      (λ same. differ (step-from_same left right i j s x y path other v w same)) (v.traced.rule, w.traced.rule))
   apart left right zero k i j s (z ∷ steps) x y path other differ p q here there rest tail few small = (let size = (walked left i s z (steps ++ x ∷ path) p here rest).fewer in absurd (omega (arith, few, size)))
   apart left right (suc n) zero i j s (z ∷ steps) x y path other differ p q here there rest tail few small =
       (let size = (walked right j s z (steps ++ y ∷ other) q there tail).fewer in absurd (omega (arith, small, size)))
@@ -189,17 +167,8 @@ module _ (t : TableView) (choosing : Choosing t) (translating : Translating t) (
       let more = apart left right n k (i + (chosen_at t left i).taken) (j + (chosen_at t right j).taken) z.next steps x y path other differ p.1 q.1 v.next w.next v.left w.left
       (omega (arith, v_size, few)) (omega (arith, w_size, small)) in
       rw (v.within, w.within)
-      record {
-        place = suc more.place;
-        one = more.one;
-        other = more.other;
-        before = (same-step left right i j s z (steps ++ x ∷ path) (steps ++ y ∷ other) v w, more.before);
-        one_there = more.one_there;
-        other_there = more.other_there;
-        differ = more.differ;
-        one_rule = more.one_rule;
-        other_rule = more.other_rule;
-      }
+      (one_later t left right (HaveRules x y) (step_at t left i) (step_at t right j) (steps_from t left n (i + (chosen_at t left i).taken)) (steps_from t right k (j + (chosen_at t right j).taken))
+      (same-step left right i j s z (steps ++ x ∷ path) (steps ++ y ∷ other) v w) more)
 
   -- the traces of what two paths read diverge where the paths do
   pub diverge-as-paths : TracesDivergeAsPaths t
@@ -220,10 +189,7 @@ module _ (t : TableView) (choosing : Choosing t) (translating : Translating t) (
       let r = apart left right (length left) (length right) 0 0 start at.before at.one at.other at.first_rest at.second_rest at.differ is_one is_other refl refl left_reads right_reads
       (omega (arith, left_size)) (omega (arith, right_size)) in
       diverging t rules left right r.place r.one r.other r.before r.one_there r.other_there r.differ
-      (ap (λ m. has_rules rules m r.other.rule) (sym r.one_rule) ∙ ap (has_rules rules at.one.rule) (sym r.other_rule) ∙ diverge.1)
-
-both-true : (b c : Bool) → b ≡ true → c ≡ true → (b && c) ≡ true
-both-true b c e f = rw e f
+      (ap (λ m. has_rules rules m r.other.rule) (sym r.are_so.0) ∙ ap (has_rules rules at.one.rule) (sym r.are_so.1) ∙ diverge.1)
 
 module _ (t : TableView) (as_paths : TracesDivergeAsPaths t) (rules : List (ℕ × ℕ)) where
   -- texts that two paths read, where these diverge
@@ -241,7 +207,7 @@ module _ (t : TableView) (as_paths : TracesDivergeAsPaths t) (rules : List (ℕ 
 
   pub clashes-diverge-without : (left_out : List ℕ) → IsUnambiguousBut rules (without left_out (dues_machine t)) → ClashesDivergeAtWithout left_out rules t
   clashes-diverge-without left_out but left right is_left is_right left_none right_none same =
-      elim (but left right (both-true _ _ is_left left_none) (both-true _ _ is_right right_none) same) [
+      elim (but left right (and_from _ _ is_left left_none) (and_from _ _ is_right right_none) same) [
         | inl one ↦ inl one
         | inr h ↦ (
             let m = dues_machine t in

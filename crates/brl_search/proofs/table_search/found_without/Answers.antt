@@ -8,8 +8,10 @@ use Rattle.brl_closure.specs.Deciding.{IsClashOf}
 use Rattle.brl_rules.specs.TableView.{TableView}
 use Rattle.brl_without.specs.Tables.{IsClashWithout, IsUnambiguousWithout}
 use Rattle.brl_without.specs.Without.{without}
-use Rattle.brl_search.proofs.TableSearch.{clash_of_machine, clash_without, none_of_machine}
+use Rattle.brl_search.proofs.TableSearch.{clash_of_machine, clash_without, found_is, none_of_machine}
 use Rattle.brl_closure.proofs.TwoRuns.{no_limit}
+use Rattle.brl_search.specs.declared.table_search.Found.TheVariants.{Certified, Clashing, Limit}
+use Rattle.brl_states.specs.declared.cert.Cert.TheVariants.{Word}
 use Rattle.brl_search.proofs.table_search.found_without.Goals as goal
 
 -- two paths with the same cells show a clash of the machine without some characters
@@ -43,23 +45,10 @@ returns-in-Closed-clause-found c limit outcome =
     let closed : IsClosed (without m.left_out (dues_machine m.machine)) (sets_of body) =
     subst₂ (λ (cs : List ℕ) (u : TableView). IsClosed (without cs (dues_machine u)) (sets_of body)) (sym c.new-machine.ensures.left_out) (sym (c.new-machine.ensures.machine ∙ c.new-dues.ensures.table)) certified.closed in
     let machine : IsUnambiguous (without m.left_out (dues_machine m.machine)) = c.numbered_sets_law.ensures (slice_get body.states) (pair_at body) closed in
-    record {
-      closed = certified.closed;
-      unambiguous = subst (IsUnambiguousWithout left_out) c.new-dues.ensures.table
-          ((c.unambiguous_without_law.ensures left_out).0
-          (subst₂ (λ (cs : List ℕ) (u : TableView). IsUnambiguous (without cs (dues_machine u))) c.new-machine.ensures.left_out c.new-machine.ensures.machine machine));
-      states = certified.states;
-      pairs = certified.pairs;
-      within = certified.within;
-      order = certified.order;
-      clash = tt;
-      passed = tt;
-      by_one = tt;
-      states_reached = tt;
-      pairs_reached = tt;
-      decides = λ few_states few_pairs. tt;
-      certifies = λ few_states few_pairs single. tt;
-    }
+    let single : IsUnambiguousWithout left_out t = subst (IsUnambiguousWithout left_out) c.new-dues.ensures.table
+    ((c.unambiguous_without_law.ensures left_out).0
+    (subst₂ (λ (cs : List ℕ) (u : TableView). IsUnambiguous (without cs (dues_machine u))) c.new-machine.ensures.left_out c.new-machine.ensures.machine machine)) in
+    found_is (without left_out (dues_machine t)) (IsUnambiguousWithout left_out t) (λ clash. IsClashWithout left_out t clash.left clash.right clash.cells) limit (Certified (Word body)) (certified, single) tt tt (λ few_states few_pairs single. tt)
 
 pub returns-in_ok-clash-in-BothEnd-clause-found : goal.returns-in_ok-clash-in-BothEnd-clause-found
 returns-in_ok-clash-in-BothEnd-clause-found c limit outcome =
@@ -73,40 +62,15 @@ returns-in_ok-clash-in-BothEnd-clause-found c limit outcome =
     let clash : IsClashWithout left_out t found.left found.right found.cells =
     clash_without left_out t left right found c.in_ok-clash-in-BothEnd.ensures.left c.in_ok-clash-in-BothEnd.ensures.right
     (none_of_machine left_out t left right shown) c.in_ok-clash-in-BothEnd.ensures.clash in
-    record {
-      closed = tt;
-      unambiguous = tt;
-      states = tt;
-      pairs = tt;
-      within = tt;
-      order = tt;
-      clash = clash;
-      passed = tt;
-      by_one = tt;
-      states_reached = tt;
-      pairs_reached = tt;
-      decides = λ few_states few_pairs. tt;
-      certifies = λ few_states few_pairs single.
-          (let is = clash.clash in
-          is.differ (single found.left found.right is.left_text is.right_text clash.left_without clash.right_without (is.left_cells ∙ sym is.right_cells)));
-    }
+    found_is (without left_out (dues_machine t)) (IsUnambiguousWithout left_out t) (λ other. IsClashWithout left_out t other.left other.right other.cells) limit (Clashing found) tt clash tt
+    (λ few_states few_pairs single.
+    let is = clash.clash in
+    is.differ (single found.left found.right is.left_text is.right_text clash.left_without clash.right_without (is.left_cells ∙ sym is.right_cells)))
 
 pub returns-in-Limit-clause-found : goal.returns-in-Limit-clause-found
 returns-in-Limit-clause-found c limit outcome =
     let m = without c.args.left_out.now (dues_machine c.args.table.now) in
     let passed : IsLimit m limit c.in-Limit.states c.in-Limit.pairs = rw c.in-Limit.is at outcome in
-    record {
-      closed = tt;
-      unambiguous = tt;
-      states = tt;
-      pairs = tt;
-      within = tt;
-      order = tt;
-      clash = tt;
-      passed = passed.passed;
-      by_one = (passed.few_states, passed.few_pairs);
-      states_reached = passed.states_reached;
-      pairs_reached = passed.pairs_reached;
-      decides = λ few_states few_pairs. no_limit m limit c.in-Limit.states c.in-Limit.pairs few_states few_pairs passed;
-      certifies = λ few_states few_pairs single. absurd (no_limit m limit c.in-Limit.states c.in-Limit.pairs few_states few_pairs passed);
-    }
+    let t = c.args.table.now in
+    found_is m (IsUnambiguousWithout c.args.left_out.now t) (λ clash. IsClashWithout c.args.left_out.now t clash.left clash.right clash.cells) limit (Limit c.in-Limit.states c.in-Limit.pairs) tt tt passed
+    (λ few_states few_pairs single. absurd (no_limit m limit c.in-Limit.states c.in-Limit.pairs few_states few_pairs passed))
