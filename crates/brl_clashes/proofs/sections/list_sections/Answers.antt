@@ -32,36 +32,33 @@ section_of t left_out limit place s kinds later characters without kinds_are kep
       clashes = subst (λ (lo : List ℕ). AreClashes lo t limit s.found) all found;
     }
 
+-- each section is one of the table, and so is that of the next kind: of the kinds as they are listed, of
+-- what is left of them, and of the characters that are kept
+each_after : (t : TableView) (left_out : List ℕ) (limit place : ℕ) (sections after : List Section) (s : Section) (own kinds again : List Kind) (letters characters left without : List ℕ)
+    → length sections ≡ place → after ≡ sections ++ s ∷ [] → ((p : ℕ) (x : Section) → slice_get sections p ≡ Some x → IsSection t left_out limit p x)
+    → own ≡ or_letter (kinds_among t letters) → letters ≡ left → left ≡ kept t left_out → kinds ≡ own → again ≡ own → characters ≡ left → slice_get kinds place ≡ Some s.kind
+    → without ≡ left_out ++ of_kinds t (take (length again - (place + 1)) (drop (place + 1) again)) characters → AreClashes without t limit s.found
+    → (p : ℕ) (x : Section) → slice_get after p ≡ Some x → IsSection t left_out limit p x
+each_after t left_out limit place sections after s own kinds again letters characters left without at pushed each own_are letters_are left_are kinds_are again_are characters_are there without_are found =
+    let all_kinds = own_are ∙ ap (λ (cs : List ℕ). or_letter (kinds_among t cs)) (letters_are ∙ left_are) in
+    let later = rest_of (place + 1) again ∙ ap (drop (place + 1)) (again_are ∙ sym kinds_are) in
+    each_more t left_out limit place sections after s at pushed each
+    (section_of t left_out limit place s kinds (take (length again - (place + 1)) (drop (place + 1) again)) characters without (kinds_are ∙ all_kinds) (characters_are ∙ left_are) there later without_are found)
+
 pub loop-place-preserved : goal.loop-place-preserved
 loop-place-preserved g c =
-    let t = c.args.table.now in
-    let left_out = c.args.scope.left_out.now in
-    let place = c.loop-place.place in
     let s = c.in_ok-section.section in
-    let sections = c.loop-place.sections.items in
-    let kinds_are = c.in_ok-kinds.ensures ∙ ap (λ (cs : List ℕ). or_letter (kinds_among t cs)) (c.as_slice.ensures.value ∙ c.in_ok-kept.ensures) in
-    let there = slice_get-get_or c.deref-kind-items.result.now place _ c.loop-place-test.true ∙ ap Some (sym c.in_ok-section.ensures.kind) in
-    let new = section_of t left_out c.args.limit place s c.deref-kind-items.result.now _ c.as_slice-in-loop-place.result.now c.in_ok-without.without (c.deref-kind-items.ensures.value ∙ kinds_are)
-    (c.as_slice-in-loop-place.ensures.value ∙ c.in_ok-kept.ensures) there (rest_of (place + 1) c.deref.result.now ∙ ap (drop (place + 1)) (c.deref.ensures.value ∙ sym c.deref-kind-items.ensures.value)) c.in_ok-without.ensures c.in_ok-section.ensures.found in
-    let whole = sym c.is_whole-whole.ensures ∙ c.if-not-whole.false in (
-      omega (arith, c.in_ok-push.ensures.len, c.loop-place.invariant.0),
-      ap are_whole c.in_ok-push.ensures.items ∙ whole_more sections s c.loop-place.invariant.1 whole,
-      each_more t left_out c.args.limit place sections c.push.new.self.items s c.loop-place.invariant.0 c.in_ok-push.ensures.items c.loop-place.invariant.2 new,
-    )
+    let there = slice_get-get_or c.deref-kind-items.result.now c.loop-place.place _ c.loop-place-test.true ∙ ap Some (sym c.in_ok-section.ensures.kind) in
+    let each = each_after c.args.table.now c.args.scope.left_out.now c.args.limit c.loop-place.place c.loop-place.sections.items c.push.new.self.items s _ _ _ _ _ _ c.in_ok-without.without
+    c.loop-place.invariant.0 c.in_ok-push.ensures.items c.loop-place.invariant.2 c.in_ok-kinds.ensures c.as_slice.ensures.value c.in_ok-kept.ensures c.deref-kind-items.ensures.value c.deref.ensures.value c.as_slice-in-loop-place.ensures.value there c.in_ok-without.ensures c.in_ok-section.ensures.found in
+    let whole = sym c.is_whole-whole.ensures ∙ c.if-not-whole.false in
+    (omega (arith, c.in_ok-push.ensures.len, c.loop-place.invariant.0), ap are_whole c.in_ok-push.ensures.items ∙ whole_more c.loop-place.sections.items s c.loop-place.invariant.1 whole, each)
 
 pub returns-then-not-whole : goal.returns-then-not-whole
 returns-then-not-whole g c =
-    let t = c.args.table.now in
-    let left_out = c.args.scope.left_out.now in
-    let place = c.loop-place.place in
     let s = c.in_ok-section.section in
-    let sections = c.loop-place.sections.items in
-    let kinds_are = c.in_ok-kinds.ensures ∙ ap (λ (cs : List ℕ). or_letter (kinds_among t cs)) (c.as_slice.ensures.value ∙ c.in_ok-kept.ensures) in
-    let there = slice_get-get_or c.deref-kind-items.result.now place _ c.loop-place-test.true ∙ ap Some (sym c.in_ok-section.ensures.kind) in
-    let new = section_of t left_out c.args.limit place s c.deref-kind-items.result.now _ c.as_slice-in-loop-place.result.now c.in_ok-without.without (c.deref-kind-items.ensures.value ∙ kinds_are)
-    (c.as_slice-in-loop-place.ensures.value ∙ c.in_ok-kept.ensures) there (rest_of (place + 1) c.deref.result.now ∙ ap (drop (place + 1)) (c.deref.ensures.value ∙ sym c.deref-kind-items.ensures.value)) c.in_ok-without.ensures c.in_ok-section.ensures.found in
-    let part = ap are_whole c.in_ok-push.ensures.items ∙ not_whole sections s (sym c.is_whole-whole.ensures ∙ c.if-not-whole.true) in
-    record {
-      each = each_more t left_out c.args.limit place sections c.push.new.self.items s c.loop-place.invariant.0 c.in_ok-push.ensures.items c.loop-place.invariant.2 new;
-      all = λ whole. (let e : true ≡ false = sym whole ∙ part in cc);
-    }
+    let there = slice_get-get_or c.deref-kind-items.result.now c.loop-place.place _ c.loop-place-test.true ∙ ap Some (sym c.in_ok-section.ensures.kind) in
+    let each = each_after c.args.table.now c.args.scope.left_out.now c.args.limit c.loop-place.place c.loop-place.sections.items c.push.new.self.items s _ _ _ _ _ _ c.in_ok-without.without
+    c.loop-place.invariant.0 c.in_ok-push.ensures.items c.loop-place.invariant.2 c.in_ok-kinds.ensures c.as_slice.ensures.value c.in_ok-kept.ensures c.deref-kind-items.ensures.value c.deref.ensures.value c.as_slice-in-loop-place.ensures.value there c.in_ok-without.ensures c.in_ok-section.ensures.found in
+    let part = ap are_whole c.in_ok-push.ensures.items ∙ not_whole c.loop-place.sections.items s (sym c.is_whole-whole.ensures ∙ c.if-not-whole.true) in
+    record { each = each; all = λ whole. (let e : true ≡ false = sym whole ∙ part in cc) }
