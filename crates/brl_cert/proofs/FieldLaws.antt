@@ -156,7 +156,7 @@ cell_above cell = by_test (eqb cell 0)
     by_test true = above_true 44 (codes "0") refl
     by_test false = above_filter 44 (has_dot cell) dot_marks (above_true 44 dot_marks refl)
 
-cells_above : (cells : List ℕ) → AllByRecursion (IsAbove 44) (map cell_spelling cells)
+pub cells_above : (cells : List ℕ) → AllByRecursion (IsAbove 44) (map cell_spelling cells)
 cells_above [] = tt
 cells_above (cell ∷ cells) = (cell_above cell, cells_above cells)
 

@@ -4,3 +4,4 @@ mod Common
 mod Tallies
 mod StepPlaces
 mod LineLemmas
+pub mod Mapped

@@ -3,7 +3,7 @@
 use Rattle.std.specs.Prelude.{ℕ, Bool, false, ◌&&◌, ◌==◌, ◌+◌, ◌-◌, if◌then◌else◌, List, [], ◌∷◌, ◌++◌, Option, Some, None, codes, flat_map, length, map, nat_le, option_map, slice_get}
 use Rattle.std.specs.Borrow.{Bor}
 use Rattle.std.specs.Fmt.{decimal}
-use Rattle.std.specs.List.{find, range_with_len}
+use Rattle.std.specs.List.{find, list_any, range_with_len}
 use Rattle.std.specs.Option.{option_and_then, option_map_or, option_or}
 use Rattle.std.specs.Str.{bytes_eq, encode_utf8_all}
 use Rattle.brl_cells.specs.Dots.{spelling}
@@ -23,7 +23,7 @@ use Rattle.brl_rules.specs.declared.rule.Info.{Info}
 use Rattle.brl_rules.specs.declared.rule.Rule.{Rule}
 use Rattle.brl_rules.specs.declared.signs.Sign.{Sign}
 use Rattle.brl_table.specs.Opcodes.{opcode_of}
-use Rattle.brl_table.specs.Words.{sign_given}
+use Rattle.brl_table.specs.Words.{opcode_words, sign_given}
 
 -- ---- The opcode of a line
 
@@ -139,12 +139,25 @@ noted_rule t lines x =
     after_blanks (place_text t x.file x.line) ++ codes " " ++ opcode_at (file_name t x.file) x.line lines ++ codes " "
     ++ encode_utf8_all (text_spelling x.characters)
 
+-- a word that is an opcode of the profile, and `rule` for any other; a line that defines a rule begins
+-- with one, or has it after `noback`
+abbrev pub known_opcode : List ℕ → List ℕ
+known_opcode word = if list_any (bytes_eq word) opcode_words then word else codes "rule"
+
+-- what a rule says: the opcode, its characters as they are spelled, and its cells, with a blank between
+-- two of these
+abbrev pub said_rule : TableView → List LineView → ListedView → List ℕ
+said_rule t lines x =
+    known_opcode (opcode_at (file_name t x.file) x.line lines)
+    ++ (codes " " ++ (encode_utf8_all (text_spelling x.characters) ++ (codes " " ++ spelling x.cells)))
+
 -- a rule with a number in a form
 abbrev pub listed_text : RuleForm → TableView → List LineView → ℕ → ListedView → List ℕ
 listed_text form.Line t lines number x = listed_line t lines number x
 listed_text form.Entry t lines number x = listed_entry t lines number x
 listed_text form.Note t lines number x = noted_rule t lines x
 listed_text form.Source t lines number x = first_source (is_at (file_name t x.file) x.line) lines
+listed_text form.Words t lines number x = said_rule t lines x
 
 -- the rule with a number in a form, if there is one
 abbrev pub rule_text : RuleForm → TableView → List LineView → ℕ → List ℕ
@@ -165,3 +178,7 @@ rule_note t lines number = rule_text form.Note t lines number
 -- the lines of the rules with these numbers
 abbrev pub rules_text : TableView → List LineView → List ℕ → List ℕ
 rules_text t lines numbers = flat_map (rule_line t lines) numbers
+
+-- what the rule with a number says; nothing where none has it
+abbrev pub rule_words : TableView → List LineView → ℕ → List ℕ
+rule_words t lines number = rule_text form.Words t lines number

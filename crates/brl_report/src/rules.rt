@@ -14,22 +14,28 @@ ghost use Rattle.brl_report.specs.Rules.{
   listed_view,
   noted_rule,
   opcode_at as opcode_among,
+  known_opcode as opcode_known,
   own_definition,
   rule_count as count_of_rules,
   rule_numbers as numbers_of_rules,
   rule_text,
+  rule_words as words_of_rule,
   rules_text,
+  said_rule,
   source_line,
   words_of,
 };
-ghost use Rattle.std.specs.List.{find};
+ghost use Rattle.brl_report.specs.Place.{file_name as name_of_file};
+ghost use Rattle.std.specs.List.{find, list_any};
+ghost use Rattle.std.specs.Str.{bytes_eq};
+ghost use Rattle.brl_table.specs.Words.{opcode_words};
 ghost use Rattle.std.specs.Option.{option_map_or};
 
 use crate::row::place_text;
 use brl_cells::{Cell, write_dots};
 use brl_lines::{Line, spell_chars};
 use brl_rules::{Sign, Table};
-use brl_table::indicator_named;
+use brl_table::{OPCODES, indicator_named, opcodes_law};
 use std::alloc::{AllocError, Global};
 use std::slice;
 
@@ -61,6 +67,8 @@ pub(crate) enum RuleForm {
     Note,
     /// As the line of the table by which it is defined.
     Source,
+    /// As what it says: the opcode, the characters and the cells.
+    Words,
 }
 
 /// How many numbers the rules of a table have: those in rank, and after them the own definitions of
@@ -110,6 +118,27 @@ pub fn rules_report(
     for number in numbers {
         lined.push_rule(*number, RuleForm::Line, &mut text)?;
     }
+    Ok(text)
+}
+
+/// What the rule of a table with a number says: the opcode of its line among the table's lines, its
+/// characters as they are spelled in a table, and its cells in dots, with a blank between two of these.
+/// It names neither the rule's number nor its line. Empty where no rule has the number.
+pub fn rule_words(
+    alloc: Global,
+    table: &Table,
+    lines: &[Line<'_>],
+    number: u32,
+) -> Result<String, AllocError>
+    ensures { IfOk result (λ text. string_bytes text ≡ words_of_rule table.now (map line_view lines.now) number) }
+{
+    let lined = Lined {
+        alloc,
+        table,
+        lines,
+    };
+    let mut text = String::new(alloc);
+    lined.push_rule(number, RuleForm::Words, &mut text)?;
     Ok(text)
 }
 
@@ -178,6 +207,7 @@ impl<'a> Lined<'a> {
             }
             RuleForm::Entry => self.push_entry(number, listed, text),
             RuleForm::Note => self.push_note(listed, text),
+            RuleForm::Words => self.push_said(listed, text),
             RuleForm::Source => {
                 let place = Wanted::At(self.table.file_name(listed.file), listed.line);
                 push_source(self.lines, place, text)
@@ -216,6 +246,47 @@ impl<'a> Lined<'a> {
         text.push(' ')?;
         text.push_str(spell_chars(self.alloc, listed.characters)?.as_str())
     }
+
+    /// Appends what a rule says.
+    fn push_said(&self, listed: Listed<'_>, text: &mut String) -> Result<(), AllocError>
+        requires { listed.file < length self.now.table.now.files }
+        ensures { OnOk result (string_bytes text.new ≡ string_bytes text.old ++ said_rule self.now.table.now (map line_view self.now.lines.now) (listed_view listed.entry)) }
+    {
+        let opcode = self.opcode_of(listed);
+        let characters = spell_chars(self.alloc, listed.characters)?;
+        let cells = write_dots(self.alloc, listed.cells)?;
+        write!(text, "{opcode} {characters} {cells}")
+    }
+
+    /// The opcode of a rule's line, and `rule` where it is none of the profile.
+    fn opcode_of(&self, listed: Listed<'_>) -> &'a str
+        requires { listed.file < length self.now.table.now.files }
+        ensures { result.now ≡ opcode_known (opcode_among (name_of_file self.now.table.now listed.entry.file) listed.entry.line (map line_view self.now.lines.now)) }
+    {
+        known_opcode(opcode_at(self.table.file_name(listed.file), listed.line, self.lines))
+    }
+}
+
+/// A word that is an opcode of the profile, and `rule` for any other.
+fn known_opcode<'a>(word: &'a str) -> &'a str
+    ensures { result.now ≡ opcode_known word.now }
+{
+    if is_opcode(word) { word } else { "rule" }
+}
+
+/// Whether a word is an opcode of the profile.
+fn is_opcode(word: &str) -> bool
+    ensures { result ≡ list_any (bytes_eq word.now) opcode_words }
+{
+    opcodes_law();
+    is_among(&OPCODES, word)
+}
+
+/// Whether a word is one of these.
+fn is_among(words: &[&str], word: &str) -> bool
+    ensures { result ≡ list_any (bytes_eq word.now) (map (λ own. own.now) words.now) }
+{
+    words.iter().any(|own| word == *own)
 }
 
 /// Appends an entry after two blanks.

@@ -1,4 +1,5 @@
 //! The tests, by what they are about.
+mod accepted;
 mod examples;
 mod machines;
 mod program;

@@ -1,0 +1,3 @@
+mod LineTests
+mod Plain
+mod ReadBack

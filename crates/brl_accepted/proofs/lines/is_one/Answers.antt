@@ -1,0 +1,12 @@
+use Rattle.std.proofs.Common.{◌∙◌, rules, string_bytes, sym, tests}
+use Rattle.std.specs.Str.{bytes_eq}
+use Rattle.std.proofs.lemmas.Iterator.{YieldsList-from_slice}
+use Rattle.std.proofs.lemmas.Iterator.Search.{any_from_yields_List}
+use Rattle.brl_report.proofs.Mapped.{any_of_map}
+use Rattle.brl_accepted.proofs.lines.is_one.Goals as goal
+
+pub returns : goal.returns
+returns c =
+    any_from_yields_List (λ other. bytes_eq c.args.text.now (string_bytes other)) _ _ _ c.any.ensures.ran
+    (YieldsList-from_slice _ c.iter.ensures.rest) (λ x b q k. search (rules, tests))
+    ∙ sym (any_of_map (bytes_eq c.args.text.now) string_bytes c.args.texts.now)

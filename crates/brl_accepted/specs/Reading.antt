@@ -1,0 +1,64 @@
+-- How a file of accepted pairs of rules is read: each of its lines is a note or names pairs that are
+-- listed. The project's own choice.
+use Rattle.std.specs.Prelude.{ℕ, ◌≡◌, ◌+◌, ◌==◌, All, Bool, true, if◌then◌else◌, List, ◌++◌, Option, None, Some, not, slice_get, string_bytes, take}
+use Rattle.std.specs.List.{filter, find, list_any}
+use Rattle.std.specs.Option.{option_map_or}
+use Rattle.std.specs.Str.{bytes_eq}
+use Rattle.std.specs.Str.Lines.{lines}
+use Rattle.brl_accepted.specs.Pairs.{between, names}
+use Rattle.brl_accepted.specs.declared.fault.AcceptFault.{AcceptFault}
+use Rattle.brl_accepted.specs.declared.fault.AcceptFaultKind.{AcceptFaultKind}
+use Rattle.brl_accepted.specs.declared.fault.AcceptFaultKind.TheVariants.{NoSuchRules, NotListed}
+use Rattle.brl_lines.specs.Tokens.{is_gap}
+
+-- ---- Lines
+
+-- whether a line is a note: a comment, whose first mark but blanks and tabs is `#`, or a blank line
+abbrev pub is_note : List ℕ → Bool
+is_note line = option_map_or (λ mark. mark == 35) (find (λ mark. not (is_gap mark)) line) true
+
+-- whether a line is what two rules say, of what each says
+abbrev pub names_rules : List (List ℕ) → List ℕ → Bool
+names_rules words line = list_any (λ one. list_any (λ other. bytes_eq line (one ++ (between ++ other))) words) words
+
+-- whether a line names one of the pairs that are listed
+abbrev pub names_listed : List (List ℕ) → List (ℕ × ℕ) → List ℕ → Bool
+names_listed words listed line = list_any (names words line) listed
+
+-- The fault of a line, if it has one, where these pairs are listed and, of a whole list, no others:
+-- it is no note, and isn't what two rules say; or these are no pair that is listed.
+abbrev pub fault_of : List (List ℕ) → List (ℕ × ℕ) → Bool → List ℕ → Option AcceptFaultKind
+fault_of words listed whole line =
+    if is_note line then None
+    else if names_listed words listed line then None
+    else if not (names_rules words line) then Some NoSuchRules
+    else if whole then Some NotListed
+    else None
+
+-- ---- A file
+
+-- whether one of these lines names a pair of rules
+abbrev pub is_accepted : List (List ℕ) → List (List ℕ) → ℕ × ℕ → Bool
+is_accepted words rows pair = list_any (λ line. names words line pair) rows
+
+-- those of the listed pairs that lines of a text name
+abbrev pub accepted : List (List ℕ) → List (ℕ × ℕ) → List ℕ → List (ℕ × ℕ)
+accepted words listed text = filter (is_accepted words (lines text)) listed
+
+-- a text is read: no line has a fault, and these are the listed pairs that its lines name
+pub record Accepts (words : List (List ℕ)) (listed : List (ℕ × ℕ)) (whole : Bool) (text : List ℕ) (pairs : List (ℕ × ℕ)) : Type 0 where
+  pub good : All (λ line. fault_of words listed whole line ≡ None) (lines text)
+  pub named : pairs ≡ accepted words listed text
+
+-- a fault is that of the first line of a text that has one, at this place, from 0; it names the file,
+-- the line and its number
+pub record IsFirstFault (words : List (List ℕ)) (listed : List (ℕ × ℕ)) (whole : Bool) (path text : List ℕ) (place : ℕ) (fault : AcceptFault) : Type 0 where
+  pub there : slice_get (lines text) place ≡ Some (string_bytes fault.subject)
+  pub kind : fault_of words listed whole (string_bytes fault.subject) ≡ Some fault.kind
+  pub earlier : All (λ line. fault_of words listed whole line ≡ None) (take place (lines text))
+  pub file : string_bytes fault.file ≡ path
+  pub line : fault.line ≡ place + 1
+
+-- a text isn't read, and this is its first fault
+abbrev pub IsRefused : List (List ℕ) → List (ℕ × ℕ) → Bool → List ℕ → List ℕ → AcceptFault → Type 0
+IsRefused words listed whole path text fault = (place : ℕ) × IsFirstFault words listed whole path text place fault

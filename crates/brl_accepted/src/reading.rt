@@ -1,0 +1,100 @@
+//! Which of the listed pairs of rules a file accepts.
+ghost use Rattle.std.specs.Prelude.{◌≡◌, All, IfErr, IfOk, None, OnOk, filter, map, string_bytes};
+ghost use Rattle.std.specs.Str.Lines.{lines};
+ghost use Rattle.brl_accepted.specs.Reading.{Accepts, IsRefused, fault_of as fault_of_line, is_accepted as is_accepted_by};
+ghost use Rattle.brl_failure.specs.Failure.{IfFault};
+
+use crate::fault::AcceptFault;
+pub use crate::lines::Listed;
+use crate::lines::{fault_of, pair_lines, rows_of};
+use crate::words::pair_line;
+use brl_failure::Failure;
+use std::alloc::{AllocError, Global};
+
+/// A file of accepted pairs of rules: its path, and its text.
+#[derive(Clone, Copy)]
+pub struct Baseline<'a> {
+    pub path: &'a str,
+    pub text: &'a str,
+}
+
+/// Those of the listed pairs of rules that a file names by what the rules say, where `words` has what
+/// each rule of the table says. A line is blank, a comment that begins with `#`, or `ONE / OTHER`, just
+/// as `write_pairs` writes it or with its rules in the other order.
+///
+/// The first line with a fault decides: `NoSuchRules` where it isn't what two rules of the table say,
+/// `NotListed` where these are no pair that is listed, and the list is whole.
+pub fn read_accepted(
+    alloc: Global,
+    words: &[String],
+    listed: Listed<'_>,
+    file: Baseline<'_>,
+) -> Result<Vec<(u32, u32)>, Failure<AcceptFault>>
+    ensures accepts { IfOk result (λ pairs. Accepts (map string_bytes words.now) listed.entry.pairs.now listed.entry.whole file.entry.text.now pairs.items) }
+    ensures fault { IfErr result (IfFault (IsRefused (map string_bytes words.now) listed.entry.pairs.now listed.entry.whole file.entry.path.now file.entry.text.now)) }
+{
+    let rows = rows_of(alloc, file.text)?;
+    refuse_fault(alloc, words, listed, file, rows.as_slice())?;
+    Ok(accepted(alloc, words, listed.pairs, rows.as_slice())?)
+}
+
+/// Refuses the first of a file's lines that has a fault.
+fn refuse_fault(
+    alloc: Global,
+    words: &[String],
+    listed: Listed<'_>,
+    file: Baseline<'_>,
+    rows: &[&str],
+) -> Result<(), Failure<AcceptFault>>
+    requires { map (λ row. row.now) rows.now ≡ lines file.text.now }
+    ensures good { OnOk result (All (λ line. fault_of_line (map string_bytes words.now) listed.entry.pairs.now listed.entry.whole line ≡ None) (lines file.entry.text.now)) }
+    ensures fault { IfErr result (IfFault (IsRefused (map string_bytes words.now) listed.entry.pairs.now listed.entry.whole file.entry.path.now file.entry.text.now)) }
+{
+    let lines = pair_lines(alloc, words, listed.pairs)?;
+    for (place, row) in rows.iter().enumerate() {
+        if let Some(kind) = fault_of(words, listed, &lines, row) {
+            return Err(Failure::Fault(AcceptFault {
+                kind,
+                subject: String::from_str(alloc, row)?,
+                file: String::from_str(alloc, file.path)?,
+                line: place + 1,
+            }));
+        }
+    }
+    Ok(())
+}
+
+/// Those of these pairs of rules that lines name.
+fn accepted(
+    alloc: Global,
+    words: &[String],
+    pairs: &[(u32, u32)],
+    rows: &[&str],
+) -> Result<Vec<(u32, u32)>, AllocError>
+    ensures { IfOk result (λ found. found.items ≡ filter (is_accepted_by (map string_bytes words.now) (map (λ row. row.now) rows.now)) pairs.now) }
+{
+    let mut found = Vec::new(alloc);
+    for pair in pairs {
+        if is_accepted(alloc, words, rows, *pair)? {
+            found.push(*pair)?;
+        }
+    }
+    Ok(found)
+}
+
+/// Whether one of these lines names a pair of rules.
+fn is_accepted(
+    alloc: Global,
+    words: &[String],
+    rows: &[&str],
+    pair: (u32, u32),
+) -> Result<bool, AllocError>
+    ensures { IfOk result (λ is. is ≡ is_accepted_by (map string_bytes words.now) (map (λ row. row.now) rows.now) pair) }
+{
+    let forth = pair_line(alloc, words, pair)?;
+    let back = pair_line(alloc, words, (pair.1, pair.0))?;
+    Ok(
+        rows.iter()
+            .any(|row| *row == forth.as_str() || *row == back.as_str()),
+    )
+}
