@@ -12,7 +12,6 @@ pub mod Closing
 pub mod Chains
 pub mod Passing
 pub mod Growing
-pub mod Slices
 pub mod Additions
 pub mod Adding
 pub mod Edges

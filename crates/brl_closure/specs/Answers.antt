@@ -8,9 +8,6 @@ use Rattle.brl_pairs.specs.Pairs.{IsClosed}
 use Rattle.brl_pairs.specs.Runs.{Behaviour, IsListed, IsPath, cells_of, reads_of}
 use Rattle.brl_closure.specs.declared.search.outcome.Outcome.{Outcome}
 use Rattle.brl_closure.specs.declared.search.outcome.Outcome.TheVariants.{Closed, BothEnd, Limit}
-use Rattle.brl_closure.specs.declared.search.explore.Slice.{Slice}
-use Rattle.brl_closure.specs.declared.search.explore.Slice.TheVariants.{Finished, Unfinished}
-use Rattle.brl_closure.specs.SearchView.{SearchView}
 use Rattle.brl_closure.specs.Reached.{AtLeast, Reached, ReachedPair, SamePair, SameState}
 
 -- ---- Closed
@@ -91,21 +88,3 @@ abbrev pub IsOutcome : {S : Type 0} → Behaviour S → ℕ → Outcome S → Ty
 IsOutcome m limit (Closed body) = IsCertified m limit body
 IsOutcome m limit (BothEnd left right) = AreTwoPaths m left.items right.items × HasTwoEndsReached m
 IsOutcome m limit (Limit states pairs) = IsLimit m limit states pairs
-
--- ---- Slices
-
--- a fact of the outcome, where the search is finished
-abbrev pub IfFinished : {M Part S : Type 0} → (Outcome S → Type 0) → Slice M Part S → Type 0
-IfFinished P (Finished outcome) = P outcome
-IfFinished P progress = Unit {0}
-
--- a fact of the search, where it isn't finished
-abbrev pub IfUnfinished : {M Part S : Type 0} → (SearchView M S → Type 0) → Slice M Part S → Type 0
-IfUnfinished P (Unfinished rest) = P rest
-IfUnfinished P progress = Unit {0}
-
--- how many steps are left at most, and one more for the end: less after each run of at least one
--- step
-abbrev pub steps_left_in : {M Part S : Type 0} → Slice M Part S → ℕ
-steps_left_in (Unfinished rest) = rest.steps_left + 1
-steps_left_in (Finished outcome) = 0

@@ -3,7 +3,7 @@
 //! limit allows.
 //!
 //! - `search_machine` searches a machine and returns an `Outcome`. A `Search` does the same in
-//!   slices: it runs for a number of steps at a time, and returns its `Slice`.
+//!   slices: it runs for a number of steps at a time, and returns a `Slice`.
 //! - Inside, a `Finder` finds the states and pairs of a machine, a `Trail` keeps them and how each
 //!   was found, and a `Worklist` has what is left to do.
 //! - The laws state what is reached, and that the search decides.
@@ -22,7 +22,7 @@ mod texts;
 mod trail;
 mod worklist;
 
-pub use explore::{Search, Slice, search_machine, search_machine_with};
+pub use explore::{Search, search_machine, search_machine_with};
 pub use finder::{Finder, Stop};
 pub use known_steps::KnownSteps;
 pub use laws::{

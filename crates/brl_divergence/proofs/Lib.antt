@@ -6,4 +6,3 @@ pub mod Settling
 pub mod Places
 pub mod Dropping
 pub mod Complete
-pub mod Slices

@@ -8,11 +8,8 @@ use Rattle.brl_pairs.specs.Sets.{sets_of}
 use Rattle.brl_closure.specs.Answers.{AreInOrder, HasReachedPairs, HasReachedStates, IsWithin}
 use Rattle.brl_closure.specs.Reached.{AtLeast, Reached, ReachedPair, SamePair, SameState}
 use Rattle.brl_divergence.specs.Listed.{AreDivergences, IsAscending, RuleTexts, rules_of}
-use Rattle.brl_divergence.specs.ListingView.{ListingView}
 use Rattle.brl_divergence.specs.declared.divergences.Divergences.{Divergences}
 use Rattle.brl_divergence.specs.declared.divergences.Divergences.TheVariants.{Complete, Partial}
-use Rattle.brl_divergence.specs.declared.listing.Slice.{Slice}
-use Rattle.brl_divergence.specs.declared.listing.Slice.TheVariants.{Finished, Unfinished}
 
 -- the pairs of rules ascend, and each has two texts that diverge at it
 pub record IsListed {S : Type 0} (m : Behaviour S) (list : RuleTexts) : Type 0 where
@@ -41,21 +38,3 @@ pub record IsPartial {S : Type 0} (m : Behaviour S) (limit : ℕ) (list : RuleTe
 abbrev pub AreDivergencesOf : {S : Type 0} → Behaviour S → ℕ → Divergences S → Type 0
 AreDivergencesOf m limit (Complete list body) = IsListed m list × (btree_map_len list ≤ limit) × IsComplete m limit list body
 AreDivergencesOf m limit (Partial list states pairs) = IsListed m list × (btree_map_len list ≤ limit + 1) × IsPartial m limit list states pairs
-
--- ---- Slices
-
--- a fact of what is found, where the listing is finished
-abbrev pub IfFinished : {M Part S : Type 0} → (Divergences S → Type 0) → Slice M Part S → Type 0
-IfFinished P (Finished divergences) = P divergences
-IfFinished P progress = Unit {0}
-
--- a fact of the listing, where it isn't finished
-abbrev pub IfUnfinished : {M Part S : Type 0} → (ListingView M → Type 0) → Slice M Part S → Type 0
-IfUnfinished P (Unfinished rest) = P rest
-IfUnfinished P progress = Unit {0}
-
--- how many steps are left at most, and one more for the end: less after each run of at least one
--- step
-abbrev pub steps_left_in : {M Part S : Type 0} → Slice M Part S → ℕ
-steps_left_in (Unfinished rest) = rest.steps_left + 1
-steps_left_in (Finished divergences) = 0

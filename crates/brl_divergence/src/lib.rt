@@ -5,7 +5,7 @@
 //! or diverge at one of the pairs of a complete list.
 //!
 //! - `list_divergences` makes the list. A `Listing` does the same in slices: it runs for a number of
-//!   steps at a time, and returns its `Slice`.
+//!   steps at a time, and returns a `Slice`.
 //! - Inside, all states are expanded first. Then an `Explorer` takes one split after the other, and
 //!   finds all that its two runs lead to. Where no two ends are among that, it is kept. Else it is
 //!   dropped, and the pair of rules is listed.
@@ -22,4 +22,4 @@ mod listing;
 
 pub use divergences::{Divergences, RuleTexts};
 pub use laws::complete_list_law;
-pub use listing::{Listing, Slice, list_divergences, list_divergences_with};
+pub use listing::{Listing, list_divergences, list_divergences_with};

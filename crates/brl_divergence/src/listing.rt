@@ -1,12 +1,13 @@
 //! A listing of a machine's divergences, in slices or at once.
 ghost use Rattle.std.specs.Prelude.{◌≡◌, ◌<◌, ◌≤◌, IfErr, IfOk, length};
 ghost use Rattle.std.specs.Bool.{OnFalse, OnTrue};
-ghost use Rattle.brl_divergence.specs.Answers.{AreDivergencesOf, IfFinished, IfUnfinished};
+ghost use Rattle.brl_divergence.specs.Answers.{AreDivergencesOf};
 ghost use Rattle.brl_divergence.specs.Found.{IsOver};
-ghost use Rattle.brl_divergence.specs.ListingView.{IsAfter, IsOf};
+ghost use Rattle.brl_divergence.specs.ListingView.{IsOf};
 ghost use Rattle.brl_divergence.specs.Working.{AreSteps, IsDone, IsStep, IsWorking};
 ghost use Rattle.brl_divergence.specs.declared.expanded.Expanded.{Expanded as ExpandedValue};
 ghost use Rattle.brl_failure.specs.Failure.{IfFault};
+ghost use Rattle.brl_progress.specs.Slices.{IfFinished, IfUnfinished};
 
 use crate::divergences::Divergences;
 use crate::expanded::{Expanded, expand_next, forget_parts};
@@ -16,7 +17,7 @@ use brl_closure::{Finder, KnownSteps, Stop, Trail};
 use brl_failure::Failure;
 use brl_pairs::{Body, Machine, Parted, Seed};
 use brl_parts::{Parts, Whole};
-use brl_progress::{NoProgress, Progress, Work};
+use brl_progress::{NoProgress, Progress, Slice, Sliced, Work, run_to_end};
 use std::alloc::{AllocError, Global};
 use std::collections::BTreeMap;
 use std::marker::Model;
@@ -54,14 +55,6 @@ impl<'m, M: Parted> Model for Listing<'m, M> {
     ghost invariant = { λ l. IsWorking M.behaviour M.steps_of l.finder l.expanded l.parts l.found l.settled };
 }
 
-/// The progress of a listing.
-#[derive(Drop)]
-pub enum Slice<'m, M: Parted> {
-    /// There is more to do.
-    Unfinished(Listing<'m, M>),
-    Finished(Divergences<M::State>),
-}
-
 impl<'m, M: Parted> Listing<'m, M> {
     /// The listing of a machine that has found the start. It finds states and pairs by hashes of
     /// this seed, which is to be drawn from all that the machine depends on.
@@ -70,7 +63,7 @@ impl<'m, M: Parted> Listing<'m, M> {
         machine: &'m M,
         limit: u64,
         seed: Seed,
-    ) -> Result<Slice<'m, M>, AllocError>
+    ) -> Result<Slice<Listing<'m, M>, Divergences<M::State>>, AllocError>
         requires { limit ≤ 4294967295 }
         ensures finished { IfOk result (IfFinished (AreDivergencesOf (M.behaviour machine.now) limit)) }
         ensures unfinished { IfOk result (IfUnfinished (IsOf machine.now limit)) }
@@ -97,6 +90,20 @@ impl<'m, M: Parted> Listing<'m, M> {
             settled: 0,
         }))
     }
+}
+
+impl<'m, M: Parted> Sliced for Listing<'m, M> {
+    ghost use Rattle.std.specs.Prelude.{ℕ};
+    ghost use Rattle.std.proofs.Common.{subst};
+    ghost use Rattle.brl_divergence.specs.ListingView.{IsAfter};
+
+    type Outcome = Divergences<M::State>;
+
+    ghost ends_with = { λ listing. AreDivergencesOf (M.behaviour listing.machine) listing.limit };
+
+    ghost comes_to = { λ steps old new. IsAfter steps old new };
+
+    ghost steps_left = { λ listing. listing.steps_left };
 
     /// How far it is.
     fn work(&self) -> Work {
@@ -108,10 +115,7 @@ impl<'m, M: Parted> Listing<'m, M> {
 
     /// Continues the listing for at most this number of steps. A step expands a state, or settles the
     /// splits of one. After `AllocError` the listing can't be continued.
-    pub fn run(self, steps: u64) -> Result<Slice<'m, M>, AllocError>
-        ensures finished { IfOk result (IfFinished (AreDivergencesOf (M.behaviour self.entry.machine) self.entry.limit)) }
-        ensures unfinished { IfOk result (IfUnfinished (IsAfter steps self.entry)) }
-    {
+    fn run(self, steps: u64) -> Result<Slice<Listing<'m, M>, Divergences<M::State>>, AllocError> {
         let Listing {
             finder,
             mut expanded,
@@ -141,10 +145,13 @@ impl<'m, M: Parted> Listing<'m, M> {
             Err(Failure::Memory) => Err(AllocError),
         }
     }
-}
 
-/// The most steps that a listing runs before it reports its progress.
-const SLICE: u64 = 16;
+    ghost same = { λ steps old new after outcome ends.
+        subst (λ (limit : ℕ). AreDivergencesOf (M.behaviour old.machine) limit outcome) after.same_listing.same_limit
+        (subst (λ (machine : M). AreDivergencesOf (M.behaviour machine) new.limit outcome) after.same_listing.same_machine ends) };
+
+    ghost fewer = { λ steps old new after. after.fewer };
+}
 
 /// Lists the divergences of a machine, with a seed as for `Listing::start`.
 pub fn list_divergences<M: Machine>(
@@ -171,16 +178,8 @@ pub fn list_divergences_with<M: Parted, W: Progress>(
     requires { limit ≤ 4294967295 }
     ensures { IfOk result (AreDivergencesOf (M.behaviour machine.now) limit) }
 {
-    let mut progress = Listing::start(alloc, machine, limit, seed)?;
-    loop {
-        match progress {
-            Slice::Unfinished(listing) => {
-                watch.report(listing.work());
-                progress = listing.run(SLICE)?;
-            }
-            Slice::Finished(divergences) => return Ok(divergences),
-        }
-    }
+    let begun = Listing::start(alloc, machine, limit, seed)?;
+    run_to_end(begun, watch)
 }
 
 /// Takes at most this number of steps. False where nothing is left to do.

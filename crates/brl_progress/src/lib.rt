@@ -1,12 +1,14 @@
-//! Progress reports. An observer gets numbers alone, so nothing that it does changes what the work
-//! gives.
+//! Work that is done in slices, and reports of its progress. An observer gets numbers alone, so
+//! nothing that it does changes what the work gives.
 //!
-//! Room 2, any machine (docs/dev/ARCHITECTURE.md). The definitions begin in `specs/Console.antt`.
+//! Room 2, any machine (docs/dev/ARCHITECTURE.md). The definitions begin in `specs/Slices.antt`.
 #![tactic(auto)]
 
 mod console;
+mod slices;
 
 pub use console::Console;
+pub use slices::{Slice, Sliced, run_to_end};
 use std::fmt;
 
 /// How far work is.

@@ -1,6 +1,6 @@
 //! What the tests of several crates share: rows of text with what is given and what is to come of
-//! it, what their fields have, tables of lines, sources, readers and writers that fail, and a
-//! writer that hears how far work is. No crate of the program uses it.
+//! it, what their fields have, tables of lines, sources, readers and writers that fail, a writer
+//! that hears how far work is, and work in slices. No crate of the program uses it.
 #![tactic(auto)]
 
 mod fields;
@@ -10,6 +10,7 @@ mod marks;
 mod readers;
 mod refusing;
 mod rows;
+mod slices;
 mod tables;
 mod writers;
 
@@ -23,5 +24,6 @@ pub use marks::mark;
 pub use readers::{Broken, Slow};
 pub use refusing::Refusing;
 pub use rows::{agree, check_rows, cut, for_rows_of_2, for_rows_of_3, for_rows_of_4};
+pub use slices::run_slices;
 pub use tables::{for_tables_of_3, for_tables_of_4, loaded_of, table_of, with_lines, with_table};
 pub use writers::{Closed, Full};

@@ -2,9 +2,10 @@
 ghost use Rattle.std.specs.Prelude.{◌≡◌, ◌<◌, ◌≤◌, length, IfErr, IfOk, OnOk};
 ghost use Rattle.std.specs.Bool.{OnFalse, OnTrue};
 ghost use Rattle.brl_failure.specs.Failure.{IfFault};
-ghost use Rattle.brl_closure.specs.Answers.{IfFinished, IfUnfinished, IsOutcome};
+ghost use Rattle.brl_progress.specs.Slices.{IfFinished, IfUnfinished};
+ghost use Rattle.brl_closure.specs.Answers.{IsOutcome};
 ghost use Rattle.brl_closure.specs.Reached.{AtLeast, Reached, ReachedPair, SamePair, SameState};
-ghost use Rattle.brl_closure.specs.SearchView.{IsAfter, IsOf};
+ghost use Rattle.brl_closure.specs.SearchView.{IsOf};
 ghost use Rattle.brl_closure.specs.Trail.{IsStopped};
 ghost use Rattle.brl_closure.specs.Worklist.{AreSteps, IsFinished, IsStep, IsWorking, NoneIsReady};
 
@@ -15,7 +16,7 @@ use crate::search::worklist::Worklist;
 use brl_failure::Failure;
 use brl_pairs::{Machine, Parted, Seed};
 use brl_parts::Whole;
-use brl_progress::{NoProgress, Progress, Work};
+use brl_progress::{NoProgress, Progress, Slice, Sliced, Work, run_to_end};
 use std::alloc::{AllocError, Global};
 use std::marker::Model;
 
@@ -51,14 +52,6 @@ impl<'m, M: Parted> Model for Search<'m, M> {
     ghost invariant = { λ s. IsWorking M.behaviour M.steps_of s.finder s.trail s.worklist };
 }
 
-/// The progress of a search.
-#[derive(Drop)]
-pub enum Slice<'m, M: Parted> {
-    /// There is more to do.
-    Unfinished(Search<'m, M>),
-    Finished(Outcome<M::State>),
-}
-
 impl<'m, M: Parted> Search<'m, M> {
     /// The search of a machine that has found the start. It finds states and pairs by hashes of this
     /// seed, which is to be drawn from all that the machine depends on.
@@ -67,7 +60,7 @@ impl<'m, M: Parted> Search<'m, M> {
         machine: &'m M,
         limit: u64,
         seed: Seed,
-    ) -> Result<Slice<'m, M>, AllocError>
+    ) -> Result<Slice<Search<'m, M>, Outcome<M::State>>, AllocError>
         requires { limit ≤ 4294967295 }
         ensures finished { IfOk result (IfFinished (IsOutcome (M.behaviour machine.now) limit)) }
         ensures unfinished { IfOk result (IfUnfinished (IsOf machine.now limit)) }
@@ -105,6 +98,20 @@ impl<'m, M: Parted> Search<'m, M> {
         let _ = self.trail.states.as_slice();
         self.trail.pairs.len()
     }
+}
+
+impl<'m, M: Parted> Sliced for Search<'m, M> {
+    ghost use Rattle.std.specs.Prelude.{ℕ};
+    ghost use Rattle.std.proofs.Common.{subst};
+    ghost use Rattle.brl_closure.specs.SearchView.{IsAfter};
+
+    type Outcome = Outcome<M::State>;
+
+    ghost ends_with = { λ search. IsOutcome (M.behaviour search.machine) search.limit };
+
+    ghost comes_to = { λ steps old new. IsAfter steps old new };
+
+    ghost steps_left = { λ search. search.steps_left };
 
     /// How far it is.
     fn work(&self) -> Work {
@@ -116,10 +123,7 @@ impl<'m, M: Parted> Search<'m, M> {
 
     /// Continues the search for at most this number of steps. A step expands a state or walks a
     /// pair. After `AllocError` the search can't be continued.
-    pub fn run(self, steps: u64) -> Result<Slice<'m, M>, AllocError>
-        ensures finished { IfOk result (IfFinished (IsOutcome (M.behaviour self.entry.machine) self.entry.limit)) }
-        ensures unfinished { IfOk result (IfUnfinished (IsAfter steps self.entry)) }
-    {
+    fn run(self, steps: u64) -> Result<Slice<Search<'m, M>, Outcome<M::State>>, AllocError> {
         let Search {
             finder,
             mut trail,
@@ -143,10 +147,13 @@ impl<'m, M: Parted> Search<'m, M> {
             Err(Failure::Memory) => Err(AllocError),
         }
     }
-}
 
-/// The most steps that a search runs before it reports its progress.
-const SLICE: u64 = 16;
+    ghost same = { λ steps old new after outcome ends.
+        subst (λ (limit : ℕ). IsOutcome (M.behaviour old.machine) limit outcome) after.same_search.same_limit
+        (subst (λ (machine : M). IsOutcome (M.behaviour machine) new.limit outcome) after.same_search.same_machine ends) };
+
+    ghost fewer = { λ steps old new after. after.fewer };
+}
 
 /// Searches a machine to the end, with a seed as for `Search::start`.
 pub fn search_machine<M: Machine>(
@@ -173,16 +180,8 @@ pub fn search_machine_with<M: Parted, W: Progress>(
     requires { limit ≤ 4294967295 }
     ensures { IfOk result (IsOutcome (M.behaviour machine.now) limit) }
 {
-    let mut progress = Search::start(alloc, machine, limit, seed)?;
-    loop {
-        match progress {
-            Slice::Unfinished(search) => {
-                watch.report(search.work());
-                progress = search.run(SLICE)?;
-            }
-            Slice::Finished(outcome) => return Ok(outcome),
-        }
-    }
+    let begun = Search::start(alloc, machine, limit, seed)?;
+    run_to_end(begun, watch)
 }
 
 impl<'m, M: Parted> Finder<'m, M> {

@@ -1,12 +1,12 @@
 //! Every pair of rules at which the texts of worked tables diverge.
-use brl_divergence::{Divergences, Listing, Slice};
+use brl_divergence::{Divergences, Listing};
 use brl_dues::Dues;
 use brl_forward::confirm;
-use brl_progress::NoProgress;
+use brl_progress::{NoProgress, Slice};
 use brl_rules::Table;
 use brl_search::{ClashList, RuleClash, clashes, seed_of};
 use brl_states::DuesState;
-use brl_testing::{chars, for_rows_of_4, for_tables_of_4, table_of};
+use brl_testing::{chars, for_rows_of_4, for_tables_of_4, run_slices, table_of};
 use brl_without::{LeftOut, Scope};
 use std::alloc::{AllocError, Global};
 use std::test::Fail;
@@ -108,21 +108,6 @@ letter a 1; letter b 1|3|2|complete: 1 pairs of rules
 letter a 1; letter b 1|5|9|complete: 1 pairs of rules
 letter a 1; letter b 1; letter c 1|1|9|complete: 3 pairs of rules
 ";
-
-/// A listing after slices of these numbers of steps, as far as it isn't finished before.
-fn run_slices<'m>(
-    start: Slice<'m, Dues<'m>>,
-    slices: [u64; 2],
-) -> Result<Slice<'m, Dues<'m>>, AllocError> {
-    let mut progress = start;
-    for steps in slices {
-        progress = match progress {
-            Slice::Unfinished(listing) => listing.run(steps)?,
-            finished => finished,
-        };
-    }
-    Ok(progress)
-}
 
 /// What a listing has found, in words.
 fn told_of_divergences(

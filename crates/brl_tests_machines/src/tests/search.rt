@@ -1,14 +1,15 @@
 //! Searches of worked tables.
 use crate::tests::accept::answer_text;
 use brl_cert::{Cert, write_cert};
-use brl_closure::{Outcome, Search, Slice, accept};
+use brl_closure::{Outcome, Search, accept};
 use brl_dues::Dues;
 use brl_forward::{Clash, confirm};
 use brl_pairs::{Body, Seed};
+use brl_progress::Slice;
 use brl_rules::Table;
 use brl_search::{Found, search, seed_of};
 use brl_states::DuesState;
-use brl_testing::{check_rows, cut, field_of_bytes, for_rows_of_2, table_of};
+use brl_testing::{check_rows, cut, field_of_bytes, for_rows_of_2, run_slices, table_of};
 use std::alloc::{AllocError, Global};
 use std::test::Fail;
 
@@ -144,19 +145,11 @@ fn the_start_is_more_than_none(rt: HostRuntime) -> Result<(), Fail> {
     Ok(())
 }
 
-/// The search after `steps` more steps, if it isn't finished.
-fn next_slice<'m>(
-    progress: Slice<'m, Dues<'m>>,
-    steps: u64,
-) -> Result<Slice<'m, Dues<'m>>, AllocError> {
-    match progress {
-        Slice::Unfinished(search) => search.run(steps),
-        Slice::Finished(outcome) => Ok(Slice::Finished(outcome)),
-    }
-}
-
 /// How far a search is, in words.
-fn told_of_progress(alloc: Global, progress: &Slice<Dues>) -> Result<String, AllocError> {
+fn told_of_progress(
+    alloc: Global,
+    progress: &Slice<Search<'_, Dues<'_>>, Outcome<DuesState>>,
+) -> Result<String, AllocError> {
     match progress {
         Slice::Unfinished(search) => {
             let (states, pairs) = (search.state_count(), search.pair_count());
@@ -179,7 +172,7 @@ fn progress_after(
     second: u64,
 ) -> Result<String, AllocError> {
     let start = Search::start(alloc, dues, 1_000_000, seed)?;
-    let progress = next_slice(next_slice(start, first)?, second)?;
+    let progress = run_slices(start, [first, second])?;
     told_of_progress(alloc, &progress)
 }
 

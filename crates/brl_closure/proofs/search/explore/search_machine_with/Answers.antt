@@ -1,20 +1,13 @@
-use Rattle.std.proofs.Common.{◌<◌, subst, sym, arith}
-use Rattle.brl_closure.specs.Answers.{IfUnfinished, steps_left_in}
+use Rattle.std.proofs.Common.{ℕ, subst}
+use Rattle.brl_progress.proofs.SliceLemmas.{ends_as}
+use Rattle.brl_closure.specs.Answers.{IsOutcome}
 use Rattle.brl_closure.specs.SearchView.{IsOf}
-use Rattle.brl_closure.specs.declared.search.explore.Slice.{Slice}
-use Rattle.brl_closure.proofs.Slices.{run_finished, run_less, run_unfinished}
 use Rattle.brl_closure.proofs.search.explore.search_machine_with.Goals as goal
 
-pub loop-progress-smaller : goal.loop-progress-smaller
-loop-progress-smaller g c =
-    let same : IsOf c.args.machine.now c.args.limit c.in-Unfinished.search = subst (λ (p : Slice g.row.M.Denot g.row.M-Part.Denot g.row.M-State.Denot). IfUnfinished (IsOf c.args.machine.now c.args.limit) p) c.in-Unfinished.is c.loop-progress.invariant.unfinished in
-    subst (λ (p : Slice g.row.M.Denot g.row.M-Part.Denot g.row.M-State.Denot). steps_left_in c.in_ok-progress-in-Unfinished.progress < steps_left_in p) (sym c.in-Unfinished.is)
-    (run_less c.args.machine.now c.args.limit c.in-Unfinished.search same 16 c.in_ok-progress-in-Unfinished.progress (omega arith) c.in_ok-progress-in-Unfinished.ensures.unfinished)
-
-pub loop-progress-preserved : goal.loop-progress-preserved
-loop-progress-preserved g c =
-    let same : IsOf c.args.machine.now c.args.limit c.in-Unfinished.search = subst (λ (p : Slice g.row.M.Denot g.row.M-Part.Denot g.row.M-State.Denot). IfUnfinished (IsOf c.args.machine.now c.args.limit) p) c.in-Unfinished.is c.loop-progress.invariant.unfinished in
-    record {
-      finished = run_finished c.args.machine.now c.args.limit c.in-Unfinished.search same g.M.Machine.behaviour c.in_ok-progress-in-Unfinished.progress c.in_ok-progress-in-Unfinished.ensures.finished;
-      unfinished = run_unfinished c.args.machine.now c.args.limit c.in-Unfinished.search same 16 c.in_ok-progress-in-Unfinished.progress c.in_ok-progress-in-Unfinished.ensures.unfinished;
-    }
+pub returns : goal.returns
+returns g c =
+    let machine = c.args.machine.now in
+    let behaviour = g.M.Machine.behaviour in
+    ends_as (IsOutcome (behaviour machine) c.args.limit) (IsOf machine c.args.limit) (λ rest. IsOutcome (behaviour rest.machine) rest.limit)
+    (λ rest outcome same ends. subst (λ (n : ℕ). IsOutcome (behaviour machine) n outcome) same.same_limit (subst (λ (x : g.row.M.Denot). IsOutcome (behaviour x) rest.limit outcome) same.same_machine ends))
+    c.in_ok-begun.begun c.in_ok-begun.ensures.finished c.in_ok-begun.ensures.unfinished c.run_to_end.result c.run_to_end.ensures

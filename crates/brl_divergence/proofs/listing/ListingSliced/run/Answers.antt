@@ -1,7 +1,7 @@
 use Rattle.std.proofs.Common.{◌≡◌, ℕ, arith, refl, subst}
 use Rattle.brl_divergence.specs.ListingView.{IsAfter, ListingView}
 use Rattle.brl_divergence.proofs.Settling.{working_without}
-use Rattle.brl_divergence.proofs.listing.Listing.run.Goals as goal
+use Rattle.brl_divergence.proofs.listing.ListingSliced.run.Goals as goal
 
 -- what holds after the steps of a listing holds of the one that is seen
 after_steps : {M : Type 0} (steps : ℕ) (seen it new : ListingView M) → it ≡ seen → IsAfter steps it new → IsAfter steps seen new

@@ -1,7 +1,7 @@
-use Rattle.std.proofs.Common.{◌≡◌, ap, subst, sym, arith}
+use Rattle.std.proofs.Common.{ap, subst, arith}
 use Rattle.brl_closure.specs.SearchView.{SearchView, Stays}
 use Rattle.brl_closure.proofs.Steps.{same_left, working_without}
-use Rattle.brl_closure.proofs.search.explore.Search.run.Goals as goal
+use Rattle.brl_closure.proofs.search.explore.SearchSliced.run.Goals as goal
 
 pub run-requires : goal.run-requires
 run-requires g c = record {
