@@ -337,6 +337,12 @@ RUNS = [
     Run("some text uses each rule", ["unused", "t.ctb"], {"t.ctb": TWO}, "each of 2 rules is used by some text\n"),
     Run("a list of unused rules passes a limit", ["unused", "--limit", "1", "t.ctb"], {"t.ctb": TWO}, "limit: 2 states\n", 3),
     Run("a fault is explained", ["explain", "B2 MissingOperand letter at t.ctb:1"], {}, EXPLANATION),
+    Run(
+        "a fault is explained with the line of its file",
+        ["explain", "B2 MissingOperand letter at t.ctb:2"],
+        {"t.ctb": "letter a 1\nletter\n"},
+        EXPLANATION + "Line:\n    t.ctb:2: letter\n",
+    ),
     Run("a line is no fault's", ["explain", "B10"], {}, status=2, err="error: no fault is written as B10\n"),
     Run("one text twice is no clash", ["clash", "t.ctb", "ab", "ab"], {"t.ctb": ALIKE}, "no clash\n"),
     Run("two files include each other", ["translate", "t.ctb"], {"t.ctb": "include u.ctb\n", "u.ctb": "include t.ctb\n"},

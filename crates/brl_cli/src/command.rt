@@ -591,7 +591,9 @@ Takes the code of a fault, or a whole line that names one, as it was printed.
 Standard output gets the form of its line, when it comes, for a line of a table
 what it names, and what to do about it. Of a whole line it also gets which dots
 are wrong, and the characters that can't be seen or may be taken for others,
-spelled by their numbers.",
+spelled by their numbers. Where the file is there that it names, it gets the
+table's line too, the line that defined an indicator first, or the first byte
+that isn't UTF-8.",
     example: "Example:
   brl explain 'U1 NoAscii at line 5'
 

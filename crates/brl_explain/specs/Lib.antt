@@ -1,3 +1,4 @@
 pub mod Explaining
 pub mod Details
 pub mod Opcodes
+pub mod InFile

@@ -84,14 +84,14 @@ fn push_dots_line(alloc: Global, text: &mut String, line: &str) -> Result<(), Al
 }
 
 /// The operand that a fault's line names: its third word.
-fn operand_of(line: &str) -> &str
+pub(crate) fn operand_of(line: &str) -> &str
     ensures { result.now ≡ operand_of_line line.now }
 {
     first_word(after_first_word(after_first_word(line)))
 }
 
 /// Appends a line with a title, unless there is nothing to follow it.
-fn push_titled(text: &mut String, title: &str, rest: &str) -> Result<(), AllocError>
+pub(crate) fn push_titled(text: &mut String, title: &str, rest: &str) -> Result<(), AllocError>
     ensures { OnOk result (string_bytes text.new ≡ string_bytes text.old ++ titled title.now rest.now) }
 {
     if rest.is_empty() {
@@ -103,7 +103,7 @@ fn push_titled(text: &mut String, title: &str, rest: &str) -> Result<(), AllocEr
 }
 
 /// The unclear characters of a line, each by its number after a blank.
-fn unclear_characters(alloc: Global, line: &str) -> Result<String, AllocError>
+pub(crate) fn unclear_characters(alloc: Global, line: &str) -> Result<String, AllocError>
     ensures { IfOk result (λ text. string_bytes text ≡ flat_map unclear_spelling (chars line.now)) }
 {
     let mut text = String::new(alloc);
@@ -149,7 +149,7 @@ fn push_by_number(text: &mut String, character: char) -> Result<(), AllocError>
 }
 
 /// Appends the two hexadecimal digits of a byte.
-fn push_byte(text: &mut String, byte: u32) -> Result<(), AllocError>
+pub(crate) fn push_byte(text: &mut String, byte: u32) -> Result<(), AllocError>
     requires { byte < 256 }
     ensures { OnOk result (string_bytes text.new ≡ string_bytes text.old ++ byte_digits byte) }
 {

@@ -28,7 +28,10 @@ mod unused;
 pub use clash_line::push_clash_line;
 pub use clash_report::{ReportFault, report, report_with};
 pub use cut_report::report_of_cut;
-pub use rules::{first_unknown, rule_numbers, rule_words, rules_report};
+pub use rules::{
+    Wanted, first_line, first_unknown, push_source_line, push_words, rule_numbers, rule_words,
+    rules_report,
+};
 pub use skipped::skipped_report;
 pub use survey::survey_report;
 pub use trace::trace_report;

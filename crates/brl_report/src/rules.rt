@@ -309,7 +309,7 @@ fn opcode_at<'a>(file: &str, number: u32, lines: &[Line<'a>]) -> &'a str
 
 /// Which line of a table is looked for.
 #[derive(Clone, Copy)]
-pub(crate) enum Wanted<'a> {
+pub enum Wanted<'a> {
     /// That of this file with this number.
     At(&'a str, u32),
     /// That which gives this indicator its cells.
@@ -317,7 +317,7 @@ pub(crate) enum Wanted<'a> {
 }
 
 /// The first of these lines that is looked for.
-pub(crate) fn first_line<'l, 'a>(lines: &'l [Line<'a>], wanted: Wanted<'_>) -> Option<&'l Line<'a>>
+pub fn first_line<'l, 'a>(lines: &'l [Line<'a>], wanted: Wanted<'_>) -> Option<&'l Line<'a>>
     ensures { option_map borrowed_line_view result ≡ find (is_wanted_line wanted.entry) (map line_view lines.now) }
 {
     for line in lines {
@@ -372,7 +372,7 @@ pub(crate) fn push_source(
 }
 
 /// Appends a line of a table: its file and number, and its words.
-fn push_source_line(line: &Line<'_>, text: &mut String) -> Result<(), AllocError>
+pub fn push_source_line(line: &Line<'_>, text: &mut String) -> Result<(), AllocError>
     ensures { OnOk result (string_bytes text.new ≡ string_bytes text.old ++ source_line (line_view line.now)) }
 {
     write!(text, "    {}:{}: ", line.file, line.line)?;
@@ -381,7 +381,7 @@ fn push_source_line(line: &Line<'_>, text: &mut String) -> Result<(), AllocError
 }
 
 /// Appends the words of a line, with a blank between two.
-fn push_words(line: &Line<'_>, text: &mut String) -> Result<(), AllocError>
+pub fn push_words(line: &Line<'_>, text: &mut String) -> Result<(), AllocError>
     ensures { OnOk result (string_bytes text.new ≡ string_bytes text.old ++ words_of (line_view line.now)) }
 {
     text.push_str(line.opcode.text)?;

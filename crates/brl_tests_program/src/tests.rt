@@ -5,6 +5,7 @@ mod checks;
 mod cuts;
 mod deliveries;
 mod dots;
+mod file_notes;
 mod files;
 mod progress;
 mod report;

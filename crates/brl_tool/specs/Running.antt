@@ -60,7 +60,7 @@ Answers (question.Survey paths brief) gives same outcome = SurveysByFiles brief 
 Answers (question.Trace path text options) gives same outcome = TracesByWord options gives path.now text.now outcome
 Answers (question.Rules path numbers) gives same outcome = ListsByFile gives path.now numbers.items outcome
 Answers (question.Unused path limit) gives same outcome = ListsUnusedByFile gives path.now limit outcome
-Answers (question.Explain line) gives same outcome = Explains line.now outcome
+Answers (question.Explain line) gives same outcome = Explains gives line.now outcome
 Answers (question.Cut path dir rewrite) gives same outcome = CutsByFile rewrite gives path.now dir.now outcome
 Answers (question.Check path cert option) gives same outcome =
     ByLeftOut (option_copied option) (λ left_out. Judges left_out gives path.now cert.now) outcome

@@ -152,7 +152,7 @@ fn answer<F: Files, E: Write + Progress>(
             text,
             options,
         } => trace_by_word(alloc, files, table, text, options),
-        Question::Explain { line } => explain_line(alloc, line),
+        Question::Explain { line } => explain_line(alloc, files, line),
         Question::Rules { table, numbers } => {
             list_rules_by_file(alloc, files, table, numbers.as_slice())
         }

@@ -252,6 +252,7 @@ pub const EXPLANATIONS: &str = "\
 |brl,explain,U1||U1 NoAscii at line M; When: a cell has dot 7 or 8, which Braille ASCII has no mark for; What to do: Use `--form unicode`.||0
 |brl,explain,B2 MissingOperand letter at t.ctb:1||B2 MissingOperand; When: the opcode needs another operand; Named: the opcode, or a prefix that ends its line; What to do: Add it.||0
 |brl,explain,refused: K1 Version line 1||K1 Version; When: the header names no version from 1 to 3; What to do: Search again.||0
+t.ctb: letter a 1; noback sign x 1|brl,explain,B1 OutsideProfile sign at t.ctb:2||B1 OutsideProfile; When: the opcode isn't read, or isn't a rule's after `noback` or `nofor`; Named: the opcode, the prefix left out; What to do: TUTORIAL.md, \"A table of liblouis\".; Opcode: sign is read, but not after noback or nofor; Line:;     t.ctb:2: noback sign x 1; Prefix: noback||0
 |brl,explain,U10|||error: no fault is written as U10|2
 |brl,explain,|||error: no fault is written as |2
 |brl,explain,refused:|||error: no fault is written as refused:|2
