@@ -9,7 +9,7 @@ use Rattle.brl_pairs.specs.Pairs.{HasPair, swapped}
 use Rattle.brl_pairs.specs.declared.step.Pair.{Pair}
 
 -- by a test that decides it
-by_test : {P : Type 0} (test : Bool) → (test ≡ true → P) → (P → test ≡ true) → P ⊎ (P → ⊥)
+pub by_test : {P : Type 0} (test : Bool) → (test ≡ true → P) → (P → test ≡ true) → P ⊎ (P → ⊥)
 by_test true to from = inl (to refl)
 by_test false to from = inr (λ p. true≢false (sym (from p)))
 
@@ -34,7 +34,7 @@ itself_behind None = refl
 itself_behind (Some x) = refl
 
 module _ {S : Type 0} {eq : S → S → Bool} (same : (x y : S) → eq x y ≡ true → x ≡ y) (itself : (x : S) → eq x x ≡ true) where
-  same_or : (x y : S) → (x ≡ y) ⊎ (x ≡ y → ⊥)
+  pub same_or : (x y : S) → (x ≡ y) ⊎ (x ≡ y → ⊥)
   same_or x y = by_test (eq x y) (same x y) (λ e. subst (λ (z : S). eq x z ≡ true) e (itself x))
 
   pair_same_or : (p q : Pair S) → (p ≡ q) ⊎ (p ≡ q → ⊥)

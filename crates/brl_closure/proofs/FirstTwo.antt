@@ -4,25 +4,26 @@ use Rattle.std.proofs.lemmas.Bool.{cases_eq}
 use Rattle.std.proofs.lemmas.Option.{slice_get_within}
 use Rattle.brl_closure.specs.Alike.{AreFirstTwo, IsOfKind, kind_of}
 use Rattle.brl_closure.specs.Least.{IsLeastFound, IsLeastPairFound}
-use Rattle.brl_closure.specs.Steps.{HasOfRule, HasOfRules}
-use Rattle.brl_closure.proofs.MissingLaws.{missing_other_order, same_missing, same_split}
+use Rattle.brl_closure.specs.Steps.{HasOfRule, HasOfRules, MissUnexcused}
+use Rattle.brl_closure.proofs.MissingLaws.{same_missing, same_split, unexcused_other_order}
 use Rattle.brl_closure.proofs.LeastLaws.{AtOrBehind, at_or_behind, least_of_more, least_of_more_pair}
 use Rattle.brl_pairs.specs.Body.{NumberPair}
 use Rattle.brl_pairs.specs.Edges.{AreInOrder}
 use Rattle.brl_pairs.specs.NumberPairs.{IsMissing}
 use Rattle.brl_pairs.specs.declared.edge.Edge.{Edge}
+use Rattle.brl_pairs.specs.declared.excused.Excused.{Excused}
 use Rattle.brl_pairs.proofs.Lists.{either_way, same_place}
 
 -- all edges are their first two of each kind, and maybe more
-pub all_kept : (edges : List Edge) → AreFirstTwo edges edges
-all_kept edges = record {
+pub all_kept : (excused : Excused) (edges : List Edge) → AreFirstTwo excused edges edges
+all_kept excused edges = record {
   origin = λ k. k;
   same = λ place x at. at;
   ascend = λ i j less within. less;
   each = λ place x at. inl (place, at, refl);
 }
 
-module _ (edges kept : List Edge) (h : AreFirstTwo edges kept) where
+module _ (excused : Excused) (edges kept : List Edge) (h : AreFirstTwo excused edges kept) where
   -- ---- The laws of the edges
 
   pub kept_in_order : AreInOrder edges → AreInOrder kept
@@ -32,7 +33,7 @@ module _ (edges kept : List Edge) (h : AreFirstTwo edges kept) where
 
   -- the kept edge at the place k has the kind of this edge, and it was not after it
   record StandsIn (place : ℕ) (x : Edge) (k : ℕ) : Type 0 where
-    of_kind : IsOfKind kept (kind_of x) k
+    of_kind : IsOfKind excused kept (kind_of excused x) k
     not_after : h.origin k ≤ place
 
   itself : (place : ℕ) (x : Edge) (k : ℕ) → slice_get kept k ≡ Some x → h.origin k ≡ place → StandsIn place x k
@@ -85,7 +86,7 @@ module _ (edges kept : List Edge) (h : AreFirstTwo edges kept) where
           let s = k.1 in
           let e = s.of_kind.edge in (
             e.rule,
-            record { place = k.0; edge = e; at = s.of_kind.at; has_rule = refl; has = same_missing pairs ahead lead e f.edge s.of_kind.has_kind f.has },
+            record { place = k.0; edge = e; at = s.of_kind.at; has_rule = refl; has = same_missing excused pairs ahead lead e f.edge s.of_kind.has_kind f.has },
             subst (λ (r : ℕ). e.rule ≤ r) f.has_rule (rule_not_above f.place f.edge f.at k.0 s),
           )
 
@@ -96,7 +97,7 @@ module _ (edges kept : List Edge) (h : AreFirstTwo edges kept) where
 
     module _ (pairs : List NumberPair) where
       abbrev Missing : Edge → Edge → Type 0
-      Missing x y = IsMissing pairs x.next x.cells y
+      Missing = MissUnexcused excused pairs
 
       split_within : (l g : ℕ) → HasOfRules Missing kept l g → HasOfRules Missing edges l g
       split_within l g f = record {
@@ -120,7 +121,7 @@ module _ (edges kept : List Edge) (h : AreFirstTwo edges kept) where
           let t = j.2 in
           let x = s.of_kind.edge in
           let y = t.of_kind.edge in
-          let gap : Missing x y = same_split pairs x y f.earlier f.later s.of_kind.has_kind t.of_kind.has_kind f.has in
+          let gap : Missing x y = same_split excused pairs x y f.earlier f.later s.of_kind.has_kind t.of_kind.has_kind f.has in
           let x_low : x.rule ≤ f.earlier.rule = rule_not_above f.i f.earlier f.earlier_at k.0 s in
           let y_low : y.rule ≤ f.later.rule = rule_not_above f.j f.later f.later_at j.0 t in
           let ascend : f.earlier.rule ≤ f.later.rule = in_order f.i f.j f.earlier f.later f.in_order f.earlier_at f.later_at in
@@ -133,7 +134,7 @@ module _ (edges kept : List Edge) (h : AreFirstTwo edges kept) where
             | inr more ↦ (
                 let swapped : y.rule ≤ x.rule = kept_in_order in_order j.0 k.0 y x more t.of_kind.at s.of_kind.at in (
                   (y.rule, x.rule),
-                  record { i = j.0; j = k.0; earlier = y; later = x; in_order = more; earlier_at = t.of_kind.at; later_at = s.of_kind.at; has_first = refl; has_second = refl; has = missing_other_order pairs x y gap },
+                  record { i = j.0; j = k.0; earlier = y; later = x; in_order = more; earlier_at = t.of_kind.at; later_at = s.of_kind.at; has_first = refl; has_second = refl; has = unexcused_other_order excused pairs x y gap },
                   at_or_behind (y.rule, x.rule) l g (omega (arith, swapped, x_low, f.has_first)) (omega (arith, x_low, ascend, f.has_second)),
                 ))
           ]

@@ -1,11 +1,11 @@
 -- The least rule of the edges that have a property, where edges with it match a lead: the rule of the
 -- first one of those that match.
-use Rattle.std.proofs.Common.{◌≡◌, ◌↔◌, ℕ, ◌+◌, ◌<◌, ◌≤◌, Bool, false, IsTrue, true≢false, List, inl, inr, length, get_or, Some, slice_get, refl, sym, ◌∙◌, ap, subst, arith}
+use Rattle.std.proofs.Common.{◌≡◌, ◌↔◌, ℕ, ◌+◌, ◌<◌, ◌≤◌, Bool, false, IsTrue, true≢false, List, inl, inr, length, Some, slice_get, refl, sym, ◌∙◌, ap, subst, arith}
 use Rattle.std.proofs.lemmas.Bool.{cases_eq, cases_lt}
 use Rattle.std.proofs.lemmas.Option.{get_or_from_slice_get, slice_get_within}
 use Rattle.brl_closure.specs.Least.{IsLeast}
 use Rattle.brl_closure.specs.Sorted.{AreFound}
-use Rattle.brl_closure.specs.Steps.{HasBefore, HasOfRule}
+use Rattle.brl_closure.specs.Steps.{HasBefore, HasOfRule, MissUnexcused}
 use Rattle.brl_pairs.specs.Body.{NumberPair}
 use Rattle.brl_pairs.specs.Edges.{AreInOrder}
 use Rattle.brl_pairs.specs.NumberPairs.{IsMissing}
@@ -13,8 +13,9 @@ use Rattle.std.specs.Prelude.{Contains}
 use Rattle.brl_pairs.specs.Sorted.{AreMatches, DoMatch, IsSortedOf, cells_of, or_none}
 use Rattle.brl_pairs.specs.Splits.{AreEarlier}
 use Rattle.brl_pairs.specs.declared.edge.Edge.{Edge}
+use Rattle.brl_pairs.specs.declared.excused.Excused.{Excused}
 use Rattle.brl_pairs.specs.declared.sorted.SortedEdge.{SortedEdge}
-use Rattle.brl_pairs.proofs.Lists.{read_at, same_place}
+use Rattle.brl_pairs.proofs.Lists.{same_place}
 use Rattle.brl_pairs.proofs.Numbered.{contained, place_of}
 use Rattle.brl_pairs.proofs.SortedLaws.{edge_at, is_at}
 use Rattle.brl_pairs.proofs.Unmatched.{match_back}
@@ -29,8 +30,8 @@ missing_matches pairs ahead lead e (inl gap) = inl (gap.rest, gap.longer)
 missing_matches pairs ahead lead e (inr gap) = inr (gap.rest, gap.shorter)
 
 -- an edge that splits with a later one into a missing pair matches its cells
-pub split_matches : (pairs : List NumberPair) (later earlier : Edge) → IsMissing pairs earlier.next earlier.cells later → DoMatch later.cells earlier.cells
-split_matches pairs later earlier h = match_back earlier.cells later.cells (missing_matches pairs earlier.next earlier.cells later h)
+pub split_matches : (excused : Excused) (pairs : List NumberPair) (later earlier : Edge) → MissUnexcused excused pairs earlier later → DoMatch later.cells earlier.cells
+split_matches excused pairs later earlier h = match_back earlier.cells later.cells (missing_matches pairs earlier.next earlier.cells later h.0)
 
 -- a sorted edge with this place has the cells of the edge there
 same_cells_at : (cells : List (List ℕ)) (edges : List Edge) (sorted : List SortedEdge) → IsSortedOf cells edges sorted → (y : SortedEdge) → Contains sorted y → (place : ℕ) (e : Edge) → y.place ≡ place → slice_get edges place ≡ Some e → cells_of cells y ≡ e.cells

@@ -1,4 +1,5 @@
 pub mod Open
+pub mod Unexcused
 pub mod LeastLaws
 pub mod LeastRule
 pub mod LeastSplit

@@ -1,18 +1,23 @@
 -- What is missing at the state or the pair with a number is what is missing by its edges.
-use Rattle.std.proofs.Common.{◌≡◌, ℕ, ◌<◌, ◌≤◌, min, max, Bool, List, [], ◌++◌, inl, inr, length, get_or, Option, Some, IsTrue, ◌↔◌, slice_get, refl, sym, ◌∙◌, ap, subst, arith}
+use Rattle.std.proofs.Common.{◌≡◌, ℕ, ◌<◌, ◌≤◌, min, max, Bool, List, [], ◌++◌, inl, inr, length, get_or, Option, Some, IsTrue, ◌↔◌, slice_get, refl, sym, ◌∙◌, ap, ap₂, subst, arith}
 use Rattle.brl_closure.specs.Least.{IsLeast, IsLeastFound, IsLeastPairFound}
 use Rattle.brl_closure.specs.Listing.{IsFirstMissing}
-use Rattle.brl_closure.specs.Refusals.{HasTwoEnds, MissesPair, MissesSplit, MissesState}
-use Rattle.brl_closure.specs.Steps.{HasOfRule, HasOfRules}
+use Rattle.brl_closure.specs.Refusals.{HasTwoEnds, MissesPair, MissesState}
+use Rattle.brl_closure.specs.Excusing.{MissesUnexcused}
+use Rattle.brl_closure.specs.Steps.{HasOfRule, HasOfRules, MissUnexcused}
 use Rattle.brl_pairs.specs.Members.{HaveOneNumber}
 use Rattle.brl_closure.proofs.LeastLaws.{same_least, same_least_pair}
-use Rattle.brl_closure.proofs.MissingLaws.{missing_other_order}
+use Rattle.brl_closure.proofs.MissingLaws.{excused_back, unexcused_other_order}
 use Rattle.brl_closure.proofs.Numbers.{at_named, edge_of, has_pair, is_there, names_at, runs, step_of}
 use Rattle.brl_pairs.specs.Body.{BodyView, IsPairOf, NumberPair}
-use Rattle.brl_pairs.specs.Sets.{pair_at, sets_of}
-use Rattle.brl_pairs.specs.Edges.{AreEdges, AreInOrder}
+use Rattle.brl_pairs.specs.Sets.{pair_at}
+use Rattle.brl_pairs.specs.Divergence.{has_rules}
+use Rattle.brl_pairs.specs.Edges.{AreEdges, AreInOrder, IsEdge}
+use Rattle.brl_pairs.specs.Excused.{AreExcusedEdges}
+use Rattle.brl_pairs.specs.Exchanges.{AreExcused}
 use Rattle.brl_pairs.specs.NumberPairs.{IsFollowed, IsMissing, IsThere}
 use Rattle.brl_pairs.specs.declared.edge.Edge.{Edge}
+use Rattle.brl_pairs.specs.declared.excused.Excused.{Excused}
 use Rattle.brl_pairs.specs.Runs.{Behaviour, IsInOrder, IsListedAt}
 use Rattle.brl_pairs.specs.declared.step.Pair.{Pair}
 use Rattle.brl_pairs.specs.declared.step.Step.{Step}
@@ -129,95 +134,122 @@ module _ {S : Type 0} where
 
     -- ---- Splits
 
-    module _ (one : HaveOneNumber body.states) (k : ℕ) (edges : List Edge) (h : AreEdges m body.states k edges) (in_order : AreInOrder edges) where
-      abbrev Missing : Edge → Edge → Type 0
-      Missing x y = IsMissing body.pairs x.next x.cells y
+    module _ (one : HaveOneNumber body.states) (excused : Excused) where
+      -- two steps are excused just where their edges are
+      edges_excused : (x y : Step S) (e f : Edge) → IsEdge body.states x e → IsEdge body.states y f → AreExcused excused.exchanged excused.accepted x y → AreExcusedEdges excused.exchanged excused.accepted e f
+      edges_excused x y e f x_is y_is (inl have) = inl (ap₂ (has_rules excused.accepted) x_is.rule y_is.rule ∙ have)
+      edges_excused x y e f x_is y_is (inr exchange) = inr (record {
+        rules = ap₂ (has_rules excused.exchanged) x_is.rule y_is.rule ∙ exchange.rules;
+        cells = x_is.cells ∙ exchange.cells ∙ sym y_is.cells;
+        next = one e.next f.next x.next x_is.next (y_is.next ∙ ap (λ (z : S). Some z) (sym exchange.next));
+      })
 
-      -- of two edges, one gives the cells of the other and more, and they lead to a missing pair: their steps miss a split
-      of_longer : (i j : ℕ) (e f : Edge) → (i ≡ j → ⊥) → slice_get edges i ≡ Some e → slice_get edges j ≡ Some f → (l g : ℕ) → min e.rule f.rule ≡ l → max e.rule f.rule ≡ g
-          → (rest : List ℕ) → e.cells ≡ f.cells ++ rest → (IsThere body.pairs e.next f.next rest → ⊥) → MissesSplit m body k l g
-      of_longer i j e f differ e_at f_at l g lesser greater rest longer missing =
-          let x = step_of m body.states k edges h i e e_at in
-          let y = step_of m body.states k edges h j f f_at in
-          record {
-            state = h.state;
-            is_state = h.at;
-            pair = runs x.step.next y.step.next rest;
-            split = record {
+      steps_excused : (x y : Step S) (e f : Edge) → IsEdge body.states x e → IsEdge body.states y f → AreExcusedEdges excused.exchanged excused.accepted e f → AreExcused excused.exchanged excused.accepted x y
+      steps_excused x y e f x_is y_is (inl have) = inl (sym (ap₂ (has_rules excused.accepted) x_is.rule y_is.rule) ∙ have)
+      steps_excused x y e f x_is y_is (inr exchange) = inr (record {
+        rules = sym (ap₂ (has_rules excused.exchanged) x_is.rule y_is.rule) ∙ exchange.rules;
+        cells = sym x_is.cells ∙ exchange.cells ∙ y_is.cells;
+        next = one_value (slice_get body.states f.next) x.next y.next (ap (slice_get body.states) (sym exchange.next) ∙ x_is.next) y_is.next;
+      })
+
+      module _ (k : ℕ) (edges : List Edge) (h : AreEdges m body.states k edges) (in_order : AreInOrder edges) where
+        abbrev Missing : Edge → Edge → Type 0
+        Missing = MissUnexcused excused body.pairs
+
+        -- of two edges, one gives the cells of the other and more, and they lead to a missing pair: their steps miss a split
+        of_longer : (i j : ℕ) (e f : Edge) → (i ≡ j → ⊥) → slice_get edges i ≡ Some e → slice_get edges j ≡ Some f → (l g : ℕ) → min e.rule f.rule ≡ l → max e.rule f.rule ≡ g
+            → (rest : List ℕ) → e.cells ≡ f.cells ++ rest → (IsThere body.pairs e.next f.next rest → ⊥) → (AreExcusedEdges excused.exchanged excused.accepted e f → ⊥) → MissesUnexcused m excused body k l g
+        of_longer i j e f differ e_at f_at l g lesser greater rest longer missing unexcused =
+            let x = step_of m body.states k edges h i e e_at in
+            let y = step_of m body.states k edges h j f f_at in
+            record {
+              misses = record {
+                state = h.state;
+                is_state = h.at;
+                pair = runs x.step.next y.step.next rest;
+                split = record {
+                  i = i;
+                  j = j;
+                  longer = x.step;
+                  shorter = y.step;
+                  differ = differ;
+                  longer_listed = x.at;
+                  shorter_listed = y.at;
+                  ahead = refl;
+                  behind = refl;
+                  lead = sym x.is_edge.cells ∙ longer ∙ ap (λ (z : List ℕ). z ++ rest) y.is_edge.cells;
+                };
+                has_lesser = rw (← x.is_edge.rule, ← y.is_edge.rule) lesser;
+                has_greater = rw (← x.is_edge.rule, ← y.is_edge.rule) greater;
+                missing = λ there. missing (is_there body one e.next f.next rest (runs x.step.next y.step.next rest) x.is_edge.next y.is_edge.next refl there);
+              };
+              unexcused = λ excused. unexcused (edges_excused x.step y.step e f x.is_edge y.is_edge excused);
+            }
+
+        -- two edges that miss a pair are two steps that miss a split
+        to_split : (l g : ℕ) → HasOfRules Missing edges l g → MissesUnexcused m excused body k l g
+        to_split l g f =
+            let x = f.earlier in
+            let y = f.later in
+            let less : f.i < f.j = f.in_order in
+            let rules = in_order_of x.rule y.rule (in_order f.i f.j x y less f.earlier_at f.later_at) in
+            let lesser : min x.rule y.rule ≡ l = rules.0 ∙ f.has_first in
+            let greater : max x.rule y.rule ≡ g = rules.1 ∙ f.has_second in
+            elim f.has.0 [
+              | inl gap ↦ of_longer f.i f.j x y (λ e. absurd (omega (arith, less, e))) f.earlier_at f.later_at l g lesser greater gap.rest gap.longer gap.missing f.has.1
+              | inr gap ↦
+                  let other = exchanged y.rule x.rule in
+                  of_longer f.j f.i y x (λ e. absurd (omega (arith, less, e))) f.later_at f.earlier_at l g (other.0 ∙ lesser) (other.1 ∙ greater) gap.rest gap.shorter gap.missing
+                  (λ excused_too. f.has.1 (excused_back excused y x excused_too))
+            ]
+
+        -- an earlier edge and a later one that miss a pair, by the rules of both
+        by_rules : (i j : ℕ) (e f : Edge) → i < j → slice_get edges i ≡ Some e → slice_get edges j ≡ Some f → (l g : ℕ) → min e.rule f.rule ≡ l → max e.rule f.rule ≡ g → Missing e f → HasOfRules Missing edges l g
+        by_rules i j e f less e_at f_at l g lesser greater gap =
+            let rules = in_order_of e.rule f.rule (in_order i j e f less e_at f_at) in
+            record {
               i = i;
               j = j;
-              longer = x.step;
-              shorter = y.step;
-              differ = differ;
-              longer_listed = x.at;
-              shorter_listed = y.at;
-              ahead = refl;
-              behind = refl;
-              lead = sym x.is_edge.cells ∙ longer ∙ ap (λ (z : List ℕ). z ++ rest) y.is_edge.cells;
-            };
-            has_lesser = rw (← x.is_edge.rule, ← y.is_edge.rule) lesser;
-            has_greater = rw (← x.is_edge.rule, ← y.is_edge.rule) greater;
-            missing = λ there. missing (is_there body one e.next f.next rest (runs x.step.next y.step.next rest) x.is_edge.next y.is_edge.next refl there);
-          }
+              earlier = e;
+              later = f;
+              in_order = less;
+              earlier_at = e_at;
+              later_at = f_at;
+              has_first = sym rules.0 ∙ lesser;
+              has_second = sym rules.1 ∙ greater;
+              has = gap;
+            }
 
-      -- two edges that miss a pair are two steps that miss a split
-      to_split : (l g : ℕ) → HasOfRules Missing edges l g → MissesSplit m body k l g
-      to_split l g f =
-          let x = f.earlier in
-          let y = f.later in
-          let less : f.i < f.j = f.in_order in
-          let rules = in_order_of x.rule y.rule (in_order f.i f.j x y less f.earlier_at f.later_at) in
-          let lesser : min x.rule y.rule ≡ l = rules.0 ∙ f.has_first in
-          let greater : max x.rule y.rule ≡ g = rules.1 ∙ f.has_second in
-          elim f.has [
-            | inl gap ↦ of_longer f.i f.j x y (λ e. absurd (omega (arith, less, e))) f.earlier_at f.later_at l g lesser greater gap.rest gap.longer gap.missing
-            | inr gap ↦
-                let other = exchanged y.rule x.rule in
-                of_longer f.j f.i y x (λ e. absurd (omega (arith, less, e))) f.later_at f.earlier_at l g (other.0 ∙ lesser) (other.1 ∙ greater) gap.rest gap.shorter gap.missing
-          ]
+        -- and the other way round
+        from_split : (l g : ℕ) → MissesUnexcused m excused body k l g → HasOfRules Missing edges l g
+        from_split l g f =
+            let split = f.misses.split in
+            let state = f.misses.state in
+            let pair = f.misses.pair in
+            let x = edge_of m body.states k edges h state f.misses.is_state split.i split.longer split.longer_listed in
+            let y = edge_of m body.states k edges h state f.misses.is_state split.j split.shorter split.shorter_listed in
+            let ahead : slice_get body.states x.edge.next ≡ Some pair.ahead = x.is_edge.next ∙ ap (λ (z : S). Some z) (sym split.ahead) in
+            let behind : slice_get body.states y.edge.next ≡ Some pair.behind = y.is_edge.next ∙ ap (λ (z : S). Some z) (sym split.behind) in
+            let cells : x.edge.cells ≡ y.edge.cells ++ pair.lead = x.is_edge.cells ∙ split.lead ∙ ap (λ (z : List ℕ). z ++ pair.lead) (sym y.is_edge.cells) in
+            let gap : Missing x.edge y.edge = (
+              inl (record {
+                rest = pair.lead;
+                longer = cells;
+                missing = λ there. f.misses.missing (has_pair body x.edge.next y.edge.next pair.lead pair ahead behind refl there);
+              }),
+              λ excused_too. f.unexcused (steps_excused split.longer split.shorter x.edge y.edge x.is_edge y.is_edge excused_too),
+            ) in
+            let lesser : min x.edge.rule y.edge.rule ≡ l = rw (x.is_edge.rule, y.is_edge.rule) f.misses.has_lesser in
+            let greater : max x.edge.rule y.edge.rule ≡ g = rw (x.is_edge.rule, y.is_edge.rule) f.misses.has_greater in
+            elim (either_way split.i split.j split.differ) [
+              | inl less ↦ by_rules split.i split.j x.edge y.edge less x.at y.at l g lesser greater gap
+              | inr more ↦
+                  let other = exchanged y.edge.rule x.edge.rule in
+                  by_rules split.j split.i y.edge x.edge more y.at x.at l g (other.0 ∙ lesser) (other.1 ∙ greater) (unexcused_other_order excused body.pairs x.edge y.edge gap)
+            ]
 
-      -- an earlier edge and a later one that miss a pair, by the rules of both
-      by_rules : (i j : ℕ) (e f : Edge) → i < j → slice_get edges i ≡ Some e → slice_get edges j ≡ Some f → (l g : ℕ) → min e.rule f.rule ≡ l → max e.rule f.rule ≡ g → Missing e f → HasOfRules Missing edges l g
-      by_rules i j e f less e_at f_at l g lesser greater gap =
-          let rules = in_order_of e.rule f.rule (in_order i j e f less e_at f_at) in
-          record {
-            i = i;
-            j = j;
-            earlier = e;
-            later = f;
-            in_order = less;
-            earlier_at = e_at;
-            later_at = f_at;
-            has_first = sym rules.0 ∙ lesser;
-            has_second = sym rules.1 ∙ greater;
-            has = gap;
-          }
-
-      -- and the other way round
-      from_split : (l g : ℕ) → MissesSplit m body k l g → HasOfRules Missing edges l g
-      from_split l g f =
-          let split = f.split in
-          let x = edge_of m body.states k edges h f.state f.is_state split.i split.longer split.longer_listed in
-          let y = edge_of m body.states k edges h f.state f.is_state split.j split.shorter split.shorter_listed in
-          let ahead : slice_get body.states x.edge.next ≡ Some f.pair.ahead = x.is_edge.next ∙ ap (λ (z : S). Some z) (sym split.ahead) in
-          let behind : slice_get body.states y.edge.next ≡ Some f.pair.behind = y.is_edge.next ∙ ap (λ (z : S). Some z) (sym split.behind) in
-          let cells : x.edge.cells ≡ y.edge.cells ++ f.pair.lead = x.is_edge.cells ∙ split.lead ∙ ap (λ (z : List ℕ). z ++ f.pair.lead) (sym y.is_edge.cells) in
-          let gap : Missing x.edge y.edge = inl (record {
-            rest = f.pair.lead;
-            longer = cells;
-            missing = λ there. f.missing (has_pair body x.edge.next y.edge.next f.pair.lead f.pair ahead behind refl there);
-          }) in
-          let lesser : min x.edge.rule y.edge.rule ≡ l = rw (x.is_edge.rule, y.is_edge.rule) f.has_lesser in
-          let greater : max x.edge.rule y.edge.rule ≡ g = rw (x.is_edge.rule, y.is_edge.rule) f.has_greater in
-          elim (either_way split.i split.j split.differ) [
-            | inl less ↦ by_rules split.i split.j x.edge y.edge less x.at y.at l g lesser greater gap
-            | inr more ↦
-                let other = exchanged y.edge.rule x.edge.rule in
-                by_rules split.j split.i y.edge x.edge more y.at x.at l g (other.0 ∙ lesser) (other.1 ∙ greater) (missing_other_order body.pairs x.edge y.edge gap)
-          ]
-
-      pub split_at : (found : Option (ℕ × ℕ)) → IsLeastPairFound (HasOfRules Missing edges) found → IsLeastPairFound (MissesSplit m body k) found
-      split_at found least = same_least_pair (HasOfRules Missing edges) (MissesSplit m body k) (λ l g. (to_split l g, from_split l g)) found least
+        pub split_at : (found : Option (ℕ × ℕ)) → IsLeastPairFound (HasOfRules Missing edges) found → IsLeastPairFound (MissesUnexcused m excused body k) found
+        split_at found least = same_least_pair (HasOfRules Missing edges) (MissesUnexcused m excused body k) (λ l g. (to_split l g, from_split l g)) found least
 
     -- ---- Ends
 

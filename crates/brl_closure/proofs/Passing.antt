@@ -5,7 +5,8 @@ use Rattle.std.proofs.lemmas.Bool.{cases_eq}
 use Rattle.std.proofs.lemmas.Option.{slice_get_within}
 use Rattle.brl_closure.specs.Least.{IsLeast, IsLeastFound, IsLeastPair}
 use Rattle.brl_closure.specs.Pass.{IsBehind, IsBehindFrom, IsLeastSplit, IsMissingBelow, IsPairFound, IsSplitFound, MissesNoSplitBelow, MissesPairBelow}
-use Rattle.brl_closure.specs.Refusals.{MissesNoPair, MissesNoSplit, MissesPair, MissesSplit}
+use Rattle.brl_closure.specs.Excusing.{HasNone, MissesUnexcused}
+use Rattle.brl_closure.specs.Refusals.{MissesNoPair, MissesPair}
 use Rattle.brl_closure.specs.declared.check.missing.MissingPair.{MissingPair}
 use Rattle.brl_closure.specs.declared.check.missing.MissingSplit.{MissingSplit}
 use Rattle.brl_closure.specs.declared.check.pass.Missing.{Missing}
@@ -13,6 +14,7 @@ use Rattle.brl_closure.proofs.LeastLaws.{least_here, same_least_pair, this_found
 use Rattle.brl_closure.proofs.Closing.{split_within}
 use Rattle.brl_closure.proofs.Numbers.{named_at}
 use Rattle.brl_pairs.specs.Body.{BodyView, NumberPair}
+use Rattle.brl_pairs.specs.declared.excused.Excused.{Excused}
 use Rattle.brl_pairs.specs.Runs.{Behaviour}
 use Rattle.brl_pairs.proofs.Lists.{same_place}
 
@@ -126,33 +128,37 @@ module _ {S : Type 0} (m : Behaviour S) (body : BodyView S) (state : ℕ) where
 
   -- ---- Splits and pairs
 
-  -- none was missing so far
-  pub none_so_far : (missing : Missing) → is_some missing.split ≡ false → IsMissingBelow m body state missing → MissesNoSplitBelow m body state × IsPairFound m body state missing.pair
-  none_so_far missing none h = by_split missing.split missing.pair none h
-    where
-      by_split : (split : Option MissingSplit) (pair : Option MissingPair) → is_some split ≡ false → MatchOption split (MissesNoSplitBelow m body state × IsPairFound m body state pair) (IsLeastSplit m body)
-          → MissesNoSplitBelow m body state × IsPairFound m body state pair
-      by_split None pair none h = h
-      by_split (Some split) pair none h = cc
+  module _ (excused : Excused) where
+    abbrev Misses : ℕ → ℕ → ℕ → Type 0
+    Misses = MissesUnexcused m excused body
 
-  -- the first split is missing at this state
-  pub split_found : (split : Option MissingSplit) (pair : Option MissingPair) → is_some split ≡ true → MissesNoSplitBelow m body state → IsSplitFound m body state split → IsMissingBelow m body (state + 1) (record { split = split; pair = pair })
-  split_found None pair some before h = cc
-  split_found (Some split) pair some before h =
-      let at : split.state ≡ state = h.0 in
-      let least = subst (λ (n : ℕ). IsLeastPair (MissesSplit m body n) (split.lesser, split.greater)) (sym at) h.1 in
-      let rules = this_found_pair (MissesSplit m body split.state) (Some (split.lesser, split.greater)) (split.lesser, split.greater) refl least in
-      record {
-        state = least_here (λ n. (l g : ℕ) × MissesSplit m body n l g) split.state (split.lesser, split.greater, least.has) (λ k lt gap. before k gap.0 gap.1 (omega (arith, lt, at)) gap.2);
-        lesser = rules.0;
-        greater = rules.1;
-      }
+    -- none was missing so far
+    pub none_so_far : (missing : Missing) → is_some missing.split ≡ false → IsMissingBelow m excused body state missing → MissesNoSplitBelow Misses state × IsPairFound m body state missing.pair
+    none_so_far missing none h = by_split missing.split missing.pair none h
+      where
+        by_split : (split : Option MissingSplit) (pair : Option MissingPair) → is_some split ≡ false → MatchOption split (MissesNoSplitBelow Misses state × IsPairFound m body state pair) (IsLeastSplit Misses)
+            → MissesNoSplitBelow Misses state × IsPairFound m body state pair
+        by_split None pair none h = h
+        by_split (Some split) pair none h = cc
 
-  -- none is missing at this state
-  pub none_found_here : (split : Option MissingSplit) (pair : Option MissingPair) → is_some split ≡ false → MissesNoSplitBelow m body state → IsSplitFound m body state split → IsPairFound m body (state + 1) pair
-      → IsMissingBelow m body (state + 1) (record { split = split; pair = pair })
-  none_found_here None pair none before h found = ((λ k l g lt gap. elim (cases_eq k state) [ inl here ↦ h l g (subst (λ (n : ℕ). MissesSplit m body n l g) here gap) | inr apart ↦ before k l g (omega (arith, lt)) gap ]), found)
-  none_found_here (Some split) pair none before h found = cc
+    -- the first split is missing at this state
+    pub split_found : (split : Option MissingSplit) (pair : Option MissingPair) → is_some split ≡ true → MissesNoSplitBelow Misses state → IsSplitFound Misses state split → IsMissingBelow m excused body (state + 1) (record { split = split; pair = pair })
+    split_found None pair some before h = cc
+    split_found (Some split) pair some before h =
+        let at : split.state ≡ state = h.0 in
+        let least = subst (λ (n : ℕ). IsLeastPair (Misses n) (split.lesser, split.greater)) (sym at) h.1 in
+        let rules = this_found_pair (Misses split.state) (Some (split.lesser, split.greater)) (split.lesser, split.greater) refl least in
+        record {
+          state = least_here (λ n. (l g : ℕ) × Misses n l g) split.state (split.lesser, split.greater, least.has) (λ k lt gap. before k gap.0 gap.1 (omega (arith, lt, at)) gap.2);
+          lesser = rules.0;
+          greater = rules.1;
+        }
+
+    -- none is missing at this state
+    pub none_found_here : (split : Option MissingSplit) (pair : Option MissingPair) → is_some split ≡ false → MissesNoSplitBelow Misses state → IsSplitFound Misses state split → IsPairFound m body (state + 1) pair
+        → IsMissingBelow m excused body (state + 1) (record { split = split; pair = pair })
+    none_found_here None pair none before h found = ((λ k l g lt gap. elim (cases_eq k state) [ inl here ↦ h l g (subst (λ (n : ℕ). Misses n l g) here gap) | inr apart ↦ before k l g (omega (arith, lt)) gap ]), found)
+    none_found_here (Some split) pair none before h found = cc
 
 -- ---- At the end of the pass
 
@@ -168,13 +174,14 @@ module _ {S : Type 0} (m : Behaviour S) (body : BodyView S) where
         behind = record { pair = n.numbers; at = n.at; behind = refl };
       }
 
-  pub no_split_at_end : (missing : Missing) → ((split : MissingSplit) → missing.split ≡ Some split → ⊥) → IsMissingBelow m body (length body.states) missing → MissesNoSplit m body × IsPairFound m body (length body.states) missing.pair
-  no_split_at_end missing apart h = by_split missing.split missing.pair apart h
-    where
-      by_split : (split : Option MissingSplit) (pair : Option MissingPair) → ((s : MissingSplit) → split ≡ Some s → ⊥)
-          → MatchOption split (MissesNoSplitBelow m body (length body.states) × IsPairFound m body (length body.states) pair) (IsLeastSplit m body) → MissesNoSplit m body × IsPairFound m body (length body.states) pair
-      by_split None pair apart h = ((λ number l g gap. h.0 number l g (split_within m body number (l, g, gap)) gap), h.1)
-      by_split (Some split) pair apart h = absurd (apart split refl)
+  module _ (excused : Excused) where
+    pub no_split_at_end : (missing : Missing) → ((split : MissingSplit) → missing.split ≡ Some split → ⊥) → IsMissingBelow m excused body (length body.states) missing → HasNone (MissesUnexcused m excused body) × IsPairFound m body (length body.states) missing.pair
+    no_split_at_end missing apart h = by_split missing.split missing.pair apart h
+      where
+        by_split : (split : Option MissingSplit) (pair : Option MissingPair) → ((s : MissingSplit) → split ≡ Some s → ⊥)
+            → MatchOption split (MissesNoSplitBelow (MissesUnexcused m excused body) (length body.states) × IsPairFound m body (length body.states) pair) (IsLeastSplit (MissesUnexcused m excused body)) → HasNone (MissesUnexcused m excused body) × IsPairFound m body (length body.states) pair
+        by_split None pair apart h = ((λ number l g gap. h.0 number l g (split_within m excused body number (l, g, gap)) gap), h.1)
+        by_split (Some split) pair apart h = absurd (apart split refl)
 
   pub no_pair_at_end : (found : Option MissingPair) → ((least : MissingPair) → found ≡ Some least → ⊥) → IsPairFound m body (length body.states) found → MissesNoPair m body
   no_pair_at_end None apart h = λ number rule gap. h number rule (below_count number rule gap)

@@ -1,4 +1,5 @@
 pub mod Refusals
+pub mod Excusing
 pub mod Least
 pub mod Steps
 pub mod Sorted

@@ -2,13 +2,15 @@
 use Rattle.std.specs.Prelude.{ℕ, ◌≡◌, ◌+◌, ◌<◌, ◌≤◌, List, length, Option, Some, MatchOption, slice_get}
 use Rattle.brl_closure.specs.Alike.{AreFirstTwoAt}
 use Rattle.brl_closure.specs.Least.{IsLeast, IsLeastFound, IsLeastPair}
-use Rattle.brl_closure.specs.Refusals.{MissesPair, MissesSplit}
+use Rattle.brl_closure.specs.Excusing.{MissesUnexcused}
+use Rattle.brl_closure.specs.Refusals.{MissesPair}
 use Rattle.brl_closure.specs.declared.check.pairs_by_state.PairsByTrailingState.{PairsByTrailingState}
 use Rattle.brl_closure.specs.declared.check.missing.MissingPair.{MissingPair}
 use Rattle.brl_closure.specs.declared.check.missing.MissingSplit.{MissingSplit}
 use Rattle.brl_closure.specs.declared.check.pass.Missing.{Missing}
 use Rattle.brl_pairs.specs.Body.{BodyView, NumberPair}
 use Rattle.brl_pairs.specs.declared.edge.Edge.{Edge}
+use Rattle.brl_pairs.specs.declared.excused.Excused.{Excused}
 use Rattle.brl_pairs.specs.Runs.{Behaviour}
 
 -- ---- The pairs by the state of their run behind
@@ -33,18 +35,24 @@ pub record ArePairsBehind (states : ℕ) (pairs : List NumberPair) (behind : Pai
 
 -- ---- What is missing
 
-module _ {S : Type 0} (m : Behaviour S) (body : BodyView S) where
-  -- these are the first two of each kind, and maybe more, of the edges of the state of the run
-  -- behind of the pair with this number
-  abbrev pub AreFirstTwoBehind : ℕ → List Edge → Type 0
-  AreFirstTwoBehind number edges = (pair : NumberPair) → slice_get body.pairs number ≡ Some pair → AreFirstTwoAt m body.states pair.behind edges
-
-  -- the least rules of two steps from the state with this number that split into a pair that isn't
-  -- listed
+-- `Misses` says of a state and two rules that such a split must be listed and isn't
+module _ (Misses : ℕ → ℕ → ℕ → Type 0) where
+  -- the least rules of two steps from the state with this number that split into a missing pair
   abbrev pub IsSplitFound : ℕ → Option MissingSplit → Type 0
-  IsSplitFound number found = MatchOption found ((lesser greater : ℕ) → MissesSplit m body number lesser greater → ⊥)
-      (λ split. (split.state ≡ number) × IsLeastPair (MissesSplit m body number) (split.lesser, split.greater))
+  IsSplitFound number found = MatchOption found ((lesser greater : ℕ) → Misses number lesser greater → ⊥)
+      (λ split. (split.state ≡ number) × IsLeastPair (Misses number) (split.lesser, split.greater))
 
+  -- no steps of the states below this one split into a missing pair
+  abbrev pub MissesNoSplitBelow : ℕ → Type 0
+  MissesNoSplitBelow end = (number lesser greater : ℕ) → number < end → Misses number lesser greater → ⊥
+
+  -- the first missing split: the least state that misses one, and the least two rules of one there
+  pub record IsLeastSplit (split : MissingSplit) : Type 0 where
+    pub state : IsLeast (λ number. (l g : ℕ) × Misses number l g) split.state
+    pub lesser : IsLeast (λ l. (g : ℕ) × Misses split.state l g) split.lesser
+    pub greater : IsLeast (Misses split.state split.lesser) split.greater
+
+module _ {S : Type 0} (m : Behaviour S) (body : BodyView S) where
   -- a step of this rule leads from the pair with this number to a pair that isn't listed, and its
   -- run behind is in a state below this one
   pub record MissesPairBelow (end number rule : ℕ) : Type 0 where
@@ -59,17 +67,15 @@ module _ {S : Type 0} (m : Behaviour S) (body : BodyView S) where
   IsPairFound end found = MatchOption found ((number rule : ℕ) → MissesPairBelow end number rule → ⊥)
       (λ least. IsLeastPair (MissesPairBelow end) (least.pair, least.rule))
 
-  -- no steps of the states below this one split into a pair that isn't listed
-  abbrev pub MissesNoSplitBelow : ℕ → Type 0
-  MissesNoSplitBelow end = (number lesser greater : ℕ) → number < end → MissesSplit m body number lesser greater → ⊥
-
-  -- the first missing split: the least state that misses one, and the least two rules of one there
-  pub record IsLeastSplit (split : MissingSplit) : Type 0 where
-    pub state : IsLeast (λ number. (l g : ℕ) × MissesSplit m body number l g) split.state
-    pub lesser : IsLeast (λ l. (g : ℕ) × MissesSplit m body split.state l g) split.lesser
-    pub greater : IsLeast (MissesSplit m body split.state split.lesser) split.greater
+module _ {S : Type 0} (m : Behaviour S) (excused : Excused) (body : BodyView S) where
+  -- these are the first two of each kind, and maybe more, of the edges of the state of the run
+  -- behind of the pair with this number
+  abbrev pub AreFirstTwoBehind : ℕ → List Edge → Type 0
+  AreFirstTwoBehind number edges = (pair : NumberPair) → slice_get body.pairs number ≡ Some pair → AreFirstTwoAt m excused body.states pair.behind edges
 
   -- the least split that is missing, or where none is missing at the states below this one, the
   -- least pair that is missing there
   abbrev pub IsMissingBelow : ℕ → Missing → Type 0
-  IsMissingBelow end missing = MatchOption missing.split (MissesNoSplitBelow end × IsPairFound end missing.pair) IsLeastSplit
+  IsMissingBelow end missing =
+      MatchOption missing.split (MissesNoSplitBelow (MissesUnexcused m excused body) end × IsPairFound m body end missing.pair)
+      (IsLeastSplit (MissesUnexcused m excused body))

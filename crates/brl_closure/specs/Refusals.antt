@@ -56,30 +56,30 @@ module _ {S : Type 0} (m : Behaviour S) (body : BodyView S) where
   abbrev pub MissesNoState : Type 0
   MissesNoState = (number rule : ℕ) → MissesState m body number rule → ⊥
 
-  -- each pair into which two steps of one of the states split is listed
-  abbrev pub MissesNoSplit : Type 0
-  MissesNoSplit = (number lesser greater : ℕ) → MissesSplit m body number lesser greater → ⊥
-
   -- each pair to which a step leads from one of the pairs is listed
   abbrev pub MissesNoPair : Type 0
   MissesNoPair = (number rule : ℕ) → MissesPair m body number rule → ⊥
 
-  -- The first fault that applies. It names the least state or pair to which it applies, and then
-  -- the least rule, or the least lesser rule and with it the least greater one.
-  abbrev pub IsRefused : AcceptFault → Type 0
-  IsRefused NoStart = HasStart → ⊥
-  IsRefused (StateMissing state rule) =
+  -- The first fault that applies, by the splits that are missing. It names the least state or pair to which
+  -- it applies, and then the least rule, or the least lesser rule and with it the least greater one.
+  abbrev pub IsFirstRefusal : (ℕ → ℕ → ℕ → Type 0) → AcceptFault → Type 0
+  IsFirstRefusal Misses NoStart = HasStart → ⊥
+  IsFirstRefusal Misses (StateMissing state rule) =
       HasStart
       × IsLeast (λ number. (r : ℕ) × MissesState m body number r) state
       × IsLeast (MissesState m body state) rule
-  IsRefused (SplitMissing state lesser greater) =
+  IsFirstRefusal Misses (SplitMissing state lesser greater) =
       HasStart × MissesNoState
-      × IsLeast (λ number. (l g : ℕ) × MissesSplit m body number l g) state
-      × IsLeast (λ l. (g : ℕ) × MissesSplit m body state l g) lesser
-      × IsLeast (MissesSplit m body state lesser) greater
-  IsRefused (PairMissing pair rule) =
-      HasStart × MissesNoState × MissesNoSplit
+      × IsLeast (λ number. (l g : ℕ) × Misses number l g) state
+      × IsLeast (λ l. (g : ℕ) × Misses state l g) lesser
+      × IsLeast (Misses state lesser) greater
+  IsFirstRefusal Misses (PairMissing pair rule) =
+      HasStart × MissesNoState × ((n l g : ℕ) → Misses n l g → ⊥)
       × IsLeast (λ number. (r : ℕ) × MissesPair m body number r) pair
       × IsLeast (MissesPair m body pair) rule
-  IsRefused (BothEnd pair) =
-      HasStart × MissesNoState × MissesNoSplit × MissesNoPair × IsLeast (HasTwoEnds m body) pair
+  IsFirstRefusal Misses (BothEnd pair) =
+      HasStart × MissesNoState × ((n l g : ℕ) → Misses n l g → ⊥) × MissesNoPair × IsLeast (HasTwoEnds m body) pair
+
+  -- likewise, where each split of one of the states must be listed
+  abbrev pub IsRefused : AcceptFault → Type 0
+  IsRefused fault = IsFirstRefusal (MissesSplit m body) fault

@@ -1,6 +1,10 @@
 -- Internal. What a pass over the edges of one state finds.
 use Rattle.std.specs.Prelude.{ℕ, ◌≡◌, ◌<◌, List, Some, slice_get}
+use Rattle.brl_pairs.specs.Body.{NumberPair}
+use Rattle.brl_pairs.specs.Excused.{AreExcusedEdges}
+use Rattle.brl_pairs.specs.NumberPairs.{IsMissing}
 use Rattle.brl_pairs.specs.declared.edge.Edge.{Edge}
+use Rattle.brl_pairs.specs.declared.excused.Excused.{Excused}
 
 -- an edge of this rule has the property
 pub record HasOfRule (Has : Edge → Type 0) (edges : List Edge) (rule : ℕ) : Type 0 where
@@ -27,3 +31,7 @@ pub record HasOfRules (Has : Edge → Edge → Type 0) (edges : List Edge) (firs
   pub has_first : earlier.rule ≡ first
   pub has_second : later.rule ≡ second
   pub has : Has earlier later
+
+-- two edges split into a pair that isn't listed, and they are not excused
+abbrev pub MissUnexcused : Excused → List NumberPair → Edge → Edge → Type 0
+MissUnexcused excused pairs x y = IsMissing pairs x.next x.cells y × (AreExcusedEdges excused.exchanged excused.accepted x y → ⊥)

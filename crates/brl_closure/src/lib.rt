@@ -9,7 +9,7 @@
 mod check;
 mod search;
 
-pub use check::{AcceptFault, Accepted, accept, accept_with};
+pub use check::{AcceptFault, Accepted, accept, accept_up_to, accept_with};
 pub use search::{
     Finder, KnownSteps, Origins, Outcome, PairOrigin, Search, StateOrigin, Stop, Texts, Trail,
     clash_law, just_reached_law, lead_law, no_limit_law, reached_closed_law, reached_listed_law,

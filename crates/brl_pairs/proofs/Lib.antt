@@ -1,5 +1,6 @@
 pub mod Lists
 pub mod Listing
+pub mod Excusing
 pub mod Divergence
 pub mod Closed
 pub mod LettersLaws

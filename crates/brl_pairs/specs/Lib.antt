@@ -2,6 +2,7 @@ pub mod Runs
 pub mod Pairs
 pub mod Divergence
 pub mod Exchanges
+pub mod Excused
 pub mod Examples
 pub mod Same
 pub mod Members

@@ -1,6 +1,6 @@
 //! Laws for the crates above: what `advance` decides, and the theorem on closed sets. Each is the
 //! contract of a function that does nothing.
-ghost use Rattle.std.specs.Prelude.{◌≡◌, ◌↔◌, ℕ, List, Option};
+ghost use Rattle.std.specs.Prelude.{◌≡◌, ◌↔◌, ℕ, List, [], Option};
 ghost use Rattle.brl_pairs.specs.declared.step.Pair.{Pair as PairValue};
 ghost use Rattle.brl_pairs.specs.Divergence.{DivergeOnce, DivergeOnlyAt, DivergeWhereListed, HasEachClash, HasEachDivergence, IsClosedBut, IsCompleteList, IsUnambiguousBut, has_rules, sets_apart};
 ghost use Rattle.brl_pairs.specs.Exchanges.{IsClosedUpTo, PathsDifferByExchangesBut, TextsDifferByExchangesBut};
@@ -83,6 +83,13 @@ pub fn numbered_exchange_law<M: Machine>(machine: &M)
         IsClosedUpTo (M.behaviour machine.now) exchanged rules (numbered states pairs) → PathsDifferByExchangesBut exchanged rules (M.behaviour machine.now) }
     ensures texts { (exchanged rules : List (ℕ × ℕ)) (states : ℕ → Option M.State) (pairs : ℕ → Option (PairValue M.State)) →
         IsClosedUpTo (M.behaviour machine.now) exchanged rules (numbered states pairs) → TextsDifferByExchangesBut exchanged rules (M.behaviour machine.now) }
+{
+    let _ = machine.start();
+}
+
+/// Sets that are closed but for no pairs of rules and no exchanges are the closed sets.
+pub fn nothing_excused_law<M: Machine, C: Sets<M::State>>(machine: &M)
+    ensures { IsClosedUpTo (M.behaviour machine.now) [] [] C.sets ↔ IsClosed (M.behaviour machine.now) C.sets }
 {
     let _ = machine.start();
 }

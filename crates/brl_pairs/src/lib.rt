@@ -20,6 +20,7 @@
 mod body;
 mod edge;
 mod edge_laws;
+mod excused;
 mod kept_cells;
 mod key;
 mod laws;
@@ -28,6 +29,7 @@ mod machine;
 mod members;
 mod number_pairs;
 mod parted;
+mod rule_pairs;
 mod seed;
 mod sorted;
 mod splits;
@@ -36,18 +38,20 @@ mod step;
 pub use body::Body;
 pub use edge::{Edge, ListedEdge};
 pub use edge_laws::{edges_law, unmatched_law};
+pub use excused::Excused;
 pub use kept_cells::KeptCells;
 pub use key::Key;
 pub use laws::{
     Sets, advance_law, closed_sets_law, divergence_law, divergence_sets_law, exchange_law,
-    numbered_divergence_law, numbered_exchange_law, numbered_sets_law, one_divergence_law,
-    one_list_law,
+    nothing_excused_law, numbered_divergence_law, numbered_exchange_law, numbered_sets_law,
+    one_divergence_law, one_list_law,
 };
 pub use lead::{Advanced, advance};
 pub use machine::Machine;
 pub use members::Members;
 pub use number_pairs::{is_missing, is_there, is_there_swapped};
 pub use parted::Parted;
+pub use rule_pairs::RulePairs;
 pub use seed::{Seed, SeededHasher};
 pub use sorted::{SortedEdge, as_u32, cells_at, cells_of, matches, sort_edges};
 pub use splits::{Splits, earlier_splits, splits_of};

@@ -1,8 +1,10 @@
 //! The checker of a machine's states and pairs.
 ghost use Rattle.std.specs.Prelude.{◌≡◌, ℕ, IfErr, IfOk, OnOk, length};
-ghost use Rattle.brl_closure.specs.Refusals.{HasStart, HasTwoEnds, IsRefused, MissesNoPair, MissesNoSplit, MissesNoState};
+ghost use Rattle.brl_closure.specs.Excusing.{HasNone, IsClosedBody, IsRefusedUpTo, MissesUnexcused};
+ghost use Rattle.brl_closure.specs.Refusals.{HasStart, HasTwoEnds, IsRefused, MissesNoPair, MissesNoState};
 ghost use Rattle.brl_failure.specs.Failure.{IfFault};
 ghost use Rattle.brl_pairs.specs.Sets.{sets_of};
+ghost use Rattle.brl_pairs.specs.Exchanges.{IsClosedUpTo, TextsDifferByExchangesBut};
 ghost use Rattle.brl_pairs.specs.Pairs.{IsClosed};
 ghost use Rattle.brl_pairs.specs.Runs.{IsUnambiguous, KeepsLaws};
 
@@ -10,7 +12,7 @@ use crate::AcceptFault;
 use crate::check::missing::has_two_ends_at;
 use crate::check::pass::find_missing;
 use brl_failure::Failure;
-use brl_pairs::{Body, Machine, Parted, Seed, numbered_sets_law};
+use brl_pairs::{Body, Excused, Machine, Parted, Seed, numbered_exchange_law, numbered_sets_law};
 use brl_parts::Whole;
 use brl_progress::{NoProgress, Progress};
 use std::alloc::Global;
@@ -22,10 +24,11 @@ pub struct Accepted {
     pub pairs: u32,
 }
 
-/// Checks that no state, no split and no pair is missing.
+/// Checks that no state, no split that isn't excused, and no pair is missing.
 fn check_missing<M: Parted, W: Progress>(
     alloc: Global,
     machine: &M,
+    excused: &Excused,
     body: &Body<M::State>,
     seed: Seed,
     watch: &mut W,
@@ -33,11 +36,11 @@ fn check_missing<M: Parted, W: Progress>(
     requires laws { KeepsLaws (M.behaviour machine.now) }
     requires start { HasStart (M.behaviour machine.now) body.now }
     ensures steps { OnOk result (MissesNoState (M.behaviour machine.now) body.now) }
-    ensures splits { OnOk result (MissesNoSplit (M.behaviour machine.now) body.now) }
+    ensures splits { OnOk result (HasNone (MissesUnexcused (M.behaviour machine.now) excused.now body.now)) }
     ensures moves { OnOk result (MissesNoPair (M.behaviour machine.now) body.now) }
-    ensures refused { IfErr result (IfFault (IsRefused (M.behaviour machine.now) body.now)) }
+    ensures refused { IfErr result (IfFault (IsRefusedUpTo (M.behaviour machine.now) excused.now body.now)) }
 {
-    let missing = find_missing(alloc, machine, body, seed, watch)?;
+    let missing = find_missing(alloc, machine, excused, body, seed, watch)?;
     if let Some(split) = missing.split {
         return Err(Failure::Fault(AcceptFault::SplitMissing {
             state: split.state,
@@ -55,13 +58,17 @@ fn check_missing<M: Parted, W: Progress>(
 }
 
 /// Checks that none of the pairs has an empty lead and two final states.
-fn check_ends<M: Machine>(machine: &M, body: &Body<M::State>) -> Result<(), Failure<AcceptFault>>
+fn check_ends<M: Machine>(
+    machine: &M,
+    excused: &Excused,
+    body: &Body<M::State>,
+) -> Result<(), Failure<AcceptFault>>
     requires start { HasStart (M.behaviour machine.now) body.now }
     requires steps { MissesNoState (M.behaviour machine.now) body.now }
-    requires splits { MissesNoSplit (M.behaviour machine.now) body.now }
+    requires splits { HasNone (MissesUnexcused (M.behaviour machine.now) excused.now body.now) }
     requires moves { MissesNoPair (M.behaviour machine.now) body.now }
     ensures complete { OnOk result ((number : ℕ) → HasTwoEnds (M.behaviour machine.now) body.now number → ⊥) }
-    ensures refused { IfErr result (IfFault (IsRefused (M.behaviour machine.now) body.now)) }
+    ensures refused { IfErr result (IfFault (IsRefusedUpTo (M.behaviour machine.now) excused.now body.now)) }
 {
     for number in 0..body.pair_count() {
         if has_two_ends_at(machine, body, number as usize) {
@@ -71,22 +78,23 @@ fn check_ends<M: Machine>(machine: &M, body: &Body<M::State>) -> Result<(), Fail
     Ok(())
 }
 
-/// Checks that the states and pairs are closed.
+/// Checks that the states and pairs are closed, but for splits that are excused.
 fn check<M: Parted, W: Progress>(
     alloc: Global,
     machine: &M,
+    excused: &Excused,
     body: &Body<M::State>,
     seed: Seed,
     watch: &mut W,
 ) -> Result<(), Failure<AcceptFault>>
-    ensures closed { OnOk result (IsClosed (M.behaviour machine.now) (sets_of body.now)) }
-    ensures refused { IfErr result (IfFault (IsRefused (M.behaviour machine.now) body.now)) }
+    ensures closed { OnOk result (IsClosedBody (M.behaviour machine.now) excused.now body.now) }
+    ensures refused { IfErr result (IfFault (IsRefusedUpTo (M.behaviour machine.now) excused.now body.now)) }
 {
     if !body.has_state(&machine.start()) {
         return Err(Failure::Fault(AcceptFault::NoStart));
     }
-    check_missing(alloc, machine, body, seed, watch)?;
-    check_ends(machine, body)
+    check_missing(alloc, machine, excused, body, seed, watch)?;
+    check_ends(machine, excused, body)
 }
 
 /// Accepts states and pairs for a machine exactly where they are closed, and returns their numbers.
@@ -134,7 +142,38 @@ pub fn accept_with<M: Parted, W: Progress>(
     ensures not_closed { IfErr result (IfFault (λ _. IsClosed (M.behaviour machine.now) (sets_of body.now) → ⊥)) }
 {
     numbered_sets_law(machine);
-    check(alloc, machine, body, seed, watch)?;
+    accept_up_to(alloc, machine, &Excused::nothing(alloc), body, seed, watch)
+}
+
+/// Accepts states and pairs for a machine exactly where they are closed but for splits that are
+/// excused, and returns their numbers. Then any two texts of the machine, of any length, that it
+/// translates to the same cells are the same step by step but for exchanges, to their ends or up to
+/// a place where they go on with two steps of an accepted pair of rules.
+///
+/// Otherwise the fault is the first one that applies, as for `accept`; `SplitMissing` names the least
+/// split that is neither listed nor excused. Progress and the seed are those of `accept_with`.
+pub fn accept_up_to<M: Parted, W: Progress>(
+    alloc: Global,
+    machine: &M,
+    excused: &Excused,
+    body: &Body<M::State>,
+    seed: Seed,
+    watch: &mut W,
+) -> Result<Accepted, Failure<AcceptFault>>
+    // The states and pairs are closed, but for splits that are excused.
+    ensures closed { OnOk result (IsClosedUpTo (M.behaviour machine.now) excused.now.exchanged excused.now.accepted (sets_of body.now)) }
+    // Two texts of the machine that are translated to the same cells differ by exchanges, to their
+    // ends or up to a place where they diverge at an accepted pair of rules.
+    ensures texts { OnOk result (TextsDifferByExchangesBut excused.now.exchanged excused.now.accepted (M.behaviour machine.now)) }
+    ensures states { IfOk result (λ accepted. accepted.states ≡ length body.now.states) }
+    ensures pairs { IfOk result (λ accepted. accepted.pairs ≡ length body.now.pairs) }
+    // The fault applies, and it is the first one, with the least numbers.
+    ensures refused { IfErr result (IfFault (IsRefusedUpTo (M.behaviour machine.now) excused.now body.now)) }
+    // States and pairs that are refused are not closed, but for what is excused.
+    ensures not_closed { IfErr result (IfFault (λ _. IsClosedUpTo (M.behaviour machine.now) excused.now.exchanged excused.now.accepted (sets_of body.now) → ⊥)) }
+{
+    numbered_exchange_law(machine);
+    check(alloc, machine, excused, body, seed, watch)?;
     Ok(Accepted {
         states: body.state_count(),
         pairs: body.pair_count(),

@@ -1,9 +1,9 @@
 //! The edges of a state, put together from those of the parts of its steps. A part that isn't kept
 //! yet is listed first.
 ghost use Rattle.std.specs.Prelude.{◌≡◌, ◌<◌, ◌⊎◌, ℕ, IfErr, IfOk, IfSome, OnOk, Some, length, slice_get};
-ghost use Rattle.brl_closure.specs.Refusals.{HasStart, IsRefused, MissesState};
+ghost use Rattle.brl_closure.specs.Refusals.{HasStart, MissesState};
 ghost use Rattle.brl_closure.specs.SearchView.{Stays};
-ghost use Rattle.brl_closure.specs.Listing.{AreNumbersOf, IsFirstMissing};
+ghost use Rattle.brl_closure.specs.Listing.{AreNumbersOf, IsFirstMissing, IsStateMissing};
 ghost use Rattle.brl_failure.specs.Failure.{IfFault};
 ghost use Rattle.brl_pairs.specs.Listed.{AreEdgesOf, AreListedEdges, IsByNumbers};
 ghost use Rattle.brl_pairs.specs.Members.{IsMember};
@@ -107,7 +107,7 @@ fn list_edges<M: Machine>(
     requires earlier { (k rule : ℕ) → k < number → MissesState (M.behaviour machine.now) body.now k rule → ⊥ }
     ensures edges { IfOk result (λ edges. AreEdgesOf (M.behaviour machine.now) body.now.states cells.new number edges.items) }
     ensures cells { Stays cells.old cells.new }
-    ensures refused { IfErr result (IfFault (IsRefused (M.behaviour machine.now) body.now)) }
+    ensures refused { IfErr result (IfFault (IsStateMissing (M.behaviour machine.now) body.now)) }
 {
     let listed = machine.moves(alloc, &body.states()[number])?;
     body.law();
@@ -188,7 +188,7 @@ pub fn edges_of<M: Parted>(
     requires kept { AreKeptParts (M.steps_of machine.now) body.now.states kept.old.cells kept.old.parts }
     ensures edges { IfOk result (λ edges. AreEdgesOf (M.behaviour machine.now) body.now.states kept.new.cells number edges.items) }
     ensures kept { OnOk result (AreKeptParts (M.steps_of machine.now) body.now.states kept.new.cells kept.new.parts) }
-    ensures refused { IfErr result (IfFault (IsRefused (M.behaviour machine.now) body.now)) }
+    ensures refused { IfErr result (IfFault (IsStateMissing (M.behaviour machine.now) body.now)) }
 {
     let Some(listed) = machine.parts(alloc, &body.states()[number])? else {
         let edges = list_edges(alloc, machine, body, &mut kept.cells, number)?;

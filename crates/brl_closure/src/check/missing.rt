@@ -4,14 +4,15 @@ ghost use Rattle.brl_closure.specs.Alike.{AreFirstTwoAt};
 ghost use Rattle.brl_closure.specs.Least.{IsLeastFound, IsLeastPairFound, lesser_of};
 ghost use Rattle.brl_closure.specs.Pass.{AreFirstTwoBehind, IsSplitFound};
 ghost use Rattle.brl_closure.specs.Refusals.{HasTwoEnds, MissesPair};
-ghost use Rattle.brl_closure.specs.Steps.{HasBefore, HasOfRule, HasOfRules};
+ghost use Rattle.brl_closure.specs.Excusing.{MissesUnexcused};
+ghost use Rattle.brl_closure.specs.Steps.{HasBefore, HasOfRule, HasOfRules, MissUnexcused};
 ghost use Rattle.brl_pairs.specs.Edges.{AreInOrder};
 ghost use Rattle.brl_pairs.specs.NumberPairs.{IsMissing};
 ghost use Rattle.brl_pairs.specs.declared.edge.Edge.{Edge as EdgeValue};
 
 use crate::check::sorted::Sorted;
 use brl_cells::Cell;
-use brl_pairs::{Body, Machine, Members, Pair, edges_law, is_missing};
+use brl_pairs::{Body, Edge, Excused, Machine, Members, Pair, edges_law, is_missing};
 use std::alloc::{AllocError, Global};
 
 /// A state two of whose steps, of these rules, split into a pair that isn't listed.
@@ -51,10 +52,26 @@ fn missing_pair(
     Ok(None)
 }
 
-/// The least rule of the edges before the second one that split with it into a missing pair. Places
-/// ascend by rule, so the first one found has the least rule.
+/// Whether two edges split into a missing pair and aren't excused.
+fn is_missing_split(
+    alloc: Global,
+    excused: &Excused,
+    pairs: &Members<Pair<u32>>,
+    earlier: &Edge,
+    later: &Edge,
+) -> Result<bool, AllocError>
+    ensures { IfOk result (λ missing. IsTrue missing ↔ MissUnexcused excused.now pairs.now earlier.now later.now) }
+{
+    let lead = earlier.cells.as_slice();
+    let missing = is_missing(alloc, pairs, earlier.next, lead, later)?;
+    Ok(missing && !excused.has(earlier, later))
+}
+
+/// The least rule of the edges before the second one that split with it into a missing pair and aren't
+/// excused. Places ascend by rule, so the first one found has the least rule.
 fn missing_split_with(
     alloc: Global,
+    excused: &Excused,
     pairs: &Members<Pair<u32>>,
     edges: &Sorted<'_>,
     second: usize,
@@ -62,14 +79,13 @@ fn missing_split_with(
     requires in_order { AreInOrder edges.now }
     requires within { second < length edges.now }
     ensures { IfOk result (λ found. (later : EdgeValue) → slice_get edges.now second ≡ Some later
-        → IsLeastFound (HasBefore (λ earlier. IsMissing pairs.now earlier.next earlier.cells later) edges.now second) found) }
+        → IsLeastFound (HasBefore (λ earlier. MissUnexcused excused.now pairs.now earlier later) edges.now second) found) }
 {
     let later = edges.edge(alloc, second)?;
     let found = edges.earlier(alloc, second)?;
     for matching in found.as_slice() {
         let earlier = edges.edge(alloc, matching.place as usize)?;
-        let lead = earlier.cells.as_slice();
-        if is_missing(alloc, pairs, earlier.next, lead, &later)? {
+        if is_missing_split(alloc, excused, pairs, &earlier, &later)? {
             return Ok(Some(earlier.rule));
         }
     }
@@ -93,18 +109,19 @@ fn lesser(one: Option<(u32, u32)>, other: Option<(u32, u32)>) -> Option<(u32, u3
     }
 }
 
-/// The least rules of two edges that split into a missing pair.
+/// The least rules of two edges that split into a missing pair and aren't excused.
 fn missing_split(
     alloc: Global,
+    excused: &Excused,
     pairs: &Members<Pair<u32>>,
     edges: &Sorted<'_>,
 ) -> Result<Option<(u32, u32)>, AllocError>
     requires { AreInOrder edges.now }
-    ensures { IfOk result (IsLeastPairFound (HasOfRules (λ earlier. IsMissing pairs.now earlier.next earlier.cells) edges.now)) }
+    ensures { IfOk result (IsLeastPairFound (HasOfRules (MissUnexcused excused.now pairs.now) edges.now)) }
 {
     let mut best = None;
     for second in 0..edges.len() {
-        let found = missing_split_with(alloc, pairs, edges, second)?;
+        let found = missing_split_with(alloc, excused, pairs, edges, second)?;
         let rule = edges.rule_at(second);
         best = lesser(best, found.map(|first| (first, rule)));
     }
@@ -116,21 +133,22 @@ fn missing_split(
 pub struct StateEdges<'a, M: Machine> {
     pub alloc: Global,
     pub machine: &'a M,
+    pub excused: &'a Excused,
     pub body: &'a Body<M::State>,
     pub edges: &'a Sorted<'a>,
 }
 
 impl<'a, M: Machine> StateEdges<'a, M> {
-    /// The least rules of two steps from the state with this number that split into a missing pair,
-    /// if it has these edges.
+    /// The least rules of two steps from the state with this number that split into a missing pair and
+    /// aren't excused, if it has these edges.
     pub fn missing_split_at(&self, state: u32) -> Result<Option<MissingSplit>, AllocError>
-        requires { AreFirstTwoAt (M.behaviour self.now.machine.now) self.now.body.now.states state self.now.edges.now }
-        ensures { IfOk result (IsSplitFound (M.behaviour self.now.machine.now) self.now.body.now state) }
+        requires { AreFirstTwoAt (M.behaviour self.now.machine.now) self.now.excused.now self.now.body.now.states state self.now.edges.now }
+        ensures { IfOk result (IsSplitFound (MissesUnexcused (M.behaviour self.now.machine.now) self.now.excused.now self.now.body.now) state) }
     {
         edges_law(self.machine);
         self.body.law();
-        let Some((lesser, greater)) = missing_split(self.alloc, self.body.pairs(), self.edges)?
-        else {
+        let found = missing_split(self.alloc, self.excused, self.body.pairs(), self.edges)?;
+        let Some((lesser, greater)) = found else {
             return Ok(None);
         };
         Ok(Some(MissingSplit {
@@ -144,7 +162,7 @@ impl<'a, M: Machine> StateEdges<'a, M> {
     /// state of its run behind has these edges.
     pub fn missing_pair_at(&self, number: usize) -> Result<Option<u32>, AllocError>
         requires number { number < length self.now.body.now.pairs }
-        requires edges { AreFirstTwoBehind (M.behaviour self.now.machine.now) self.now.body.now number self.now.edges.now }
+        requires edges { AreFirstTwoBehind (M.behaviour self.now.machine.now) self.now.excused.now self.now.body.now number self.now.edges.now }
         ensures { IfOk result (IsLeastFound (MissesPair (M.behaviour self.now.machine.now) self.now.body.now number)) }
     {
         edges_law(self.machine);

@@ -2,7 +2,8 @@
 ghost use Rattle.std.specs.Prelude.{◌+◌, ◌<◌, ◌↔◌, IfErr, IfOk, IsTrue, MatchOption, OnOk, length};
 ghost use Rattle.brl_closure.specs.Alike.{AreFirstTwoAt};
 ghost use Rattle.brl_closure.specs.Pass.{ArePairsBehind, IsMissingBelow, IsPairFound};
-ghost use Rattle.brl_closure.specs.Refusals.{HasStart, IsRefused, MissesNoState};
+ghost use Rattle.brl_closure.specs.Excusing.{IsRefusedUpTo};
+ghost use Rattle.brl_closure.specs.Refusals.{HasStart, MissesNoState};
 ghost use Rattle.brl_failure.specs.Failure.{IfFault};
 ghost use Rattle.brl_pairs.specs.Runs.{KeepsLaws};
 
@@ -12,7 +13,7 @@ use crate::check::kinds::sort_first_two;
 use crate::check::missing::{MissingPair, MissingSplit, StateEdges};
 use crate::check::pairs_by_state::{PairsByTrailingState, pairs_by_trailing_state};
 use brl_failure::Failure;
-use brl_pairs::{Body, Key, Machine, Parted, Seed};
+use brl_pairs::{Body, Excused, Key, Machine, Parted, Seed};
 use brl_progress::{Progress, Work};
 use std::alloc::{AllocError, Global};
 
@@ -44,7 +45,7 @@ fn missing_pair_after<M: Machine>(
 ) -> Result<Option<MissingPair>, AllocError>
     requires behind { ArePairsBehind (length at.now.body.now.states) at.now.body.now.pairs behind.now }
     requires within { state < length at.now.body.now.states }
-    requires edges { AreFirstTwoAt (M.behaviour at.now.machine.now) at.now.body.now.states state at.now.edges.now }
+    requires edges { AreFirstTwoAt (M.behaviour at.now.machine.now) at.now.excused.now at.now.body.now.states state at.now.edges.now }
     requires least { IsPairFound (M.behaviour at.now.machine.now) at.now.body.now state least }
     ensures { IfOk result (IsPairFound (M.behaviour at.now.machine.now) at.now.body.now (state + 1)) }
 {
@@ -72,9 +73,9 @@ fn missing_after<M: Machine>(
 ) -> Result<Missing, AllocError>
     requires behind { ArePairsBehind (length at.now.body.now.states) at.now.body.now.pairs behind.now }
     requires within { state < length at.now.body.now.states }
-    requires edges { AreFirstTwoAt (M.behaviour at.now.machine.now) at.now.body.now.states state at.now.edges.now }
-    requires missing { IsMissingBelow (M.behaviour at.now.machine.now) at.now.body.now state missing }
-    ensures { IfOk result (IsMissingBelow (M.behaviour at.now.machine.now) at.now.body.now (state + 1)) }
+    requires edges { AreFirstTwoAt (M.behaviour at.now.machine.now) at.now.excused.now at.now.body.now.states state at.now.edges.now }
+    requires missing { IsMissingBelow (M.behaviour at.now.machine.now) at.now.excused.now at.now.body.now state missing }
+    ensures { IfOk result (IsMissingBelow (M.behaviour at.now.machine.now) at.now.excused.now at.now.body.now (state + 1)) }
 {
     if missing.split.is_some() {
         return Ok(missing);
@@ -93,15 +94,16 @@ fn missing_after<M: Machine>(
 pub fn find_missing<M: Parted, W: Progress>(
     alloc: Global,
     machine: &M,
+    excused: &Excused,
     body: &Body<M::State>,
     seed: Seed,
     watch: &mut W,
 ) -> Result<Missing, Failure<AcceptFault>>
     requires laws { KeepsLaws (M.behaviour machine.now) }
     requires start { HasStart (M.behaviour machine.now) body.now }
-    ensures missing { IfOk result (IsMissingBelow (M.behaviour machine.now) body.now (length body.now.states)) }
+    ensures missing { IfOk result (IsMissingBelow (M.behaviour machine.now) excused.now body.now (length body.now.states)) }
     ensures complete { OnOk result (MissesNoState (M.behaviour machine.now) body.now) }
-    ensures refused { IfErr result (IfFault (IsRefused (M.behaviour machine.now) body.now)) }
+    ensures refused { IfErr result (IfFault (IsRefusedUpTo (M.behaviour machine.now) excused.now body.now)) }
 {
     let behind = pairs_by_trailing_state(alloc, body)?;
     let mut kept = KeptParts::new(alloc, seed);
@@ -114,10 +116,11 @@ pub fn find_missing<M: Parted, W: Progress>(
         kept.forget_parts(alloc, seed);
         let edges = edges_of(alloc, machine, body, &mut kept, state as usize)?;
         kept.cells.rank(alloc)?;
-        let sorted = sort_first_two(alloc, &kept.cells, edges, seed)?;
+        let sorted = sort_first_two(alloc, excused, &kept.cells, edges, seed)?;
         let at = StateEdges {
             alloc,
             machine,
+            excused,
             body,
             edges: &sorted,
         };

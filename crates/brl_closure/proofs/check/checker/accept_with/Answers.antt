@@ -1,15 +1,42 @@
-use Rattle.std.proofs.Common.{slice_get}
-use Rattle.std.proofs.lemmas.Result.{err_from_is_err_and}
-use Rattle.brl_pairs.specs.Sets.{pair_at}
-use Rattle.brl_closure.proofs.Closing.{open_where_failed}
+use Rattle.std.proofs.Common.{List, ℕ, slice_get, sym, subst₂}
+use Rattle.std.proofs.lemmas.Result.{IfErr-weaker, on_ok_weaker}
+use Rattle.brl_failure.specs.Raised.{if_fault-weaker}
+use Rattle.brl_pairs.specs.Exchanges.{IsClosedUpTo}
+use Rattle.brl_pairs.specs.Pairs.{IsClosed}
+use Rattle.brl_pairs.specs.Sets.{pair_at, sets_of}
+use Rattle.brl_pairs.proofs.Excusing.{closed_from_up_to, up_to_from_closed}
+use Rattle.brl_closure.specs.declared.check.fault.AcceptFault.{AcceptFault}
+use Rattle.brl_closure.proofs.Unexcused.{refused_plainly}
 use Rattle.brl_closure.proofs.check.checker.accept_with.Goals as goal
 
-pub returns-in_err-check-clause-not_closed : goal.returns-in_err-check-clause-not_closed
-returns-in_err-check-clause-not_closed g c =
-    let p = err_from_is_err_and c.from_residual.result c.from_residual.ensures.1 in
-    rw (p.1, p.2) (open_where_failed (g.M.Machine.behaviour c.args.machine.now) c.args.body.now c.in_err-check.field-0.0 c.in_err-check.ensures.refused)
+-- nothing is excused
+pub returns-clause-closed : goal.returns-clause-closed
+returns-clause-closed g c =
+    let m = g.M.Machine.behaviour c.args.machine.now in
+    let sets = sets_of c.args.body.now in
+    on_ok_weaker c.accept_up_to.result
+    (λ closed. closed_from_up_to m sets (subst₂ (λ (exchanged accepted : List (ℕ × ℕ)). IsClosedUpTo m exchanged accepted sets) c.nothing.ensures.exchanged c.nothing.ensures.accepted closed))
+    c.accept_up_to.ensures.closed
 
 pub returns-clause-unambiguous : goal.returns-clause-unambiguous
 returns-clause-unambiguous g c =
     let body = c.args.body.now in
-    c.numbered_sets_law.ensures (slice_get body.states) (pair_at body) c.in_ok-check.ensures.closed
+    on_ok_weaker c.accept_up_to.result (λ closed. c.numbered_sets_law.ensures (slice_get body.states) (pair_at body) closed) (returns-clause-closed g c)
+
+pub returns-clause-refused : goal.returns-clause-refused
+returns-clause-refused g c =
+    let m = g.M.Machine.behaviour c.args.machine.now in
+    let body = c.args.body.now in
+    IfErr-weaker c.accept_up_to.result _ _
+    (λ failure h. if_fault-weaker _ _ failure (refused_plainly m body c.nothing.result c.nothing.ensures.accepted c.nothing.ensures.exchanged) h)
+    c.accept_up_to.ensures.refused
+
+pub returns-clause-not_closed : goal.returns-clause-not_closed
+returns-clause-not_closed g c =
+    let m = g.M.Machine.behaviour c.args.machine.now in
+    let sets = sets_of c.args.body.now in
+    IfErr-weaker c.accept_up_to.result _ _
+    (λ failure h. if_fault-weaker
+    (λ (fault : AcceptFault). IsClosedUpTo m c.nothing.result.exchanged c.nothing.result.accepted sets → ⊥) (λ (fault : AcceptFault). IsClosed m sets → ⊥) failure
+    (λ fault not_closed closed. not_closed (subst₂ (λ (exchanged accepted : List (ℕ × ℕ)). IsClosedUpTo m exchanged accepted sets) (sym c.nothing.ensures.exchanged) (sym c.nothing.ensures.accepted) (up_to_from_closed m sets closed))) h)
+    c.accept_up_to.ensures.not_closed

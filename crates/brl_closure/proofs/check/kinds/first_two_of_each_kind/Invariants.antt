@@ -8,6 +8,6 @@ use Rattle.brl_closure.proofs.check.kinds.first_two_of_each_kind.Given as goal
 
 abbrev pub invariant-loop-edge : goal.invariant-loop-edge
 invariant-loop-edge l = record {
-  passed : (cells : List (List ℕ)) → ArePassed (edges_with cells (take l.edge-index l.edges)) (edges_with cells l.kept.items) (map (kind_with cells) l.once) (map (kind_with cells) l.twice);
+  passed : (cells : List (List ℕ)) → ArePassed l.excused (edges_with cells (take l.edge-index l.edges)) (edges_with cells l.kept.items) (map (kind_with cells) l.once) (map (kind_with cells) l.twice);
   only : (place : ℕ) (e : ListedEdge) → slice_get l.kept.items place ≡ Some e → IsMember l.edges e;
 }

@@ -9,5 +9,5 @@ pub returns-then-not-has_three_alike : goal.returns-then-not-has_three_alike
 returns-then-not-has_three_alike c =
     let edges = edges_with c.args.cells.now c.args.edges.items in
     IfOk-weaker c.new.result _ _
-    (λ own is. subst (AreFirstTwo edges) (sym (is ∙ ap (λ (cells : List (List ℕ)). edges_with cells c.args.edges.items) c.as_slice-then-not-has_three_alike.ensures.members)) (all_kept edges))
+    (λ own is. subst (AreFirstTwo c.args.excused.now edges) (sym (is ∙ ap (λ (cells : List (List ℕ)). edges_with cells c.args.edges.items) c.as_slice-then-not-has_three_alike.ensures.members)) (all_kept c.args.excused.now edges))
     c.new.ensures

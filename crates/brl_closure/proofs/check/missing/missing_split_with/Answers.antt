@@ -1,12 +1,11 @@
-use Rattle.std.proofs.Common.{◌≡◌, ◌↔◌, ℕ, IsTrue, List, length, Some, slice_get, sym, ap, subst, arith}
+use Rattle.std.proofs.Common.{◌≡◌, ℕ, Some, slice_get, sym, subst, arith}
 use Rattle.brl_closure.specs.Least.{IsLeast}
 use Rattle.brl_closure.specs.Sorted.{AreFound}
-use Rattle.brl_closure.specs.Steps.{HasBefore}
+use Rattle.brl_closure.specs.Steps.{HasBefore, MissUnexcused}
 use Rattle.brl_closure.proofs.LeastRule.{named_within, none_before, read_least, read_without, refuted, split_matches}
-use Rattle.brl_pairs.specs.NumberPairs.{IsMissing}
 use Rattle.brl_pairs.specs.declared.edge.Edge.{Edge}
-use Rattle.brl_pairs.proofs.Lists.{read_at, same_place}
-use Rattle.brl_closure.proofs.check.missing.missing_split_with.Goals.{After-as_slice-matching-items, In_ok-is_missing}
+use Rattle.brl_pairs.proofs.Lists.{same_place}
+use Rattle.brl_closure.proofs.check.missing.missing_split_with.Goals.{After-as_slice-matching-items}
 use Rattle.brl_closure.proofs.check.missing.missing_split_with.Goals as goal
 
 -- the later edge, and the earlier ones that match its cells
@@ -18,12 +17,6 @@ found c =
     let y = c.in_ok-later.later in
     let y_at = c.in_ok-later.ensures in
     (y_at, subst (AreFound edges y.cells second) (sym c.as_slice-matching-items.ensures.value) (c.in_ok-found.ensures y y_at))
-
--- what the test says of the earlier edge
-tells : (c : In_ok-is_missing) → IsTrue c.in_ok-is_missing.field-0 ↔ IsMissing c.args.pairs.now c.in_ok-earlier.earlier.next c.in_ok-earlier.earlier.cells c.in_ok-later.later
-tells c =
-    let e = c.in_ok-earlier.earlier in
-    subst (λ (cells : List ℕ). IsTrue c.in_ok-is_missing.field-0 ↔ IsMissing c.args.pairs.now e.next cells c.in_ok-later.later) c.as_slice-lead.ensures c.in_ok-is_missing.ensures
 
 pub loop-matching-init : goal.loop-matching-init
 loop-matching-init c = λ k x e below. absurd (omega arith)
@@ -40,24 +33,24 @@ returns-then-branch c = λ later later_at.
     let y = c.in_ok-later.later in
     let e = c.in_ok-earlier.earlier in
     let those = found (goal.at.returns-then-branch c).After-as_slice-matching-items in
-    subst (λ (z : Edge). IsLeast (HasBefore (λ earlier. IsMissing a.pairs.now earlier.next earlier.cells z) a.edges.now a.second) e.rule) (same_place a.edges.now a.second y later those.0 later_at)
-    (read_least (λ (z : Edge). IsMissing a.pairs.now z.next z.cells y) a.edges.now y.cells a.second c.as_slice-matching-items.result.now those.1 (split_matches a.pairs.now y)
+    subst (λ (z : Edge). IsLeast (HasBefore (λ earlier. MissUnexcused a.excused.now a.pairs.now earlier z) a.edges.now a.second) e.rule) (same_place a.edges.now a.second y later those.0 later_at)
+    (read_least (λ (z : Edge). MissUnexcused a.excused.now a.pairs.now z y) a.edges.now y.cells a.second c.as_slice-matching-items.result.now those.1 (split_matches a.excused.now a.pairs.now y)
     c.loop-matching.matching-index c.loop-matching-test.true e c.in_ok-earlier.ensures c.loop-matching.invariant
-    c.requires.in_order ((tells (goal.at.returns-then-branch c).In_ok-is_missing).0 c.if-branch.true))
+    c.requires.in_order (c.in_ok-is_missing_split.ensures.0 c.if-branch.true))
 
 pub loop-matching-preserved : goal.loop-matching-preserved
 loop-matching-preserved c =
     let a = c.args in
     let y = c.in_ok-later.later in
-    read_without (λ (z : Edge). IsMissing a.pairs.now z.next z.cells y) a.edges.now y.cells a.second c.as_slice-matching-items.result.now (found (goal.at.loop-matching-preserved c).After-as_slice-matching-items).1 (split_matches a.pairs.now y)
+    read_without (λ (z : Edge). MissUnexcused a.excused.now a.pairs.now z y) a.edges.now y.cells a.second c.as_slice-matching-items.result.now (found (goal.at.loop-matching-preserved c).After-as_slice-matching-items).1 (split_matches a.excused.now a.pairs.now y)
     c.loop-matching.matching-index c.loop-matching-test.true c.in_ok-earlier.earlier c.in_ok-earlier.ensures c.loop-matching.invariant
-    (refuted c.in_ok-is_missing.field-0 (tells (goal.at.loop-matching-preserved c).In_ok-is_missing) c.if-branch.false)
+    (refuted c.in_ok-is_missing_split.field-0 c.in_ok-is_missing_split.ensures c.if-branch.false)
 
 pub returns : goal.returns
 returns c = λ later later_at.
     let a = c.args in
     let y = c.in_ok-later.later in
     let those = found (goal.at.returns c).After-as_slice-matching-items in
-    subst (λ (z : Edge). (rule : ℕ) → HasBefore (λ earlier. IsMissing a.pairs.now earlier.next earlier.cells z) a.edges.now a.second rule → ⊥) (same_place a.edges.now a.second y later those.0 later_at)
-    (none_before (λ (z : Edge). IsMissing a.pairs.now z.next z.cells y) a.edges.now y.cells a.second c.as_slice-matching-items.result.now those.1 (split_matches a.pairs.now y)
+    subst (λ (z : Edge). (rule : ℕ) → HasBefore (λ earlier. MissUnexcused a.excused.now a.pairs.now earlier z) a.edges.now a.second rule → ⊥) (same_place a.edges.now a.second y later those.0 later_at)
+    (none_before (λ (z : Edge). MissUnexcused a.excused.now a.pairs.now z y) a.edges.now y.cells a.second c.as_slice-matching-items.result.now those.1 (split_matches a.excused.now a.pairs.now y)
     c.loop-matching.matching-index (omega arith) c.loop-matching.invariant)

@@ -1,5 +1,4 @@
 use Rattle.std.proofs.Common.{◌≡◌, ◌<◌, ℕ, List, length, sym, subst, arith}
-use Rattle.brl_pairs.specs.Edges.{AreEdges}
 use Rattle.brl_pairs.specs.Listed.{HaveCells, edges_with}
 use Rattle.brl_parts.specs.Parts.{AreKeptParts}
 use Rattle.brl_pairs.proofs.ListedLaws.{edges_of_state, have_cells}
@@ -32,7 +31,7 @@ pub missing_after-requires-clause-edges : goal.missing_after-requires-clause-edg
 missing_after-requires-clause-edges g c = record {
   edges = edges_with c.edges_of.new.kept.cells c.in_ok-edges.edges.items;
   are_edges = edges_of_state (g.M.Machine.behaviour c.args.machine.now) c.args.body.now.states c.edges_of.new.kept.cells c.loop-state.state c.in_ok-edges.edges.items c.in_ok-edges.ensures.edges;
-  first_two = subst (λ (own : List (List ℕ)). AreFirstTwo (edges_with own c.in_ok-edges.edges.items) c.in_ok-sorted.sorted) c.rank.ensures c.in_ok-sorted.ensures;
+  first_two = subst (λ (own : List (List ℕ)). AreFirstTwo c.args.excused.now (edges_with own c.in_ok-edges.edges.items) c.in_ok-sorted.sorted) c.rank.ensures c.in_ok-sorted.ensures;
 }
 
 pub loop-state-preserved : goal.loop-state-preserved
@@ -52,7 +51,7 @@ pub returns-clause-missing : goal.returns-clause-missing
 returns-clause-missing g c =
     let body = c.args.body.now in
     let all : c.loop-state.state ≡ length body.states = omega (arith, c.state_count-state-end.ensures) in
-    subst (λ (n : ℕ). IsMissingBelow (g.M.Machine.behaviour c.args.machine.now) body n c.loop-state.missing) all c.loop-state.invariant.missing
+    subst (λ (n : ℕ). IsMissingBelow (g.M.Machine.behaviour c.args.machine.now) c.args.excused.now body n c.loop-state.missing) all c.loop-state.invariant.missing
 
 pub returns-clause-complete : goal.returns-clause-complete
 returns-clause-complete g c = λ number rule gap.

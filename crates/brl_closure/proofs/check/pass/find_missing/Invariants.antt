@@ -6,7 +6,7 @@ use Rattle.brl_closure.proofs.check.pass.find_missing.Given as goal
 
 abbrev pub invariant-loop-state : goal.invariant-loop-state
 invariant-loop-state g l = record {
-  missing : IsMissingBelow (g.M.Machine.behaviour l.machine) l.body l.state l.missing;
+  missing : IsMissingBelow (g.M.Machine.behaviour l.machine) l.excused l.body l.state l.missing;
   steps : (k rule : ℕ) → k < l.state → MissesState (g.M.Machine.behaviour l.machine) l.body k rule → ⊥;
   kept : AreKeptParts (g.M.Parted.steps_of l.machine) l.body.states l.kept.cells l.kept.parts;
 }
