@@ -1,13 +1,19 @@
 -- What follows from a judge's outcome for the table and the certificate.
-use Rattle.std.proofs.Common.{◌≡◌, ℕ, ◌⊎◌, inl, inr, List, [], Result, Ok, Err, IfErr, IfOk, OnOk, refl, sym, ◌∙◌, ap, subst}
-use Rattle.brl_accept.specs.Judging.{IsAcceptedWithout, IsNotProved, IsProved, IsRefusedAs, IsRefusedByWithout, IsRefusedWithout, counted}
+use Rattle.std.proofs.Common.{◌≡◌, ℕ, ◌⊎◌, inl, inr, List, Result, Ok, Err, IfErr, IfOk, OnOk, refl, sym, ◌∙◌, ap, subst, subst₂}
+use Rattle.brl_accept.specs.Excusing.{IsNothing, IsShown, MayExcuse, closed_up_to}
+use Rattle.brl_accept.specs.Judging.{IsAcceptedFor, IsFirstFault, IsProved, IsRefusedAs, IsRefusedFor, Terms, closed_without, counted}
+use Rattle.brl_closure.specs.Excusing.{IsClosedBody, IsRefusedUpTo}
 use Rattle.brl_closure.specs.Refusals.{IsRefused}
 use Rattle.brl_closure.specs.declared.check.fault.AcceptFault.{AcceptFault}
+use Rattle.brl_pairs.specs.Body.{BodyView}
+use Rattle.brl_pairs.specs.Pairs.{IsClosed}
+use Rattle.brl_pairs.specs.Runs.{Behaviour}
 use Rattle.brl_closure.specs.declared.check.checker.Accepted.{Accepted}
 use Rattle.brl_accept.specs.declared.judge_fault.JudgeFault.{JudgeFault}
 use Rattle.brl_accept.specs.declared.judge_fault.JudgeFault.TheVariants.{NoTable, NotDefined, Cert, OldVersion, Wide, Refused}
-use Rattle.brl_closure.proofs.Open.{open_where_refused}
-use Rattle.brl_accept.specs.Kinds.{HasMachine, HasVersion, IsClosedFor, OfMachine}
+use Rattle.brl_closure.proofs.Open.{open_up_to}
+use Rattle.brl_closure.proofs.Unexcused.{refused_plainly}
+use Rattle.brl_accept.specs.Kinds.{HasMachine, HasVersion}
 use Rattle.brl_cert.specs.Reading.{reading}
 use Rattle.brl_states.specs.Counts.{pair_count, state_count}
 use Rattle.brl_states.specs.declared.cert.Cert.TheVariants.{Dues, Window, Word}
@@ -20,11 +26,15 @@ use Rattle.brl_lines.specs.Answer.{FileAnswers}
 use Rattle.brl_table.specs.Files.{IsFaultAt, IsTableOf}
 use Rattle.brl_table.specs.declared.no_table.NoTable.{NoTable as NoTableFault}
 use Rattle.brl_rules.specs.TableView.{TableView}
-use Rattle.brl_rules.specs.Translation.{IsUnambiguous}
 use Rattle.brl_window.specs.Windows.{window_machine}
-use Rattle.brl_states.specs.declared.window_state.WindowState.{WindowState}
 use Rattle.brl_dues.specs.Steps.{dues_machine}
-use Rattle.brl_states.specs.declared.dues_state.DuesState.{DuesState}
+use Rattle.brl_pairs.specs.Exchanges.{IsClosedUpTo}
+use Rattle.brl_pairs.specs.Sets.{sets_of}
+use Rattle.brl_pairs.specs.declared.excused.Excused.{Excused}
+use Rattle.brl_pairs.proofs.Excusing.{closed_from_up_to, up_to_from_closed}
+use Rattle.brl_forward.specs.Trace.{trace_of}
+use Rattle.brl_traces.specs.Exchanges.{TracesAgreeBut}
+use Rattle.brl_traces.proofs.Alike.{itself}
 use Rattle.brl_without.specs.Tables.{AreDefined, IsUnambiguousWithout}
 use Rattle.brl_without.specs.Without.{without}
 
@@ -35,16 +45,16 @@ same_counts one other states pairs =
     (subst (λ (n : ℕ). ◌≡◌ {A = Accepted} one (record { states = one.states; pairs = n })) pairs refl)
 
 -- the outcome for the machine of a table is that for the certificate that lists the body
-pub judged : (left_out : List ℕ) (t u : TableView) (cert : Certificate) → u ≡ t → HasMachine t cert → (result : Result Accepted (Failure JudgeFault)) → OnOk result (IsUnambiguousWithout left_out u)
-    → IfOk result (λ accepted. IsClosedFor left_out u cert × (accepted.states ≡ state_count cert) × (accepted.pairs ≡ pair_count cert))
-    → IfErr result (IfFault (λ fault. (refusal : AcceptFault) × (fault ≡ Refused refusal) × OfMachine (λ S m body. IsRefused (without left_out m) body refusal) u cert))
-    → OnOk result (IsUnambiguousWithout left_out t) × IfOk result (IsProved left_out t cert) × IfErr result (IfFault (IsNotProved left_out t cert))
-judged left_out t u cert same has (Ok accepted) single closed refused =
-    (subst (IsUnambiguousWithout left_out) same single, (has, subst (λ (v : TableView). IsClosedFor left_out v cert) same closed.0, same_counts accepted (counted cert) closed.1 closed.2), tt)
-judged left_out t u cert same has (Err (Fault fault)) single closed refused =
-    let moved = subst (λ (v : TableView). OfMachine (λ S m body. IsRefused (without left_out m) body refused.0) v cert) same refused.2 in
-    (tt, tt, subst (IsNotProved left_out t cert) (sym refused.1) (has, moved))
-judged left_out t u cert same has (Err Memory) single closed refused = (tt, tt, tt)
+pub judged : (left_out : List ℕ) (excused : Excused) (t u : TableView) (cert : Certificate) → u ≡ t → (closed_up_to left_out excused).IsFor t cert → HasMachine t cert → (result : Result Accepted (Failure JudgeFault))
+    → IfOk result (λ accepted. (closed_up_to left_out excused).IsClosed u cert × (accepted.states ≡ state_count cert) × (accepted.pairs ≡ pair_count cert))
+    → IfErr result (IfFault (λ fault. (refusal : AcceptFault) × (fault ≡ Refused refusal) × (closed_up_to left_out excused).IsRefused refusal u cert))
+    → IfOk result (IsProved (closed_up_to left_out excused) t cert) × IfErr result (IfFault (IsRefusedAs (closed_up_to left_out excused) t cert))
+judged left_out excused t u cert same version has (Ok accepted) closed refused =
+    ((has, subst (λ (v : TableView). (closed_up_to left_out excused).IsClosed v cert) same closed.0, same_counts accepted (counted cert) closed.1 closed.2), tt)
+judged left_out excused t u cert same version has (Err (Fault fault)) closed refused =
+    let moved = subst (λ (v : TableView). (closed_up_to left_out excused).IsRefused refused.0 v cert) same refused.2 in
+    (tt, subst (IsRefusedAs (closed_up_to left_out excused) t cert) (sym refused.1) (version, has, moved))
+judged left_out excused t u cert same version has (Err Memory) closed refused = (tt, tt)
 
 -- what is refused is nowhere accepted
 one_cert : (bytes : List ℕ) (a b : Certificate) → reading bytes ≡ Ok a → reading bytes ≡ Ok b → a ≡ b
@@ -53,46 +63,38 @@ one_cert bytes a b e f = cc
 no_cert : (bytes : List ℕ) (wrong : CertFault) (cert : Certificate) → reading bytes ≡ Err wrong → reading bytes ≡ Ok cert → ⊥
 no_cert bytes wrong cert e f = cc
 
-module _ (left_out : List ℕ) where
-  not_closed : (t : TableView) (cert : Certificate) (fault : AcceptFault) → OfMachine (λ S m body. IsRefused (without left_out m) body fault) t cert → IsClosedFor left_out t cert → ⊥
-  not_closed t (Window body) fault h closed = open_where_refused (without left_out (window_machine t)) body fault h closed
-  not_closed t (Dues body) fault h closed = open_where_refused (without left_out (dues_machine t)) body fault h closed
-  not_closed t (Word body) fault h closed = open_where_refused (without left_out (dues_machine t)) body fault h closed
+-- what is refused isn't closed
+pub not_closed_up_to : (left_out : List ℕ) (excused : Excused) (t : TableView) (cert : Certificate) (fault : AcceptFault) → (closed_up_to left_out excused).IsRefused fault t cert → (closed_up_to left_out excused).IsClosed t cert → ⊥
+not_closed_up_to left_out excused t (Window body) fault h closed = open_up_to (without left_out (window_machine t)) body excused fault h closed
+not_closed_up_to left_out excused t (Dues body) fault h closed = open_up_to (without left_out (dues_machine t)) body excused fault h closed
+not_closed_up_to left_out excused t (Word body) fault h closed = open_up_to (without left_out (dues_machine t)) body excused fault h closed
 
-  not_proved : (t : TableView) (cert : Certificate) (fault : JudgeFault) → IsRefusedAs left_out t cert fault → (accepted : Accepted) → HasVersion t cert × IsProved left_out t cert accepted → ⊥
-  not_proved t cert (NoTable fault) h accepted is = h.1
-  not_proved t cert (NotDefined fault) h accepted is = h.1
-  not_proved t cert (Cert fault) h accepted is = h.1
+module _ (terms : Terms) (not_closed : (t : TableView) (cert : Certificate) (fault : AcceptFault) → terms.IsRefused fault t cert → terms.IsClosed t cert → ⊥) where
+  not_proved : (t : TableView) (cert : Certificate) (fault : JudgeFault) → IsRefusedAs terms t cert fault → (accepted : Accepted) → terms.IsFor t cert × IsProved terms t cert accepted → ⊥
+  not_proved t cert (NoTable fault) h accepted is = h
+  not_proved t cert (NotDefined fault) h accepted is = h
+  not_proved t cert (Cert fault) h accepted is = h
   not_proved t cert OldVersion h accepted is = h is.0
   not_proved t cert (Wide fault) h accepted is = h.1 is.1.0
-  not_proved t cert (Refused fault) h accepted is = not_closed t cert fault h.1.1 is.1.1
-
-  -- a certificate of a version for the table, that isn't proved
-  pub refused_as : (t : TableView) (cert : Certificate) → HasVersion t cert → (fault : JudgeFault) → IsNotProved left_out t cert fault → IsRefusedAs left_out t cert fault
-  refused_as t cert version (NoTable fault) h = absurd h
-  refused_as t cert version (NotDefined fault) h = absurd h
-  refused_as t cert version (Cert fault) h = absurd h
-  refused_as t cert version OldVersion h = absurd h
-  refused_as t cert version (Wide fault) h = (version, h)
-  refused_as t cert version (Refused fault) h = (version, h)
+  not_proved t cert (Refused fault) h accepted is = not_closed t cert fault h.2 is.1.1
 
   module _ (t : TableView) (bytes : List ℕ) where
     -- a refusal of a certificate that was read, where what is left out is defined
-    pub refused_read : AreDefined t left_out → (cert : Certificate) → reading bytes ≡ Ok cert → (fault : JudgeFault) → IsRefusedAs left_out t cert fault → IsRefusedWithout left_out t bytes fault
-    refused_read defined cert e (NoTable fault) h = absurd h.1
-    refused_read defined cert e (NotDefined fault) h = absurd h.1
-    refused_read defined cert e (Cert fault) h = absurd h.1
+    pub refused_read : AreDefined t terms.left_out → (cert : Certificate) → reading bytes ≡ Ok cert → (fault : JudgeFault) → IsRefusedAs terms t cert fault → IsRefusedFor terms t bytes fault
+    refused_read defined cert e (NoTable fault) h = absurd h
+    refused_read defined cert e (NotDefined fault) h = absurd h
+    refused_read defined cert e (Cert fault) h = absurd h
     refused_read defined cert e OldVersion h = (defined, (cert, e, h))
     refused_read defined cert e (Wide fault) h = (defined, (cert, e, h))
     refused_read defined cert e (Refused fault) h = (defined, (cert, e, h))
 
-    by_cert : (fault : JudgeFault) → (cert : Certificate) × (reading bytes ≡ Ok cert) × IsRefusedAs left_out t cert fault → (accepted : Accepted) → IsAcceptedWithout left_out t bytes accepted → ⊥
+    by_cert : (fault : JudgeFault) → (cert : Certificate) × (reading bytes ≡ Ok cert) × IsRefusedAs terms t cert fault → (accepted : Accepted) → IsAcceptedFor terms t bytes accepted → ⊥
     by_cert fault h accepted is =
-        not_proved t h.0 fault h.2 accepted (subst (λ (cert : Certificate). HasVersion t cert × IsProved left_out t cert accepted) (one_cert bytes is.1.0 h.0 is.1.1 h.1) (is.1.2, is.1.3))
+        not_proved t h.0 fault h.2 accepted (subst (λ (cert : Certificate). terms.IsFor t cert × IsProved terms t cert accepted) (one_cert bytes is.1.0 h.0 is.1.1 h.1) (is.1.2, is.1.3))
 
-    not_accepted : (fault : JudgeFault) → IsRefusedWithout left_out t bytes fault → (accepted : Accepted) → IsAcceptedWithout left_out t bytes accepted → ⊥
+    not_accepted : (fault : JudgeFault) → IsRefusedFor terms t bytes fault → (accepted : Accepted) → IsAcceptedFor terms t bytes accepted → ⊥
     not_accepted (NoTable fault) h accepted is = by_cert (NoTable fault) h.1 accepted is
-    not_accepted (NotDefined fault) h accepted is = absurd (let defined : AreDefined t left_out = is.0 in cc h.1)
+    not_accepted (NotDefined fault) h accepted is = absurd (let defined : AreDefined t terms.left_out = is.0 in cc h.1)
     not_accepted (Cert fault) h accepted is = no_cert bytes fault is.1.0 h.1 is.1.1
     not_accepted OldVersion h accepted is = by_cert OldVersion h.1 accepted is
     not_accepted (Wide fault) h accepted is = by_cert (Wide fault) h.1 accepted is
@@ -100,33 +102,33 @@ module _ (left_out : List ℕ) where
 
 -- ---- Over what the source gives
 
-module _ (left_out : List ℕ) (gives : FileAnswers) (root bytes : List ℕ) where
+module _ (terms : Terms) (not_closed : (t : TableView) (cert : Certificate) (fault : AcceptFault) → terms.IsRefused fault t cert → terms.IsClosed t cert → ⊥) (Shown : TableView → Type 0) (gives : FileAnswers) (root bytes : List ℕ) where
   -- a refusal of the table is one of the last stages
-  refused_after : (t : TableView) (fault : JudgeFault) → IsTableOf gives root t → IsRefusedWithout left_out t bytes fault → IsRefusedByWithout left_out gives root bytes fault
-  refused_after t (NoTable fault) is h = absurd h.1.2.1
-  refused_after t (NotDefined fault) is h = (t, is, h, not_accepted left_out t bytes (NotDefined fault) h)
-  refused_after t (Cert fault) is h = (t, is, h, not_accepted left_out t bytes (Cert fault) h)
-  refused_after t OldVersion is h = (t, is, h, not_accepted left_out t bytes OldVersion h)
-  refused_after t (Wide fault) is h = (t, is, h, not_accepted left_out t bytes (Wide fault) h)
-  refused_after t (Refused fault) is h = (t, is, h, not_accepted left_out t bytes (Refused fault) h)
+  refused_after : (t : TableView) (fault : JudgeFault) → IsTableOf gives root t → IsRefusedFor terms t bytes fault → IsFirstFault terms gives root bytes fault
+  refused_after t (NoTable fault) is h = absurd h.1.2
+  refused_after t (NotDefined fault) is h = (t, is, h, not_accepted terms not_closed t bytes (NotDefined fault) h)
+  refused_after t (Cert fault) is h = (t, is, h, not_accepted terms not_closed t bytes (Cert fault) h)
+  refused_after t OldVersion is h = (t, is, h, not_accepted terms not_closed t bytes OldVersion h)
+  refused_after t (Wide fault) is h = (t, is, h, not_accepted terms not_closed t bytes (Wide fault) h)
+  refused_after t (Refused fault) is h = (t, is, h, not_accepted terms not_closed t bytes (Refused fault) h)
 
-  pub failed_after : (t : TableView) (failure : Failure JudgeFault) → IsTableOf gives root t → IfFault (IsRefusedWithout left_out t bytes) failure → IfFault (IsRefusedByWithout left_out gives root bytes) failure
+  pub failed_after : (t : TableView) (failure : Failure JudgeFault) → IsTableOf gives root t → IfFault (IsRefusedFor terms t bytes) failure → IfFault (IsFirstFault terms gives root bytes) failure
   failed_after t (Fault fault) is h = refused_after t fault is h
   failed_after t Memory is h = tt
 
   -- an acceptance for the table at the path
-  pub accepted_for : (t : TableView) → IsTableOf gives root t → (result : Result Accepted (Failure JudgeFault)) → OnOk result (IsUnambiguousWithout left_out t) → IfOk result (IsAcceptedWithout left_out t bytes)
-      → IfOk result (λ accepted. (u : TableView) × IsTableOf gives root u × IsUnambiguousWithout left_out u × IsAcceptedWithout left_out u bytes accepted)
+  pub accepted_for : (t : TableView) → IsTableOf gives root t → (result : Result Accepted (Failure JudgeFault)) → OnOk result (Shown t) → IfOk result (IsAcceptedFor terms t bytes)
+      → IfOk result (λ accepted. (u : TableView) × IsTableOf gives root u × Shown u × IsAcceptedFor terms u bytes accepted)
   accepted_for t is (Ok accepted) unambiguous h = (t, is, unambiguous, h)
   accepted_for t is (Err fault) unambiguous h = tt
 
-  module _ (t : TableView) (is : IsTableOf gives root t) (accepted : Accepted) (deserved : IsAcceptedWithout left_out t bytes accepted)
+  module _ (t : TableView) (is : IsTableOf gives root t) (accepted : Accepted) (deserved : IsAcceptedFor terms t bytes accepted)
       (one_table : (u : TableView) → IsTableOf gives root u → t ≡ u) (no_fault : (fault : NoTableFault) → IsFaultAt gives root fault → ⊥) where
     -- a refusal of what deserves acceptance
-    later_stage : (fault : JudgeFault) → (u : TableView) × IsTableOf gives root u × IsRefusedWithout left_out u bytes fault × ((other : Accepted) → IsAcceptedWithout left_out u bytes other → ⊥) → ⊥
-    later_stage fault h = h.3 accepted (subst (λ (u : TableView). IsAcceptedWithout left_out u bytes accepted) (one_table h.0 h.1) deserved)
+    later_stage : (fault : JudgeFault) → (u : TableView) × IsTableOf gives root u × IsRefusedFor terms u bytes fault × ((other : Accepted) → IsAcceptedFor terms u bytes other → ⊥) → ⊥
+    later_stage fault h = h.3 accepted (subst (λ (u : TableView). IsAcceptedFor terms u bytes accepted) (one_table h.0 h.1) deserved)
 
-    never_refused : (fault : JudgeFault) → IsRefusedByWithout left_out gives root bytes fault → ⊥
+    never_refused : (fault : JudgeFault) → IsFirstFault terms gives root bytes fault → ⊥
     never_refused (NoTable fault) h = no_fault fault h
     never_refused (NotDefined fault) h = later_stage (NotDefined fault) h
     never_refused (Cert fault) h = later_stage (Cert fault) h
@@ -134,15 +136,92 @@ module _ (left_out : List ℕ) (gives : FileAnswers) (root bytes : List ℕ) whe
     never_refused (Wide fault) h = later_stage (Wide fault) h
     never_refused (Refused fault) h = later_stage (Refused fault) h
 
-    same_acceptance : (other : Accepted) → (u : TableView) × IsTableOf gives root u × IsUnambiguousWithout left_out u × IsAcceptedWithout left_out u bytes other → other ≡ accepted
+    same_acceptance : (other : Accepted) → (u : TableView) × IsTableOf gives root u × Shown u × IsAcceptedFor terms u bytes other → other ≡ accepted
     same_acceptance other h =
-        let here = (subst (λ (u : TableView). IsAcceptedWithout left_out u bytes other) (sym (one_table h.0 h.1)) h.3).1 in
+        let here = (subst (λ (u : TableView). IsAcceptedFor terms u bytes other) (sym (one_table h.0 h.1)) h.3).1 in
         let cert : here.0 ≡ deserved.1.0 = one_cert bytes here.0 deserved.1.0 here.1 deserved.1.1 in
         here.3.2 ∙ ap counted cert ∙ sym deserved.1.3.2
 
     -- what the judge answers: acceptance, unless memory ran out
-    pub decided : (result : Result Accepted (Failure JudgeFault)) → IfOk result (λ other. (u : TableView) × IsTableOf gives root u × IsUnambiguousWithout left_out u × IsAcceptedWithout left_out u bytes other)
-        → IfErr result (IfFault (IsRefusedByWithout left_out gives root bytes)) → (result ≡ Ok accepted) ⊎ (result ≡ Err Memory)
+    pub decided : (result : Result Accepted (Failure JudgeFault)) → IfOk result (λ other. (u : TableView) × IsTableOf gives root u × Shown u × IsAcceptedFor terms u bytes other)
+        → IfErr result (IfFault (IsFirstFault terms gives root bytes)) → (result ≡ Ok accepted) ⊎ (result ≡ Err Memory)
     decided (Ok other) h k = inl (ap Ok (same_acceptance other h))
     decided (Err (Fault fault)) h k = absurd (never_refused fault k)
     decided (Err Memory) h k = inr refl
+
+-- ---- Nothing is excused
+
+-- texts that are equal are the same but for what is excused
+pub shown_plainly : (left_out : List ℕ) (excused : Excused) (t : TableView) → IsUnambiguousWithout left_out t → IsShown left_out excused t
+shown_plainly left_out excused t single = (
+  λ left right is_left is_right left_none right_none same. subst (TracesAgreeBut t excused.exchanged excused.accepted left)
+      (single left right is_left is_right left_none right_none same) (inl (itself t excused.exchanged left (trace_of t left))),
+  λ nothing. single,
+)
+
+module _ (left_out : List ℕ) (excused : Excused) (nothing : IsNothing excused) where
+  plain_version : (t : TableView) (cert : Certificate) → HasVersion t cert → HasVersion t cert × MayExcuse excused cert
+  plain_version t (Window body) has = (has, nothing)
+  plain_version t (Dues body) has = (has, tt)
+  plain_version t (Word body) has = (has, tt)
+
+  module _ {S : Type 0} (m : Behaviour S) (body : BodyView S) where
+    plain_sets : IsClosedBody m excused body → IsClosed m (sets_of body)
+    plain_sets closed = closed_from_up_to m (sets_of body) (subst₂ (λ (exchanged accepted : List (ℕ × ℕ)). IsClosedUpTo m exchanged accepted (sets_of body)) nothing.1 nothing.0 closed)
+
+    excused_sets : IsClosed m (sets_of body) → IsClosedBody m excused body
+    excused_sets closed = subst₂ (λ (exchanged accepted : List (ℕ × ℕ)). IsClosedUpTo m exchanged accepted (sets_of body)) (sym nothing.1) (sym nothing.0) (up_to_from_closed m (sets_of body) closed)
+
+    plain_refusal : (fault : AcceptFault) → IsRefusedUpTo m excused body fault → IsRefused m body fault
+    plain_refusal fault h = refused_plainly m body excused nothing.0 nothing.1 fault h
+
+  plain_closed : (t : TableView) (cert : Certificate) → (closed_up_to left_out excused).IsClosed t cert → (closed_without left_out).IsClosed t cert
+  plain_closed t (Window body) h = plain_sets (without left_out (window_machine t)) body h
+  plain_closed t (Dues body) h = plain_sets (without left_out (dues_machine t)) body h
+  plain_closed t (Word body) h = plain_sets (without left_out (dues_machine t)) body h
+
+  excused_closed : (t : TableView) (cert : Certificate) → (closed_without left_out).IsClosed t cert → (closed_up_to left_out excused).IsClosed t cert
+  excused_closed t (Window body) h = excused_sets (without left_out (window_machine t)) body h
+  excused_closed t (Dues body) h = excused_sets (without left_out (dues_machine t)) body h
+  excused_closed t (Word body) h = excused_sets (without left_out (dues_machine t)) body h
+
+  plain_refused : (fault : AcceptFault) (t : TableView) (cert : Certificate) → (closed_up_to left_out excused).IsRefused fault t cert → (closed_without left_out).IsRefused fault t cert
+  plain_refused fault t (Window body) h = plain_refusal (without left_out (window_machine t)) body fault h
+  plain_refused fault t (Dues body) h = plain_refusal (without left_out (dues_machine t)) body fault h
+  plain_refused fault t (Word body) h = plain_refusal (without left_out (dues_machine t)) body fault h
+
+  pub plainly_accepted : (t : TableView) (bytes : List ℕ) (accepted : Accepted) → IsAcceptedFor (closed_up_to left_out excused) t bytes accepted → IsAcceptedFor (closed_without left_out) t bytes accepted
+  plainly_accepted t bytes accepted h = (h.0, (h.1.0, h.1.1, h.1.2.0, (h.1.3.0, plain_closed t h.1.0 h.1.3.1, h.1.3.2)))
+
+  pub excused_accepted : (t : TableView) (bytes : List ℕ) (accepted : Accepted) → IsAcceptedFor (closed_without left_out) t bytes accepted → IsAcceptedFor (closed_up_to left_out excused) t bytes accepted
+  excused_accepted t bytes accepted h = (h.0, (h.1.0, h.1.1, plain_version t h.1.0 h.1.2, (h.1.3.0, excused_closed t h.1.0 h.1.3.1, h.1.3.2)))
+
+  module _ (t : TableView) (bytes : List ℕ) where
+    plain_as : (cert : Certificate) (fault : JudgeFault) → IsRefusedAs (closed_up_to left_out excused) t cert fault → IsRefusedAs (closed_without left_out) t cert fault
+    plain_as cert (NoTable fault) h = absurd h
+    plain_as cert (NotDefined fault) h = absurd h
+    plain_as cert (Cert fault) h = absurd h
+    plain_as cert OldVersion h = λ version. h (plain_version t cert version)
+    plain_as cert (Wide fault) h = (h.0.0, h.1)
+    plain_as cert (Refused fault) h = (h.0.0, h.1, plain_refused fault t cert h.2)
+
+    plain_for : (fault : JudgeFault) → IsRefusedFor (closed_up_to left_out excused) t bytes fault → IsRefusedFor (closed_without left_out) t bytes fault
+    plain_for (NoTable fault) h = absurd h.1.2
+    plain_for (NotDefined fault) h = h
+    plain_for (Cert fault) h = h
+    plain_for OldVersion h = (h.0, (h.1.0, h.1.1, plain_as h.1.0 OldVersion h.1.2))
+    plain_for (Wide fault) h = (h.0, (h.1.0, h.1.1, plain_as h.1.0 (Wide fault) h.1.2))
+    plain_for (Refused fault) h = (h.0, (h.1.0, h.1.1, plain_as h.1.0 (Refused fault) h.1.2))
+
+  module _ (gives : FileAnswers) (root bytes : List ℕ) where
+    plain_later : (fault : JudgeFault) → (t : TableView) × IsTableOf gives root t × IsRefusedFor (closed_up_to left_out excused) t bytes fault × ((accepted : Accepted) → IsAcceptedFor (closed_up_to left_out excused) t bytes accepted → ⊥)
+        → (t : TableView) × IsTableOf gives root t × IsRefusedFor (closed_without left_out) t bytes fault × ((accepted : Accepted) → IsAcceptedFor (closed_without left_out) t bytes accepted → ⊥)
+    plain_later fault h = (h.0, h.1, plain_for h.0 bytes fault h.2, (λ accepted is. h.3 accepted (excused_accepted h.0 bytes accepted is)))
+
+    pub plainly_refused : (fault : JudgeFault) → IsFirstFault (closed_up_to left_out excused) gives root bytes fault → IsFirstFault (closed_without left_out) gives root bytes fault
+    plainly_refused (NoTable fault) h = h
+    plainly_refused (NotDefined fault) h = plain_later (NotDefined fault) h
+    plainly_refused (Cert fault) h = plain_later (Cert fault) h
+    plainly_refused OldVersion h = plain_later OldVersion h
+    plainly_refused (Wide fault) h = plain_later (Wide fault) h
+    plainly_refused (Refused fault) h = plain_later (Refused fault) h

@@ -1,20 +1,17 @@
 -- The machine of each version of certificates. A certificate of version 1 lists states of a table's
 -- window machine, one of version 2 or 3 states of its machine with dues. The project's own choice.
-use Rattle.std.specs.Prelude.{◌≡◌, ◌≤◌, ℕ, List, false}
+use Rattle.std.specs.Prelude.{◌≡◌, ◌≤◌, false}
 use Rattle.brl_pairs.specs.Body.{BodyView}
 use Rattle.brl_states.specs.declared.cert.Cert.TheVariants.{Dues, Window, Word}
 use Rattle.brl_states.specs.declared.cert.Cert.{Cert as Certificate}
-use Rattle.brl_pairs.specs.Sets.{sets_of}
 use Rattle.brl_dues.specs.Steps.{dues_machine}
 use Rattle.brl_states.specs.declared.dues_state.DuesState.{DuesState}
-use Rattle.brl_pairs.specs.Pairs.{IsClosed}
 use Rattle.brl_pairs.specs.Runs.{Behaviour}
 use Rattle.brl_rules.specs.TableView.{TableView}
 use Rattle.brl_rules.specs.Text.{has_word_capitals}
 use Rattle.brl_window.specs.Width.{start_moves}
 use Rattle.brl_window.specs.Windows.{window_machine}
 use Rattle.brl_states.specs.declared.window_state.WindowState.{WindowState}
-use Rattle.brl_without.specs.Without.{without}
 
 -- a statement about a machine and a body holds of a certificate for a table: of the machine of its
 -- version, and of what it lists
@@ -35,8 +32,3 @@ abbrev pub HasMachine : TableView → Certificate → Type 0
 HasMachine t (Window body) = start_moves t ≤ 10000
 HasMachine t (Dues body) = Unit {0}
 HasMachine t (Word body) = Unit {0}
-
--- the states and pairs that the certificate lists are closed for the machine of its version without
--- these characters
-abbrev pub IsClosedFor : List ℕ → TableView → Certificate → Type 0
-IsClosedFor left_out t cert = OfMachine (λ S m body. IsClosed (without left_out m) (sets_of body)) t cert

@@ -1,2 +1,3 @@
 pub mod Kinds
 pub mod Judging
+pub mod Excusing

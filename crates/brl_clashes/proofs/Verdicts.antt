@@ -15,7 +15,7 @@ use Rattle.brl_clashes.specs.declared.verdict.Outcome.TheVariants.{Unambiguous, 
 use Rattle.brl_rules.specs.TableView.{TableView}
 use Rattle.brl_rules.specs.Text.{is_text}
 use Rattle.brl_search.specs.Clashes.{AreClashes, AreRuleClashes, IsRuleClash, rules_of_clashes}
-use Rattle.brl_search.specs.Traces.{ClashesDivergeAtWithout, TracesDivergeAt}
+use Rattle.brl_traces.specs.Traces.{ClashesDivergeAtWithout, TracesDivergeAt}
 use Rattle.brl_search.specs.declared.table_clashes.ClashList.{ClashList}
 use Rattle.brl_search.specs.declared.table_clashes.ClashList.TheVariants.{Complete, Partial}
 use Rattle.brl_search.specs.declared.table_clashes.RuleClash.{RuleClash}

@@ -11,8 +11,8 @@ use Rattle.brl_forward.specs.declared.steps.Traced.{Traced}
 use Rattle.brl_pairs.specs.Divergence.{are_rules}
 use Rattle.brl_rules.specs.TableView.{TableView}
 use Rattle.brl_search.specs.Smaller.{are_same_steps, diverge_at}
-use Rattle.brl_search.specs.Traces.{IsSameStep, TracesDivergeAt, begins_in_caps_run, taken}
-use Rattle.brl_search.proofs.Together.{Diverge, at_once, diverging, one_later}
+use Rattle.brl_traces.specs.Traces.{IsSameStep, TracesDivergeAt, begins_in_caps_run, taken}
+use Rattle.brl_traces.proofs.Together.{Diverge, at_once, diverging, one_later}
 
 all-true : (b c d e : Bool) → b ≡ true → c ≡ true → d ≡ true → e ≡ true → (b && c && d && e) ≡ true
 all-true b c d e f g h k = rw (f, g, h, k) refl

@@ -16,10 +16,10 @@ use Rattle.brl_rules.specs.TableView.{TableView}
 use Rattle.brl_rules.specs.Translation.{IsClash}
 use Rattle.brl_search.specs.Small.{ClashAt, IsPartOf, IsSmall}
 use Rattle.brl_search.specs.Clashes.{IsOverLimit, IsRuleClash, rules_of_clashes}
-use Rattle.brl_search.specs.Traces.{TracesDivergeAsPaths, TracesDivergeAt}
+use Rattle.brl_traces.specs.Traces.{TracesDivergeAsPaths, TracesDivergeAt}
 use Rattle.brl_search.specs.declared.table_clashes.RuleClash.{RuleClash}
 use Rattle.brl_search.proofs.TableSearch.{clash_of_machine, clash_without, none_of_machine}
-use Rattle.brl_search.proofs.Traces.{traces-diverge}
+use Rattle.brl_traces.proofs.Traces.{traces-diverge}
 use Rattle.brl_without.specs.Without.{without}
 use Rattle.brl_without.proofs.Paths.{path_within}
 

@@ -11,7 +11,7 @@ use Rattle.brl_pairs.specs.Runs.{IsExact, IsPath, KeepsLaws, reads_of}
 use Rattle.brl_pairs.specs.declared.step.Step.{Step}
 use Rattle.brl_rules.specs.TableView.{TableView}
 use Rattle.brl_search.specs.Searched.{State}
-use Rattle.brl_search.specs.Traces.{IsTraced, PathsAreTraces}
+use Rattle.brl_traces.specs.Traces.{IsTraced, PathsAreTraces}
 use Rattle.brl_search.specs.Used.{AreUnused, IsUsed}
 use Rattle.brl_unused.specs.Graph.{AreAscending}
 use Rattle.brl_unused.specs.Taken.{AreTaken, IsTaken}

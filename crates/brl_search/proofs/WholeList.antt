@@ -19,9 +19,9 @@ use Rattle.brl_pairs.proofs.Divergence.{either_rules}
 use Rattle.brl_pairs.proofs.Listing.{IsIn, in-Contains}
 use Rattle.brl_rules.specs.TableView.{TableView}
 use Rattle.brl_search.specs.Clashes.{AreJustThose, AreRuleClashes, ClashesDiverge, IsRuleClash, rules_of_clashes}
-use Rattle.brl_search.specs.Traces.{ClashesDivergeAtWithout, IsSameStep}
+use Rattle.brl_traces.specs.Traces.{ClashesDivergeAtWithout, IsSameStep}
 use Rattle.brl_search.specs.declared.table_clashes.RuleClash.{RuleClash}
-use Rattle.brl_search.proofs.Together.{diverging}
+use Rattle.brl_traces.proofs.Together.{diverging}
 
 -- ---- Ascending lists
 

@@ -10,7 +10,7 @@ use Rattle.brl_pairs.specs.Sets.{sets_of}
 use Rattle.brl_rules.specs.TableView.{TableView}
 use Rattle.brl_search.specs.Searched.{State, machine_of}
 use Rattle.brl_search.specs.Small.{IsSmall}
-use Rattle.brl_search.specs.Traces.{ClashesDivergeAtWithout, TracesDivergeAt}
+use Rattle.brl_traces.specs.Traces.{ClashesDivergeAtWithout, TracesDivergeAt}
 use Rattle.brl_search.specs.declared.table_clashes.ClashList.{ClashList}
 use Rattle.brl_search.specs.declared.table_clashes.ClashList.TheVariants.{Complete, Partial}
 use Rattle.brl_search.specs.declared.table_clashes.RuleClash.{RuleClash}

@@ -4,7 +4,7 @@ use Rattle.std.specs.List.{remove}
 use Rattle.brl_forward.specs.ClashView.{ClashView}
 use Rattle.brl_rules.specs.TableView.{TableView}
 use Rattle.brl_rules.specs.Translation.{IsClash, translation}
-use Rattle.brl_search.specs.Traces.{TracesDivergeAt}
+use Rattle.brl_traces.specs.Traces.{TracesDivergeAt}
 
 -- two texts clash, and where a pair of rules is given, their traces diverge at it
 pub record ClashAt (t : TableView) (rules : Option (ℕ × ℕ)) (left right : List ℕ) : Type 0 where

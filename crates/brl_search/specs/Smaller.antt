@@ -8,7 +8,7 @@ use Rattle.brl_pairs.specs.Divergence.{are_rules}
 use Rattle.brl_rules.specs.TableView.{TableView}
 use Rattle.brl_rules.specs.Translation.{translation}
 use Rattle.brl_search.specs.Small.{ClashAt, IsPartOf}
-use Rattle.brl_search.specs.Traces.{begins_in_caps_run, taken}
+use Rattle.brl_traces.specs.Traces.{begins_in_caps_run, taken}
 use Rattle.brl_search.specs.declared.texts.Texts.{Texts}
 
 -- texts that clash, at the pair of rules where one is given, and are parts of two others

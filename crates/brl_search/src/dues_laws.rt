@@ -1,6 +1,6 @@
-//! What a table's dues machine reaches, and its paths. Each law is the contract of a function that
+//! What a table's dues machine reaches. Each law is the contract of a function that
 //! does nothing.
-ghost use Rattle.std.specs.Prelude.{ℕ, List, length};
+ghost use Rattle.std.specs.Prelude.{length};
 ghost use Rattle.std.specs.List.{Contains};
 ghost use Rattle.brl_pairs.specs.Body.{BodyView};
 ghost use Rattle.brl_pairs.specs.Sets.{sets_of};
@@ -8,19 +8,16 @@ ghost use Rattle.brl_dues.specs.Finite.{all_dues, all_leads, all_states};
 ghost use Rattle.brl_dues.specs.Steps.{dues_machine};
 ghost use Rattle.brl_states.specs.declared.due.Due.{Due as DueValue};
 ghost use Rattle.brl_states.specs.declared.dues_state.DuesState.{DuesState as StateValue};
-ghost use Rattle.brl_pairs.specs.Divergence.{IsUnambiguousBut};
 ghost use Rattle.brl_pairs.specs.Pairs.{IsClosed};
 ghost use Rattle.brl_pairs.specs.declared.step.Pair.{Pair as PairValue};
 ghost use Rattle.brl_closure.specs.Deciding.{ListsJustReached, all_pairs, reached_sets};
 ghost use Rattle.brl_closure.specs.Reached.{AtMost, Reached, ReachedPair, SamePair, SameState};
 ghost use Rattle.brl_rules.specs.TableView.{TableView};
 ghost use Rattle.brl_rules.specs.Translation.{IsUnambiguous};
-ghost use Rattle.brl_search.specs.Traces.{ClashesDivergeAt, ClashesDivergeAtWithout, PathsAreTraces, TracesDivergeAsPaths};
-ghost use Rattle.brl_without.specs.Without.{without};
 
 use brl_closure::{just_reached_law, reached_closed_law};
 use brl_dues::{Dues, exact_law, finite_law};
-use brl_rules::{Table, choice_laws, translation_laws};
+use brl_rules::Table;
 use std::alloc::Global;
 
 /// What the dues machine reaches comes from finite lists that depend on the table alone: states,
@@ -58,28 +55,4 @@ pub fn dues_certificate_law(alloc: Global, table: &Table)
     exact_law(table);
     let dues = Dues::new(alloc, table);
     just_reached_law(&dues);
-}
-
-/// The steps of each path of a table's dues machine are, one by one, those of the trace of what it
-/// reads: the same rules, for the same characters, with the same cells. So where two paths diverge,
-/// the traces of what they read do, at the same pair of rules.
-pub fn dues_trace_law(table: &Table)
-    ensures steps { PathsAreTraces table.now }
-    ensures diverge { TracesDivergeAsPaths table.now }
-{
-    choice_laws();
-    translation_laws();
-    table.law();
-}
-
-/// Where the dues machine of a table is unambiguous but for some pairs of rules, any two texts of
-/// the table that are translated to the same cells are equal, or their traces begin with the same
-/// steps and go on with two different ones of one of these pairs. Where the machine without some characters
-/// is so, this holds of the texts that use none of them.
-pub fn dues_divergence_law(table: &Table)
-    ensures texts { (rules : List (ℕ × ℕ)) → IsUnambiguousBut rules (dues_machine table.now) → ClashesDivergeAt rules table.now }
-    ensures without { (left_out : List ℕ) (rules : List (ℕ × ℕ)) → IsUnambiguousBut rules (without left_out (dues_machine table.now)) →
-        ClashesDivergeAtWithout left_out rules table.now }
-{
-    dues_trace_law(table);
 }

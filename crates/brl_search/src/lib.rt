@@ -37,10 +37,8 @@ mod table_search;
 mod texts;
 mod unused;
 
-pub use dues_laws::{
-    dues_certificate_law, dues_closed_law, dues_divergence_law, dues_reached_law, dues_trace_law,
-};
-pub use list_laws::whole_list_law;
+pub use dues_laws::{dues_certificate_law, dues_closed_law, dues_reached_law};
+pub use list_laws::{accepted_list_law, whole_list_law};
 pub use seed::seed_of;
 pub use small::small_clash_of;
 pub use table_clashes::{ClashList, RuleClash, clashes, clashes_without};

@@ -3,7 +3,7 @@ ghost use Rattle.std.specs.Prelude.{◌≡◌, ◌∷◌, ◌<◌, ◌≤◌, �
 ghost use Rattle.brl_rules.specs.Translation.{IsClash};
 ghost use Rattle.brl_search.specs.Small.{ClashAt, IsPartOf, IsSmall};
 ghost use Rattle.brl_search.specs.Smaller.{AreKeysOf, IsNone, Keeps, size_of};
-ghost use Rattle.brl_search.specs.Traces.{TracesDivergeAt};
+ghost use Rattle.brl_traces.specs.Traces.{TracesDivergeAt};
 
 use crate::keys::{Keys, keys_of};
 use crate::texts::{Texts, clash_at};

@@ -6,7 +6,6 @@ ghost use Rattle.brl_search.specs.Clashes.{AreClashes, AreRuleClashes, rules_of_
 ghost use Rattle.brl_search.specs.Searched.{machine_of};
 ghost use Rattle.brl_without.specs.Without.{without};
 
-use crate::dues_laws::{dues_divergence_law, dues_trace_law};
 use crate::{Texts, seed_of, small_clash_of};
 use brl_divergence::{Divergences, RuleTexts, complete_list_law, list_divergences_with};
 use brl_dues::{Dues, exact_law};
@@ -15,6 +14,7 @@ use brl_pairs::Body;
 use brl_progress::Progress;
 use brl_rules::Table;
 use brl_states::DuesState;
+use brl_traces::{dues_divergence_law, dues_trace_law};
 use brl_without::{LeftOut, Scope, Without, exact_without_law};
 use std::alloc::{AllocError, Global};
 

@@ -8,7 +8,7 @@ ghost use Rattle.brl_rules.specs.Text.{classes_before, is_text};
 ghost use Rattle.brl_rules.specs.Translation.{IsClash, translation};
 ghost use Rattle.brl_search.specs.Small.{ClashAt};
 ghost use Rattle.brl_search.specs.Smaller.{are_same_steps, diverge_at};
-ghost use Rattle.brl_search.specs.Traces.{TracesDivergeAt, begins_in_caps_run, taken};
+ghost use Rattle.brl_traces.specs.Traces.{TracesDivergeAt, begins_in_caps_run, taken};
 
 use brl_cells::Cell;
 use brl_failure::Failure;

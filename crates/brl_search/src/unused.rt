@@ -2,12 +2,12 @@
 ghost use Rattle.std.specs.Prelude.{◌≤◌, IfOk};
 ghost use Rattle.brl_search.specs.Used.{AreUnusedRules};
 
-use crate::dues_laws::dues_trace_law;
 use crate::seed_of;
 use brl_dues::{Dues, exact_law};
 use brl_pairs::Machine;
 use brl_progress::Progress;
 use brl_rules::Table;
+use brl_traces::dues_trace_law;
 use brl_unused::{TakenRules, places_of, taken_rules};
 use std::alloc::{AllocError, Global};
 

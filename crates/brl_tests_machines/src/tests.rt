@@ -5,6 +5,7 @@ mod cert;
 mod clashes;
 mod dues;
 mod edges;
+mod excused;
 mod pairs;
 mod search;
 mod small;

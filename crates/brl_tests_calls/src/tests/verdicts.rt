@@ -2,7 +2,7 @@
 ghost use Rattle.brl_rules.specs.Translation.{IsClash};
 
 use crate::tests::tables::is_refused;
-use brl_accept::{AcceptFault, Accepted, JudgeFault, accept, judge};
+use brl_accept::{AcceptFault, Accepted, JudgeFault, accept, judge, judge_up_to};
 use brl_cells::Cells;
 use brl_cert::{Body, Cert, CertFault, CertPair, WriteFault, read_cert, write_cert};
 use brl_divergence::{Divergences, list_divergences};
@@ -10,6 +10,7 @@ use brl_dues::{Dues, DuesState};
 use brl_failure::Failure;
 use brl_forward::Clash;
 use brl_lines::MapSource;
+use brl_pairs::{Excused, RulePairs};
 use brl_progress::NoProgress;
 use brl_report::{ReportFault, report};
 use brl_search::{ClashList, Found, RuleClash, SearchFault, clashes, search, seed_of};
@@ -160,8 +161,36 @@ fn finds_a_clash(alloc: Global) -> Result<bool, Fail> {
     Ok(is_found && lists_both(alloc, &table) && machine_lists_both(alloc, &table)?)
 }
 
+/// Whether that certificate is judged for the table of two letters with the same cells, up to their pair
+/// of rules.
+fn is_judged_up_to(alloc: Global, files: &mut MapSource) -> Result<bool, Fail> {
+    let mut pairs = Vec::new(alloc);
+    pairs.push((0, 1))?;
+    let excused: Excused = Excused {
+        accepted: RulePairs::new(alloc, pairs)?,
+        exchanged: RulePairs::none(alloc),
+    };
+    let scope = Scope {
+        left_out: &LeftOut::none(alloc),
+        progress: &mut NoProgress,
+    };
+    let judged: Result<Accepted, Failure<JudgeFault>> = judge_up_to(
+        alloc, files, "t.ctb", CERT, &excused, scope,
+    );
+    match judged {
+        Ok(accepted) => Ok(are_counts(accepted)),
+        Err(_) => Ok(false),
+    }
+}
+
+fn judges_up_to(alloc: Global) -> Result<bool, Fail> {
+    let mut files = one_file(alloc, "t.ctb", b"letter a 1\nletter b 1\n")?;
+    is_judged_up_to(alloc, &mut files)
+}
+
 fn are_reached(alloc: Global) -> Result<bool, Fail> {
-    Ok(are_certificates(alloc) && judges(alloc)? && certifies(alloc)? && finds_a_clash(alloc)?)
+    let are_judged = judges(alloc)? && judges_up_to(alloc)?;
+    Ok(are_certificates(alloc) && are_judged && certifies(alloc)? && finds_a_clash(alloc)?)
 }
 
 #[test]

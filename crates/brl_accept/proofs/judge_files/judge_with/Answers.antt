@@ -1,63 +1,36 @@
-use Rattle.std.proofs.Common.{◌≡◌, List, ℕ, Result, Ok, Err, IfErr, IfOk, sym, subst}
-use Rattle.std.proofs.lemmas.Result.{err_from_is_err_and, IfErr-weaker}
-use Rattle.brl_accept.specs.Judging.{IsRefusedByWithout}
+use Rattle.std.proofs.Common.{ℕ, List, IfErr, IfOk, Result, Ok, Err}
+use Rattle.std.proofs.lemmas.Result.{IfErr-weaker}
+use Rattle.brl_accept.specs.Excusing.{IsAcceptedUpTo, IsNothing, IsShown}
+use Rattle.brl_accept.specs.Judging.{IsAcceptedWithout}
 use Rattle.brl_accept.specs.declared.judge_fault.JudgeFault.{JudgeFault}
-use Rattle.brl_accept.specs.declared.judge_fault.JudgeFault.TheVariants.{NoTable}
-use Rattle.brl_failure.specs.Failure.{IfFault, IsRaised}
-use Rattle.brl_failure.specs.Raised.{if_err-raised, raised_is}
+use Rattle.brl_closure.specs.declared.check.checker.Accepted.{Accepted}
+use Rattle.brl_failure.specs.Raised.{if_fault-weaker}
 use Rattle.brl_failure.specs.declared.failure.Failure.{Failure}
 use Rattle.brl_lines.specs.Answer.{FileAnswers}
-use Rattle.brl_table.specs.Files.{IsFaultAt, IsTableOf}
-use Rattle.brl_table.specs.declared.no_table.NoTable.{NoTable as NoTableFault}
+use Rattle.brl_pairs.specs.declared.excused.Excused.{Excused}
+use Rattle.brl_table.specs.Files.{IsTableOf}
 use Rattle.brl_rules.specs.TableView.{TableView}
-use Rattle.brl_accept.proofs.Judged.{accepted_for, decided, failed_after}
+use Rattle.brl_without.specs.Tables.{IsUnambiguousWithout}
+use Rattle.brl_accept.proofs.Judged.{excused_accepted, plainly_accepted, plainly_refused}
 use Rattle.brl_accept.proofs.judge_files.judge_with.Goals as goal
 
--- why there is no table is the first of the reasons to refuse
-refused_first : (left_out : List ℕ) (gives : FileAnswers) (root bytes : List ℕ) (step : Result TableView (Failure NoTableFault)) (raised : Result TableView (Failure JudgeFault)) (failure : Failure JudgeFault)
-    → IsRaised (λ one other. other ≡ NoTable one) step raised → raised ≡ Err failure → IfErr step (IfFault (IsFaultAt gives root)) → IfFault (IsRefusedByWithout left_out gives root bytes) failure
-refused_first left_out gives root bytes step raised failure is e h =
-    subst (λ (r : Result TableView (Failure JudgeFault)). IfErr r (IfFault (IsRefusedByWithout left_out gives root bytes))) e
-    (if_err-raised _ (IsFaultAt gives root) (IsRefusedByWithout left_out gives root bytes) step raised is h (λ one other same fault. subst (IsRefusedByWithout left_out gives root bytes) (sym same) fault))
-
--- the table that was loaded
-the_table : (P : TableView → Type 0) (step : Result TableView (Failure NoTableFault)) (raised : Result TableView (Failure JudgeFault)) (t : TableView)
-    → IsRaised (λ one other. other ≡ NoTable one) step raised → raised ≡ Ok t → IfOk step P → P t
-the_table P step raised t is e h = subst (λ (r : Result TableView (Failure NoTableFault)). IfOk r P) (raised_is _ step raised t is e) h
-
-pub returns-in_err-table-clause-refused : goal.returns-in_err-table-clause-refused
-returns-in_err-table-clause-refused g c =
-    let p = err_from_is_err_and c.from_residual.result c.from_residual.ensures.1 in
-    rw (p.1, p.2) (refused_first c.args.scope.left_out.now (g.S.Source.gives c.args.source.now) c.args.root.now c.args.cert.now c.load_table.result c.raise.result c.in_err-table.field-0.0 c.raise.ensures c.in_err-table.was c.load_table.ensures.fault)
-
-pub returns-in_err-table-clause-decides : goal.returns-in_err-table-clause-decides
-returns-in_err-table-clause-decides g c one t is accepted deserved =
-    let gives = g.S.Source.gives c.args.source.now in
-    let p = err_from_is_err_and c.from_residual.result c.from_residual.ensures.1 in
-    rw (p.1, p.2)
-    (decided c.args.scope.left_out.now gives c.args.root.now c.args.cert.now t is accepted deserved
-    (λ other h. c.one_table_law.ensures.table one c.args.root.now t other is h) (c.one_table_law.ensures.fault one c.args.root.now t is)
-    (Err c.in_err-table.field-0.0) tt
-    (refused_first c.args.scope.left_out.now gives c.args.root.now c.args.cert.now c.load_table.result c.raise.result c.in_err-table.field-0.0 c.raise.ensures c.in_err-table.was c.load_table.ensures.fault))
+-- an acceptance where nothing is excused
+accepted_plainly : (left_out : List ℕ) (excused : Excused) → IsNothing excused → (gives : FileAnswers) (root bytes : List ℕ) (result : Result Accepted (Failure JudgeFault))
+    → IfOk result (λ accepted. (t : TableView) × IsTableOf gives root t × IsShown left_out excused t × IsAcceptedUpTo left_out excused t bytes accepted)
+    → IfOk result (λ accepted. (t : TableView) × IsTableOf gives root t × IsUnambiguousWithout left_out t × IsAcceptedWithout left_out t bytes accepted)
+accepted_plainly left_out excused nothing gives root bytes (Ok accepted) h = (h.0, h.1, h.2.1 nothing, plainly_accepted left_out excused nothing h.0 bytes accepted h.3)
+accepted_plainly left_out excused nothing gives root bytes (Err failure) h = tt
 
 pub returns-clause-accepted : goal.returns-clause-accepted
 returns-clause-accepted g c =
-    let gives = g.S.Source.gives c.args.source.now in
-    let table = the_table (IsTableOf gives c.args.root.now) c.load_table.result c.raise.result c.in_ok-table.table c.raise.ensures c.in_ok-table.was c.load_table.ensures.table in
-    accepted_for c.args.scope.left_out.now gives c.args.root.now c.args.cert.now c.in_ok-table.table table c.judge_table-judged.result c.judge_table-judged.ensures.unambiguous c.judge_table-judged.ensures.accepted
+    accepted_plainly c.args.scope.left_out.now c.nothing.result (c.nothing.ensures.accepted, c.nothing.ensures.exchanged) (g.S.Source.gives c.args.source.now) c.args.root.now c.args.cert.now c.judge_up_to.result c.judge_up_to.ensures.accepted
 
 pub returns-clause-refused : goal.returns-clause-refused
 returns-clause-refused g c =
-    let gives = g.S.Source.gives c.args.source.now in
-    let table = the_table (IsTableOf gives c.args.root.now) c.load_table.result c.raise.result c.in_ok-table.table c.raise.ensures c.in_ok-table.was c.load_table.ensures.table in
-    IfErr-weaker c.judge_table-judged.result _ _ (λ failure h. failed_after c.args.scope.left_out.now gives c.args.root.now c.args.cert.now c.in_ok-table.table failure table h) c.judge_table-judged.ensures.refused
+    IfErr-weaker c.judge_up_to.result _ _
+    (λ failure h. if_fault-weaker _ _ failure (plainly_refused c.args.scope.left_out.now c.nothing.result (c.nothing.ensures.accepted, c.nothing.ensures.exchanged) (g.S.Source.gives c.args.source.now) c.args.root.now c.args.cert.now) h)
+    c.judge_up_to.ensures.refused
 
 pub returns-clause-decides : goal.returns-clause-decides
 returns-clause-decides g c one t is accepted deserved =
-    let gives = g.S.Source.gives c.args.source.now in
-    let table = the_table (IsTableOf gives c.args.root.now) c.load_table.result c.raise.result c.in_ok-table.table c.raise.ensures c.in_ok-table.was c.load_table.ensures.table in
-    decided c.args.scope.left_out.now gives c.args.root.now c.args.cert.now t is accepted deserved
-    (λ other h. c.one_table_law.ensures.table one c.args.root.now t other is h) (c.one_table_law.ensures.fault one c.args.root.now t is)
-    c.judge_table-judged.result
-    (accepted_for c.args.scope.left_out.now gives c.args.root.now c.args.cert.now c.in_ok-table.table table c.judge_table-judged.result c.judge_table-judged.ensures.unambiguous c.judge_table-judged.ensures.accepted)
-    (IfErr-weaker c.judge_table-judged.result _ _ (λ failure h. failed_after c.args.scope.left_out.now gives c.args.root.now c.args.cert.now c.in_ok-table.table failure table h) c.judge_table-judged.ensures.refused)
+    c.judge_up_to.ensures.decides one t is accepted (excused_accepted c.args.scope.left_out.now c.nothing.result (c.nothing.ensures.accepted, c.nothing.ensures.exchanged) t c.args.cert.now accepted deserved)

@@ -9,7 +9,7 @@ use Rattle.brl_pairs.specs.Runs.{IsExact}
 use Rattle.brl_rules.specs.TableView.{TableView}
 use Rattle.brl_states.specs.declared.dues_state.DuesState.{DuesState}
 use Rattle.brl_without.specs.Without.{without}
-use Rattle.brl_search.specs.Traces.{ClashesDivergeAtWithout}
+use Rattle.brl_traces.specs.Traces.{ClashesDivergeAtWithout}
 use Rattle.brl_search.proofs.RuleClashes.{as_many_rules, over_limit}
 use Rattle.brl_search.proofs.table_clashes.clashes_without.Goals as goal
 

@@ -2,7 +2,7 @@ use Rattle.std.proofs.Common.{◌≡◌, ◌∙◌, ◌∷◌, [], Bool, ap, sub
 use Rattle.std.specs.Prelude.{◌↔◌, IsTrue}
 use Rattle.brl_forward.specs.Trace.{trace_of}
 use Rattle.brl_search.specs.Smaller.{diverge_at}
-use Rattle.brl_search.specs.Traces.{TracesDivergeAt}
+use Rattle.brl_traces.specs.Traces.{TracesDivergeAt}
 use Rattle.brl_search.proofs.Diverging.{traces-diverge}
 use Rattle.brl_search.proofs.texts.traces_diverge.Goals as goal
 

@@ -12,7 +12,7 @@ use Rattle.brl_rules.specs.TableView.{TableView}
 use Rattle.brl_rules.specs.Position.{in_caps_run_at}
 use Rattle.brl_rules.specs.Text.{is_text}
 use Rattle.brl_rules.specs.Translation.{translation}
-use Rattle.brl_search.specs.Searched.{State}
+use Rattle.brl_states.specs.declared.dues_state.DuesState.{DuesState}
 use Rattle.brl_without.specs.LeftOut.{uses_none}
 
 -- ---- Steps of texts
@@ -37,7 +37,7 @@ pub record IsSameStep (t : TableView) (left right : List ℕ) (x y : Traced) : T
 
 -- a step of a path and one of the trace of a text take the same rule, with as many characters, which
 -- are the same, and the same cells
-pub record IsTraced (text : List ℕ) (x : Step State) (y : Traced) : Type 0 where
+pub record IsTraced (text : List ℕ) (x : Step DuesState) (y : Traced) : Type 0 where
   pub rule : x.rule ≡ y.rule
   pub length : length x.reads ≡ y.length
   pub reads : x.reads ≡ taken text y
@@ -47,7 +47,7 @@ pub record IsTraced (text : List ℕ) (x : Step State) (y : Traced) : Type 0 whe
 -- what it reads
 abbrev pub PathsAreTraces : TableView → Type 0
 PathsAreTraces t =
-    (path : List (Step State)) → IsPath (dues_machine t) (dues_machine t).start path → AllZip (IsTraced (reads_of path)) path (trace_of t (reads_of path))
+    (path : List (Step DuesState)) → IsPath (dues_machine t) (dues_machine t).start path → AllZip (IsTraced (reads_of path)) path (trace_of t (reads_of path))
 
 -- ---- Where traces diverge
 
@@ -67,7 +67,7 @@ pub record TracesDivergeAt (t : TableView) (rules : List (ℕ × ℕ)) (left rig
 -- what they read do
 abbrev pub TracesDivergeAsPaths : TableView → Type 0
 TracesDivergeAsPaths t =
-    (rules : List (ℕ × ℕ)) (first second : List (Step State)) → IsPath (dues_machine t) (dues_machine t).start first → IsPath (dues_machine t) (dues_machine t).start second
+    (rules : List (ℕ × ℕ)) (first second : List (Step DuesState)) → IsPath (dues_machine t) (dues_machine t).start first → IsPath (dues_machine t) (dues_machine t).start second
     → DivergeAt rules first second → TracesDivergeAt t rules (reads_of first) (reads_of second)
 
 -- two texts of the table that are translated to the same cells are equal, or their traces diverge

@@ -1,8 +1,8 @@
 use Rattle.brl_dues.proofs.Known.{known_of}
 use Rattle.brl_dues.proofs.Taking.{Choosing}
 use Rattle.brl_rules.proofs.OneByOne.{translating}
-use Rattle.brl_search.proofs.Traces.{diverge-as-paths, paths-are-traces}
-use Rattle.brl_search.proofs.dues_laws.dues_trace_law.Goals as goal
+use Rattle.brl_traces.proofs.Traces.{diverge-as-paths, paths-are-traces}
+use Rattle.brl_traces.proofs.laws.dues_trace_law.Goals as goal
 
 pub returns-clause-steps : goal.returns-clause-steps
 returns-clause-steps c =

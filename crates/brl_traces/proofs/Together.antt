@@ -6,7 +6,7 @@ use Rattle.brl_forward.specs.Trace.{trace_of}
 use Rattle.brl_forward.specs.declared.steps.Traced.{Traced}
 use Rattle.brl_pairs.specs.Divergence.{has_rules}
 use Rattle.brl_rules.specs.TableView.{TableView}
-use Rattle.brl_search.specs.Traces.{IsSameStep, TracesDivergeAt}
+use Rattle.brl_traces.specs.Traces.{IsSameStep, TracesDivergeAt}
 
 module _ (t : TableView) (left right : List ℕ) where
   -- two lists of steps begin with the same ones, and go on with two different ones that are so

@@ -26,28 +26,28 @@ use Rattle.brl_forward.specs.Trace.{step_at, steps_from, trace_of}
 use Rattle.brl_forward.specs.declared.steps.Traced.{Traced}
 use Rattle.brl_without.specs.Without.{without}
 use Rattle.brl_without.proofs.Paths.{path_within}
-use Rattle.brl_search.specs.Traces.{ClashesDivergeAt, ClashesDivergeAtWithout, IsSameStep, IsTraced, PathsAreTraces, TracesDivergeAsPaths, TracesDivergeAt, begins_in_caps_run}
-use Rattle.brl_search.proofs.Together.{Diverge, at_once, diverging, one_later}
+use Rattle.brl_traces.specs.Traces.{ClashesDivergeAt, ClashesDivergeAtWithout, IsSameStep, IsTraced, PathsAreTraces, TracesDivergeAsPaths, TracesDivergeAt, begins_in_caps_run}
+use Rattle.brl_traces.proofs.Together.{Diverge, at_once, diverging, one_later}
 
 -- the context after more characters of a text
-abbrev Further : TableView → Type 0
+abbrev pub Further : TableView → Type 0
 Further t = (text : List ℕ) (i count : ℕ) → count ≤ length (drop i text) → context_after_all t (context_at t text i) (take count (drop i text)) ≡ context_at t text (i + count)
 
 -- a step from a state, before what the rest of its path reads, as the trace of the text has it at a
 -- position
-record Walked (t : TableView) (text : List ℕ) (i : ℕ) (s : DuesState) (x : Step DuesState) (path : List (Step DuesState)) : Type 0 where
-  stepped_by : Stepped t s x (reads_of path)
-  met : dues_met t (reads_of path) x.next.dues ≡ true
-  traced : IsTraced text x (step_at t text i)
-  run : begins_in_caps_run t text (step_at t text i) ≡ stepped_by.form.run
-  within : nat_lt i (length text) ≡ true
-  next : context_of x.next ≡ context_at t text (i + (chosen_at t text i).taken)
-  left : drop (i + (chosen_at t text i).taken) text ≡ reads_of path
-  fewer : length (reads_of path) < length (reads_of (x ∷ path))
+pub record Walked (t : TableView) (text : List ℕ) (i : ℕ) (s : DuesState) (x : Step DuesState) (path : List (Step DuesState)) : Type 0 where
+  pub stepped_by : Stepped t s x (reads_of path)
+  pub met : dues_met t (reads_of path) x.next.dues ≡ true
+  pub traced : IsTraced text x (step_at t text i)
+  pub run : begins_in_caps_run t text (step_at t text i) ≡ stepped_by.form.run
+  pub within : nat_lt i (length text) ≡ true
+  pub next : context_of x.next ≡ context_at t text (i + (chosen_at t text i).taken)
+  pub left : drop (i + (chosen_at t text i).taken) text ≡ reads_of path
+  pub fewer : length (reads_of path) < length (reads_of (x ∷ path))
 
 module _ (t : TableView) (choosing : Choosing t) (translating : Translating t) (known : AreKnown t) (further : Further t) where
   -- one step
-  walked : (text : List ℕ) (i : ℕ) (s : DuesState) (x : Step DuesState) (path : List (Step DuesState)) → IsPath (dues_machine t) s (x ∷ path) → context_of s ≡ context_at t text i
+  pub walked : (text : List ℕ) (i : ℕ) (s : DuesState) (x : Step DuesState) (path : List (Step DuesState)) → IsPath (dues_machine t) s (x ∷ path) → context_of s ≡ context_at t text i
       → drop i text ≡ reads_of (x ∷ path) → Walked t text i s x path
   walked text i s x path p here rest =
       let u = reads_of path in
@@ -117,7 +117,7 @@ module _ (t : TableView) (choosing : Choosing t) (translating : Translating t) (
       sym h.in_caps_run ∙ ap (λ l. is_in_caps_run t s.before (l ++ u)) reads ∙ form-in_caps_run t s.before k.form k.is_form u takes.next
 
   -- one step of a state is the same step in both texts
-  same-step : (left right : List ℕ) (i j : ℕ) (s : DuesState) (x : Step DuesState) (path other : List (Step DuesState)) → Walked t left i s x path → Walked t right j s x other
+  pub same-step : (left right : List ℕ) (i j : ℕ) (s : DuesState) (x : Step DuesState) (path other : List (Step DuesState)) → Walked t left i s x path → Walked t right j s x other
       → IsSameStep t left right (step_at t left i) (step_at t right j)
   same-step left right i j s x path other v w = record {
     rule = sym v.traced.rule ∙ w.traced.rule;
@@ -127,7 +127,7 @@ module _ (t : TableView) (choosing : Choosing t) (translating : Translating t) (
   }
 
   -- steps of one state that are the same in both texts are one step
-  step-from_same : (left right : List ℕ) (i j : ℕ) (s : DuesState) (x y : Step DuesState) (path other : List (Step DuesState)) → Walked t left i s x path → Walked t right j s y other
+  pub step-from_same : (left right : List ℕ) (i j : ℕ) (s : DuesState) (x y : Step DuesState) (path other : List (Step DuesState)) → Walked t left i s x path → Walked t right j s y other
       → IsSameStep t left right (step_at t left i) (step_at t right j) → x ≡ y
   step-from_same left right i j s x y path other v w same =
       let h = v.stepped_by in

@@ -1,5 +1,5 @@
-use Rattle.brl_search.proofs.Traces.{clashes-diverge, clashes-diverge-without}
-use Rattle.brl_search.proofs.dues_laws.dues_divergence_law.Goals as goal
+use Rattle.brl_traces.proofs.Traces.{clashes-diverge, clashes-diverge-without}
+use Rattle.brl_traces.proofs.laws.dues_divergence_law.Goals as goal
 
 pub returns-clause-texts : goal.returns-clause-texts
 returns-clause-texts c rules = clashes-diverge c.args.table.now c.dues_trace_law.ensures.diverge rules
