@@ -1,5 +1,5 @@
 -- Edges, where states are added and where an edge is added.
-use Rattle.std.proofs.Common.{◌≡◌, ◌≢◌, ℕ, ◌+◌, ◌<◌, ◌≤◌, List, [], ◌∷◌, ◌++◌, inl, inr, length, Some, slice_get, sym, ◌∙◌, ap, subst, arith}
+use Rattle.std.proofs.Common.{◌≡◌, ◌≢◌, ℕ, ◌+◌, ◌<◌, ◌≤◌, List, [], ◌∷◌, ◌++◌, inl, inr, length, set, Some, slice_get, sym, ◌∙◌, ap, subst, arith}
 use Rattle.std.proofs.lemmas.Option.{slice_get_within}
 use Rattle.brl_pairs.specs.Body.{NumberPair}
 use Rattle.brl_pairs.specs.declared.step.Step.{Step}
@@ -11,11 +11,12 @@ use Rattle.brl_pairs.specs.Sorted.{AreMatches, AreSortedEdges, IsSortedOf, cells
 use Rattle.brl_pairs.specs.declared.sorted.SortedEdge.{SortedEdge}
 use Rattle.brl_pairs.proofs.Numbered.{contained, still_sorted}
 use Rattle.brl_pairs.specs.NumberPairs.{IsFollowed}
-use Rattle.brl_closure.specs.Edges.{FitsFollowing, Explains, IsExpanded, IsWalked}
+use Rattle.brl_closure.specs.Edges.{AreKeptOrNone, AreSomeOf, FitsFollowing, Explains, IsExpanded, IsWalked}
+use Rattle.std.specs.Global.{Vec}
 use Rattle.brl_closure.specs.SearchView.{Stays}
 use Rattle.brl_closure.specs.Trail.{IsSplitOf, TakesStep}
 use Rattle.brl_closure.proofs.There.{followed_more}
-use Rattle.brl_pairs.proofs.Lists.{push_cases, length_push, same_place, inside}
+use Rattle.brl_pairs.proofs.Lists.{push_cases, length_push, same_place, inside, set_cases}
 
 module _ {S : Type 0} where
   pub first_edges_more : (xs ys : List S) → Stays xs ys → (listed : List (Step S)) (n : ℕ) (edges : List Edge) → AreFirstEdges xs listed n edges → AreFirstEdges ys listed n edges
@@ -183,3 +184,34 @@ sorted_edges_more m xs ys old new states cells number sorted h = record {
   are_edges = edges_more m xs ys states number h.edges h.are_edges;
   sorted_of = still_sorted old new cells h.edges sorted h.sorted_of;
 }
+
+-- ---- The edges of states, as far as they are kept
+
+-- where states are added and more cells are kept
+pub kept_or_none_more : {S : Type 0} (m : Behaviour S) (xs ys : List S) (old new : List (List ℕ)) → Stays xs ys → Stays old new → (kept : List (Vec SortedEdge)) → AreKeptOrNone m xs old kept → AreKeptOrNone m ys new kept
+kept_or_none_more m xs ys old new states cells kept h number sorted at = elim (h number sorted at) [
+  | inl none ↦ inl none
+  | inr are ↦ inr (sorted_edges_more m xs ys old new states cells number sorted.items are)
+]
+
+-- where some are dropped
+pub some_kept : {S : Type 0} (m : Behaviour S) (states : List S) (cells : List (List ℕ)) (kept left : List (Vec SortedEdge)) → AreKeptOrNone m states cells kept → AreSomeOf kept left → AreKeptOrNone m states cells left
+some_kept m states cells kept left h some number sorted at = elim (some number sorted at) [ inl none ↦ inl none | inr there ↦ h number sorted there ]
+
+-- where those of one state are put there
+pub one_put : {S : Type 0} (m : Behaviour S) (states : List S) (cells : List (List ℕ)) (kept : List (Vec SortedEdge)) (number : ℕ) (sorted : Vec SortedEdge) → AreKeptOrNone m states cells kept → AreSortedEdges m states number cells sorted.items
+    → AreKeptOrNone m states cells (set kept number sorted)
+one_put m states cells kept number sorted h are k other at = elim (set_cases kept number sorted k other at) [
+  | inl here ↦ inr (subst (λ (v : Vec SortedEdge). AreSortedEdges m states k cells v.items) here.1 (subst (λ (n : ℕ). AreSortedEdges m states n cells sorted.items) (sym here.0) are))
+  | inr there ↦ h k other there.1
+]
+
+-- where those of one state are dropped
+pub one_dropped : (kept : List (Vec SortedEdge)) (number : ℕ) (none : Vec SortedEdge) → none.items ≡ [] → AreSomeOf kept (set kept number none)
+one_dropped kept number none is k other at = elim (set_cases kept number none k other at) [
+  | inl here ↦ inl (ap (λ (v : Vec SortedEdge). v.items) (sym here.1) ∙ is)
+  | inr there ↦ inr there.1
+]
+
+pub some_of_some : (one two three : List (Vec SortedEdge)) → AreSomeOf one two → AreSomeOf two three → AreSomeOf one three
+some_of_some one two three first second k other at = elim (second k other at) [ inl none ↦ inl none | inr there ↦ first k other there ]

@@ -9,7 +9,7 @@ use Rattle.brl_pairs.specs.Runs.{Behaviour}
 use Rattle.brl_pairs.specs.Sorted.{AreSortedEdges}
 use Rattle.brl_pairs.specs.declared.step.Step.{Step}
 use Rattle.brl_parts.specs.Parts.{AreKeptParts, no_parts}
-use Rattle.brl_closure.specs.Edges.{AreKeptEdges, IsExpanded, IsWalked}
+use Rattle.brl_closure.specs.Edges.{AreKeptOrNone, AreSomeOf, IsExpanded, IsWalked}
 use Rattle.brl_closure.specs.Trail.{Advances}
 use Rattle.brl_closure.specs.Worklist.{IsFinished, IsItemOf, IsWorking, NoneIsReady, IsQueued, steps_left}
 use Rattle.brl_pairs.specs.declared.sorted.SortedEdge.{SortedEdge}
@@ -17,7 +17,7 @@ use Rattle.brl_closure.specs.SearchView.{Stays}
 use Rattle.brl_closure.specs.declared.search.finder.Finder.{Finder}
 use Rattle.brl_closure.specs.declared.search.trail.Trail.{Trail}
 use Rattle.brl_closure.specs.declared.search.worklist.Worklist.{Worklist}
-use Rattle.brl_closure.proofs.Edges.{expanded_more, sorted_edges_more, walked_more}
+use Rattle.brl_closure.proofs.Edges.{expanded_more, kept_or_none_more, some_kept, walked_more}
 use Rattle.brl_closure.proofs.Queue.{all_head, none_queued, queued_popped}
 use Rattle.brl_pairs.proofs.Lists.{length_push, push_cases}
 
@@ -46,17 +46,18 @@ module _ {M S P : Type 0} (behaviour : M → Behaviour S) (steps_of : M → P �
   expanded_stays : (k : ℕ) → IsExpanded (behaviour f.machine.now) t.states t.pairs k → IsExpanded (behaviour f.machine.now) u.states u.pairs k
   expanded_stays = expanded_more (behaviour f.machine.now) t.states u.states t.pairs u.pairs advances.1.states advances.1.pairs
 
-  edges_stay : Stays w.cells v.cells → AreKeptEdges (behaviour f.machine.now) u.states v.cells w.expanded.items
-  edges_stay cells k sorted at = sorted_edges_more (behaviour f.machine.now) t.states u.states w.cells v.cells advances.1.states cells k sorted.items (working.edges k sorted at)
+  edges_stay : Stays w.cells v.cells → AreKeptOrNone (behaviour f.machine.now) u.states v.cells w.expanded.items
+  edges_stay cells = kept_or_none_more (behaviour f.machine.now) t.states u.states w.cells v.cells advances.1.states cells w.expanded.items working.edges
 
-  pub working_expanded : (edges : Vec SortedEdge) → length w.expanded.items < length t.states → Stays w.cells v.cells → AreSortedEdges (behaviour f.machine.now) u.states (length w.expanded.items) v.cells edges.items → IsExpanded (behaviour f.machine.now) u.states u.pairs (length w.expanded.items)
-      → v.expanded.items ≡ w.expanded.items ++ edges ∷ [] → ((n : ℕ) → IsQueued n (heap_items w.queue) → IsQueued n (heap_items v.queue)) → AreKeptParts (steps_of f.machine.now) u.states v.cells v.parts → IsWorking behaviour steps_of f u v
-  working_expanded edges some cells are here more old parts = record {
+  pub working_expanded : (edges : Vec SortedEdge) (left : List (Vec SortedEdge)) → length left ≡ length w.expanded.items → AreSomeOf w.expanded.items left → length w.expanded.items < length t.states → Stays w.cells v.cells
+      → AreSortedEdges (behaviour f.machine.now) u.states (length w.expanded.items) v.cells edges.items → IsExpanded (behaviour f.machine.now) u.states u.pairs (length w.expanded.items)
+      → v.expanded.items ≡ left ++ edges ∷ [] → ((n : ℕ) → IsQueued n (heap_items w.queue) → IsQueued n (heap_items v.queue)) → AreKeptParts (steps_of f.machine.now) u.states v.cells v.parts → IsWorking behaviour steps_of f u v
+  working_expanded edges left many some_left some cells are here more old parts = record {
     active = advances.0;
     there = omega (arith, some, count, advances.1.more_states);
-    edges = λ k es at. elim (push_cases w.expanded.items edges k es (subst (λ (xs : List (Vec SortedEdge)). slice_get xs k ≡ Some es) more at)) [
-      | inl before ↦ edges_stay cells k es before
-      | inr last ↦ subst (λ (es : Vec SortedEdge). AreSortedEdges (behaviour f.machine.now) u.states k v.cells es.items) last.1 (subst (λ (j : ℕ). AreSortedEdges (behaviour f.machine.now) u.states j v.cells edges.items) (sym last.0) are)
+    edges = λ k es at. elim (push_cases left edges k es (subst (λ (xs : List (Vec SortedEdge)). slice_get xs k ≡ Some es) more at)) [
+      | inl before ↦ some_kept (behaviour f.machine.now) u.states v.cells w.expanded.items left (edges_stay cells) some_left k es before
+      | inr last ↦ inr (subst (λ (es : Vec SortedEdge). AreSortedEdges (behaviour f.machine.now) u.states k v.cells es.items) last.1 (subst (λ (j : ℕ). AreSortedEdges (behaviour f.machine.now) u.states j v.cells edges.items) (sym (last.0 ∙ many)) are))
     ];
     parts = parts;
     states = λ k below. elim (cases_eq k (length w.expanded.items)) [
@@ -71,16 +72,16 @@ module _ {M S P : Type 0} (behaviour : M → Behaviour S) (steps_of : M → P �
   }
     where
       count : length v.expanded.items ≡ length w.expanded.items + 1
-      count = ap length more ∙ length_push w.expanded.items edges
+      count = ap length more ∙ length_push left edges ∙ ap (λ (n : ℕ). n + 1) many
 
-  pub working_walked : (number : ℕ) (first : Reverse (ℕ × ℕ)) (rest : List (Reverse (ℕ × ℕ))) → first.0.1 ≡ number → IsPermutation (heap_items w.queue) (first ∷ rest) → IsWalked (behaviour f.machine.now) u.states u.pairs number → Stays w.cells v.cells → v.expanded.items ≡ w.expanded.items
-      → ((n : ℕ) → IsQueued n rest → IsQueued n (heap_items v.queue)) → AreKeptParts (steps_of f.machine.now) u.states v.cells v.parts → IsWorking behaviour steps_of f u v
-  working_walked number first rest is same here cells stays old parts = record {
+  pub working_walked : (number : ℕ) (first : Reverse (ℕ × ℕ)) (rest : List (Reverse (ℕ × ℕ))) → first.0.1 ≡ number → IsPermutation (heap_items w.queue) (first ∷ rest) → IsWalked (behaviour f.machine.now) u.states u.pairs number → length v.expanded.items ≡ length w.expanded.items
+      → AreKeptOrNone (behaviour f.machine.now) u.states v.cells v.expanded.items → ((n : ℕ) → IsQueued n rest → IsQueued n (heap_items v.queue)) → AreKeptParts (steps_of f.machine.now) u.states v.cells v.parts → IsWorking behaviour steps_of f u v
+  working_walked number first rest is same here count edges old parts = record {
     active = advances.0;
-    there = omega (arith, working.there, ap length stays, advances.1.more_states);
-    edges = subst (AreKeptEdges (behaviour f.machine.now) u.states v.cells) (sym stays) (edges_stay cells);
+    there = omega (arith, working.there, count, advances.1.more_states);
+    edges = edges;
     parts = parts;
-    states = λ k below. expanded_stays k (working.states k (omega (arith, below, ap length stays)));
+    states = λ k below. expanded_stays k (working.states k (omega (arith, below, count)));
     pairs = λ n below. elim (below_or_not n (length t.pairs)) [
       | inl before ↦ elim (cases_eq n number) [
         | inl walked ↦ inr (subst (IsWalked (behaviour f.machine.now) u.states u.pairs) (sym walked) here)
@@ -121,8 +122,8 @@ pub working_without : {M S P : Type 0} (behaviour : M → Behaviour S) (steps_of
 working_without behaviour steps_of f t w v working parts cells expanded queue = record {
   active = working.active;
   there = subst (λ (e : Vec (Vec SortedEdge)). length e.items ≤ length t.states) (sym expanded) working.there;
-  edges = subst (λ (own : List (List ℕ)). AreKeptEdges (behaviour f.machine.now) t.states own v.expanded.items) (sym cells)
-      (subst (λ (e : Vec (Vec SortedEdge)). AreKeptEdges (behaviour f.machine.now) t.states w.cells e.items) (sym expanded) working.edges);
+  edges = subst (λ (own : List (List ℕ)). AreKeptOrNone (behaviour f.machine.now) t.states own v.expanded.items) (sym cells)
+      (subst (λ (e : Vec (Vec SortedEdge)). AreKeptOrNone (behaviour f.machine.now) t.states w.cells e.items) (sym expanded) working.edges);
   parts = subst (λ (own : List (List ℕ)). AreKeptParts (steps_of f.machine.now) t.states own v.parts) (sym cells) (elim parts [
     | inl same ↦ subst (AreKeptParts (steps_of f.machine.now) t.states w.cells) (sym same) working.parts
     | inr none ↦ subst (AreKeptParts (steps_of f.machine.now) t.states w.cells) (sym none) (λ number part edges is. (let there = is.part_at in cc))

@@ -1,5 +1,5 @@
 -- Internal. What a search finds by edges: the splits of a state, and the successors of a pair.
-use Rattle.std.specs.Prelude.{◌≡◌, ◌≢◌, ℕ, ◌<◌, ◌≤◌, List, [], ◌++◌, length, Some, slice_get}
+use Rattle.std.specs.Prelude.{◌≡◌, ◌≢◌, ℕ, ◌<◌, ◌≤◌, List, [], ◌++◌, ◌⊎◌, length, Some, slice_get}
 use Rattle.brl_pairs.specs.Body.{NumberPair}
 use Rattle.brl_pairs.specs.Runs.{Behaviour}
 use Rattle.brl_pairs.specs.Edges.{AreEdges}
@@ -43,3 +43,11 @@ pub record IsWalked {S : Type 0} (m : Behaviour S) (states : List S) (pairs : Li
 -- each list has the sorted edges of the state whose number is the place of the list
 abbrev pub AreKeptEdges : {S : Type 0} → Behaviour S → List S → List (List ℕ) → List (Vec SortedEdge) → Type 0
 AreKeptEdges m states cells kept = (number : ℕ) (sorted : Vec SortedEdge) → slice_get kept number ≡ Some sorted → AreSortedEdges m states number cells sorted.items
+
+-- each list has the sorted edges of the state whose number is the place of the list, or none
+abbrev pub AreKeptOrNone : {S : Type 0} → Behaviour S → List S → List (List ℕ) → List (Vec SortedEdge) → Type 0
+AreKeptOrNone m states cells kept = (number : ℕ) (sorted : Vec SortedEdge) → slice_get kept number ≡ Some sorted → (sorted.items ≡ []) ⊎ AreSortedEdges m states number cells sorted.items
+
+-- each list is the one that was there, or has no edges
+abbrev pub AreSomeOf : List (Vec SortedEdge) → List (Vec SortedEdge) → Type 0
+AreSomeOf old new = (number : ℕ) (sorted : Vec SortedEdge) → slice_get new number ≡ Some sorted → (sorted.items ≡ []) ⊎ (slice_get old number ≡ Some sorted)

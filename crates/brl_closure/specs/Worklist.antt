@@ -6,7 +6,8 @@ use Rattle.brl_pairs.specs.Body.{NumberPair}
 use Rattle.brl_pairs.specs.Runs.{Behaviour}
 use Rattle.brl_pairs.specs.declared.step.Step.{Step}
 use Rattle.brl_parts.specs.Parts.{AreKeptParts}
-use Rattle.brl_closure.specs.Edges.{AreKeptEdges, IsExpanded, IsWalked}
+use Rattle.brl_closure.specs.Edges.{AreKeptOrNone, IsExpanded, IsWalked}
+use Rattle.brl_closure.specs.SearchView.{Stays}
 use Rattle.brl_closure.specs.Trail.{Extends, IsActive}
 use Rattle.brl_closure.specs.declared.search.finder.Finder.{Finder}
 use Rattle.brl_closure.specs.declared.search.trail.Trail.{Trail}
@@ -29,11 +30,20 @@ NoneIsReady w = (item : Reverse (ℕ × ℕ)) → slice_get (heap_items w.queue)
 pub record IsWorking {M S P : Type 0} (behaviour : M → Behaviour S) (steps_of : M → P → List (Step S)) (f : Finder M S) (t : Trail S) (w : Worklist P) : Type 0 where
   pub active : IsActive behaviour f t
   pub there : length w.expanded.items ≤ length t.states
-  pub edges : AreKeptEdges (behaviour f.machine.now) t.states w.cells w.expanded.items
+  pub edges : AreKeptOrNone (behaviour f.machine.now) t.states w.cells w.expanded.items
   pub parts : AreKeptParts (steps_of f.machine.now) t.states w.cells w.parts
   pub states : (k : ℕ) → k < length w.expanded.items → IsExpanded (behaviour f.machine.now) t.states t.pairs k
   pub pairs : (n : ℕ) → n < length t.pairs → IsQueued n (heap_items w.queue) ⊎ IsWalked (behaviour f.machine.now) t.states t.pairs n
   pub items : All (IsItemOf t.pairs) (heap_items w.queue)
+
+-- After the edges of a state were asked for, the same states are expanded and the same pairs queued.
+-- What is kept of edges and parts is right for these states.
+pub record StillHas {S P : Type 0} (m : Behaviour S) (steps_of : P → List (Step S)) (states : List S) (old new : Worklist P) : Type 0 where
+  pub cells : Stays old.cells new.cells
+  pub count : length new.expanded.items ≡ length old.expanded.items
+  pub edges : AreKeptOrNone m states new.cells new.expanded.items
+  pub parts : AreKeptParts steps_of states new.cells new.parts
+  pub queue : new.queue ≡ old.queue
 
 -- all states are expanded and all pairs walked
 pub record IsFinished {M S : Type 0} (behaviour : M → Behaviour S) (f : Finder M S) (t : Trail S) : Type 0 where

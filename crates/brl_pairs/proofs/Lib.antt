@@ -19,3 +19,4 @@ pub mod Along
 pub mod ListedLaws
 pub mod Filtered
 mod RankLaws
+pub mod ByNumber

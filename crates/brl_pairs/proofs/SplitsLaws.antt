@@ -1,17 +1,18 @@
 -- The edges that begin others, and those that begin with them, by the order of cells.
-use Rattle.std.proofs.Common.{◌≡◌, ◌⊎◌, ℕ, ◌+◌, ◌-◌, ◌<◌, ◌≤◌, false, List, [], ◌++◌, inl, inr, length, get_or, Some, slice_get, sym, ◌∙◌, ap, subst, arith, append_assoc}
+use Rattle.std.proofs.Common.{◌≡◌, ◌⊎◌, ℕ, zero, suc, ◌+◌, ◌-◌, ◌<◌, ◌≤◌, Bool, true, false, set, List, [], ◌++◌, inl, inr, length, get_or, Some, slice_get, sym, ◌∙◌, ap, subst, arith, append_assoc}
 use Rattle.std.specs.Prelude.{Contains}
 use Rattle.std.specs.List.Sorted.{IsNonDecreasingBy, IsPermutation}
 use Rattle.std.proofs.lemmas.Bool.{cases_eq, cases_lt}
-use Rattle.std.proofs.lemmas.List.{append-nil}
+use Rattle.std.proofs.Math.ListN.{length-set}
+use Rattle.std.proofs.lemmas.List.{append-nil, get_or-set_same}
 use Rattle.std.proofs.lemmas.List.Elements.{Contains-append_cases, Contains-append_left, Contains-append_right}
 use Rattle.std.proofs.lemmas.List.Sorted.{Contains-permutation, IsPermutation-sym}
 use Rattle.std.proofs.lemmas.Option.{get_or_from_slice_get, slice_get-get_or, slice_get_within}
 use Rattle.brl_pairs.specs.Sorted.{AreAscending, BeginsWith, DoMatch, cells_of, is_before}
-use Rattle.brl_pairs.specs.Splits.{AreEarlier, AreShorter, AreWithin, IsLastShorter}
+use Rattle.brl_pairs.specs.Splits.{AreEarlier, AreMarks, AreShorter, AreWithin, IsLastShorter}
 use Rattle.brl_pairs.specs.declared.sorted.SortedEdge.{SortedEdge}
 use Rattle.brl_pairs.proofs.CellOrder.{beginning_interval, beginning_not_before, begins_from_test, same_cells, test_from_begins}
-use Rattle.brl_pairs.proofs.Lists.{inside, same_place, three_ways}
+use Rattle.brl_pairs.proofs.Lists.{inside, same_place, set_cases, three_ways}
 use Rattle.brl_pairs.proofs.Numbered.{contained, place_of}
 use Rattle.brl_pairs.proofs.SortedLaws.{edge_at, far, is_at}
 
@@ -192,3 +193,106 @@ module _ (cells : List (List ℕ)) (sorted : List SortedEdge) (ascending : AreAs
                 | inr after ↦ Contains-append_right shorter longer x (l.all k.0 x (omega (arith, after)) (slice_get_within sorted k.0 x k.1) k.1 (begins_with_it k.0 x (omega (arith, after)) k.1 m, early))
               ]
             ])
+
+-- ---- Marks
+
+-- the marks that the edges at the first positions give
+pub record AreFirstMarks (sorted : List SortedEdge) (shorter : List ℕ) (marks : List Bool) (end : ℕ) : Type 0 where
+  pub own : (k n : ℕ) (x : SortedEdge) → k < end → slice_get shorter k ≡ Some n → 0 < n → slice_get sorted k ≡ Some x → slice_get marks x.place ≡ Some true
+  pub last : (k n j : ℕ) (x : SortedEdge) → k < end → slice_get shorter k ≡ Some n → n ≡ j + 1 → slice_get sorted j ≡ Some x → slice_get marks x.place ≡ Some true
+
+-- what is marked stays marked
+mark_stays : (marks : List Bool) (i p : ℕ) → slice_get marks p ≡ Some true → slice_get (set marks i true) p ≡ Some true
+mark_stays marks i p at =
+    let within = slice_get_within marks p true at in
+    let y = inside (set marks i true) p (omega (arith, length-set marks i true, within)) in
+    elim (set_cases marks i true p y.0 y.1) [
+      | inl here ↦ y.1 ∙ ap (λ (b : Bool). Some b) (sym here.1)
+      | inr there ↦ y.1 ∙ sym there.1 ∙ at
+    ]
+
+mark_made : (marks : List Bool) (i : ℕ) → i < length marks → slice_get (set marks i true) i ≡ Some true
+mark_made marks i within = slice_get-get_or (set marks i true) i true (omega (arith, length-set marks i true, within)) ∙ ap (λ (b : Bool). Some b) (get_or-set_same marks i true true within)
+
+module _ (sorted : List SortedEdge) (shorter : List ℕ) (position n : ℕ) (n_at : slice_get shorter position ≡ Some n) where
+  -- the edge at this position has none before it
+  pub marks_as_before : (marks : List Bool) → n ≡ 0 → AreFirstMarks sorted shorter marks position → AreFirstMarks sorted shorter marks (position + 1)
+  marks_as_before marks none h = record {
+    own = λ k m x less m_at some x_at. elim (cases_eq k position) [
+      | inl here ↦ absurd (let same : m ≡ n = same_place shorter position m n (ap (slice_get shorter) (sym here) ∙ m_at) n_at in omega (arith, same, none, some))
+      | inr other ↦ h.own k m x (omega (arith, less, other)) m_at some x_at
+    ];
+    last = λ k m j x less m_at is x_at. elim (cases_eq k position) [
+      | inl here ↦ absurd (let same : m ≡ n = same_place shorter position m n (ap (slice_get shorter) (sym here) ∙ m_at) n_at in omega (arith, same, none, is))
+      | inr other ↦ h.last k m j x (omega (arith, less, other)) m_at is x_at
+    ];
+  }
+
+  -- the edge at this position and the last one before it are marked
+  pub marks_more : (marks : List Bool) (x y : SortedEdge) → slice_get sorted position ≡ Some x → slice_get sorted (n - 1) ≡ Some y → 0 < n → x.place < length marks → y.place < length marks
+      → AreFirstMarks sorted shorter marks position → AreFirstMarks sorted shorter (set (set marks x.place true) y.place true) (position + 1)
+  marks_more marks x y x_at y_at some x_within y_within h = record {
+    own = λ k m z less m_at is_some z_at. elim (cases_eq k position) [
+      | inl here ↦
+          let same : x ≡ z = same_place sorted position x z x_at (ap (slice_get sorted) (sym here) ∙ z_at) in
+          subst (λ (w : SortedEdge). slice_get new w.place ≡ Some true) same (mark_stays (set marks x.place true) y.place x.place (mark_made marks x.place x_within))
+      | inr other ↦ stays z.place (h.own k m z (omega (arith, less, other)) m_at is_some z_at)
+    ];
+    last = λ k m j z less m_at is z_at. elim (cases_eq k position) [
+      | inl here ↦
+          let number : m ≡ n = same_place shorter position m n (ap (slice_get shorter) (sym here) ∙ m_at) n_at in
+          let at : n - 1 ≡ j = omega (arith, number, is) in
+          let same : y ≡ z = same_place sorted (n - 1) y z y_at (ap (slice_get sorted) at ∙ z_at) in
+          subst (λ (w : SortedEdge). slice_get new w.place ≡ Some true) same (mark_made (set marks x.place true) y.place (omega (arith, length-set marks x.place true, y_within)))
+      | inr other ↦ stays z.place (h.last k m j z (omega (arith, less, other)) m_at is z_at)
+    ];
+  }
+    where
+      new : List Bool
+      new = set (set marks x.place true) y.place true
+
+      stays : (p : ℕ) → slice_get marks p ≡ Some true → slice_get new p ≡ Some true
+      stays p at = mark_stays (set marks x.place true) y.place p (mark_stays marks x.place p at)
+
+-- an edge without a mark splits with no other one
+module _ (cells : List (List ℕ)) (sorted : List SortedEdge) (ascending : AreAscending cells sorted) (shorter : List ℕ) (marks : List Bool) (many : length shorter ≡ length sorted)
+    (known : AreShorter cells sorted shorter) (are : AreMarks sorted shorter marks) where
+  -- where a later edge begins with its cells, an edge is marked
+  marked_by_later : (fuel i j : ℕ) (x y : SortedEdge) → j ≤ i + fuel → i < j → slice_get sorted i ≡ Some x → slice_get sorted j ≡ Some y → BeginsWith (cells_of cells y) (cells_of cells x) → slice_get marks x.place ≡ Some true
+  marked_by_later zero i j x y near less x_at y_at b = absurd (omega (arith, near, less))
+  marked_by_later (suc fuel) i j x y near less x_at y_at b =
+      let n = inside shorter j (let within = slice_get_within sorted j y y_at in omega (arith, within, many)) in
+      let found = known j n.0 y y_at n.1 in
+      elim (cases_lt i n.0) [
+        | inr high ↦ absurd (found.others i x high less x_at b)
+        | inl low ↦ elim (cases_eq (n.0 - 1) i) [
+          | inl here ↦ are.last j n.0 i x n.1 (omega (arith, low, here)) x_at
+          | inr other ↦
+              let le : n.0 ≤ j = found.before in
+              let z = inside sorted (n.0 - 1) (let within = slice_get_within sorted j y y_at in omega (arith, within, le, low)) in
+              marked_by_later fuel i (n.0 - 1) x z.0 (omega (arith, near, le)) (omega (arith, low, other)) x_at z.1
+              (between_begins cells sorted ascending i (n.0 - 1) j x z.0 y (omega (arith, low)) (omega (arith, le)) x_at z.1 y_at b)
+        ]
+      ]
+
+  pub unmarked_alone : (own : ℕ) (y : SortedEdge) → slice_get sorted own ≡ Some y → slice_get marks y.place ≡ Some false → (k : ℕ) (x : SortedEdge) → slice_get sorted k ≡ Some x
+      → DoMatch (cells_of cells y) (cells_of cells x) → x.place < y.place → ⊥
+  unmarked_alone own y y_at unmarked k x here_at m early = elim (three_ways k own) [
+    | inl before ↦
+        let b : BeginsWith (cells_of cells y) (cells_of cells x) = (elim m [ inl begins ↦ begins | inr back ↦ begins_back cells sorted ascending k own x y (omega (arith, before)) here_at y_at back ]) in
+        let n = inside shorter own (let within = slice_get_within sorted own y y_at in omega (arith, within, many)) in
+        let found = known own n.0 y y_at n.1 in
+        elim (cases_lt 0 n.0) [
+          | inl some ↦ not_marked (are.own own n.0 y n.1 some y_at)
+          | inr none ↦ found.others k x (omega (arith, none)) before here_at b
+        ]
+    | inr more ↦ elim more [
+      | inl here ↦ (let same = ap (λ (z : SortedEdge). z.place) (same_place sorted own x y (ap (slice_get sorted) (sym here) ∙ here_at) y_at) in omega (arith, same, early))
+      | inr after ↦
+          let b : BeginsWith (cells_of cells x) (cells_of cells y) = (elim m [ inr begins ↦ begins | inl back ↦ begins_back cells sorted ascending own k y x (omega (arith, after)) y_at here_at back ]) in
+          not_marked (marked_by_later k own k y x (omega arith) after y_at here_at b)
+    ]
+  ]
+    where
+      not_marked : slice_get marks y.place ≡ Some true → ⊥
+      not_marked at = (let same = sym at ∙ unmarked in cc)

@@ -14,6 +14,7 @@ pub mod Edges
 pub mod NumberPairs
 pub mod Sorted
 pub mod Ranks
+pub mod Grouped
 pub mod Splits
 pub mod Parted
 pub mod Listed

@@ -1,5 +1,5 @@
 -- The splits of a state's edges, by the order of their cells. The project's own choice.
-use Rattle.std.specs.Prelude.{◌≡◌, ℕ, ◌+◌, ◌<◌, ◌≤◌, Contains, List, length, Some, slice_get}
+use Rattle.std.specs.Prelude.{◌≡◌, ℕ, ◌+◌, ◌<◌, ◌≤◌, Bool, true, Contains, List, length, Some, slice_get}
 use Rattle.std.specs.List.Sorted.{IsNonDecreasingBy}
 use Rattle.brl_pairs.specs.Sorted.{BeginsWith, DoMatch, cells_of}
 use Rattle.brl_pairs.specs.declared.sorted.SortedEdge.{SortedEdge}
@@ -32,8 +32,16 @@ AreShorter cells sorted shorter = (k n : ℕ) (x : SortedEdge) → slice_get sor
 abbrev pub ArePositions : List SortedEdge → List ℕ → Type 0
 ArePositions sorted positions = (x : SortedEdge) → Contains sorted x → (k : ℕ) × (y : SortedEdge) × (slice_get positions x.place ≡ Some k) × (slice_get sorted k ≡ Some y) × (y.place ≡ x.place)
 
--- the positions of the edges, and those of the last shorter ones
+-- An edge has a mark at its place where another one before it begins its cells, and where it is the
+-- last such one of another edge.
+pub record AreMarks (sorted : List SortedEdge) (shorter : List ℕ) (marks : List Bool) : Type 0 where
+  pub own : (k n : ℕ) (x : SortedEdge) → slice_get shorter k ≡ Some n → 0 < n → slice_get sorted k ≡ Some x → slice_get marks x.place ≡ Some true
+  pub last : (k n j : ℕ) (x : SortedEdge) → slice_get shorter k ≡ Some n → n ≡ j + 1 → slice_get sorted j ≡ Some x → slice_get marks x.place ≡ Some true
+
+-- the positions of the edges, those of the last shorter ones, and the marks of edges that split
 pub record AreSplits (cells : List (List ℕ)) (sorted : List SortedEdge) (splits : Splits) : Type 0 where
   pub positions : ArePositions sorted splits.positions.items
   pub many : length splits.shorter.items ≡ length sorted
   pub shorter : AreShorter cells sorted splits.shorter.items
+  pub marks : AreMarks sorted splits.shorter.items splits.marks.items
+  pub mark_count : (x : SortedEdge) → Contains sorted x → x.place < length splits.marks.items

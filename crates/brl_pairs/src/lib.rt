@@ -11,8 +11,9 @@
 //! - `Body` has states, and pairs that name two of them by their numbers. An `Edge` is a step with
 //!   the number of its next state: that is looked up once, and from then on only numbers and cells
 //!   are compared.
-//! - The edges of a state are sorted by their cells, which `KeptCells` has once each. `matches` looks up those that a lead can follow,
-//!   and `earlier_splits` those with which an edge splits.
+//! - The edges of a state are sorted by their cells, which `KeptCells` has once each. `matches` looks
+//!   up those that a lead can follow, and `earlier_splits` those with which an edge splits.
+//!   `by_number` puts elements in the order of numbers without comparing them.
 //!
 //! Room 2, any machine (docs/dev/ARCHITECTURE.md). The definitions begin in `specs/Runs.antt`.
 #![tactic(auto)]
@@ -21,6 +22,7 @@ mod body;
 mod edge;
 mod edge_laws;
 mod excused;
+mod grouped;
 mod kept_cells;
 mod key;
 mod laws;
@@ -39,6 +41,7 @@ pub use body::Body;
 pub use edge::{Edge, ListedEdge};
 pub use edge_laws::{edges_law, unmatched_law};
 pub use excused::Excused;
+pub use grouped::by_number;
 pub use kept_cells::KeptCells;
 pub use key::Key;
 pub use laws::{

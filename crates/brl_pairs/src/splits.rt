@@ -2,7 +2,7 @@
 //! chain before them, and those that begin with them follow.
 ghost use Rattle.std.specs.Prelude.{◌≡◌, ◌⊎◌, ℕ, ◌+◌, ◌<◌, ◌≤◌, Contains, IfOk, OnOk, Some, length, slice_get};
 ghost use Rattle.brl_pairs.specs.Sorted.{AreAscending, BeginsWith, cells_of};
-ghost use Rattle.brl_pairs.specs.Splits.{AreEarlier, ArePositions, AreShorter, AreSplits, AreWithin, IsLastShorter};
+ghost use Rattle.brl_pairs.specs.Splits.{AreEarlier, AreMarks, ArePositions, AreShorter, AreSplits, AreWithin, IsLastShorter};
 ghost use Rattle.brl_pairs.specs.declared.sorted.SortedEdge.{SortedEdge as SortedValue};
 
 use crate::sorted::{SortedEdge, as_u32, begins_with, cells_of};
@@ -18,6 +18,8 @@ pub struct Splits {
     /// By position, one more than the position of the last edge before whose cells begin these; 0
     /// if there is none.
     pub shorter: Vec<u32>,
+    /// By place, whether the edge splits with another one.
+    pub marks: Vec<bool>,
 }
 
 /// The position of the edge with each place.
@@ -65,6 +67,31 @@ fn shorter_of(alloc: Global, cells: &[Cells], sorted: &[SortedEdge]) -> Result<V
     Ok(shorter)
 }
 
+/// By place, whether an edge has another one before it whose cells begin its cells, or is the last
+/// such one of another edge.
+fn marks_of(
+    alloc: Global,
+    sorted: &[SortedEdge],
+    shorter: &[u32],
+    count: usize,
+) -> Result<Vec<bool>, AllocError>
+    requires places { (x : SortedValue) → Contains sorted.now x → x.place < count }
+    requires many { length shorter.now ≡ length sorted.now }
+    requires before { (k n : ℕ) → slice_get shorter.now k ≡ Some n → n ≤ k }
+    ensures marks { IfOk result (λ marks. AreMarks sorted.now shorter.now marks.items) }
+    ensures count { IfOk result (λ marks. length marks.items ≡ count) }
+{
+    let mut marks = vec![in alloc; false; count]?;
+    for position in 0..sorted.len() {
+        let last = shorter[position] as usize;
+        if last > 0 {
+            marks[sorted[position].place as usize] = true;
+            marks[sorted[last - 1].place as usize] = true;
+        }
+    }
+    Ok(marks)
+}
+
 /// The splits of edges whose places are below this count.
 pub fn splits_of(
     alloc: Global,
@@ -78,7 +105,12 @@ pub fn splits_of(
 {
     let positions = positions_of(alloc, sorted, count)?;
     let shorter = shorter_of(alloc, cells, sorted)?;
-    Ok(Splits { positions, shorter })
+    let marks = marks_of(alloc, sorted, shorter.as_slice(), count)?;
+    Ok(Splits {
+        positions,
+        shorter,
+        marks,
+    })
 }
 
 /// Adds an edge if its place is before this one.
@@ -144,6 +176,28 @@ fn earlier_longer(
 /// The edges before the one with this place that split with it, by ascending place: those whose
 /// cells begin its cells or begin with them.
 pub fn earlier_splits(
+    alloc: Global,
+    cells: &[Cells],
+    sorted: &[SortedEdge],
+    splits: &Splits,
+    place: usize,
+) -> Result<Vec<SortedEdge>, AllocError>
+    requires ascending { AreAscending cells.now sorted.now }
+    requires splits { AreSplits cells.now sorted.now splits.now }
+    requires there { (x : SortedValue) × Contains sorted.now x × (x.place ≡ place) }
+    ensures { IfOk result (λ found. (y : SortedValue) × Contains sorted.now y × (y.place ≡ place)
+        × AreEarlier cells.now sorted.now (cells_of cells.now y) place found.items) }
+{
+    if !splits.marks[place] {
+        return Ok(Vec::new(alloc));
+    }
+    let found = earlier_of(alloc, cells, sorted, splits, place)?;
+    Ok(found)
+}
+
+/// The same edges, found by those whose cells begin the cells of this one and those whose cells begin
+/// with them.
+fn earlier_of(
     alloc: Global,
     cells: &[Cells],
     sorted: &[SortedEdge],

@@ -1,9 +1,9 @@
 -- The steps of a state by numbers, put together from those of its parts.
-use Rattle.std.proofs.Common.{◌≡◌, ℕ, ◌+◌, ◌<◌, ◌≤◌, List, [], ◌∷◌, ◌++◌, length, take, Some, slice_get, get_or, nat_eq, sym, ◌∙◌, ap, subst, add-one, append-nil, arith}
+use Rattle.std.proofs.Common.{◌≡◌, ℕ, zero, suc, ◌+◌, ◌<◌, ◌≤◌, List, [], ◌∷◌, ◌++◌, length, map, take, Some, slice_get, get_or, nat_eq, sym, ◌∙◌, ap, subst, add-one, append-nil, arith}
 use Rattle.std.specs.Prelude.{filter}
 use Rattle.std.specs.Global.{Vec}
 use Rattle.std.specs.List.{AllZip, flat_map}
-use Rattle.std.proofs.lemmas.Option.{get_or_from_slice_get, slice_get_within}
+use Rattle.std.proofs.lemmas.Option.{get_or_from_slice_get, slice_get-get_or, slice_get_within}
 use Rattle.std.specs.List.Sorted.{IsNonDecreasingBy, IsStableByKey}
 use Rattle.std.specs.Ordering.{nat_cmp}
 use Rattle.std.proofs.Math.Seq.{take-suc}
@@ -14,6 +14,8 @@ use Rattle.brl_pairs.specs.Runs.{IsInOrder}
 use Rattle.brl_pairs.specs.declared.edge.ListedEdge.{ListedEdge}
 use Rattle.brl_pairs.specs.declared.step.Step.{Step}
 use Rattle.brl_pairs.proofs.Along.{along-ascending, along-at, along-each, along-filter, along-flat_map, along-length, ascends, stable_number, with_number}
+use Rattle.brl_pairs.specs.Grouped.{grouped}
+use Rattle.brl_pairs.proofs.ByNumber.{grouped_ascends, grouped_number}
 use Rattle.brl_parts.specs.Parts.{AreByRule, PartsView, edges_of, or_no_edges}
 
 -- the rules of a state's edges ascend
@@ -60,3 +62,20 @@ joined_more kept numbers k edges within at =
 -- a stable sort by rules leaves the edges of one rule as they are
 pub one_rule : (edges listed : List ListedEdge) → IsStableByKey (λ (e : ListedEdge). e.rule) nat_cmp edges listed → (rule : ℕ) → filter (λ (e : ListedEdge). nat_eq rule e.rule) listed ≡ filter (λ (e : ListedEdge). nat_eq rule e.rule) edges
 one_rule edges listed stable rule = stable_number (λ (e : ListedEdge). e.rule) edges listed stable (record { rule = rule; cells = 0; next = 0 })
+
+-- edges by the numbers of their rules
+pub grouped_by_rule : (edges listed : List ListedEdge) (count : ℕ) → ((k : ℕ) (e : ListedEdge) → slice_get edges k ≡ Some e → e.rule < count) → listed ≡ grouped (λ (e : ListedEdge). e.rule) count edges → AreByRule edges listed
+grouped_by_rule edges listed count below is =
+    let f : ListedEdge → ℕ = λ (e : ListedEdge). e.rule in
+    subst (AreByRule edges) (sym is) (record {
+      ascending = λ i j d le within.
+          grouped_ascends f count edges i j (get_or (grouped f count edges) i d) (get_or (grouped f count edges) j d) le
+          (slice_get-get_or (grouped f count edges) i d (omega (arith, le, within))) (slice_get-get_or (grouped f count edges) j d within);
+      each = λ rule. grouped_number f count edges below rule;
+    })
+
+-- each edge has its rule among the rules of all
+pub rule_at : (edges : List ListedEdge) (k : ℕ) (e : ListedEdge) → slice_get edges k ≡ Some e → slice_get (map (λ (x : ListedEdge). x.rule) edges) k ≡ Some e.rule
+rule_at [] k e at = cc
+rule_at (x ∷ edges) zero e at = (let same : x ≡ e = cc in ap (λ (z : ListedEdge). Some z.rule) same)
+rule_at (x ∷ edges) (suc k) e at = rule_at edges k e at

@@ -1,12 +1,12 @@
 //! Parts with their steps by numbers.
-ghost use Rattle.std.specs.Prelude.{◌≡◌, ◌↔◌, ◌+◌, ◌<◌, ◌≤◌, ◌⊎◌, ℕ, All, IfOk, IfSome, IsTrue, OnErr, OnOk, Some, length, slice_get};
+ghost use Rattle.std.specs.Prelude.{◌≡◌, ◌↔◌, ◌+◌, ◌<◌, ◌≤◌, ◌⊎◌, ℕ, All, IfOk, IfSome, IsTrue, OnErr, OnOk, Some, length, map, slice_get};
 ghost use Rattle.std.specs.Global.{Vec as VecValue};
 ghost use Rattle.std.specs.List.{flat_map};
 ghost use Rattle.brl_pairs.specs.Members.{IsMember};
 ghost use Rattle.brl_pairs.specs.declared.edge.ListedEdge.{ListedEdge as EdgeValue};
 ghost use Rattle.brl_parts.specs.Parts.{AreByRule, IsKept, edges_of, no_parts};
 
-use brl_pairs::{Key, ListedEdge, Members, Seed};
+use brl_pairs::{Key, ListedEdge, Members, Seed, by_number};
 use std::alloc::{AllocError, Global};
 use std::marker::Model;
 
@@ -61,6 +61,17 @@ impl<P: Key> Parts<P> {
         self.parts.index_of(part)
     }
 
+    /// The number of a part, from 0, if it is kept. The part with the number `likely` is tried first,
+    /// which costs less than a look-up by hash.
+    pub fn number_near(&self, part: &P, likely: usize) -> Option<usize>
+        ensures { IfSome result (λ number. slice_get self.now.parts number ≡ Some part.now) }
+    {
+        match self.parts.get(likely) {
+            Some(own) if own == part => Some(likely),
+            _ => self.parts.index_of(part),
+        }
+    }
+
     /// Keeps a part with these edges, and returns its number. A part that is kept already keeps the
     /// edges that it has. The parts before keep their numbers and edges. After `AllocError` they do
     /// too.
@@ -100,8 +111,14 @@ impl<P: Key> Parts<P> {
         ensures { IfOk result (λ listed. AreByRule (flat_map (edges_of self.now) numbers.now) listed.items) }
     {
         let mut listed = self.joined(alloc, numbers)?;
-        listed.sort_by_key(|edge| edge.rule)?;
-        Ok(listed)
+        let rules = rules_of(alloc, listed.as_slice())?;
+        let count = past_all(rules.as_slice());
+        if count / 8 > listed.len() {
+            sort_by_rule(&mut listed)?;
+            return Ok(listed);
+        }
+        let sorted = by_number(alloc, listed.as_slice(), rules.as_slice(), count)?;
+        Ok(sorted)
     }
 
     /// The edges of the parts with these numbers, part by part.
@@ -115,4 +132,32 @@ impl<P: Key> Parts<P> {
         }
         Ok(listed)
     }
+}
+
+/// The rules of edges.
+fn rules_of(alloc: Global, edges: &[ListedEdge]) -> Result<Vec<u32>, AllocError>
+    ensures { IfOk result (λ rules. rules.items ≡ map (λ edge. edge.rule) edges.now) }
+{
+    edges.iter().map(|edge| edge.rule).collect(alloc)
+}
+
+/// A number that all these are below.
+fn past_all(numbers: &[u32]) -> usize
+    ensures { All (λ number. number < result) numbers.now }
+{
+    let mut count = 0usize;
+    for number in numbers {
+        if *number as usize >= count {
+            count = *number as usize + 1;
+        }
+    }
+    count
+}
+
+/// Sorts edges by ascending rule, of which two are compared at a time.
+fn sort_by_rule(edges: &mut Vec<ListedEdge>) -> Result<(), AllocError>
+    ensures { OnOk result (AreByRule edges.old.items edges.new.items) }
+{
+    edges.sort_by_key(|edge| edge.rule)?;
+    Ok(())
 }

@@ -145,9 +145,14 @@ impl<'m, M: Parted> Finder<'m, M> {
     {
         let mut places = Vec::with_capacity(self.alloc, listed.len())?;
         let mut fresh = Vec::new(self.alloc);
+        let mut likely = 0usize;
         for part in listed {
-            match parts.number_of(&part) {
-                Some(number) => places.push(Place::Known(number))?,
+            match parts.number_near(&part, likely) {
+                Some(number) => {
+                    places.push(Place::Known(number))?;
+                    // States mostly have parts that were first listed together, one after the other.
+                    likely = number.saturating_add(1);
+                }
                 None => {
                     places.push(Place::New(fresh.len()))?;
                     fresh.push(self.begin_part(part)?)?;

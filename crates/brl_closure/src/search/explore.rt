@@ -245,8 +245,7 @@ impl<'m, M: Parted> Finder<'m, M> {
         let Some(number) = worklist.pop_ready() else {
             return Ok(false);
         };
-        let cells = worklist.cells.as_slice();
-        self.walk(trail, cells, worklist.expanded.as_slice(), number)?;
+        self.walk_queued(trail, worklist, number)?;
         worklist.enqueue_from(&trail.pairs, known)?;
         Ok(true)
     }
@@ -266,6 +265,7 @@ impl<'m, M: Parted> Finder<'m, M> {
         let number = worklist.expanded.len();
         let (cells, parts) = (&mut worklist.cells, &mut worklist.parts);
         let edges = self.expand(trail, cells, parts, number)?;
+        worklist.make_room(self.alloc, edges.len());
         worklist.expanded.push(edges)?;
         worklist.enqueue_from(&trail.pairs, known)?;
         Ok(())

@@ -1,5 +1,5 @@
 //! Expanding states, and walking pairs.
-ghost use Rattle.std.specs.Prelude.{◌≡◌, ◌<◌, ℕ, length, IfErr, IfOk, OnOk, Some, slice_get};
+ghost use Rattle.std.specs.Prelude.{◌≤◌, ◌≡◌, ◌<◌, ℕ, length, IfErr, IfOk, OnOk, Some, slice_get};
 ghost use Rattle.brl_pairs.specs.Body.{NumberPair};
 ghost use Rattle.brl_parts.specs.Parts.{AreKeptParts};
 ghost use Rattle.brl_pairs.specs.Edges.{AreEdges};
@@ -9,12 +9,14 @@ ghost use Rattle.brl_pairs.specs.Sorted.{AreSortedEdges, IsSortedOf};
 ghost use Rattle.brl_pairs.specs.Splits.{AreSplits};
 ghost use Rattle.brl_pairs.specs.declared.edge.Edge.{Edge as EdgeValue};
 ghost use Rattle.brl_failure.specs.Failure.{IfFault};
-ghost use Rattle.brl_closure.specs.Edges.{AreKeptEdges, IsExpanded, IsWalked};
+ghost use Rattle.brl_closure.specs.Edges.{AreKeptEdges, AreKeptOrNone, IsExpanded, IsWalked};
 ghost use Rattle.brl_closure.specs.SearchView.{Stays};
+ghost use Rattle.brl_closure.specs.Worklist.{StillHas};
 ghost use Rattle.brl_closure.specs.Trail.{AddsPairs, Advances, IsActive, IsMoveOf, IsStopped};
 
 use crate::search::finder::{Finder, Stop};
 use crate::search::trail::{Origins, PairOrigin, Trail};
+use crate::search::worklist::Worklist;
 use brl_cells::Cells;
 use brl_failure::Failure;
 use brl_pairs::{
@@ -217,6 +219,85 @@ impl<'m, M: Parted> Finder<'m, M> {
         };
         self.find_splits(trail, &state)?;
         Ok(sorted)
+    }
+
+    /// The edges of the state with this number in the order of their cells, listed again.
+    fn list_again(
+        &self,
+        trail: &mut Trail<M::State>,
+        cells: &mut KeptCells,
+        parts: &mut Parts<M::Part>,
+        number: usize,
+    ) -> Result<Vec<SortedEdge>, Failure<Stop>>
+        requires active { IsActive M.behaviour self.now trail.old }
+        requires within { number < length trail.old.states }
+        requires parts { AreKeptParts (M.steps_of self.now.machine.now) trail.old.states cells.old parts.old }
+        ensures edges { IfOk result (λ sorted. AreSortedEdges (M.behaviour self.now.machine.now) trail.new.states number cells.new sorted.items) }
+        ensures cells { OnOk result (Stays cells.old cells.new) }
+        ensures parts { OnOk result (AreKeptParts (M.steps_of self.now.machine.now) trail.new.states cells.new parts.new) }
+        ensures advances { OnOk result (Advances M.behaviour self.now trail.old trail.new) }
+        ensures stopped { IfErr result (IfFault (IsStopped M.behaviour self.now trail.new)) }
+        ensures pairs { trail.new.pairs ≡ trail.old.pairs }
+    {
+        let edges = self.find_edges(trail, cells, parts, number)?;
+        cells.rank(self.alloc)?;
+        let sorted = sort_edges(self.alloc, cells, edges.as_slice())?;
+        Ok(sorted)
+    }
+
+    /// Takes the edges of an expanded state from those that are kept, or lists them again.
+    fn take_edges(
+        &self,
+        trail: &mut Trail<M::State>,
+        worklist: &mut Worklist<M::Part>,
+        number: usize,
+    ) -> Result<Vec<SortedEdge>, Failure<Stop>>
+        requires active { IsActive M.behaviour self.now trail.old }
+        requires there { length worklist.old.expanded.items ≤ length trail.old.states }
+        requires within { number < length worklist.old.expanded.items }
+        requires kept { AreKeptOrNone (M.behaviour self.now.machine.now) trail.old.states worklist.old.cells worklist.old.expanded.items }
+        requires parts { AreKeptParts (M.steps_of self.now.machine.now) trail.old.states worklist.old.cells worklist.old.parts }
+        ensures edges { IfOk result (λ sorted. AreSortedEdges (M.behaviour self.now.machine.now) trail.new.states number worklist.new.cells sorted.items) }
+        ensures work { OnOk result (StillHas (M.behaviour self.now.machine.now) (M.steps_of self.now.machine.now) trail.new.states worklist.old worklist.new) }
+        ensures advances { OnOk result (Advances M.behaviour self.now trail.old trail.new) }
+        ensures stopped { IfErr result (IfFault (IsStopped M.behaviour self.now trail.new)) }
+        ensures pairs { trail.new.pairs ≡ trail.old.pairs }
+    {
+        let kept = worklist.take(self.alloc, number);
+        if !kept.is_empty() {
+            return Ok(kept);
+        }
+        let (cells, parts) = (&mut worklist.cells, &mut worklist.parts);
+        let edges = self.list_again(trail, cells, parts, number)?;
+        worklist.make_room(self.alloc, edges.len());
+        Ok(edges)
+    }
+
+    /// Adds the successors of the pair with this number, by the edges of its state behind, which has
+    /// been expanded.
+    pub(crate) fn walk_queued(
+        &self,
+        trail: &mut Trail<M::State>,
+        worklist: &mut Worklist<M::Part>,
+        number: usize,
+    ) -> Result<(), Failure<Stop>>
+        requires active { IsActive M.behaviour self.now trail.old }
+        requires there { length worklist.old.expanded.items ≤ length trail.old.states }
+        requires kept { AreKeptOrNone (M.behaviour self.now.machine.now) trail.old.states worklist.old.cells worklist.old.expanded.items }
+        requires parts { AreKeptParts (M.steps_of self.now.machine.now) trail.old.states worklist.old.cells worklist.old.parts }
+        requires pair { (p : NumberPair) × (slice_get trail.old.pairs number ≡ Some p) × (p.behind < length worklist.old.expanded.items) }
+        ensures walked { OnOk result (IsWalked (M.behaviour self.now.machine.now) trail.new.states trail.new.pairs number) }
+        ensures work { OnOk result (StillHas (M.behaviour self.now.machine.now) (M.steps_of self.now.machine.now) trail.new.states worklist.old worklist.new) }
+        ensures advances { OnOk result (Advances M.behaviour self.now trail.old trail.new) }
+        ensures stopped { IfErr result (IfFault (IsStopped M.behaviour self.now trail.new)) }
+    {
+        let pair = copy_of(&trail.pairs.as_slice()[number])?;
+        let behind = pair.behind as usize;
+        let edges = self.take_edges(trail, worklist, behind)?;
+        let cells = worklist.cells.as_slice();
+        self.find_moves(trail, number, &pair, cells, edges.as_slice())?;
+        worklist.put(behind, edges);
+        Ok(())
     }
 }
 

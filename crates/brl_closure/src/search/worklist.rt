@@ -1,9 +1,10 @@
 //! What is left to do in a search.
-ghost use Rattle.std.specs.Prelude.{◌≡◌, ◌⊎◌, ◌+◌, ◌<◌, ◌≤◌, ◌∷◌, ℕ, All, [], length, IfNone, IfSome, OnOk, OnSome};
+ghost use Rattle.std.specs.Prelude.{◌≡◌, ◌⊎◌, ◌+◌, ◌<◌, ◌≤◌, ◌∷◌, ℕ, All, [], length, IfNone, IfSome, OnOk, OnSome, Some, slice_get, slice_set};
 ghost use Rattle.std.specs.BinaryHeap.{heap_items, heap_len};
 ghost use Rattle.std.specs.List.Sorted.{IsPermutation};
 ghost use Rattle.std.specs.declared.cmp.Reverse.{Reverse as ReverseValue};
 ghost use Rattle.brl_parts.specs.Parts.{no_parts};
+ghost use Rattle.brl_closure.specs.Edges.{AreSomeOf};
 ghost use Rattle.brl_closure.specs.Worklist.{IsItemOf, IsQueued, NoneIsReady};
 
 use brl_pairs::{KeptCells, Key, Members, Pair, Seed, SortedEdge};
@@ -11,6 +12,11 @@ use brl_parts::Parts;
 use std::alloc::{AllocError, Global};
 use std::cmp::Reverse;
 use std::collections::BinaryHeap;
+use std::mem;
+
+/// The most edges of states that are kept, but for those of the state that is asked for last: 3 MB of
+/// them.
+const MOST_KEPT: usize = 250_000;
 
 /// What is left to do in a search: states to be expanded, and pairs to be walked.
 #[derive(Drop)]
@@ -19,9 +25,11 @@ pub struct Worklist<P: Key> {
     pub cells: KeptCells,
     /// The parts of steps that have been listed.
     pub parts: Parts<P>,
-    /// The edges of each state that has been expanded, in the order of their cells. The other
-    /// states are expanded in the order in which they were found.
+    /// The edges of each state that has been expanded, in the order of their cells; none where they
+    /// aren't kept. The other states are expanded in the order in which they were found.
     pub expanded: Vec<Vec<SortedEdge>>,
+    /// At least how many edges of states are kept.
+    pub kept: usize,
     /// The pairs to be walked, each with the number of its state behind: that with the least comes
     /// first.
     pub queue: BinaryHeap<Reverse<(u32, usize)>>,
@@ -38,6 +46,7 @@ impl<P: Key> Worklist<P> {
             cells: KeptCells::new(alloc, seed),
             parts: Parts::new(alloc, seed),
             expanded: Vec::new(alloc),
+            kept: 0,
             queue: BinaryHeap::new(alloc),
         }
     }
@@ -53,6 +62,45 @@ impl<P: Key> Worklist<P> {
         if self.parts.is_full() {
             self.parts = Parts::new(alloc, seed);
         }
+    }
+
+    /// Counts edges of a state that will be kept. Where too many are, those that are kept are dropped.
+    pub fn make_room(&mut self, alloc: Global, edges: usize)
+        ensures parts { self.new.parts ≡ self.old.parts }
+        ensures cells { self.new.cells ≡ self.old.cells }
+        ensures count { length self.new.expanded.items ≡ length self.old.expanded.items }
+        ensures some { AreSomeOf self.old.expanded.items self.new.expanded.items }
+        ensures queue { self.new.queue ≡ self.old.queue }
+    {
+        if self.kept > MOST_KEPT {
+            drop_all(alloc, &mut self.expanded);
+            self.kept = 0;
+        }
+        self.kept = self.kept.saturating_add(edges);
+    }
+
+    /// Takes away the edges of the expanded state with this number: none where they aren't kept.
+    pub fn take(&mut self, alloc: Global, number: usize) -> Vec<SortedEdge>
+        requires { number < length self.old.expanded.items }
+        ensures taken { slice_get self.old.expanded.items number ≡ Some result }
+        ensures parts { self.new.parts ≡ self.old.parts }
+        ensures cells { self.new.cells ≡ self.old.cells }
+        ensures count { length self.new.expanded.items ≡ length self.old.expanded.items }
+        ensures some { AreSomeOf self.old.expanded.items self.new.expanded.items }
+        ensures queue { self.new.queue ≡ self.old.queue }
+    {
+        mem::replace(&mut self.expanded[number], Vec::new(alloc))
+    }
+
+    /// Keeps the edges of the expanded state with this number.
+    pub fn put(&mut self, number: usize, edges: Vec<SortedEdge>)
+        requires { number < length self.old.expanded.items }
+        ensures parts { self.new.parts ≡ self.old.parts }
+        ensures cells { self.new.cells ≡ self.old.cells }
+        ensures expanded { self.new.expanded.items ≡ slice_set self.old.expanded.items number edges }
+        ensures queue { self.new.queue ≡ self.old.queue }
+    {
+        self.expanded[number] = edges;
     }
 
     /// Takes out the queued pair that comes first, where its state behind has been expanded: then
@@ -95,5 +143,15 @@ impl<P: Key> Worklist<P> {
             self.queue.push(Reverse((behind, number)))?;
         }
         Ok(())
+    }
+}
+
+/// Drops the edges of all these states.
+fn drop_all(alloc: Global, expanded: &mut Vec<Vec<SortedEdge>>)
+    ensures count { length expanded.new.items ≡ length expanded.old.items }
+    ensures some { AreSomeOf expanded.old.items expanded.new.items }
+{
+    for number in 0..expanded.len() {
+        expanded[number] = Vec::new(alloc);
     }
 }

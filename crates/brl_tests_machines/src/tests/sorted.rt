@@ -1,9 +1,10 @@
 //! Edges in the order of their cells: those that a lead can follow, and those that split.
 use brl_cells::{Cells, read_dots};
 use brl_pairs::{
-    KeptCells, ListedEdge, Seed, SortedEdge, earlier_splits, matches, sort_edges, splits_of,
+    KeptCells, ListedEdge, Seed, SortedEdge, by_number, earlier_splits, matches, sort_edges,
+    splits_of,
 };
-use brl_testing::for_rows_of_3;
+use brl_testing::{for_rows_of_2, for_rows_of_3};
 use std::alloc::Global;
 use std::fmt::Write;
 use std::test::Fail;
@@ -34,6 +35,15 @@ const SPLITS: &str = "\
 2-1-1 1 2-2 2-1 2|3|0
 2-1-1 1 2-2 2-1 2|4|0 2 3
 1 1 1|2|0 1
+";
+
+/// Numbers below 10, and their places by ascending number; those of one number ascend.
+const BY_NUMBER: &str = "\
+2 0 1 0|1 3 2 0
+0 0 0|0 1 2
+5|0
+9 3 3 0 9|3 1 2 0 4
+|
 ";
 
 /// The cells of dots: none of no dots.
@@ -110,4 +120,30 @@ fn splits_text(alloc: Global, field: &str, place: &str) -> Result<String, Fail> 
 #[test]
 fn earlier_edges_that_split(rt: HostRuntime) -> Result<(), Fail> {
     for_rows_of_3(rt.alloc(), SPLITS, splits_text)
+}
+
+fn by_number_text(alloc: Global, field: &str) -> Result<String, Fail> {
+    let mut numbers = Vec::new(alloc);
+    let mut edges = Vec::new(alloc);
+    for word in field.split(' ') {
+        if !word.is_empty() {
+            let number: u32 = word.parse()?;
+            if number >= 10 {
+                return Err(Fail::new("the number is too high"));
+            }
+            edges.push(SortedEdge {
+                cells: 0,
+                next: 0,
+                place: numbers.len() as u32,
+            })?;
+            numbers.push(number)?;
+        }
+    }
+    let sorted = by_number(alloc, edges.as_slice(), numbers.as_slice(), 10)?;
+    places_text(alloc, sorted.as_slice())
+}
+
+#[test]
+fn places_by_number(rt: HostRuntime) -> Result<(), Fail> {
+    for_rows_of_2(rt.alloc(), BY_NUMBER, by_number_text)
 }
