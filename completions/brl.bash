@@ -31,7 +31,7 @@ _brl() {
     # The command, the option that waits for its value, and the operands before the cursor.
     for ((at = 1; at < COMP_CWORD; at++)); do
         case ${COMP_WORDS[at]} in
-            --form | --first | --limit | --without) option=${COMP_WORDS[at]} ;;
+            --form | --first | --limit | --path | --without) option=${COMP_WORDS[at]} ;;
             =) ;;
             *)
                 if [[ -n $option ]]; then
@@ -50,12 +50,13 @@ _brl() {
     local options='--help'
     case $command in
         '') options='--help --version' ;;
-        translate) options='--form --lacking --help' ;;
-        clash | trace) options='--escapes --lines --help' ;;
-        search) options='--limit --without --help' ;;
-        clashes) options='--first --limit --without --help' ;;
-        unused) options='--limit --help' ;;
-        check) options='--without --help' ;;
+        translate) options='--form --lacking --path --help' ;;
+        clash | trace) options='--escapes --lines --path --help' ;;
+        rules) options='--path --help' ;;
+        search) options='--limit --without --path --help' ;;
+        clashes) options='--first --limit --without --path --help' ;;
+        unused) options='--limit --path --help' ;;
+        check) options='--without --path --help' ;;
         survey) options='--brief --help' ;;
         cut) options='--rewrite --help' ;;
         help) options='' ;;
@@ -64,6 +65,8 @@ _brl() {
     COMPREPLY=()
     if [[ $option == --form ]]; then
         _brl_reply < <(compgen -W 'ascii unicode' -- "$word")
+    elif [[ $option == --path ]]; then
+        _brl_folders "$word"
     elif [[ -n $option ]]; then
         return
     elif [[ $word == -* ]]; then

@@ -133,6 +133,10 @@ for shell in bash zsh fish; do
         offers "brl $words t" table.ctb table.cert tables
     done
     offers 'brl cut table.ctb t' tables
+    for command in translate clash trace rules unused search clashes check; do
+        offers "brl $command --path t" tables
+        offers "brl $command --path tables t" table.ctb table.cert tables
+    done
     offers 'brl cut --rewrite table.ctb t' tables
     echo "ok: completions of $shell, $count lines"
 done

@@ -132,6 +132,48 @@ expect '1,025 includes' 2 '' 'L8 TooManyIncludes tables/empty.ctb at tables/many
 including /dev/zero
 expect 'an include without end' 2 '' 'L9 TooLarge /dev/zero at tables/t.ctb:2\n'
 
+# A table whose files are in other folders, as words select these.
+mkdir -p one two
+printf 'include there.ctb\n' >here.ctb
+printf 'letter a 1\n' >one/there.ctb
+printf 'letter a 12\n' >two/there.ctb
+printf 'include there.ctb\nletter c 14\n' >one/only.ctb
+looked_for() {
+    printf 'a\n' | "$program" translate "$@" >out 2>err
+    status=$?
+}
+
+looked_for here.ctb
+expect 'an include that is in another folder' 2 '' 'L1 NotFound there.ctb at here.ctb:1\n'
+
+looked_for --path one here.ctb
+expect 'an include that is looked for in a folder' 0 'A\n' ''
+
+looked_for --path none --path two/ --path one here.ctb
+expect 'an include that is looked for in three folders' 0 'B\n' ''
+
+looked_for --path two --path one only.ctb
+expect 'a table that is in a folder, with an include beside it' 0 'A\n' ''
+
+looked_for --path one "$work/only.ctb"
+expect 'a table by its whole path is looked for there alone' 2 '' "L1 NotFound $work/only.ctb\n"
+
+mkdir there.ctb
+looked_for --path one here.ctb
+expect 'a folder where an include is looked for first' 2 '' 'L2 ReadFailed there.ctb at here.ctb:1\n'
+rmdir there.ctb
+
+"$program" rules --path one here.ctb >out 2>err
+status=$?
+expect 'a rule of a file that was found in a folder' 0 '0  letter  a  1  one/there.ctb:1\n' ''
+
+for out in there.ctb ./there.ctb one/../there.ctb; do
+    "$program" search --path one here.ctb "$out" >out 2>err
+    status=$?
+    expect "a certificate for $out, where an include is looked for" 2 '' 'error: the certificate would overwrite there.ctb, a file of the table\n'
+done
+[ ! -e there.ctb ] || fail 'a certificate where an include is looked for' 'it was written'
+
 # Two texts by a table.
 clash() {
     "$program" clash "$1" "$2" "$3" >out 2>err

@@ -1,5 +1,5 @@
 -- What the files are after an answer is delivered.
-use Rattle.std.proofs.Common.{◌≡◌, ℕ, List, Result, Ok, Err, IsErrAnd, inl, inr, subst, sym, take}
+use Rattle.std.proofs.Common.{◌≡◌, ◌∙◌, ℕ, List, Result, Ok, Err, IsErrAnd, inl, inr, subst, sym, take}
 use Rattle.std.proofs.lemmas.List.Elements.{All-weaker}
 use Rattle.brl_lines.specs.Answer.{Unchanged, FileAnswers}
 use Rattle.brl_answers.specs.Delivery.{Delivers, World, KeepsFiles, PrintsNothing, Writes}
@@ -15,7 +15,7 @@ use Rattle.brl_answers.specs.declared.status.Status.{Status}
 
 -- two steps after each other that change no file
 pub all_after : (before between after : FileAnswers) → Unchanged before between → Unchanged between after → Unchanged before after
-all_after before between after same stay = λ p a. ((λ h. (same p a).0 ((stay p a).0 h)), (λ h. (stay p a).1 ((same p a).1 h)))
+all_after before between after same stay = (stay.0 ∙ same.0, λ p a. ((λ h. (same.1 p a).0 ((stay.1 p a).0 h)), (λ h. (stay.1 p a).1 ((same.1 p a).1 h))))
 
 -- ---- A read before the delivery changes nothing
 
@@ -25,17 +25,17 @@ module _ (before after : World) (between : FileAnswers) (same : Unchanged before
   found = record before { gives = between }
 
   others_after : (path : List ℕ) → OthersStay between after.gives path → OthersStay before.gives after.gives path
-  others_after path others = λ p a other. ((λ h. (same p a).0 ((others p a other).0 h)), (λ h. (others p a other).1 ((same p a).1 h)))
+  others_after path others = (others.0 ∙ same.0, λ p a other. ((λ h. (same.1 p a).0 ((others.1 p a other).0 h)), (λ h. (others.1 p a other).1 ((same.1 p a).1 h))))
 
   only_after : (files : List NewFile) → OnlyTheseChange between after.gives files → OnlyTheseChange before.gives after.gives files
-  only_after files only = λ p a none. ((λ h. (same p a).0 ((only p a none).0 h)), (λ h. (only p a none).1 ((same p a).1 h)))
+  only_after files only = (only.0 ∙ same.0, λ p a none. ((λ h. (same.1 p a).0 ((only.1 p a none).0 h)), (λ h. (only.1 p a none).1 ((same.1 p a).1 h))))
 
   new_after : (files : List NewFile) → AreNew between files → AreNew before.gives files
   new_after files new =
-      (new.0, All-weaker (λ file. MayBeAbsent between (path_of file)) (λ file. MayBeAbsent before.gives (path_of file)) (λ file absent. (same _ _).0 absent) files new.1)
+      (new.0, All-weaker (λ file. MayBeAbsent between (path_of file)) (λ file. MayBeAbsent before.gives (path_of file)) (λ file absent. (same.1 _ _).0 absent) files new.1)
 
   taken_after : (earlier : List NewFile) (path : List ℕ) → IsTaken between earlier path → IsTaken before.gives earlier path
-  taken_after earlier path taken = elim taken [ inl (a, other, gives) ↦ inl (a, other, (same path a).0 gives) | inr any ↦ inr any ]
+  taken_after earlier path taken = elim taken [ inl (a, other, gives) ↦ inl (a, other, (same.1 path a).0 gives) | inr any ↦ inr any ]
 
   there_after : (files : List NewFile) (fault : RunFault) → IsThereAlready between files fault → IsThereAlready before.gives files fault
   there_after files (AlreadyThere path) is = (is.0, is.1, new_after (take is.0 files) is.2, taken_after (take is.0 files) _ is.3)

@@ -12,21 +12,21 @@ use Rattle.brl_answers.specs.declared.new_files.NewFile.{NewFile}
 use Rattle.brl_answers.specs.declared.run_fault.RunFault.{RunFault}
 use Rattle.brl_answers.specs.declared.run_fault.RunFault.TheVariants.{CannotWrite, Memory}
 
--- a source may answer the same as before for each path but this one
+-- a source looks in the same folders as before, and may answer the same for each path but this one
 abbrev pub OthersStay : FileAnswers → FileAnswers → List ℕ → Type 0
-OthersStay old new path = (p : List ℕ) (a : FileAnswer) → p ≢ path → new p a ↔ old p a
+OthersStay old new path = (new.folders ≡ old.folders) × ((p : List ℕ) (a : FileAnswer) → p ≢ path → new.may p a ↔ old.may p a)
 
 -- it may answer what a file with these bytes gives
 abbrev pub GivesAlso : FileAnswers → List ℕ → List ℕ → Type 0
-GivesAlso gives path bytes = gives path (answer_of (Some bytes))
+GivesAlso gives path bytes = gives.may path (answer_of (Some bytes))
 
 -- nothing may be at a path
 abbrev pub MayBeAbsent : FileAnswers → List ℕ → Type 0
-MayBeAbsent gives path = gives path Missing
+MayBeAbsent gives path = gives.may path Missing
 
 -- something may be at a path
 abbrev pub MayBeThere : FileAnswers → List ℕ → Type 0
-MayBeThere gives path = (answer : FileAnswer) × (answer ≢ Missing) × gives path answer
+MayBeThere gives path = (answer : FileAnswer) × (answer ≢ Missing) × gives.may path answer
 
 -- whether two paths may name one file
 abbrev pub MayBeSame : Type 1

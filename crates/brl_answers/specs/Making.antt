@@ -49,9 +49,10 @@ IsThereAlready gives files fault = ⊥
 
 -- ---- While they are made
 
--- a source may answer the same as before for each path but those of these files
+-- a source looks in the same folders as before, and may answer the same for each path but those of these
+-- files
 abbrev pub OnlyTheseChange : FileAnswers → FileAnswers → List NewFile → Type 0
-OnlyTheseChange old new files = (p : List ℕ) (a : FileAnswer) → IsNoneOf files p → new p a ↔ old p a
+OnlyTheseChange old new files = (new.folders ≡ old.folders) × ((p : List ℕ) (a : FileAnswer) → IsNoneOf files p → new.may p a ↔ old.may p a)
 
 -- files were written, and no other file changed
 abbrev pub AreWritten : List NewFile → FileAnswers → FileAnswers → Type 0

@@ -1,11 +1,11 @@
 //! Files that can be written.
 ghost use Rattle.std.specs.Prelude.{◌≡◌, Some, OnErr, OnOk};
-ghost use Rattle.brl_lines.specs.InMemory.{bytes_in};
+ghost use Rattle.brl_lines.specs.InMemory.{bytes_in, folders_of};
 ghost use Rattle.brl_answers.specs.Files.{AllAre, OthersAre};
 
 use crate::replace::{create_file, replace_file};
 use brl_failure::Failure;
-use brl_lines::{FileSource, MapSource, Source};
+use brl_lines::{FileSource, MapSource, Source, folder};
 use brl_stream::Failed;
 use std::alloc::{AllocError, Global};
 use std::os::unix::fs::MetadataExt;
@@ -28,11 +28,22 @@ pub type NewFileFault = Failure<CreateFault>;
 
 /// Files that can be read and written.
 pub trait Files: Source {
-    ghost use Rattle.std.specs.Prelude.{◌≡◌, IfErr, IsTrue, MatchBool, OnOk};
+    ghost use Rattle.std.specs.Prelude.{◌≡◌, IfErr, IsTrue, MatchBool, OnOk, String, map, string_bytes};
+    ghost use Rattle.std.specs.Global.{Global, Vec};
+    ghost use Rattle.brl_lines.specs.Answer.{Unchanged, looking};
     ghost use Rattle.brl_answers.specs.Files.{GivesAlso, MayBeAbsent, MayBeSame, MayBeThere, OthersStay, StaysWhereThere};
+
+    // the same files, where those of tables are looked for in these folders
+    ghost looked: { Vec (String Global) → Self → Self };
 
     // whether two paths may name one file
     ghost same_file: { MayBeSame };
+
+    /// Sets the folders in which the files of tables are looked for that aren't at their usual paths.
+    fn look_in(&mut self, folders: Vec<String>)
+        ensures looked { self.new ≡ looked folders self.old }
+        ensures looks { Unchanged (looking (map string_bytes folders.items) (Self.gives self.old)) (Self.gives self.new) }
+        ensures count { Self.faults self.new ≡ Self.faults self.old };
 
     /// Whether two paths name one file. Equal paths do.
     fn is_same_file(&self, one: &str, other: &str) -> bool
@@ -65,10 +76,16 @@ pub trait Files: Source {
 impl Files for MapSource {
     ghost use Rattle.std.specs.Prelude.{◌≡◌, None, Some, is_some, IfErr, IsErrOf, IsTrue, OnErr, OnOk};
     ghost use Rattle.brl_failure.specs.declared.failure.Failure.TheVariants.{Fault};
-    ghost use Rattle.brl_lines.specs.InMemory.{bytes_in};
+    ghost use Rattle.brl_lines.specs.InMemory.{bytes_in, folders_of};
     ghost use Rattle.brl_answers.specs.Files.{AllAre, OthersAre};
 
+    ghost looked = { λ folders files. record files { folders = Some folders } };
+
     ghost same_file = { λ one other. one ≡ other };
+
+    fn look_in(&mut self, folders: Vec<String>) {
+        self.folders = Some(folders);
+    }
 
     fn is_same_file(&self, one: &str, other: &str) -> bool {
         one == other
@@ -78,6 +95,7 @@ impl Files for MapSource {
     fn write(&mut self, alloc: Global, path: &str, bytes: &[u8]) -> Result<(), Failure<Failed>>
         ensures written { OnOk result (bytes_in self.new path.now ≡ Some bytes.now) }
         ensures others { OthersAre self.old self.new path.now }
+        ensures folders { folders_of self.new.folders ≡ folders_of self.old.folders }
         ensures unchanged { OnErr result (AllAre self.old self.new) }
         ensures memory { IfErr result (λ failure. failure ≡ Failure.Memory) }
     {
@@ -96,6 +114,7 @@ impl Files for MapSource {
         ensures there { IsTrue (is_some (bytes_in self.old path.now)) → IsErrOf result (Fault CreateFault.AlreadyThere) }
         ensures absent { bytes_in self.old path.now ≡ None → IfErr result (λ failure. failure ≡ Failure.Memory) }
         ensures others { OthersAre self.old self.new path.now }
+        ensures folders { folders_of self.new.folders ≡ folders_of self.old.folders }
         ensures unchanged { OnErr result (AllAre self.old self.new) }
     {
         if self.is_there(path) {
@@ -111,6 +130,7 @@ impl Files for MapSource {
 fn put(alloc: Global, source: &mut MapSource, path: &str, bytes: &[u8]) -> Result<(), AllocError>
     ensures put { OnOk result (bytes_in source.new path.now ≡ Some bytes.now) }
     ensures others { OthersAre source.old source.new path.now }
+    ensures folders { folders_of source.new.folders ≡ folders_of source.old.folders }
     ensures unchanged { OnErr result (AllAre source.old source.new) }
 {
     let path = String::from_str(alloc, path)?;
@@ -122,9 +142,18 @@ fn put(alloc: Global, source: &mut MapSource, path: &str, bytes: &[u8]) -> Resul
 }
 
 impl<R: rt::Files> Files for FileSource<R> {
+    ghost use Rattle.std.specs.Prelude.{Some};
+
+    ghost looked = { λ folders files. record files { folders = Some folders } };
+
     ghost same_file = { λ _ _. Unit {0} };
 
-    /// Paths of one plain file are the same, also where they are links to it.
+    fn look_in(&mut self, folders: Vec<String>) {
+        self.folders = Some(folders);
+    }
+
+    /// Paths of one plain file are the same, also where they are links to it; where nothing is, those of
+    /// one name in one folder.
     fn is_same_file(&self, one: &str, other: &str) -> bool {
         one == other || is_one_file(&self.system, one, other)
     }
@@ -146,13 +175,34 @@ impl<R: rt::Files> Files for FileSource<R> {
     }
 }
 
-/// Whether two paths name one plain file of a system.
+/// Whether two paths name one plain file of a system, or, where nothing is, one name in one folder.
 fn is_one_file<R: rt::Files>(system: &R, one: &str, other: &str) -> bool {
+    let Ok(file) = fs::metadata(system, one) else {
+        return is_one_place(system, one, other);
+    };
+    file.is_file() && is_one_thing(system, one, other)
+}
+
+/// Whether two paths have one name in one folder of a system.
+fn is_one_place<R: rt::Files>(system: &R, one: &str, other: &str) -> bool {
+    let folder_of_one = folder(one);
+    let folder_of_other = folder(other);
+    one.strip_prefix(folder_of_one) == other.strip_prefix(folder_of_other)
+        && is_one_thing(system, or_here(folder_of_one), or_here(folder_of_other))
+}
+
+/// The path of a folder; that of the current one is written as a point.
+fn or_here(folder: &str) -> &str {
+    if folder.is_empty() { "." } else { folder }
+}
+
+/// Whether two paths name one file or folder of a system.
+fn is_one_thing<R: rt::Files>(system: &R, one: &str, other: &str) -> bool {
     let Ok(one) = fs::metadata(system, one) else {
         return false;
     };
     let Ok(other) = fs::metadata(system, other) else {
         return false;
     };
-    one.is_file() && one.dev() == other.dev() && one.ino() == other.ino()
+    one.dev() == other.dev() && one.ino() == other.ino()
 }

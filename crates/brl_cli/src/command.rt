@@ -5,7 +5,15 @@ use clap::{Arg, ArgAction, ArgMatches, Command, value_parser};
 use std::alloc::{AllocError, Global};
 use std::fmt;
 
-/// What the words ask for.
+/// What the words ask for: a task, and the folders in which the files of tables are looked for that
+/// aren't at their usual paths, in order.
+#[derive(Drop)]
+pub struct Work<'a> {
+    pub task: Task<'a>,
+    pub folders: Vec<String>,
+}
+
+/// A task.
 #[derive(Drop)]
 pub enum Task<'a> {
     /// Translate the input to this form by the table whose file is at this path.
@@ -213,6 +221,8 @@ struct CommandHelp {
     /// What follows the options there.
     example: &'static str,
     choice: Option<Options>,
+    /// Whether the files of tables are looked for in folders, too.
+    looks: bool,
     operands: &'static [Operand],
 }
 
@@ -245,6 +255,7 @@ Example, a table of four characters and a text:
 It prints:
   ABC A",
     choice: Some(Options::Translate),
+    looks: true,
     operands: &[TABLE],
 };
 
@@ -282,6 +293,7 @@ It prints:
   right from 0:
     x  1-12  alike.ctb:3",
     choice: Some(Options::Texts),
+    looks: true,
     operands: &[
         TABLE,
         Operand {
@@ -322,6 +334,7 @@ line of an acceptance names these. CHARS are spelled as in a table.",
 It prints:
   accepted: 3 states, 1 pairs",
     choice: Some(Options::Without),
+    looks: true,
     operands: &[
         TABLE,
         Operand {
@@ -360,6 +373,7 @@ It prints:
   certified: 2 states, 0 pairs
   accepted: 2 states, 0 pairs",
     choice: Some(Options::Search),
+    looks: true,
     operands: &[
         TABLE,
         Operand {
@@ -408,6 +422,7 @@ It prints:
     bca / bc  12-14  three.ctb:5 word bca  three.ctb:2 letter b
   2 pairs of rules diverge, and no others",
     choice: Some(Options::Clashes),
+    looks: true,
     operands: &[TABLE],
 };
 
@@ -446,6 +461,7 @@ It prints:
   1 of 4 lines are read
   no verdict: a survey doesn't decide whether two texts have the same cells",
     choice: Some(Options::Brief),
+    looks: false,
     operands: &[TABLES],
 };
 
@@ -472,6 +488,7 @@ uplow UL with the dots of L.",
 It prints:
   letter a 1",
     choice: Some(Options::Rewrite),
+    looks: false,
     operands: &[
         TABLE,
         Operand {
@@ -509,6 +526,7 @@ It prints:
     a  -     1  steps.ctb:1
     1  3456  1  steps.ctb:3",
     choice: Some(Options::Texts),
+    looks: true,
     operands: &[
         TABLE,
         Operand {
@@ -543,6 +561,7 @@ It prints:
   1  letter  a  1  ranked.ctb:1
   2  letter  b  12  ranked.ctb:2",
     choice: None,
+    looks: true,
     operands: &[
         TABLE,
         Operand {
@@ -578,6 +597,7 @@ It prints:
   1  always  ab  4  twice.ctb:4  in its place:  twice.ctb:3 always ab
   1 of 4 rules are used by no text",
     choice: Some(Options::States),
+    looks: true,
     operands: &[TABLE],
 };
 
@@ -602,6 +622,7 @@ It prints:
   When: a cell has dot 7 or 8, which Braille ASCII has no mark for
   What to do: Use `--form unicode`.",
     choice: None,
+    looks: false,
     operands: &[Operand {
         id: "fault",
         name: "FAULT",
@@ -732,6 +753,15 @@ fn lines_option<'a>(alloc: Global) -> Arg<'a> {
         .action(ArgAction::SetTrue)
 }
 
+/// The option of where the files of tables are looked for.
+fn path_option<'a>(alloc: Global) -> Arg<'a> {
+    Arg::new(alloc, "path")
+        .long("path")
+        .value_name("DIR")
+        .help("Look for files of tables in this folder, too; may be given again")
+        .action(ArgAction::Append)
+}
+
 /// The arguments of a command: its options, if any, and its operands.
 fn arguments<'a>(alloc: Global, page: &CommandHelp) -> Result<Vec<Arg<'a>>, AllocError> {
     let mut arguments = Vec::new(alloc);
@@ -758,6 +788,9 @@ fn arguments<'a>(alloc: Global, page: &CommandHelp) -> Result<Vec<Arg<'a>>, Allo
             arguments.push(lines_option(alloc))?;
         }
         None => {}
+    }
+    if page.looks {
+        arguments.push(path_option(alloc))?;
     }
     for operand in page.operands {
         arguments.push(operand_argument(alloc, *operand))?;
@@ -818,15 +851,15 @@ fn whole_command<'a>(alloc: Global) -> Result<Command<'a>, AllocError> {
 }
 
 /// What the words ask for; the first is the program's name.
-pub fn task_of<'a>(alloc: Global, words: &'a [String]) -> Result<Task<'a>, NotATask> {
+pub fn work_of<'a>(alloc: Global, words: &'a [String]) -> Result<Work<'a>, NotATask> {
     match read_words(alloc, words) {
-        Ok(task) => Ok(task),
+        Ok(work) => Ok(work),
         Err(error) => Err(NotATask { error }),
     }
 }
 
-/// The task of the words; an error has the text that answers them.
-fn read_words<'a>(alloc: Global, words: &'a [String]) -> Result<Task<'a>, Error> {
+/// What the words ask for; an error has the text that answers them.
+fn read_words<'a>(alloc: Global, words: &'a [String]) -> Result<Work<'a>, Error> {
     let mut command = whole_command(alloc)?;
     read_by(alloc, &mut command, words)
 }
@@ -836,12 +869,25 @@ fn read_by<'a>(
     alloc: Global,
     command: &mut Command<'a>,
     words: &'a [String],
-) -> Result<Task<'a>, Error> {
+) -> Result<Work<'a>, Error> {
     let matches = command.try_get_matches_from_mut(words)?;
+    let folders = found_folders(alloc, &matches)?;
     match found_task(alloc, &matches)? {
-        Some(task) => Ok(task),
+        Some(task) => Ok(Work { task, folders }),
         None => Err(command.error(ErrorKind::MissingSubcommand, "no command was given")?),
     }
+}
+
+/// The folders of words that were read.
+fn found_folders(alloc: Global, matches: &ArgMatches<'_>) -> Result<Vec<String>, AllocError> {
+    let mut folders = Vec::new(alloc);
+    let Some((_, found)) = matches.subcommand() else {
+        return Ok(folders);
+    };
+    for folder in found.get_strs("path").unwrap_or_default() {
+        folders.push(String::from_str(alloc, folder)?)?;
+    }
+    Ok(folders)
 }
 
 /// The task of words that were read, if they name a command.

@@ -5,4 +5,4 @@
 
 mod command;
 
-pub use command::{NotATask, Question, Task, TextOptions, task_of};
+pub use command::{NotATask, Question, Task, TextOptions, Work, work_of};

@@ -4,7 +4,7 @@ use Rattle.brl_failure.specs.Failure.{GivesAs}
 use Rattle.brl_failure.specs.declared.failure.Failure.{Failure}
 use Rattle.brl_failure.specs.declared.failure.Failure.TheVariants as failures
 use Rattle.brl_lines.specs.Answer.{FileAnswers, answer_of}
-use Rattle.brl_lines.specs.InMemory.{answer_in}
+use Rattle.brl_lines.specs.InMemory.{answer_in, folders_of, given_in}
 use Rattle.brl_lines.specs.Lines.{lines_over}
 use Rattle.brl_lines.specs.Loaded.{LoadedView}
 use Rattle.brl_lines.specs.Outcome.{AreLinesOf, AreLinesOfFiles, IsLoadFault}
@@ -19,13 +19,13 @@ use Rattle.brl_cut.specs.Files.{HoldsFiles}
 use Rattle.brl_cut.specs.Settling.{faulty_among, faulty_in, lines_among}
 
 -- a source that has just these files gives the table these lines
-pub lines-held : (files : Texts) (source : MapSource) (root : List ℕ) → HoldsFiles files source → lines_among files root ≡ lines_over (λ path. Some (answer_in source path)) root
-lines-held files source root held = sym (λ j. lines_over (λ path. Some (answer_of (held path j))) root)
+pub lines-held : (files : Texts) (source : MapSource) (root : List ℕ) → HoldsFiles files source → lines_among files root ≡ lines_over (folders_of source.folders) (λ path. Some (answer_in source path)) root
+lines-held files source root held = sym (λ j. lines_over (folders_of (held.1 j)) (λ path. Some (answer_of (held.0 path j))) root)
 
 -- a load over it gives the lines of the files
 pub gives-loaded : (files : Texts) (source : MapSource) (root : List ℕ) (gives : FileAnswers) → HoldsFiles files source
     → ((outcome : Result (List LineView) (Failure LoadFault)) → IfOk outcome (AreLinesOf gives root) → IfErr outcome (IsLoadFault gives root)
-    → GivesAs (λ lines. lines) load_fault_view (lines_over (λ path. Some (answer_in source path)) root) outcome)
+    → GivesAs (λ lines. lines) load_fault_view (lines_over (folders_of source.folders) (λ path. Some (answer_in source path)) root) outcome)
     → (result : Result LoadedView (Failure LoadFault)) → IfOk result (λ loaded. AreLinesOfFiles gives root loaded.paths loaded.lines) → IfErr result (IsLoadFault gives root)
     → GivesAs (λ loaded. loaded.lines) load_fault_view (lines_among files root) result
 gives-loaded files source root gives held told (Ok loaded) are why = lines-held files source root held ∙ told (Ok loaded.lines) (are.0, are.1, are.3) tt
@@ -37,5 +37,5 @@ pub faulty-found : (root : List ℕ) (files : Texts) (lines : List LineView) →
 faulty-found root files lines e = ap faulty_among e
 
 -- it answers what these files do, where there are no others
-pub only-held : (files : Texts) (source : MapSource) → HoldsFiles files source → ◌≡◌ {A = FileAnswers} (λ path answer. answer ≡ answer_in source path) (only files)
-only-held files source held = λ j path answer. answer ≡ answer_of (held path j)
+pub only-held : (files : Texts) (source : MapSource) → HoldsFiles files source → given_in source ≡ only files
+only-held files source held = λ j. record { folders = folders_of (held.1 j); may = λ path answer. answer ≡ answer_of (held.0 path j) }

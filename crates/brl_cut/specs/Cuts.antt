@@ -1,10 +1,10 @@
 -- The readable part of a table as files of their own. The project's own choice.
-use Rattle.std.specs.Prelude.{ℕ, Bool, ◌≡◌, ◌||◌, ◌==◌, if◌then◌else◌, List, [], ◌++◌, codes, drop, length, map, nat_eq, string_bytes, Ok}
-use Rattle.std.specs.List.{ends_with, starts_with}
+use Rattle.std.specs.Prelude.{ℕ, Bool, ◌≡◌, if◌then◌else◌, List, [], ◌++◌, codes, drop, length, map, nat_eq, string_bytes, Ok}
+use Rattle.std.specs.List.{starts_with}
 use Rattle.brl_lines.specs.Answer.{FileAnswers, answer_of}
 use Rattle.brl_lines.specs.GatherFaults.{IsGatherFault}
 use Rattle.brl_lines.specs.Gathering.{GatheredView, LeftView, gathered_from}
-use Rattle.brl_lines.specs.Includes.{folder_of}
+use Rattle.brl_lines.specs.Includes.{folder_of, path_in}
 use Rattle.brl_lines.specs.Lines.{Answers, answer_at}
 use Rattle.brl_lines.specs.Outcome.{AreGiven}
 use Rattle.brl_lines.specs.Tokens.{LineView}
@@ -68,13 +68,9 @@ start_files rewrite root gathered = rewritten_files rewrite root (without_includ
 abbrev pub name_in : List ℕ → List ℕ → List ℕ
 name_in folder path = if starts_with nat_eq path folder then drop (length folder) path else path
 
--- what is between a folder and a name in it: a slash, unless the folder ends with one or is empty
-abbrev pub slash_after : List ℕ → List ℕ
-slash_after dir = if (length dir == 0) || ends_with nat_eq dir (codes "/") then [] else codes "/"
-
 -- the path where a file of a table is written into a folder: under its name below the root's folder
 abbrev pub written_path : List ℕ → List ℕ → List ℕ → List ℕ
-written_path dir root path = dir ++ (slash_after dir ++ name_in (folder_of root) path)
+written_path dir root path = path_in dir (name_in (folder_of root) path)
 
 -- the files at the paths where they are written
 abbrev pub written_files : List ℕ → List ℕ → Texts → Texts
@@ -82,9 +78,9 @@ written_files dir root files = map (λ file. (written_path dir root file.0, file
 
 -- ---- The cut
 
--- what these files answer, where there are no others
+-- what these files give, where there are no others, and no folders
 abbrev pub only : Texts → FileAnswers
-only files path answer = answer ≡ answer_of (bytes_at files path)
+only files = record { folders = []; may = λ path answer. answer ≡ answer_of (bytes_at files path) }
 
 -- these files, and no others, define a table with its root at a path
 abbrev pub IsReadAs : Texts → List ℕ → Type 0

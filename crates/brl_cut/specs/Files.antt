@@ -1,5 +1,5 @@
 -- Internal. How the definitions see files in memory and their edits.
-use Rattle.std.specs.Prelude.{ℕ, ◌≡◌, List, option_map, Option, string_bytes}
+use Rattle.std.specs.Prelude.{ℕ, ◌≡◌, List, option_map, Option, None, string_bytes}
 use Rattle.std.specs.Borrow.{Bor}
 use Rattle.std.specs.BTreeMap.{BTreeMap, get_by}
 use Rattle.std.specs.Ordering.{nat_cmp}
@@ -22,6 +22,6 @@ edit_view edit = record { file = string_bytes edit.file; line = edit.line; prefi
 abbrev pub file_view : GatheredFile → List ℕ × List ℕ
 file_view file = (string_bytes file.path, file.bytes.items)
 
--- the source has these files and no others
+-- the source has these files and no others, and looks in no folders
 abbrev pub HoldsFiles : Texts → MapSource → Type 0
-HoldsFiles files source = (path : List ℕ) → bytes_in source path ≡ bytes_at files path
+HoldsFiles files source = ((path : List ℕ) → bytes_in source path ≡ bytes_at files path) × (source.folders ≡ None)

@@ -15,7 +15,7 @@ bytes_at files path = fold (λ found file. if bytes_eq file.0 path then Some fil
 
 -- the lines of the table whose root is at a path, of these files and no others
 abbrev pub lines_among : Texts → List ℕ → Result (List LineView) Refusal
-lines_among files root = lines_over (λ path. Some (answer_of (bytes_at files path))) root
+lines_among files root = lines_over [] (λ path. Some (answer_of (bytes_at files path))) root
 
 -- the faulty lines that a survey finds among lines
 abbrev pub faulty_among : Result (List LineView) Refusal → List FaultyLineView

@@ -1,11 +1,10 @@
 //! Where the files of a table are written: into a folder, each under its name below the root's
 //! folder.
-ghost use Rattle.std.specs.Prelude.{◌≡◌, IfOk, codes, map, nat_eq, string_bytes};
-ghost use Rattle.std.specs.List.{ends_with};
-ghost use Rattle.brl_cut.specs.Cuts.{name_in, slash_after as slash_between, written_files, written_path as path_written};
+ghost use Rattle.std.specs.Prelude.{◌≡◌, IfOk, map, string_bytes};
+ghost use Rattle.brl_cut.specs.Cuts.{name_in, written_files, written_path as path_written};
 ghost use Rattle.brl_cut.specs.Files.{file_view};
 
-use brl_lines::{GatheredFile, folder};
+use brl_lines::{GatheredFile, folder, path_in};
 use std::alloc::{AllocError, Global};
 
 /// The name of a path below a folder; the path itself where it isn't there.
@@ -18,24 +17,6 @@ fn name_below<'a>(folder: &str, path: &'a str) -> &'a str
     }
 }
 
-/// Whether a path ends with a slash.
-fn ends_with_slash(path: &str) -> bool
-    ensures { result ≡ ends_with nat_eq path.now (codes "/") }
-{
-    path.ends_with("/")
-}
-
-/// What is between a folder and a name in it: a slash, unless the folder ends with one or is empty.
-fn slash_after(dir: &str) -> &'static str
-    ensures { result.now ≡ slash_between dir.now }
-{
-    if dir.is_empty() || ends_with_slash(dir) {
-        ""
-    } else {
-        "/"
-    }
-}
-
 /// The path where a file of a table is written into a folder: under its name below the root's folder.
 pub(crate) fn written_path(
     alloc: Global,
@@ -45,11 +26,7 @@ pub(crate) fn written_path(
 ) -> Result<String, AllocError>
     ensures { IfOk result (λ written. string_bytes written ≡ path_written dir.now root.now path.now) }
 {
-    let name = name_below(folder(root), path);
-    let mut written = String::from_str(alloc, dir)?;
-    written.push_str(slash_after(dir))?;
-    written.push_str(name)?;
-    Ok(written)
+    path_in(alloc, dir, name_below(folder(root), path))
 }
 
 /// Files of a table at the paths where they are written into a folder.

@@ -13,7 +13,7 @@ mod translations;
 
 pub use certificates::certificate_examples;
 pub use files::load_in_memory;
-pub use includes::include_examples;
+pub use includes::{folder_examples, include_examples};
 pub use letters::{
     Letters, letters_are_unambiguous, letters_diverge_at_their_rules, letters_diverge_where_listed,
     numbered_letters_are_unambiguous, numbered_letters_diverge_at_their_rules,

@@ -16,7 +16,7 @@ pub const FAULTS: [&str; 43] = [
      What to do: Include it from a file nearer to the table.\n",
     "L1 NotFound\n\
      When: there is no file at this path\n\
-     What to do: A name is taken from the table's folder, or from `/`. Look for a misspelled one.\n",
+     What to do: A name is taken from the table's folder, from those of `--path`, or from `/`. Look for a misspelled one.\n",
     "L2 ReadFailed\n\
      When: the file is there and can't be read\n\
      What to do: Check its permissions, and whether it is a folder.\n",

@@ -1,5 +1,5 @@
 -- Lines after others, and what an include line is replaced by.
-use Rattle.std.proofs.Common.{◌≡◌, ℕ, zero, suc, ◌+◌, ◌<◌, ◌≤◌, true, false, List, [], ◌∷◌, ◌++◌, refl, ap, sym, ◌∙◌, append_assoc, append-nil, Option, Some, None, Result, Ok, Err}
+use Rattle.std.proofs.Common.{◌≡◌, ℕ, zero, suc, ◌<◌, ◌≤◌, Bool, true, false, cond, List, [], ◌∷◌, ◌++◌, refl, ap, sym, ◌∙◌, append_assoc, append-nil, Option, Some, None, Result, Ok, Err}
 use Rattle.std.specs.List.{list_any}
 use Rattle.std.specs.Str.{bytes_eq}
 use Rattle.std.proofs.lemmas.Bool.{le-leb, lt-leb}
@@ -8,11 +8,11 @@ use Rattle.brl_failure.specs.declared.failure.Failure.{Failure}
 use Rattle.brl_failure.specs.declared.failure.Failure.TheVariants.{Fault, Memory}
 use Rattle.brl_lines.specs.Answer.{FileAnswer, FileAnswers}
 use Rattle.brl_lines.specs.Files.{Files, answers_of}
-use Rattle.brl_lines.specs.Includes.{included, name_of}
-use Rattle.brl_lines.specs.Lines.{Expanded, Follow, LocationView, Refusal, answer_at, expanded, expanded_as, follow, location_of, most_includes, refusal, text_of}
+use Rattle.brl_lines.specs.Includes.{found, included, name_of}
+use Rattle.brl_lines.specs.Lines.{Expanded, Follow, LocationView, Refusal, answer_at, entered, expanded, expanded_as, follow, location_of, most_includes, refusal}
 use Rattle.brl_lines.specs.Outcome.{AreGiven}
 use Rattle.brl_lines.specs.Steps.{Extends, Fails, Grows, after}
-use Rattle.brl_lines.specs.Tokens.{LineView, lines_in}
+use Rattle.brl_lines.specs.Tokens.{LineView}
 use Rattle.brl_lines.specs.Views.{load_fault_view}
 use Rattle.brl_lines.specs.declared.fault.LoadFault.{LoadFault}
 use Rattle.brl_lines.specs.declared.fault.LoadFaultKind.TheVariants as kinds
@@ -127,7 +127,7 @@ fails-more gives files step whole (Fault fault) more h = record {
 }
 
 -- a fault of a later step is one of a load that began with fewer files
-pub fails-later : {U : Type 0} (gives now : FileAnswers) → ((path : List ℕ) (a : FileAnswer) → now path a → gives path a) → (old new : Files) → Grows gives old new
+pub fails-later : {U : Type 0} (gives now : FileAnswers) → ((path : List ℕ) (a : FileAnswer) → now.may path a → gives.may path a) → (old new : Files) → Grows gives old new
     → (want : (List ℕ → Option FileAnswer) → Result U Refusal) (failure : Failure LoadFault) → Fails now new want failure → Fails gives old want failure
 fails-later gives now stays old new grows want Memory h = tt
 fails-later gives now stays old new grows want (Fault fault) h = record {
@@ -140,25 +140,31 @@ fails-later gives now stays old new grows want (Fault fault) h = record {
 
 -- ---- what an include line is replaced by
 
-module _ (root : List ℕ) (chain : List (List ℕ)) (place : LocationView) (name : List ℕ) (n : ℕ) where
-  abbrev path : List ℕ
-  path = included root name
+module _ (folders : List (List ℕ)) (root : List ℕ) (chain : List (List ℕ)) (place : LocationView) (name : List ℕ) (n : ℕ) where
+  abbrev usual : List ℕ
+  usual = included root name
 
-  pub many : (depth : ℕ) (answer : List ℕ → Option FileAnswer) → most_includes ≤ n → follow depth answer root chain place name n ≡ Err (refusal kinds.TooManyIncludes path (Some place))
+  pub many : (depth : ℕ) (answer : List ℕ → Option FileAnswer) → most_includes ≤ n → follow depth folders answer root chain place name n ≡ Err (refusal kinds.TooManyIncludes usual (Some place))
   unfolding follow
   many zero answer h = rw (le-leb most_includes n h) refl
   many (suc depth) answer h = rw (le-leb most_includes n h) refl
 
-  pub cycle : (depth : ℕ) (answer : List ℕ → Option FileAnswer) → n < most_includes → list_any (bytes_eq path) chain ≡ true → follow depth answer root chain place name n ≡ Err (refusal kinds.Cycle path (Some place))
+  pub deep : (answer : List ℕ → Option FileAnswer) → n < most_includes
+      → follow 0 folders answer root chain place name n ≡ Err (refusal (cond (list_any (bytes_eq usual) chain) kinds.Cycle kinds.TooDeep) usual (Some place))
   unfolding follow
-  cycle zero answer h k = rw (lt-leb most_includes n h, k) refl
-  cycle (suc depth) answer h k = rw (lt-leb most_includes n h, k) refl
+  deep answer h = rw (lt-leb most_includes n h) (by_test (list_any (bytes_eq usual) chain))
+    where
+      first : Bool → Result (Unit {0}) Refusal
+      first b = cond b (Err (refusal kinds.Cycle usual (Some place))) (Ok tt)
 
-  pub deep : (answer : List ℕ → Option FileAnswer) → n < most_includes → list_any (bytes_eq path) chain ≡ false → follow 0 answer root chain place name n ≡ Err (refusal kinds.TooDeep path (Some place))
-  unfolding follow
-  deep answer h k = rw (lt-leb most_includes n h, k) refl
+      second : Bool → Result Expanded Refusal
+      second b = Err (refusal (cond b kinds.Cycle kinds.TooDeep) usual (Some place))
 
-  pub inside : (depth : ℕ) (answer : List ℕ → Option FileAnswer) → n < most_includes → list_any (bytes_eq path) chain ≡ false
-      → follow (suc depth) answer root chain place name n ≡ (text_of path (Some place) (answer path) >>= λ text. expanded (follow depth answer root (path ∷ chain)) (lines_in path text) (n + 1))
+      by_test : (b : Bool) → (first b >>= λ _. Err (refusal kinds.TooDeep usual (Some place))) ≡ second b
+      by_test true = refl
+      by_test false = refl
+
+  pub inside : (depth : ℕ) (answer : List ℕ → Option FileAnswer) → n < most_includes
+      → follow (suc depth) folders answer root chain place name n ≡ entered (follow depth folders answer root) answer chain place (found folders answer usual name) n
   unfolding follow
-  inside depth answer h k = rw (lt-leb most_includes n h, k) refl
+  inside depth answer h = rw (lt-leb most_includes n h) refl

@@ -6,31 +6,34 @@ use Rattle.std.proofs.lemmas.Slice.Eq.{bytes_eq-Decides}
 use Rattle.std.specs.Global.{Global}
 use Rattle.std.specs.Map.{lookup, lookup_key, values_of}
 use Rattle.std.specs.Option.{option_map_or}
-use Rattle.std.specs.Prelude.{String, slice_get, string_bytes}
+use Rattle.std.specs.Prelude.{String, is_some, not, slice_get, string_bytes}
 use Rattle.std.specs.Str.{IsCharBoundary, bytes_eq}
 use Rattle.std.proofs.lemmas.Map.Made.{lookup_key_passes}
-use Rattle.brl_lines.specs.Answer.{FileAnswer, Holds, FileAnswers, most_file_bytes}
-use Rattle.brl_lines.specs.Files.{Files, answer_of_file, answers_of, lines_at, path_at, paths_of, span_lines, text_at}
-use Rattle.brl_lines.specs.Lines.{Answers, LocationView, answer_at, text_of}
+use Rattle.brl_lines.specs.Answer.{FileAnswer, Holds, Missing, FileAnswers, is_missing, most_file_bytes}
+use Rattle.brl_lines.specs.Files.{Files, answer_for, answer_of_file, answers_of, lines_at, path_at, paths_of, span_lines, text_at, text_for}
+use Rattle.brl_lines.specs.Lines.{Answers, LocationView, answer_at, refusal, text_of}
 use Rattle.brl_lines.specs.Outcome.{AreGiven}
 use Rattle.brl_lines.specs.Rows.{order_mark, piece, without_mark}
-use Rattle.brl_lines.specs.Steps.{AreSpans, Extends, Fails, Finds, Grows, IsOpen, IsSpan, Reads}
+use Rattle.brl_lines.specs.Steps.{AreSpans, Extends, Fails, Finds, Grows, IsOpen, IsSpan, Reads, Sees}
 use Rattle.brl_lines.specs.Tokens.{LineView, line_of, token_of, tokens}
 use Rattle.brl_lines.specs.declared.checked_file.CheckedFile.{CheckedFile}
 use Rattle.brl_failure.specs.declared.failure.Failure.{Failure}
 use Rattle.brl_failure.specs.declared.failure.Failure.TheVariants.{Fault, Memory}
+use Rattle.brl_failure.specs.Failure.{IfFault}
+use Rattle.brl_lines.specs.Views.{load_fault_view}
 use Rattle.brl_lines.specs.declared.fault.LoadFault.{LoadFault}
+use Rattle.brl_lines.specs.declared.fault.LoadFaultKind.TheVariants as kinds
 use Rattle.brl_lines.specs.declared.open_file.OpenFile.{OpenFile}
 use Rattle.brl_lines.specs.declared.span.LineSpan.{LineSpan}
 
 -- ---- answers
 
 -- the paths of one file more
-pub one-more-path : (files : Files) (i : ℕ) (file : String Global × CheckedFile) → slice_get files i ≡ Some file → paths_of (take (i + 1) files) ≡ paths_of (take i files) ++ string_bytes file.0 ∷ []
+pub one-more-path : (files : Files) (i : ℕ) (file : String Global × Option CheckedFile) → slice_get files i ≡ Some file → paths_of (take (i + 1) files) ≡ paths_of (take i files) ++ string_bytes file.0 ∷ []
 one-more-path files i file h =
     ap paths_of (take_more files i file (slice_get_within files i file h))
-    ∙ map-append (λ (f : String Global × CheckedFile). string_bytes f.0) (take i files) _
-    ∙ ap (λ (f : String Global × CheckedFile). paths_of (take i files) ++ string_bytes f.0 ∷ []) (get_or_from_slice_get files i file file h)
+    ∙ map-append (λ (f : String Global × Option CheckedFile). string_bytes f.0) (take i files) _
+    ∙ ap (λ (f : String Global × Option CheckedFile). paths_of (take i files) ++ string_bytes f.0 ∷ []) (get_or_from_slice_get files i file file h)
 
 -- the paths of the answers are those of the files
 pub paths-of-answers : (files : Files) → map (λ entry. entry.0) (answers_of files) ≡ paths_of files
@@ -57,12 +60,12 @@ last (entry ∷ answers) path a h = by_test (bytes_eq path entry.0) h (last answ
     by_test true k more = cc
     by_test false k more = more k
 
-pub given-more : (gives : FileAnswers) (answers : Answers) (path : List ℕ) (a : FileAnswer) → AreGiven gives answers → gives path a → AreGiven gives (answers ++ (path, a) ∷ [])
+pub given-more : (gives : FileAnswers) (answers : Answers) (path : List ℕ) (a : FileAnswer) → AreGiven gives answers → gives.may path a → AreGiven gives (answers ++ (path, a) ∷ [])
 given-more gives [] path a h k = (k, tt)
 given-more gives (entry ∷ answers) path a h k = (h.0, given-more gives answers path a h.1 k)
 
 -- what one source gave, another may give
-pub given-stays : (g h : FileAnswers) → ((path : List ℕ) (a : FileAnswer) → g path a → h path a) → (answers : Answers) → AreGiven g answers → AreGiven h answers
+pub given-stays : (g h : FileAnswers) → ((path : List ℕ) (a : FileAnswer) → g.may path a → h.may path a) → (answers : Answers) → AreGiven g answers → AreGiven h answers
 given-stays g h stays [] k = tt
 given-stays g h stays (entry ∷ answers) k = (stays entry.0 entry.1 k.0, given-stays g h stays answers k.1)
 
@@ -75,10 +78,10 @@ get-kept (x ∷ xs) ys zero h = refl
 get-kept (x ∷ xs) ys (suc i) h = get-kept xs ys i (omega arith)
 
 pub path_at-kept : (files more : Files) (i : ℕ) → i < length files → path_at (files ++ more) i ≡ path_at files i
-path_at-kept files more i h = ap (λ file. option_map_or (λ (f : String Global × CheckedFile). string_bytes f.0) file []) (get-kept files more i h)
+path_at-kept files more i h = ap (λ file. option_map_or (λ (f : String Global × Option CheckedFile). string_bytes f.0) file []) (get-kept files more i h)
 
 pub text_at-kept : (files more : Files) (i : ℕ) → i < length files → text_at (files ++ more) i ≡ text_at files i
-text_at-kept files more i h = ap (λ file. option_map_or (λ (f : String Global × CheckedFile). without_mark (string_bytes f.1.whole)) file []) (get-kept files more i h)
+text_at-kept files more i h = ap (λ file. option_map_or (λ (f : String Global × Option CheckedFile). text_for f.1) file []) (get-kept files more i h)
 
 -- the file at the end
 pub get-last : {X : Type 0} (xs : List X) (x : X) → slice_get (xs ++ x ∷ []) (length xs) ≡ Some x
@@ -138,7 +141,7 @@ pub grows-none : (gives : FileAnswers) (files : Files) → AreGiven gives (answe
 grows-none gives files given = record { more = []; kept = sym (append-nil files); given = given }
 
 -- files are added twice
-pub grows-twice : (gives now : FileAnswers) → ((path : List ℕ) (a : FileAnswer) → now path a → gives path a) → (old mid new : Files) → Grows gives old mid → Grows now mid new → Grows gives old new
+pub grows-twice : (gives now : FileAnswers) → ((path : List ℕ) (a : FileAnswer) → now.may path a → gives.may path a) → (old mid new : Files) → Grows gives old mid → Grows now mid new → Grows gives old new
 grows-twice gives now stays old mid new h k = record {
   more = h.more ++ k.more;
   kept = k.kept ∙ ap (λ files. files ++ k.more) h.kept ∙ append_assoc old h.more k.more;
@@ -147,64 +150,69 @@ grows-twice gives now stays old mid new h k = record {
 
 -- ---- a file that is looked up
 
-pub answer_at-lookup : (files : Files) (path : List ℕ) → answer_at (answers_of files) path ≡ option_map (λ (file : CheckedFile). Holds (string_bytes file.whole)) (lookup (λ k. bytes_eq path (string_bytes k)) files)
+pub answer_at-lookup : (files : Files) (path : List ℕ) → answer_at (answers_of files) path ≡ option_map answer_for (lookup (λ k. bytes_eq path (string_bytes k)) files)
 answer_at-lookup [] path = refl
 answer_at-lookup (file ∷ files) path = by_test (bytes_eq path (string_bytes file.0)) (answer_at-lookup files path)
   where
-    by_test : (b : Bool) → answer_at (answers_of files) path ≡ option_map (λ (f : CheckedFile). Holds (string_bytes f.whole)) (lookup (λ k. bytes_eq path (string_bytes k)) files)
-        → cond b (Some (Holds (string_bytes file.1.whole))) (answer_at (answers_of files) path)
-        ≡ option_map (λ (f : CheckedFile). Holds (string_bytes f.whole)) (cond b (Some file.1) (lookup (λ k. bytes_eq path (string_bytes k)) files))
+    by_test : (b : Bool) → answer_at (answers_of files) path ≡ option_map answer_for (lookup (λ k. bytes_eq path (string_bytes k)) files)
+        → cond b (Some (answer_for file.1)) (answer_at (answers_of files) path)
+        ≡ option_map answer_for (cond b (Some file.1) (lookup (λ k. bytes_eq path (string_bytes k)) files))
     by_test true e = refl
     by_test false e = e
 
 -- a text that the source gave is good
-module _ (files : Files) (path : List ℕ) (index : ℕ) (name : String Global) (file : CheckedFile) (at : slice_get files index ≡ Some (name, file)) (known : answer_at (answers_of files) path ≡ Some (Holds (string_bytes file.whole))) where
+module _ (files : Files) (path : List ℕ) (index : ℕ) (name : String Global) (file : CheckedFile) (at : slice_get files index ≡ Some (name, Some file)) (known : answer_at (answers_of files) path ≡ Some (Holds (string_bytes file.whole))) where
   pub text-known : (answer : List ℕ → Option FileAnswer) → Extends files answer → (place : Option LocationView) → text_of path place (answer path) ≡ Ok (text_at files index)
   text-known answer h place =
       ap (text_of path place) (h path (Holds (string_bytes file.whole)) known)
       ∙ file.good path place
-      ∙ ap (λ (f : Option (String Global × CheckedFile)). Ok (option_map_or (λ (g : String Global × CheckedFile). without_mark (string_bytes g.1.whole)) f [])) (sym at)
+      ∙ ap (λ (f : Option (String Global × Option CheckedFile)). Ok (option_map_or (λ (g : String Global × Option CheckedFile). text_for g.1) f [])) (sym at)
 
   pub path-known : string_bytes name ≡ path → path_at files index ≡ path
-  path-known e = ap (λ (f : Option (String Global × CheckedFile)). option_map_or (λ (g : String Global × CheckedFile). string_bytes g.0) f []) at ∙ e
+  path-known e = ap (λ (f : Option (String Global × Option CheckedFile)). option_map_or (λ (g : String Global × Option CheckedFile). string_bytes g.0) f []) at ∙ e
 
 -- a file that was read before
 pub found-file : (gives : FileAnswers) (files : Files) (path : List ℕ) (index : ℕ) (name : String Global) (file : CheckedFile) → AreGiven gives (answers_of files)
-    → slice_get files index ≡ Some (name, file) → lookup_key (λ k. bytes_eq path (string_bytes k)) files ≡ Some name → lookup (λ k. bytes_eq path (string_bytes k)) files ≡ Some file
+    → slice_get files index ≡ Some (name, Some file) → lookup_key (λ k. bytes_eq path (string_bytes k)) files ≡ Some name → lookup (λ k. bytes_eq path (string_bytes k)) files ≡ Some (Some file)
     → Finds gives files files path index
 found-file gives files path index name file given at key value =
-    let known = answer_at-lookup files path ∙ ap (option_map (λ (f : CheckedFile). Holds (string_bytes f.whole))) value in
+    let known = answer_at-lookup files path ∙ ap (option_map answer_for) value in
     let path_is : string_bytes name ≡ path = sym ((bytes_eq-Decides path (string_bytes name)).0 (lookup_key_passes (λ k. bytes_eq path (string_bytes k)) files name key)) in
     record {
       grows = grows-none gives files given;
-      within = slice_get_within files index (name, file) at;
+      within = slice_get_within files index (name, Some file) at;
       path_is = path-known files path index name file at known path_is;
       text_is = text-known files path index name file at known;
     }
 
 -- a file that is read now
 pub read-file : (gives : FileAnswers) (files new : Files) (path : List ℕ) (name : String Global) (file : CheckedFile) → AreGiven gives (answers_of files)
-    → answer_at (answers_of files) path ≡ None → string_bytes name ≡ path → gives path (Holds (string_bytes file.whole)) → new ≡ files ++ (name, file) ∷ []
+    → answer_at (answers_of files) path ≡ None → string_bytes name ≡ path → gives.may path (Holds (string_bytes file.whole)) → new ≡ files ++ (name, Some file) ∷ []
     → Finds gives files new path (length files)
 read-file gives files new path name file given none path_is gave e =
     let answers : answers_of new ≡ answers_of files ++ (path, Holds (string_bytes file.whole)) ∷ [] =
-    ap answers_of e ∙ map-append answer_of_file files ((name, file) ∷ []) ∙ ap (λ (p : List ℕ). answers_of files ++ (p, Holds (string_bytes file.whole)) ∷ []) path_is in
-    let at : slice_get new (length files) ≡ Some (name, file) = ap (λ (fs : Files). slice_get fs (length files)) e ∙ get-last files (name, file) in
+    ap answers_of e ∙ map-append answer_of_file files ((name, Some file) ∷ []) ∙ ap (λ (p : List ℕ). answers_of files ++ (p, Holds (string_bytes file.whole)) ∷ []) path_is in
+    let at : slice_get new (length files) ≡ Some (name, Some file) = ap (λ (fs : Files). slice_get fs (length files)) e ∙ get-last files (name, Some file) in
     let known = ap (λ (known : Answers). answer_at known path) answers ∙ last (answers_of files) path (Holds (string_bytes file.whole)) none in
     record {
       grows = record {
-        more = (name, file) ∷ [];
+        more = (name, Some file) ∷ [];
         kept = e;
         given = subst (AreGiven gives) (sym answers) (given-more gives (answers_of files) path (Holds (string_bytes file.whole)) given gave);
       };
-      within = slice_get_within new (length files) (name, file) at;
+      within = slice_get_within new (length files) (name, Some file) at;
       path_is = path-known new path (length files) name file at known path_is;
       text_is = text-known new path (length files) name file at known;
     }
 
 -- a file that wasn't read before
 pub not-read : (files : Files) (path : List ℕ) → None ≡ lookup (λ k. bytes_eq path (string_bytes k)) files → answer_at (answers_of files) path ≡ None
-not-read files path e = answer_at-lookup files path ∙ ap (option_map (λ (f : CheckedFile). Holds (string_bytes f.whole))) (sym e)
+not-read files path e = answer_at-lookup files path ∙ ap (option_map answer_for) (sym e)
+
+-- no file is one that is missing
+missing-is : (file : Option CheckedFile) → is_missing (Some (answer_for file)) ≡ not (is_some file)
+missing-is None = refl
+missing-is (Some file) = refl
 
 -- a file that is read now, and refused
 pub read-refused : (gives : FileAnswers) (files : Files) (path : List ℕ) (place : Option LocationView) → AreGiven gives (answers_of files) → answer_at (answers_of files) path ≡ None
@@ -218,15 +226,58 @@ read-refused gives files path place given none (Fault fault) h = record {
   unreadable = h.3;
 }
 
+-- a path that is read now, where there is a file or none
+pub seen-now : (gives : FileAnswers) (files new : Files) (path : List ℕ) (name : String Global) (file : Option CheckedFile) (there : Bool) → AreGiven gives (answers_of files)
+    → answer_at (answers_of files) path ≡ None → string_bytes name ≡ path → gives.may path (answer_for file) → new ≡ files ++ (name, file) ∷ [] → there ≡ is_some file
+    → Sees gives files new path there
+seen-now gives files new path name file there given none path_is gave e is =
+    let answers : answers_of new ≡ answers_of files ++ (path, answer_for file) ∷ [] =
+    ap answers_of e ∙ map-append answer_of_file files ((name, file) ∷ []) ∙ ap (λ (p : List ℕ). answers_of files ++ (p, answer_for file) ∷ []) path_is in
+    record {
+      grows = record {
+        more = (name, file) ∷ [];
+        kept = e;
+        given = subst (AreGiven gives) (sym answers) (given-more gives (answers_of files) path (answer_for file) given gave);
+      };
+      answer = answer_for file;
+      known = ap (λ (known : Answers). answer_at known path) answers ∙ last (answers_of files) path (answer_for file) none;
+      is = missing-is file ∙ ap not (sym is);
+    }
+
+-- a path that was read before
+pub seen-before : (gives : FileAnswers) (files : Files) (path : List ℕ) (file : Option CheckedFile) (there : Bool) → AreGiven gives (answers_of files)
+    → lookup (λ k. bytes_eq path (string_bytes k)) files ≡ Some file → there ≡ is_some file → Sees gives files files path there
+seen-before gives files path file there given value is = record {
+  grows = grows-none gives files given;
+  answer = answer_for file;
+  known = answer_at-lookup files path ∙ ap (option_map answer_for) value;
+  is = missing-is file ∙ ap not (sym is);
+}
+
+-- a path where there was no file
+pub missing-refused : (gives : FileAnswers) (files : Files) (path : List ℕ) (place : Option LocationView) → AreGiven gives (answers_of files)
+    → lookup (λ k. bytes_eq path (string_bytes k)) files ≡ Some None → (failure : Failure LoadFault) → IfFault (λ fault. refusal kinds.NotFound path place ≡ load_fault_view fault) failure
+    → Fails gives files (λ answer. text_of path place (answer path)) failure
+missing-refused gives files path place given value Memory h = tt
+missing-refused gives files path place given value (Fault fault) h =
+    let known : answer_at (answers_of files) path ≡ Some Missing = answer_at-lookup files path ∙ ap (option_map answer_for) value in
+    record {
+      answers = answers_of files;
+      given = given;
+      extends = λ p a e. e;
+      fails = ap (text_of path place) known ∙ ap Err h;
+      unreadable = λ failed. let no = ap (λ r. r.kind) h ∙ failed in cc;
+    }
+
 -- ---- the text of a file
 
-pub text-at : (files : Files) (index : ℕ) (file : CheckedFile) → slice_get (values_of files) index ≡ Some file → without_mark (string_bytes file.whole) ≡ text_at files index
-text-at files index file e = by_file (slice_get files index) (sym (slice_get-map (λ (entry : String Global × CheckedFile). entry.1) files index) ∙ e)
+pub text-at : (files : Files) (index : ℕ) (file : Option CheckedFile) → slice_get (values_of files) index ≡ Some file → text_for file ≡ text_at files index
+text-at files index file e = by_file (slice_get files index) (sym (slice_get-map (λ (entry : String Global × Option CheckedFile). entry.1) files index) ∙ e)
   where
-    by_file : (f : Option (String Global × CheckedFile)) → option_map (λ (entry : String Global × CheckedFile). entry.1) f ≡ Some file
-        → without_mark (string_bytes file.whole) ≡ option_map_or (λ (g : String Global × CheckedFile). without_mark (string_bytes g.1.whole)) f []
+    by_file : (f : Option (String Global × Option CheckedFile)) → option_map (λ (entry : String Global × Option CheckedFile). entry.1) f ≡ Some file
+        → text_for file ≡ option_map_or (λ (g : String Global × Option CheckedFile). text_for g.1) f []
     by_file None h = absurd cc
-    by_file (Some entry) h = let same : entry.1 ≡ file = cc in ap (λ (f : CheckedFile). without_mark (string_bytes f.whole)) (sym same)
+    by_file (Some entry) h = let same : entry.1 ≡ file = cc in ap text_for (sym same)
 
 take-less : (n : ℕ) (xs : List ℕ) → length (drop n xs) ≤ length xs
 take-less n xs = rw length-drop (omega arith)
@@ -242,14 +293,16 @@ mark-less bytes = by_test (bytes_eq (take 3 bytes) order_mark)
 pub text_at-small : (files : Files) (index : ℕ) → length (text_at files index) ≤ most_file_bytes
 text_at-small files index = by_file (slice_get files index)
   where
-    by_file : (f : Option (String Global × CheckedFile)) → length (option_map_or (λ (g : String Global × CheckedFile). without_mark (string_bytes g.1.whole)) f []) ≤ most_file_bytes
+    by_file : (f : Option (String Global × Option CheckedFile)) → length (option_map_or (λ (g : String Global × Option CheckedFile). text_for g.1) f []) ≤ most_file_bytes
     by_file None = omega arith
-    by_file (Some file) = let small = file.1.small in let less = mark-less (string_bytes file.1.whole) in omega arith
+    by_file (Some (name, None)) = omega arith
+    by_file (Some (name, Some file)) = let small = file.small in let less = mark-less (string_bytes file.whole) in omega arith
 
 -- it may be cut at its start
 pub text_at-starts : (files : Files) (index : ℕ) → IsCharBoundary (text_at files index) 0
 text_at-starts files index = by_file (slice_get files index)
   where
-    by_file : (f : Option (String Global × CheckedFile)) → IsCharBoundary (option_map_or (λ (g : String Global × CheckedFile). without_mark (string_bytes g.1.whole)) f []) 0
+    by_file : (f : Option (String Global × Option CheckedFile)) → IsCharBoundary (option_map_or (λ (g : String Global × Option CheckedFile). text_for g.1) f []) 0
     by_file None = (omega arith, λ some. absurd (omega arith))
-    by_file (Some file) = file.1.starts
+    by_file (Some (name, None)) = (omega arith, λ some. absurd (omega arith))
+    by_file (Some (name, Some file)) = file.starts

@@ -4,6 +4,7 @@ pub mod EnterLemmas
 pub mod EscapeLemmas
 pub mod ExpandLemmas
 pub mod FileLemmas
+pub mod FindingLemmas
 pub mod FolderLemmas
 pub mod KnownLemmas
 pub mod LineLemmas

@@ -1,5 +1,5 @@
 -- The rows of a file, added one after another.
-use Rattle.std.proofs.Common.{◌≡◌, ℕ, ◌+◌, ◌-◌, ◌<◌, ◌≤◌, List, [], ◌∷◌, ◌++◌, length, ap, sym, ◌∙◌, subst, arith, append-nil, Option, Result, Err}
+use Rattle.std.proofs.Common.{◌≡◌, ℕ, ◌+◌, ◌-◌, ◌<◌, ◌≤◌, List, [], ◌∷◌, ◌++◌, length, ap, sym, ◌∙◌, subst, arith, append-nil, Option, Result, Ok, Err}
 use Rattle.std.proofs.lemmas.List.Concat.{flat_map-append}
 use Rattle.std.specs.Global.{Vec}
 use Rattle.std.specs.Prelude.{string_bytes}
@@ -7,7 +7,7 @@ use Rattle.std.specs.Str.{IsCharBoundary}
 use Rattle.brl_failure.specs.declared.failure.Failure.{Failure}
 use Rattle.brl_lines.specs.Answer.{FileAnswer, FileAnswers}
 use Rattle.brl_lines.specs.Files.{Files, chain_of, lines_at, span_lines, text_at}
-use Rattle.brl_lines.specs.Lines.{Expanded, Follow, LocationView, Refusal, expanded, follow, location_of}
+use Rattle.brl_lines.specs.Lines.{Expanded, Follow, LocationView, Refusal, expanded, expanded_as, follow, location_of}
 use Rattle.brl_lines.specs.Rows.{piece}
 use Rattle.brl_lines.specs.Steps.{AreSpans, Enters, Expands, Extends, Fails, Grows, IsKindOf, IsOpen, IsReady, IsRow, IsSpan, after, lines_from, lines_of_file, lines_of_include}
 use Rattle.brl_lines.specs.Tokens.{LineView}
@@ -47,10 +47,10 @@ module _ (gives : FileAnswers) (root : List ℕ) (file : OpenFile) (old : Expans
   left number at = lines_from (string_bytes file.path) number (piece text at (length text))
 
   abbrev follows : (List ℕ → Option FileAnswer) → Follow
-  follows answer = follow file.depth_left answer root (chain_of file)
+  follows answer = follow file.depth_left gives.folders answer root (chain_of file)
 
   abbrev whole : (List ℕ → Option FileAnswer) → Result Expanded Refusal
-  whole answer = after (lines_at old.files.entries old.spans.items) (lines_of_file root file old answer)
+  whole answer = after (lines_at old.files.entries old.spans.items) (lines_of_file gives.folders root file old answer)
 
   -- the rows up to a place were added
   pub record Added (now : Expansion) (number at : ℕ) : Type 0 where
@@ -94,7 +94,7 @@ module _ (gives : FileAnswers) (root : List ℕ) (file : OpenFile) (old : Expans
       number-small = let small = text_at-small old.files.entries file.index in omega (arith, small, added.within, added.few)
 
       -- all of them
-      pub added-all : at ≡ length (text_at now.files.entries file.index) → Expands gives old now (lines_of_file root file old)
+      pub added-all : at ≡ length (text_at now.files.entries file.index) → Expands gives old now (lines_of_file gives.folders root file old)
       added-all ends = record {
         grows = added.grows;
         spans = added.spans;
@@ -158,22 +158,23 @@ module _ (gives : FileAnswers) (root : List ℕ) (file : OpenFile) (old : Expans
             }
 
         -- it includes a file
-        module _ (include : IncludeLine) (e : row.kind ≡ Include include) (then : FileAnswers) (stays : (path : List ℕ) (a : FileAnswer) → then path a → gives path a) where
+        module _ (include : IncludeLine) (e : row.kind ≡ Include include) (then : FileAnswers) (folders : then.folders ≡ gives.folders) (stays : (path : List ℕ) (a : FileAnswer) → then.may path a → gives.may path a) where
           abbrev place : LocationView
           place = record { file = string_bytes file.path; line = include.line }
 
-          refused : (answer : List ℕ → Option FileAnswer) (d : Refusal) → Extends now.files.entries answer → lines_of_include root file include now answer ≡ Err d → lines_of_file root file old answer ≡ Err d
+          refused : (answer : List ℕ → Option FileAnswer) (d : Refusal) → Extends now.files.entries answer → lines_of_include gives.folders root file include now answer ≡ Err d → lines_of_file gives.folders root file old answer ≡ Err d
           refused answer d extends h =
               let kind = kind_is (Include include) e in
-              after-err (lines_at old.files.entries old.spans.items) (lines_of_file root file old answer) d
+              after-err (lines_at old.files.entries old.spans.items) (lines_of_file gives.folders root file old answer) d
               (row-refused (follows answer) (lines_at now.files.entries now.spans.items) now.include_count (left number at) (span_lines now.files.entries row.span) (left (number + 1) row.next) (whole answer) cut
               (added.so_far answer extends) kind.0 kind.1 (string_bytes include.name) kind.2 place (place-is kind.0 (string_bytes file.path) number include.line kind.3 kind.4 kind.5) d h)
 
           -- that file is refused
-          pub refused-include : (failure : Failure LoadFault) → Fails then now.files.entries (lines_of_include root file include now) failure → Fails gives old.files.entries (lines_of_file root file old) failure
+          pub refused-include : (failure : Failure LoadFault) → Fails then now.files.entries (lines_of_include then.folders root file include now) failure → Fails gives old.files.entries (lines_of_file gives.folders root file old) failure
           refused-include failure h =
-              fails-later gives then stays old.files.entries now.files.entries added.grows (lines_of_file root file old) failure
-              (fails-more then now.files.entries (lines_of_include root file include now) (lines_of_file root file old) failure refused h)
+              fails-later gives then stays old.files.entries now.files.entries added.grows (lines_of_file gives.folders root file old) failure
+              (fails-more then now.files.entries (lines_of_include gives.folders root file include now) (lines_of_file gives.folders root file old) failure refused
+              (subst (λ (fs : List (List ℕ)). Fails then now.files.entries (lines_of_include fs root file include now) failure) folders h))
 
           module _ (entered : Expansion) (inner : OpenFile) (enters : Enters then now entered root file include inner) where
             both : Grows gives old.files.entries entered.files.entries
@@ -182,21 +183,33 @@ module _ (gives : FileAnswers) (root : List ℕ) (file : OpenFile) (old : Expans
             older : (answer : List ℕ → Option FileAnswer) → Extends entered.files.entries answer → Extends now.files.entries answer
             older = extends-older then now.files.entries entered.files.entries enters.grows
 
+            enters-by : (answer : List ℕ → Option FileAnswer) → Extends entered.files.entries answer → lines_of_include gives.folders root file include now answer ≡ lines_of_file gives.folders root inner entered answer
+            enters-by = subst
+                (λ (fs : List (List ℕ)). (answer : List ℕ → Option FileAnswer) → Extends entered.files.entries answer → lines_of_include fs root file include now answer ≡ lines_of_file fs root inner entered answer)
+                folders enters.follows
+
             pub inner-spans : AreSpans entered.files.entries entered.spans.items
             inner-spans = subst (AreSpans entered.files.entries) (sym enters.spans) (spans-grow then now.files.entries entered.files.entries enters.grows now.spans.items added.spans)
 
-            module _ (last : FileAnswers) (remains : (path : List ℕ) (a : FileAnswer) → last path a → gives path a) where
+            module _ (last : FileAnswers) (still : last.folders ≡ gives.folders) (remains : (path : List ℕ) (a : FileAnswer) → last.may path a → gives.may path a) where
               -- or its lines are
-              pub refused-inner : (failure : Failure LoadFault) → Fails last entered.files.entries (lines_of_file root inner entered) failure → Fails gives old.files.entries (lines_of_file root file old) failure
+              pub refused-inner : (failure : Failure LoadFault) → Fails last entered.files.entries (lines_of_file last.folders root inner entered) failure → Fails gives old.files.entries (lines_of_file gives.folders root file old) failure
               refused-inner failure h =
-                  fails-later gives last remains old.files.entries entered.files.entries both (lines_of_file root file old) failure
-                  (fails-more last entered.files.entries (lines_of_file root inner entered) (lines_of_file root file old) failure
-                  (λ answer d extends no. refused answer d (older answer extends) (enters.follows answer extends ∙ no)) h)
+                  fails-later gives last remains old.files.entries entered.files.entries both (lines_of_file gives.folders root file old) failure
+                  (fails-more last entered.files.entries (lines_of_file gives.folders root inner entered) (lines_of_file gives.folders root file old) failure
+                  (λ answer d extends no. refused answer d (older answer extends) (enters-by answer extends ∙ no))
+                  (subst (λ (fs : List (List ℕ)). Fails last entered.files.entries (lines_of_file fs root inner entered) failure) still h))
 
               -- its lines were added
-              pub added-include : (new : Expansion) → Expands last entered new (lines_of_file root inner entered) → Added new (number + 1) row.next
+              pub added-include : (new : Expansion) → Expands last entered new (lines_of_file last.folders root inner entered) → Added new (number + 1) row.next
               added-include new expands =
                   let kind = kind_is (Include include) e in
+                  let adds : (answer : List ℕ → Option FileAnswer) → Extends new.files.entries answer
+                  → after (lines_at entered.files.entries entered.spans.items) (lines_of_file gives.folders root inner entered answer) ≡ Ok (expanded_as (lines_at new.files.entries new.spans.items) new.include_count) =
+                  subst
+                  (λ (fs : List (List ℕ)). (answer : List ℕ → Option FileAnswer) → Extends new.files.entries answer
+                  → after (lines_at entered.files.entries entered.spans.items) (lines_of_file fs root inner entered answer) ≡ Ok (expanded_as (lines_at new.files.entries new.spans.items) new.include_count))
+                  still expands.adds in
                   let lines : lines_at now.files.entries now.spans.items ≡ lines_at entered.files.entries entered.spans.items =
                   sym (ap (lines_at entered.files.entries) enters.spans ∙ lines_at-grows then now.files.entries entered.files.entries enters.grows now.spans.items added.spans) in
                   record {
@@ -210,7 +223,7 @@ module _ (gives : FileAnswers) (root : List ℕ) (file : OpenFile) (old : Expans
                         row-include (follows answer) (lines_at now.files.entries now.spans.items) now.include_count (left number at) (span_lines now.files.entries row.span) (left (number + 1) row.next) (whole answer) cut
                         (added.so_far answer (older answer known)) kind.0 kind.1 (string_bytes include.name) kind.2 place (place-is kind.0 (string_bytes file.path) number include.line kind.3 kind.4 kind.5)
                         (lines_at new.files.entries new.spans.items) new.include_count
-                        (ap (after (lines_at now.files.entries now.spans.items)) (enters.follows answer known)
-                        ∙ ap (λ (ls : List LineView). after ls (lines_of_file root inner entered answer)) lines
-                        ∙ expands.adds answer extends));
+                        (ap (after (lines_at now.files.entries now.spans.items)) (enters-by answer known)
+                        ∙ ap (λ (ls : List LineView). after ls (lines_of_file gives.folders root inner entered answer)) lines
+                        ∙ adds answer extends));
                   }

@@ -25,17 +25,17 @@ answer_of-readable (Some bytes) e = by_test (nat_le (length bytes) most_file_byt
     by_test true f = absurd cc
     by_test false f = absurd cc
 
-module _ (gives : List ℕ → FileAnswer → Type 0) where
+module _ (gives : FileAnswers) where
   -- an answer in the map was given
-  pub given-at : (answers : Answers) (path : List ℕ) (answer : FileAnswer) → AreGiven gives answers → answer_at answers path ≡ Some answer → gives path answer
+  pub given-at : (answers : Answers) (path : List ℕ) (answer : FileAnswer) → AreGiven gives answers → answer_at answers path ≡ Some answer → gives.may path answer
   given-at [] path answer h e = absurd cc
   given-at (entry ∷ others) path answer h e = by_test (bytes_eq path entry.0) refl (given-at others path answer h.1) e
     where
-      by_test : (b : Bool) → bytes_eq path entry.0 ≡ b → (answer_at others path ≡ Some answer → gives path answer) → cond b (Some entry.1) (answer_at others path) ≡ Some answer → gives path answer
+      by_test : (b : Bool) → bytes_eq path entry.0 ≡ b → (answer_at others path ≡ Some answer → gives.may path answer) → cond b (Some entry.1) (answer_at others path) ≡ Some answer → gives.may path answer
       by_test true same later f =
           let path_is : entry.0 ≡ path = sym ((bytes_eq-Decides path entry.0).0 same) in
           let answer_is : entry.1 ≡ answer = cc in
-          subst (λ p. gives p answer) path_is (subst (λ a. gives entry.0 a) answer_is h.0)
+          subst (λ p. gives.may p answer) path_is (subst (λ a. gives.may entry.0 a) answer_is h.0)
       by_test false same later f = later f
 
 -- a fault is of a read that failed, or it isn't
@@ -58,9 +58,9 @@ never_unread lines want h other path place e = other (ap (λ r. r.kind) (same (s
     same e = cc
 
 -- A load of files that can all be read comes to what the definition gives for all of them.
-module _ (all : List ℕ → FileAnswer) (readable : (path : List ℕ) → Unreadable ≡ all path → ⊥) (root : List ℕ) where
+module _ (folders : List (List ℕ)) (all : List ℕ → FileAnswer) (readable : (path : List ℕ) → Unreadable ≡ all path → ⊥) (root : List ℕ) where
   abbrev gives : FileAnswers
-  gives path answer = answer ≡ all path
+  gives = record { folders = folders; may = λ path answer. answer ≡ all path }
 
   abbrev full : List ℕ → Option FileAnswer
   full path = Some (all path)
@@ -68,12 +68,12 @@ module _ (all : List ℕ → FileAnswer) (readable : (path : List ℕ) → Unrea
   known : (answers : Answers) → AreGiven gives answers → (path : List ℕ) (answer : FileAnswer) → answer_at answers path ≡ Some answer → full path ≡ Some answer
   known answers given path answer e = ap Some (sym (given-at gives answers path answer given e))
 
-  other_kind : (want : Refusal) → (want.kind ≡ kinds.ReadFailed → ⊥) → IsRefusedAs gives root want → lines_over full root ≡ Err want
-  other_kind want other h = lines_over-more (answer_at h.0) full (known h.0 h.1) root (never_unread (lines_of h.0 root) want h.2 other) ∙ h.2
+  other_kind : (want : Refusal) → (want.kind ≡ kinds.ReadFailed → ⊥) → IsRefusedAs gives root want → lines_over folders full root ≡ Err want
+  other_kind want other h = lines_over-more (answer_at h.0) full (known h.0 h.1) folders root (never_unread (lines_of folders h.0 root) want h.2 other) ∙ h.2
 
   pub told_of_all : (outcome : Result (List LineView) (Failure LoadFault)) → IfOk outcome (AreLinesOf gives root) → IfErr outcome (IsLoadFault gives root)
-      → GivesAs (λ lines. lines) load_fault_view (lines_over full root) outcome
-  told_of_all (Ok lines) h k = lines_over-more (answer_at h.0) full (known h.0 h.1) root (λ path place e. let no = sym h.2 ∙ e in cc) ∙ h.2
+      → GivesAs (λ lines. lines) load_fault_view (lines_over folders full root) outcome
+  told_of_all (Ok lines) h k = lines_over-more (answer_at h.0) full (known h.0 h.1) folders root (λ path place e. let no = sym h.2 ∙ e in cc) ∙ h.2
   told_of_all (Err Memory) h k = tt
   told_of_all (Err (Fault fault)) h k =
       elim (read_failed_or_not fault.kind) [

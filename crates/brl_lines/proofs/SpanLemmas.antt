@@ -1,14 +1,15 @@
 -- The lines at spans: slices of their files' texts, with their tokens in order.
-use Rattle.std.proofs.Common.{◌≡◌, ℕ, zero, suc, ◌<◌, List, [], ◌∷◌, ◌++◌, length, refl, sym, subst, All, arith}
-use Rattle.std.specs.List.{AllByRecursion}
+use Rattle.std.proofs.Common.{◌≡◌, ◌∙◌, ◌⊎◌, inl, inr, ℕ, zero, suc, ◌-◌, ◌<◌, List, [], ◌∷◌, ◌++◌, length, map, take, refl, ap, sym, subst, All, arith, None, Some}
+use Rattle.std.proofs.lemmas.List.{drop_all}
+use Rattle.std.specs.List.{AllByRecursion, enumerate_from}
 use Rattle.std.specs.Prelude.{string_bytes}
 use Rattle.brl_lines.specs.Answer.{Holds, FileAnswers}
 use Rattle.brl_lines.specs.Files.{Files, answers_of, lines_at, path_at, span_lines, text_at}
 use Rattle.brl_lines.specs.Outcome.{AreGiven, IsLineOfFile}
-use Rattle.brl_lines.specs.Rows.{without_mark}
+use Rattle.brl_lines.specs.Rows.{piece, without_mark}
 use Rattle.brl_lines.specs.Slices.{IsCutFrom, IsInOrder}
 use Rattle.brl_lines.specs.Steps.{AreSpans, IsSpan}
-use Rattle.brl_lines.specs.Tokens.{LineView}
+use Rattle.brl_lines.specs.Tokens.{LineView, line_of, token_of, tokens}
 use Rattle.brl_lines.specs.declared.span.LineSpan.{LineSpan}
 use Rattle.brl_lines.proofs.SliceLemmas.{IsGood, all_more, all_of, piece_good}
 
@@ -29,24 +30,44 @@ in_order files (span ∷ spans) =
 pub lines_at-in_order : (files : Files) (spans : List LineSpan) → All IsInOrder (lines_at files spans)
 lines_at-in_order files spans = all_of IsInOrder (lines_at files spans) (in_order files spans)
 
--- the source gave each file
-pub gave-file : (gives : FileAnswers) (files : Files) (index : ℕ) → AreGiven gives (answers_of files) → index < length files
-    → (bytes : List ℕ) × gives (path_at files index) (Holds bytes) × (without_mark bytes ≡ text_at files index)
+-- the source gave each file, or there is none, which has no text
+gave-file : (gives : FileAnswers) (files : Files) (index : ℕ) → AreGiven gives (answers_of files) → index < length files
+    → ((bytes : List ℕ) × gives.may (path_at files index) (Holds bytes) × (without_mark bytes ≡ text_at files index)) ⊎ (text_at files index ≡ [])
 gave-file gives [] index given less = absurd (omega arith)
-gave-file gives (file ∷ files) zero given less = (string_bytes file.1.whole, given.0, refl)
+gave-file gives ((name, None) ∷ files) zero given less = inr refl
+gave-file gives ((name, Some file) ∷ files) zero given less = inl (string_bytes file.whole, given.0, refl)
 gave-file gives (file ∷ files) (suc index) given less = gave-file gives files index given.1 (omega arith)
 
+-- nothing has no lines
+no_piece : (i j : ℕ) → piece [] i j ≡ []
+no_piece i j = ap (λ (bs : List ℕ). enumerate_from i bs) (ap (take (j - i)) (drop_all i [] (omega arith)) ∙ taken (j - i))
+  where
+    taken : (n : ℕ) → take {A = ℕ} n [] ≡ []
+    taken zero = refl
+    taken (suc n) = refl
+
+no_lines : (files : Files) (span : LineSpan) → text_at files span.file ≡ [] → span_lines files span ≡ []
+no_lines files span none =
+    ap (λ (text : List ℕ). line_of (path_at files span.file) span.line (map token_of (tokens (piece text span.from span.to)))) none
+    ∙ ap (λ (row : List (ℕ × ℕ)). line_of (path_at files span.file) span.line (map token_of (tokens row))) (no_piece span.from span.to)
+
 module _ (gives : FileAnswers) (files : Files) (given : AreGiven gives (answers_of files)) where
-  of_file : (span : LineSpan) → IsSpan files span → (line : LineView) → IsGood (text_at files span.file) (path_at files span.file) line → IsLineOfFile gives line
-  of_file span h line good =
-      let gave = gave-file gives files span.file given h.file in
-      (gave.0, subst (λ (path : List ℕ). gives path (Holds gave.0)) (sym good.of_file) gave.1, subst (λ (text : List ℕ). IsCutFrom text line) (sym gave.2) good.slices)
+  of_file : (span : LineSpan) (bytes : List ℕ) → gives.may (path_at files span.file) (Holds bytes) → without_mark bytes ≡ text_at files span.file → (line : LineView)
+      → IsGood (text_at files span.file) (path_at files span.file) line → IsLineOfFile gives line
+  of_file span bytes gave text line good =
+      (bytes, subst (λ (path : List ℕ). gives.may path (Holds bytes)) (sym good.of_file) gave, subst (λ (text : List ℕ). IsCutFrom text line) (sym text) good.slices)
+
+  of_span : (span : LineSpan) → IsSpan files span → AllByRecursion (IsLineOfFile gives) (span_lines files span)
+  of_span span h =
+      elim (gave-file gives files span.file given h.file) [
+        | inl (bytes, gave, text) ↦
+            all_more (IsGood (text_at files span.file) (path_at files span.file)) (IsLineOfFile gives) (of_file span bytes gave text) (span_lines files span) (span_good files span)
+        | inr none ↦ subst (AllByRecursion (IsLineOfFile gives)) (sym (no_lines files span none)) tt
+      ]
 
   slices : (spans : List LineSpan) → AreSpans files spans → AllByRecursion (IsLineOfFile gives) (lines_at files spans)
   slices [] h = tt
-  slices (span ∷ spans) h =
-      both (IsLineOfFile gives) (span_lines files span) (lines_at files spans)
-      (all_more (IsGood (text_at files span.file) (path_at files span.file)) (IsLineOfFile gives) (of_file span h.0) (span_lines files span) (span_good files span)) (slices spans h.1)
+  slices (span ∷ spans) h = both (IsLineOfFile gives) (span_lines files span) (lines_at files spans) (of_span span h.0) (slices spans h.1)
 
   -- each is a slice of a file that was given
   pub slices-given : (spans : List LineSpan) → AreSpans files spans → All (IsLineOfFile gives) (lines_at files spans)

@@ -1,5 +1,5 @@
 -- What is known of paths, and the way through the files there.
-use Rattle.std.proofs.Common.{◌≡◌, ◌≢◌, ℕ, zero, suc, ◌+◌, ◌-◌, ◌<◌, ◌≤◌, Bool, true, false, cond, List, [], ◌∷◌, ◌++◌, map, length, get_or, drop, add-one, refl, ap, sym, ◌∙◌, arith, option_map, Option, Some, None, Result, Ok, Err, string_bytes}
+use Rattle.std.proofs.Common.{◌≡◌, ◌≢◌, ℕ, zero, suc, ◌+◌, ◌-◌, ◌<◌, ◌≤◌, Bool, true, false, cond, List, [], ◌∷◌, ◌++◌, map, length, get_or, drop, add-one, refl, ap, sym, ◌∙◌, arith, option_map, Option, Some, Result, Ok, Err, string_bytes}
 use Rattle.std.proofs.Math.Seq.{drop-cons}
 use Rattle.std.proofs.lemmas.List.{drop_all, map-append}
 use Rattle.std.specs.Global.{Global, Vec}
@@ -12,7 +12,6 @@ use Rattle.brl_lines.specs.Gathered.{KnownPaths, answer_of_known, known_answer, 
 use Rattle.brl_lines.specs.Gathering.{LeftView, StopView, Visit, WayView, entered, held, include_view, stop, taken, taken_all, through, with_file}
 use Rattle.brl_lines.specs.Lines.{LocationView}
 use Rattle.brl_lines.specs.declared.include.IncludeLine.{IncludeLine}
-use Rattle.brl_lines.specs.declared.known.Known.{Known}
 use Rattle.brl_lines.specs.declared.way.Way.{Way}
 use Rattle.brl_lines.specs.declared.way.StopKind.TheVariants as stops
 

@@ -15,17 +15,32 @@ pub data FileAnswer : Type 0 where
   Large : FileAnswer
   Unreadable : FileAnswer
 
--- what a source may answer for each path
-abbrev pub FileAnswers : Type 1
-FileAnswers = List ℕ → FileAnswer → Type 0
+-- what a source gives: the folders in which a file is looked for that isn't at its usual path, in
+-- order, and what it may answer for each path
+pub record FileAnswers : Type 1 where
+  pub folders : List (List ℕ)
+  pub may : List ℕ → FileAnswer → Type 0
 
 -- it may answer the same as before
+abbrev pub MayAnswerSame : FileAnswers → FileAnswers → Type 0
+MayAnswerSame old new = (path : List ℕ) (answer : FileAnswer) → new.may path answer ↔ old.may path answer
+
+-- it looks in the same folders as before, and may answer the same
 abbrev pub Unchanged : FileAnswers → FileAnswers → Type 0
-Unchanged old new = (path : List ℕ) (answer : FileAnswer) → new path answer ↔ old path answer
+Unchanged old new = (new.folders ≡ old.folders) × MayAnswerSame old new
 
 -- it has one answer at most for each path
 abbrev pub IsDeterministic : FileAnswers → Type 0
-IsDeterministic gives = (path : List ℕ) (one other : FileAnswer) → gives path one → gives path other → one ≡ other
+IsDeterministic gives = (path : List ℕ) (one other : FileAnswer) → gives.may path one → gives.may path other → one ≡ other
+
+-- the same answers, where files are looked for in these folders
+abbrev pub looking : List (List ℕ) → FileAnswers → FileAnswers
+looking folders gives = record { folders = folders; may = gives.may }
+
+-- it is known that there is no file
+abbrev pub is_missing : Option FileAnswer → Bool
+is_missing (Some Missing) = true
+is_missing answer = false
 
 -- the most bytes that a file may have
 abbrev pub most_file_bytes : ℕ

@@ -1,16 +1,14 @@
 -- Internal. How the definitions see what is known of paths, and the way through their files.
-use Rattle.std.specs.Prelude.{◌≡◌, Bool, true, List, map, option_map, ℕ, Option, Some, None, Result, Ok, Err, String, string_bytes}
+use Rattle.std.specs.Prelude.{◌≡◌, List, map, option_map, ℕ, Option, Some, None, Result, Ok, Err, String, string_bytes}
 use Rattle.std.specs.Global.{Global}
 use Rattle.brl_failure.specs.Failure.{IfFault}
 use Rattle.brl_failure.specs.declared.failure.Failure.{Failure}
-use Rattle.brl_failure.specs.declared.failure.Failure.TheVariants as failures
 use Rattle.brl_lines.specs.Answer.{FileAnswer, FileAnswers, Holds, Missing}
 use Rattle.brl_lines.specs.Gathering.{IncludeView, LeftView, StopView, Visit, WayView, place_of, stop, taken}
 use Rattle.brl_lines.specs.Lines.{Answers, LocationView, answer_at, text_of}
 use Rattle.brl_lines.specs.Outcome.{IsReadFailure}
 use Rattle.brl_lines.specs.Views.{load_fault_view, location_view}
 use Rattle.brl_lines.specs.declared.fault.LoadFault.{LoadFault}
-use Rattle.brl_lines.specs.declared.fault.LoadFaultKind.TheVariants as kinds
 use Rattle.brl_lines.specs.declared.known.Known.{Known}
 use Rattle.brl_lines.specs.declared.known.Known.TheVariants as known
 use Rattle.brl_lines.specs.declared.way.LeftInclude.{LeftInclude}
@@ -58,15 +56,10 @@ IsTaken answer root file include old new (Err failure) =
 -- the source gave an answer for the file at a path for which it is refused
 abbrev pub IsUnread : FileAnswers → List ℕ → Option LocationView → Failure LoadFault → Type 0
 IsUnread gives path place failure =
-    IfFault (λ fault. (answer : FileAnswer) × gives path answer × (text_of path place (Some answer) ≡ Err (load_fault_view fault))
+    IfFault (λ fault. (answer : FileAnswer) × gives.may path answer × (text_of path place (Some answer) ≡ Err (load_fault_view fault))
     × IsReadFailure gives (load_fault_view fault)) failure
 
 -- what is at a path was found out, or its file is refused
 abbrev pub FindsOut : FileAnswers → List ℕ → Option LocationView → Result Known (Failure LoadFault) → Type 0
-FindsOut gives path place (Ok found) = gives path (answer_of_known found)
+FindsOut gives path place (Ok found) = gives.may path (answer_of_known found)
 FindsOut gives path place (Err failure) = IsUnread gives path place failure
-
--- that there is no file, where that may be and is the fault; else the fault
-abbrev pub IsMissingOr : Bool → LoadFault → Result Known (Failure LoadFault) → Type 0
-IsMissingOr may fault (Ok found) = (may ≡ true) × (fault.kind ≡ kinds.NotFound) × (found ≡ known.Missing)
-IsMissingOr may fault (Err failure) = failure ≡ failures.Fault fault

@@ -3,11 +3,11 @@
 -- gone through before, and those of files that aren't there. The way goes through a file where the
 -- first include line leads to it, and through the files that it includes before the lines after. The
 -- project's own choice.
-use Rattle.std.specs.Prelude.{ℕ, zero, suc, ◌||◌, ◌==◌, Bool, true, false, not, nat_eq, if◌then◌else◌, List, [], ◌∷◌, ◌++◌, codes, flat_map, length, Option, Some, None, Result, Ok, Err, string_bytes}
+use Rattle.std.specs.Prelude.{ℕ, zero, suc, ◌||◌, ◌==◌, Bool, not, nat_eq, if◌then◌else◌, List, [], ◌∷◌, ◌++◌, codes, flat_map, length, Option, Some, None, Result, Ok, Err, string_bytes}
 use Rattle.std.specs.List.{ends_with, list_all, list_any, slice_split}
 use Rattle.std.specs.Str.{bytes_eq}
 use Rattle.brl_failure.specs.Failure.{◌>>=◌}
-use Rattle.brl_lines.specs.Answer.{FileAnswer, Holds, Missing}
+use Rattle.brl_lines.specs.Answer.{FileAnswer, Holds, is_missing}
 use Rattle.brl_lines.specs.Includes.{included, name_of}
 use Rattle.brl_lines.specs.Lines.{LocationView}
 use Rattle.brl_lines.specs.Rows.{without_mark}
@@ -98,11 +98,6 @@ Visit = Option LocationView → List ℕ → WayView → Result WayView StopView
 abbrev pub held : Option FileAnswer → Option (List ℕ)
 held (Some (Holds bytes)) = Some bytes
 held answer = None
-
--- whether it is known that there is no file
-abbrev pub is_missing : Option FileAnswer → Bool
-is_missing (Some Missing) = true
-is_missing answer = false
 
 -- the place of an include line
 abbrev pub place_of : List ℕ → IncludeView → LocationView

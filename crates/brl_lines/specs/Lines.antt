@@ -8,7 +8,7 @@ use Rattle.std.specs.List.{list_any, position_from}
 use Rattle.std.specs.Str.{bytes_eq, is_utf8}
 use Rattle.brl_failure.specs.Failure.{◌>>=◌}
 use Rattle.brl_lines.specs.Answer.{FileAnswer, Holds, Missing, Large, Unreadable, most_file_bytes}
-use Rattle.brl_lines.specs.Includes.{included, name_of}
+use Rattle.brl_lines.specs.Includes.{found, included, name_of}
 use Rattle.brl_lines.specs.Rows.{rows_of, without_mark}
 use Rattle.brl_lines.specs.Tokens.{LineView, lines_in}
 use Rattle.brl_lines.specs.declared.fault.LoadFaultKind.{LoadFaultKind}
@@ -113,31 +113,44 @@ expanded follow (line ∷ lines) includes = do
   others ← expanded follow lines here.includes
   Ok (expanded_as (here.lines ++ others.lines) others.includes)
 
--- an include line may be followed: it isn't one too many, and its path isn't among those that lead
--- to it
-abbrev pub allowed : List ℕ → LocationView → List (List ℕ) → ℕ → Result (Unit {0}) Refusal
-allowed path place chain includes =
-    if nat_le most_includes includes then Err (refusal kinds.TooManyIncludes path (Some place))
-    else if list_any (bytes_eq path) chain then Err (refusal kinds.Cycle path (Some place))
-    else Ok tt
+-- an include line, whose file has this usual path, isn't one too many
+abbrev pub few : List ℕ → LocationView → ℕ → Result (Unit {0}) Refusal
+few usual place includes = if nat_le most_includes includes then Err (refusal kinds.TooManyIncludes usual (Some place)) else Ok tt
 
--- what an include line is replaced by, where its file and the files below it may be this many deep
-unfoldable pub follow : ℕ → (List ℕ → Option FileAnswer) → List ℕ → List (List ℕ) → Follow
-follow zero answer root chain place name includes = do
-  _ ← allowed (included root name) place chain includes
+-- the path of its file isn't among those that lead to it
+abbrev pub apart : List ℕ → LocationView → List (List ℕ) → Result (Unit {0}) Refusal
+apart path place chain = if list_any (bytes_eq path) chain then Err (refusal kinds.Cycle path (Some place)) else Ok tt
+
+-- what an include line is replaced by, whose file is at a path: the lines of that file, each include
+-- line replaced
+abbrev pub entered : (List (List ℕ) → Follow) → (List ℕ → Option FileAnswer) → List (List ℕ) → LocationView → List ℕ → ℕ → Result Expanded Refusal
+entered within answer chain place path includes = do
+  text ← text_of path (Some place) (answer path)
+  _ ← apart path place chain
+  expanded (within (path ∷ chain)) (lines_in path text) (includes + 1)
+
+-- What an include line is replaced by, where its file and the files below it may be this many deep. A
+-- file that would be too deep isn't looked for in the folders.
+unfoldable pub follow : ℕ → List (List ℕ) → (List ℕ → Option FileAnswer) → List ℕ → List (List ℕ) → Follow
+follow zero folders answer root chain place name includes = do
+  _ ← few (included root name) place includes
+  _ ← apart (included root name) place chain
   Err (refusal kinds.TooDeep (included root name) (Some place))
-follow (suc depth) answer root chain place name includes = do
-  _ ← allowed (included root name) place chain includes
-  text ← text_of (included root name) (Some place) (answer (included root name))
-  expanded (follow depth answer root (included root name ∷ chain)) (lines_in (included root name) text) (includes + 1)
+follow (suc depth) folders answer root chain place name includes = do
+  _ ← few (included root name) place includes
+  entered (follow depth folders answer root) answer chain place (found folders answer (included root name) name) includes
 
--- the lines over what is known of each path: the root is 1 deep, and a file may be 16 deep
-unfoldable pub lines_over : (List ℕ → Option FileAnswer) → List ℕ → Result (List LineView) Refusal
-lines_over answer root = do
+-- the lines of the table whose root was found at a path: the root is 1 deep, and a file may be 16 deep
+abbrev pub lines_from_root : List (List ℕ) → (List ℕ → Option FileAnswer) → List ℕ → Result (List LineView) Refusal
+lines_from_root folders answer root = do
   text ← text_of root None (answer root)
-  found ← expanded (follow 15 answer root (root ∷ [])) (lines_in root text) 0
-  Ok found.lines
+  all ← expanded (follow 15 folders answer root (root ∷ [])) (lines_in root text) 0
+  Ok all.lines
 
--- the lines of the table whose root is at a path
-abbrev pub lines_of : Answers → List ℕ → Result (List LineView) Refusal
-lines_of answers root = lines_over (answer_at answers) root
+-- the lines over what is known of each path, where files are looked for in these folders too
+unfoldable pub lines_over : List (List ℕ) → (List ℕ → Option FileAnswer) → List ℕ → Result (List LineView) Refusal
+lines_over folders answer root = lines_from_root folders answer (found folders answer root root)
+
+-- the lines of the table whose root has a path
+abbrev pub lines_of : List (List ℕ) → Answers → List ℕ → Result (List LineView) Refusal
+lines_of folders answers root = lines_over folders (answer_at answers) root

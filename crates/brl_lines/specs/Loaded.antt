@@ -2,7 +2,7 @@
 use Rattle.std.specs.Prelude.{ℕ, List}
 use Rattle.brl_lines.specs.Tokens.{LineView}
 
--- its lines that do something, in order, and the paths of its files, each once
+-- its lines that do something, in order, and the paths that were read, each once
 pub record LoadedView : Type 0 where
   pub lines : List LineView
   pub paths : List (List ℕ)

@@ -16,24 +16,24 @@ use Rattle.brl_lines.specs.declared.fault.LoadFaultKind.TheVariants as kinds
 
 -- the source may give each of these answers
 abbrev pub AreGiven : FileAnswers → Answers → Type 0
-AreGiven gives answers = AllByRecursion (λ entry. gives entry.0 entry.1) answers
+AreGiven gives answers = AllByRecursion (λ entry. gives.may entry.0 entry.1) answers
 
 -- the lines of the table whose root is at a path, for answers of the source
 abbrev pub AreLinesOf : FileAnswers → List ℕ → List LineView → Type 0
-AreLinesOf gives root lines = (answers : Answers) × AreGiven gives answers × (lines_of answers root ≡ Ok lines)
+AreLinesOf gives root lines = (answers : Answers) × AreGiven gives answers × (lines_of gives.folders answers root ≡ Ok lines)
 
--- the same, by answers for just the files at these paths
+-- the same, by answers for just these paths
 abbrev pub AreLinesOfFiles : FileAnswers → List ℕ → List (List ℕ) → List LineView → Type 0
 AreLinesOfFiles gives root paths lines =
-    (answers : Answers) × AreGiven gives answers × (map (λ entry. entry.0) answers ≡ paths) × (lines_of answers root ≡ Ok lines)
+    (answers : Answers) × AreGiven gives answers × (map (λ entry. entry.0) answers ≡ paths) × (lines_of gives.folders answers root ≡ Ok lines)
 
 -- the table whose root is at a path has no lines for answers of the source, and this is why
 abbrev pub IsRefusedAs : FileAnswers → List ℕ → Refusal → Type 0
-IsRefusedAs gives root want = (answers : Answers) × AreGiven gives answers × (lines_of answers root ≡ Err want)
+IsRefusedAs gives root want = (answers : Answers) × AreGiven gives answers × (lines_of gives.folders answers root ≡ Err want)
 
 -- a file that is refused as unreadable is one that the source may be unable to read
 abbrev pub IsReadFailure : FileAnswers → Refusal → Type 0
-IsReadFailure gives want = want.kind ≡ kinds.ReadFailed → gives want.path Unreadable
+IsReadFailure gives want = want.kind ≡ kinds.ReadFailed → gives.may want.path Unreadable
 
 -- why a table whose root is at a path isn't loaded; memory may run out at any file
 abbrev pub IsLoadFault : FileAnswers → List ℕ → Failure LoadFault → Type 0
@@ -59,4 +59,4 @@ CountsFailure before now (Err failure) = CountsFailed before now failure
 -- the tokens of the line are slices of its file's text, for bytes that the source may give for that
 -- file
 abbrev pub IsLineOfFile : FileAnswers → LineView → Type 0
-IsLineOfFile gives line = (bytes : List ℕ) × gives line.file (Holds bytes) × IsCutFrom (without_mark bytes) line
+IsLineOfFile gives line = (bytes : List ℕ) × gives.may line.file (Holds bytes) × IsCutFrom (without_mark bytes) line

@@ -1,19 +1,21 @@
 -- Internal. What the single steps of a load do, in the words of the definitions.
-use Rattle.std.specs.Prelude.{◌≡◌, ℕ, ◌+◌, ◌<◌, ◌≤◌, List, [], ◌∷◌, ◌++◌, length, map, Option, None, Some, Result, Ok, Err, string_bytes}
+use Rattle.std.specs.Prelude.{◌≡◌, ◌≢◌, Bool, true, not, ℕ, ◌+◌, ◌<◌, ◌≤◌, List, [], ◌∷◌, ◌++◌, length, map, Option, None, Some, Result, Ok, Err, string_bytes}
 use Rattle.std.specs.List.{AllByRecursion, enumerate_from, flat_map}
 use Rattle.std.specs.Str.{IsCharBoundary}
 use Rattle.brl_failure.specs.Failure.{◌>>=◌, IfFault}
 use Rattle.brl_failure.specs.declared.failure.Failure.{Failure}
-use Rattle.brl_lines.specs.Answer.{FileAnswer, Holds, FileAnswers}
-use Rattle.brl_lines.specs.Files.{Files, answers_of, chain_of, lines_at, path_at, span_lines, text_at}
-use Rattle.brl_lines.specs.Includes.{name_of}
+use Rattle.brl_lines.specs.Answer.{FileAnswer, Holds, FileAnswers, is_missing}
+use Rattle.brl_lines.specs.Files.{Files, answer_for, answers_of, chain_of, lines_at, path_at, span_lines, text_at}
+use Rattle.brl_lines.specs.Includes.{first_there, found, name_of, paths_in}
 use Rattle.brl_lines.specs.Lines.{Answers, Expanded, LocationView, Refusal, answer_at, expanded, expanded_as, follow, text_of}
 use Rattle.brl_lines.specs.Outcome.{AreGiven, IsReadFailure}
 use Rattle.brl_lines.specs.Rows.{piece, rows}
 use Rattle.brl_lines.specs.Tokens.{LineView, line_of, lines_in, token_of, tokens}
 use Rattle.brl_lines.specs.Views.{load_fault_view}
 use Rattle.brl_lines.specs.declared.checked_file.CheckedFile.{CheckedFile}
+use Rattle.brl_failure.specs.declared.failure.Failure.TheVariants.{Fault}
 use Rattle.brl_lines.specs.declared.expand.Expansion.{Expansion}
+use Rattle.brl_lines.specs.declared.fault.LoadFaultKind.TheVariants as kinds
 use Rattle.brl_lines.specs.declared.fault.LoadFault.{LoadFault}
 use Rattle.brl_lines.specs.declared.include.IncludeLine.{IncludeLine}
 use Rattle.brl_lines.specs.declared.open_file.OpenFile.{OpenFile}
@@ -94,9 +96,9 @@ Fails gives files want failure = IfFault (λ fault. FailsAs gives files want (lo
 -- the source gave the bytes of the file that is returned, or the answer for which its path is
 -- refused
 abbrev pub Reads : FileAnswers → List ℕ → Option LocationView → Result CheckedFile (Failure LoadFault) → Type 0
-Reads gives path place (Ok file) = gives path (Holds (string_bytes file.whole))
+Reads gives path place (Ok file) = gives.may path (Holds (string_bytes file.whole))
 Reads gives path place (Err failure) =
-    IfFault (λ fault. (answer : FileAnswer) × gives path answer × (text_of path place (Some answer) ≡ Err (load_fault_view fault)) × IsReadFailure gives (load_fault_view fault)) failure
+    IfFault (λ fault. (answer : FileAnswer) × gives.may path answer × (text_of path place (Some answer) ≡ Err (load_fault_view fault)) × IsReadFailure gives (load_fault_view fault)) failure
 
 -- the file with this index is the one at a path, and its text is good
 pub record Finds (gives : FileAnswers) (old new : Files) (path : List ℕ) (index : ℕ) : Type 0 where
@@ -105,6 +107,43 @@ pub record Finds (gives : FileAnswers) (old new : Files) (path : List ℕ) (inde
   pub path_is : path_at new index ≡ path
   pub text_is : (answer : List ℕ → Option FileAnswer) → Extends new answer → (place : Option LocationView) → text_of path place (answer path) ≡ Ok (text_at new index)
 
+-- what is at a path was found out: a file, or none; or its file is refused
+abbrev pub FindsFile : FileAnswers → List ℕ → Option LocationView → Result (Option CheckedFile) (Failure LoadFault) → Type 0
+FindsFile gives path place (Ok file) = gives.may path (answer_for file)
+FindsFile gives path place (Err failure) =
+    IfFault (λ fault. (answer : FileAnswer) × gives.may path answer × (text_of path place (Some answer) ≡ Err (load_fault_view fault)) × IsReadFailure gives (load_fault_view fault)) failure
+
+-- that there is no file, where that may be and is the fault; else the fault
+abbrev pub IsMissingOr : Bool → LoadFault → Result (Option CheckedFile) (Failure LoadFault) → Type 0
+IsMissingOr may fault (Ok file) = (may ≡ true) × (fault.kind ≡ kinds.NotFound) × (file ≡ None)
+IsMissingOr may fault (Err failure) = (failure ≡ Fault fault) × (may ≡ true → fault.kind ≢ kinds.NotFound)
+
+-- it is known whether there is a file at a path
+pub record Sees (gives : FileAnswers) (old new : Files) (path : List ℕ) (there : Bool) : Type 0 where
+  pub grows : Grows gives old new
+  pub answer : FileAnswer
+  pub known : answer_at (answers_of new) path ≡ Some answer
+  pub is : is_missing (Some answer) ≡ not there
+
+-- the path at which a file is found, over any answers that have those of the files
+pub record Locates (gives : FileAnswers) (old new : Files) (usual name path : List ℕ) : Type 0 where
+  pub grows : Grows gives old new
+  pub found_is : (answer : List ℕ → Option FileAnswer) → Extends new answer → found gives.folders answer usual name ≡ path
+
+-- the first of some paths where there is a file, or else another, over any answers that have those of
+-- the files
+pub record FindsFirst (gives : FileAnswers) (old new : Files) (paths : List (List ℕ)) (other path : List ℕ) : Type 0 where
+  pub grows : Grows gives old new
+  pub first_is : (answer : List ℕ → Option FileAnswer) → Extends new answer → first_there answer paths other ≡ path
+
+-- the text of the file that is found at the first of some paths, or else at another
+abbrev pub text_of_first : List (List ℕ) → List ℕ → Option LocationView → (List ℕ → Option FileAnswer) → Result (List ℕ) Refusal
+text_of_first paths other place answer = text_of (first_there answer paths other) place (answer (first_there answer paths other))
+
+-- the text of the file that is found by its name and its usual path
+abbrev pub text_of_found : List (List ℕ) → List ℕ → List ℕ → Option LocationView → (List ℕ → Option FileAnswer) → Result (List ℕ) Refusal
+text_of_found folders usual name place answer = text_of_first (usual ∷ paths_in folders name) usual place answer
+
 -- the lines of a file can be added to a table that is being loaded
 pub record IsReady (gives : FileAnswers) (table : Expansion) (file : OpenFile) : Type 0 where
   pub given : AreGiven gives (answers_of table.files.entries)
@@ -112,14 +151,14 @@ pub record IsReady (gives : FileAnswers) (table : Expansion) (file : OpenFile) :
   pub spans : AreSpans table.files.entries table.spans.items
 
 -- what an include line of a file is replaced by, in a table that is being loaded
-abbrev pub lines_of_include : List ℕ → OpenFile → IncludeLine → Expansion → (List ℕ → Option FileAnswer) → Result Expanded Refusal
-lines_of_include root file include table answer =
-    follow file.depth_left answer root (chain_of file) (record { file = string_bytes file.path; line = include.line }) (string_bytes include.name) table.include_count
+abbrev pub lines_of_include : List (List ℕ) → List ℕ → OpenFile → IncludeLine → Expansion → (List ℕ → Option FileAnswer) → Result Expanded Refusal
+lines_of_include folders root file include table answer =
+    follow file.depth_left folders answer root (chain_of file) (record { file = string_bytes file.path; line = include.line }) (string_bytes include.name) table.include_count
 
 -- the lines of a file, each include line replaced
-abbrev pub lines_of_file : List ℕ → OpenFile → Expansion → (List ℕ → Option FileAnswer) → Result Expanded Refusal
-lines_of_file root file table answer =
-    expanded (follow file.depth_left answer root (chain_of file)) (lines_in (string_bytes file.path) (text_at table.files.entries file.index)) table.include_count
+abbrev pub lines_of_file : List (List ℕ) → List ℕ → OpenFile → Expansion → (List ℕ → Option FileAnswer) → Result Expanded Refusal
+lines_of_file folders root file table answer =
+    expanded (follow file.depth_left folders answer root (chain_of file)) (lines_in (string_bytes file.path) (text_at table.files.entries file.index)) table.include_count
 
 -- an include line leads to a file, and is replaced by its lines
 pub record Enters (gives : FileAnswers) (old new : Expansion) (root : List ℕ) (file : OpenFile) (include : IncludeLine) (inner : OpenFile) : Type 0 where
@@ -128,7 +167,7 @@ pub record Enters (gives : FileAnswers) (old new : Expansion) (root : List ℕ) 
   pub depth : inner.depth_left < file.depth_left
   pub opened : IsOpen new.files.entries inner
   pub follows : (answer : List ℕ → Option FileAnswer) → Extends new.files.entries answer
-      → lines_of_include root file include old answer ≡ lines_of_file root inner new answer
+      → lines_of_include gives.folders root file include old answer ≡ lines_of_file gives.folders root inner new answer
 
 -- lines, and others after them
 abbrev pub after : List LineView → Result Expanded Refusal → Result Expanded Refusal

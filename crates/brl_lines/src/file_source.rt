@@ -1,8 +1,9 @@
 //! A source over a file system.
-ghost use Rattle.std.specs.Prelude.{◌≡◌, ◌≢◌, ◌<◌, ◌≤◌, length, IfOk, IfErr, IfSome};
+ghost use Rattle.std.specs.Prelude.{◌≡◌, ◌≢◌, ◌<◌, ◌≤◌, length, IfOk, IfErr, IfSome, None};
 ghost use Rattle.brl_failure.specs.Failure.{IfFault};
 ghost use Rattle.brl_lines.specs.Answer.{most_file_bytes};
 
+use crate::map_source::slice_of;
 use crate::{MOST_FILE_BYTES, Source, SourceFault};
 use brl_failure::Failure;
 use std::alloc::{AllocError, Global};
@@ -10,20 +11,27 @@ use std::fs::File;
 use std::io::{ErrorKind, Read};
 use std::rt::Files;
 
-/// The files of a system. Nothing is known of what they hold.
+/// The files of a system, and the folders in which the files of tables are looked for too. Nothing is
+/// known of what they hold.
 #[derive(Drop)]
 pub struct FileSource<R> {
     pub system: R,
     pub faults: u64,
+    pub folders: Option<Vec<String>>,
 }
 
 impl<R: Files> FileSource<R> {
-    /// A source over the files of `system`, which has not failed yet.
+    /// A source over the files of `system`, which has not failed yet, and looks in no folders.
     pub fn new(system: R) -> Self
         ensures none_yet { result.faults ≡ 0 }
         ensures system { result.system ≡ system }
+        ensures folders { result.folders ≡ None }
     {
-        FileSource { system, faults: 0 }
+        FileSource {
+            system,
+            faults: 0,
+            folders: None,
+        }
     }
 }
 
@@ -71,7 +79,9 @@ fn read_file<R: Read>(alloc: Global, file: &mut R) -> Result<Vec<u8>, Failure<So
 }
 
 impl<R: Files> Source for FileSource<R> {
-    ghost gives = { λ _ _ _. Unit {0} };
+    ghost use Rattle.brl_lines.specs.InMemory.{folders_of};
+
+    ghost gives = { λ s. record { folders = folders_of s.folders; may = λ _ _. Unit {0} } };
 
     ghost faults = { λ s. s.faults };
 
@@ -87,6 +97,10 @@ impl<R: Files> Source for FileSource<R> {
             self.faults = self.faults.saturating_add(1);
         }
         outcome
+    }
+
+    fn folders(&self) -> &[String] {
+        slice_of(&self.folders)
     }
 
     fn failures(&self) -> u64 {

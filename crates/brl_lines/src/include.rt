@@ -1,6 +1,7 @@
 //! The file that an include line names.
-ghost use Rattle.std.specs.Prelude.{◌≡◌, IfOk, option_map, string_bytes};
-ghost use Rattle.brl_lines.specs.Includes.{folder_of, included as included_of, name_of};
+ghost use Rattle.std.specs.Prelude.{◌≡◌, IfOk, codes, nat_eq, option_map, string_bytes};
+ghost use Rattle.std.specs.List.{ends_with};
+ghost use Rattle.brl_lines.specs.Includes.{folder_of, included as included_of, name_of, path_in as path_of_name, slash_after as slash_between};
 ghost use Rattle.brl_lines.specs.Views.{line_view};
 
 use crate::line::Line;
@@ -36,6 +37,35 @@ pub fn folder(path: &str) -> &str
         end -= 1;
     }
     &path[..end]
+}
+
+/// Whether a path ends with a slash.
+fn ends_with_slash(path: &str) -> bool
+    ensures { result ≡ ends_with nat_eq path.now (codes "/") }
+{
+    path.ends_with("/")
+}
+
+/// What is between a folder and a name in it: a slash, unless the folder ends with one or is empty.
+fn slash_after(folder: &str) -> &'static str
+    ensures { result.now ≡ slash_between folder.now }
+{
+    if folder.is_empty() || ends_with_slash(folder) {
+        ""
+    } else {
+        "/"
+    }
+}
+
+/// The path of a name in a folder: with a slash between them, unless the folder ends with one or is
+/// empty. `AllocError` where an allocation failed.
+pub fn path_in(alloc: Global, folder: &str, name: &str) -> Result<String, AllocError>
+    ensures { IfOk result (λ path. string_bytes path ≡ path_of_name folder.now name.now) }
+{
+    let mut path = String::from_str(alloc, folder)?;
+    path.push_str(slash_after(folder))?;
+    path.push_str(name)?;
+    Ok(path)
 }
 
 /// The path of the file that a name includes, in the table whose root is at a path.

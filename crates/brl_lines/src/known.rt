@@ -1,15 +1,15 @@
 //! What is known of paths: the file there, or that there is none.
 ghost use Rattle.std.specs.Prelude.{◌≡◌, IfErr, option_map, string_bytes};
 ghost use Rattle.std.specs.Option.{option_copied};
-ghost use Rattle.brl_lines.specs.Answer.{Unchanged};
-ghost use Rattle.brl_lines.specs.Gathered.{FindsOut, IsMissingOr, IsUnread, answer_of_known, known_answer, known_answers};
-ghost use Rattle.brl_lines.specs.Gathering.{held, is_missing as is_missing_by};
+ghost use Rattle.brl_lines.specs.Answer.{Unchanged, is_missing as is_missing_by};
+ghost use Rattle.brl_lines.specs.Gathered.{FindsOut, IsUnread, answer_of_known, known_answer, known_answers};
+ghost use Rattle.brl_lines.specs.Gathering.{held};
 ghost use Rattle.brl_lines.specs.Outcome.{AreGiven, CountsFailure};
 ghost use Rattle.brl_lines.specs.Views.{location_ref_view};
 
-use crate::fault::{LoadFault, LoadFaultKind, LocationRef};
+use crate::fault::{LoadFault, LocationRef};
 use crate::known_file::{KnownFile, known_file};
-use crate::read::read_file;
+use crate::read::find_file;
 use crate::source::Source;
 use brl_failure::Failure;
 use indexmap::IndexMap;
@@ -63,20 +63,9 @@ fn find_out<S: Source>(
     ensures count { CountsFailure (S.faults source.old) (S.faults source.new) result }
     ensures same { Unchanged (S.gives source.old) (S.gives source.new) }
 {
-    match read_file(alloc, source, path, place) {
-        Ok(file) => Ok(Known::File(known_file(alloc, file)?)),
-        Err(Failure::Fault(fault)) => missing_or(fault, place.is_some()),
-        Err(Failure::Memory) => Err(Failure::Memory),
-    }
-}
-
-/// That there is no file, where that may be and is the fault; else the fault.
-fn missing_or(fault: LoadFault, may_be_missing: bool) -> Result<Known, Failure<LoadFault>>
-    ensures { IsMissingOr may_be_missing fault result }
-{
-    match fault.kind {
-        LoadFaultKind::NotFound if may_be_missing => Ok(Known::Missing),
-        _ => Err(Failure::Fault(fault)),
+    match find_file(alloc, source, path, place, place.is_some())? {
+        Some(file) => Ok(Known::File(known_file(alloc, file)?)),
+        None => Ok(Known::Missing),
     }
 }
 

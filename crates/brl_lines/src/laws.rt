@@ -4,7 +4,7 @@ ghost use Rattle.std.specs.Prelude.{◌≡◌, ℕ, IfErr, IfOk, List, Result, S
 ghost use Rattle.brl_failure.specs.Failure.{GivesAs};
 ghost use Rattle.brl_failure.specs.declared.failure.Failure.{Failure as FailureValue};
 ghost use Rattle.brl_lines.specs.Answer.{IsDeterministic};
-ghost use Rattle.brl_lines.specs.InMemory.{answer_in};
+ghost use Rattle.brl_lines.specs.InMemory.{answer_in, folders_of};
 ghost use Rattle.brl_lines.specs.Lines.{lines_over};
 ghost use Rattle.brl_lines.specs.Outcome.{AreLinesOf, IsLoadFault};
 ghost use Rattle.brl_lines.specs.Tokens.{LineView};
@@ -31,5 +31,5 @@ pub fn files_in_memory_law(source: &MapSource)
     ensures told { (root : List ℕ) (outcome : Result (List LineView) (FailureValue LoadFaultValue)) →
         IfOk outcome (AreLinesOf (⟦<MapSource as Source>⟧.gives source.now) root) →
         IfErr outcome (IsLoadFault (⟦<MapSource as Source>⟧.gives source.now) root) →
-        GivesAs (λ lines. lines) load_fault_view (lines_over (λ path. Some (answer_in source.now path)) root) outcome }
+        GivesAs (λ lines. lines) load_fault_view (lines_over (folders_of source.now.folders) (λ path. Some (answer_in source.now path)) root) outcome }
 {}

@@ -5,13 +5,14 @@ ghost use Rattle.brl_lines.specs.Outcome.{AreLinesOfFiles, CountsFailure, IsLine
 ghost use Rattle.brl_lines.specs.Slices.{IsInOrder};
 ghost use Rattle.brl_lines.specs.Views.{line_view};
 
-use crate::checked_file::CheckedFile;
 use crate::cut::line_between;
 use crate::expand::{Expansion, expand};
 use crate::fault::LoadFault;
+use crate::finding::locate;
 use crate::line::Line;
 use crate::open_file::OpenFile;
-use crate::read::file_at;
+use crate::read::{ReadFiles, file_at};
+use crate::row::text_of_file;
 use crate::source::Source;
 use crate::span::LineSpan;
 use brl_failure::Failure;
@@ -22,11 +23,11 @@ use std::marker::Model;
 /// How deep below the root a file may be.
 const MOST_DEPTH: u32 = 15;
 
-/// A table whose files were read and found good. A contract sees its lines, and the paths of its
-/// files.
+/// A table whose files were read and found good. A contract sees its lines, and the paths that were
+/// read.
 #[derive(Drop)]
 pub struct Loaded {
-    files: IndexMap<String, CheckedFile>,
+    files: ReadFiles,
     spans: Vec<LineSpan>,
 }
 
@@ -53,7 +54,7 @@ impl Loaded {
         let mut lines = Vec::new(alloc);
         for span in &self.spans {
             let (path, file) = self.files.get_index(span.file).unwrap();
-            let text = file.text();
+            let text = text_of_file(file);
             let path = path.as_str();
             if let Some(line) = line_between(alloc, path, span.line, text, span.from, span.to)? {
                 lines.push(line)?;
@@ -62,8 +63,8 @@ impl Loaded {
         Ok(lines)
     }
 
-    /// The paths of the files, each once, in the order in which they were read: the root's first.
-    /// `AllocError` where an allocation failed.
+    /// The paths that were read, each once, in that order: those of its files, and those where a file
+    /// was looked for in vain that was found in a folder. `AllocError` where an allocation failed.
     pub fn paths(&self, alloc: Global) -> Result<Vec<&str>, AllocError>
         ensures { IfOk result (λ v. map (λ path. path.now) v.items ≡ self.now.paths) }
     {
@@ -80,7 +81,10 @@ impl Loaded {
 /// lines lead to them.
 ///
 /// A line `include NAME` is replaced by the lines of the file at NAME where that begins with `/`,
-/// else of the file NAME in the root's folder. The first fault decides. An include line is refused,
+/// else of the file NAME in the root's folder. Where there is no file, it is looked for by its name in
+/// the folders of the source, in their order, unless the name begins with `/` or the file would be too
+/// deep; so is the root, whose name is its path. A file that is found is named by the path where it is.
+/// The first fault decides. An include line is refused,
 /// in this order, as `TooManyIncludes` where 1,024 were followed before, as `Cycle` where its file
 /// leads to itself, and as `TooDeep` where its file would be deeper than 16, the root being 1; the
 /// file then, as the root, as `NotFound`, `ReadFailed` or `TooLarge` where the source says so, as
@@ -103,14 +107,16 @@ pub fn load<S: Source>(
         spans: Vec::new(alloc),
         include_count: 0,
     };
-    let index = file_at(alloc, source, &mut table.files, root, None)?;
+    let usual = String::from_str(alloc, root)?;
+    let path = locate(alloc, source, &mut table.files, usual, root, None)?;
+    let index = file_at(alloc, source, &mut table.files, path.as_str(), None)?;
     let file = OpenFile {
         index,
-        path: String::from_str(alloc, root)?,
+        path,
         includers: Vec::new(alloc),
         depth_left: MOST_DEPTH,
     };
-    expand(alloc, source, &mut table, root, &file)?;
+    expand(alloc, source, &mut table, file.path.as_str(), &file)?;
     Ok(Loaded {
         files: table.files,
         spans: table.spans,

@@ -1,10 +1,11 @@
 //! Reading the files of a table: each path once.
-ghost use Rattle.std.specs.Prelude.{◌≡◌, IfErr, IfOk, option_map};
+ghost use Rattle.std.specs.Prelude.{◌≡◌, ◌≢◌, IfErr, IfOk, option_map, true};
+ghost use Rattle.brl_failure.specs.Failure.{IfFault};
 ghost use Rattle.brl_lines.specs.Answer.{Unchanged};
 ghost use Rattle.brl_lines.specs.Files.{answers_of};
 ghost use Rattle.brl_lines.specs.Lines.{text_of};
 ghost use Rattle.brl_lines.specs.Outcome.{AreGiven, CountsFailure};
-ghost use Rattle.brl_lines.specs.Steps.{Fails, Finds, Reads};
+ghost use Rattle.brl_lines.specs.Steps.{Fails, Finds, FindsFile, IsMissingOr, Reads, Sees};
 ghost use Rattle.brl_lines.specs.Views.{location_ref_view};
 
 use crate::checked_file::{CheckedFile, checked};
@@ -13,6 +14,9 @@ use crate::source::{Source, SourceFault};
 use brl_failure::Failure;
 use indexmap::IndexMap;
 use std::alloc::Global;
+
+/// The paths that were read, each with its file; `None` where there is no file.
+pub(crate) type ReadFiles = IndexMap<String, Option<CheckedFile>>;
 
 /// Reads a file, and checks it whole. The place is the include line that names it.
 pub(crate) fn read_file<S: Source>(
@@ -35,11 +39,69 @@ pub(crate) fn read_file<S: Source>(
     Err(refusal(alloc, kind, path, place))
 }
 
+/// That there is no file, where that may be and is the fault; else the fault.
+fn missing_or(
+    fault: LoadFault,
+    may_be_missing: bool,
+) -> Result<Option<CheckedFile>, Failure<LoadFault>>
+    ensures { IsMissingOr may_be_missing fault result }
+{
+    match fault.kind {
+        LoadFaultKind::NotFound if may_be_missing => Ok(None),
+        _ => Err(Failure::Fault(fault)),
+    }
+}
+
+/// What is at a path: a file, which is read and checked whole, or none, where that may be. The place is
+/// the include line that names it.
+pub(crate) fn find_file<S: Source>(
+    alloc: Global,
+    source: &mut S,
+    path: &str,
+    place: Option<LocationRef<'_>>,
+    may_be_missing: bool,
+) -> Result<Option<CheckedFile>, Failure<LoadFault>>
+    ensures found { FindsFile (S.gives source.old) path.now (option_map location_ref_view place.entry) result }
+    ensures missing { may_be_missing ≡ true → IfErr result (IfFault (λ fault. fault.kind ≢ LoadFaultKind.NotFound)) }
+    ensures count { CountsFailure (S.faults source.old) (S.faults source.new) result }
+    ensures same { Unchanged (S.gives source.old) (S.gives source.new) }
+{
+    match read_file(alloc, source, path, place) {
+        Ok(file) => Ok(Some(file)),
+        Err(Failure::Fault(fault)) => missing_or(fault, may_be_missing),
+        Err(Failure::Memory) => Err(Failure::Memory),
+    }
+}
+
+/// Whether there is a file at a path, which is read where it wasn't read before.
+pub(crate) fn look_at<S: Source>(
+    alloc: Global,
+    source: &mut S,
+    files: &mut ReadFiles,
+    path: &str,
+    place: Option<LocationRef<'_>>,
+) -> Result<bool, Failure<LoadFault>>
+    requires { AreGiven (S.gives source.old) (answers_of files.old.entries) }
+    ensures ok { IfOk result (Sees (S.gives source.old) files.old.entries files.new.entries path.now) }
+    ensures err { IfErr result (Fails (S.gives source.old) files.old.entries (λ answer. text_of path.now (option_map location_ref_view place.entry) (answer path.now))) }
+    ensures there { IfErr result (IfFault (λ fault. fault.kind ≢ LoadFaultKind.NotFound)) }
+    ensures count { CountsFailure (S.faults source.old) (S.faults source.new) result }
+    ensures same { Unchanged (S.gives source.old) (S.gives source.new) }
+{
+    if let Some(file) = files.get(path) {
+        return Ok(file.is_some());
+    }
+    let file = find_file(alloc, source, path, place, true)?;
+    let there = file.is_some();
+    files.insert(String::from_str(alloc, path)?, file)?;
+    Ok(there)
+}
+
 /// The index of the file at a path, which is read where it wasn't read before.
 pub(crate) fn file_at<S: Source>(
     alloc: Global,
     source: &mut S,
-    files: &mut IndexMap<String, CheckedFile>,
+    files: &mut ReadFiles,
     path: &str,
     place: Option<LocationRef<'_>>,
 ) -> Result<usize, Failure<LoadFault>>
@@ -49,11 +111,13 @@ pub(crate) fn file_at<S: Source>(
     ensures count { CountsFailure (S.faults source.old) (S.faults source.new) result }
     ensures same { Unchanged (S.gives source.old) (S.gives source.new) }
 {
-    if let Some((index, _, _)) = files.get_full(path) {
-        return Ok(index);
+    match files.get_full(path) {
+        Some((index, _, Some(_))) => return Ok(index),
+        Some((_, _, None)) => return Err(refusal(alloc, LoadFaultKind::NotFound, path, place)),
+        None => {}
     }
     let file = read_file(alloc, source, path, place)?;
     let index = files.len();
-    files.insert(String::from_str(alloc, path)?, file)?;
+    files.insert(String::from_str(alloc, path)?, Some(file))?;
     Ok(index)
 }

@@ -1,7 +1,8 @@
 //! The rows of a file, one at a time, and what each of them is.
-ghost use Rattle.std.specs.Prelude.{◌≤◌, IfOk, length, map};
+ghost use Rattle.std.specs.Prelude.{◌≡◌, ◌≤◌, IfOk, length, map};
 ghost use Rattle.std.specs.Str.{IsCharBoundary};
-ghost use Rattle.brl_lines.specs.Files.{text_at};
+ghost use Rattle.brl_lines.specs.Answer.{most_file_bytes};
+ghost use Rattle.brl_lines.specs.Files.{text_at, text_for};
 ghost use Rattle.brl_lines.specs.Rows.{piece};
 ghost use Rattle.brl_lines.specs.Steps.{IsKindOf, IsOpen, IsRowAt};
 ghost use Rattle.brl_lines.specs.Tokens.{line_of, token_of, tokens as tokens_of};
@@ -10,8 +11,8 @@ use crate::checked_file::CheckedFile;
 use crate::cut::{line_between, row_at};
 use crate::include::{IncludeLine, include_name};
 use crate::open_file::OpenFile;
+use crate::read::ReadFiles;
 use crate::span::LineSpan;
-use indexmap::IndexMap;
 use std::alloc::{AllocError, Global};
 
 /// What a row is.
@@ -31,6 +32,17 @@ pub(crate) struct FileRow {
     pub span: LineSpan,
     pub kind: RowKind,
     pub next: usize,
+}
+
+/// The text of a file, after a byte order mark; nothing where there is no file.
+pub(crate) fn text_of_file(file: &Option<CheckedFile>) -> &str
+    ensures text { result.now ≡ text_for file.now }
+    ensures most { length result.now ≤ most_file_bytes }
+{
+    match file {
+        Some(file) => file.text(),
+        None => "",
+    }
 }
 
 /// What the row between two places of a file's text is.
@@ -61,7 +73,7 @@ fn row_kind(
 /// The row of a file that starts at a place of its text, if there is one. The row has this number.
 pub(crate) fn row_from(
     alloc: Global,
-    files: &IndexMap<String, CheckedFile>,
+    files: &ReadFiles,
     file: &OpenFile,
     number: u32,
     from: usize,
@@ -71,7 +83,7 @@ pub(crate) fn row_from(
     requires boundary { IsCharBoundary (text_at files.now.entries file.now.index) from }
     ensures { IfOk result (IsRowAt files.now.entries file.now number from) }
 {
-    let text = files[file.index].text();
+    let text = text_of_file(&files[file.index]);
     if from == text.len() {
         return Ok(None);
     }

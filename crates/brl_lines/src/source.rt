@@ -23,10 +23,10 @@ pub enum SourceFault {
 
 /// Gives the bytes of files by their paths.
 pub trait Source {
-    ghost use Rattle.std.specs.Prelude.{◌≡◌, ℕ};
+    ghost use Rattle.std.specs.Prelude.{◌≡◌, ℕ, map, string_bytes};
     ghost use Rattle.brl_lines.specs.Answer.{Unchanged, IsAnswer, FileAnswers, failures_after, read_failed};
 
-    // what it may answer for a path, which reading doesn't change
+    // the folders in which it looks, and what it may answer for a path; reading doesn't change them
     ghost gives: { Self → FileAnswers };
 
     // how often it has failed
@@ -35,9 +35,13 @@ pub trait Source {
     /// All bytes of the file at `path`. `NotFound` where there is none, `TooLarge` where it has
     /// more than `MOST_FILE_BYTES`, and `Failed` where it could not be read.
     fn read(&mut self, alloc: Global, path: &str) -> Result<Vec<u8>, Failure<SourceFault>>
-        ensures answer { IsAnswer (gives self.old path.now) result }
+        ensures answer { IsAnswer ((gives self.old).may path.now) result }
         ensures same { Unchanged (gives self.old) (gives self.new) }
         ensures count { faults self.new ≡ failures_after (faults self.old) (read_failed result) };
+
+    /// The folders in which a file of a table is looked for that isn't at its usual path, in order.
+    fn folders(&self) -> &[String]
+        ensures { map string_bytes result.now ≡ (gives self.now).folders };
 
     /// How often `read` answered `Failed`. At `u64::MAX` it stays.
     fn failures(&self) -> u64

@@ -11,7 +11,9 @@ pub struct Refusing {
 }
 
 impl Source for Refusing {
-    ghost gives = { λ _ _ _. Unit {0} };
+    ghost use Rattle.std.specs.Prelude.{[]};
+
+    ghost gives = { λ _. record { folders = []; may = λ _ _. Unit {0} } };
 
     ghost faults = { λ s. s.failures };
 
@@ -20,6 +22,10 @@ impl Source for Refusing {
             self.failures = self.failures.saturating_add(1);
         }
         Err(self.refusal)
+    }
+
+    fn folders(&self) -> &[String] {
+        &[]
     }
 
     fn failures(&self) -> u64 {

@@ -24,26 +24,26 @@ use Rattle.brl_answers.proofs.Moved.{fault_moved, table_moved}
 
 -- ---- What one source gives, another may give
 
-module _ (from to : FileAnswers) (moves : (p : List ℕ) (a : FileAnswer) → from p a → to p a) where
+module _ (from to : FileAnswers) (folders : to.folders ≡ from.folders) (moves : (p : List ℕ) (a : FileAnswer) → from.may p a → to.may p a) where
   refused_moved : (left_out path bytes : List ℕ) (fault : JudgeFault) → IsRefusedByWithout left_out from path bytes fault → IsRefusedByWithout left_out to path bytes fault
-  refused_moved left_out path bytes (judge.NoTable fault) h = fault_moved from to moves path fault h
-  refused_moved left_out path bytes (judge.NotDefined fault) h = (h.0, table_moved from to moves path h.0 h.1, h.2, h.3)
-  refused_moved left_out path bytes (judge.Cert fault) h = (h.0, table_moved from to moves path h.0 h.1, h.2, h.3)
-  refused_moved left_out path bytes judge.OldVersion h = (h.0, table_moved from to moves path h.0 h.1, h.2, h.3)
-  refused_moved left_out path bytes (judge.Wide fault) h = (h.0, table_moved from to moves path h.0 h.1, h.2, h.3)
-  refused_moved left_out path bytes (judge.Refused fault) h = (h.0, table_moved from to moves path h.0 h.1, h.2, h.3)
+  refused_moved left_out path bytes (judge.NoTable fault) h = fault_moved from to folders moves path fault h
+  refused_moved left_out path bytes (judge.NotDefined fault) h = (h.0, table_moved from to folders moves path h.0 h.1, h.2, h.3)
+  refused_moved left_out path bytes (judge.Cert fault) h = (h.0, table_moved from to folders moves path h.0 h.1, h.2, h.3)
+  refused_moved left_out path bytes judge.OldVersion h = (h.0, table_moved from to folders moves path h.0 h.1, h.2, h.3)
+  refused_moved left_out path bytes (judge.Wide fault) h = (h.0, table_moved from to folders moves path h.0 h.1, h.2, h.3)
+  refused_moved left_out path bytes (judge.Refused fault) h = (h.0, table_moved from to folders moves path h.0 h.1, h.2, h.3)
 
   pub failed_moved : (left_out path bytes : List ℕ) (failure : Failure JudgeFault) → IfFault (IsRefusedByWithout left_out from path bytes) failure → IfFault (IsRefusedByWithout left_out to path bytes) failure
   failed_moved left_out path bytes failure h = if_fault-weaker (IsRefusedByWithout left_out from path bytes) (IsRefusedByWithout left_out to path bytes) failure (refused_moved left_out path bytes) h
 
 -- ---- The judge's outcome
 
-module _ (left_out : List ℕ) (gives after : FileAnswers) (same : Unchanged gives after) (path cert bytes : List ℕ) (holds : gives cert (Holds bytes)) where
-  back : (p : List ℕ) (a : FileAnswer) → after p a → gives p a
-  back p a = (same p a).0
+module _ (left_out : List ℕ) (gives after : FileAnswers) (same : Unchanged gives after) (path cert bytes : List ℕ) (holds : gives.may cert (Holds bytes)) where
+  back : (p : List ℕ) (a : FileAnswer) → after.may p a → gives.may p a
+  back p a = (same.1 p a).0
 
-  forth : (p : List ℕ) (a : FileAnswer) → gives p a → after p a
-  forth p a = (same p a).1
+  forth : (p : List ℕ) (a : FileAnswer) → gives.may p a → after.may p a
+  forth p a = (same.1 p a).1
 
   -- an answer, unless memory ran out
   unless : (is : Answer → Type 0) (result : Result Answer RunFault) → UnlessMemory is result → ((answer : Answer) → is answer → Checks left_out gives path cert (Ok answer)) → Checks left_out gives path cert result
@@ -71,8 +71,8 @@ module _ (left_out : List ℕ) (gives after : FileAnswers) (same : Unchanged giv
       → IfErr outcome (IfFault (IsRefusedByWithout left_out after path bytes))
       → (result : Result Answer RunFault) → Renders left_out outcome result → Checks left_out gives path cert result
   judged (Ok accepted) is refused result told =
-      unless (IsAcceptance left_out accepted) result told (λ answer says. (bytes, holds, inl (is.0, table_moved after gives back path is.0 is.1, is.2, (accepted, is.3, says))))
-  judged (Err failure) is refused result told = refused_as failure (failed_moved after gives back left_out path bytes failure refused) result told
+      unless (IsAcceptance left_out accepted) result told (λ answer says. (bytes, holds, inl (is.0, table_moved after gives (sym same.0) back path is.0 is.1, is.2, (accepted, is.3, says))))
+  judged (Err failure) is refused result told = refused_as failure (failed_moved after gives (sym same.0) back left_out path bytes failure refused) result told
 
   -- a good certificate is accepted, unless memory ran out
   pub accepted_good : (outcome : Result Accepted (Failure JudgeFault))
@@ -80,7 +80,7 @@ module _ (left_out : List ℕ) (gives after : FileAnswers) (same : Unchanged giv
       → (result : Result Answer RunFault) → Renders left_out outcome result → AcceptsGood left_out gives path cert result
   accepted_good outcome decides result told one certificate there short t table accepted deserved =
       let are : certificate ≡ bytes = same_bytes (one cert (Holds certificate) (Holds bytes) there holds) in
-      let decided = decides (λ p a b h k. one p a b (back p a h) (back p b k)) t (table_moved gives after forth path t table) accepted (subst (λ (b : List ℕ). IsAcceptedWithout left_out t b accepted) are deserved) in
+      let decided = decides (λ p a b h k. one p a b (back p a h) (back p b k)) t (table_moved gives after same.0 forth path t table) accepted (subst (λ (b : List ℕ). IsAcceptedWithout left_out t b accepted) are deserved) in
       elim decided [
         | inl ok ↦ subst (λ (o : Result Accepted (Failure JudgeFault)). Renders left_out o result) ok told
         | inr err ↦ subst (UnlessMemory (IsAcceptance left_out accepted)) (sym (subst (λ (o : Result Accepted (Failure JudgeFault)). Renders left_out o result) err told)) tt
@@ -94,13 +94,13 @@ pub has_bytes : (left_out : List ℕ) (gives : FileAnswers) (path cert : List �
 has_bytes left_out gives path cert fault h one bytes there short t table accepted deserved =
     subst (λ (f : RunFault). UnlessMemory (IsAcceptance left_out accepted) (Err f)) (sym (by_fault fault h)) tt
   where
-    other : (a : FileAnswer) → gives cert a → Holds bytes ≡ a
+    other : (a : FileAnswer) → gives.may cert a → Holds bytes ≡ a
     other a given = one cert (Holds bytes) a there given
 
     too_long : {x : List ℕ} → Holds bytes ≡ Holds x → most_file_bytes < length x → ⊥
     too_long {x} e long = let are : bytes ≡ x = cc in let here = subst (λ (b : List ℕ). most_file_bytes < length b) (sym are) long in absurd (omega (arith, here, short))
 
-    lacks : (kind : LoadFaultKind) → LacksBytes (gives cert) kind → ⊥
+    lacks : (kind : LoadFaultKind) → LacksBytes (gives.may cert) kind → ⊥
     lacks kinds.NotFound k = let e = other Missing k in cc
     lacks kinds.ReadFailed k = let e = other Unreadable k in cc
     lacks kinds.TooLarge k = elim k [

@@ -6,5 +6,6 @@ pub mod SurveyLemmas
 pub mod CheckLemmas
 pub mod NoticesLemmas
 pub mod OfFiles
+pub mod RunLemmas
 pub mod SearchLemmas
 pub mod Answered

@@ -12,6 +12,7 @@ use Rattle.brl_lines.specs.declared.operand.CharsFault.{CharsFault}
 use Rattle.brl_table.specs.Files.{IsTableOf, IsTableOfFiles}
 use Rattle.brl_search.specs.Searched.{certificate_of}
 use Rattle.brl_lines.specs.Tokens.{LineView}
+use Rattle.brl_lines.specs.Lines.{lines_of as lines_of_answers}
 use Rattle.brl_tool.proofs.OfFiles.{lines_of, of_files}
 use Rattle.brl_tool.specs.ByLines.{shown_lines}
 use Rattle.brl_cli.specs.declared.command.TextOptions.{TextOptions}
@@ -58,12 +59,12 @@ never_done Memory e = cc
 never_done (Wide fault) e = cc
 never_done fault e = cc
 
-never_refuted : (fault : RunFault) → status_of fault ≡ Refuted → ⊥
+pub never_refuted : (fault : RunFault) → status_of fault ≡ Refuted → ⊥
 never_refuted Memory e = cc
 never_refuted (Wide fault) e = cc
 never_refuted fault e = cc
 
-unrefuted : (loaded : Bool) → cond loaded Done Faulty ≡ Refuted → ⊥
+pub unrefuted : (loaded : Bool) → cond loaded Done Faulty ≡ Refuted → ⊥
 unrefuted true e = cc
 unrefuted false e = cc
 
@@ -138,12 +139,12 @@ module _ (before after : World) (same_file : MayBeSame) where
   answers_stay : (out : List ℕ) → OthersStay before.gives after.gives out → (answers : Given) → All (λ one. one ≢ out) (map (λ entry. entry.0) answers) → AreGiven before.gives answers → AreGiven after.gives answers
   answers_stay out others [] apart given = tt
   answers_stay out others (entry ∷ answers) apart given =
-      ((others entry.0 entry.1 (apart 0 [] (omega arith))).1 given.0, answers_stay out others answers (λ k d l. apart (suc k) d (omega arith)) given.1)
+      ((others.1 entry.0 entry.1 (apart 0 [] (omega arith))).1 given.0, answers_stay out others answers (λ k d l. apart (suc k) d (omega arith)) given.1)
 
   -- a table stays where a file is written that is none of its files
   table_stays : (path out : List ℕ) (paths : List (List ℕ)) (t : TableView) → IsTableOfFiles before.gives path paths t → All (λ one. one ≢ out) paths → OthersStay before.gives after.gives out → IsTableOf after.gives path t
   table_stays path out paths t (lines, (answers, given, are, lines_are), passes, is) apart others =
-      (lines, (answers, answers_stay out others answers (subst (All (λ one. one ≢ out)) (sym are) apart) given, lines_are), passes, is)
+      (lines, (answers, answers_stay out others answers (subst (All (λ one. one ≢ out)) (sym are) apart) given, ap (λ fs. lines_of_answers fs answers path) others.0 ∙ lines_are), passes, is)
 
   -- ---- What an answer means that was written whole
 

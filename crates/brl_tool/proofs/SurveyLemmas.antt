@@ -43,8 +43,8 @@ status-step false true = refl
 status-step false false = refl
 
 module _ (brief : Bool) (gives now : FileAnswers) (same : Unchanged gives now) (several : Bool) (paths : List (List ℕ)) (text : List ℕ) (status : Status) (so_far : IsSoFar brief gives several paths text status) (path : List ℕ) where
-  back : (p : List ℕ) (a : FileAnswer) → now p a → gives p a
-  back p a = (same p a).0
+  back : (p : List ℕ) (a : FileAnswer) → now.may p a → gives.may p a
+  back p a = (same.1 p a).0
 
   one-more : (report : Option (List ℕ)) (after : List ℕ) (later : Status) → IsPart brief gives (record { path = path; report = report }) → after ≡ text ++ text_of_part several (record { path = path; report = report })
       → later ≡ cond (is_some report) status Faulty → IsSoFar brief gives several (paths ++ path ∷ []) after later
@@ -62,8 +62,8 @@ module _ (brief : Bool) (gives now : FileAnswers) (same : Unchanged gives now) (
 
   -- a table that was loaded
   pub with-report : (report after : List ℕ) → IsReportAt brief now path report → after ≡ text ++ part_text several path report → IsSoFar brief gives several (paths ++ path ∷ []) after status
-  with-report report after is added = one-more (Some report) after status (is.0, is.1, is.2, without_moved now gives back path is.0 is.1 is.2 is.3, is.4) added refl
+  with-report report after is added = one-more (Some report) after status (is.0, is.1, is.2, without_moved now gives (sym same.0) back path is.0 is.1 is.2 is.3, is.4) added refl
 
   -- a table that can't be loaded
   pub without-report : (fault : LoadFault) (later : Status) → IsUnloaded now path fault → later ≡ Faulty → IsSoFar brief gives several (paths ++ path ∷ []) text later
-  without-report fault later is turned = one-more None text later (fault, unloaded_moved now gives back path fault is) (sym (append-nil text)) turned
+  without-report fault later is turned = one-more None text later (fault, unloaded_moved now gives (sym same.0) back path fault is) (sym (append-nil text)) turned

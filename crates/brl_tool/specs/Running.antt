@@ -1,7 +1,7 @@
 -- What a run of the program comes to. The project's own choice. `same` says which paths may name one
 -- file, `input` what is left of the input where that is known.
 use Rattle.std.specs.Prelude.{ℕ, ◌≡◌, ◌≢◌, ◌<◌, ◌==◌, ◌⊎◌, Bool, if◌then◌else◌, length, List, [], ◌++◌, false, map, Option, Result, Ok, Err, String, codes, string_bytes}
-use Rattle.std.specs.Global.{Global}
+use Rattle.std.specs.Global.{Global, Vec}
 use Rattle.std.specs.Option.{option_copied}
 use Rattle.brl_accept.specs.Judging.{IsAcceptedWithout, counted}
 use Rattle.brl_cert.specs.Reading.{spelling}
@@ -48,6 +48,7 @@ use Rattle.brl_cli.specs.declared.command.NotATask.{NotATask}
 use Rattle.brl_cli.specs.declared.command.Question.{Question}
 use Rattle.brl_cli.specs.declared.command.Question.TheVariants as question
 use Rattle.brl_cli.specs.declared.command.Task.{Task}
+use Rattle.brl_cli.specs.declared.command.Work.{Work}
 use Rattle.brl_cli.specs.declared.command.Task.TheVariants as task
 use Rattle.brl_without.specs.Tables.{IsClashWithout, IsUnambiguousWithout}
 
@@ -209,11 +210,23 @@ Replies reply before after status =
     (¬ IsUseFault reply × IsDelivered IsHelp before after status)
     ⊎ (IsUseFault reply × KeepsFiles before after × PrintsNothing before after × (status ≡ Faulty))
 
--- what a run did: the task that its words ask for, or it answered words that ask for none
-abbrev pub Runs : MayBeSame → Option (List ℕ) → World → World → ℕ → Type 0
-Runs same input before after code =
+-- the world before a task, where the files of tables are looked for in some folders
+abbrev pub Looked : Type 1
+Looked = Vec (String Global) → World
+
+-- what a run did: the task that its words ask for, where the files of tables are looked for in the
+-- folders of the words, or it answered words that ask for none
+abbrev pub Runs : MayBeSame → Option (List ℕ) → Looked → World → World → ℕ → Type 0
+Runs same input looked before after code =
     (status : Status) × (code ≡ code_of status)
-    × (((asked : Task) × Performs asked same input before after status) ⊎ ((reply : NotATask) × Replies reply before after status))
+    × (((work : Work) × Performs work.task same input (looked work.folders) after status) ⊎ ((reply : NotATask) × Replies reply before after status))
+
+-- what it means that a run ended with status 1: for some folders in which the files of tables were
+-- looked for, the report of a clash, a refusal, a list of clashes or one of unused rules was written
+abbrev pub ReportsOne : Looked → World → Type 0
+ReportsOne looked after =
+    (folders : Vec (String Global)) × (ReportsClash (looked folders) after ⊎ ReportsRefusal (looked folders) after
+    ⊎ ReportsClashes (looked folders) after ⊎ ReportsUnused (looked folders) after)
 
 -- 0, 1, 2 or 3
 abbrev pub IsStatus : ℕ → Type 0

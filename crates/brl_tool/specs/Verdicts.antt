@@ -44,7 +44,7 @@ LacksBytes gives kind = ⊥
 -- the fault is of the certificate's file: it names its path and no line
 abbrev pub IsFaultOfFile : FileAnswers → List ℕ → RunFault → Type 0
 IsFaultOfFile gives path Memory = Unit {0}
-IsFaultOfFile gives path (Load fault) = (string_bytes fault.path ≡ path) × (fault.place ≡ None) × LacksBytes (gives path) fault.kind
+IsFaultOfFile gives path (Load fault) = (string_bytes fault.path ≡ path) × (fault.place ≡ None) × LacksBytes (gives.may path) fault.kind
 IsFaultOfFile gives path fault = ⊥
 
 -- the line of an acceptance
@@ -85,9 +85,9 @@ IsFaultOfTable left_out gives path bytes fault = HasNoTable gives path fault
 -- the certificate in the file at one path was judged for the table of the file at another, without
 -- the characters that are left out
 abbrev pub Checks : List ℕ → FileAnswers → List ℕ → List ℕ → Result Answer RunFault → Type 0
-Checks left_out gives path cert (Ok answer) = (bytes : List ℕ) × gives cert (Holds bytes) × IsJudgement left_out gives path bytes answer
+Checks left_out gives path cert (Ok answer) = (bytes : List ℕ) × gives.may cert (Holds bytes) × IsJudgement left_out gives path bytes answer
 Checks left_out gives path cert (Err fault) =
-    IsFaultOfFile gives cert fault ⊎ ((bytes : List ℕ) × gives cert (Holds bytes) × IsFaultOfTable left_out gives path bytes fault)
+    IsFaultOfFile gives cert fault ⊎ ((bytes : List ℕ) × gives.may cert (Holds bytes) × IsFaultOfTable left_out gives path bytes fault)
 
 -- what is answered for each outcome of the judge
 abbrev pub Renders : List ℕ → Result Accepted (Failure JudgeFault) → Result Answer RunFault → Type 0
@@ -102,7 +102,7 @@ Renders left_out (Err failures.Memory) outcome = outcome ≡ Err Memory
 -- bytes that deserve acceptance for it, they are accepted, unless memory runs out.
 abbrev pub AcceptsGood : List ℕ → FileAnswers → List ℕ → List ℕ → Result Answer RunFault → Type 0
 AcceptsGood left_out gives path cert outcome =
-    IsDeterministic gives → (bytes : List ℕ) → gives cert (Holds bytes) → length bytes ≤ most_file_bytes
+    IsDeterministic gives → (bytes : List ℕ) → gives.may cert (Holds bytes) → length bytes ≤ most_file_bytes
     → (t : TableView) → IsTableOf gives path t → (accepted : Accepted) → IsAcceptedWithout left_out t bytes accepted → UnlessMemory (IsAcceptance left_out accepted) outcome
 
 -- the certificate was judged, and accepted where it deserves that

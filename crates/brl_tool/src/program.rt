@@ -1,8 +1,8 @@
 //! The program over any files and streams.
-ghost use Rattle.std.specs.Prelude.{◌≡◌, ◌≢◌, ◌⊎◌};
-ghost use Rattle.brl_lines.specs.Answer.{Unchanged};
+ghost use Rattle.std.specs.Prelude.{◌≡◌};
+ghost use Rattle.brl_lines.specs.Answer.{MayAnswerSame, Unchanged};
 ghost use Rattle.brl_answers.specs.Delivery.{world};
-ghost use Rattle.brl_tool.specs.Running.{Answers, Asks, IsHelp, IsStatus, Performs, Replies, ReportsClash, ReportsClashes, ReportsRefusal, ReportsUnused, Runs, TranslatesDefined};
+ghost use Rattle.brl_tool.specs.Running.{Answers, Asks, IsHelp, IsStatus, Performs, Replies, ReportsOne, Runs, TranslatesDefined};
 
 use crate::check::check_by_words;
 use crate::clash::compare_by_words;
@@ -17,7 +17,7 @@ use crate::translate::{translate_by_file, translate_defined_by_file};
 use crate::unused::list_unused_by_file;
 use crate::{Files, Form, Input, Output};
 use brl_answers::{Answer, RunFault, Status, deliver, set_apart};
-use brl_cli::{NotATask, Question, Task, task_of};
+use brl_cli::{NotATask, Question, Task, Work, work_of};
 use brl_progress::Progress;
 use std::alloc::Global;
 use std::io::Write;
@@ -37,6 +37,7 @@ use std::io::Write;
 /// table's lines, a character that is left out and isn't defined, the texts, the input, the certificate
 /// or the search, the file that gets a certificate or the files of a table that is cut, the output.
 ///
+/// With `--path` the files of tables are looked for in folders, too; `files` stays with these folders.
 /// Files are written only where a search found a certificate, that file and no other, and where a
 /// table is cut, files at whose paths nothing was. A file of the searched table is refused as the
 /// file for the certificate before the search.
@@ -49,17 +50,35 @@ pub fn run<F: Files, I: Input, O: Output, E: Write + Progress>(
     err: &mut E,
 ) -> u8
     ensures status { IsStatus result }
-    ensures runs { Runs F.same_file (I.remaining input.old) (world (F.gives files.old) (O.failures out.old) (O.contents out.old))
-        (world (F.gives files.new) (O.failures out.new) (O.contents out.new)) result }
-    ensures clash { let before = world (F.gives files.old) (O.failures out.old) (O.contents out.old) in
-        let after = world (F.gives files.new) (O.failures out.new) (O.contents out.new) in
-        result ≡ 1 → ReportsClash before after ⊎ ReportsRefusal before after ⊎ ReportsClashes before after ⊎ ReportsUnused before after }
-    ensures same { result ≡ 1 → Unchanged (F.gives files.old) (F.gives files.new) }
+    ensures runs { Runs F.same_file (I.remaining input.old) (λ folders. world (F.gives (F.looked folders files.old)) (O.failures out.old) (O.contents out.old))
+        (world (F.gives files.old) (O.failures out.old) (O.contents out.old)) (world (F.gives files.new) (O.failures out.new) (O.contents out.new)) result }
+    ensures clash { result ≡ 1 → ReportsOne (λ folders. world (F.gives (F.looked folders files.old)) (O.failures out.old) (O.contents out.old))
+        (world (F.gives files.new) (O.failures out.new) (O.contents out.new)) }
+    ensures same { result ≡ 1 → MayAnswerSame (F.gives files.old) (F.gives files.new) }
 {
-    match task_of(alloc, words) {
-        Ok(task) => perform(alloc, task, files, input, out, err).code(),
+    match work_of(alloc, words) {
+        Ok(work) => do_work(alloc, work, files, input, out, err).code(),
         Err(reply) => answer_words(alloc, &reply, files, out, err).code(),
     }
+}
+
+/// Does a task, where the files of tables are looked for in folders, too.
+fn do_work<F: Files, I: Input, O: Output, E: Write + Progress>(
+    alloc: Global,
+    work: Work<'_>,
+    files: &mut F,
+    input: &mut I,
+    out: &mut O,
+    err: &mut E,
+) -> Status
+    ensures performs { Performs work.entry.task F.same_file (I.remaining input.old)
+        (world (F.gives (F.looked work.entry.folders files.old)) (O.failures out.old) (O.contents out.old))
+        (world (F.gives files.new) (O.failures out.new) (O.contents out.new)) result }
+    ensures kept { MayAnswerSame (F.gives files.old) (F.gives (F.looked work.entry.folders files.old)) }
+{
+    let Work { task, folders } = work;
+    files.look_in(folders);
+    perform(alloc, task, files, input, out, err)
 }
 
 /// Does a task.

@@ -15,6 +15,13 @@ t.ctb: letter a 1|brl,translate,--lacking,t.ctb|a; a a; \u{e9}\u{1f600}|A|lackin
 t.ctb: letter q 17|brl,translate,--lacking,t.ctb|z; q; y||U1 NoAscii at line 2|2
 t.ctb: letter q 17|brl,translate,--lacking,--form,unicode,t.ctb|zq; q|\u{2841}|lacking z U+007A: count 1, first line 1|2
 t.ctb: letter a|brl,translate,--lacking,t.ctb|a||B2 MissingOperand letter at t.ctb:1|2
+t.ctb: include u & one/u: letter a 1 & two/u: letter a 2|brl,translate,--path,one,--path,two,t.ctb|a|A||0
+t.ctb: include u & one/u: letter a 1 & two/u: letter a 2|brl,translate,--path,two,--path,one,t.ctb|a|1||0
+t.ctb: include u & one/u: letter a 1|brl,translate,--path=one/,t.ctb,--lacking|a|A||0
+t.ctb: include u & u: letter a 12 & one/u: letter a 1|brl,translate,--path,one,t.ctb|a|B||0
+t.ctb: include u & one/u: letter a 1|brl,translate,t.ctb|a||L1 NotFound u at t.ctb:1|2
+t.ctb: include u & one/u: letter a|brl,translate,--path,one,t.ctb|a||B2 MissingOperand letter at one/u:1|2
+one/t.ctb: letter a 1|brl,translate,--path,one,t.ctb|a|A||0
 t.ctb: pass2 @1 @2|brl,translate,t.ctb|||B1 OutsideProfile pass2 at t.ctb:1|2
 t.ctb: letter a 1; letter a 12|brl,translate,t.ctb|a|A||0
 t.ctb: letter a|brl,translate,t.ctb|||B2 MissingOperand letter at t.ctb:1|2

@@ -23,6 +23,10 @@ impl<F: Source> Source for Sealed<F> {
         self.files.read(alloc, path)
     }
 
+    fn folders(&self) -> &[String] {
+        self.files.folders()
+    }
+
     fn failures(&self) -> u64 {
         self.files.failures()
     }
@@ -31,7 +35,13 @@ impl<F: Source> Source for Sealed<F> {
 impl<F: Files> Files for Sealed<F> {
     ghost use Rattle.std.specs.Prelude.{◌≡◌};
 
+    ghost looked = { λ folders s. record s { files = F.looked folders s.files } };
+
     ghost same_file = { λ one other. one ≡ other };
+
+    fn look_in(&mut self, folders: Vec<String>) {
+        self.files.look_in(folders);
+    }
 
     fn is_same_file(&self, one: &str, other: &str) -> bool {
         one == other
@@ -66,15 +76,25 @@ impl<F: Files> Files for Sealed<F> {
 #[derive(Drop)]
 pub struct Unreadable {
     pub files: Refusing,
+    pub folders: Option<Vec<String>>,
 }
 
 impl Source for Unreadable {
-    ghost gives = { λ _ _ _. Unit {0} };
+    ghost use Rattle.brl_lines.specs.InMemory.{folders_of};
+
+    ghost gives = { λ s. record { folders = folders_of s.folders; may = λ _ _. Unit {0} } };
 
     ghost faults = { λ s. s.files.failures };
 
     fn read(&mut self, alloc: Global, path: &str) -> Result<Vec<u8>, Failure<SourceFault>> {
         self.files.read(alloc, path)
+    }
+
+    fn folders(&self) -> &[String] {
+        match &self.folders {
+            Some(folders) => folders.as_slice(),
+            None => &[],
+        }
     }
 
     fn failures(&self) -> u64 {
@@ -83,7 +103,15 @@ impl Source for Unreadable {
 }
 
 impl Files for Unreadable {
+    ghost use Rattle.std.specs.Prelude.{Some};
+
+    ghost looked = { λ folders s. record s { folders = Some folders } };
+
     ghost same_file = { λ _ _. Unit {0} };
+
+    fn look_in(&mut self, folders: Vec<String>) {
+        self.folders = Some(folders);
+    }
 
     fn is_same_file(&self, one: &str, other: &str) -> bool {
         one == other

@@ -1,4 +1,4 @@
-use Rattle.std.proofs.Common.{◌≡◌, List, Result, Ok, Err, IsErrAnd, arith, subst, sym}
+use Rattle.std.proofs.Common.{◌≡◌, List, Result, Ok, Err, IsErrAnd, arith, refl, subst, sym}
 use Rattle.brl_lines.specs.Answer.{FileAnswers}
 use Rattle.brl_answers.specs.Making.{AreMade, IsThereAlready}
 use Rattle.brl_answers.specs.declared.new_files.NewFile.{NewFile}
@@ -9,8 +9,8 @@ use Rattle.brl_answers.proofs.making.make_new_files.Goals as goal
 module _ (files : List NewFile) (gives : FileAnswers) where
   -- a file is there already, and none was made
   not_new : (fault : RunFault) → IsThereAlready gives files fault → AreMade files gives gives (Err fault)
-  not_new (AlreadyThere path) is = (is, (λ p a. ((λ h. h), (λ h. h))))
-  not_new Memory is = (0, ((λ k d l. absurd (omega arith)), (λ p a none. ((λ h. h), (λ h. h)))))
+  not_new (AlreadyThere path) is = (is, (refl, λ p a. ((λ h. h), (λ h. h))))
+  not_new Memory is = (0, ((λ k d l. absurd (omega arith)), (refl, λ p a none. ((λ h. h), (λ h. h)))))
   not_new fault is = absurd is
 
   -- the same of what came back

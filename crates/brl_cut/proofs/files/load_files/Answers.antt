@@ -1,5 +1,5 @@
-use Rattle.std.proofs.Common.{◌≡◌, map}
-use Rattle.brl_lines.specs.InMemory.{answer_in}
+use Rattle.std.proofs.Common.{map}
+use Rattle.brl_lines.specs.InMemory.{given_in}
 use Rattle.brl_cut.specs.Files.{file_view}
 use Rattle.brl_cut.proofs.RoundLemmas.{gives-loaded}
 use Rattle.brl_cut.proofs.files.load_files.Goals as goal
@@ -8,4 +8,4 @@ pub returns : goal.returns
 returns c =
     let source = c.in_ok-source.source in
     let root = c.args.root.now in
-    gives-loaded (map file_view c.args.files.now) source root (λ path answer. answer ≡ answer_in source path) c.in_ok-source.ensures (c.files_in_memory_law.ensures.told root) c.load.result c.load.ensures.lines c.load.ensures.fault
+    gives-loaded (map file_view c.args.files.now) source root (given_in source) c.in_ok-source.ensures (c.files_in_memory_law.ensures.told root) c.load.result c.load.ensures.lines c.load.ensures.fault

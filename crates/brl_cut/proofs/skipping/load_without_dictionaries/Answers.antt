@@ -1,4 +1,4 @@
-use Rattle.std.proofs.Common.{map}
+use Rattle.std.proofs.Common.{map, sym}
 use Rattle.brl_lines.specs.GatherFaults.{gathered_view}
 use Rattle.brl_cut.specs.Skipping.{HasWayOut}
 use Rattle.brl_cut.proofs.SkipLemmas.{all_fault, all_lines, gathered_fault, gathered_lines}
@@ -16,10 +16,10 @@ pub returns-in-Err-Fault-LeadsOut-clause-lines : goal.returns-in-Err-Fault-Leads
 returns-in-Err-Fault-LeadsOut-clause-lines g c =
     let w = c.in-Err-Fault-LeadsOut in
     let out : HasWayOut (g.S.Source.gives c.args.source.now) c.args.root.now = (w.field-0-0-0, rw w.field-0-0-is at (rw w.field-0-is at w.ensures.fault)) in
-    all_lines (g.S.Source.gives c.gather.new.source) (g.S.Source.gives c.args.source.now) (λ p a. (w.ensures.same p a).0) c.args.root.now out c.load_all.result c.load_all.ensures.lines c.load_all.ensures.none
+    all_lines (g.S.Source.gives c.gather.new.source) (g.S.Source.gives c.args.source.now) (sym w.ensures.same.0) (λ p a. (w.ensures.same.1 p a).0) c.args.root.now out c.load_all.result c.load_all.ensures.lines c.load_all.ensures.none
 
 pub returns-in-Err-Fault-LeadsOut-clause-fault : goal.returns-in-Err-Fault-LeadsOut-clause-fault
 returns-in-Err-Fault-LeadsOut-clause-fault g c =
     let w = c.in-Err-Fault-LeadsOut in
     let out : HasWayOut (g.S.Source.gives c.args.source.now) c.args.root.now = (w.field-0-0-0, rw w.field-0-0-is at (rw w.field-0-is at w.ensures.fault)) in
-    all_fault (g.S.Source.gives c.gather.new.source) (g.S.Source.gives c.args.source.now) (λ p a. (w.ensures.same p a).0) c.args.root.now out c.load_all.result c.load_all.ensures.fault
+    all_fault (g.S.Source.gives c.gather.new.source) (g.S.Source.gives c.args.source.now) (sym w.ensures.same.0) (λ p a. (w.ensures.same.1 p a).0) c.args.root.now out c.load_all.result c.load_all.ensures.fault

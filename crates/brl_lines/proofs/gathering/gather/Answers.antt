@@ -12,7 +12,7 @@ use Rattle.brl_lines.proofs.gathering.gather.Goals as goal
 pub returns-in-Ok-clause-gathered : goal.returns-in-Ok-clause-gathered
 returns-in-Ok-clause-gathered g c =
     let answers = known_answers c.loop.known.entries in
-    let given = given-stays (g.S.Source.gives c.loop.source) (g.S.Source.gives c.args.source.now) (λ p a. (c.loop.invariant.same p a).0) answers c.loop.invariant.given in (
+    let given = given-stays (g.S.Source.gives c.loop.source) (g.S.Source.gives c.args.source.now) (λ p a. (c.loop.invariant.same.1 p a).0) answers c.loop.invariant.given in (
       answers,
       given,
       ap (λ (r : Result WayView StopView). r >>= λ way. Ok (gathered_on (known_answer c.loop.known.entries) way)) c.in-Ok.ensures ∙ ap Ok (sym c.in_ok-files_on-in-Ok.ensures),
@@ -22,7 +22,7 @@ pub returns-in_err-go_on-in-Err-Fault-clause-fault : goal.returns-in_err-go_on-i
 returns-in_err-go_on-in-Err-Fault-clause-fault g c =
     let now = g.S.Source.gives c.loop.source in
     let gives = g.S.Source.gives c.args.source.now in
-    let stays : (p : List ℕ) (a : FileAnswer) → now p a → gives p a = λ p a. (c.loop.invariant.same p a).0 in
+    let stays : (p : List ℕ) (a : FileAnswer) → now.may p a → gives.may p a = λ p a. (c.loop.invariant.same.1 p a).0 in
     let answers = known_answers c.loop.known.entries in
     let stop = c.in-Err-Fault.stop in
     let ends = rw c.in-Err-Fault.field-0-is at c.in-Err-Fault.ensures in
@@ -39,6 +39,6 @@ loop-preserved g c =
     let same = c.in_ok-go_on-in-Err-Fault.ensures.same in
     let before = c.loop.invariant.same in
     record {
-      given = given-stays now next (λ p a. (same p a).1) (known_answers c.go_on.new.known.entries) c.in_ok-go_on-in-Err-Fault.ensures.given;
-      same = λ p a. (λ x. (before p a).0 ((same p a).0 x), λ x. (same p a).1 ((before p a).1 x));
+      given = given-stays now next (λ p a. (same.1 p a).1) (known_answers c.go_on.new.known.entries) c.in_ok-go_on-in-Err-Fault.ensures.given;
+      same = (same.0 ∙ before.0, λ p a. (λ x. (before.1 p a).0 ((same.1 p a).0 x), λ x. (same.1 p a).1 ((before.1 p a).1 x)));
     }

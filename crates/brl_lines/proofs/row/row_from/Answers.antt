@@ -10,35 +10,35 @@ use Rattle.brl_lines.proofs.row.row_from.Goals as goal
 
 pub returns-then-from-text : goal.returns-then-from-text
 returns-then-from-text c =
-    let text_is = c.text-text.ensures.text ∙ text-at c.args.files.now.entries c.args.file.now.index c.index.result.now c.index.ensures in
+    let text_is = c.text_of_file-text.ensures.text ∙ text-at c.args.files.now.entries c.args.file.now.index c.index.result.now c.index.ensures in
     c.if-from-text.true ∙ ap length text_is
 
 pub row_at-row-requires-clause-inside : goal.row_at-row-requires-clause-inside
 row_at-row-requires-clause-inside c =
-    let text_is = c.text-text.ensures.text ∙ text-at c.args.files.now.entries c.args.file.now.index c.index.result.now c.index.ensures in
-    let same : length c.text-text.result.now ≡ length (text_at c.args.files.now.entries c.args.file.now.index) = ap length text_is in
+    let text_is = c.text_of_file-text.ensures.text ∙ text-at c.args.files.now.entries c.args.file.now.index c.index.result.now c.index.ensures in
+    let same : length c.text_of_file-text.result.now ≡ length (text_at c.args.files.now.entries c.args.file.now.index) = ap length text_is in
     let within = c.requires.within in
     omega (arith, same, within)
 
 pub row_at-row-requires-clause-boundary : goal.row_at-row-requires-clause-boundary
 row_at-row-requires-clause-boundary c =
-    let text_is = c.text-text.ensures.text ∙ text-at c.args.files.now.entries c.args.file.now.index c.index.result.now c.index.ensures in
+    let text_is = c.text_of_file-text.ensures.text ∙ text-at c.args.files.now.entries c.args.file.now.index c.index.result.now c.index.ensures in
     subst (λ (t : List ℕ). IsCharBoundary t c.args.from) (sym text_is) c.requires.boundary
 
 pub row_kind-requires-clause-from_boundary : goal.row_kind-requires-clause-from_boundary
 row_kind-requires-clause-from_boundary c =
-    let text_is = c.text-text.ensures.text ∙ text-at c.args.files.now.entries c.args.file.now.index c.index.result.now c.index.ensures in
+    let text_is = c.text_of_file-text.ensures.text ∙ text-at c.args.files.now.entries c.args.file.now.index c.index.result.now c.index.ensures in
     subst (λ (t : List ℕ). IsCharBoundary t c.args.from) (sym text_is) c.requires.boundary
 
 pub returns : goal.returns
 returns c =
-    let text_is = c.text-text.ensures.text ∙ text-at c.args.files.now.entries c.args.file.now.index c.index.result.now c.index.ensures in
+    let text_is = c.text_of_file-text.ensures.text ∙ text-at c.args.files.now.entries c.args.file.now.index c.index.result.now c.index.ensures in
     let text = text_at c.args.files.now.entries c.args.file.now.index in
     let path = string_bytes c.args.file.now.path in
     let from = c.args.from in
     let to = c.row_at-row.result.to in
     let next = c.row_at-row.result.next in
-    let size : length c.text-text.result.now ≡ length text = ap length text_is in
+    let size : length c.text_of_file-text.result.now ≡ length text = ap length text_is in
     let row = c.row_at-row.ensures in
     let cuts : rows (piece text from (length text)) ≡ piece text from to ∷ rows (piece text next (length text)) =
     subst (λ (t : List ℕ). rows (piece t from (length t)) ≡ piece t from to ∷ rows (piece t next (length t))) text_is row.cuts in
@@ -55,7 +55,7 @@ returns c =
       };
       kind = subst (λ (p : List ℕ). IsKindOf path c.args.number (line_of p c.args.number (map token_of (tokens (piece text from to)))) c.in_ok-kind.kind) (sym c.requires.opened.path)
           (subst (λ (t : List ℕ). IsKindOf path c.args.number (line_of path c.args.number (map token_of (tokens (piece t from to)))) c.in_ok-kind.kind) text_is
-          (subst (λ (p : List ℕ). IsKindOf p c.args.number (line_of p c.args.number (map token_of (tokens (piece c.text-text.result.now from to)))) c.in_ok-kind.kind) c.as_str.ensures.value c.in_ok-kind.ensures));
+          (subst (λ (p : List ℕ). IsKindOf p c.args.number (line_of p c.args.number (map token_of (tokens (piece c.text_of_file-text.result.now from to)))) c.in_ok-kind.kind) c.as_str.ensures.value c.in_ok-kind.ensures));
       left = lines_from-row path c.args.number (piece text from (length text)) (piece text from to) (piece text next (length text)) cuts
           ∙ ap (λ (p : List ℕ). line_of p c.args.number (map token_of (tokens (piece text from to))) ++ lines_from path (c.args.number + 1) (piece text next (length text))) (sym c.requires.opened.path);
     }

@@ -4,7 +4,8 @@ use super::outcome;
 use brl_failure::Failure;
 use brl_lines::{MapSource, Source, SourceFault};
 use brl_testing::{
-    add_file, add_files_of_bytes, agree, bytes_of, check_rows, cut, for_rows_of_3, no_files,
+    add_file, add_files_of_bytes, agree, bytes_of, check_rows, cut, for_rows_of_3, for_rows_of_4,
+    no_files, words_of,
 };
 use std::alloc::Global;
 use std::fmt::Write;
@@ -55,7 +56,9 @@ struct Watched {
 }
 
 impl Source for Watched {
-    ghost gives = { λ _ _ _. Unit {0} };
+    ghost use Rattle.brl_lines.specs.InMemory.{folders_of};
+
+    ghost gives = { λ s. record { folders = folders_of s.files.folders; may = λ _ _. Unit {0} } };
 
     ghost faults = { λ s. s.failures };
 
@@ -69,6 +72,10 @@ impl Source for Watched {
             Err(Failure::Fault(SourceFault::Failed)) => Err(Failure::Fault(SourceFault::NotFound)),
             outcome => outcome,
         }
+    }
+
+    fn folders(&self) -> &[String] {
+        self.files.folders()
     }
 
     fn failures(&self) -> u64 {
@@ -128,6 +135,78 @@ fn many_included(alloc: Global, count: &str, after: &str) -> Result<String, Fail
 #[test]
 fn many_include_lines(rt: HostRuntime) -> Result<(), Fail> {
     for_rows_of_3(rt.alloc(), MANY_LINES, many_included)
+}
+
+/// Files, the folders in which they are looked for, the root, and what comes of it after how many reads.
+const FOLDERS: &str = "\
+t: include u & one/u: letter a 1 & two/u: letter b 1|one,two|t|one/u:1 letter@0 a@7 1@9; after 3 reads, 0 failed
+t: include u & one/u: letter a 1 & two/u: letter b 1|two,one|t|two/u:1 letter@0 b@7 1@9; after 3 reads, 0 failed
+t: include u & u: letter c 1 & one/u: letter a 1|one|t|u:1 letter@0 c@7 1@9; after 2 reads, 0 failed
+t: include u & one/u: letter a 1|two/,one/|t|one/u:1 letter@0 a@7 1@9; after 4 reads, 0 failed
+t: include u;include u & one/u: letter a 1|one|t|one/u:1 letter@0 a@7 1@9;one/u:1 letter@0 a@7 1@9; after 3 reads, 0 failed
+d/t: include u & one/u: letter a 1|one|d/t|one/u:1 letter@0 a@7 1@9; after 3 reads, 0 failed
+d/t: include p/u & one/p/u: include v & one/v: letter a 1|one|d/t|one/v:1 letter@0 a@7 1@9; after 5 reads, 0 failed
+one/t: include u & one/u: letter a 1 & u: letter b 1|one|t|one/u:1 letter@0 a@7 1@9; after 3 reads, 0 failed
+one/t: include u & two/u: letter a 1 & u: letter b 1|one,two|t|two/u:1 letter@0 a@7 1@9; after 4 reads, 0 failed
+t: include u & two/v: letter a 1|one,two|t|L1 NotFound u at t:1 after 4 reads, 0 failed
+u: letter a 1|one,two|t|L1 NotFound t after 3 reads, 0 failed
+t: include /u & one//u: letter a 1|one|t|L1 NotFound /u at t:1 after 2 reads, 0 failed
+t: include u & u: ! & one/u: letter a 1|one|t|L3 NotUtf8 u at t:1 after 2 reads, 0 failed
+t: include u & one/u: ! & two/u: letter a 1|one,two|t|L3 NotUtf8 one/u at t:1 after 3 reads, 0 failed
+t: include u & one/u: include t & one/t: letter a 1|one|t|L4 Cycle t at one/u:1 after 3 reads, 0 failed
+t: include u & one/u: include u|one|t|L4 Cycle one/u at one/u:1 after 3 reads, 0 failed
+t: include u & u: letter a 1|,one|t|u:1 letter@0 a@7 1@9; after 2 reads, 0 failed
+";
+
+/// What comes of a source's table, where its files are looked for in these folders, and how many reads
+/// there were.
+fn looked_for(
+    alloc: Global,
+    source: &mut Watched,
+    folders: &str,
+    root: &str,
+) -> Result<String, Fail> {
+    source.files.folders = Some(words_of(alloc, folders)?);
+    watched_outcome(alloc, source, root)
+}
+
+fn found_in_folders(
+    alloc: Global,
+    files: &str,
+    folders: &str,
+    root: &str,
+) -> Result<String, Fail> {
+    let mut source = Watched::new(alloc, 0);
+    add_files_of_bytes(alloc, files, &mut source.files)?;
+    looked_for(alloc, &mut source, folders, root)
+}
+
+#[test]
+fn files_in_folders(rt: HostRuntime) -> Result<(), Fail> {
+    for_rows_of_4(rt.alloc(), FOLDERS, found_in_folders)
+}
+
+/// The read that fails, files, folders, and what comes of the table `t`.
+const FAILING_IN_FOLDERS: &str = "\
+1|one/t: letter a 1|one|L2 ReadFailed t after 1 reads, 1 failed
+2|t: include u & one/u: letter a 1|one|L2 ReadFailed u at t:1 after 2 reads, 1 failed
+3|t: include u & one/u: letter a 1 & two/u: letter a 1|one,two|L2 ReadFailed one/u at t:1 after 3 reads, 1 failed
+";
+
+fn fails_in_folders(
+    alloc: Global,
+    read: &str,
+    files: &str,
+    folders: &str,
+) -> Result<String, Fail> {
+    let mut source = Watched::new(alloc, read.parse()?);
+    add_files_of_bytes(alloc, files, &mut source.files)?;
+    looked_for(alloc, &mut source, folders, "t")
+}
+
+#[test]
+fn reads_that_fail_in_folders(rt: HostRuntime) -> Result<(), Fail> {
+    for_rows_of_4(rt.alloc(), FAILING_IN_FOLDERS, fails_in_folders)
 }
 
 /// The number of the last file, its line, and what comes of the table `c1`.

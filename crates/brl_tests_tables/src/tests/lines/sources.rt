@@ -16,12 +16,18 @@ struct LineFeeds {
 }
 
 impl Source for LineFeeds {
-    ghost gives = { λ _ _ _. Unit {0} };
+    ghost use Rattle.std.specs.Prelude.{[]};
+
+    ghost gives = { λ _. record { folders = []; may = λ _ _. Unit {0} } };
 
     ghost faults = { λ _. 0 };
 
     fn read(&mut self, alloc: Global, _path: &str) -> Result<Vec<u8>, Failure<SourceFault>> {
         vec![in alloc; b'\n'; self.count].map_err(|_| Failure::Memory)
+    }
+
+    fn folders(&self) -> &[String] {
+        &[]
     }
 
     fn failures(&self) -> u64 {

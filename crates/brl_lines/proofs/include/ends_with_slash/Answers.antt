@@ -1,6 +1,6 @@
 use Rattle.std.specs.Prelude.{codes}
 use Rattle.std.proofs.lemmas.Str.Pattern.{ends_text}
-use Rattle.brl_cut.proofs.placing.ends_with_slash.Goals as goal
+use Rattle.brl_lines.proofs.include.ends_with_slash.Goals as goal
 
 pub returns : goal.returns
 returns c = ends_text c.ends_with.result (codes "/") c.args.path.now c.ends_with.ensures.cases

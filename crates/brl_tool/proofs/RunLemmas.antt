@@ -1,0 +1,49 @@
+-- What a run that ends with status 1 did.
+use Rattle.std.proofs.Common.{◌≡◌, ◌∙◌, ◌⊎◌, ℕ, List, arith, length, inl, inr, Option, Result, Ok, Err, refl, sym}
+use Rattle.std.specs.Global.{Global}
+use Rattle.std.specs.Prelude.{◌==◌, String, string_bytes}
+use Rattle.brl_answers.specs.Delivery.{World, KeepsFiles}
+use Rattle.brl_answers.specs.Files.{MayBeSame}
+use Rattle.brl_answers.specs.Status.{code_of}
+use Rattle.brl_answers.specs.declared.run_fault.RunFault.{RunFault}
+use Rattle.brl_answers.specs.declared.status.Status.{Status}
+use Rattle.brl_answers.specs.declared.status.Status.TheVariants.{Done, Faulty, Refuted, Undecided}
+use Rattle.brl_cli.specs.declared.command.Question.{Question}
+use Rattle.brl_cli.specs.declared.command.Question.TheVariants as question
+use Rattle.brl_cli.specs.declared.command.Task.{Task}
+use Rattle.brl_cli.specs.declared.command.Task.TheVariants as task
+use Rattle.brl_tool.proofs.StatusLemmas.{never_refuted, unrefuted}
+use Rattle.brl_tool.specs.Running.{MeansRefuted, Performs, ReportsClash, ReportsClashes, ReportsRefusal, ReportsUnused, defined_status, stream_status}
+
+-- the status with this number
+refuted_by : (status : Status) → code_of status ≡ 1 → status ≡ Refuted
+refuted_by Done e = absurd (omega (arith, e))
+refuted_by Refuted e = refl
+refuted_by Faulty e = absurd (omega (arith, e))
+refuted_by Undecided e = absurd (omega (arith, e))
+
+module _ (before after : World) (same_file : MayBeSame) (input : Option (List ℕ)) where
+  -- a translation doesn't end so
+  not_translated : (outcome : Result (Unit {0}) RunFault) → stream_status outcome ≡ Refuted → ⊥
+  not_translated (Ok done) e = cc
+  not_translated (Err fault) e = never_refuted fault e
+
+  not_defined : (outcome : Result (String Global) RunFault) → defined_status outcome ≡ Refuted → ⊥
+  not_defined (Ok text) e = unrefuted (length (string_bytes text) == 0) e
+  not_defined (Err fault) e = never_refuted fault e
+
+  -- which report was written
+  report_of : (asked : Question) → MeansRefuted asked before after → ReportsClash before after ⊎ ReportsRefusal before after ⊎ ReportsClashes before after ⊎ ReportsUnused before after
+  report_of (question.Clash path left right options) means = inl means
+  report_of (question.Check path cert option) means = inr (inl means)
+  report_of (question.Search path out limit option) means = inl means
+  report_of (question.Clashes path limit first option) means = inr (inr (inl means))
+  report_of (question.Unused path limit) means = inr (inr (inr means))
+  report_of asked means = absurd means
+
+  -- it wrote a report, and changed no file
+  pub performed_one : (asked : Task) (status : Status) → Performs asked same_file input before after status → code_of status ≡ 1
+      → (ReportsClash before after ⊎ ReportsRefusal before after ⊎ ReportsClashes before after ⊎ ReportsUnused before after) × KeepsFiles before after
+  performed_one (task.Translate path form) status is one = absurd (not_translated is.1.0 (sym is.1.2 ∙ refuted_by status one))
+  performed_one (task.TranslateDefined path form) status is one = absurd (not_defined is.1.0 (sym is.1.2 ∙ refuted_by status one))
+  performed_one (task.Ask asked) status is one = let (means, keeps) = is.refuted (refuted_by status one) in (report_of asked means, keeps)
