@@ -106,7 +106,7 @@ AreNotesAt gives fault (Some place) notes = (lines : List LineView) × AreLinesI
 
 -- notes on a file whose bytes aren't all UTF-8, by its path
 abbrev pub AreByteNotes : FileAnswers → List ℕ → List ℕ → Type 0
-AreByteNotes gives path notes = (answer : FileAnswer) × gives path answer × (notes ≡ answer_note path answer)
+AreByteNotes gives path notes = (answer : FileAnswer) × gives.may path answer × (notes ≡ answer_note path answer)
 
 -- notes on the file that a fault's line names
 abbrev pub AreNotes : FileAnswers → List ℕ → List ℕ → Type 0
