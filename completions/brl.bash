@@ -52,7 +52,7 @@ _brl() {
         '') options='--help --version' ;;
         translate) options='--form --lacking --path --help' ;;
         clash | trace) options='--escapes --lines --path --help' ;;
-        rules) options='--path --help' ;;
+        rules | explain) options='--path --help' ;;
         search) options='--limit --without --path --help' ;;
         clashes) options='--first --limit --without --path --help' ;;
         unused) options='--limit --path --help' ;;

@@ -58,7 +58,7 @@ complete -c brl -n '__brl_is survey' -l brief -d 'Leave the list of faults out'
 complete -c brl -n '__brl_is cut' -l rewrite -d 'Also read lines that define a character after noback'
 complete -c brl -n '__brl_is clashes' -l first -x -d 'How many lines of each section are shown'
 complete -c brl -n '__brl_is search clashes check' -l without -x -d 'Characters that the texts do not use'
-complete -c brl -n '__brl_is translate clash trace rules unused search clashes check' -l path -x -a '(__fish_complete_directories)' -d 'Look for files of tables in this folder, too'
+complete -c brl -n '__brl_is translate clash trace rules unused explain search clashes check' -l path -x -a '(__fish_complete_directories)' -d 'Look for files of tables in this folder, too'
 
 complete -c brl -n '__brl_at translate 0' -F
 complete -c brl -n '__brl_at clash 0' -F

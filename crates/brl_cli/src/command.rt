@@ -622,7 +622,7 @@ It prints:
   When: a cell has dot 7 or 8, which Braille ASCII has no mark for
   What to do: Use `--form unicode`.",
     choice: None,
-    looks: false,
+    looks: true,
     operands: &[Operand {
         id: "fault",
         name: "FAULT",
