@@ -1,3 +1,4 @@
 mod LineTests
+mod NamingLemmas
 mod Plain
 mod ReadBack

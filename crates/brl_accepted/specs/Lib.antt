@@ -1,3 +1,4 @@
 pub mod Pairs
 pub mod Reading
+pub mod Naming
 pub mod FaultText

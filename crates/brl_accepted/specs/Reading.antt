@@ -1,6 +1,6 @@
 -- How a file of accepted pairs of rules is read: each of its lines is a note or names pairs that are
 -- listed. The project's own choice.
-use Rattle.std.specs.Prelude.{ℕ, ◌≡◌, ◌+◌, ◌==◌, All, Bool, true, if◌then◌else◌, List, ◌++◌, Option, None, Some, not, slice_get, string_bytes, take}
+use Rattle.std.specs.Prelude.{ℕ, ◌≡◌, ◌+◌, ◌&&◌, ◌==◌, All, Bool, true, if◌then◌else◌, List, ◌++◌, Option, None, Some, not, slice_get, string_bytes, take}
 use Rattle.std.specs.List.{filter, find, list_any}
 use Rattle.std.specs.Option.{option_map_or}
 use Rattle.std.specs.Str.{bytes_eq}
@@ -17,9 +17,17 @@ use Rattle.brl_lines.specs.Tokens.{is_gap}
 abbrev pub is_note : List ℕ → Bool
 is_note line = option_map_or (λ mark. mark == 35) (find (λ mark. not (is_gap mark)) line) true
 
--- whether a line is what two rules say, of what each says
+-- whether a line is what one rule says, the mark between two, and what another says, of what each says
+abbrev pub goes_on : List (List ℕ) → List ℕ → List ℕ → Bool
+goes_on words line one = list_any (λ other. bytes_eq line (one ++ (between ++ other))) words
+
+-- whether a line is what two rules say
 abbrev pub names_rules : List (List ℕ) → List ℕ → Bool
-names_rules words line = list_any (λ one. list_any (λ other. bytes_eq line (one ++ (between ++ other))) words) words
+names_rules words line = list_any (λ one. goes_on words line one) words
+
+-- the same, where what the first says ends at a place
+abbrev pub is_parted : List (List ℕ) → List ℕ → ℕ → Bool
+is_parted words line place = goes_on words line (take place line) && list_any (bytes_eq (take place line)) words
 
 -- whether a line names one of the pairs that are listed
 abbrev pub names_listed : List (List ℕ) → List (ℕ × ℕ) → List ℕ → Bool

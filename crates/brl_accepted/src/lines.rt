@@ -1,13 +1,14 @@
 //! Lines of a file of accepted pairs.
-ghost use Rattle.std.specs.Prelude.{◌≡◌, ◌≢◌, ◌++◌, ℕ, List, MatchOption, IfOk, find, map, not, string_bytes};
+ghost use Rattle.std.specs.Prelude.{◌≡◌, ◌≤◌, ◌++◌, IfOk, find, length, map, not, string_bytes};
 ghost use Rattle.std.specs.List.{list_any};
 ghost use Rattle.std.specs.Str.{bytes_eq};
 ghost use Rattle.std.specs.Str.Lines.{lines};
 ghost use Rattle.brl_accepted.specs.Pairs.{between, pair_line as line_of_pair, turned};
-ghost use Rattle.brl_accepted.specs.Reading.{fault_of as fault_of_line, is_note as is_note_line, names_listed, names_rules as are_named};
+ghost use Rattle.brl_accepted.specs.Reading.{fault_of as fault_of_line, is_note as is_note_line, is_parted as is_parted_at, names_listed, names_rules as are_named};
 ghost use Rattle.brl_lines.specs.Tokens.{is_gap as is_gap_mark};
 
 use crate::fault::AcceptFaultKind;
+use crate::texts::{Texts, texts_of};
 use crate::words::pair_line;
 use std::alloc::{AllocError, Global};
 
@@ -26,6 +27,13 @@ pub(crate) struct PairLines {
     pub back: Vec<String>,
 }
 
+/// The same, looked up by their hashes.
+#[derive(Drop)]
+pub(crate) struct PairTexts<'a> {
+    pub forth: Texts<'a>,
+    pub back: Texts<'a>,
+}
+
 /// The lines that name each of these pairs.
 pub(crate) fn pair_lines(
     alloc: Global,
@@ -42,6 +50,19 @@ pub(crate) fn pair_lines(
         back.push(pair_line(alloc, words, (pair.1, pair.0))?)?;
     }
     Ok(PairLines { forth, back })
+}
+
+/// The same, looked up by their hashes.
+pub(crate) fn pair_texts<'a>(
+    alloc: Global,
+    lines: &'a PairLines,
+) -> Result<PairTexts<'a>, AllocError>
+    ensures forth { IfOk result (λ texts. texts.forth ≡ map string_bytes lines.now.forth.items) }
+    ensures back { IfOk result (λ texts. texts.back ≡ map string_bytes lines.now.back.items) }
+{
+    let forth = texts_of(alloc, lines.forth.as_slice())?;
+    let back = texts_of(alloc, lines.back.as_slice())?;
+    Ok(PairTexts { forth, back })
 }
 
 /// The lines of a text.
@@ -75,61 +96,63 @@ fn is_note(row: &str) -> bool
     }
 }
 
-/// Whether a text is one of these.
-fn is_one(texts: &[String], text: &[u8]) -> bool
-    ensures { result ≡ list_any (bytes_eq text.now) (map string_bytes texts.now) }
+/// Whether the rest of a line is the mark between two rules and what a rule of the table says.
+fn goes_on(words: &Texts<'_>, rest: &[u8]) -> bool
+    ensures { result ≡ list_any (λ other. bytes_eq rest.now (between ++ other)) words.now }
 {
-    texts.iter().any(|other| text == other.as_bytes())
-}
-
-/// What follows a rule and the mark between two rules in a line that begins with these.
-fn rest_after<'a>(one: &[u8], row: &'a [u8]) -> Option<&'a [u8]>
-    ensures { MatchOption result ((rest : List ℕ) → row.now ≢ one.now ++ (between ++ rest)) (λ rest. row.now ≡ one.now ++ (between ++ rest.now)) }
-{
-    row.strip_prefix(one)?.strip_prefix(b" / ".as_slice())
-}
-
-/// Whether a line is what one rule says and what another of the table says.
-fn goes_on(words: &[String], one: &str, row: &str) -> bool
-    ensures { result ≡ list_any (λ other. bytes_eq row.now (one.now ++ (between ++ other))) (map string_bytes words.now) }
-{
-    match rest_after(one.as_bytes(), row.as_bytes()) {
-        Some(rest) => is_one(words, rest),
+    match rest.strip_prefix(b" / ".as_slice()) {
+        Some(other) => words.contains(other),
         None => false,
     }
 }
 
-/// Whether a line is what two rules of the table say.
-fn names_rules(words: &[String], row: &str) -> bool
-    ensures { result ≡ are_named (map string_bytes words.now) row.now }
+/// Whether a line is what two rules of the table say, where what the first says ends at a place.
+fn is_parted(words: &Texts<'_>, row: &[u8], place: usize) -> bool
+    requires { place ≤ length row.now }
+    ensures { result ≡ is_parted_at words.now row.now place }
 {
-    words.iter().any(|one| goes_on(words, one.as_str(), row))
+    let (one, rest) = row.split_at(place);
+    goes_on(words, rest) && words.contains(one)
+}
+
+/// Whether a line is what two rules of the table say. It is parted at each place in turn at which what
+/// a rule says can end.
+fn names_rules(words: &Texts<'_>, row: &[u8]) -> bool
+    ensures { result ≡ are_named words.now row.now }
+{
+    let last = row.len().min(words.longest());
+    for place in 0..last + 1 {
+        if is_parted(words, row, place) {
+            return true;
+        }
+    }
+    false
 }
 
 /// Whether a line names one of these pairs of rules, whose lines are given.
-fn is_listed(words: &[String], listed: Listed<'_>, lines: &PairLines, row: &str) -> bool
-    requires forth { map string_bytes lines.now.forth.items ≡ map (line_of_pair (map string_bytes words.now)) listed.pairs.now }
-    requires back { map string_bytes lines.now.back.items ≡ map (λ pair. line_of_pair (map string_bytes words.now) (turned pair)) listed.pairs.now }
-    ensures { result ≡ names_listed (map string_bytes words.now) listed.entry.pairs.now row.now }
+fn is_listed(words: &Texts<'_>, listed: Listed<'_>, lines: &PairTexts<'_>, row: &[u8]) -> bool
+    requires forth { lines.now.forth ≡ map (line_of_pair words.now) listed.pairs.now }
+    requires back { lines.now.back ≡ map (λ pair. line_of_pair words.now (turned pair)) listed.pairs.now }
+    ensures { result ≡ names_listed words.now listed.entry.pairs.now row.now }
 {
-    is_one(lines.forth.as_slice(), row.as_bytes()) || is_one(lines.back.as_slice(), row.as_bytes())
+    lines.forth.contains(row) || lines.back.contains(row)
 }
 
 /// The fault of a line, if it has one, where the lines of the listed pairs are given.
 pub(crate) fn fault_of(
-    words: &[String],
+    words: &Texts<'_>,
     listed: Listed<'_>,
-    lines: &PairLines,
+    lines: &PairTexts<'_>,
     row: &str,
 ) -> Option<AcceptFaultKind>
-    requires forth { map string_bytes lines.now.forth.items ≡ map (line_of_pair (map string_bytes words.now)) listed.pairs.now }
-    requires back { map string_bytes lines.now.back.items ≡ map (λ pair. line_of_pair (map string_bytes words.now) (turned pair)) listed.pairs.now }
-    ensures { result ≡ fault_of_line (map string_bytes words.now) listed.entry.pairs.now listed.entry.whole row.now }
+    requires forth { lines.now.forth ≡ map (line_of_pair words.now) listed.pairs.now }
+    requires back { lines.now.back ≡ map (λ pair. line_of_pair words.now (turned pair)) listed.pairs.now }
+    ensures { result ≡ fault_of_line words.now listed.entry.pairs.now listed.entry.whole row.now }
 {
-    if is_note(row) || is_listed(words, listed, lines, row) {
+    if is_note(row) || is_listed(words, listed, lines, row.as_bytes()) {
         return None;
     }
-    if !names_rules(words, row) {
+    if !names_rules(words, row.as_bytes()) {
         return Some(AcceptFaultKind::NoSuchRules);
     }
     if listed.whole {

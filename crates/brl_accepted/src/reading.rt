@@ -1,12 +1,16 @@
 //! Which of the listed pairs of rules a file accepts.
-ghost use Rattle.std.specs.Prelude.{◌≡◌, All, IfErr, IfOk, None, OnOk, filter, map, string_bytes};
-ghost use Rattle.std.specs.Str.Lines.{lines};
+ghost use Rattle.std.specs.Prelude.{◌≡◌, ◌||◌, All, IfErr, IfOk, None, OnOk, filter, map, string_bytes};
+ghost use Rattle.std.specs.List.{list_any};
+ghost use Rattle.std.specs.Str.{bytes_eq};
+ghost use Rattle.std.specs.Str.Lines.{lines as lines_of_text};
+ghost use Rattle.brl_accepted.specs.Pairs.{pair_line as line_of_pair, turned};
 ghost use Rattle.brl_accepted.specs.Reading.{Accepts, IsRefused, fault_of as fault_of_line, is_accepted as is_accepted_by};
 ghost use Rattle.brl_failure.specs.Failure.{IfFault};
 
 use crate::fault::AcceptFault;
 pub use crate::lines::Listed;
-use crate::lines::{fault_of, pair_lines, rows_of};
+use crate::lines::{PairTexts, fault_of, pair_lines, pair_texts, rows_of};
+use crate::texts::{Texts, texts_of, texts_of_rows};
 use crate::words::pair_line;
 use brl_failure::Failure;
 use std::alloc::{AllocError, Global};
@@ -39,20 +43,40 @@ pub fn read_accepted(
 }
 
 /// Refuses the first of a file's lines that has a fault.
-fn refuse_fault(
+pub(crate) fn refuse_fault(
     alloc: Global,
     words: &[String],
     listed: Listed<'_>,
     file: Baseline<'_>,
     rows: &[&str],
 ) -> Result<(), Failure<AcceptFault>>
-    requires { map (λ row. row.now) rows.now ≡ lines file.text.now }
-    ensures good { OnOk result (All (λ line. fault_of_line (map string_bytes words.now) listed.entry.pairs.now listed.entry.whole line ≡ None) (lines file.entry.text.now)) }
+    requires { map (λ row. row.now) rows.now ≡ lines_of_text file.text.now }
+    ensures good { OnOk result (All (λ line. fault_of_line (map string_bytes words.now) listed.entry.pairs.now listed.entry.whole line ≡ None) (lines_of_text file.entry.text.now)) }
     ensures fault { IfErr result (IfFault (IsRefused (map string_bytes words.now) listed.entry.pairs.now listed.entry.whole file.entry.path.now file.entry.text.now)) }
 {
     let lines = pair_lines(alloc, words, listed.pairs)?;
+    let lines = pair_texts(alloc, &lines)?;
+    let words = texts_of(alloc, words)?;
+    refuse_first(alloc, &words, listed, &lines, file, rows)
+}
+
+/// The same with the words and the lines of the listed pairs, which are looked up.
+fn refuse_first(
+    alloc: Global,
+    words: &Texts<'_>,
+    listed: Listed<'_>,
+    lines: &PairTexts<'_>,
+    file: Baseline<'_>,
+    rows: &[&str],
+) -> Result<(), Failure<AcceptFault>>
+    requires rows { map (λ row. row.now) rows.now ≡ lines_of_text file.text.now }
+    requires forth { lines.now.forth ≡ map (line_of_pair words.now) listed.pairs.now }
+    requires back { lines.now.back ≡ map (λ pair. line_of_pair words.now (turned pair)) listed.pairs.now }
+    ensures good { OnOk result (All (λ line. fault_of_line words.now listed.entry.pairs.now listed.entry.whole line ≡ None) (lines_of_text file.entry.text.now)) }
+    ensures fault { IfErr result (IfFault (IsRefused words.now listed.entry.pairs.now listed.entry.whole file.entry.path.now file.entry.text.now)) }
+{
     for (place, row) in rows.iter().enumerate() {
-        if let Some(kind) = fault_of(words, listed, &lines, row) {
+        if let Some(kind) = fault_of(words, listed, lines, row) {
             return Err(Failure::Fault(AcceptFault {
                 kind,
                 subject: String::from_str(alloc, row)?,
@@ -73,6 +97,19 @@ fn accepted(
 ) -> Result<Vec<(u32, u32)>, AllocError>
     ensures { IfOk result (λ found. found.items ≡ filter (is_accepted_by (map string_bytes words.now) (map (λ row. row.now) rows.now)) pairs.now) }
 {
+    let rows = texts_of_rows(alloc, rows)?;
+    accepted_by(alloc, words, pairs, &rows)
+}
+
+/// The same of lines that are looked up.
+fn accepted_by(
+    alloc: Global,
+    words: &[String],
+    pairs: &[(u32, u32)],
+    rows: &Texts<'_>,
+) -> Result<Vec<(u32, u32)>, AllocError>
+    ensures { IfOk result (λ found. found.items ≡ filter (is_accepted_by (map string_bytes words.now) rows.now) pairs.now) }
+{
     let mut found = Vec::new(alloc);
     for pair in pairs {
         if is_accepted(alloc, words, rows, *pair)? {
@@ -86,15 +123,19 @@ fn accepted(
 fn is_accepted(
     alloc: Global,
     words: &[String],
-    rows: &[&str],
+    rows: &Texts<'_>,
     pair: (u32, u32),
 ) -> Result<bool, AllocError>
-    ensures { IfOk result (λ is. is ≡ is_accepted_by (map string_bytes words.now) (map (λ row. row.now) rows.now) pair) }
+    ensures { IfOk result (λ is. is ≡ is_accepted_by (map string_bytes words.now) rows.now pair) }
 {
     let forth = pair_line(alloc, words, pair)?;
     let back = pair_line(alloc, words, (pair.1, pair.0))?;
-    Ok(
-        rows.iter()
-            .any(|row| *row == forth.as_str() || *row == back.as_str()),
-    )
+    Ok(has_either(rows, forth.as_bytes(), back.as_bytes()))
+}
+
+/// Whether one of two lines is among these.
+fn has_either(rows: &Texts<'_>, forth: &[u8], back: &[u8]) -> bool
+    ensures { result ≡ list_any (λ line. bytes_eq line forth.now || bytes_eq line back.now) rows.now }
+{
+    rows.contains(forth) || rows.contains(back)
 }

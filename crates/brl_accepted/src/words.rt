@@ -22,7 +22,7 @@ pub fn wording(alloc: Global, table: &Table, lines: &[Line<'_>]) -> Result<Vec<S
 }
 
 /// What the rule with a number says, and nothing where no rule has it.
-fn said(words: &[String], number: u32) -> &str
+pub(crate) fn said(words: &[String], number: u32) -> &str
     ensures { result.now ≡ words_said (map string_bytes words.now) number }
 {
     match words.get(number as usize) {

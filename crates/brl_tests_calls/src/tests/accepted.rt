@@ -1,7 +1,7 @@
 //! Files of accepted pairs of rules.
 use brl_accepted::{
-    AcceptFault, AcceptFaultKind, Baseline, Listed, read_accepted, read_back_law, wording,
-    write_pairs,
+    AcceptFault, AcceptFaultKind, Baseline, Listed, named_pairs, read_accepted, read_back_law,
+    wording, write_pairs,
 };
 use brl_failure::Failure;
 use brl_table::Table;
@@ -43,6 +43,27 @@ fn is_refused(
     }
 }
 
+/// Whether a file names just these pairs of a table's rules.
+fn are_named(alloc: Global, table: &Table, text: &str, pairs: &[(u32, u32)]) -> bool {
+    match named_pairs(alloc, table, &[], Baseline { path: "p", text }) {
+        Ok(named) => named.as_slice() == pairs,
+        Err(_) => false,
+    }
+}
+
+/// Whether the pairs that lines name are found by their numbers, in the order of the line.
+fn names(alloc: Global, table: &Table) -> bool {
+    are_named(alloc, table, "# none\n", &[])
+        && are_named(alloc, table, "rule x 1-12 / rule a 1\n", &[(2, 0)])
+        && are_named(
+            alloc,
+            table,
+            "rule a 1 / rule b 12\nrule a 1 / rule a 1",
+            &[(0, 1), (0, 0)],
+        )
+        && !are_named(alloc, table, "rule a 1 / rule y 12\n", &[])
+}
+
 /// Whether the line of a pair is written and read, and another is refused.
 fn reads(alloc: Global, table: &Table) -> Result<bool, Fail> {
     let words = wording(alloc, table, &[])?;
@@ -81,5 +102,6 @@ fn reads(alloc: Global, table: &Table) -> Result<bool, Fail> {
 fn calls_of_accepted_pairs(rt: HostRuntime) -> Result<(), Fail> {
     let table = table_of(rt.alloc(), "letter a 1; letter b 12; letter x 1-12")?;
     assert!(rt; reads(rt.alloc(), &table)?);
+    assert!(rt; names(rt.alloc(), &table));
     Ok(())
 }

@@ -1,15 +1,18 @@
-use Rattle.std.proofs.Common.{◌∙◌, ◌++◌, List, ℕ, map, rules, string_bytes, sym, tests}
-use Rattle.std.specs.List.{list_any}
-use Rattle.std.specs.Str.{bytes_eq}
-use Rattle.std.proofs.lemmas.Iterator.{YieldsList-from_slice}
-use Rattle.std.proofs.lemmas.Iterator.Search.{any_from_yields_List}
-use Rattle.brl_accepted.specs.Pairs.{between}
-use Rattle.brl_report.proofs.Mapped.{any_of_map}
+use Rattle.std.proofs.Common.{◌≡◌, ◌∙◌, ◌<◌, ◌+◌, ℕ, List, arith, false, inl, inr, subst, sym}
+use Rattle.std.proofs.lemmas.Bool.{cases_lt}
+use Rattle.brl_accepted.specs.Reading.{is_parted}
+use Rattle.brl_accepted.proofs.LineTests.{named_at, never_named}
 use Rattle.brl_accepted.proofs.lines.names_rules.Goals as goal
+
+pub loop-place-preserved : goal.loop-place-preserved
+loop-place-preserved c at within = elim (cases_lt at c.loop-place.place) [
+  | inl before ↦ c.loop-place.invariant at before
+  | inr past ↦ subst (λ (n : ℕ). is_parted c.args.words.now c.args.row.now n ≡ false) (let e : c.loop-place.place ≡ at = omega (arith, past, within) in e) (sym c.is_parted.ensures ∙ c.if-is_parted.false)
+]
+
+pub returns-then-is_parted : goal.returns-then-is_parted
+returns-then-is_parted c = sym (named_at c.args.words.now c.args.row.now c.loop-place.place (sym c.is_parted.ensures ∙ c.if-is_parted.true))
 
 pub returns : goal.returns
 returns c =
-    let words = map string_bytes c.args.words.now in
-    any_from_yields_List (λ one. list_any (λ (other : List ℕ). bytes_eq c.args.row.now (string_bytes one ++ (between ++ other))) words) _ _ _ c.any.ensures.ran
-    (YieldsList-from_slice _ c.iter.ensures.rest) (λ x b q k. search (rules, tests))
-    ∙ sym (any_of_map (λ (one : List ℕ). list_any (λ (other : List ℕ). bytes_eq c.args.row.now (one ++ (between ++ other))) words) string_bytes c.args.words.now)
+    sym (never_named c.args.words.now c.args.row.now c.longest.result c.longest.ensures (λ at within few. c.loop-place.invariant at (omega (arith, c.loop-place-test.false, c.min-last.ensures, within, few))))

@@ -1,22 +1,15 @@
-use Rattle.std.proofs.Common.{◌≡◌, ◌∙◌, ◌<◌, ◌≤◌, ℕ, All, List, [], None, arith, length, map, string_bytes, subst, sym}
-use Rattle.std.proofs.lemmas.List.{get_or-map, length-map, take_all}
-use Rattle.std.proofs.lemmas.List.Elements.{All-more}
-use Rattle.brl_accepted.specs.Reading.{fault_of}
+use Rattle.std.proofs.Common.{◌≡◌, All, IfErr, List, None, OnOk, subst, ℕ}
+use Rattle.std.specs.Str.Lines.{lines}
+use Rattle.brl_accepted.specs.Reading.{IsRefused, fault_of}
+use Rattle.brl_failure.specs.Failure.{IfFault}
 use Rattle.brl_accepted.proofs.reading.refuse_fault.Goals as goal
-
-pub loop-place-preserved : goal.loop-place-preserved
-loop-place-preserved c =
-    let listed = c.args.listed in
-    let P = λ (line : List ℕ). fault_of (map string_bytes c.args.words.now) listed.pairs.now listed.whole line ≡ None in
-    let rows = map (λ row. row.now) c.args.rows.now in
-    let within : c.loop-place.place < length rows = omega (arith, c.loop-place-test.true, length-map c.args.rows.now (λ row. row.now)) in
-    All-more P rows c.loop-place.place [] within c.loop-place.invariant
-    (subst P (sym (get_or-map (λ row. row.now) c.args.rows.now c.loop-place.place _ [] c.loop-place-test.true)) (sym c.fault_of.ensures ∙ c.in_default.is))
 
 pub returns-clause-good : goal.returns-clause-good
 returns-clause-good c =
     let listed = c.args.listed in
-    let rows = map (λ row. row.now) c.args.rows.now in
-    let P = λ (line : List ℕ). fault_of (map string_bytes c.args.words.now) listed.pairs.now listed.whole line ≡ None in
-    let all : length rows ≤ c.loop-place.place = omega (arith, c.loop-place-test.false, length-map c.args.rows.now (λ row. row.now)) in
-    subst (All P) (take_all c.loop-place.place rows all ∙ c.requires) c.loop-place.invariant
+    subst (λ (words : List (List ℕ)). OnOk c.refuse_first.result (All (λ line. fault_of words listed.pairs.now listed.whole line ≡ None) (lines c.args.file.text.now))) c.in_ok-words.ensures c.refuse_first.ensures.good
+
+pub returns-clause-fault : goal.returns-clause-fault
+returns-clause-fault c =
+    let listed = c.args.listed in
+    subst (λ (words : List (List ℕ)). IfErr c.refuse_first.result (IfFault (IsRefused words listed.pairs.now listed.whole c.args.file.path.now c.args.file.text.now))) c.in_ok-words.ensures c.refuse_first.ensures.fault

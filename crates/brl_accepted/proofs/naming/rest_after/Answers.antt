@@ -2,8 +2,8 @@ use Rattle.std.proofs.Common.{◌≡◌, ◌≢◌, ◌∙◌, ◌++◌, ℕ, Li
 use Rattle.std.proofs.lemmas.Bool.Decides.{Decides-eqb}
 use Rattle.std.proofs.lemmas.Slice.Eq.{strip_prefix_is}
 use Rattle.brl_accepted.specs.Pairs.{between}
-use Rattle.brl_accepted.proofs.LineTests.{drop_front}
-use Rattle.brl_accepted.proofs.lines.rest_after.Goals as goal
+use Rattle.brl_accepted.proofs.NamingLemmas.{drop_front}
+use Rattle.brl_accepted.proofs.naming.rest_after.Goals as goal
 
 abbrev Follows : List ℕ → List ℕ → Option (Bor (List ℕ)) → Type 0
 Follows one row found = MatchOption found ((rest : List ℕ) → row ≢ one ++ (between ++ rest)) (λ rest. row ≡ one ++ (between ++ rest.now))

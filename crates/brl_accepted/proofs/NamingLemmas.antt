@@ -1,0 +1,45 @@
+-- The pairs of rules that a line names.
+use Rattle.std.proofs.Common.{◌≡◌, ◌≢◌, ◌∙◌, ◌<◌, ◌+◌, ◌++◌, ℕ, Bool, false, List, [], ◌∷◌, ap, append-nil, append_assoc, get_or, length, map, refl, sym, take}
+use Rattle.std.specs.List.{filter, flat_map}
+use Rattle.std.proofs.lemmas.List.{take_more}
+use Rattle.std.proofs.lemmas.List.Concat.{flat_map-append}
+use Rattle.std.specs.Str.{bytes_eq}
+use Rattle.brl_accepted.specs.Naming.{pairs_of_line, pairs_saying}
+use Rattle.brl_accepted.specs.Pairs.{between, said}
+use Rattle.brl_accepted.proofs.LineTests.{same_front, same_order, unequal}
+
+-- what belongs to the next element of a list, after what belongs to those before it
+pub one_more : {X Y : Type 0} (f : X → List Y) (xs : List X) (i : ℕ) (d : X) (front now after : List Y) → i < length xs → now ≡ front ++ flat_map f (take i xs) → after ≡ now ++ f (get_or xs i d)
+    → after ≡ front ++ flat_map f (take (i + 1) xs)
+one_more {X} {Y} f xs i d front now after within is added =
+    let x = get_or xs i d in
+    let more : flat_map f (take (i + 1) xs) ≡ flat_map f (take i xs) ++ f x =
+    ap (flat_map f) (take_more xs i d within) ∙ flat_map-append f (take i xs) (x ∷ []) ∙ ap (λ (rest : List Y). flat_map f (take i xs) ++ rest) (append-nil (f x)) in
+    added ∙ ap (λ (ys : List Y). ys ++ f x) is ∙ append_assoc front (flat_map f (take i xs)) (f x) ∙ ap (λ (ys : List Y). front ++ ys) (sym more)
+
+-- what follows the same front is the same
+pub drop_front : (front xs ys : List ℕ) → front ++ xs ≡ front ++ ys → xs ≡ ys
+drop_front [] xs ys e = e
+drop_front (b ∷ front) xs ys e = drop_front front xs ys cc
+
+agree : (p q : ℕ → Bool) → ((s : ℕ) → p s ≡ q s) → (numbers : List ℕ) → filter p numbers ≡ filter q numbers
+agree p q same [] = refl
+agree p q same (s ∷ numbers) = rw (same s, agree p q same numbers) refl
+
+none_passes : (p : ℕ → Bool) → ((s : ℕ) → p s ≡ false) → (numbers : List ℕ) → filter p numbers ≡ []
+none_passes p none [] = refl
+none_passes p none (s ∷ numbers) = rw (none s) (none_passes p none numbers)
+
+module _ (words : List (List ℕ)) (numbers : List ℕ) (r : ℕ) (line : List ℕ) where
+  -- a line that goes on after a rule names the pairs of it and those that say the rest
+  pub pairs_after : (rest : List ℕ) → line ≡ said words r ++ (between ++ rest) → pairs_saying words numbers r rest ≡ pairs_of_line words numbers r line
+  pairs_after rest is = ap (map (λ s. (r, s))) (agree _ _ each numbers)
+    where
+      each : (s : ℕ) → bytes_eq (said words s) rest ≡ bytes_eq line (said words r ++ (between ++ said words s))
+      each s =
+          same_order (said words s) rest ∙ sym (same_front between rest (said words s)) ∙ sym (same_front (said words r) (between ++ rest) (between ++ said words s))
+          ∙ ap (λ (l : List ℕ). bytes_eq l (said words r ++ (between ++ said words s))) (sym is)
+
+  -- another line names none
+  pub no_pairs : ((rest : List ℕ) → line ≢ said words r ++ (between ++ rest)) → pairs_of_line words numbers r line ≡ []
+  no_pairs none = ap (map (λ s. (r, s))) (none_passes _ (λ s. unequal line (said words r ++ (between ++ said words s)) (none (said words s))) numbers)

@@ -1,0 +1,115 @@
+//! Which pairs of rules of a table a file names, where no list of pairs is given.
+ghost use Rattle.std.specs.Prelude.{◌≡◌, ◌≢◌, ◌++◌, ℕ, IfErr, IfOk, List, MatchOption, OnOk, [], false, flat_map, map, string_bytes};
+ghost use Rattle.brl_accepted.specs.Naming.{Names, named_pairs as all_named, pairs_of_line, pairs_of_rule, pairs_saying};
+ghost use Rattle.brl_accepted.specs.Pairs.{between, wording as words_of_rules};
+ghost use Rattle.brl_accepted.specs.Reading.{IsRefused};
+ghost use Rattle.brl_failure.specs.Failure.{IfFault};
+ghost use Rattle.brl_lines.specs.Views.{line_view};
+
+use crate::fault::AcceptFault;
+use crate::lines::{Listed, rows_of};
+use crate::reading::{Baseline, refuse_fault};
+use crate::words::{said, wording};
+use brl_failure::Failure;
+use brl_lines::Line;
+use brl_report::rule_numbers;
+use brl_rules::Table;
+use std::alloc::{AllocError, Global};
+
+/// The pairs of rules of a table of these lines that a file names by what the rules say, each in the
+/// order of a line that names it. The form of the file is that of `read_accepted`, of which this differs
+/// in that no list of pairs is asked: where several rules say the same, a line names each of them.
+///
+/// `NoSuchRules` for the first line that isn't what two rules of the table say.
+pub fn named_pairs(
+    alloc: Global,
+    table: &Table,
+    lines: &[Line<'_>],
+    file: Baseline<'_>,
+) -> Result<Vec<(u32, u32)>, Failure<AcceptFault>>
+    ensures names { IfOk result (λ pairs. Names table.now (map line_view lines.now) file.entry.text.now pairs.items) }
+    ensures fault { IfErr result (IfFault (IsRefused (words_of_rules table.now (map line_view lines.now)) [] false file.entry.path.now file.entry.text.now)) }
+{
+    let words = wording(alloc, table, lines)?;
+    let rows = rows_of(alloc, file.text)?;
+    let none = Listed {
+        pairs: &[],
+        whole: false,
+    };
+    refuse_fault(alloc, words.as_slice(), none, file, rows.as_slice())?;
+    let numbers = rule_numbers(alloc, table)?;
+    Ok(pairs_of_rows(alloc, words.as_slice(), numbers.as_slice(), rows.as_slice())?)
+}
+
+/// The pairs of rules with these numbers that lines name.
+fn pairs_of_rows(
+    alloc: Global,
+    words: &[String],
+    numbers: &[u32],
+    rows: &[&str],
+) -> Result<Vec<(u32, u32)>, AllocError>
+    ensures { IfOk result (λ pairs. pairs.items ≡ all_named (map string_bytes words.now) numbers.now (map (λ row. row.now) rows.now)) }
+{
+    let mut pairs = Vec::new(alloc);
+    for number in numbers {
+        push_rule(words, numbers, rows, *number, &mut pairs)?;
+    }
+    Ok(pairs)
+}
+
+/// Appends the pairs of a rule and another that lines name in this order.
+fn push_rule(
+    words: &[String],
+    numbers: &[u32],
+    rows: &[&str],
+    number: u32,
+    pairs: &mut Vec<(u32, u32)>,
+) -> Result<(), AllocError>
+    ensures { OnOk result (pairs.new.items ≡ pairs.old.items ++ pairs_of_rule (map string_bytes words.now) numbers.now (map (λ row. row.now) rows.now) number) }
+{
+    for row in rows {
+        push_row(words, numbers, row, number, pairs)?;
+    }
+    Ok(())
+}
+
+/// Appends those that a line names.
+fn push_row(
+    words: &[String],
+    numbers: &[u32],
+    row: &str,
+    number: u32,
+    pairs: &mut Vec<(u32, u32)>,
+) -> Result<(), AllocError>
+    ensures { OnOk result (pairs.new.items ≡ pairs.old.items ++ pairs_of_line (map string_bytes words.now) numbers.now number row.now) }
+{
+    match rest_after(said(words, number).as_bytes(), row.as_bytes()) {
+        Some(rest) => push_others(words, numbers, rest, number, pairs),
+        None => Ok(()),
+    }
+}
+
+/// Appends the pairs of a rule and each that says this.
+fn push_others(
+    words: &[String],
+    numbers: &[u32],
+    rest: &[u8],
+    number: u32,
+    pairs: &mut Vec<(u32, u32)>,
+) -> Result<(), AllocError>
+    ensures { OnOk result (pairs.new.items ≡ pairs.old.items ++ pairs_saying (map string_bytes words.now) numbers.now number rest.now) }
+{
+    for other in numbers {
+        if said(words, *other).as_bytes() == rest {
+            pairs.push((number, *other))?;
+        }
+    }
+    Ok(())
+}
+
+/// What follows a rule and the mark between two rules in a line that begins with these.
+fn rest_after<'a>(one: &[u8], row: &'a [u8]) -> Option<&'a [u8]>
+    ensures { MatchOption result ((rest : List ℕ) → row.now ≢ one.now ++ (between ++ rest)) (λ rest. row.now ≡ one.now ++ (between ++ rest.now)) }
+{
+    row.strip_prefix(one)?.strip_prefix(b" / ".as_slice())
+}
