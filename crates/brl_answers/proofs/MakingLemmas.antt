@@ -50,12 +50,12 @@ module _ (files : List NewFile) (i : ℕ) (file : NewFile) (within : i < length 
 
     only_more : OnlyTheseChange start new (take (i + 1) files)
     only_more = (
-        others.0 ∙ written.1.0,
-        λ p a none.
-            (let before = written.1.1 p a (none_before p none) in
-            let here = others.1 p a (λ same. not_here p none (sym same)) in
-            ((λ h. before.0 (here.0 h)), (λ h. here.1 (before.1 h)))),
-      )
+      others.0 ∙ written.1.0,
+      λ p a none.
+          (let before = written.1.1 p a (none_before p none) in
+          let here = others.1 p a (λ same. not_here p none (sym same)) in
+          ((λ h. before.0 (here.0 h)), (λ h. here.1 (before.1 h)))),
+    )
 
     -- this file wasn't made
     pub stops_here : AreWrittenBefore i files start new

@@ -59,7 +59,7 @@ pub fn check_by_file<S: Source, W: Progress>(
 
 /// The bytes of the certificate's file.
 fn bytes_at<S: Source>(alloc: Global, source: &mut S, path: &str) -> Result<Vec<u8>, RunFault>
-    ensures bytes { IfOk result (λ bytes. S.gives source.old path.now (Holds bytes.items)) }
+    ensures bytes { IfOk result (λ bytes. (S.gives source.old).may path.now (Holds bytes.items)) }
     ensures short { IfOk result (λ bytes. length bytes.items ≤ 16777216) }
     ensures fault { IfErr result (IsFaultOfFile (S.gives source.old) path.now) }
     ensures count { CountsFailure (S.faults source.old) (S.faults source.new) (load_outcome result) }

@@ -220,7 +220,16 @@ fn is_refused(alloc: Global, refusal: Failure<SourceFault>, fields: &str) -> Res
         refusal,
         failures: 0,
     };
-    is_answered(alloc, TRANSLATE, &mut Unreadable { files, folders: None }, b"a\n", fields)
+    is_answered(
+        alloc,
+        TRANSLATE,
+        &mut Unreadable {
+            files,
+            folders: None,
+        },
+        b"a\n",
+        fields,
+    )
 }
 
 #[test]

@@ -170,12 +170,7 @@ fn looked_for(
     watched_outcome(alloc, source, root)
 }
 
-fn found_in_folders(
-    alloc: Global,
-    files: &str,
-    folders: &str,
-    root: &str,
-) -> Result<String, Fail> {
+fn found_in_folders(alloc: Global, files: &str, folders: &str, root: &str) -> Result<String, Fail> {
     let mut source = Watched::new(alloc, 0);
     add_files_of_bytes(alloc, files, &mut source.files)?;
     looked_for(alloc, &mut source, folders, root)
@@ -193,12 +188,7 @@ const FAILING_IN_FOLDERS: &str = "\
 3|t: include u & one/u: letter a 1 & two/u: letter a 1|one,two|L2 ReadFailed one/u at t:1 after 3 reads, 1 failed
 ";
 
-fn fails_in_folders(
-    alloc: Global,
-    read: &str,
-    files: &str,
-    folders: &str,
-) -> Result<String, Fail> {
+fn fails_in_folders(alloc: Global, read: &str, files: &str, folders: &str) -> Result<String, Fail> {
     let mut source = Watched::new(alloc, read.parse()?);
     add_files_of_bytes(alloc, files, &mut source.files)?;
     looked_for(alloc, &mut source, folders, "t")
