@@ -1,4 +1,4 @@
-use Rattle.std.proofs.Common.{◌≡◌, ◌∙◌, ◌<◌, ◌++◌, List, [], ℕ, ap, arith, length, map, string_bytes, sym}
+use Rattle.std.proofs.Common.{◌∙◌, ◌<◌, ◌++◌, List, [], ℕ, ap, arith, length, map, string_bytes, sym}
 use Rattle.std.proofs.lemmas.List.{get_or-map, length-map}
 use Rattle.brl_accepted.specs.Naming.{pairs_of_line}
 use Rattle.brl_accepted.proofs.NamingLemmas.{one_more}
