@@ -188,7 +188,7 @@ module _ (before after : World) (same_file : MayBeSame) where
             let (numbers, some, are_unused, text) = some_unused (table_of lines) lines limit found rules (sym says.0 ∙ refuted) in
             ((path.now, table_of lines, table, (lines, numbers, some, are_unused, subst (Prints before after) (says.1 ∙ text) prints)), subst (FilesAfter before.gives after.gives) says.2 files)),
       )
-  means (question.Explain line) answer (fault, is, says) files prints = ((λ done. tt), (λ refuted. let e = sym says.0 ∙ refuted in cc))
+  means (question.Explain line) answer (text, notes, is, seen, says) files prints = ((λ done. tt), (λ refuted. let e = sym says.0 ∙ refuted in cc))
   means (question.Check path cert option) answer is files prints =
       let (left_out, spelled, judges) = spelled_in (spelled_by (option_copied option)) (IsBadLeftOut (option_copied option)) (λ left_out. Judges left_out before.gives path.now cert.now) answer is in
       let (bytes, holds, judged) = judges.checks in
@@ -266,7 +266,7 @@ module _ (before after : World) (same_file : MayBeSame) where
       none_changes before after answer written says.2 writes
   keeps (question.Rules path numbers) (Ok answer) status (paths, lines, are, passes, (known, says)) (written, writes, e) = none_changes before after answer written says.2 writes
   keeps (question.Unused path limit) (Ok answer) status (paths, lines, are, passes, (found, rules, says)) (written, writes, e) = none_changes before after answer written says.2 writes
-  keeps (question.Explain line) (Ok answer) status (fault, is, says) (written, writes, e) = none_changes before after answer written says.2 writes
+  keeps (question.Explain line) (Ok answer) status (text, notes, is, seen, says) (written, writes, e) = none_changes before after answer written says.2 writes
   keeps (question.Check path cert option) (Ok answer) status is (written, writes, e) =
       let (left_out, spelled, judges) = spelled_in (spelled_by (option_copied option)) (IsBadLeftOut (option_copied option)) (λ left_out. Judges left_out before.gives path.now cert.now) answer is in
       none_changes before after answer written (judgement_has_none left_out path.now judges.checks.0 answer judges.checks.2) writes
