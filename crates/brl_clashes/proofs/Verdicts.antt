@@ -2,19 +2,25 @@
 use Rattle.std.proofs.Common.{◌≡◌, ◌∙◌, ◌<◌, ◌≤◌, ◌+◌, ◌-◌, ◌++◌, ◌&&◌, ◌⊎◌, ℕ, zero, suc, All, Bool, true, false, List, [], ◌∷◌, Some, ap, arith, drop, filter, get_or, inl, inr, length, not, refl, slice_get, subst, sym}
 use Rattle.std.specs.Prelude.{◌==◌, ◌||◌, if◌then◌else◌, IsTrue, nat_eq}
 use Rattle.std.specs.List.{list_all, list_any}
+use Rattle.std.proofs.lemmas.Bool.{eqb-true}
 use Rattle.std.proofs.lemmas.Bool.Decides.{nat_tests}
 use Rattle.std.proofs.lemmas.List.{append-nil, drop_all}
+use Rattle.std.proofs.lemmas.List.Elements.{All-filter, filter_passes}
 use Rattle.std.proofs.lemmas.List.Folds.{list_any-append}
 use Rattle.std.proofs.lemmas.Option.{slice_get-get_or}
 use Rattle.brl_clashes.specs.Kinds.{kept, kinds_among, left_out_in, of_kinds, or_letter, section_kinds}
-use Rattle.brl_clashes.specs.Sections.{AreClashesOf, AreSections, are_whole, clashes_of, is_whole, lists_none, outcome_of}
+use Rattle.brl_clashes.specs.Accepted.{AreLeftOf, IsLeftOf, IsLeftOfList}
+use Rattle.brl_clashes.specs.ListedPairs.{has_pair, is_pair}
+use Rattle.brl_clashes.specs.Sections.{AreClashesOf, AreSections, are_whole, clashes_beside, clashes_of, is_whole, lists_none, outcome_of}
 use Rattle.brl_clashes.specs.declared.kind.Kind.{Kind}
 use Rattle.brl_clashes.specs.declared.section.Section.{Section}
 use Rattle.brl_clashes.specs.declared.verdict.Outcome.{Outcome}
 use Rattle.brl_clashes.specs.declared.verdict.Outcome.TheVariants.{Unambiguous, Clashing, Unfinished}
 use Rattle.brl_rules.specs.TableView.{TableView}
 use Rattle.brl_rules.specs.Text.{is_text}
-use Rattle.brl_search.specs.Clashes.{AreClashes, AreRuleClashes, IsRuleClash, rules_of_clashes}
+use Rattle.brl_pairs.specs.Divergence.{are_rules, has_rules}
+use Rattle.brl_rules.specs.Translation.{IsClash}
+use Rattle.brl_search.specs.Clashes.{AreClashes, AreRuleClashes, ClashesDiverge, IsRuleClash, rules_of_clashes}
 use Rattle.brl_traces.specs.Traces.{ClashesDivergeAtWithout, TracesDivergeAt}
 use Rattle.brl_search.specs.declared.table_clashes.ClashList.{ClashList}
 use Rattle.brl_search.specs.declared.table_clashes.ClashList.TheVariants.{Complete, Partial}
@@ -34,22 +40,26 @@ some_listed true true e = absurd cc
 some_listed true false e = refl
 some_listed false none e = absurd cc
 
+first_so : (a b : Bool) → (a && b) ≡ true → a ≡ true
+first_so true b e = refl
+first_so false b e = absurd cc
+
+second_so : (a b : Bool) → (a && b) ≡ true → b ≡ true
+second_so true b e = e
+second_so false b e = absurd cc
+
+or_true : (b : Bool) → (b || true) ≡ true
+or_true true = refl
+or_true false = refl
+
 -- ---- Places of a list
 
 module _ {X : Type 0} where
   -- a test that all pass is passed at each place
   passed : (p : X → Bool) (xs : List X) → list_all p xs ≡ true → (place : ℕ) (x : X) → slice_get xs place ≡ Some x → p x ≡ true
   passed p [] all place x there = absurd cc
-  passed p (y ∷ xs) all zero x there = let same : y ≡ x = cc in subst (λ (z : X). p z ≡ true) same (first_of (p y) (list_all p xs) all)
-    where
-      first_of : (a b : Bool) → (a && b) ≡ true → a ≡ true
-      first_of true b e = refl
-      first_of false b e = e
-  passed p (y ∷ xs) all (suc place) x there = passed p xs (second_of (p y) (list_all p xs) all) place x there
-    where
-      second_of : (a b : Bool) → (a && b) ≡ true → b ≡ true
-      second_of true b e = e
-      second_of false b e = absurd cc
+  passed p (y ∷ xs) all zero x there = let same : y ≡ x = cc in subst (λ (z : X). p z ≡ true) same (first_so (p y) (list_all p xs) all)
+  passed p (y ∷ xs) all (suc place) x there = passed p xs (second_so (p y) (list_all p xs) all) place x there
 
   -- a test that not all pass fails at some place
   failed : (p : X → Bool) (xs : List X) → list_all p xs ≡ false → (place : ℕ) × (x : X) × (slice_get xs place ≡ Some x) × (p x ≡ false)
@@ -97,18 +107,6 @@ is_empty (clash ∷ list) e = absurd (not_none (length list) e)
     not_none : (n : ℕ) → nat_eq (suc n) 0 ≡ true → ⊥
     not_none n e = grind (arith, nat_tests)
 
--- a whole list of no pair of rules
-alone : (left_out : List ℕ) (t : TableView) (limit : ℕ) (found : ClashList) → AreClashes left_out t limit found → is_whole found ≡ true → lists_none found ≡ true → IsUnambiguousWithout left_out t
-alone left_out t limit (Partial list states pairs) are whole none = absurd cc
-alone left_out t limit (Complete list body) are whole none =
-    let nothing : rules_of_clashes list.items ≡ [] = ap rules_of_clashes (is_empty list.items none) in
-    let diverge : ClashesDivergeAtWithout left_out [] t = subst (λ (rules : List (ℕ × ℕ)). ClashesDivergeAtWithout left_out rules t) nothing are.1.no_other in
-    λ left right left_is right_is left_none right_none same.
-    elim (diverge left right left_is right_is left_none right_none same) [
-      | inl e ↦ e
-      | inr at ↦ absurd (no_divergence t left right at)
-    ]
-
 -- the last section leaves out nothing more
 filter-none : (characters : List ℕ) → filter (λ (c : ℕ). false) characters ≡ []
 filter-none [] = refl
@@ -123,15 +121,132 @@ has_kinds : (kinds : List Kind) → (n : ℕ) × (length (or_letter kinds) ≡ s
 has_kinds [] = (0, refl)
 has_kinds (kind ∷ kinds) = (length kinds, refl)
 
--- where all sections are whole and list no pair of rules, no texts clash
-pub unambiguous : (t : TableView) (left_out : List ℕ) (limit : ℕ) (sections : List Section) → AreSections t left_out limit sections → outcome_of sections ≡ Unambiguous → IsUnambiguousWithout left_out t
-unambiguous t left_out limit sections are is =
-    let (whole, none) = none_listed (are_whole sections) (list_all (λ s. lists_none s.found) sections) is in
+-- ---- What is left beside accepted pairs
+
+-- the clashes that are left of a list are at the pairs that aren't accepted
+left_clashes : (accepted : List (ℕ × ℕ)) (found left : ClashList) → IsLeftOfList accepted found left → clashes_of left ≡ clashes_beside accepted (clashes_of found)
+left_clashes accepted (Complete list body) (Complete left same) is = is.0
+left_clashes accepted (Complete list body) (Partial left states pairs) is = absurd is
+left_clashes accepted (Partial list states pairs) (Partial left as_many of_them) is = is.0
+left_clashes accepted (Partial list states pairs) (Complete left same) is = absurd is
+
+left_whole : (accepted : List (ℕ × ℕ)) (found left : ClashList) → IsLeftOfList accepted found left → is_whole left ≡ is_whole found
+left_whole accepted (Complete list body) (Complete left same) is = refl
+left_whole accepted (Complete list body) (Partial left states pairs) is = absurd is
+left_whole accepted (Partial list states pairs) (Partial left as_many of_them) is = refl
+left_whole accepted (Partial list states pairs) (Complete left same) is = absurd is
+
+-- what is left at a place is left of the section at that place
+left_at : (accepted : List (ℕ × ℕ)) (sections left : List Section) → AreLeftOf accepted sections left → (place : ℕ) (x : Section) → slice_get left place ≡ Some x
+    → (s : Section) × (slice_get sections place ≡ Some s) × IsLeftOf accepted s x
+left_at accepted [] [] are place x there = absurd cc
+left_at accepted [] (y ∷ left) are place x there = absurd are
+left_at accepted (s ∷ sections) [] are place x there = absurd are
+left_at accepted (s ∷ sections) (y ∷ left) are zero x there = let same : y ≡ x = cc in (s, refl, subst (IsLeftOf accepted s) same are.0)
+left_at accepted (s ∷ sections) (y ∷ left) are (suc place) x there = left_at accepted sections left are.1 place x there
+
+left_length : (accepted : List (ℕ × ℕ)) (sections left : List Section) → AreLeftOf accepted sections left → length left ≡ length sections
+left_length accepted [] [] are = refl
+left_length accepted [] (y ∷ left) are = absurd are
+left_length accepted (s ∷ sections) [] are = absurd are
+left_length accepted (s ∷ sections) (y ∷ left) are = ap suc (left_length accepted sections left are.1)
+
+all_left_whole : (accepted : List (ℕ × ℕ)) (sections left : List Section) → AreLeftOf accepted sections left → are_whole left ≡ are_whole sections
+all_left_whole accepted [] [] are = refl
+all_left_whole accepted [] (y ∷ left) are = absurd are
+all_left_whole accepted (s ∷ sections) [] are = absurd are
+all_left_whole accepted (s ∷ sections) (y ∷ left) are = (λ i. left_whole accepted s.found y.found are.0.1 i && all_left_whole accepted sections left are.1 i)
+
+-- each clash that is left is one of those of the list, at a pair that isn't accepted
+all_left : (P : RuleClash → Type 0) (accepted : List (ℕ × ℕ)) (clashes : List RuleClash) → All P clashes → All P (clashes_beside accepted clashes)
+all_left P accepted clashes all = All-filter (λ (clash : RuleClash). not (has_pair accepted (clash.lesser, clash.greater))) P clashes all
+
+-- the texts of the clashes that are left clash by the table
+pub left_are_clashes : (t : TableView) (left_out : List ℕ) (limit : ℕ) (accepted : List (ℕ × ℕ)) (sections left : List Section) → AreSections t left_out limit sections → AreLeftOf accepted sections left
+    → All (λ s. AreClashesOf t (clashes_of s.found)) left
+left_are_clashes t left_out limit accepted sections left are are_left = λ k d within.
+    let (s, there, is) = left_at accepted sections left are_left k (get_or left k d) (slice_get-get_or left k d within) in
+    let P = λ (x : RuleClash). IsClash t x.clash.left x.clash.right x.clash.cells in
+    subst (AreClashesOf t) (sym (left_clashes accepted s.found (get_or left k d).found is.1)) (all_left P accepted (clashes_of s.found) (of_table t (left_out_in t left_out k) limit s.found (are.each k s there).clashes))
+
+-- ---- A table whose clashes are all accepted
+
+-- a pair of rules that is one of these is so in either order
+same_rules : (r s : ℕ) (x y : ℕ × ℕ) → is_pair x y ≡ true → are_rules r s x ≡ are_rules r s y
+same_rules r s x y same =
+    let first = eqb-true x.0 y.0 (first_so (x.0 == y.0) (x.1 == y.1) same) in
+    let second = eqb-true x.1 y.1 (second_so (x.0 == y.0) (x.1 == y.1) same) in
+    (λ i. ((first i == r) && (second i == s)) || ((first i == s) && (second i == r)))
+
+known_rules : (r s : ℕ) (accepted : List (ℕ × ℕ)) (pair : ℕ × ℕ) → has_pair accepted pair ≡ true → are_rules r s pair ≡ true → has_rules accepted r s ≡ true
+known_rules r s [] pair has is = absurd cc
+known_rules r s (x ∷ accepted) pair has is = cases (is_pair pair x) refl (λ e. known_rules r s accepted pair e is) has
+  where
+    cases : (b : Bool) → is_pair pair x ≡ b → (has_pair accepted pair ≡ true → has_rules accepted r s ≡ true) → (b || has_pair accepted pair) ≡ true → (are_rules r s x || has_rules accepted r s) ≡ true
+    cases true same later e = ap (λ b. b || has_rules accepted r s) (sym (same_rules r s pair x same) ∙ is)
+    cases false other later e = ap (λ b. are_rules r s x || b) (later e) ∙ or_true (are_rules r s x)
+
+-- where no clash of a list is left, the rules of each are accepted
+all_accepted : (accepted : List (ℕ × ℕ)) (list : List RuleClash) → clashes_beside accepted list ≡ [] → (r s : ℕ) → has_rules (rules_of_clashes list) r s ≡ true → has_rules accepted r s ≡ true
+all_accepted accepted [] none r s has = absurd cc
+all_accepted accepted (x ∷ list) none r s has = cases (has_pair accepted (x.lesser, x.greater)) refl (λ rest. all_accepted accepted list rest r s) none
+  where
+    by : (b : Bool) → are_rules r s (x.lesser, x.greater) ≡ b → has_pair accepted (x.lesser, x.greater) ≡ true → (has_rules (rules_of_clashes list) r s ≡ true → has_rules accepted r s ≡ true)
+        → (b || has_rules (rules_of_clashes list) r s) ≡ true → has_rules accepted r s ≡ true
+    by true is known later e = known_rules r s accepted (x.lesser, x.greater) known is
+    by false is known later e = later e
+
+    cases : (b : Bool) → has_pair accepted (x.lesser, x.greater) ≡ b → (clashes_beside accepted list ≡ [] → has_rules (rules_of_clashes list) r s ≡ true → has_rules accepted r s ≡ true)
+        → (if not b then x ∷ clashes_beside accepted list else clashes_beside accepted list) ≡ [] → has_rules accepted r s ≡ true
+    cases true known later rest = by (are_rules r s (x.lesser, x.greater)) refl known (later rest) has
+    cases false other later rest = absurd cc
+
+-- traces that diverge at some pairs of rules do at more
+wider : (t : TableView) (rules more : List (ℕ × ℕ)) (left right : List ℕ) → ((r s : ℕ) → has_rules rules r s ≡ true → has_rules more r s ≡ true) → TracesDivergeAt t rules left right → TracesDivergeAt t more left right
+wider t rules more left right widens at = record {
+  place = at.place;
+  one = at.one;
+  other = at.other;
+  before = at.before;
+  one_there = at.one_there;
+  other_there = at.other_there;
+  differ = at.differ;
+  pair = widens at.one.rule at.other.rule at.pair;
+}
+
+-- a whole list of which no clash is left
+none_left : (left_out : List ℕ) (t : TableView) (limit : ℕ) (accepted : List (ℕ × ℕ)) (found left : ClashList) → AreClashes left_out t limit found → IsLeftOfList accepted found left → is_whole left ≡ true → lists_none left ≡ true
+    → ClashesDivergeAtWithout left_out accepted t
+none_left left_out t limit accepted (Partial list states pairs) (Partial left as_many of_them) are is whole none = absurd cc
+none_left left_out t limit accepted (Partial list states pairs) (Complete left same) are is whole none = absurd is
+none_left left_out t limit accepted (Complete list body) (Partial left states pairs) are is whole none = absurd is
+none_left left_out t limit accepted (Complete list body) (Complete left same) are is whole none =
+    let nothing : clashes_beside accepted list.items ≡ [] = sym is.0 ∙ is_empty left.items none in
+    λ one other one_is other_is one_none other_none equal.
+    elim (are.1.no_other one other one_is other_is one_none other_none equal) [
+      | inl e ↦ inl e
+      | inr at ↦ inr (wider t (rules_of_clashes list.items) accepted one other (all_accepted accepted list.items nothing) at)
+    ]
+
+-- where all sections are whole and no clash is left of them, clashing texts diverge at accepted pairs
+pub only_accepted : (t : TableView) (left_out : List ℕ) (limit : ℕ) (accepted : List (ℕ × ℕ)) (sections left : List Section) → AreSections t left_out limit sections → AreLeftOf accepted sections left
+    → outcome_of left ≡ Unambiguous → ClashesDivergeAtWithout left_out accepted t
+only_accepted t left_out limit accepted sections left are are_left is =
+    let (whole, none) = none_listed (are_whole left) (list_all (λ s. lists_none s.found) left) is in
     let (n, many) = has_kinds (kinds_among t (kept t left_out)) in
-    let (s, there) = last_of sections n (are.all whole ∙ many) in
-    let section = are.each n s there in
-    let found : AreClashes left_out t limit s.found = subst (λ (lo : List ℕ). AreClashes lo t limit s.found) (nothing_more t left_out n many) section.clashes in
-    alone left_out t limit s.found found (passed (λ (x : Section). is_whole x.found) sections whole n s there) (passed (λ (x : Section). lists_none x.found) sections none n s there)
+    let all_whole : are_whole sections ≡ true = sym (all_left_whole accepted sections left are_left) ∙ whole in
+    let (x, there) = last_of left n (left_length accepted sections left are_left ∙ are.all all_whole ∙ many) in
+    let (s, at, of) = left_at accepted sections left are_left n x there in
+    let found : AreClashes left_out t limit s.found = subst (λ (lo : List ℕ). AreClashes lo t limit s.found) (nothing_more t left_out n many) (are.each n s at).clashes in
+    none_left left_out t limit accepted s.found x.found found of.1 (passed (λ (y : Section). is_whole y.found) left whole n x there) (passed (λ (y : Section). lists_none y.found) left none n x there)
+
+-- where none are accepted, no texts clash
+pub none_clash : (t : TableView) (left_out : List ℕ) → ClashesDivergeAtWithout left_out [] t → IsUnambiguousWithout left_out t
+none_clash t left_out diverge = λ left right left_is right_is left_none right_none same.
+    elim (diverge left right left_is right_is left_none right_none same) [
+      | inl e ↦ e
+      | inr at ↦ absurd (no_divergence t left right at)
+    ]
 
 -- ---- A table with clashes
 
@@ -152,15 +267,36 @@ fewer_left_out : (t : TableView) (some more left right cells : List ℕ) → IsC
 fewer_left_out t some more left right cells clash =
     record { clash = clash.clash; left_without = fewer some more left clash.left_without; right_without = fewer some more right clash.right_without }
 
-first_clash : (left_out : List ℕ) (t : TableView) (list : List RuleClash) → (length list == 0) ≡ false → AreRuleClashes left_out t list → (left right cells : List ℕ) × IsClashWithout left_out t left right cells
-first_clash left_out t [] some are = absurd cc
-first_clash left_out t (x ∷ list) some are = (x.clash.left, x.clash.right, x.clash.cells, (are.each 0 x (omega arith)).clash)
+-- the first clash that is left
+first_left : (left_out : List ℕ) (t : TableView) (accepted : List (ℕ × ℕ)) (list left : List RuleClash) → left ≡ clashes_beside accepted list → (length left == 0) ≡ false → AreRuleClashes left_out t list
+    → (x : RuleClash) × IsRuleClash left_out t x × (has_pair accepted (x.lesser, x.greater) ≡ false)
+first_left left_out t accepted list [] is some are = absurd cc
+first_left left_out t accepted list (x ∷ left) is some are =
+    let each : All (IsRuleClash left_out t) (x ∷ left) = subst (All (IsRuleClash left_out t)) (sym is) (all_left (IsRuleClash left_out t) accepted list are.each) in
+    let apart : All (λ y. not (has_pair accepted (y.lesser, y.greater)) ≡ true) (x ∷ left) = subst (All (λ (y : RuleClash). not (has_pair accepted (y.lesser, y.greater)) ≡ true)) (sym is) (filter_passes (λ (y : RuleClash). not (has_pair accepted (y.lesser, y.greater))) list) in
+    (x, each 0 x (omega arith), not_so (has_pair accepted (x.lesser, x.greater)) (apart 0 x (omega arith)))
+  where
+    not_so : (b : Bool) → not b ≡ true → b ≡ false
+    not_so true e = absurd cc
+    not_so false e = refl
 
--- where a section lists a pair of rules, two texts clash
-pub clash : (t : TableView) (left_out : List ℕ) (limit : ℕ) (sections : List Section) → AreSections t left_out limit sections → outcome_of sections ≡ Clashing → (left right cells : List ℕ) × IsClashWithout left_out t left right cells
-clash t left_out limit sections are is =
-    let some = some_listed (are_whole sections) (list_all (λ s. lists_none s.found) sections) is in
-    let (place, s, there, lists) = failed (λ (x : Section). lists_none x.found) sections some in
-    let section = are.each place s there in
-    let (left, right, cells, clashing) = first_clash (left_out_in t left_out place) t (clashes_of s.found) lists (rule_clashes t (left_out_in t left_out place) limit s.found section.clashes) in
-    (left, right, cells, fewer_left_out t left_out _ left right cells clashing)
+-- where a section has a clash that is left, two texts clash and diverge at a pair that isn't accepted
+pub other_clash : (t : TableView) (left_out : List ℕ) (limit : ℕ) (accepted : List (ℕ × ℕ)) (sections left : List Section) → AreSections t left_out limit sections → AreLeftOf accepted sections left
+    → outcome_of left ≡ Clashing → (r s : ℕ) × ClashesDiverge left_out t r s × (has_pair accepted (r, s) ≡ false)
+other_clash t left_out limit accepted sections left are are_left is =
+    let some = some_listed (are_whole left) (list_all (λ s. lists_none s.found) left) is in
+    let (place, x, there, lists) = failed (λ (y : Section). lists_none y.found) left some in
+    let (s, at, of) = left_at accepted sections left are_left place x there in
+    let section = are.each place s at in
+    let (clash, is_clash, other) = first_left (left_out_in t left_out place) t accepted (clashes_of s.found) (clashes_of x.found) (left_clashes accepted s.found x.found of.1) lists (rule_clashes t (left_out_in t left_out place) limit s.found section.clashes) in (
+      clash.lesser,
+      clash.greater,
+      record {
+        left = clash.clash.left;
+        right = clash.clash.right;
+        cells = clash.clash.cells;
+        clash = fewer_left_out t left_out _ clash.clash.left clash.clash.right clash.clash.cells is_clash.clash;
+        diverge = is_clash.diverge;
+      },
+      other,
+    )

@@ -1,10 +1,11 @@
 -- The text of a list of clashes: the sets of characters, its sections, and a verdict. The project's
 -- own choice.
-use Rattle.std.specs.Prelude.{ℕ, ◌≡◌, ◌-◌, ◌==◌, Bool, true, false, if◌then◌else◌, List, [], ◌∷◌, ◌++◌, codes, flat_map, length, slice_get}
+use Rattle.std.specs.Prelude.{ℕ, ◌≡◌, ◌-◌, ◌==◌, Bool, true, false, if◌then◌else◌, List, [], ◌∷◌, ◌++◌, Option, codes, flat_map, length, slice_get}
 use Rattle.std.specs.Fmt.{decimal}
 use Rattle.std.specs.Option.{option_map_or}
 use Rattle.brl_answers.specs.Answers.{counts_line, spelled_one_by_one, with_left_out_line}
 use Rattle.brl_cells.specs.Dots.{spelling}
+use Rattle.brl_clashes.specs.Accepted.{accepted_count, accepted_line, outcome_beside}
 use Rattle.brl_clashes.specs.SectionText.{IsSectionText, others_note, pairs_words}
 use Rattle.brl_clashes.specs.Sections.{listed_after, listed_pairs, outcome_of}
 use Rattle.brl_clashes.specs.Sets.{openers, plain, set_among}
@@ -64,9 +65,13 @@ verdict_pairs Unambiguous count = []
 verdict_pairs Clashing count = pairs_line count true
 verdict_pairs Unfinished count = pairs_line count false
 
--- the last lines: the table is unambiguous, or this many pairs of rules diverge
-abbrev pub verdict_text : List Section → List ℕ
-verdict_text sections = verdict_counts (outcome_of sections) sections ++ verdict_pairs (outcome_of sections) (length (listed_pairs sections))
+-- the last lines of what comes to this: the table is unambiguous, or this many pairs of rules diverge
+abbrev pub outcome_text : Outcome → List Section → List ℕ
+outcome_text outcome sections = verdict_counts outcome sections ++ verdict_pairs outcome (length (listed_pairs sections))
+
+-- the same of sections from which accepted pairs may be left out, and how many were
+abbrev pub verdict_text : Option ℕ → List Section → List ℕ
+verdict_text accepted sections = outcome_text (outcome_beside (accepted_count accepted) (outcome_of sections)) sections ++ accepted_line accepted
 
 -- ---- The whole text
 
@@ -77,9 +82,9 @@ AreSectionTexts t lines characters first before (s ∷ sections) text =
     (front rest : List ℕ) × IsSectionText t lines characters first before s front
     × AreSectionTexts t lines characters first (listed_after before s) sections rest × (text ≡ front ++ rest)
 
--- the text of a list of clashes: the sets of characters, the sections, and the verdict, with the line
--- of what is left out
-abbrev pub IsClashesText : TableView → List LineView → List ℕ → ℕ → List Section → List ℕ → Type 0
-IsClashesText t lines left_out first sections text =
+-- The text of a list of clashes: the sets of characters, the sections, and the verdict, with the line
+-- of what is left out. Where accepted pairs are left out of the sections, it says how many.
+abbrev pub IsClashesText : TableView → List LineView → List ℕ → ℕ → Option ℕ → List Section → List ℕ → Type 0
+IsClashesText t lines left_out first accepted sections text =
     (parts : List ℕ) × AreSectionTexts t lines (plain t left_out) first [] sections parts
-    × (text ≡ sets_text t (plain t left_out) ++ parts ++ with_left_out_line left_out (verdict_text sections))
+    × (text ≡ sets_text t (plain t left_out) ++ parts ++ with_left_out_line left_out (verdict_text accepted sections))

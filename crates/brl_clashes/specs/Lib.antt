@@ -1,6 +1,7 @@
 pub mod ClashesText
 pub mod SectionText
 pub mod Sections
+pub mod Accepted
 pub mod Kinds
 pub mod Sets
 pub mod Order

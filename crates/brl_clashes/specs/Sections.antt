@@ -38,9 +38,13 @@ lists_none found = length (clashes_of found) == 0
 abbrev pub list_none : List Section → Bool
 list_none sections = list_all (λ s. lists_none s.found) sections
 
+-- those of these clashes that are at none of some pairs of rules
+abbrev pub clashes_beside : List (ℕ × ℕ) → List RuleClash → List RuleClash
+clashes_beside pairs clashes = filter (λ clash. not (has_pair pairs (clash.lesser, clash.greater))) clashes
+
 -- the clashes of a section at pairs of rules that aren't among those of the sections before it
 abbrev pub new_in : List (ℕ × ℕ) → Section → List RuleClash
-new_in before s = filter (λ clash. not (has_pair before (clash.lesser, clash.greater))) (clashes_of s.found)
+new_in before s = clashes_beside before (clashes_of s.found)
 
 -- the pairs of rules of the sections so far, each once
 abbrev pub listed_after : List (ℕ × ℕ) → Section → List (ℕ × ℕ)

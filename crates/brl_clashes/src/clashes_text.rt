@@ -1,7 +1,7 @@
 //! The text of a list of clashes.
 ghost use Rattle.std.specs.Prelude.{◌≡◌, [], ℕ, All, IfOk, List, OnOk, map, string_bytes};
 ghost use Rattle.brl_clashes.specs.ClashesText.{AreSectionTexts, IsClashesText};
-ghost use Rattle.brl_clashes.specs.Sections.{AreClashesOf, AreSections, clashes_of, listed_pairs};
+ghost use Rattle.brl_clashes.specs.Sections.{AreClashesOf, clashes_of, listed_pairs};
 ghost use Rattle.brl_clashes.specs.Kinds.{table_characters};
 ghost use Rattle.brl_clashes.specs.Sets.{first_number as number_of_first};
 ghost use Rattle.brl_lines.specs.Views.{line_view};
@@ -12,31 +12,46 @@ use crate::listed_pairs::ListedPairs;
 use crate::representatives::first_numbers;
 use crate::section_text::section_text;
 use crate::sets::{plain_characters, sets_text};
-use crate::verdict::{outcome_of, verdict_counts, verdict_pairs};
+use crate::verdict::{accepted_line, outcome_beside, outcome_of, verdict_counts, verdict_pairs};
 use brl_answers::with_left_out_line;
 use brl_lines::Line;
 use brl_rules::Table;
 use brl_without::LeftOut;
 use std::alloc::{AllocError, Global};
 
+/// How much of a list is shown.
+#[derive(Clone, Copy)]
+pub struct Extent<'a> {
+    /// The characters that are left out.
+    pub left_out: &'a LeftOut,
+    /// How many clashes of each section are shown; 0 for all.
+    pub first: usize,
+    /// How many accepted pairs of rules were left out of the sections, where such pairs were read.
+    pub accepted: Option<usize>,
+}
+
 /// The text of the sections of a table with these lines: the sets of characters that the table treats
 /// as one, where the first of a set represents the others; for each section the first `first` pairs of
-/// rules that no earlier one lists, all of them where `first` is 0; and the verdict with its counts, and
-/// the characters that are left out.
+/// rules that no earlier one lists, all of them where `first` is 0; and the verdict with its counts, how
+/// many pairs are accepted, and the characters that are left out.
 ///
 /// Every line ends with LF. `AllocError` if memory runs out.
 pub fn sections_text(
     alloc: Global,
     table: &Table,
     lines: &[Line<'_>],
-    left_out: &LeftOut,
-    first: usize,
+    shown: Extent<'_>,
     sections: Vec<Section>,
 ) -> Result<String, AllocError>
-    requires { (limit : ℕ) × AreSections table.now left_out.now limit sections.items }
-    ensures { IfOk result (λ text. IsClashesText table.now (map line_view lines.now) left_out.now first sections.items (string_bytes text)) }
+    requires { All (λ s. AreClashesOf table.now (clashes_of s.found)) sections.items }
+    ensures { IfOk result (λ text. IsClashesText table.now (map line_view lines.now) shown.entry.left_out.now shown.entry.first shown.entry.accepted sections.items (string_bytes text)) }
 {
-    let outcome = outcome_of(sections.as_slice());
+    let Extent {
+        left_out,
+        first,
+        accepted,
+    } = shown;
+    let outcome = outcome_beside(accepted.unwrap_or(0), outcome_of(sections.as_slice()));
     let counts = verdict_counts(alloc, outcome, sections.as_slice())?;
     let kept = kept_characters(alloc, table, left_out)?;
     let plain = plain_characters(alloc, table, kept)?;
@@ -55,6 +70,7 @@ pub fn sections_text(
     text.push_str(parts.as_str())?;
     let mut verdict = counts;
     verdict.push_str(verdict_pairs(alloc, outcome, listed.len())?.as_str())?;
+    verdict.push_str(accepted_line(alloc, accepted)?.as_str())?;
     text.push_str(with_left_out_line(alloc, verdict, left_out)?.as_str())?;
     Ok(text)
 }

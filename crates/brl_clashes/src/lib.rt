@@ -6,10 +6,13 @@
 //! - `sections_text` is their text: the sets of characters that the table treats as one; of each section
 //!   the pairs of rules that no earlier one lists, the most suspicious first; and a verdict.
 //! - `outcome_of` says what the sections come to.
+//! - `pairs_of_sections` are the pairs of rules of all sections, and `without_accepted` the sections without
+//!   some of them.
 //!
 //! Room 5, the program (docs/dev/ARCHITECTURE.md). The definitions begin in `specs/ClashesText.antt`.
 #![tactic(auto)]
 
+mod accepted;
 mod clashes_text;
 mod kind;
 mod listed_pairs;
@@ -21,8 +24,9 @@ mod sections;
 mod sets;
 mod verdict;
 
-pub use clashes_text::sections_text;
+pub use accepted::{pairs_of_sections, without_accepted};
+pub use clashes_text::{Extent, sections_text};
 pub use kind::Kind;
 pub use section::Section;
 pub use sections::list_sections;
-pub use verdict::{Outcome, outcome_of};
+pub use verdict::{Outcome, are_whole, outcome_of};

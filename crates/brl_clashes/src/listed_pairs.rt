@@ -1,5 +1,5 @@
 //! Pairs of rules that are listed.
-ghost use Rattle.std.specs.Prelude.{◌≡◌, ◌++◌, ◌∷◌, [], length, OnErr, OnOk};
+ghost use Rattle.std.specs.Prelude.{◌≡◌, ◌++◌, ◌∷◌, [], length, IfOk, OnErr, OnOk};
 ghost use Rattle.brl_clashes.specs.ListedPairs.{has_pair};
 
 use indexmap::IndexSet;
@@ -47,6 +47,13 @@ impl ListedPairs {
         ensures { result ≡ has_pair self.now pair }
     {
         self.set.contains(&pair)
+    }
+
+    /// These pairs, in order.
+    pub fn to_vec(&self, alloc: Global) -> Result<Vec<(u32, u32)>, AllocError>
+        ensures { IfOk result (λ pairs. pairs.items ≡ self.now) }
+    {
+        Vec::from_slice(alloc, self.listed.as_slice())
     }
 
     /// Lists a pair, after those that are listed.

@@ -1,7 +1,6 @@
 //! The text of a section.
 ghost use Rattle.std.specs.Prelude.{◌≡◌, ◌++◌, ◌-◌, ◌≤◌, ℕ, IfOk, List, OnOk, filter, flat_map, length, map, not, string_bytes};
 ghost use Rattle.std.specs.List.Sorted.{IsPermutation, IsSorted};
-ghost use Rattle.brl_clashes.specs.ListedPairs.{has_pair};
 ghost use Rattle.brl_clashes.specs.Order.{suspicion_cmp};
 ghost use Rattle.brl_clashes.specs.SectionText.{
   IsSectionText,
@@ -12,7 +11,7 @@ ghost use Rattle.brl_clashes.specs.SectionText.{
   number_line,
   rule_clash_line,
 };
-ghost use Rattle.brl_clashes.specs.Sections.{AreClashesOf, clashes_of, listed_after};
+ghost use Rattle.brl_clashes.specs.Sections.{AreClashesOf, clashes_beside, clashes_of, listed_after};
 ghost use Rattle.brl_clashes.specs.Kinds.{table_characters};
 ghost use Rattle.brl_clashes.specs.Sets.{first_number as number_of_first, is_represented as is_represented_in};
 ghost use Rattle.brl_lines.specs.Views.{line_view};
@@ -69,8 +68,8 @@ pub fn section_text(
 }
 
 /// Those of these clashes whose pairs of rules aren't listed.
-fn new_clashes(listed: &ListedPairs, clashes: Vec<RuleClash>) -> Vec<RuleClash>
-    ensures { result.items ≡ filter (λ clash. not (has_pair listed.now (clash.lesser, clash.greater))) clashes.items }
+pub(crate) fn new_clashes(listed: &ListedPairs, clashes: Vec<RuleClash>) -> Vec<RuleClash>
+    ensures { result.items ≡ clashes_beside listed.now clashes.items }
 {
     let mut new = clashes;
     new.retain(|clash| !listed.contains((clash.lesser, clash.greater)));

@@ -1,5 +1,6 @@
 //! What the sections of a list come to.
 ghost use Rattle.std.specs.Prelude.{◌≡◌, IfOk, string_bytes};
+ghost use Rattle.brl_clashes.specs.Accepted.{accepted_line as line_of_accepted, accepted_words as words_of_accepted, outcome_beside as said_outcome};
 ghost use Rattle.brl_clashes.specs.ClashesText.{
   counts_of as counts_after,
   last_counts as last_counts_of,
@@ -40,8 +41,43 @@ pub fn outcome_of(sections: &[Section]) -> Outcome
     Outcome::Unambiguous
 }
 
+/// What is said of sections that come to this, where this many accepted pairs of rules were left out of
+/// them: such a table isn't unambiguous, also where no pair is left.
+pub fn outcome_beside(accepted: usize, outcome: Outcome) -> Outcome
+    ensures { result ≡ said_outcome accepted outcome }
+{
+    match outcome {
+        Outcome::Unambiguous if accepted > 0 => Outcome::Clashing,
+        other => other,
+    }
+}
+
+/// The line that says how many pairs of rules are accepted; empty where none are read from a file.
+pub fn accepted_line(alloc: Global, accepted: Option<usize>) -> Result<String, AllocError>
+    ensures { IfOk result (λ text. string_bytes text ≡ line_of_accepted accepted) }
+{
+    match accepted {
+        None => Ok(String::new(alloc)),
+        Some(count) => {
+            let pairs = accepted_words(count);
+            format!(in alloc; "accepted: {count}{pairs}\n")
+        }
+    }
+}
+
+/// The words after a number of accepted pairs of rules.
+fn accepted_words(count: usize) -> &'static str
+    ensures { result.now ≡ words_of_accepted count }
+{
+    if count == 1 {
+        " pair of rules"
+    } else {
+        " pairs of rules"
+    }
+}
+
 /// Whether all of these sections are whole.
-fn are_whole(sections: &[Section]) -> bool
+pub fn are_whole(sections: &[Section]) -> bool
     ensures { result ≡ all_whole sections.now }
 {
     sections.iter().all(|s| is_whole(&s.found))
