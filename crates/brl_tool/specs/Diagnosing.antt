@@ -1,5 +1,5 @@
 -- What `brl clashes` answers. The project's own choice.
-use Rattle.std.specs.Prelude.{ℕ, List, Result, Ok, Err}
+use Rattle.std.specs.Prelude.{ℕ, List, None, Result, Ok, Err}
 use Rattle.brl_answers.specs.Answers.{HasTextAndStatus}
 use Rattle.brl_answers.specs.declared.answer.Answer.{Answer}
 use Rattle.brl_answers.specs.declared.run_fault.RunFault.{RunFault}
@@ -29,7 +29,7 @@ status_of_outcome Unfinished = Undecided
 abbrev pub IsDiagnosis : List ℕ → TableView → List LineView → ℕ → ℕ → Answer → Type 0
 IsDiagnosis left_out t lines limit first answer =
     (sections : List Section) × AreSections t left_out limit sections
-    × ((text : List ℕ) × IsClashesText t lines left_out first sections text × HasTextAndStatus (status_of_outcome (outcome_of sections)) text answer)
+    × ((text : List ℕ) × IsClashesText t lines left_out first None sections text × HasTextAndStatus (status_of_outcome (outcome_of sections)) text answer)
 
 -- the clashes of a table of these lines were listed, or it doesn't define what is left out
 abbrev pub Diagnoses : List ℕ → TableView → List LineView → ℕ → ℕ → Result Answer RunFault → Type 0

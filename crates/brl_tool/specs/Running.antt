@@ -1,6 +1,6 @@
 -- What a run of the program comes to. The project's own choice. `same` says which paths may name one
 -- file, `input` what is left of the input where that is known.
-use Rattle.std.specs.Prelude.{ℕ, ◌≡◌, ◌≢◌, ◌<◌, ◌==◌, ◌⊎◌, Bool, if◌then◌else◌, length, List, [], ◌++◌, false, map, Option, Result, Ok, Err, String, codes, string_bytes}
+use Rattle.std.specs.Prelude.{ℕ, ◌≡◌, ◌≢◌, ◌<◌, ◌==◌, ◌⊎◌, Bool, if◌then◌else◌, length, List, [], ◌++◌, false, map, Option, None, Result, Ok, Err, String, codes, string_bytes}
 use Rattle.std.specs.Global.{Global, Vec}
 use Rattle.std.specs.Option.{option_copied}
 use Rattle.brl_accept.specs.Judging.{IsAcceptedWithout, counted}
@@ -97,14 +97,14 @@ ReportsClash before after =
 abbrev pub ReportsClashes : World → World → Type 0
 ReportsClashes before after =
     (path left_out left right cells : List ℕ) × (t : TableView) × IsTableOf before.gives path t × IsClashWithout left_out t left right cells
-    × ((lines : List LineView) × (first : ℕ) × (sections : List Section) × (text : List ℕ) × IsClashesText t lines left_out first sections text × Prints before after text)
+    × ((lines : List LineView) × (first : ℕ) × (sections : List Section) × (text : List ℕ) × IsClashesText t lines left_out first None sections text × Prints before after text)
 
 -- the text of a list of clashes was written, and the table of the file at the path is unambiguous
 -- without the characters that the option leaves out
 abbrev pub ReportsNoClash : World → World → List ℕ → Option (List ℕ) → Type 0
 ReportsNoClash before after path option =
     (left_out : List ℕ) × (spelled_by option ≡ Ok left_out) × (t : TableView) × IsTableOf before.gives path t × IsUnambiguousWithout left_out t
-    × ((lines : List LineView) × (first : ℕ) × (sections : List Section) × (text : List ℕ) × IsClashesText t lines left_out first sections text × Prints before after text)
+    × ((lines : List LineView) × (first : ℕ) × (sections : List Section) × (text : List ℕ) × IsClashesText t lines left_out first None sections text × Prints before after text)
 
 -- the list of the rules that no text uses was written, of the table of the file at some path
 abbrev pub ReportsUnused : World → World → Type 0

@@ -10,7 +10,7 @@ ghost use Rattle.brl_tool.specs.Verdicts.{IsUndefinedFault};
 
 use crate::notices::write_notices;
 use brl_answers::{Answer, RunFault, Status, left_out_of};
-use brl_clashes::{Outcome, list_sections, outcome_of, sections_text};
+use brl_clashes::{Extent as Shown, Outcome, list_sections, outcome_of, sections_text};
 use brl_lines::{Line, Loaded, Source, load};
 use brl_progress::Progress;
 use brl_rules::Table;
@@ -119,8 +119,12 @@ fn diagnosis<E: Write + Progress>(
     };
     let sections = list_sections(alloc, table, u64::from(extent.limit), scope)?;
     let status = status_of(outcome_of(sections.as_slice()));
-    let first = extent.first as usize;
-    let text = sections_text(alloc, table, lines, left_out, first, sections)?;
+    let shown = Shown {
+        left_out,
+        first: extent.first as usize,
+        accepted: None,
+    };
+    let text = sections_text(alloc, table, lines, shown, sections)?;
     Ok(Answer::new(status, text))
 }
 

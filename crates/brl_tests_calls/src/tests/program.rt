@@ -1,5 +1,8 @@
 //! The program.
-use brl_clashes::{Kind, Outcome, Section, list_sections, outcome_of, sections_text};
+use brl_clashes::{
+    Extent, Kind, Outcome, Section, are_whole, list_sections, outcome_of, pairs_of_sections,
+    sections_text, without_accepted,
+};
 use brl_failure::Failure;
 use brl_lines::MapSource;
 use brl_progress::NoProgress;
@@ -101,11 +104,12 @@ fn runs(alloc: Global) -> Result<bool, Fail> {
 fn is_of_letters(sections: &[Section]) -> bool {
     sections.len() == 1
         && matches!(&sections[0].kind, Kind::Letter)
+        && are_whole(sections)
         && matches!(outcome_of(sections), Outcome::Clashing)
 }
 
-/// The list of a table's clashes, as an author reads it.
-fn clashes_text(alloc: Global, table: &Table) -> Result<String, AllocError> {
+/// The list of a table's clashes, as an author reads it, where its first pair is accepted or none is.
+fn clashes_text(alloc: Global, table: &Table, accepts: bool) -> Result<String, AllocError> {
     let left_out = LeftOut::none(alloc);
     let scope = Scope {
         left_out: &left_out,
@@ -115,15 +119,26 @@ fn clashes_text(alloc: Global, table: &Table) -> Result<String, AllocError> {
     if !is_of_letters(sections.as_slice()) {
         return Ok(String::new(alloc));
     }
-    sections_text(alloc, table, &[], &left_out, 0, sections)
+    let mut pairs = pairs_of_sections(alloc, sections.as_slice())?;
+    pairs.truncate(usize::from(accepts));
+    let shown = Extent {
+        left_out: &left_out,
+        first: 0,
+        accepted: accepts.then_some(1),
+    };
+    let left = without_accepted(alloc, pairs.as_slice(), sections)?;
+    sections_text(alloc, table, &[], shown, left)
 }
 
 fn lists_clashes(alloc: Global) -> Result<bool, Fail> {
     let table = table_of(alloc, "letter a 1; letter b 12; letter x 1-12")?;
-    let text = clashes_text(alloc, &table)?;
+    let all = clashes_text(alloc, &table, false)?;
+    let none = clashes_text(alloc, &table, true)?;
+    let none_left = "\n0 pairs of rules diverge, and no others\naccepted: 1 pair of rules\n";
     Ok(
-        text.as_str()
-            .ends_with("\n1 pair of rules diverges, and no others\n"),
+        all.as_str()
+            .ends_with("\n1 pair of rules diverges, and no others\n")
+            && none.as_str().ends_with(none_left),
     )
 }
 

@@ -9,8 +9,7 @@ returns-in-Ok-clause-runs g c = (c.do_work.result, c.code.ensures, inl (c.in-Ok.
 pub returns-in-Ok-clause-clash : goal.returns-in-Ok-clause-clash
 returns-in-Ok-clause-clash g c one =
     let before = world (g.F.Source.gives (g.F.Files.looked c.in-Ok.work.folders c.args.files.now)) (g.O.Output.failures c.args.out.now) (g.O.Output.contents c.args.out.now) in
-    let after = world (g.F.Source.gives c.do_work.new.files) (g.O.Output.failures c.do_work.new.out) (g.O.Output.contents c.do_work.new.out) in
-    (
+    let after = world (g.F.Source.gives c.do_work.new.files) (g.O.Output.failures c.do_work.new.out) (g.O.Output.contents c.do_work.new.out) in (
       c.in-Ok.work.folders,
       (performed_one before after g.F.Files.same_file (g.I.Input.remaining c.args.input.now) c.in-Ok.work.task c.do_work.result c.do_work.ensures.performs (sym c.code.ensures ∙ one)).0,
     )
