@@ -300,3 +300,28 @@ other_clash t left_out limit accepted sections left are are_left is =
       },
       other,
     )
+
+-- ---- No accepted pairs
+
+all_beside : (list : List RuleClash) → list ≡ clashes_beside [] list
+all_beside [] = refl
+all_beside (x ∷ list) = ap (λ (others : List RuleClash). x ∷ others) (all_beside list)
+
+whole_left : (found : ClashList) → IsLeftOfList [] found found
+whole_left (Complete list body) = (all_beside list.items, refl)
+whole_left (Partial list states pairs) = (all_beside list.items, refl, refl)
+
+-- where no pairs are accepted, all of the sections is left
+all_are_left : (sections : List Section) → AreLeftOf [] sections sections
+all_are_left [] = tt
+all_are_left (s ∷ sections) = ((refl, whole_left s.found), all_are_left sections)
+
+-- where all sections are whole and list no pair of rules, no texts clash
+pub unambiguous : (t : TableView) (left_out : List ℕ) (limit : ℕ) (sections : List Section) → AreSections t left_out limit sections → outcome_of sections ≡ Unambiguous → IsUnambiguousWithout left_out t
+unambiguous t left_out limit sections are is = none_clash t left_out (only_accepted t left_out limit [] sections sections are (all_are_left sections) is)
+
+-- where a section lists a pair of rules, two texts clash
+pub clash : (t : TableView) (left_out : List ℕ) (limit : ℕ) (sections : List Section) → AreSections t left_out limit sections → outcome_of sections ≡ Clashing → (left right cells : List ℕ) × IsClashWithout left_out t left right cells
+clash t left_out limit sections are is =
+    let (r, s, diverge, other) = other_clash t left_out limit [] sections sections are (all_are_left sections) is in
+    (diverge.left, diverge.right, diverge.cells, diverge.clash)
