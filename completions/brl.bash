@@ -31,7 +31,7 @@ _brl() {
     # The command, the option that waits for its value, and the operands before the cursor.
     for ((at = 1; at < COMP_CWORD; at++)); do
         case ${COMP_WORDS[at]} in
-            --form | --first | --limit | --path | --without) option=${COMP_WORDS[at]} ;;
+            --accept | --form | --first | --limit | --path | --without | --write) option=${COMP_WORDS[at]} ;;
             =) ;;
             *)
                 if [[ -n $option ]]; then
@@ -54,11 +54,11 @@ _brl() {
         clash | trace) options='--escapes --lines --path --help' ;;
         rules | explain) options='--path --help' ;;
         search) options='--limit --without --path --help' ;;
-        clashes) options='--first --limit --without --path --help' ;;
+        clashes) options='--first --limit --without --accept --write --path --help' ;;
         unused) options='--limit --path --help' ;;
         check) options='--without --path --help' ;;
-        survey) options='--brief --help' ;;
-        cut) options='--rewrite --help' ;;
+        survey) options='--brief --path --help' ;;
+        cut) options='--rewrite --path --help' ;;
         help) options='' ;;
     esac
 
@@ -67,6 +67,8 @@ _brl() {
         _brl_reply < <(compgen -W 'ascii unicode' -- "$word")
     elif [[ $option == --path ]]; then
         _brl_folders "$word"
+    elif [[ $option == --accept || $option == --write ]]; then
+        _brl_files "$word"
     elif [[ -n $option ]]; then
         return
     elif [[ $word == -* ]]; then

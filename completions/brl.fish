@@ -7,7 +7,7 @@ function __brl_operands
     for word in (commandline -opc)[3..-1]
         if test $takes_value = yes
             set takes_value no
-        else if contains -- $word --form --first --limit --path --without
+        else if contains -- $word --accept --form --first --limit --path --without --write
             set takes_value yes
         else if not string match -q -- '-*' $word
             set count (math $count + 1)
@@ -57,8 +57,10 @@ complete -c brl -n '__brl_is clash trace' -l lines -d 'Show the lines of the tab
 complete -c brl -n '__brl_is survey' -l brief -d 'Leave the list of faults out'
 complete -c brl -n '__brl_is cut' -l rewrite -d 'Also read lines that define a character after noback'
 complete -c brl -n '__brl_is clashes' -l first -x -d 'How many lines of each section are shown'
+complete -c brl -n '__brl_is clashes' -l accept -r -F -d 'Leave the pairs of rules out that this file names'
+complete -c brl -n '__brl_is clashes' -l write -r -F -d 'Write the pairs of rules that are listed to this file'
 complete -c brl -n '__brl_is search clashes check' -l without -x -d 'Characters that the texts do not use'
-complete -c brl -n '__brl_is translate clash trace rules unused explain search clashes check' -l path -x -a '(__fish_complete_directories)' -d 'Look for files of tables in this folder, too'
+complete -c brl -n '__brl_is translate clash trace rules unused explain search clashes check survey cut' -l path -x -a '(__fish_complete_directories)' -d 'Look for files of tables in this folder, too'
 
 complete -c brl -n '__brl_at translate 0' -F
 complete -c brl -n '__brl_at clash 0' -F

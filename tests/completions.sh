@@ -121,19 +121,20 @@ for shell in bash zsh fish; do
         'clash --escapes table.ctb text' 'clash --lines table.ctb text' 'rules table.ctb' \
             'unused table.ctb' 'unused --limit' 'explain' 'search table.ctb table.cert' \
         'search --limit' 'search --without' 'search --limit=5 table.ctb table.cert' \
-        'clashes table.ctb' 'clashes --first' 'check table.ctb table.cert' 'cut table.ctb tables'; do
+        'clashes table.ctb' 'clashes --accept other.txt table.ctb' 'clashes --first' 'check table.ctb table.cert' 'cut table.ctb tables'; do
         offers "brl $words t"
     done
     # operands that are paths
     for words in \
         'translate --form ascii' 'trace --escapes' 'trace --escapes --lines' 'unused --limit 5' \
             'search table.ctb' 'search --limit 5' \
-        'search --without ab table.ctb' 'clashes --first 5' 'check table.ctb' \
+        'search --without ab table.ctb' 'clashes --first 5' 'clashes --accept' 'clashes --write' \
+        'clashes --accept other.txt' 'clashes --write other.txt' 'check table.ctb' \
         'check --without ab table.ctb' 'survey table.ctb other.txt' 'survey --brief'; do
         offers "brl $words t" table.ctb table.cert tables
     done
     offers 'brl cut table.ctb t' tables
-    for command in translate clash trace rules unused search clashes check; do
+    for command in translate clash trace rules unused search clashes check survey cut; do
         offers "brl $command --path t" tables
         offers "brl $command --path tables t" table.ctb table.cert tables
     done

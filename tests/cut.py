@@ -19,6 +19,7 @@ import sys
 import tempfile
 from collections.abc import Callable, Iterator
 from dataclasses import dataclass
+from functools import partial
 from pathlib import Path
 
 sys.dont_write_bytecode = True
@@ -77,20 +78,20 @@ class Room:
         ran = subprocess.run([self.program, *words], cwd=self.folder, input=input, timeout=60, **streams)
         return Answer(ran.stdout or b"", ran.stderr, ran.returncode)
 
-    def expected(self, table: str, folder: str, is_rewriting: bool) -> tuple[Answer, dict[str, bytes]]:
+    def expected(self, table: str, folder: str, is_rewriting: bool, looked: list[str]) -> tuple[Answer, dict[str, bytes]]:
         """The answer of the plain program, and the files that it would write."""
         with contextlib.chdir(self.folder):
             try:
-                files, text = plain_cut.cut(table, is_rewriting)
+                files, text = plain_cut.cut(table, is_rewriting, looked)
             except Stop as fault:
                 return Answer(b"", f"{fault}\n".encode(), 2), {}
         return Answer(text.encode(), b"", 0), {f"{folder}/{name}": it for name, it in files.items()}
 
-    def cut(self, table: str, folder: str, is_rewriting: bool) -> dict[str, bytes]:
+    def cut(self, table: str, folder: str, is_rewriting: bool, looked: list[str]) -> dict[str, bytes]:
         """Cuts a table. The answer, the files of the cut and all others are as the plain program has them."""
         before = tree(self.folder)
-        want, files = self.expected(table, folder, is_rewriting)
-        got = self.run("cut", table, folder, *(["--rewrite"] if is_rewriting else []))
+        want, files = self.expected(table, folder, is_rewriting, looked)
+        got = self.run("cut", table, folder, *(["--rewrite"] if is_rewriting else []), *(f"--path={it}" for it in looked))
         need(got == want, f"{got}\nwhere {want} is wanted")
         after, wanted = tree(self.folder), before | folders([*files]) | files
         for path in sorted(after.keys() | wanted.keys()):
@@ -111,7 +112,7 @@ class Room:
     def check_again(self, root: str, files: dict[str, bytes], is_rewriting: bool) -> None:
         """Cutting a cut again gives the same bytes, and leaves nothing out."""
         first = {path.partition("/")[2]: it for path, it in files.items()}
-        again = self.cut(root, "again", is_rewriting)
+        again = self.cut(root, "again", is_rewriting, [])
         need({path.partition("/")[2]: it for path, it in again.items()} == first, f"the cut of the cut: {again}")
 
 
@@ -122,10 +123,10 @@ def kept_lines(answer: Answer) -> int:
 # ---- Tables
 
 
-def check_table(room: Room, table: str, is_rewriting: bool) -> None:
-    """All that must hold of the cut of a table."""
-    want, _ = room.expected(table, "cut", is_rewriting)
-    files = room.cut(table, "cut", is_rewriting)
+def check_table(room: Room, table: str, is_rewriting: bool, looked: list[str]) -> None:
+    """All that must hold of the cut of a table, whose files are looked for in some folders too."""
+    want, _ = room.expected(table, "cut", is_rewriting, looked)
+    files = room.cut(table, "cut", is_rewriting, looked)
     if files:
         root = f"cut/{table.rpartition('/')[2]}"
         room.check_cut(root, kept_lines(want))
@@ -178,13 +179,15 @@ MORE = {
 }
 
 
-def tables() -> Iterator[tuple[str, dict[str, str | bytes]]]:
+def tables() -> Iterator[tuple[str, dict[str, str | bytes], tuple[str, ...]]]:
+    """Tables by their names and files, and the folders in which these are looked for too."""
     for case in plain_cut.CASES:
-        yield case.name, case.files
-    yield from MORE.items()
+        yield case.name, case.files, case.folders
+    for name, files in MORE.items():
+        yield name, files, ()
     for path in sorted(EXAMPLES.glob("*.ctb")):
         texts = {it.name: it.read_bytes() for it in EXAMPLES.glob("*.ct[bi]")}
-        yield f"the example {path.name}", {**texts, "t.ctb": path.read_bytes()}
+        yield f"the example {path.name}", {**texts, "t.ctb": path.read_bytes()}, ()
 
 
 def within(folder: str, files: dict[str, str | bytes]) -> dict[str, str | bytes]:
@@ -217,7 +220,7 @@ def second_file_is_there(room: Room) -> None:
 
 
 def same_cut_twice(room: Room) -> None:
-    room.cut("t.ctb", "d", False)
+    room.cut("t.ctb", "d", False, [])
     refused(room, "error: d/t.ctb is there already")
 
 
@@ -244,11 +247,11 @@ def link_to_nothing(room: Room) -> None:
 
 def other_files_stay(room: Room) -> None:
     plain_cut.make(room.folder, {"d/w": "kept", "d/a/w": "kept"})
-    room.cut("t.ctb", "d", False)
+    room.cut("t.ctb", "d", False, [])
 
 
 def folder_in_folders(room: Room) -> None:
-    room.cut("t.ctb", "e/f/g", False)
+    room.cut("t.ctb", "e/f/g", False, [])
 
 
 def whole_path(room: Room) -> None:
@@ -359,13 +362,13 @@ Case = tuple[str, dict[str, str | bytes], Callable[[Room], None]]
 
 
 def cases() -> Iterator[Case]:
-    for name, files in tables():
+    for name, files, looked in tables():
         ways = [(False, ""), (True, ""), (False, "tables/sub"), (True, "tables/sub")]
         for is_rewriting, folder in ways[:1] if len(files) > MANY_FILES else ways:
-            path = f"{folder}/t.ctb".lstrip("/")
+            path, *there = (f"{folder}/{it}".lstrip("/") for it in ("t.ctb", *looked))
             told = f"{name}, {path}{', --rewrite' if is_rewriting else ''}"
             placed = within(folder, files) if folder else files
-            yield told, placed, lambda room, path=path, is_rewriting=is_rewriting: check_table(room, path, is_rewriting)
+            yield told, placed, partial(check_table, table=path, is_rewriting=is_rewriting, looked=there)
     for case in PLACES:
         if is_skipped(case):
             print(f"skipped: {case.__name__}")

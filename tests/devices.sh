@@ -158,6 +158,32 @@ expect 'a table that is in a folder, with an include beside it' 0 'A\n' ''
 looked_for --path one "$work/only.ctb"
 expect 'a table by its whole path is looked for there alone' 2 '' "L1 NotFound $work/only.ctb\n"
 
+printf 'include there.ctb\ninclude far.ctb\n' >near.ctb
+printf 'pass2 x y\n' >one/far.ctb
+"$program" survey --path two --path one near.ctb only.ctb >out 2>err
+status=$?
+expect 'a survey of tables whose files are in folders' 0 "table: near.ctb
+B1 OutsideProfile pass2 at one/far.ctb:1
+opcode pass2: 1 (not in the profile)
+file one/far.ctb: 0 of 1 lines are read
+undefined characters (B5 to B7) are looked for once no line has another fault
+1 of 2 lines are read
+table: only.ctb
+2 of 2 lines are read
+no verdict: a survey doesn't decide whether two texts have the same cells
+" ''
+
+"$program" cut --path two --path one near.ctb whole >out 2>err
+status=$?
+expect 'a cut of a table whose files are in folders' 0 "1 of 2 lines are kept
+opcode pass2: 1 (not in the profile)
+file one/far.ctb: 0 of 1 lines are read
+no verdict: a cut doesn't decide whether two texts have the same cells
+" ''
+"$program" rules whole/near.ctb >out 2>err
+status=$?
+expect 'a cut is read without the folders' 0 '0  letter  a  12  whole/there.ctb:1\n' ''
+
 mkdir there.ctb
 looked_for --path one here.ctb
 expect 'a folder where an include is looked for first' 2 '' 'L2 ReadFailed there.ctb at here.ctb:1\n'
@@ -436,6 +462,46 @@ search including.ctb own.ctb
 expect 'an included file as the certificate' 2 '' "$overwrites"
 search including.ctb nothing.ctb
 expect 'an included file without lines as the certificate' 2 '' 'error: the certificate would overwrite nothing.ctb, a file of the table\n'
+
+# So are they, and a file of accepted pairs, for the pairs of rules of a list.
+clashes() {
+    "$program" clashes "$@" >out 2>err
+    status=$?
+}
+printf '#\n' >own.pairs
+ln -s own.pairs link.pairs
+for name in own.ctb ./own.ctb link.ctb hard.ctb; do
+    clashes own.ctb --write "$name"
+    expect "the table for pairs of rules, by $name" 2 '' 'error: the pairs of rules would overwrite own.ctb, a file that is read\n'
+done
+holds own.ctb 'letter a 1\nletter b 12\n' 'the table stays'
+for name in own.pairs link.pairs "$work/own.pairs"; do
+    clashes own.ctb --accept own.pairs --write "$name"
+    expect "the accepted pairs for others, by ${name##*/}" 2 '' 'error: the pairs of rules would overwrite own.pairs, a file that is read\n'
+done
+holds own.pairs '#\n' 'the accepted pairs stay'
+clashes own.ctb --accept folder
+expect 'a folder as the accepted pairs' 2 '' 'L2 ReadFailed folder\n'
+clashes own.ctb --accept bytes.ctb
+expect 'accepted pairs that are not UTF-8' 2 '' 'L3 NotUtf8 bytes.ctb\n'
+clashes own.ctb --accept /dev/zero
+expect 'accepted pairs without end' 2 '' 'L9 TooLarge /dev/zero\n'
+clashes alike.ctb --write none/alike.pairs
+expect 'pairs of rules in a folder that is missing' 2 '' 'U7 CannotWrite none/alike.pairs\n'
+if [ -c /dev/full ]; then
+    clashes alike.ctb --write /dev/full
+    expect 'pairs of rules on a full device' 2 '' 'U7 CannotWrite /dev/full\n'
+fi
+echo kept >kept.pairs
+clashes alike.ctb --write kept.pairs --limit 0
+[ "$status" = 3 ] || fail 'a list that passes its limit' "status $status"
+holds kept.pairs 'kept\n' 'a file of pairs where there may be others stays'
+clashes alike.ctb --write kept.pairs
+[ "$status" = 1 ] || fail 'pairs of rules are written' "status $status"
+holds kept.pairs 'letter a 1 / letter x 1-12\n' 'pairs of rules are written over another file'
+clashes alike.ctb --accept kept.pairs --write rest.pairs
+[ "$status" = 0 ] || fail 'pairs of rules are accepted' "status $status"
+holds rest.pairs '' 'no others are written'
 
 # A certificate replaces a plain file, with its permissions, and through a link.
 echo kept >kept.cert

@@ -3,8 +3,9 @@
 # examples/NAME.brf is what `translate examples/NAME.ctb` writes of examples/NAME.txt, examples/NAME.report what `clash
 # examples/NAME.ctb` writes of the two lines of examples/NAME.texts, examples/NAME.verdict what `check examples/NAME.ctb
 # examples/NAME.cert` writes, and examples/NAME.found what `search examples/NAME.ctb OUT` writes: where that is a certificate, a check
-# accepts it with the same numbers. examples/NAME.survey is what `survey examples/NAME.ctb` writes, and examples/NAME.trace what `trace
-# examples/NAME.ctb` writes of the line of examples/NAME.text.
+# accepts it with the same numbers. But for its notes examples/NAME.pairs is the file that `clashes examples/NAME.ctb --write FILE`
+# writes, and examples/NAME.accepted is what `clashes --accept examples/NAME.pairs examples/NAME.ctb` writes. examples/NAME.survey is
+# what `survey examples/NAME.ctb` writes, and examples/NAME.trace what `trace examples/NAME.ctb` writes of the line of examples/NAME.text.
 set -u
 
 if [ $# -ne 1 ]; then
@@ -67,6 +68,21 @@ for want in *.found; do
     echo "ok: examples/$name"
 done
 
+for want in *.pairs; do
+    name=${want%.pairs}
+    work=$(mktemp -d)
+    "$program" clashes "$name.ctb" --write "$work/pairs" >"$work/list"
+    status=$?
+    if [ "$status" != 1 ] || ! grep -v '^#' "$want" | cmp - "$work/pairs"; then
+        echo "FAILED: examples/$want, status $status"
+        rm -rf "$work"
+        exit 1
+    fi
+    rm -rf "$work"
+    echo "ok: examples/$want"
+    same "$name.accepted" 0 clashes --accept "$want" "$name.ctb"
+done
+
 for want in *.survey; do
     same "$want" 0 survey "${want%.survey}.ctb"
 done
@@ -77,7 +93,7 @@ for want in *.trace; do
     same "$want" 0 trace "$name.ctb" "$text"
 done
 
-cd .. && tests/shown.py "$program" README.md docs/guide/TUTORIAL.md || exit 1
+cd .. && tests/shown.py "$program" README.md docs/guide/TUTORIAL.md docs/guide/ACCEPTED.md || exit 1
 for tool in git make; do
     if ! command -v "$tool" >/dev/null; then
         echo "skipped: docs/guide/RECIPES.md, since there is no $tool"

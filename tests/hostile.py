@@ -283,6 +283,15 @@ def refusal(name: str, cert: str, fault: str) -> Run:
     return check(name, APART, cert, f"refused: {fault}\n")
 
 
+# A list of the pairs of rules of a table, and the same beside a file of these.
+PAIRS, STALE = "letter a 1 / letter x 1-12\n", "letter a 1 / letter b 12\n"
+WRITTEN = Run("", ["clashes", "--write", "o", "t.ctb"], {"t.ctb": ALIKE},
+              "small letters: 1 pair of rules diverges, and no others\n  x / ab  1-12  t.ctb:3 letter x  t.ctb:1 letter a\n"
+              "1 pair of rules diverges, and no others\n", 1, written=PAIRS)
+ACCEPTED = Run("", ["clashes", "--accept", "p", "--write", "o", "t.ctb"], {"t.ctb": ALIKE, "p": "# meant\n" + PAIRS},
+               "small letters: 0 pairs of rules diverge, and no others\n0 pairs of rules diverge, and no others\n"
+               "accepted: 1 pair of rules\n", written="")
+
 RUNS = [
     translate("a text is translated", FIRST, "abc a\n", "ABC A\n"),
     translate("three lines are translated", FIRST, "abc a\nb\nc\n", "ABC A\nB\nC\n"),
@@ -313,12 +322,25 @@ RUNS = [
     Run("a list of clashes passes a limit", ["clashes", "--limit", "1", "t.ctb"], {"t.ctb": TWO},
         "small letters: 0 pairs of rules diverge, and maybe others\nlimit: 2 states, 0 pairs\n"
         "0 pairs of rules diverge, and maybe others\n", 3),
+    Run("pairs of rules are written", WRITTEN.words, WRITTEN.files, WRITTEN.out, 1, written=PAIRS),
+    Run("pairs of rules are accepted", ACCEPTED.words, ACCEPTED.files, ACCEPTED.out, written=""),
+    Run("a line of accepted pairs is stale", ["clashes", "--accept", "p", "t.ctb"], {"t.ctb": ALIKE, "p": PAIRS + STALE}, status=2,
+        err=f"P2 NotListed {STALE.strip()} at p:2\n"),
+    Run("a line of accepted pairs names no rules", ["clashes", "--accept", "p", "t.ctb"], {"t.ctb": TWO, "p": PAIRS}, status=2,
+        err=f"P1 NoSuchRules {PAIRS.strip()} at p:1\n"),
+    Run("pairs would overwrite those that are accepted", ["clashes", "--accept", "p", "--write", "p", "t.ctb"],
+        {"t.ctb": ALIKE, "p": PAIRS}, status=2, err="error: the pairs of rules would overwrite p, a file that is read\n"),
     check("an empty table's certificate is accepted", "", EMPTY_CERT, "accepted: 1 states, 0 pairs\n", 0),
     check("a certificate of version 1 is accepted", "letter a 1\n", LETTER_CERT, "accepted: 3 states, 1 pairs\n", 0),
     check("a certificate of version 2 is accepted", APART, APART_CERT, "accepted: 3 states, 1 pairs\n", 0),
     Run("two texts clash", ["clash", "t.ctb", "ab", "x"], {"t.ctb": ALIKE}, REPORT, 1),
     Run("two tables are surveyed", ["survey", "t.ctb", "u.ctb"], {"t.ctb": TWO + "pass2 x\nletter c 9\n", "u.ctb": ""}, SURVEY),
     Run("a table is cut", ["cut", "t.ctb", "d", "--rewrite"], WHOLE, CUT_ANSWER, tree=CUT),
+    Run("a table whose files are in folders is cut", ["cut", "--path", "c", "--path", "e", "t.ctb", "d", "--rewrite"],
+        {"t.ctb": WHOLE["t.ctb"], "c/p/u.cti": WHOLE["p/u.cti"], "e/v.cti": WHOLE["v.cti"]},
+        CUT_ANSWER.replace("file p/", "file c/p/").replace("file v", "file e/v"), tree=CUT),
+    Run("a table whose file is in a folder is surveyed", ["survey", "--path", "e", "t.ctb"], {"t.ctb": "include u\n", "e/u": "letter a 1\n"},
+        "1 of 1 lines are read\nno verdict: a survey doesn't decide whether two texts have the same cells\n"),
     Run("a cut finds a file that is there", ["cut", "t.ctb", "d"], {**WHOLE, "d/v.cti": "kept\n"}, status=2,
         err="error: d/v.cti is there already\n", tree={"v.cti": "kept\n"}),
     Run("an include leads out of the table's folder", ["cut", "t.ctb", "d"], {"t.ctb": "\ninclude ../u\n"}, status=2,
@@ -396,6 +418,11 @@ FAILING = [
     failing("a certificate can't be put in its place", FOUND, {"FAIL_RENAME": 1}, "U7 CannotWrite o\n"),
     failing("a certificate over another can't be written", KEEPING, {"FAIL_FILE": 20}, "U7 CannotWrite o\n", written="kept\n"),
     failing("a certificate can't be put in another's place", KEEPING, {"FAIL_RENAME": 1}, "U7 CannotWrite o\n", written="kept\n"),
+    failing("a file of accepted pairs can't be read", ACCEPTED, {"FAIL_READ": 2}, "L2 ReadFailed p\n"),
+    failing("pairs of rules can't be written", WRITTEN, {"FAIL_FILE": 0}, "U7 CannotWrite o\n"),
+    failing("a part of the pairs can't be written", WRITTEN, {"FAIL_FILE": 20}, "U7 CannotWrite o\n"),
+    failing("pairs of rules can't be put in their place", WRITTEN, {"FAIL_RENAME": 1}, "U7 CannotWrite o\n"),
+    failing("a list of clashes can't be written", WRITTEN, {"FAIL_OUTPUT": 0}, "U4 OutputFailed\n", written=PAIRS),
     failing("a table that is cut can't be read", CUTTING, {"FAIL_READ": 1}, "L2 ReadFailed t.ctb\n"),
     failing("an included file of it can't be read", CUTTING, {"FAIL_READS": 2}, "L2 ReadFailed p/u.cti at t.ctb:1\n"),
     (Run("an included file of it is read the second time", CUTTING.words, WHOLE, CUT_ANSWER, tree=CUT), CUTTING, {"FAIL_READ": 2}),

@@ -1,8 +1,8 @@
 #!/usr/bin/env python3
 """A second `brl cut`, written anew and plainly: what tests/cut.py and tests/fuzz compare the program's cuts with.
 
-  tests/plain_cut.py                               checks itself on small tables, whose cuts are written out below
-  tests/plain_cut.py cut TABLE DIR [--rewrite]     does what `brl cut` does
+  tests/plain_cut.py                                               checks itself on small tables, whose cuts are written out below
+  tests/plain_cut.py cut TABLE DIR [--rewrite] [--path=FOLDER]..   does what `brl cut` does
 
 A line is read as docs/guide/TABLES.md says, and has the faults of docs/guide/FAULTS.md in their order.
 """
@@ -28,7 +28,7 @@ DEFINING = [*CLASSES, "uplow"]
 LISTS = ["numericmodechars", "numericnocontchars"]
 PROFILE = {*DEFINING, *PLACES, *SIGNS, *LISTS, "noback", "nofor", "display", "include"}
 
-MOST_FILE_BYTES, MOST_LINE_BYTES, MOST_DEPTH, MOST_INCLUDES = 16_777_216, 2048, 16, 1024
+MOST_FILE_BYTES, MOST_LINE_BYTES, MOST_DEPTH, MOST_PATHS = 16_777_216, 2048, 16, 1025
 MOST_BEFORE_BYTES = 1024
 MOST_CHARACTERS, MOST_RULES, MOST_RULE_CHARACTERS, MOST_CELLS = 1024, 4096, 32, 16
 
@@ -270,20 +270,46 @@ def read_file(path: str, name: str, place: str) -> File:
     return File(path, name, mark, lines)
 
 
+def is_there(path: str) -> bool:
+    """Whether something is at a path, also where it can't be read."""
+    try:
+        open(path, "rb").close()
+    except (FileNotFoundError, NotADirectoryError):
+        return False
+    except OSError:
+        return True
+    return True
+
+
+def in_folder(folder: str, name: str) -> str:
+    return folder + ("" if not folder or folder.endswith("/") else "/") + name
+
+
 class Files:
     """The files of a table, in the order in which they are read, and its lines that may be read, in their order."""
 
-    def __init__(self, root: str) -> None:
-        self.folder, _, name = root.rpartition("/")
-        self.folder += "/" if "/" in root else ""
+    def __init__(self, root: str, folders: list[str]) -> None:
+        self.folders = folders
         self.files: list[File] = []
         self.lines: list[Line] = []
-        # the paths of include lines that were looked for
+        # the paths that were looked for
         self.asked: set[str] = set()
+        path = self.find(root, root, "")
+        self.folder = path[: path.rfind("/") + 1]
         try:
-            self.walk(root, name, "", 1)
+            self.walk(path, root.rpartition("/")[2], "", 1)
         except FileNotFoundError:
             raise Stop(f"L1 NotFound {root}") from None
+
+    def find(self, usual: str, name: str, place: str) -> str:
+        """The path where a file is found; its usual one, where there is none."""
+        for path in [usual, *(in_folder(it, name) for it in self.folders if not name.startswith("/"))]:
+            if path not in self.asked and len(self.asked) == MOST_PATHS * (1 + len(self.folders)):
+                raise Stop(f"L8 TooManyIncludes {path}{place}")
+            self.asked.add(path)
+            if is_there(path):
+                return path
+        return usual
 
     def walk(self, path: str, name: str, place: str, depth: int) -> None:
         """Reads a file, and those that it includes; the include lines that aren't followed get their comments."""
@@ -299,20 +325,15 @@ class Files:
     def include(self, line: Line, place: str, depth: int) -> str:
         """Follows an include line; says why, where it is left out."""
         name = line.words[1]
-        path = self.folder + name
         if name.endswith(".dic"):
             return f"dictionary {name}"
         if set(name.split("/")) & {"", ".", ".."}:
             raise Stop(f"error: include {name} at {place} leads out of the table's folder")
+        path = self.find(self.folder + name, name, f" at {place}")
         if path in [it.path for it in self.files]:
             return f"repeated {name}"
-        if path in self.asked:
-            return f"L1 NotFound {name}"
-        if len(self.asked) == MOST_INCLUDES:
-            raise Stop(f"L8 TooManyIncludes {path} at {place}")
-        if depth == MOST_DEPTH:
+        if depth == MOST_DEPTH and is_there(path):
             raise Stop(f"L5 TooDeep {path} at {place}")
-        self.asked.add(path)
         try:
             self.walk(path, name, f" at {place}", depth + 1)
         except FileNotFoundError:
@@ -424,9 +445,9 @@ def report(files: list[File], is_rewriting: bool) -> str:
     return text + NO_VERDICT
 
 
-def cut(root: str, is_rewriting: bool) -> tuple[dict[str, bytes], str]:
+def cut(root: str, is_rewriting: bool, folders: Iterable[str] = ()) -> tuple[dict[str, bytes], str]:
     """The files of a table's cut, by their names in the order in which they are written, and what is printed."""
-    files = Files(root)
+    files = Files(root, [*folders])
     if is_rewriting:
         rewrite(files.lines)
     cut_lines(files.lines)
@@ -460,9 +481,10 @@ def write(folder: str, files: dict[str, bytes]) -> None:
 
 
 def run(words: list[str]) -> int:
-    table, folder = [it for it in words if it != "--rewrite"]
+    table, folder = [it for it in words if not it.startswith("--")]
+    folders = [it.removeprefix("--path=") for it in words if it.startswith("--path=")]
     try:
-        files, text = cut(table, "--rewrite" in words)
+        files, text = cut(table, "--rewrite" in words, folders)
         write(folder, files)
     except Stop as fault:
         sys.stderr.buffer.write(f"{fault}\n".encode())
@@ -476,13 +498,17 @@ def run(words: list[str]) -> int:
 
 @dataclass(frozen=True)
 class Case:
-    """The files of a table whose root is `t.ctb`, those of its cut, and the first lines that are printed; or a fault."""
+    """
+    The files of a table whose root is `t.ctb`, those of its cut, and the first lines that are printed; or a fault. Files are
+    looked for in the folders too.
+    """
 
     name: str
     files: dict[str, str | bytes]
     cut: dict[str, str | bytes]
     told: str
     is_rewriting: bool = False
+    folders: tuple[str, ...] = ()
 
 
 def one(name: str, table: str | bytes, cut: str | bytes, told: str, is_rewriting: bool = False) -> Case:
@@ -507,6 +533,11 @@ def includes(names: Iterable[int]) -> str:
 def empty(names: Iterable[int]) -> dict[str, str | bytes]:
     """Files without lines."""
     return {str(it): "" for it in names}
+
+
+def looking(name: str, folders: str, files: dict[str, str | bytes], cut: dict[str, str | bytes], told: str) -> Case:
+    """A case whose files are looked for in some folders too."""
+    return Case(name, files, cut, told, folders=tuple(folders.split()))
 
 
 ABC = "letter a 1\nletter b 12\nletter c 14\n"
@@ -623,6 +654,32 @@ CASES = [
         "2 of 2 lines are kept, 2 of them rewritten\n", True),
     Case("a line that is rewritten in an include", {"t.ctb": "include u\nletter a 2\n", "u": "noback letter a 1\n"},
          {"t.ctb": "include u\nletter a 2\n", "u": "letter a 1 # noback letter a 1\n"}, "2 of 2 lines are kept, 1 of them rewritten\n", True),
+    looking("a file in a folder", "one", {"t.ctb": "include u\nletter b 1\n", "one/u": "letter a 1\npass2 x\n"},
+            {"t.ctb": "include u\nletter b 1\n", "u": "letter a 1\n# B1 OutsideProfile pass2: pass2 x\n"},
+            "2 of 3 lines are kept\nopcode pass2: 1 (not in the profile)\nfile one/u: 1 of 2 lines are read\n"),
+    looking("a file that is there, and in a folder too", "one", {"t.ctb": "include u\n", "u": "letter a 1\n", "one/u": "letter a 2\n"},
+            {"t.ctb": "include u\n", "u": "letter a 1\n"}, "1 of 1 lines are kept\n"),
+    looking("folders in their order", "none two/ one", {"t.ctb": "include a/u\ninclude v\n", "one/a/u": "letter a 1\n", "two/a/u": "letter a 2\n", "one/v": "letter b 1\n"},
+            {"t.ctb": "include a/u\ninclude v\n", "a/u": "letter a 2\n", "v": "letter b 1\n"}, "2 of 2 lines are kept\n"),
+    looking("a table in a folder, with an include beside it", "two one",
+            {"one/t.ctb": "include u\ninclude v\n", "one/u": "letter a 1\n", "two/u": "letter a 2\n", "two/v": "letter b 1\n"},
+            {"t.ctb": "include u\ninclude v\n", "u": "letter a 1\n", "v": "letter b 1\n"}, "2 of 2 lines are kept\n"),
+    looking("a file in a folder by two names", "one one/a", {"t.ctb": "include a/u\ninclude u\n", "one/a/u": "letter a 1\ninclude u\n"},
+            {"t.ctb": "include a/u\n# repeated u: include u\n", "a/u": "letter a 1\n# repeated u: include u\n"},
+            "1 of 3 lines are kept\nopcode include: 2\nfile t.ctb: 0 of 1 lines are read\nfile one/a/u: 1 of 2 lines are read\n"),
+    looking("the table by its path in a folder", "a", {"a/u": "letter a 1\n", "t.ctb": "include u\ninclude a/u\n"},
+            {"t.ctb": "include u\n# repeated a/u: include a/u\n", "u": "letter a 1\n"},
+            "1 of 2 lines are kept\nopcode include: 1\nfile t.ctb: 0 of 1 lines are read\n"),
+    looking("a file that is nowhere, and a dictionary in a folder", "one", {"t.ctb": "include u\ninclude h.dic\nletter a 1\n", "one/h.dic": "x\n"},
+            {"t.ctb": "# L1 NotFound u: include u\n# dictionary h.dic: include h.dic\nletter a 1\n"},
+            "1 of 3 lines are kept\nopcode include: 2\nfile t.ctb: 1 of 3 lines are read\n"),
+    Case("a table that is nowhere", {"one/u": ""}, {}, "L1 NotFound t.ctb\n", folders=("one", "two")),
+    Case("a file in a folder that is too deep", {**chain(16), "c16": "include u\n", "one/u": ""}, {}, "L5 TooDeep one/u at c16:1\n", folders=("one",)),
+    Case("a file in a folder that isn't UTF-8", {"t.ctb": "include u\n", "one/u": b"\xff"}, {}, "L3 NotUtf8 one/u at t.ctb:1\n", folders=("one",)),
+    Case("an include that leads out, to a folder", {"t.ctb": "include ../u\n", "one/u": ""}, {},
+         "error: include ../u at t.ctb:1 leads out of the table's folder\n", folders=("one/a",)),
+    Case("as many files as may be, in a folder", {"t.ctb": includes(range(1024)), **{f"one/{name}": "" for name in range(1024)}},
+         {"t.ctb": includes(range(1024)), **empty(range(1024))}, "0 of 0 lines are kept\n", folders=("one",)),
     one("a line that is rewritten makes a digit of a letter", "letter b 12\nnoback litdigit 1 2\nnumericnocontchars 1b\n",
         "letter b 12\nlitdigit 1 2 # noback litdigit 1 2\n# B7 TwoRoles 1b: numericnocontchars 1b\n",
         "2 of 3 lines are kept, 1 of them rewritten\nopcode numericnocontchars: 1\nfile t.ctb: 2 of 3 lines are read\n", True),
@@ -645,7 +702,7 @@ def wrong(case: Case) -> str:
     with tempfile.TemporaryDirectory() as folder, contextlib.chdir(folder):
         make(Path(), case.files)
         try:
-            files, text = cut("t.ctb", case.is_rewriting)
+            files, text = cut("t.ctb", case.is_rewriting, case.folders)
         except Stop as fault:
             return "" if f"{fault}\n" == case.told and not case.cut else f"the fault {fault}"
         want = {name: as_bytes(it) for name, it in case.cut.items()}

@@ -54,6 +54,7 @@ def after_of(place: str, before: int) -> Cond:
 
 @dataclass
 class Character:
+    opcode: str = ""
     cells: list[str] = field(default_factory=list)
     classes: int = 0
     is_literary: bool = False
@@ -117,11 +118,11 @@ class Table:
             elif opcode == "uplow":
                 upper, lower = characters(operands[0])
                 cells = operands[1].partition(",")
-                self.define(upper, cells[0], CLASSES["uppercase"])
-                self.define(lower, cells[2] or cells[0], CLASSES["lowercase"])
+                self.define(upper, opcode, cells[0], CLASSES["uppercase"])
+                self.define(lower, opcode, cells[2] or cells[0], CLASSES["lowercase"])
                 self.chars[upper].fold = self.chars[upper].fold or lower
             elif opcode in CLASSES:
-                self.define(characters(operands[0]), operands[1], CLASSES[opcode], opcode == "litdigit")
+                self.define(characters(operands[0]), opcode, operands[1], CLASSES[opcode])
             elif opcode in SIGNS:
                 self.signs[SIGNS[opcode]] = operands[0].split("-")
             elif opcode not in ("numericmodechars", "numericnocontchars"):
@@ -133,11 +134,11 @@ class Table:
                 self.chars[it].is_nocont = True
         self.rules = sorted((self.rule(*it) for it in found), key=rank)
 
-    def define(self, char: str, dots: str, classes: int, is_literary: bool = False) -> None:
+    def define(self, char: str, opcode: str, dots: str, classes: int) -> None:
         """A line that defines a character: the first gives its cells, or the first `litdigit`."""
-        info = self.chars.setdefault(char, Character())
+        info, is_literary = self.chars.setdefault(char, Character()), opcode == "litdigit"
         if not info.cells or (is_literary and not info.is_literary):
-            info.cells = dots.split("-")
+            info.opcode, info.cells = opcode, dots.split("-")
         info.classes |= classes
         info.is_literary |= is_literary
 

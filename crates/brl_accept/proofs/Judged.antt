@@ -172,9 +172,6 @@ module _ (left_out : List ℕ) (excused : Excused) (nothing : IsNothing excused)
     excused_sets : IsClosed m (sets_of body) → IsClosedBody m excused body
     excused_sets closed = subst₂ (λ (exchanged accepted : List (ℕ × ℕ)). IsClosedUpTo m exchanged accepted (sets_of body)) (sym nothing.1) (sym nothing.0) (up_to_from_closed m (sets_of body) closed)
 
-    plain_refusal : (fault : AcceptFault) → IsRefusedUpTo m excused body fault → IsRefused m body fault
-    plain_refusal fault h = refused_plainly m body excused nothing.0 nothing.1 fault h
-
   plain_closed : (t : TableView) (cert : Certificate) → (closed_up_to left_out excused).IsClosed t cert → (closed_without left_out).IsClosed t cert
   plain_closed t (Window body) h = plain_sets (without left_out (window_machine t)) body h
   plain_closed t (Dues body) h = plain_sets (without left_out (dues_machine t)) body h
@@ -186,9 +183,9 @@ module _ (left_out : List ℕ) (excused : Excused) (nothing : IsNothing excused)
   excused_closed t (Word body) h = excused_sets (without left_out (dues_machine t)) body h
 
   plain_refused : (fault : AcceptFault) (t : TableView) (cert : Certificate) → (closed_up_to left_out excused).IsRefused fault t cert → (closed_without left_out).IsRefused fault t cert
-  plain_refused fault t (Window body) h = plain_refusal (without left_out (window_machine t)) body fault h
-  plain_refused fault t (Dues body) h = plain_refusal (without left_out (dues_machine t)) body fault h
-  plain_refused fault t (Word body) h = plain_refusal (without left_out (dues_machine t)) body fault h
+  plain_refused fault t (Window body) h = refused_plainly (without left_out (window_machine t)) body excused nothing.0 nothing.1 fault h
+  plain_refused fault t (Dues body) h = refused_plainly (without left_out (dues_machine t)) body excused nothing.0 nothing.1 fault h
+  plain_refused fault t (Word body) h = refused_plainly (without left_out (dues_machine t)) body excused nothing.0 nothing.1 fault h
 
   pub plainly_accepted : (t : TableView) (bytes : List ℕ) (accepted : Accepted) → IsAcceptedFor (closed_up_to left_out excused) t bytes accepted → IsAcceptedFor (closed_without left_out) t bytes accepted
   plainly_accepted t bytes accepted h = (h.0, (h.1.0, h.1.1, h.1.2.0, (h.1.3.0, plain_closed t h.1.0 h.1.3.1, h.1.3.2)))

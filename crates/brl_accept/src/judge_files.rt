@@ -136,20 +136,19 @@ fn judge_read<W: Progress>(
     }
 }
 
-/// Judges the certificate that bytes spell for a table without some characters, but for what is
-/// excused.
-fn judge_table<W: Progress>(
+/// Judges the certificate that bytes spell as `judge_up_to` does, for a table that was read before.
+pub fn judge_table<W: Progress>(
     alloc: Global,
     table: &Table,
-    left_out: &LeftOut,
-    excused: &Excused,
     cert: &[u8],
-    progress: &mut W,
+    excused: &Excused,
+    scope: Scope<'_, W>,
 ) -> Result<Accepted, Failure<JudgeFault>>
-    ensures shown { OnOk result (IsShown left_out.now excused.now table.now) }
-    ensures accepted { IfOk result (IsAcceptedUpTo left_out.now excused.now table.now cert.now) }
-    ensures refused { IfErr result (IfFault (IsRefusedFor (closed_up_to left_out.now excused.now) table.now cert.now)) }
+    ensures shown { OnOk result (IsShown scope.entry.left_out.now excused.now table.now) }
+    ensures accepted { IfOk result (IsAcceptedUpTo scope.entry.left_out.now excused.now table.now cert.now) }
+    ensures refused { IfErr result (IfFault (IsRefusedFor (closed_up_to scope.entry.left_out.now excused.now) table.now cert.now)) }
 {
+    let Scope { left_out, progress } = scope;
     let defined = check_defined(alloc, table, left_out);
     raise(defined, JudgeFault::NotDefined)?;
     // A table gives at most some thousand different cells, so that the certificate alone counts.
@@ -265,7 +264,7 @@ pub fn judge_up_to<S: Source, W: Progress>(
     let Scope { left_out, progress } = scope;
     one_table_law(&*source);
     let table = raise(load_table(alloc, source, root), JudgeFault::NoTable)?;
-    let judged = judge_table(alloc, &table, left_out, excused, cert, progress);
+    let judged = judge_table(alloc, &table, cert, excused, Scope { left_out, progress });
     drop(table);
     judged
 }

@@ -89,6 +89,18 @@ module _ (before after : World) (answer : Answer) where
   none_changes (Err OutputFailed) none h = subst (FilesAfter before.gives after.gives) none h.1
   none_changes (Err fault) none h = absurd (subst (λ (files : NewFiles). ArePutInto files before.gives after.gives (Err fault)) none h.1)
 
+  -- ---- An answer with one file changes no other
+
+  put_alone : (file : NewFile) (fault : RunFault) → IsPutInto file before.gives after.gives (Err fault) → OthersStay before.gives after.gives (path_of file)
+  put_alone file (CannotWrite path made) is = is.2
+  put_alone file Memory is = is
+  put_alone file fault is = absurd is
+
+  pub one_changes : (file : NewFile) (written : Result Status RunFault) → answer.files ≡ InPlace file → Writes answer before after written → OthersStay before.gives after.gives (path_of file)
+  one_changes file (Ok status) one h = (subst (FilesAfter before.gives after.gives) one h.0).1
+  one_changes file (Err OutputFailed) one h = (subst (FilesAfter before.gives after.gives) one h.1).1
+  one_changes file (Err fault) one h = put_alone file fault (subst (λ (files : NewFiles). ArePutInto files before.gives after.gives (Err fault)) one h.1)
+
   -- ---- An answer whose files can't be written
 
   -- no fault of these files is that of the output

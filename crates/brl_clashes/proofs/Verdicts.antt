@@ -2,12 +2,13 @@
 use Rattle.std.proofs.Common.{◌≡◌, ◌∙◌, ◌<◌, ◌≤◌, ◌+◌, ◌-◌, ◌++◌, ◌&&◌, ◌⊎◌, ℕ, zero, suc, All, Bool, true, false, List, [], ◌∷◌, Some, ap, arith, drop, filter, get_or, inl, inr, length, not, refl, slice_get, subst, sym}
 use Rattle.std.specs.Prelude.{◌==◌, ◌||◌, if◌then◌else◌, IsTrue, nat_eq}
 use Rattle.std.specs.List.{list_all, list_any}
-use Rattle.std.proofs.lemmas.Bool.{eqb-true}
+use Rattle.std.proofs.lemmas.Bool.{and_parts, eqb-true}
 use Rattle.std.proofs.lemmas.Bool.Decides.{nat_tests}
 use Rattle.std.proofs.lemmas.List.{append-nil, drop_all}
 use Rattle.std.proofs.lemmas.List.Elements.{All-filter, filter_passes}
 use Rattle.std.proofs.lemmas.List.Folds.{list_any-append}
 use Rattle.std.proofs.lemmas.Option.{slice_get-get_or}
+use Rattle.brl_rules.proofs.Facts.{or-true}
 use Rattle.brl_clashes.specs.Kinds.{kept, kinds_among, left_out_in, of_kinds, or_letter, section_kinds}
 use Rattle.brl_clashes.specs.Accepted.{AreLeftOf, IsLeftOf, IsLeftOfList}
 use Rattle.brl_clashes.specs.ListedPairs.{has_pair, is_pair}
@@ -20,7 +21,9 @@ use Rattle.brl_rules.specs.TableView.{TableView}
 use Rattle.brl_rules.specs.Text.{is_text}
 use Rattle.brl_pairs.specs.Divergence.{are_rules, has_rules}
 use Rattle.brl_rules.specs.Translation.{IsClash}
+use Rattle.brl_search.proofs.UpTo.{not_back}
 use Rattle.brl_search.specs.Clashes.{AreClashes, AreRuleClashes, ClashesDiverge, IsRuleClash, rules_of_clashes}
+use Rattle.brl_traces.proofs.Widening.{clashes_widen}
 use Rattle.brl_traces.specs.Traces.{ClashesDivergeAtWithout, TracesDivergeAt}
 use Rattle.brl_search.specs.declared.table_clashes.ClashList.{ClashList}
 use Rattle.brl_search.specs.declared.table_clashes.ClashList.TheVariants.{Complete, Partial}
@@ -40,26 +43,14 @@ some_listed true true e = absurd cc
 some_listed true false e = refl
 some_listed false none e = absurd cc
 
-first_so : (a b : Bool) → (a && b) ≡ true → a ≡ true
-first_so true b e = refl
-first_so false b e = absurd cc
-
-second_so : (a b : Bool) → (a && b) ≡ true → b ≡ true
-second_so true b e = e
-second_so false b e = absurd cc
-
-or_true : (b : Bool) → (b || true) ≡ true
-or_true true = refl
-or_true false = refl
-
 -- ---- Places of a list
 
 module _ {X : Type 0} where
   -- a test that all pass is passed at each place
   passed : (p : X → Bool) (xs : List X) → list_all p xs ≡ true → (place : ℕ) (x : X) → slice_get xs place ≡ Some x → p x ≡ true
   passed p [] all place x there = absurd cc
-  passed p (y ∷ xs) all zero x there = let same : y ≡ x = cc in subst (λ (z : X). p z ≡ true) same (first_so (p y) (list_all p xs) all)
-  passed p (y ∷ xs) all (suc place) x there = passed p xs (second_so (p y) (list_all p xs) all) place x there
+  passed p (y ∷ xs) all zero x there = let same : y ≡ x = cc in subst (λ (z : X). p z ≡ true) same (and_parts (p y) (list_all p xs) all).0
+  passed p (y ∷ xs) all (suc place) x there = passed p xs (and_parts (p y) (list_all p xs) all).1 place x there
 
   -- a test that not all pass fails at some place
   failed : (p : X → Bool) (xs : List X) → list_all p xs ≡ false → (place : ℕ) × (x : X) × (slice_get xs place ≡ Some x) × (p x ≡ false)
@@ -174,8 +165,9 @@ left_are_clashes t left_out limit accepted sections left are are_left = λ k d w
 -- a pair of rules that is one of these is so in either order
 same_rules : (r s : ℕ) (x y : ℕ × ℕ) → is_pair x y ≡ true → are_rules r s x ≡ are_rules r s y
 same_rules r s x y same =
-    let first = eqb-true x.0 y.0 (first_so (x.0 == y.0) (x.1 == y.1) same) in
-    let second = eqb-true x.1 y.1 (second_so (x.0 == y.0) (x.1 == y.1) same) in
+    let (one, other) = and_parts (x.0 == y.0) (x.1 == y.1) same in
+    let first = eqb-true x.0 y.0 one in
+    let second = eqb-true x.1 y.1 other in
     (λ i. ((first i == r) && (second i == s)) || ((first i == s) && (second i == r)))
 
 known_rules : (r s : ℕ) (accepted : List (ℕ × ℕ)) (pair : ℕ × ℕ) → has_pair accepted pair ≡ true → are_rules r s pair ≡ true → has_rules accepted r s ≡ true
@@ -184,7 +176,7 @@ known_rules r s (x ∷ accepted) pair has is = cases (is_pair pair x) refl (λ e
   where
     cases : (b : Bool) → is_pair pair x ≡ b → (has_pair accepted pair ≡ true → has_rules accepted r s ≡ true) → (b || has_pair accepted pair) ≡ true → (are_rules r s x || has_rules accepted r s) ≡ true
     cases true same later e = ap (λ b. b || has_rules accepted r s) (sym (same_rules r s pair x same) ∙ is)
-    cases false other later e = ap (λ b. are_rules r s x || b) (later e) ∙ or_true (are_rules r s x)
+    cases false other later e = ap (λ b. are_rules r s x || b) (later e) ∙ or-true (are_rules r s x)
 
 -- where no clash of a list is left, the rules of each are accepted
 all_accepted : (accepted : List (ℕ × ℕ)) (list : List RuleClash) → clashes_beside accepted list ≡ [] → (r s : ℕ) → has_rules (rules_of_clashes list) r s ≡ true → has_rules accepted r s ≡ true
@@ -201,19 +193,6 @@ all_accepted accepted (x ∷ list) none r s has = cases (has_pair accepted (x.le
     cases true known later rest = by (are_rules r s (x.lesser, x.greater)) refl known (later rest) has
     cases false other later rest = absurd cc
 
--- traces that diverge at some pairs of rules do at more
-wider : (t : TableView) (rules more : List (ℕ × ℕ)) (left right : List ℕ) → ((r s : ℕ) → has_rules rules r s ≡ true → has_rules more r s ≡ true) → TracesDivergeAt t rules left right → TracesDivergeAt t more left right
-wider t rules more left right widens at = record {
-  place = at.place;
-  one = at.one;
-  other = at.other;
-  before = at.before;
-  one_there = at.one_there;
-  other_there = at.other_there;
-  differ = at.differ;
-  pair = widens at.one.rule at.other.rule at.pair;
-}
-
 -- a whole list of which no clash is left
 none_left : (left_out : List ℕ) (t : TableView) (limit : ℕ) (accepted : List (ℕ × ℕ)) (found left : ClashList) → AreClashes left_out t limit found → IsLeftOfList accepted found left → is_whole left ≡ true → lists_none left ≡ true
     → ClashesDivergeAtWithout left_out accepted t
@@ -222,11 +201,7 @@ none_left left_out t limit accepted (Partial list states pairs) (Complete left s
 none_left left_out t limit accepted (Complete list body) (Partial left states pairs) are is whole none = absurd is
 none_left left_out t limit accepted (Complete list body) (Complete left same) are is whole none =
     let nothing : clashes_beside accepted list.items ≡ [] = sym is.0 ∙ is_empty left.items none in
-    λ one other one_is other_is one_none other_none equal.
-    elim (are.1.no_other one other one_is other_is one_none other_none equal) [
-      | inl e ↦ inl e
-      | inr at ↦ inr (wider t (rules_of_clashes list.items) accepted one other (all_accepted accepted list.items nothing) at)
-    ]
+    clashes_widen t (rules_of_clashes list.items) accepted (all_accepted accepted list.items nothing) left_out are.1.no_other
 
 -- where all sections are whole and no clash is left of them, clashing texts diverge at accepted pairs
 pub only_accepted : (t : TableView) (left_out : List ℕ) (limit : ℕ) (accepted : List (ℕ × ℕ)) (sections left : List Section) → AreSections t left_out limit sections → AreLeftOf accepted sections left
@@ -274,11 +249,7 @@ first_left left_out t accepted list [] is some are = absurd cc
 first_left left_out t accepted list (x ∷ left) is some are =
     let each : All (IsRuleClash left_out t) (x ∷ left) = subst (All (IsRuleClash left_out t)) (sym is) (all_left (IsRuleClash left_out t) accepted list are.each) in
     let apart : All (λ y. not (has_pair accepted (y.lesser, y.greater)) ≡ true) (x ∷ left) = subst (All (λ (y : RuleClash). not (has_pair accepted (y.lesser, y.greater)) ≡ true)) (sym is) (filter_passes (λ (y : RuleClash). not (has_pair accepted (y.lesser, y.greater))) list) in
-    (x, each 0 x (omega arith), not_so (has_pair accepted (x.lesser, x.greater)) (apart 0 x (omega arith)))
-  where
-    not_so : (b : Bool) → not b ≡ true → b ≡ false
-    not_so true e = absurd cc
-    not_so false e = refl
+    (x, each 0 x (omega arith), not_back (has_pair accepted (x.lesser, x.greater)) (apart 0 x (omega arith)))
 
 -- where a section has a clash that is left, two texts clash and diverge at a pair that isn't accepted
 pub other_clash : (t : TableView) (left_out : List ℕ) (limit : ℕ) (accepted : List (ℕ × ℕ)) (sections left : List Section) → AreSections t left_out limit sections → AreLeftOf accepted sections left

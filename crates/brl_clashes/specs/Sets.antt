@@ -1,12 +1,13 @@
 -- Sets of characters that a table treats as one: with the same cells, classes and flags, and in no
 -- rule. In a list of clashes the first of a set represents the others. The project's own choice.
-use Rattle.std.specs.Prelude.{ℕ, ◌+◌, ◌-◌, Bool, false, ◌&&◌, ◌||◌, ◌==◌, if◌then◌else◌, List, flat_map, length, nat_eq, nat_le, nat_lt, not, slice_get}
+use Rattle.std.specs.Prelude.{ℕ, ◌+◌, ◌-◌, Bool, false, ◌&&◌, ◌||◌, ◌==◌, if◌then◌else◌, List, [], flat_map, length, map, nat_eq, nat_le, nat_lt, not, slice_get}
 use Rattle.std.specs.Bool.{beq}
 use Rattle.std.specs.Cmp.Lexicographic.{pointwise}
 use Rattle.std.specs.List.{count_by, filter, find, list_any}
 use Rattle.std.specs.Option.{option_map_or, unwrap_or}
 use Rattle.brl_clashes.specs.Kinds.{kept, table_characters}
 use Rattle.brl_clashes.specs.ListedPairs.{has_pair, is_pair}
+use Rattle.brl_report.specs.Rules.{own_number}
 use Rattle.brl_rules.specs.TableView.{TableView, info_of}
 use Rattle.brl_rules.specs.Text.{fold_of}
 use Rattle.brl_rules.specs.declared.rule.Info.{Info}
@@ -51,15 +52,15 @@ opens_set t characters c = nat_lt 1 (count_by (are_equal t c) characters) && (fi
 abbrev pub openers : TableView → List ℕ → List ℕ
 openers t characters = filter (opens_set t characters) characters
 
+-- the sets of two or more characters of a table
+abbrev pub sets_of_table : TableView → List (List ℕ)
+sets_of_table t = map (set_among t (plain t [])) (openers t (plain t []))
+
 -- ---- Rules that represent others
 
 -- the character that represents one: where it is one of these, the first of its set
 abbrev pub first_of_set : TableView → List ℕ → ℕ → ℕ
 first_of_set t characters c = if list_any (nat_eq c) characters then first_among t characters c else c
-
--- the number of a character's own definition
-abbrev pub own_number : TableView → ℕ → ℕ
-own_number t c = length t.rules + option_map_or (λ info. info.number) (info_of t c) 0
 
 -- the number of the own definition that represents that of a character
 abbrev pub first_number : TableView → List ℕ → ℕ → ℕ

@@ -5,7 +5,7 @@
 //!   for its texts.
 //! - `sections_text` is their text: the sets of characters that the table treats as one; of each section
 //!   the pairs of rules that no earlier one lists, the most suspicious first; and a verdict.
-//! - `outcome_of` says what the sections come to.
+//! - `outcome_of` says what the sections come to, and `character_sets` has the sets of characters.
 //! - `pairs_of_sections` are the pairs of rules of all sections, and `without_accepted` the sections without
 //!   some of them.
 //!
@@ -29,4 +29,5 @@ pub use clashes_text::{Extent, sections_text};
 pub use kind::Kind;
 pub use section::Section;
 pub use sections::list_sections;
+pub use sets::character_sets;
 pub use verdict::{Outcome, are_whole, outcome_of};

@@ -7,13 +7,13 @@ ghost use Rattle.brl_clashes.specs.Sets.{
   in_order as pair_in_order,
   is_folded as is_folded_by,
   is_represented as is_represented_in,
-  own_number as number_of_own,
   representative as representative_of,
 };
 
 use crate::kind::table_characters;
 use crate::listed_pairs::ListedPairs;
 use crate::sets::first_among;
+use brl_report::own_number;
 use brl_rules::Table;
 use brl_search::RuleClash;
 use std::alloc::{AllocError, Global};
@@ -48,17 +48,6 @@ fn first_number(table: &Table, characters: &[char], character: char) -> u32
     ensures { result ≡ number_of_first table.now characters.now character }
 {
     own_number(table, first_of_set(table, characters, character))
-}
-
-/// The number of a character's own definition.
-fn own_number(table: &Table, character: char) -> u32
-    ensures { result ≡ number_of_own table.now character }
-{
-    let place = match table.info(character) {
-        Some(info) => info.number,
-        None => 0,
-    };
-    table.rules_in_rank().len() as u32 + place
 }
 
 /// The rule that represents the one with a number.

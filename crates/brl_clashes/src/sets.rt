@@ -1,5 +1,5 @@
 //! Sets of characters that a table treats as one.
-ghost use Rattle.std.specs.Prelude.{◌≡◌, ◌++◌, IfOk, OnOk, filter, find, flat_map, string_bytes};
+ghost use Rattle.std.specs.Prelude.{◌≡◌, ◌++◌, IfOk, OnOk, filter, find, flat_map, map, string_bytes};
 ghost use Rattle.brl_clashes.specs.ClashesText.{dots_of as dots, set_line, sets_heading as heading_of_sets, sets_text as text_of_sets};
 ghost use Rattle.brl_clashes.specs.Sets.{
   are_equal as are_equal_in,
@@ -10,8 +10,10 @@ ghost use Rattle.brl_clashes.specs.Sets.{
   opens_set as opens_set_among,
   rule_characters as characters_of_rules,
   set_among,
+  sets_of_table,
 };
 
+use crate::kind::kept_characters;
 use brl_answers::spell_one_by_one;
 use brl_cells::write_dots;
 use brl_rules::{Info, Table};
@@ -118,6 +120,33 @@ fn opens_set(table: &Table, characters: &[char], character: char) -> bool
         .filter(|other| are_equal(table, character, **other))
         .count();
     count > 1 && first_among(table, characters, character) == character
+}
+
+/// The sets of two or more characters of a table that it treats as one: they have the same cells, classes
+/// and flags, and are in no rule.
+pub fn character_sets(alloc: Global, table: &Table) -> Result<Vec<Vec<char>>, AllocError>
+    ensures { IfOk result (λ sets. map (λ set. set.items) sets.items ≡ sets_of_table table.now) }
+{
+    let kept = kept_characters(alloc, table, &LeftOut::none(alloc))?;
+    let plain = plain_characters(alloc, table, kept)?;
+    let openers = openers(alloc, table, plain.as_slice())?;
+    sets_opened(alloc, table, plain.as_slice(), openers.as_slice())
+}
+
+/// The sets that some characters open among these.
+fn sets_opened(
+    alloc: Global,
+    table: &Table,
+    characters: &[char],
+    openers: &[char],
+) -> Result<Vec<Vec<char>>, AllocError>
+    ensures { IfOk result (λ sets. map (λ set. set.items) sets.items ≡ map (set_among table.now characters.now) openers.now) }
+{
+    let mut sets = Vec::new(alloc);
+    for character in openers {
+        sets.push(set_of(alloc, table, characters, *character)?)?;
+    }
+    Ok(sets)
 }
 
 /// The lines of the sets of two or more of these characters of a table, after how many there are; the

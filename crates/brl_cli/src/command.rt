@@ -59,6 +59,7 @@ pub enum Question<'a> {
         limit: u32,
         first: u32,
         without: Option<&'a str>,
+        pairs: PairFiles<'a>,
     },
     /// Which lines of tables are outside the profile or faulty. Their files are at these paths. A
     /// brief answer has the counts of such lines alone.
@@ -104,6 +105,15 @@ pub struct TextOptions {
     pub escapes: bool,
     /// Whether each step is followed by the lines of the table by which it is made.
     pub lines: bool,
+}
+
+/// The files of pairs of rules of a list of clashes, by their paths.
+#[derive(Clone, Copy)]
+pub struct PairFiles<'a> {
+    /// The file that names the accepted pairs, which are left out of the list.
+    pub accept: Option<&'a str>,
+    /// The file that gets the pairs of the list.
+    pub write: Option<&'a str>,
 }
 
 /// Why the words ask for no work: a use fault, or help or the version that was asked for, or memory
@@ -200,7 +210,8 @@ enum Options {
     Search,
     /// How many states may be found.
     States,
-    /// How much a list may find, how much of it is shown, and which characters are left out.
+    /// How much a list may find, how much of it is shown, which characters and which pairs of rules are left
+    /// out, and which file gets its pairs.
     Clashes,
     /// Whether faults are listed.
     Brief,
@@ -221,8 +232,6 @@ struct CommandHelp {
     /// What follows the options there.
     example: &'static str,
     choice: Option<Options>,
-    /// Whether the files of tables are looked for in folders, too.
-    looks: bool,
     operands: &'static [Operand],
 }
 
@@ -255,7 +264,6 @@ Example, a table of four characters and a text:
 It prints:
   ABC A",
     choice: Some(Options::Translate),
-    looks: true,
     operands: &[TABLE],
 };
 
@@ -293,7 +301,6 @@ It prints:
   right from 0:
     x  1-12  alike.ctb:3",
     choice: Some(Options::Texts),
-    looks: true,
     operands: &[
         TABLE,
         Operand {
@@ -334,7 +341,6 @@ line of an acceptance names these. CHARS are spelled as in a table.",
 It prints:
   accepted: 3 states, 1 pairs",
     choice: Some(Options::Without),
-    looks: true,
     operands: &[
         TABLE,
         Operand {
@@ -373,7 +379,6 @@ It prints:
   certified: 2 states, 0 pairs
   accepted: 2 states, 0 pairs",
     choice: Some(Options::Search),
-    looks: true,
     operands: &[
         TABLE,
         Operand {
@@ -409,6 +414,13 @@ where there are none, the table is unambiguous, and the status is 0. Where a lis
 has more than N states, pairs of states or pairs of rules, there may be others
 than those listed, and the status is 3.
 
+With --write the pairs that are listed go to FILE, a line for each: what its two
+rules say, with ' / ' between them. Where there may be others, FILE stays as it
+was. With --accept the pairs that FILE names so are left out, and the last line
+says how many these are. Where no other is left, the status is 0. A line of FILE
+whose pair isn't listed is a fault, and the status is 2, unless there may be
+others. With both options the pairs that are left are written.
+
 With --without only texts that use none of CHARS are looked at, and a line after
 the last one names these. CHARS are spelled as in a table.",
     example: "Example, a table with two words that have the cells of a shorter text:
@@ -422,7 +434,6 @@ It prints:
     bca / bc  12-14  three.ctb:5 word bca  three.ctb:2 letter b
   2 pairs of rules diverge, and no others",
     choice: Some(Options::Clashes),
-    looks: true,
     operands: &[TABLE],
 };
 
@@ -461,7 +472,6 @@ It prints:
   1 of 4 lines are read
   no verdict: a survey doesn't decide whether two texts have the same cells",
     choice: Some(Options::Brief),
-    looks: false,
     operands: &[TABLES],
 };
 
@@ -475,7 +485,8 @@ Reads TABLE with the files that it includes. Each file is written under its name
 into the folder DIR, line by line: a line that is read stays, and one that isn't
 becomes a comment that says why. DIR is made where it isn't there. Files that are
 there already are never overwritten: nothing is written then, and the exit status
-is 2.
+is 2. A file that was found in a folder of --path is written under the name in the
+line that includes it, so DIR has the whole table, and is read without --path.
 
 With --rewrite two more forms of lines are read, and written as they are read: a
 line that defines a character after noback, and base uppercase U L, which is
@@ -488,7 +499,6 @@ uplow UL with the dots of L.",
 It prints:
   letter a 1",
     choice: Some(Options::Rewrite),
-    looks: false,
     operands: &[
         TABLE,
         Operand {
@@ -526,7 +536,6 @@ It prints:
     a  -     1  steps.ctb:1
     1  3456  1  steps.ctb:3",
     choice: Some(Options::Texts),
-    looks: true,
     operands: &[
         TABLE,
         Operand {
@@ -561,7 +570,6 @@ It prints:
   1  letter  a  1  ranked.ctb:1
   2  letter  b  12  ranked.ctb:2",
     choice: None,
-    looks: true,
     operands: &[
         TABLE,
         Operand {
@@ -597,7 +605,6 @@ It prints:
   1  always  ab  4  twice.ctb:4  in its place:  twice.ctb:3 always ab
   1 of 4 rules are used by no text",
     choice: Some(Options::States),
-    looks: true,
     operands: &[TABLE],
 };
 
@@ -622,7 +629,6 @@ It prints:
   When: a cell has dot 7 or 8, which Braille ASCII has no mark for
   What to do: Use `--form unicode`.",
     choice: None,
-    looks: true,
     operands: &[Operand {
         id: "fault",
         name: "FAULT",
@@ -721,6 +727,22 @@ fn without_option<'a>(alloc: Global) -> Arg<'a> {
         .help("Look only at texts that use none of these characters")
 }
 
+/// The option of which pairs of rules are left out of a list.
+fn accept_option<'a>(alloc: Global) -> Arg<'a> {
+    Arg::new(alloc, "accept")
+        .long("accept")
+        .value_name("FILE")
+        .help("Leave the pairs of rules out that this file names")
+}
+
+/// The option of which file gets the pairs of rules of a list.
+fn write_option<'a>(alloc: Global) -> Arg<'a> {
+    Arg::new(alloc, "write")
+        .long("write")
+        .value_name("FILE")
+        .help("Write the pairs of rules that are listed to this file")
+}
+
 /// The option of whether faults are listed.
 fn brief_option<'a>(alloc: Global) -> Arg<'a> {
     Arg::new(alloc, "brief")
@@ -762,7 +784,7 @@ fn path_option<'a>(alloc: Global) -> Arg<'a> {
         .action(ArgAction::Append)
 }
 
-/// The arguments of a command: its options, if any, and its operands.
+/// The arguments of a command: its options and its operands.
 fn arguments<'a>(alloc: Global, page: &CommandHelp) -> Result<Vec<Arg<'a>>, AllocError> {
     let mut arguments = Vec::new(alloc);
     match page.choice {
@@ -780,6 +802,8 @@ fn arguments<'a>(alloc: Global, page: &CommandHelp) -> Result<Vec<Arg<'a>>, Allo
             arguments.push(first_option(alloc))?;
             arguments.push(limit_option(alloc))?;
             arguments.push(without_option(alloc))?;
+            arguments.push(accept_option(alloc))?;
+            arguments.push(write_option(alloc))?;
         }
         Some(Options::Brief) => arguments.push(brief_option(alloc))?,
         Some(Options::Rewrite) => arguments.push(rewrite_option(alloc))?,
@@ -789,9 +813,7 @@ fn arguments<'a>(alloc: Global, page: &CommandHelp) -> Result<Vec<Arg<'a>>, Allo
         }
         None => {}
     }
-    if page.looks {
-        arguments.push(path_option(alloc))?;
-    }
+    arguments.push(path_option(alloc))?;
     for operand in page.operands {
         arguments.push(operand_argument(alloc, *operand))?;
     }
@@ -1006,7 +1028,15 @@ fn clashes_question<'a>(table: &'a str, found: &ArgMatches<'a>) -> Option<Questi
         limit: found.get_one("limit")?,
         first: found.get_one("first")?,
         without: found.get_str("without"),
+        pairs: pair_files(found),
     })
+}
+
+fn pair_files<'a>(found: &ArgMatches<'a>) -> PairFiles<'a> {
+    PairFiles {
+        accept: found.get_str("accept"),
+        write: found.get_str("write"),
+    }
 }
 
 fn cut_question<'a>(table: &'a str, found: &ArgMatches<'a>) -> Option<Question<'a>> {

@@ -1,6 +1,7 @@
 -- Edges of one kind miss the same pairs and are excused with the same edges, and two edges miss a pair,
 -- or are excused, in either order.
 use Rattle.std.proofs.Common.{◌≡◌, ℕ, ◌||◌, Bool, true, false, if◌then◌else◌, List, [], ◌∷◌, ◌++◌, inl, inr, Some, None, refl, sym, ◌∙◌, ap, subst}
+use Rattle.std.proofs.lemmas.Bool.{or_parts}
 use Rattle.std.proofs.lemmas.List.{append-nil}
 use Rattle.brl_closure.specs.Alike.{Kind, kind_of, named_rule}
 use Rattle.brl_closure.specs.Steps.{MissUnexcused}
@@ -12,14 +13,6 @@ use Rattle.brl_pairs.specs.declared.edge.Edge.{Edge}
 use Rattle.brl_pairs.specs.declared.excused.Excused.{Excused}
 use Rattle.brl_pairs.proofs.Divergence.{either_rules}
 use Rattle.brl_pairs.proofs.Excusing.{unnamed}
-
-or_first : (a b : Bool) → (a || b) ≡ false → a ≡ false
-or_first true b e = e
-or_first false b e = refl
-
-or_second : (a b : Bool) → (a || b) ≡ false → b ≡ false
-or_second true b e = cc
-or_second false b e = e
 
 -- ---- Excused edges of one kind
 
@@ -46,9 +39,9 @@ module _ (excused : Excused) where
       let first : named_rule excused e.rule ≡ named_rule excused x.rule = ap (λ (k : Kind). k.rule) e_alike in
       let second : named_rule excused f.rule ≡ named_rule excused y.rule = ap (λ (k : Kind). k.rule) f_alike in
       elim h [
-        | inl have ↦ inl (sym (same_both excused excused.accepted (λ r none. or_first (names_rule excused.accepted r) (names_rule excused.exchanged r) none) e.rule x.rule f.rule y.rule first second) ∙ have)
+        | inl have ↦ inl (sym (same_both excused excused.accepted (λ r none. (or_parts (names_rule excused.accepted r) (names_rule excused.exchanged r) none).0) e.rule x.rule f.rule y.rule first second) ∙ have)
         | inr exchange ↦ inr (record {
-          rules = sym (same_both excused excused.exchanged (λ r none. or_second (names_rule excused.accepted r) (names_rule excused.exchanged r) none) e.rule x.rule f.rule y.rule first second) ∙ exchange.rules;
+          rules = sym (same_both excused excused.exchanged (λ r none. (or_parts (names_rule excused.accepted r) (names_rule excused.exchanged r) none).1) e.rule x.rule f.rule y.rule first second) ∙ exchange.rules;
           cells = sym (ap (λ (k : Kind). k.cells) e_alike) ∙ exchange.cells ∙ ap (λ (k : Kind). k.cells) f_alike;
           next = sym (ap (λ (k : Kind). k.next) e_alike) ∙ exchange.next ∙ ap (λ (k : Kind). k.next) f_alike;
         })

@@ -12,7 +12,7 @@ use Rattle.brl_lines.specs.declared.way.LeftInclude.{LeftInclude}
 use Rattle.brl_lines.specs.declared.gathering.Gathered.{Gathered}
 use Rattle.brl_lines.specs.declared.fault.LoadFault.{LoadFault}
 use Rattle.brl_table.specs.declared.no_table.NoTable.{NoTable}
-use Rattle.brl_cut.specs.Cuts.{include_edit, IsCutFault, IsReadAs, IsUncut, IsUnreadAs, without_include_lines}
+use Rattle.brl_cut.specs.Cuts.{include_edit, IsCut, IsCutFault, IsCutOf, IsReadAs, IsUncut, IsUnreadAs, without_include_lines}
 use Rattle.brl_cut.specs.Edits.{EditView, Texts, edited_files}
 use Rattle.brl_cut.specs.Rounds.{SettlesTo}
 use Rattle.brl_cut.specs.declared.cutting.Cut.{Cut}
@@ -21,9 +21,9 @@ use Rattle.brl_cut.specs.declared.cutting.CutFault.TheVariants.{Gather, Load, No
 use Rattle.brl_cut.specs.declared.rounds.Settled.{Settled}
 
 -- what files were settled to, where they were
-pub settled-as : (root : List ℕ) (files start : Texts) (step : Result Settled (Failure LoadFault)) (settled : Settled) → step ≡ Ok settled → IfOk step (SettlesTo root files) → files ≡ start → SettlesTo root start settled
-settled-as root files start step settled e h same =
-    subst (λ (fs : Texts). SettlesTo root fs settled) same (subst (λ (r : Result Settled (Failure LoadFault)). IfOk r (SettlesTo root files)) e h)
+pub settled-as : (folders : List (List ℕ)) (root : List ℕ) (files start : Texts) (step : Result Settled (Failure LoadFault)) (settled : Settled) → step ≡ Ok settled → IfOk step (SettlesTo folders root files) → files ≡ start → SettlesTo folders root start settled
+settled-as folders root files start step settled e h same =
+    subst (λ (fs : Texts). SettlesTo folders root fs settled) same (subst (λ (r : Result Settled (Failure LoadFault)). IfOk r (SettlesTo folders root files)) e h)
 
 -- files where include lines are comments are those without these
 pub without-is : (left : List LeftInclude) (new files : Texts) → new ≡ edited_files (map (λ l. include_edit (left_view l)) left) files → new ≡ without_include_lines (map left_view left) files
@@ -39,12 +39,20 @@ read-as files same_files root same_root e d h = subst (λ (r : List ℕ). IsRead
 pub unread-as : (files same_files : Texts) (root same_root : List ℕ) (why : NoTable) → files ≡ same_files → root ≡ same_root → IsUnreadAs files root why → IsUnreadAs same_files same_root why
 unread-as files same_files root same_root why e d h = subst (λ (r : List ℕ). IsUnreadAs same_files r why) d (subst (λ (fs : Texts). IsUnreadAs fs root why) e h)
 
--- why the files that were gathered aren't cut is why the table isn't
-uncut-fault : (rewrite : Bool) (gives : FileAnswers) (root dir : List ℕ) (gathered : Gathered) → IsGathered gives root gathered → (why : CutFault) → IsUncut rewrite root dir (gathered_view gathered) why → IsCutFault rewrite gives root dir why
-uncut-fault rewrite gives root dir gathered is (Gather why) h = absurd h
-uncut-fault rewrite gives root dir gathered is (Load why) h = (is.0, is.1, gathered_view gathered, is.2, h)
-uncut-fault rewrite gives root dir gathered is (NotRead why) h = (is.0, is.1, gathered_view gathered, is.2, h)
+-- what is cut of the files that were gathered, in the folders of the source, is cut of the table; and
+-- why they aren't cut is why the table isn't
+module _ (rewrite : Bool) (gives : FileAnswers) (root dir : List ℕ) (gathered : Gathered) (is : IsGathered gives root gathered) (folders : List (List ℕ)) (looked : folders ≡ gives.folders) where
+  pub cut-whole : (result : Result Cut (Failure CutFault)) → IfOk result (IsCutOf rewrite folders (gathered_view gathered) root dir) → IfOk result (IsCut rewrite gives root dir)
+  cut-whole (Ok cut) h = (is.0, is.1, gathered_view gathered, is.2, subst (λ (fs : List (List ℕ)). IsCutOf rewrite fs (gathered_view gathered) root dir cut) looked h)
+  cut-whole (Err failure) h = tt
 
-pub cut-fault : (rewrite : Bool) (gives : FileAnswers) (root dir : List ℕ) (gathered : Gathered) (result : Result Cut (Failure CutFault)) → IsGathered gives root gathered → IfErr result (IfFault (IsUncut rewrite root dir (gathered_view gathered))) → IfErr result (IfFault (IsCutFault rewrite gives root dir))
-cut-fault rewrite gives root dir gathered (Ok cut) is h = tt
-cut-fault rewrite gives root dir gathered (Err failure) is h = if_fault-weaker (IsUncut rewrite root dir (gathered_view gathered)) (IsCutFault rewrite gives root dir) failure (uncut-fault rewrite gives root dir gathered is) h
+  uncut-fault : (why : CutFault) → IsUncut rewrite gives.folders root dir (gathered_view gathered) why → IsCutFault rewrite gives root dir why
+  uncut-fault (Gather why) h = absurd h
+  uncut-fault (Load why) h = (is.0, is.1, gathered_view gathered, is.2, h)
+  uncut-fault (NotRead why) h = (is.0, is.1, gathered_view gathered, is.2, h)
+
+  pub cut-fault : (result : Result Cut (Failure CutFault)) → IfErr result (IfFault (IsUncut rewrite folders root dir (gathered_view gathered))) → IfErr result (IfFault (IsCutFault rewrite gives root dir))
+  cut-fault (Ok cut) h = tt
+  cut-fault (Err failure) h =
+      if_fault-weaker (IsUncut rewrite folders root dir (gathered_view gathered)) (IsCutFault rewrite gives root dir) failure
+      (λ why told. uncut-fault why (subst (λ (fs : List (List ℕ)). IsUncut rewrite fs root dir (gathered_view gathered) why) looked told)) h

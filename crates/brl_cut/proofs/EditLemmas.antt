@@ -40,7 +40,7 @@ bytes-more files i file within is path =
 held-at : (m n : BTreeMap (String Global) (Vec ℕ)) (key : String Global) (bytes : Vec ℕ)
     → ((p : List ℕ) → get_by_text n p ≡ cond (bytes_eq (string_bytes key) p) (Some bytes) (get_by_text m p))
     → (files : List GatheredFile) (i : ℕ) (file : GatheredFile) → i < length files → file ≡ get_or files i file → string_bytes key ≡ string_bytes file.path → bytes.items ≡ file.bytes.items
-    → HoldsFiles (map file_view (take i files)) (record { files = m; folders = None }) → (path : List ℕ)
+    → HoldsFiles [] (map file_view (take i files)) (record { files = m; folders = None }) → (path : List ℕ)
     → bytes_in (record { files = n; folders = None }) path ≡ bytes_at (map file_view (take (i + 1) files)) path
 held-at m n key bytes updates files i file within is named same before path =
     ap (option_map (λ (b : Vec ℕ). b.items)) (updates path) ∙ by_test (bytes_eq (string_bytes key) path)
@@ -55,7 +55,7 @@ held-at m n key bytes updates files i file within is named same before path =
 pub held-more : (m n : BTreeMap (String Global) (Vec ℕ)) (key : String Global) (bytes : Vec ℕ)
     → ((p : List ℕ) → get_by_text n p ≡ cond (bytes_eq (string_bytes key) p) (Some bytes) (get_by_text m p))
     → (files : List GatheredFile) (i : ℕ) (file : GatheredFile) → i < length files → file ≡ get_or files i file → string_bytes key ≡ string_bytes file.path → bytes.items ≡ file.bytes.items
-    → HoldsFiles (map file_view (take i files)) (record { files = m; folders = None }) → HoldsFiles (map file_view (take (i + 1) files)) (record { files = n; folders = None })
+    → HoldsFiles [] (map file_view (take i files)) (record { files = m; folders = None }) → HoldsFiles [] (map file_view (take (i + 1) files)) (record { files = n; folders = None })
 held-more m n key bytes updates files i file within is named same before = (held-at m n key bytes updates files i file within is named same before, refl)
 
 is_eq-nat_eq : (a b : ℕ) → is_eq (nat_cmp a b) ≡ nat_eq a b

@@ -19,23 +19,24 @@ use Rattle.brl_cut.specs.Files.{HoldsFiles}
 use Rattle.brl_cut.specs.Settling.{faulty_among, faulty_in, lines_among}
 
 -- a source that has just these files gives the table these lines
-pub lines-held : (files : Texts) (source : MapSource) (root : List ℕ) → HoldsFiles files source → lines_among files root ≡ lines_over (folders_of source.folders) (λ path. Some (answer_in source path)) root
-lines-held files source root held = sym (λ j. lines_over (folders_of (held.1 j)) (λ path. Some (answer_of (held.0 path j))) root)
+pub lines-held : (folders : List (List ℕ)) (files : Texts) (source : MapSource) (root : List ℕ) → HoldsFiles folders files source
+    → lines_among folders files root ≡ lines_over (folders_of source.folders) (λ path. Some (answer_in source path)) root
+lines-held folders files source root held = sym (λ j. lines_over (held.1 j) (λ path. Some (answer_of (held.0 path j))) root)
 
 -- a load over it gives the lines of the files
-pub gives-loaded : (files : Texts) (source : MapSource) (root : List ℕ) (gives : FileAnswers) → HoldsFiles files source
+pub gives-loaded : (folders : List (List ℕ)) (files : Texts) (source : MapSource) (root : List ℕ) (gives : FileAnswers) → HoldsFiles folders files source
     → ((outcome : Result (List LineView) (Failure LoadFault)) → IfOk outcome (AreLinesOf gives root) → IfErr outcome (IsLoadFault gives root)
     → GivesAs (λ lines. lines) load_fault_view (lines_over (folders_of source.folders) (λ path. Some (answer_in source path)) root) outcome)
     → (result : Result LoadedView (Failure LoadFault)) → IfOk result (λ loaded. AreLinesOfFiles gives root loaded.paths loaded.lines) → IfErr result (IsLoadFault gives root)
-    → GivesAs (λ loaded. loaded.lines) load_fault_view (lines_among files root) result
-gives-loaded files source root gives held told (Ok loaded) are why = lines-held files source root held ∙ told (Ok loaded.lines) (are.0, are.1, are.3) tt
-gives-loaded files source root gives held told (Err (failures.Fault fault)) none why = lines-held files source root held ∙ told (Err (failures.Fault fault)) tt why
-gives-loaded files source root gives held told (Err failures.Memory) none why = tt
+    → GivesAs (λ loaded. loaded.lines) load_fault_view (lines_among folders files root) result
+gives-loaded folders files source root gives held told (Ok loaded) are why = lines-held folders files source root held ∙ told (Ok loaded.lines) (are.0, are.1, are.3) tt
+gives-loaded folders files source root gives held told (Err (failures.Fault fault)) none why = lines-held folders files source root held ∙ told (Err (failures.Fault fault)) tt why
+gives-loaded folders files source root gives held told (Err failures.Memory) none why = tt
 
 -- what a survey of the lines finds is what is faulty in the files
-pub faulty-found : (root : List ℕ) (files : Texts) (lines : List LineView) → lines_among files root ≡ Ok lines → faulty_in root files ≡ (survey_of lines).faulty
-faulty-found root files lines e = ap faulty_among e
+pub faulty-found : (folders : List (List ℕ)) (root : List ℕ) (files : Texts) (lines : List LineView) → lines_among folders files root ≡ Ok lines → faulty_in folders root files ≡ (survey_of lines).faulty
+faulty-found folders root files lines e = ap faulty_among e
 
 -- it answers what these files do, where there are no others
-pub only-held : (files : Texts) (source : MapSource) → HoldsFiles files source → given_in source ≡ only files
-only-held files source held = λ j. record { folders = folders_of (held.1 j); may = λ path answer. answer ≡ answer_of (held.0 path j) }
+pub only-held : (folders : List (List ℕ)) (files : Texts) (source : MapSource) → HoldsFiles folders files source → given_in source ≡ only folders files
+only-held folders files source held = λ j. record { folders = held.1 j; may = λ path answer. answer ≡ answer_of (held.0 path j) }

@@ -1,10 +1,9 @@
 -- The readable part of a table as files of their own. The project's own choice.
-use Rattle.std.specs.Prelude.{ℕ, Bool, ◌≡◌, if◌then◌else◌, List, [], ◌++◌, codes, drop, length, map, nat_eq, string_bytes, Ok}
-use Rattle.std.specs.List.{starts_with}
+use Rattle.std.specs.Prelude.{ℕ, Bool, ◌≡◌, List, [], ◌++◌, codes, map, string_bytes, zip, Ok}
 use Rattle.brl_lines.specs.Answer.{FileAnswers, answer_of}
 use Rattle.brl_lines.specs.GatherFaults.{IsGatherFault}
 use Rattle.brl_lines.specs.Gathering.{GatheredView, LeftView, gathered_from}
-use Rattle.brl_lines.specs.Includes.{folder_of, path_in}
+use Rattle.brl_lines.specs.Includes.{last_part, path_in}
 use Rattle.brl_lines.specs.Lines.{Answers, answer_at}
 use Rattle.brl_lines.specs.Outcome.{AreGiven}
 use Rattle.brl_lines.specs.Tokens.{LineView}
@@ -55,73 +54,71 @@ without_includes gathered = without_include_lines gathered.left_out gathered.fil
 -- ---- Lines that are rewritten
 
 -- the edits that rewrite lines, where this is asked for
-abbrev pub start_edits : Bool → List ℕ → GatheredView → List EditView
-start_edits rewrite root gathered = rewriting_edits rewrite root (without_includes gathered)
+abbrev pub start_edits : Bool → List (List ℕ) → List ℕ → GatheredView → List EditView
+start_edits rewrite folders root gathered = rewriting_edits rewrite folders root (without_includes gathered)
 
 -- the files that are settled: without these include lines, and rewritten where this is asked for
-abbrev pub start_files : Bool → List ℕ → GatheredView → Texts
-start_files rewrite root gathered = rewritten_files rewrite root (without_includes gathered)
+abbrev pub start_files : Bool → List (List ℕ) → List ℕ → GatheredView → Texts
+start_files rewrite folders root gathered = rewritten_files rewrite folders root (without_includes gathered)
 
 -- ---- Where the files are written
 
--- the name of a path below a folder; the path itself where it isn't there
-abbrev pub name_in : List ℕ → List ℕ → List ℕ
-name_in folder path = if starts_with nat_eq path folder then drop (length folder) path else path
+-- the path where the root that has a path is written into a folder: under the last part of its path
+abbrev pub written_root : List ℕ → List ℕ → List ℕ
+written_root dir root = path_in dir (last_part root)
 
--- the path where a file of a table is written into a folder: under its name below the root's folder
-abbrev pub written_path : List ℕ → List ℕ → List ℕ → List ℕ
-written_path dir root path = path_in dir (name_in (folder_of root) path)
-
--- the files at the paths where they are written
-abbrev pub written_files : List ℕ → List ℕ → Texts → Texts
-written_files dir root files = map (λ file. (written_path dir root file.0, file.1)) files
+-- files with these names, at the paths where they are written into a folder: each under its name
+abbrev pub written_files : List ℕ → List (List ℕ) → Texts → Texts
+written_files dir names files = map (λ entry. (path_in dir entry.0, entry.1.1)) (zip names files)
 
 -- ---- The cut
 
--- what these files give, where there are no others, and no folders
-abbrev pub only : Texts → FileAnswers
-only files = record { folders = []; may = λ path answer. answer ≡ answer_of (bytes_at files path) }
+-- what these files give, where there are no others, and where they are looked for in these folders
+abbrev pub only : List (List ℕ) → Texts → FileAnswers
+only folders files = record { folders = folders; may = λ path answer. answer ≡ answer_of (bytes_at files path) }
 
--- these files, and no others, define a table with its root at a path
+-- these files, and no others, define a table with its root at a path, and are looked for in no folders
 abbrev pub IsReadAs : Texts → List ℕ → Type 0
-IsReadAs files root = (t : TableView) × IsTableOf (only files) root t
+IsReadAs files root = (t : TableView) × IsTableOf (only [] files) root t
 
 -- these files define none, and this is why
 abbrev pub IsUnreadAs : Texts → List ℕ → NoTable → Type 0
-IsUnreadAs files root why = IsFaultAt (only files) root why
+IsUnreadAs files root why = IsFaultAt (only [] files) root why
 
--- The cut of gathered files for a folder: lines are rewritten where this is asked for; the files are
--- settled and written into the folder, where they define a table. `found` are the faulty lines, and
--- `lines` those that are kept; `cut.rewritten` is how many of these are rewritten.
-pub record IsCutOf (rewrite : Bool) (gathered : GatheredView) (root dir : List ℕ) (cut : Cut) : Type 0 where
+-- The cut of files that were gathered, where they were looked for in these folders too, for a folder:
+-- lines are rewritten where this is asked for; the files are settled and written into the folder, where
+-- they define a table. `found` are the faulty lines, and `lines` those that are kept; `cut.rewritten` is
+-- how many of these are rewritten.
+pub record IsCutOf (rewrite : Bool) (folders : List (List ℕ)) (gathered : GatheredView) (root dir : List ℕ) (cut : Cut) : Type 0 where
   pub settled : Texts
   pub found : List FaultyLineView
   pub lines : List LineView
-  pub settles : IsSettled root (start_files rewrite root gathered) settled found lines
-  pub files_are : map file_view cut.files.items ≡ written_files dir root settled
+  pub settles : IsSettled folders root (start_files rewrite folders root gathered) settled found lines
+  pub files_are : map file_view cut.files.items ≡ written_files dir gathered.names settled
   pub paths_are : map string_bytes cut.paths.items ≡ map (λ file. file.0) gathered.files
   pub left_out_are : map faulty_line_view cut.left_out.items ≡ map include_fault gathered.left_out ++ found
   pub kept_are : map string_bytes cut.line_files.items ≡ map (λ line. line.file) lines
-  pub rewritten_is : cut.rewritten ≡ count_rewritten (start_edits rewrite root gathered) lines
-  pub read : IsReadAs (written_files dir root settled) (written_path dir root root)
+  pub rewritten_is : cut.rewritten ≡ count_rewritten (start_edits rewrite folders root gathered) lines
+  pub read : IsReadAs (written_files dir gathered.names settled) (written_root dir root)
 
--- the cut of the table whose root is at a path, for answers of the source
+-- the cut of the table whose root has a path, for answers of the source
 abbrev pub IsCut : Bool → FileAnswers → List ℕ → List ℕ → Cut → Type 0
 IsCut rewrite gives root dir cut =
-    (answers : Answers) × AreGiven gives answers × (gathered : GatheredView) × (gathered_from (answer_at answers) root ≡ Ok gathered)
-    × IsCutOf rewrite gathered root dir cut
+    (answers : Answers) × AreGiven gives answers × (gathered : GatheredView) × (gathered_from gives.folders (answer_at answers) root ≡ Ok gathered)
+    × IsCutOf rewrite gives.folders gathered root dir cut
 
 -- files that were gathered can't be settled, or what is written is no table
-abbrev pub IsUncut : Bool → List ℕ → List ℕ → GatheredView → CutFault → Type 0
-IsUncut rewrite root dir gathered (Gather why) = ⊥
-IsUncut rewrite root dir gathered (Load why) = IsUnsettled root (start_files rewrite root gathered) why
-IsUncut rewrite root dir gathered (NotRead why) =
-    (settled : Texts) × (found : List FaultyLineView) × (lines : List LineView) × IsSettled root (start_files rewrite root gathered) settled found lines
-    × IsUnreadAs (written_files dir root settled) (written_path dir root root) why
+abbrev pub IsUncut : Bool → List (List ℕ) → List ℕ → List ℕ → GatheredView → CutFault → Type 0
+IsUncut rewrite folders root dir gathered (Gather why) = ⊥
+IsUncut rewrite folders root dir gathered (Load why) = IsUnsettled folders root (start_files rewrite folders root gathered) why
+IsUncut rewrite folders root dir gathered (NotRead why) =
+    (settled : Texts) × (found : List FaultyLineView) × (lines : List LineView)
+    × IsSettled folders root (start_files rewrite folders root gathered) settled found lines
+    × IsUnreadAs (written_files dir gathered.names settled) (written_root dir root) why
 
 -- why a table isn't cut: its files can't be gathered; or they are, and this is why
 abbrev pub IsCutFault : Bool → FileAnswers → List ℕ → List ℕ → CutFault → Type 0
 IsCutFault rewrite gives root dir (Gather why) = IsGatherFault gives root why
 IsCutFault rewrite gives root dir why =
-    (answers : Answers) × AreGiven gives answers × (gathered : GatheredView) × (gathered_from (answer_at answers) root ≡ Ok gathered)
-    × IsUncut rewrite root dir gathered why
+    (answers : Answers) × AreGiven gives answers × (gathered : GatheredView) × (gathered_from gives.folders (answer_at answers) root ≡ Ok gathered)
+    × IsUncut rewrite gives.folders root dir gathered why

@@ -1,9 +1,9 @@
 -- Internal. How the definitions see files in memory and their edits.
-use Rattle.std.specs.Prelude.{ℕ, ◌≡◌, List, option_map, Option, None, string_bytes}
+use Rattle.std.specs.Prelude.{ℕ, ◌≡◌, List, option_map, Option, string_bytes}
 use Rattle.std.specs.Borrow.{Bor}
 use Rattle.std.specs.BTreeMap.{BTreeMap, get_by}
 use Rattle.std.specs.Ordering.{nat_cmp}
-use Rattle.brl_lines.specs.InMemory.{bytes_in}
+use Rattle.brl_lines.specs.InMemory.{bytes_in, folders_of}
 use Rattle.brl_lines.specs.declared.map_source.MapSource.{MapSource}
 use Rattle.brl_cut.specs.Edits.{EditView, Texts}
 use Rattle.brl_cut.specs.Settling.{bytes_at}
@@ -22,6 +22,6 @@ edit_view edit = record { file = string_bytes edit.file; line = edit.line; prefi
 abbrev pub file_view : GatheredFile → List ℕ × List ℕ
 file_view file = (string_bytes file.path, file.bytes.items)
 
--- the source has these files and no others, and looks in no folders
-abbrev pub HoldsFiles : Texts → MapSource → Type 0
-HoldsFiles files source = ((path : List ℕ) → bytes_in source path ≡ bytes_at files path) × (source.folders ≡ None)
+-- the source has these files and no others, and looks in these folders
+abbrev pub HoldsFiles : List (List ℕ) → Texts → MapSource → Type 0
+HoldsFiles folders files source = ((path : List ℕ) → bytes_in source path ≡ bytes_at files path) × (folders_of source.folders ≡ folders)

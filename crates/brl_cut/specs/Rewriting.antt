@@ -107,25 +107,29 @@ abbrev pub lines_or_none : Result (List LineView) Refusal → List LineView
 lines_or_none (Ok lines) = lines
 lines_or_none (Err refused) = []
 
--- the lines of the table whose root is at a path, of these files and no others; none where it can't be
--- loaded
-abbrev pub known_lines : List ℕ → Texts → List LineView
-known_lines root files = lines_or_none (lines_among files root)
+-- the lines of the table whose root has a path, of these files and no others, which are looked for in
+-- these folders too; none where it can't be loaded
+abbrev pub known_lines : List (List ℕ) → List ℕ → Texts → List LineView
+known_lines folders root files = lines_or_none (lines_among folders files root)
 
 -- these files after the edits of lines that begin with `noback`
-abbrev pub without_noback : List ℕ → Texts → Texts
-without_noback root files = edited_files (noback_edits (known_lines root files)) files
+abbrev pub without_noback : List (List ℕ) → List ℕ → Texts → Texts
+without_noback folders root files = edited_files (noback_edits (known_lines folders root files)) files
 
 -- the edits that rewrite lines of these files, where this is asked for: those of `noback`, and then
 -- those of `base uppercase`
-abbrev pub rewriting_edits : Bool → List ℕ → Texts → List EditView
-rewriting_edits rewrite root files =
-    if rewrite then noback_edits (known_lines root files) ++ base_edits (known_lines root (without_noback root files)) else []
+abbrev pub rewriting_edits : Bool → List (List ℕ) → List ℕ → Texts → List EditView
+rewriting_edits rewrite folders root files =
+    if rewrite
+    then noback_edits (known_lines folders root files) ++ base_edits (known_lines folders root (without_noback folders root files))
+    else []
 
 -- these files after their lines are rewritten, where this is asked for
-abbrev pub rewritten_files : Bool → List ℕ → Texts → Texts
-rewritten_files rewrite root files =
-    if rewrite then edited_files (base_edits (known_lines root (without_noback root files))) (without_noback root files) else files
+abbrev pub rewritten_files : Bool → List (List ℕ) → List ℕ → Texts → Texts
+rewritten_files rewrite folders root files =
+    if rewrite
+    then edited_files (base_edits (known_lines folders root (without_noback folders root files))) (without_noback folders root files)
+    else files
 
 -- whether the line at a place is rewritten
 abbrev pub is_rewritten : List EditView → LocationView → Bool

@@ -12,17 +12,17 @@ use Rattle.brl_cut.specs.declared.rounds.Settled.{Settled}
 use Rattle.brl_cut.specs.declared.rounds.Surveyed.{Surveyed}
 
 -- a survey of the table of these files found this
-abbrev pub IsSurveyed : List ℕ → Texts → Surveyed → Type 0
-IsSurveyed root files found =
-    (lines : List LineView) × (lines_among files root ≡ Ok lines) × (map faulty_line_view found.faulty.items ≡ (survey_of lines).faulty)
+abbrev pub IsSurveyed : List (List ℕ) → List ℕ → Texts → Surveyed → Type 0
+IsSurveyed folders root files found =
+    (lines : List LineView) × (lines_among folders files root ≡ Ok lines) × (map faulty_line_view found.faulty.items ≡ (survey_of lines).faulty)
     × (map location_view found.places.items ≡ map location_of lines)
 
 -- files were settled to these, with the lines whose places are these
-abbrev pub SettlesTo : List ℕ → Texts → Settled → Type 0
-SettlesTo root files settled =
-    (lines : List LineView) × IsSettled root files (map file_view settled.files.items) (map faulty_line_view settled.found.items) lines
+abbrev pub SettlesTo : List (List ℕ) → List ℕ → Texts → Settled → Type 0
+SettlesTo folders root files settled =
+    (lines : List LineView) × IsSettled folders root files (map file_view settled.files.items) (map faulty_line_view settled.found.items) lines
     × (map location_view settled.places.items ≡ map location_of lines)
 
 -- files can't be settled: after some rounds the table can't be loaded
-abbrev pub IsUnsettled : List ℕ → Texts → LoadFault → Type 0
-IsUnsettled root files fault = (rounds : ℕ) × (lines_among (after_rounds rounds root files) root ≡ Err (load_fault_view fault))
+abbrev pub IsUnsettled : List (List ℕ) → List ℕ → Texts → LoadFault → Type 0
+IsUnsettled folders root files fault = (rounds : ℕ) × (lines_among folders (after_rounds rounds folders root files) root ≡ Err (load_fault_view fault))

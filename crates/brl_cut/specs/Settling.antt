@@ -13,9 +13,10 @@ use Rattle.brl_cut.specs.Edits.{EditView, Texts, edited_files}
 abbrev pub bytes_at : Texts → List ℕ → Option (List ℕ)
 bytes_at files path = fold (λ found file. if bytes_eq file.0 path then Some file.1 else found) None files
 
--- the lines of the table whose root is at a path, of these files and no others
-abbrev pub lines_among : Texts → List ℕ → Result (List LineView) Refusal
-lines_among files root = lines_over [] (λ path. Some (answer_of (bytes_at files path))) root
+-- the lines of the table whose root has a path, of these files and no others, which are looked for in
+-- these folders too
+abbrev pub lines_among : List (List ℕ) → Texts → List ℕ → Result (List LineView) Refusal
+lines_among folders files root = lines_over folders (λ path. Some (answer_of (bytes_at files path))) root
 
 -- the faulty lines that a survey finds among lines
 abbrev pub faulty_among : Result (List LineView) Refusal → List FaultyLineView
@@ -35,28 +36,29 @@ fault_edit faulty = record {
 }
 
 -- the faulty lines of these files
-abbrev pub faulty_in : List ℕ → Texts → List FaultyLineView
-faulty_in root files = faulty_among (lines_among files root)
+abbrev pub faulty_in : List (List ℕ) → List ℕ → Texts → List FaultyLineView
+faulty_in folders root files = faulty_among (lines_among folders files root)
 
 -- the files after one round: their faulty lines are comments
-abbrev pub round : List ℕ → Texts → Texts
-round root files = edited_files (map fault_edit (faulty_in root files)) files
+abbrev pub round : List (List ℕ) → List ℕ → Texts → Texts
+round folders root files = edited_files (map fault_edit (faulty_in folders root files)) files
 
 -- the files after this many rounds
-abbrev pub after_rounds : ℕ → List ℕ → Texts → Texts
-after_rounds zero root files = files
-after_rounds (suc rounds) root files = round root (after_rounds rounds root files)
+abbrev pub after_rounds : ℕ → List (List ℕ) → List ℕ → Texts → Texts
+after_rounds zero folders root files = files
+after_rounds (suc rounds) folders root files = round folders root (after_rounds rounds folders root files)
 
 -- the faulty lines that were found in these rounds
-abbrev pub found_in_rounds : ℕ → List ℕ → Texts → List FaultyLineView
-found_in_rounds zero root files = []
-found_in_rounds (suc rounds) root files = found_in_rounds rounds root files ++ faulty_in root (after_rounds rounds root files)
+abbrev pub found_in_rounds : ℕ → List (List ℕ) → List ℕ → Texts → List FaultyLineView
+found_in_rounds zero folders root files = []
+found_in_rounds (suc rounds) folders root files =
+    found_in_rounds rounds folders root files ++ faulty_in folders root (after_rounds rounds folders root files)
 
 -- these files come of others by rounds, up to one that finds no faulty line, and these lines were
 -- found; the others are the lines of the table
-pub record IsSettled (root : List ℕ) (files settled : Texts) (found : List FaultyLineView) (lines : List LineView) : Type 0 where
+pub record IsSettled (folders : List (List ℕ)) (root : List ℕ) (files settled : Texts) (found : List FaultyLineView) (lines : List LineView) : Type 0 where
   pub rounds : ℕ
-  pub files_are : settled ≡ after_rounds rounds root files
-  pub found_are : found ≡ found_in_rounds rounds root files
-  pub lines_are : lines_among settled root ≡ Ok lines
+  pub files_are : settled ≡ after_rounds rounds folders root files
+  pub found_are : found ≡ found_in_rounds rounds folders root files
+  pub lines_are : lines_among folders settled root ≡ Ok lines
   pub none_left : (survey_of lines).faulty ≡ []

@@ -1,5 +1,5 @@
 -- The lines of a table without the hyphenation dictionaries that it includes. The project's own choice.
-use Rattle.std.specs.Prelude.{ℕ, ◌≡◌, ◌⊎◌, Bool, true, false, List, [], filter, map, Ok}
+use Rattle.std.specs.Prelude.{ℕ, ◌≡◌, ◌⊎◌, Bool, true, false, List, [], filter, Ok}
 use Rattle.brl_failure.specs.declared.failure.Failure.TheVariants as failures
 use Rattle.brl_lines.specs.Answer.{FileAnswers}
 use Rattle.brl_lines.specs.GatherFaults.{IsGatherFault}
@@ -32,21 +32,22 @@ of_dictionaries left_out = filter is_of_dictionary left_out
 abbrev pub without_dictionaries : GatheredView → Texts
 without_dictionaries gathered = without_include_lines (of_dictionaries gathered.left_out) gathered.files
 
--- these files are gathered of the table whose root is at a path, for answers of the source
+-- these files are gathered of the table whose root has a path, for answers of the source
 abbrev pub IsGatheredAs : FileAnswers → List ℕ → GatheredView → Type 0
-IsGatheredAs gives root gathered = (answers : Answers) × AreGiven gives answers × (gathered_from (answer_at answers) root ≡ Ok gathered)
+IsGatheredAs gives root gathered =
+    (answers : Answers) × AreGiven gives answers × (gathered_from gives.folders (answer_at answers) root ≡ Ok gathered)
 
 -- an include line of the table leads out of the root's folder
 abbrev pub HasWayOut : FileAnswers → List ℕ → Type 0
 HasWayOut gives root = (out : LeadsOut) × IsGatherFault gives root (gather_faults.LeadsOut out)
 
--- the lines of the table whose root is at a path, of the files at these paths: those of the gathered
--- files, where these include lines of dictionaries are skipped; or, where an include line leads out of
--- the root's folder, all of them
+-- the lines of the table whose root has a path, by answers for these paths: those of the gathered
+-- files, where these include lines of dictionaries are skipped, and which are looked for in the same
+-- folders; or, where an include line leads out of the root's folder, all of them
 abbrev pub AreLinesWithout : FileAnswers → List ℕ → List LeftView → List (List ℕ) → List LineView → Type 0
 AreLinesWithout gives root skipped paths lines =
     ((gathered : GatheredView) × IsGatheredAs gives root gathered × (skipped ≡ of_dictionaries gathered.left_out)
-    × AreLinesOfFiles (only (without_dictionaries gathered)) root paths lines)
+    × AreLinesOfFiles (only gives.folders (without_dictionaries gathered)) root paths lines)
     ⊎ (HasWayOut gives root × (skipped ≡ []) × AreLinesOfFiles gives root paths lines)
 
 -- why the table has no such lines: its files can't be gathered; or they can't be loaded without its
@@ -54,5 +55,5 @@ AreLinesWithout gives root skipped paths lines =
 abbrev pub IsUnloaded : FileAnswers → List ℕ → LoadFault → Type 0
 IsUnloaded gives root fault =
     IsGatherFault gives root (gather_faults.Load fault)
-    ⊎ (((gathered : GatheredView) × IsGatheredAs gives root gathered × IsLoadFault (only (without_dictionaries gathered)) root (failures.Fault fault))
+    ⊎ (((gathered : GatheredView) × IsGatheredAs gives root gathered × IsLoadFault (only gives.folders (without_dictionaries gathered)) root (failures.Fault fault))
     ⊎ (HasWayOut gives root × IsLoadFault gives root (failures.Fault fault)))

@@ -9,7 +9,7 @@ ghost use Rattle.brl_cut.specs.Files.{edit_view, file_view};
 
 use crate::files::{source_of, with_comments};
 use crate::includes::include_faults;
-use crate::placing::{place_files, written_path};
+use crate::placing::{place_files, written_root};
 use crate::rewriting::{Rewritten, count_rewritten, rewrite_files};
 use crate::rounds::{Settled, settle};
 use brl_failure::{Failure, raise};
@@ -59,12 +59,13 @@ fn paths_of(alloc: Global, files: &[GatheredFile]) -> Result<Vec<String>, AllocE
     Ok(paths)
 }
 
-/// Reads the table whose root is at a path, of these files and no others.
+/// Reads the table whose root is at a path, of these files and no others, which are looked for in no
+/// folders.
 fn check_read(alloc: Global, files: &[GatheredFile], root: &str) -> Result<(), Failure<NoTable>>
     ensures read { OnOk result (IsReadAs (map file_view files.now) root.now) }
     ensures fault { IfErr result (IfFault (IsUnreadAs (map file_view files.now) root.now)) }
 {
-    let mut source = source_of(alloc, files)?;
+    let mut source = source_of(alloc, &[], files)?;
     load_table(alloc, &mut source, root)?;
     Ok(())
 }
@@ -84,25 +85,27 @@ fn files_of_places(alloc: Global, places: &[Location]) -> Result<Vec<String>, Al
 /// asked for.
 fn rewrite_gathered(
     alloc: Global,
+    folders: &[String],
     gathered: &Gathered,
     root: &str,
     rewrite: bool,
 ) -> Result<Rewritten, AllocError>
-    ensures files { IfOk result (λ new. map file_view new.files.items ≡ start_files rewrite root.now (gathered_view gathered.now)) }
-    ensures edits { IfOk result (λ new. map edit_view new.edits.items ≡ start_edits rewrite root.now (gathered_view gathered.now)) }
+    ensures files { IfOk result (λ new. map file_view new.files.items ≡ start_files rewrite (map string_bytes folders.now) root.now (gathered_view gathered.now)) }
+    ensures edits { IfOk result (λ new. map edit_view new.edits.items ≡ start_edits rewrite (map string_bytes folders.now) root.now (gathered_view gathered.now)) }
 {
     let files = with_comments(
         alloc,
         gathered.files.as_slice(),
         gathered.left_out.as_slice(),
     )?;
-    rewrite_files(alloc, files, root, rewrite)
+    rewrite_files(alloc, folders, files, root, rewrite)
 }
 
-/// The table whose root is at a path, with the lines that aren't read as comments, for the folder
-/// `dir`. Each file keeps its name below the root's folder, each line its number and its end. A line
-/// that isn't read becomes a comment that says why: `# `, the reason, `: ` and the line; one of more
-/// than 2,048 bytes is cut off.
+/// The table whose root has a path, with the lines that aren't read as comments, for the folder `dir`.
+/// A file gets the name in the include line that first leads to it, wherever it was found, and the root
+/// the last part of its path; so the files there are found in no other folder. Each line keeps its number
+/// and its end. A line that isn't read becomes a comment that says why: `# `, the reason, `: ` and the
+/// line; one of more than 2,048 bytes is cut off.
 ///
 /// Lines are left out in this order: include lines as `gather` leaves them out; and then, again and
 /// again, the lines that a survey of the others finds faulty, until it finds none. So every command
@@ -123,24 +126,26 @@ pub fn cut_table<S: Source>(
     ensures same { Unchanged (S.gives source.old) (S.gives source.new) }
 {
     let gathered = raise(gather(alloc, source, root), CutFault::Gather)?;
-    cut_gathered(alloc, &gathered, root, dir, rewrite)
+    cut_gathered(alloc, source.folders(), &gathered, root, dir, rewrite)
 }
 
-/// The same of files that are gathered.
+/// The same of files that are gathered, where they were looked for in these folders too.
 fn cut_gathered(
     alloc: Global,
+    folders: &[String],
     gathered: &Gathered,
     root: &str,
     dir: &str,
     rewrite: bool,
 ) -> Result<Cut, Failure<CutFault>>
-    ensures cut { IfOk result (IsCutOf rewrite (gathered_view gathered.now) root.now dir.now) }
-    ensures fault { IfErr result (IfFault (IsUncut rewrite root.now dir.now (gathered_view gathered.now))) }
+    ensures cut { IfOk result (IsCutOf rewrite (map string_bytes folders.now) (gathered_view gathered.now) root.now dir.now) }
+    ensures fault { IfErr result (IfFault (IsUncut rewrite (map string_bytes folders.now) root.now dir.now (gathered_view gathered.now))) }
 {
-    let new = rewrite_gathered(alloc, gathered, root, rewrite)?;
-    let settled = raise(settle(alloc, new.files, root), CutFault::Load)?;
-    let files = place_files(alloc, settled.files.as_slice(), dir, root)?;
-    let new_root = written_path(alloc, dir, root, root)?;
+    let new = rewrite_gathered(alloc, folders, gathered, root, rewrite)?;
+    let settled = raise(settle(alloc, folders, new.files, root), CutFault::Load)?;
+    let names = gathered.names.as_slice();
+    let files = place_files(alloc, dir, names, settled.files.as_slice())?;
+    let new_root = written_root(alloc, dir, root)?;
     raise(
         check_read(alloc, files.as_slice(), new_root.as_str()),
         CutFault::NotRead,

@@ -112,9 +112,25 @@ pub(crate) fn with_comments<L: BecomesComment>(
     edit_files(alloc, files, edits.as_slice())
 }
 
-/// A source that has these files and no others; the last one at a path decides.
-pub(crate) fn source_of(alloc: Global, files: &[GatheredFile]) -> Result<MapSource, AllocError>
-    ensures { IfOk result (HoldsFiles (map file_view files.now)) }
+/// Copies of texts.
+fn copies(alloc: Global, texts: &[String]) -> Result<Vec<String>, AllocError>
+    ensures { IfOk result (λ others. map string_bytes others.items ≡ map string_bytes texts.now) }
+{
+    let mut others = Vec::with_capacity(alloc, texts.len())?;
+    for text in texts {
+        others.push(String::from_str(alloc, text.as_str())?)?;
+    }
+    Ok(others)
+}
+
+/// A source that has these files and no others, and looks in these folders; the last file at a path
+/// decides.
+pub(crate) fn source_of(
+    alloc: Global,
+    folders: &[String],
+    files: &[GatheredFile],
+) -> Result<MapSource, AllocError>
+    ensures { IfOk result (HoldsFiles (map string_bytes folders.now) (map file_view files.now)) }
 {
     let mut map = BTreeMap::new(alloc);
     for file in files {
@@ -122,18 +138,24 @@ pub(crate) fn source_of(alloc: Global, files: &[GatheredFile]) -> Result<MapSour
         let bytes = Vec::from_slice(alloc, file.bytes.as_slice())?;
         map.insert(path, bytes)?;
     }
-    Ok(MapSource::new(map))
+    let folders = Some(copies(alloc, folders)?);
+    Ok(MapSource {
+        files: map,
+        folders,
+    })
 }
 
-/// Loads the table whose root is at a path, of these files and no others.
+/// Loads the table whose root has a path, of these files and no others, which are looked for in these
+/// folders too.
 pub(crate) fn load_files(
     alloc: Global,
+    folders: &[String],
     files: &[GatheredFile],
     root: &str,
 ) -> Result<Loaded, Failure<LoadFault>>
-    ensures { GivesAs (λ loaded. loaded.lines) load_fault_view (lines_among (map file_view files.now) root.now) result }
+    ensures { GivesAs (λ loaded. loaded.lines) load_fault_view (lines_among (map string_bytes folders.now) (map file_view files.now) root.now) result }
 {
-    let mut source = source_of(alloc, files)?;
+    let mut source = source_of(alloc, folders, files)?;
     files_in_memory_law(&source);
     load(alloc, &mut source, root)
 }

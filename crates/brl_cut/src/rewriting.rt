@@ -20,15 +20,17 @@ pub(crate) struct Rewritten {
     pub edits: Vec<Edit>,
 }
 
-/// The table whose root is at a path, of these files and no others; `None` where it can't be loaded.
+/// The table whose root has a path, of these files and no others, which are looked for in these folders
+/// too; `None` where it can't be loaded.
 fn load_if_whole(
     alloc: Global,
+    folders: &[String],
     files: &[GatheredFile],
     root: &str,
 ) -> Result<Option<Loaded>, AllocError>
-    ensures { IfOk result (λ loaded. option_map_or (λ l. l.lines) loaded [] ≡ known_lines root.now (map file_view files.now)) }
+    ensures { IfOk result (λ loaded. option_map_or (λ l. l.lines) loaded [] ≡ known_lines (map string_bytes folders.now) root.now (map file_view files.now)) }
 {
-    match load_files(alloc, files, root) {
+    match load_files(alloc, folders, files, root) {
         Ok(loaded) => Ok(Some(loaded)),
         Err(Failure::Fault(_)) => Ok(None),
         Err(Failure::Memory) => Err(AllocError),
@@ -48,21 +50,22 @@ fn lines_of(alloc: Global, loaded: &Option<Loaded>) -> Result<Vec<Line<'_>>, All
 /// Rewrites the lines of files, where this is asked for.
 pub(crate) fn rewrite_files(
     alloc: Global,
+    folders: &[String],
     files: Vec<GatheredFile>,
     root: &str,
     rewrite: bool,
 ) -> Result<Rewritten, AllocError>
-    ensures files { IfOk result (λ new. map file_view new.files.items ≡ rewritten_files rewrite root.now (map file_view files.items)) }
-    ensures edits { IfOk result (λ new. map edit_view new.edits.items ≡ rewriting_edits rewrite root.now (map file_view files.items)) }
+    ensures files { IfOk result (λ new. map file_view new.files.items ≡ rewritten_files rewrite (map string_bytes folders.now) root.now (map file_view files.items)) }
+    ensures edits { IfOk result (λ new. map edit_view new.edits.items ≡ rewriting_edits rewrite (map string_bytes folders.now) root.now (map file_view files.items)) }
 {
     if !rewrite {
         let edits = Vec::new(alloc);
         return Ok(Rewritten { files, edits });
     }
-    let old = load_if_whole(alloc, files.as_slice(), root)?;
+    let old = load_if_whole(alloc, folders, files.as_slice(), root)?;
     let mut edits = noback_of_lines(alloc, lines_of(alloc, &old)?.as_slice())?;
     let files = edit_files(alloc, files.as_slice(), edits.as_slice())?;
-    let new = load_if_whole(alloc, files.as_slice(), root)?;
+    let new = load_if_whole(alloc, folders, files.as_slice(), root)?;
     let mut others = base_of_lines(alloc, lines_of(alloc, &new)?.as_slice())?;
     let files = edit_files(alloc, files.as_slice(), others.as_slice())?;
     edits.append(&mut others)?;

@@ -1,5 +1,5 @@
 //! Rounds of surveys of files, whose faulty lines become comments.
-ghost use Rattle.std.specs.Prelude.{◌≡◌, Err, IfErr, IfOk, map};
+ghost use Rattle.std.specs.Prelude.{◌≡◌, Err, IfErr, IfOk, map, string_bytes};
 ghost use Rattle.brl_failure.specs.Failure.{IfFault};
 ghost use Rattle.brl_lines.specs.Lines.{location_of};
 ghost use Rattle.brl_lines.specs.Views.{line_view, load_fault_view, location_view};
@@ -29,16 +29,18 @@ pub(crate) struct Settled {
     pub places: Vec<Location>,
 }
 
-/// Surveys the table whose root is at a path, of these files and no others.
+/// Surveys the table whose root has a path, of these files and no others, which are looked for in these
+/// folders too.
 fn survey_files(
     alloc: Global,
+    folders: &[String],
     files: &[GatheredFile],
     root: &str,
 ) -> Result<Surveyed, Failure<LoadFault>>
-    ensures found { IfOk result (IsSurveyed root.now (map file_view files.now)) }
-    ensures fault { IfErr result (IfFault (λ fault. lines_among (map file_view files.now) root.now ≡ Err (load_fault_view fault))) }
+    ensures found { IfOk result (IsSurveyed (map string_bytes folders.now) root.now (map file_view files.now)) }
+    ensures fault { IfErr result (IfFault (λ fault. lines_among (map string_bytes folders.now) (map file_view files.now) root.now ≡ Err (load_fault_view fault))) }
 {
-    let loaded = load_files(alloc, files, root)?;
+    let loaded = load_files(alloc, folders, files, root)?;
     let lines = loaded.lines(alloc)?;
     let found = survey(alloc, lines.as_slice())?;
     let places = places_of_lines(alloc, lines.as_slice())?;
@@ -77,20 +79,22 @@ impl BecomesComment for FaultyLine {
     }
 }
 
-/// Makes lines comments until a survey of the table whose root is at a path finds none faulty: again
-/// and again all those that it finds. A table that can't be loaded from these files is a fault.
+/// Makes lines comments until a survey of the table whose root has a path finds none faulty: again and
+/// again all those that it finds. A table that can't be loaded from these files, which are looked for in
+/// these folders too, is a fault.
 pub(crate) fn settle(
     alloc: Global,
+    folders: &[String],
     files: Vec<GatheredFile>,
     root: &str,
 ) -> Result<Settled, Failure<LoadFault>>
-    ensures settled { IfOk result (SettlesTo root.now (map file_view files.items)) }
-    ensures fault { IfErr result (IfFault (IsUnsettled root.now (map file_view files.items))) }
+    ensures settled { IfOk result (SettlesTo (map string_bytes folders.now) root.now (map file_view files.items)) }
+    ensures fault { IfErr result (IfFault (IsUnsettled (map string_bytes folders.now) root.now (map file_view files.items))) }
 {
     let mut files = files;
     let mut found = Vec::new(alloc);
     for _ in 0..u64::MAX {
-        let mut surveyed = survey_files(alloc, files.as_slice(), root)?;
+        let mut surveyed = survey_files(alloc, folders, files.as_slice(), root)?;
         if surveyed.faulty.is_empty() {
             return Ok(Settled {
                 files,

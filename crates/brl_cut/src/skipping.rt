@@ -1,5 +1,5 @@
 //! Loads a table without the hyphenation dictionaries that it includes.
-ghost use Rattle.std.specs.Prelude.{◌≡◌, [], IfErr, IfOk, map};
+ghost use Rattle.std.specs.Prelude.{◌≡◌, [], IfErr, IfOk, map, string_bytes};
 ghost use Rattle.brl_failure.specs.Failure.{IfFault};
 ghost use Rattle.brl_lines.specs.Answer.{Unchanged};
 ghost use Rattle.brl_lines.specs.GatherFaults.{gathered_view};
@@ -39,7 +39,7 @@ pub fn load_without_dictionaries<S: Source>(
     ensures same { Unchanged (S.gives source.old) (S.gives source.new) }
 {
     match gather(alloc, source, root) {
-        Ok(gathered) => load_gathered(alloc, gathered, root),
+        Ok(gathered) => load_gathered(alloc, source.folders(), gathered, root),
         Err(Failure::Fault(GatherFault::LeadsOut(_))) => load_all(alloc, source, root),
         Err(Failure::Fault(GatherFault::Load(fault))) => Err(Failure::Fault(fault)),
         Err(Failure::Memory) => Err(Failure::Memory),
@@ -62,19 +62,20 @@ fn load_all<S: Source>(
     Ok(WithoutDictionaries { loaded, skipped })
 }
 
-/// Loads a table of gathered files, without its dictionaries.
+/// Loads a table of gathered files, which are looked for in these folders too, without its dictionaries.
 fn load_gathered(
     alloc: Global,
+    folders: &[String],
     gathered: Gathered,
     root: &str,
 ) -> Result<WithoutDictionaries, Failure<LoadFault>>
     ensures skipped { IfOk result (λ table. map left_view table.skipped.items ≡ lines_of_dictionaries (gathered_view gathered).left_out) }
-    ensures lines { IfOk result (λ table. AreLinesOfFiles (only (without_dictionaries (gathered_view gathered))) root.now table.loaded.paths table.loaded.lines) }
-    ensures fault { IfErr result (IsLoadFault (only (without_dictionaries (gathered_view gathered))) root.now) }
+    ensures lines { IfOk result (λ table. AreLinesOfFiles (only (map string_bytes folders.now) (without_dictionaries (gathered_view gathered))) root.now table.loaded.paths table.loaded.lines) }
+    ensures fault { IfErr result (IsLoadFault (only (map string_bytes folders.now) (without_dictionaries (gathered_view gathered))) root.now) }
 {
     let skipped = of_dictionaries(alloc, gathered.left_out.as_slice())?;
     let files = with_comments(alloc, gathered.files.as_slice(), skipped.as_slice())?;
-    let mut source = source_of(alloc, files.as_slice())?;
+    let mut source = source_of(alloc, folders, files.as_slice())?;
     let loaded = load(alloc, &mut source, root)?;
     Ok(WithoutDictionaries { loaded, skipped })
 }

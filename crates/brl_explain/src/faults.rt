@@ -4,7 +4,7 @@
 /// What explains each fault: a line with its own form, or with several, which commas part; when it
 /// comes; for a line of a table what the fault's line names; and what to do about it. Words in capitals
 /// are for what differs.
-pub const FAULTS: [&str; 43] = [
+pub const FAULTS: [&str; 45] = [
     "L8 TooManyIncludes\n\
      When: 1,024 include lines were followed before\n\
      What to do: Join files.\n",
@@ -96,8 +96,16 @@ pub const FAULTS: [&str; 43] = [
      When: the table doesn't define it: the first such character of `--without`\n\
      What to do: Leave it out: no text of the table has it.\n",
     "U7 CannotWrite PATH\n\
-     When: a certificate or a file of a cut can't be written; after `written before it:` come the files of the cut that are\n\
+     When: a file can't be written; after `written before it:` come the files of a cut that are\n\
      What to do: Check the permissions of the file and its folder, and the free space. Cut into another folder, or remove these files.\n",
+    "P1 NoSuchRules\n\
+     When: the line isn't what two rules of the table say, with ` / ` between them\n\
+     Named: the line\n\
+     What to do: Write the pairs anew by `brl clashes --write`: a rule may have changed, or the line by hand.\n",
+    "P2 NotListed\n\
+     When: the line's pair of rules isn't listed, and the list has all\n\
+     Named: the line\n\
+     What to do: Take the line out; or it was accepted with another `--without`: give that one.\n",
     "K8 Truncated\n\
      When: the line has no line feed, or there is no `end` line\n\
      What to do: The file was cut: copy it again.\n",

@@ -1,9 +1,10 @@
 -- The folder of a path, by its last byte.
-use Rattle.std.proofs.Common.{◌≡◌, ◌≢◌, ℕ, ◌+◌, ◌-◌, ◌<◌, ◌≤◌, true, false, nat_eq, List, [], ◌∷◌, ◌++◌, length, get_or, take, refl, ap, sym, ◌∙◌, subst, arith, IsUtf8}
+use Rattle.std.proofs.Common.{◌≡◌, ◌≢◌, ℕ, ◌+◌, ◌-◌, ◌<◌, ◌≤◌, Bool, true, false, cond, ◌||◌, nat_eq, List, [], ◌∷◌, ◌++◌, length, get_or, take, refl, ap, sym, ◌∙◌, subst, arith, IsUtf8}
 use Rattle.std.proofs.lemmas.List.{take_more}
 use Rattle.std.proofs.lemmas.Str.{IsCharBoundary-after_ascii}
-use Rattle.std.specs.List.{list_any}
-use Rattle.std.specs.Str.{IsCharBoundary}
+use Rattle.std.specs.List.{list_any, starts_with}
+use Rattle.std.proofs.lemmas.Slice.Eq.{bytes_eq-Decides}
+use Rattle.std.specs.Str.{IsCharBoundary, bytes_eq}
 use Rattle.std.proofs.lemmas.Bool.{or_right}
 use Rattle.brl_lines.proofs.RowLemmas.{not_equal}
 use Rattle.brl_lines.specs.Includes.{folder_of}
@@ -55,3 +56,15 @@ folder_of-none path end none before = let e : end ≡ 0 = omega arith in rw e (r
 
 pub take_front : (path : List ℕ) (end : ℕ) → take (end - 0) path ≡ take end path
 take_front path end = let same : end - 0 ≡ end = omega arith in ap (λ n. take n path) same
+
+-- a path begins with its folder
+folder-first : (path : List ℕ) → take (length (folder_of path)) path ≡ folder_of path
+folder-first [] = refl
+folder-first (b ∷ bs) = by_test (nat_eq b 47 || list_any (λ c. nat_eq c 47) bs) (folder-first bs)
+  where
+    by_test : (t : Bool) → take (length (folder_of bs)) bs ≡ folder_of bs → take (length (cond t (b ∷ folder_of bs) [])) (b ∷ bs) ≡ cond t (b ∷ folder_of bs) []
+    by_test true h = ap (λ (l : List ℕ). b ∷ l) h
+    by_test false h = refl
+
+pub folder-starts : (path : List ℕ) → starts_with nat_eq path (folder_of path) ≡ true
+folder-starts path = ap (bytes_eq (folder_of path)) (folder-first path) ∙ (bytes_eq-Decides (folder_of path) (folder_of path)).1 refl

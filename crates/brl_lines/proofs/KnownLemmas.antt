@@ -1,5 +1,5 @@
 -- What is learnt of paths.
-use Rattle.std.proofs.Common.{◌≡◌, ◌≢◌, IfErr, ℕ, Bool, true, false, cond, nat_lt, List, [], ◌∷◌, length, refl, ap, subst, inl, inr, sym, ◌∙◌, Option, Some, None, Result, Ok, Err, string_bytes}
+use Rattle.std.proofs.Common.{◌≡◌, ◌≢◌, ◌≤◌, IfErr, ℕ, Bool, true, false, cond, nat_lt, List, [], ◌∷◌, length, refl, ap, subst, inl, inr, sym, ◌∙◌, Option, Some, None, Result, Ok, Err, string_bytes}
 use Rattle.std.proofs.lemmas.Bool.{false≢true}
 use Rattle.std.proofs.lemmas.Slice.Eq.{bytes_eq-Decides}
 use Rattle.std.specs.Global.{Global}
@@ -9,7 +9,7 @@ use Rattle.indexmap.specs.IndexMap.{insert_entry}
 use Rattle.brl_failure.specs.declared.failure.Failure.{Failure}
 use Rattle.brl_failure.specs.declared.failure.Failure.TheVariants as failures
 use Rattle.brl_lines.specs.Answer.{FileAnswer, FileAnswers, Holds, Large, Missing, Unchanged, Unreadable, most_file_bytes}
-use Rattle.brl_lines.specs.GatherFaults.{IsFaultAs}
+use Rattle.brl_lines.specs.GatherFaults.{IsFaultAs, most_paths}
 use Rattle.brl_lines.specs.Gathering.{StopView}
 use Rattle.brl_lines.specs.Gathered.{IsUnread, KnownPaths, answer_of_known, known_answers}
 use Rattle.brl_lines.specs.Lines.{Answers, LocationView, Refusal, long_row, refusal, text_in, text_of, unless_long}
@@ -86,14 +86,15 @@ given-inserted gives (entry ∷ entries) key known are is = by_test (string_eq k
     by_test true same rest = (subst (λ (p : List ℕ). gives.may p (answer_of_known known)) ((bytes_eq-Decides (string_bytes key) (string_bytes entry.0)).0 same) is, are.1)
     by_test false same rest = (are.0, rest)
 
--- what one source gave, another may give
-pub fault-stays : (g h : FileAnswers) → ((path : List ℕ) (a : FileAnswer) → g.may path a → h.may path a) → (answers : Answers) (kind : StopKind) (stop : StopView) (fault : GatherFault)
-    → IsFaultAs kind g answers stop fault → IsFaultAs kind h answers stop fault
-fault-stays g h stays answers stops.LeadsOut stop fault x = x
-fault-stays g h stays answers stops.TooDeep stop fault x = x
-fault-stays g h stays answers stops.Unknown stop fault (inl x) = inl x
-fault-stays g h stays answers stops.Unknown stop (Load fault) (inr x) = inr (x.0, stays _ _ x.1, x.2, λ k. stays _ _ (x.3 k))
-fault-stays g h stays answers stops.Unknown stop (LeadsOut out) (inr x) = absurd x
+-- what one source gave, another may give, that looks in the same folders
+module _ (g h : FileAnswers) (folders : h.folders ≡ g.folders) (stays : (path : List ℕ) (a : FileAnswer) → g.may path a → h.may path a) where
+  pub fault-stays : (answers : Answers) (kind : StopKind) (stop : StopView) (fault : GatherFault) → IsFaultAs kind g answers stop fault → IsFaultAs kind h answers stop fault
+  fault-stays answers stops.LeadsOut stop fault x = x
+  fault-stays answers stops.TooDeep stop fault x = x
+  fault-stays answers stops.Unknown stop fault (inl x) = inl (subst (λ (fs : List (List ℕ)). most_paths fs ≤ length answers) (sym folders) x.0, x.1)
+  fault-stays answers stops.Unknown stop fault (inr (inl x)) = inr (inl x)
+  fault-stays answers stops.Unknown stop (Load fault) (inr (inr x)) = inr (inr ((x.0.0, stays _ _ x.0.1, x.0.2, λ k. stays _ _ (x.0.3 k)), x.1))
+  fault-stays answers stops.Unknown stop (LeadsOut out) (inr (inr x)) = absurd x
 
 -- ---- what a source gave while paths were asked for
 

@@ -3,7 +3,8 @@ use Rattle.std.proofs.Common.{◌≡◌, ◌∙◌, ℕ, List, ap}
 use Rattle.brl_failure.specs.declared.failure.Failure.TheVariants as failures
 use Rattle.brl_lines.specs.Answer.{FileAnswer, FileAnswers}
 use Rattle.brl_lines.specs.GatherFaults.{IsGatherFault}
-use Rattle.brl_lines.specs.Lines.{Answers, lines_of}
+use Rattle.brl_lines.specs.Gathering.{way_from}
+use Rattle.brl_lines.specs.Lines.{Answers, answer_at, lines_of}
 use Rattle.brl_lines.specs.Outcome.{AreLinesOf, AreLinesOfFiles, IsLoadFault}
 use Rattle.brl_lines.specs.Tokens.{LineView}
 use Rattle.brl_lines.specs.declared.fault.LoadFault.{LoadFault}
@@ -25,4 +26,10 @@ module _ (from to : FileAnswers) (folders : to.folders ≡ from.folders) (moves 
   load_fault_moved path fault h = ((h.0.0, given-stays from to moves h.0.0 h.0.1, same_lines h.0.0 path ∙ h.0.2), λ e. moves _ _ (h.1 e))
 
   pub gather_fault_moved : (path : List ℕ) (fault : GatherFault) → IsGatherFault from path fault → IsGatherFault to path fault
-  gather_fault_moved path fault h = (h.0, given-stays from to moves h.0 h.1, h.2, h.3, fault-stays from to moves h.0 h.2.kind h.2 fault h.4)
+  gather_fault_moved path fault h = (
+    h.0,
+    given-stays from to moves h.0 h.1,
+    h.2,
+    ap (λ fs. way_from fs (answer_at h.0) path) folders ∙ h.3,
+    fault-stays from to folders moves h.0 h.2.kind h.2 fault h.4,
+  )

@@ -21,7 +21,11 @@ left_view left = record { file = string_bytes left.file; line = left.line; name 
 
 -- a way
 abbrev pub way_view : Way → WayView
-way_view way = record { paths = map string_bytes way.paths.items; left_out = map left_view way.left_out.items }
+way_view way = record {
+  paths = map string_bytes way.paths.items;
+  names = map string_bytes way.names.items;
+  left_out = map left_view way.left_out.items;
+}
 
 -- where a way ends early
 abbrev pub stop_view : Stop → StopView
@@ -44,14 +48,14 @@ known_answers entries = map (λ entry. (string_bytes entry.0, answer_of_known en
 abbrev pub known_answer : KnownPaths → List ℕ → Option FileAnswer
 known_answer entries = answer_at (known_answers entries)
 
--- an include line was taken: it is left out, or leads on to the file at a path and the way is as it
--- was; or the way ends there
-abbrev pub IsTaken : (List ℕ → Option FileAnswer) → List ℕ → List ℕ → IncludeView → WayView → WayView → Result (Option (String Global)) (Failure Stop) → Type 0
-IsTaken answer root file include old new (Ok None) = (visit : Visit) → taken visit answer root file include old ≡ Ok new
-IsTaken answer root file include old new (Ok (Some path)) =
-    (new ≡ old) × ((visit : Visit) → taken visit answer root file include old ≡ visit (Some (place_of file include)) (string_bytes path) old)
-IsTaken answer root file include old new (Err failure) =
-    IfFault (λ found. (visit : Visit) → taken visit answer root file include old ≡ Err (stop_view found)) failure
+-- an include line was taken: it is left out; or it leads on to the file at a path, and the way has its
+-- name; or the way ends there
+abbrev pub IsTaken : List (List ℕ) → (List ℕ → Option FileAnswer) → List ℕ → List ℕ → IncludeView → WayView → WayView → Result (Option (String Global)) (Failure Stop) → Type 0
+IsTaken folders answer root file include old new (Ok None) = (visit : Visit) → taken visit folders answer root file include old ≡ Ok new
+IsTaken folders answer root file include old new (Ok (Some path)) =
+    (visit : Visit) → taken visit folders answer root file include old ≡ visit (Some (place_of file include)) (string_bytes path) new
+IsTaken folders answer root file include old new (Err failure) =
+    IfFault (λ found. (visit : Visit) → taken visit folders answer root file include old ≡ Err (stop_view found)) failure
 
 -- the source gave an answer for the file at a path for which it is refused
 abbrev pub IsUnread : FileAnswers → List ℕ → Option LocationView → Failure LoadFault → Type 0

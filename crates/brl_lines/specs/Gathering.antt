@@ -8,7 +8,7 @@ use Rattle.std.specs.List.{ends_with, list_all, list_any, slice_split}
 use Rattle.std.specs.Str.{bytes_eq}
 use Rattle.brl_failure.specs.Failure.{◌>>=◌}
 use Rattle.brl_lines.specs.Answer.{FileAnswer, Holds, is_missing}
-use Rattle.brl_lines.specs.Includes.{included, name_of}
+use Rattle.brl_lines.specs.Includes.{found, included, last_part, name_of}
 use Rattle.brl_lines.specs.Lines.{LocationView}
 use Rattle.brl_lines.specs.Rows.{without_mark}
 use Rattle.brl_lines.specs.Tokens.{lines_in}
@@ -59,15 +59,16 @@ pub record LeftView : Type 0 where
   pub name : List ℕ
   pub reason : IncludeReason
 
--- the way so far: the paths of the files that it went through, and the include lines that were left
--- out, both in order
+-- the way so far: of the files that it went through, the paths where they were found and the names by
+-- which they were looked for; and the include lines that were left out; all in order
 pub record WayView : Type 0 where
   pub paths : List (List ℕ)
+  pub names : List (List ℕ)
   pub left_out : List LeftView
 
 -- the way before its first file
 abbrev pub no_way : WayView
-no_way = record { paths = []; left_out = [] }
+no_way = record { paths = []; names = []; left_out = [] }
 
 -- why the way ends early: at the file at a path, or at a name in an include line; and that line, where
 -- it isn't the root
@@ -84,13 +85,17 @@ stop kind subject place = record { kind = kind; subject = subject; place = place
 abbrev pub with_file : WayView → List ℕ → WayView
 with_file way path = record way { paths = way.paths ++ path ∷ [] }
 
+-- the way with a name more, of a file to which it leads
+abbrev pub with_name : WayView → List ℕ → WayView
+with_name way name = record way { names = way.names ++ name ∷ [] }
+
 -- the way with an include line more that is left out
 abbrev pub with_left : WayView → List ℕ → IncludeView → IncludeReason → WayView
 with_left way file include reason = record way {
   left_out = way.left_out ++ record { file = file; line = include.line; name = include.name; reason = reason } ∷ [];
 }
 
--- the way on through the file at a path, from the include line that leads to it
+-- the way on through the file that was found at a path, from the include line that leads to it
 abbrev pub Visit : Type 0
 Visit = Option LocationView → List ℕ → WayView → Result WayView StopView
 
@@ -103,41 +108,53 @@ held answer = None
 abbrev pub place_of : List ℕ → IncludeView → LocationView
 place_of file include = record { file = file; line = include.line }
 
+-- the way on at an include line of a file, whose file is found at a path
+abbrev pub led : Visit → (List ℕ → Option FileAnswer) → List ℕ → List ℕ → IncludeView → WayView → Result WayView StopView
+led visit answer path file include way =
+    if list_any (bytes_eq path) way.paths then Ok (with_left way file include reasons.Repeated)
+    else if is_missing (answer path) then Ok (with_left way file include reasons.Missing)
+    else visit (Some (place_of file include)) path (with_name way include.name)
+
 -- the way on at an include line of a file
-abbrev pub taken : Visit → (List ℕ → Option FileAnswer) → List ℕ → List ℕ → IncludeView → WayView → Result WayView StopView
-taken visit answer root file include way =
+abbrev pub taken : Visit → List (List ℕ) → (List ℕ → Option FileAnswer) → List ℕ → List ℕ → IncludeView → WayView → Result WayView StopView
+taken visit folders answer root file include way =
     if is_dictionary include.name then Ok (with_left way file include reasons.Dictionary)
     else if not (is_plain include.name) then Err (stop stops.LeadsOut include.name (Some (place_of file include)))
-    else if list_any (bytes_eq (included root include.name)) way.paths then Ok (with_left way file include reasons.Repeated)
-    else if is_missing (answer (included root include.name)) then Ok (with_left way file include reasons.Missing)
-    else visit (Some (place_of file include)) (included root include.name) way
+    else led visit answer (found folders answer (included root include.name) include.name) file include way
 
 -- the same at these include lines, one after the other
-abbrev pub taken_all : Visit → (List ℕ → Option FileAnswer) → List ℕ → List ℕ → List IncludeView → WayView → Result WayView StopView
-taken_all visit answer root file [] way = Ok way
-taken_all visit answer root file (include ∷ includes) way = do
-  next ← taken visit answer root file include way
-  taken_all visit answer root file includes next
+abbrev pub taken_all : Visit → List (List ℕ) → (List ℕ → Option FileAnswer) → List ℕ → List ℕ → List IncludeView → WayView → Result WayView StopView
+taken_all visit folders answer root file [] way = Ok way
+taken_all visit folders answer root file (include ∷ includes) way = do
+  next ← taken visit folders answer root file include way
+  taken_all visit folders answer root file includes next
 
--- the way on through the file at a path, which has these bytes, or nothing is known of it
-abbrev pub entered : Visit → (List ℕ → Option FileAnswer) → List ℕ → Option LocationView → List ℕ → Option (List ℕ) → WayView → Result WayView StopView
-entered visit answer root place path (Some bytes) way = taken_all visit answer root path (includes_in (without_mark bytes)) (with_file way path)
-entered visit answer root place path None way = Err (stop stops.Unknown path place)
+-- the way on through the file at a path, which has these bytes, or isn't known to be there
+abbrev pub entered : Visit → List (List ℕ) → (List ℕ → Option FileAnswer) → List ℕ → Option LocationView → List ℕ → Option (List ℕ) → WayView → Result WayView StopView
+entered visit folders answer root place path (Some bytes) way = taken_all visit folders answer root path (includes_in (without_mark bytes)) (with_file way path)
+entered visit folders answer root place path None way = Err (stop stops.Unknown path place)
 
 -- the same, where this many files may lead down from it, itself counted
-unfoldable pub through : ℕ → (List ℕ → Option FileAnswer) → List ℕ → Visit
-through zero answer root place path way = Err (stop stops.TooDeep path place)
-through (suc depth) answer root place path way = entered (through depth answer root) answer root place path (held (answer path)) way
+unfoldable pub through : ℕ → List (List ℕ) → (List ℕ → Option FileAnswer) → List ℕ → Visit
+through zero folders answer root place path way = Err (stop stops.TooDeep path place)
+through (suc depth) folders answer root place path way = entered (through depth folders answer root) folders answer root place path (held (answer path)) way
 
--- the whole way from the root, which is 1 deep; a file may be 16 deep
-abbrev pub way_from : (List ℕ → Option FileAnswer) → List ℕ → Result WayView StopView
-way_from answer root = through 16 answer root None root no_way
+-- the whole way from the root that was found at a path, with this name: it is 1 deep, and a file may be
+-- 16 deep
+abbrev pub way_on : List (List ℕ) → (List ℕ → Option FileAnswer) → List ℕ → List ℕ → Result WayView StopView
+way_on folders answer name root = through 16 folders answer root None root (with_name no_way name)
+
+-- the whole way from the root that has a path, and the last part of this as its name
+abbrev pub way_from : List (List ℕ) → (List ℕ → Option FileAnswer) → List ℕ → Result WayView StopView
+way_from folders answer root = way_on folders answer (last_part root) (found folders answer root root)
 
 -- ---- What is gathered
 
--- the files of a table, each with its path and its bytes, and the include lines that are left out
+-- the files of a table, each with its path and its bytes, and their names in the same order; and the
+-- include lines that are left out
 pub record GatheredView : Type 0 where
   pub files : List (List ℕ × List ℕ)
+  pub names : List (List ℕ)
   pub left_out : List LeftView
 
 -- a file with these bytes, as a list; empty where there are none
@@ -147,10 +164,15 @@ file_if path None = []
 
 -- the files on a way, and what it left out
 abbrev pub gathered_on : (List ℕ → Option FileAnswer) → WayView → GatheredView
-gathered_on answer way = record { files = flat_map (λ path. file_if path (held (answer path))) way.paths; left_out = way.left_out }
+gathered_on answer way = record {
+  files = flat_map (λ path. file_if path (held (answer path))) way.paths;
+  names = way.names;
+  left_out = way.left_out;
+}
 
--- the files of the table whose root is at a path, by what is known of each path
-abbrev pub gathered_from : (List ℕ → Option FileAnswer) → List ℕ → Result GatheredView StopView
-gathered_from answer root = do
-  way ← way_from answer root
+-- the files of the table whose root has a path, by what is known of each path, where files are looked
+-- for in these folders too
+abbrev pub gathered_from : List (List ℕ) → (List ℕ → Option FileAnswer) → List ℕ → Result GatheredView StopView
+gathered_from folders answer root = do
+  way ← way_from folders answer root
   Ok (gathered_on answer way)

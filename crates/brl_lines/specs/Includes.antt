@@ -2,7 +2,7 @@
 -- "Miscellaneous Opcodes" in "How to Write Translation Tables" of the liblouis User's and
 -- Programmer's Manual. That a name is looked for beside the root, and then in the folders that are
 -- given, and nowhere else, is the project's own choice.
-use Rattle.std.specs.Prelude.{ℕ, ◌||◌, ◌==◌, nat_eq, if◌then◌else◌, List, [], ◌∷◌, ◌++◌, codes, length, map, slice_get, slice_index, Option, None, option_map}
+use Rattle.std.specs.Prelude.{ℕ, ◌||◌, ◌==◌, nat_eq, if◌then◌else◌, List, [], ◌∷◌, ◌++◌, codes, drop, length, map, slice_get, slice_index, Option, None, option_map}
 use Rattle.std.specs.List.{ends_with, list_any}
 use Rattle.std.specs.Str.{bytes_eq}
 use Rattle.brl_lines.specs.Answer.{FileAnswer, is_missing}
@@ -12,6 +12,10 @@ use Rattle.brl_lines.specs.Tokens.{LineView}
 abbrev pub folder_of : List ℕ → List ℕ
 folder_of [] = []
 folder_of (b ∷ bs) = if (b == 47) || list_any (λ c. c == 47) bs then b ∷ folder_of bs else []
+
+-- what is after the last slash of a path
+abbrev pub last_part : List ℕ → List ℕ
+last_part path = drop (length (folder_of path)) path
 
 -- the path of a name: the name itself where it begins with a slash, else in the root's folder
 abbrev pub included : List ℕ → List ℕ → List ℕ

@@ -1,32 +1,43 @@
 //! Reads the files of a table ahead of the way through them, so that the way is gone once or twice.
-ghost use Rattle.std.specs.Prelude.{OnOk};
+ghost use Rattle.std.specs.Prelude.{◌↔◌, ◌≤◌, IsTrue, OnOk, length, map, string_bytes};
 ghost use Rattle.brl_lines.specs.Answer.{Unchanged};
+ghost use Rattle.brl_lines.specs.GatherFaults.{most_paths};
 ghost use Rattle.brl_lines.specs.Gathered.{known_answers};
 ghost use Rattle.brl_lines.specs.Outcome.{AreGiven};
 
 use crate::fault::{Location, LocationRef};
+use crate::finding::paths_to_try;
 use crate::include::{IncludeLine, included};
-use crate::known::{Known, learn};
+use crate::known::{Known, is_missing, learn};
 use crate::source::Source;
 use crate::way::{is_dictionary, is_plain};
 use brl_failure::Failure;
 use indexmap::IndexMap;
 use std::alloc::{AllocError, Global};
 
-/// The most paths that are asked for, the root counted.
-pub(crate) const MOST_PATHS: usize = 1025;
+/// The most paths that are asked for, the root counted, for each place where a file is looked for: the
+/// usual one and the folders.
+const MOST_PATHS: usize = 1025;
 
-/// A path to which an include line leads, and that line.
+/// The paths at which the file of an include line is looked for, in order, and that line.
 #[derive(Drop)]
 struct Ahead {
-    path: String,
+    paths: Vec<String>,
     place: Location,
+}
+
+/// Whether no more paths are asked for, where files are looked for in these folders too.
+pub(crate) fn is_full(known: &IndexMap<String, Known>, folders: &[String]) -> bool
+    ensures { IsTrue result ↔ (most_paths (map string_bytes folders.now) ≤ length known.now.entries) }
+{
+    known.len() / MOST_PATHS > folders.len()
 }
 
 /// Where an include line of a file leads. `None` where it leads out of the root's folder or to a
 /// hyphenation dictionary.
 fn ahead_of(
     alloc: Global,
+    folders: &[String],
     root: &str,
     file: &str,
     include: &IncludeLine,
@@ -35,18 +46,20 @@ fn ahead_of(
     if is_dictionary(name) || !is_plain(name) {
         return Ok(None);
     }
-    let path = included(alloc, root, name)?;
+    let usual = included(alloc, root, name)?;
+    let paths = paths_to_try(alloc, folders, usual.as_str(), name)?;
     let place = Location {
         file: String::from_str(alloc, file)?,
         line: include.line,
     };
-    Ok(Some(Ahead { path, place }))
+    Ok(Some(Ahead { paths, place }))
 }
 
 /// Where an include line leads: the one with this number, from 0, of the known file with that index.
 fn ahead_at(
     alloc: Global,
     known: &IndexMap<String, Known>,
+    folders: &[String],
     root: &str,
     index: usize,
     number: usize,
@@ -55,7 +68,7 @@ fn ahead_at(
         return Ok(None);
     };
     match file.includes.get(number) {
-        Some(include) => ahead_of(alloc, root, path.as_str(), include),
+        Some(include) => ahead_of(alloc, folders, root, path.as_str(), include),
         None => Ok(None),
     }
 }
@@ -74,24 +87,44 @@ fn read_path<S: Source>(
     alloc: Global,
     source: &mut S,
     known: &mut IndexMap<String, Known>,
-    ahead: &Ahead,
+    path: &str,
+    place: Option<LocationRef<'_>>,
 ) -> Result<(), AllocError>
     requires { AreGiven (S.gives source.old) (known_answers known.old.entries) }
     ensures given { AreGiven (S.gives source.old) (known_answers known.new.entries) }
     ensures same { Unchanged (S.gives source.old) (S.gives source.new) }
 {
-    let path = ahead.path.as_str();
-    if known.len() >= MOST_PATHS || known.contains_key(path) {
+    if is_full(known, source.folders()) || known.contains_key(path) {
         return Ok(());
     }
-    let place = Some(LocationRef {
-        file: ahead.place.file.as_str(),
-        line: ahead.place.line,
-    });
     match learn(alloc, source, known, path, place) {
         Err(Failure::Memory) => Err(AllocError),
         _ => Ok(()),
     }
+}
+
+/// Reads what is at the paths of a file, up to the first where it isn't known that there is none.
+fn read_first<S: Source>(
+    alloc: Global,
+    source: &mut S,
+    known: &mut IndexMap<String, Known>,
+    ahead: &Ahead,
+) -> Result<(), AllocError>
+    requires { AreGiven (S.gives source.old) (known_answers known.old.entries) }
+    ensures given { OnOk result (AreGiven (S.gives source.old) (known_answers known.new.entries)) }
+    ensures same { Unchanged (S.gives source.old) (S.gives source.new) }
+{
+    let place = Some(LocationRef {
+        file: ahead.place.file.as_str(),
+        line: ahead.place.line,
+    });
+    for path in &ahead.paths {
+        read_path(alloc, source, known, path.as_str(), place)?;
+        if !is_missing(known, path.as_str()) {
+            return Ok(());
+        }
+    }
+    Ok(())
 }
 
 /// Reads what is at the paths to which the include lines of one known file lead.
@@ -107,15 +140,15 @@ fn read_from<S: Source>(
     ensures same { Unchanged (S.gives source.old) (S.gives source.new) }
 {
     for number in 0..include_count(known, index) {
-        if let Some(ahead) = ahead_at(alloc, known, root, index, number)? {
-            read_path(alloc, source, known, &ahead)?;
+        if let Some(ahead) = ahead_at(alloc, known, source.folders(), root, index, number)? {
+            read_first(alloc, source, known, &ahead)?;
         }
     }
     Ok(())
 }
 
 /// Reads what is at the paths to which include lines of known files lead, and then on from these, up
-/// to the most paths that are asked for.
+/// to the most paths that are asked for. The root was found at this path.
 pub(crate) fn read_ahead<S: Source>(
     alloc: Global,
     source: &mut S,
@@ -126,7 +159,10 @@ pub(crate) fn read_ahead<S: Source>(
     ensures given { OnOk result (AreGiven (S.gives source.old) (known_answers known.new.entries)) }
     ensures same { Unchanged (S.gives source.old) (S.gives source.new) }
 {
-    for index in 0..MOST_PATHS {
+    for index in 0..usize::MAX {
+        if index >= known.len() {
+            return Ok(());
+        }
         read_from(alloc, source, known, root, index)?;
     }
     Ok(())

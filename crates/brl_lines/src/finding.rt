@@ -2,21 +2,24 @@
 ghost use Rattle.std.specs.Prelude.{◌≡◌, ◌∷◌, IfErr, IfOk, map, option_map, string_bytes};
 ghost use Rattle.brl_lines.specs.Answer.{Unchanged};
 ghost use Rattle.brl_lines.specs.Files.{answers_of};
-ghost use Rattle.brl_lines.specs.Includes.{paths_in as paths_of_name};
+ghost use Rattle.brl_lines.specs.Gathered.{known_answer};
+ghost use Rattle.brl_lines.specs.Includes.{found as found_at, paths_in as paths_of_name};
 ghost use Rattle.brl_lines.specs.Outcome.{AreGiven, CountsFailure};
 ghost use Rattle.brl_lines.specs.Steps.{Fails, FindsFirst, Locates, text_of_first, text_of_found};
 ghost use Rattle.brl_lines.specs.Views.{location_ref_view};
 
 use crate::fault::{LoadFault, LocationRef};
 use crate::include::path_in;
+use crate::known::{Known, is_missing};
 use crate::read::{ReadFiles, look_at};
 use crate::source::Source;
 use brl_failure::Failure;
+use indexmap::IndexMap;
 use std::alloc::{AllocError, Global};
 
 /// The usual path of a file, and its paths by its name in these folders; none of these where the name
 /// begins with a slash.
-fn paths_to_try(
+pub(crate) fn paths_to_try(
     alloc: Global,
     folders: &[String],
     usual: &str,
@@ -33,6 +36,25 @@ fn paths_to_try(
         paths.push(path_in(alloc, folder.as_str(), name)?)?;
     }
     Ok(paths)
+}
+
+/// The path at which a file is found that has a name and a usual path, by what is known of paths.
+pub(crate) fn found_by(
+    alloc: Global,
+    known: &IndexMap<String, Known>,
+    folders: &[String],
+    usual: &str,
+    name: &str,
+) -> Result<String, AllocError>
+    ensures { IfOk result (λ path. string_bytes path ≡ found_at (map string_bytes folders.now) (known_answer known.now.entries) usual.now name.now) }
+{
+    let paths = paths_to_try(alloc, folders, usual, name)?;
+    for path in &paths {
+        if !is_missing(known, path.as_str()) {
+            return String::from_str(alloc, path.as_str());
+        }
+    }
+    String::from_str(alloc, usual)
 }
 
 /// The first of some paths where there is a file; another one where there is none at any of them.

@@ -1,5 +1,5 @@
 //! Gathers the files of a table that are there.
-ghost use Rattle.std.specs.Prelude.{◌≡◌, IfErr, IfOk, IfSome, OnOk, Some, option_map, string_bytes};
+ghost use Rattle.std.specs.Prelude.{◌≡◌, IfErr, IfOk, IfSome, OnOk, Some, map, option_map, string_bytes};
 ghost use Rattle.brl_failure.specs.Failure.{GivesAs, IfFault};
 ghost use Rattle.brl_lines.specs.Answer.{Unchanged};
 ghost use Rattle.brl_lines.specs.GatherFaults.{IsFaultAtStop, IsGatherFault, IsGathered, IsOfLoad, IsOutside, IsRefusalAt, gathered_view};
@@ -9,9 +9,11 @@ ghost use Rattle.brl_lines.specs.Outcome.{AreGiven};
 ghost use Rattle.brl_lines.specs.Views.{location_view};
 ghost use Rattle.brl_lines.specs.declared.way.StopKind.TheVariants.{LeadsOut as TheLeadsOut};
 
-use crate::ahead::{MOST_PATHS, read_ahead};
+use crate::ahead::{is_full, read_ahead};
 use crate::fault::{LoadFault, LoadFaultKind, Location, owned_place, refusal};
-use crate::known::{Known, file_at_path, learn};
+use crate::finding::found_by;
+use crate::include::last_part;
+use crate::known::{Known, file_at_path, is_missing, learn};
 use crate::source::Source;
 use crate::way::{LeftInclude, Stop, StopKind, Way, through};
 use brl_failure::Failure;
@@ -29,11 +31,16 @@ pub struct GatheredFile {
     pub bytes: Vec<u8>,
 }
 
-/// The files of a table, in the order in which include lines first lead to them, the root first; and
-/// the include lines that are left out, in the order in which they were come to.
+/// The files of a table, in the order in which include lines first lead to them, the root first; their
+/// names in the same order; and the include lines that are left out, in the order in which they were
+/// come to.
 #[derive(Debug, Drop)]
 pub struct Gathered {
+    /// Each file with the path where it was found.
     pub files: Vec<GatheredFile>,
+    /// The name in the include line that first leads to each file; the root's is what is after the last
+    /// slash of its path.
+    pub names: Vec<String>,
     pub left_out: Vec<LeftInclude>,
 }
 
@@ -56,15 +63,16 @@ pub enum GatherFault {
     LeadsOut(LeadsOut),
 }
 
-/// Gathers the files of the table whose root is at a path: the root, and the files to which include
-/// lines lead, as `load` finds them.
+/// Gathers the files of the table whose root has a path: the root, and the files to which include
+/// lines lead, where `load` finds them.
 ///
 /// An include line is left out, in this order, where it includes a hyphenation dictionary, whose name
 /// ends in `.dic`; where its file was gone through before, or leads to it; and where its file isn't
 /// there. `LeadsOut` where the name in one isn't one of a file below the root's folder: it is absolute,
 /// or a part of it is empty, `.` or `..`; a dictionary's may be. `Load` where a file can't be read or
 /// isn't good, as in `load`; where there is no root; where a file is deeper than 16, the root being 1
-/// (`TooDeep`); and where more than 1,024 paths are asked for beside the root (`TooManyIncludes`).
+/// (`TooDeep`); and where more than 1,024 paths are asked for beside the root (`TooManyIncludes`), as
+/// often as there are places where a file is looked for.
 pub fn gather<S: Source>(
     alloc: Global,
     source: &mut S,
@@ -76,7 +84,7 @@ pub fn gather<S: Source>(
 {
     let mut known: IndexMap<String, Known> = IndexMap::new(alloc);
     for _ in 0..u64::MAX {
-        match walk(alloc, &known, root) {
+        match walk(alloc, &known, source.folders(), root) {
             Ok(way) => return Ok(files_on(alloc, &known, way)?),
             Err(Failure::Fault(stop)) => go_on(alloc, source, &mut known, root, &stop)?,
             Err(Failure::Memory) => return Err(Failure::Memory),
@@ -85,12 +93,22 @@ pub fn gather<S: Source>(
     Err(Failure::Memory)
 }
 
-/// The way from the root, by what is known of paths.
-fn walk(alloc: Global, known: &IndexMap<String, Known>, root: &str) -> Result<Way, Failure<Stop>>
-    ensures { GivesAs way_view stop_view (way_from (known_answer known.now.entries) root.now) result }
+/// The way from the root, by what is known of paths, where files are looked for in folders too.
+fn walk(
+    alloc: Global,
+    known: &IndexMap<String, Known>,
+    folders: &[String],
+    root: &str,
+) -> Result<Way, Failure<Stop>>
+    ensures { GivesAs way_view stop_view (way_from (map string_bytes folders.now) (known_answer known.now.entries) root.now) result }
 {
     let mut way = Way::new(alloc);
-    through(alloc, known, root, MOST_DEPTH, None, root, &mut way)?;
+    way.add_name(alloc, last_part(root))?;
+    let path = found_by(alloc, known, folders, root, root)?;
+    let path = path.as_str();
+    through(
+        alloc, known, folders, path, MOST_DEPTH, None, path, &mut way,
+    )?;
     Ok(way)
 }
 
@@ -102,7 +120,11 @@ fn files_on(
 ) -> Result<Gathered, AllocError>
     ensures { IfOk result (λ found. gathered_view found ≡ gathered_on (known_answer known.now.entries) (way_view way)) }
 {
-    let Way { paths, left_out } = way;
+    let Way {
+        paths,
+        names,
+        left_out,
+    } = way;
     let mut files = Vec::new(alloc);
     for path in &paths {
         let path = path.as_str();
@@ -113,7 +135,11 @@ fn files_on(
             })?;
         }
     }
-    Ok(Gathered { files, left_out })
+    Ok(Gathered {
+        files,
+        names,
+        left_out,
+    })
 }
 
 /// Finds out what a way that ended early asks for, and what is ahead of it; or says why it can't go on.
@@ -132,14 +158,18 @@ fn go_on<S: Source>(
     match stop.kind {
         StopKind::LeadsOut => Err(leads_out(alloc, stop)),
         StopKind::TooDeep => Err(refuse(alloc, LoadFaultKind::TooDeep, stop)),
-        StopKind::Unknown if known.len() >= MOST_PATHS => {
+        StopKind::Unknown if is_missing(known, stop.subject.as_str()) => {
+            Err(refuse(alloc, LoadFaultKind::NotFound, stop))
+        }
+        StopKind::Unknown if is_full(known, source.folders()) => {
             Err(refuse(alloc, LoadFaultKind::TooManyIncludes, stop))
         }
         StopKind::Unknown => {
             let path = stop.subject.as_str();
             let place = stop.place_ref();
             learn(alloc, source, known, path, place).map_err(of_load)?;
-            Ok(read_ahead(alloc, source, known, root)?)
+            let root = found_by(alloc, known, source.folders(), root, root)?;
+            Ok(read_ahead(alloc, source, known, root.as_str())?)
         }
     }
 }

@@ -1,7 +1,7 @@
 //! The file that an include line names.
 ghost use Rattle.std.specs.Prelude.{◌≡◌, IfOk, codes, nat_eq, option_map, string_bytes};
 ghost use Rattle.std.specs.List.{ends_with};
-ghost use Rattle.brl_lines.specs.Includes.{folder_of, included as included_of, name_of, path_in as path_of_name, slash_after as slash_between};
+ghost use Rattle.brl_lines.specs.Includes.{folder_of, included as included_of, last_part as last_part_of, name_of, path_in as path_of_name, slash_after as slash_between};
 ghost use Rattle.brl_lines.specs.Views.{line_view};
 
 use crate::line::Line;
@@ -37,6 +37,16 @@ pub fn folder(path: &str) -> &str
         end -= 1;
     }
     &path[..end]
+}
+
+/// What is after the last slash of a path.
+pub fn last_part(path: &str) -> &str
+    ensures { result.now ≡ last_part_of path.now }
+{
+    match path.strip_prefix(folder(path)) {
+        Some(part) => part,
+        None => path,
+    }
 }
 
 /// Whether a path ends with a slash.

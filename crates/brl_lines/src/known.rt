@@ -1,13 +1,14 @@
 //! What is known of paths: the file there, or that there is none.
-ghost use Rattle.std.specs.Prelude.{◌≡◌, IfErr, option_map, string_bytes};
+ghost use Rattle.std.specs.Prelude.{◌≡◌, ◌≢◌, IfErr, option_map, string_bytes};
 ghost use Rattle.std.specs.Option.{option_copied};
+ghost use Rattle.brl_failure.specs.Failure.{IfFault};
 ghost use Rattle.brl_lines.specs.Answer.{Unchanged, is_missing as is_missing_by};
 ghost use Rattle.brl_lines.specs.Gathered.{FindsOut, IsUnread, answer_of_known, known_answer, known_answers};
 ghost use Rattle.brl_lines.specs.Gathering.{held};
 ghost use Rattle.brl_lines.specs.Outcome.{AreGiven, CountsFailure};
 ghost use Rattle.brl_lines.specs.Views.{location_ref_view};
 
-use crate::fault::{LoadFault, LocationRef};
+use crate::fault::{LoadFault, LoadFaultKind, LocationRef};
 use crate::known_file::{KnownFile, known_file};
 use crate::read::find_file;
 use crate::source::Source;
@@ -51,8 +52,7 @@ pub(crate) fn is_missing(known: &IndexMap<String, Known>, path: &str) -> bool
     matches!(known_at(known, path), Some(Known::Missing))
 }
 
-/// Reads what is at a path. The place is the include line that names it; at the root, which has
-/// none, there must be a file.
+/// Reads what is at a path. The place is the include line that names its file.
 fn find_out<S: Source>(
     alloc: Global,
     source: &mut S,
@@ -60,10 +60,11 @@ fn find_out<S: Source>(
     place: Option<LocationRef<'_>>,
 ) -> Result<Known, Failure<LoadFault>>
     ensures found { FindsOut (S.gives source.old) path.now (option_map location_ref_view place.entry) result }
+    ensures there { IfErr result (IfFault (λ fault. fault.kind ≢ LoadFaultKind.NotFound)) }
     ensures count { CountsFailure (S.faults source.old) (S.faults source.new) result }
     ensures same { Unchanged (S.gives source.old) (S.gives source.new) }
 {
-    match find_file(alloc, source, path, place, place.is_some())? {
+    match find_file(alloc, source, path, place, true)? {
         Some(file) => Ok(Known::File(known_file(alloc, file)?)),
         None => Ok(Known::Missing),
     }
@@ -80,6 +81,7 @@ pub(crate) fn learn<S: Source>(
     requires { AreGiven (S.gives source.old) (known_answers known.old.entries) }
     ensures given { AreGiven (S.gives source.old) (known_answers known.new.entries) }
     ensures refused { IfErr result (IsUnread (S.gives source.old) path.now (option_map location_ref_view place.entry)) }
+    ensures there { IfErr result (IfFault (λ fault. fault.kind ≢ LoadFaultKind.NotFound)) }
     ensures count { CountsFailure (S.faults source.old) (S.faults source.new) result }
     ensures same { Unchanged (S.gives source.old) (S.gives source.new) }
 {

@@ -36,7 +36,7 @@ mod way;
 pub use fault::{LoadFault, LoadFaultKind, Location};
 pub use file_source::{FileSource, read_whole};
 pub use gathering::{GatherFault, Gathered, GatheredFile, LeadsOut, gather};
-pub use include::{folder, path_in};
+pub use include::{folder, last_part, path_in};
 pub use laws::{files_in_memory_law, one_answer_law};
 pub use line::{Line, Token};
 pub use loaded::{Loaded, load};

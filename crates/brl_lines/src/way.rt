@@ -1,5 +1,5 @@
 //! The way through the files of a table that are known, one include line after the other.
-ghost use Rattle.std.specs.Prelude.{◌≡◌, IfOk, OnOk, option_map};
+ghost use Rattle.std.specs.Prelude.{◌≡◌, IfOk, OnOk, map, option_map, string_bytes};
 ghost use Rattle.brl_failure.specs.Failure.{GivesAs, IfFault};
 ghost use Rattle.brl_lines.specs.Gathered.{IsTaken, known_answer, stop_view, way_view};
 ghost use Rattle.brl_lines.specs.Gathering.{
@@ -10,11 +10,13 @@ ghost use Rattle.brl_lines.specs.Gathering.{
   stop as stop_of,
   through as through_file,
   with_left,
+  with_name,
   include_view,
 };
 ghost use Rattle.brl_lines.specs.Views.{location_ref_view, location_view};
 
 use crate::fault::{Location, LocationRef, owned_place};
+use crate::finding::found_by;
 use crate::include::{IncludeLine, included};
 use crate::known::{Known, file_at_path, is_missing};
 use crate::open_file::is_in;
@@ -43,18 +45,19 @@ pub struct LeftInclude {
     pub reason: IncludeReason,
 }
 
-/// The way so far: the paths of the files that it went through, and the include lines that were left
-/// out, both in order.
+/// The way so far: of the files that it went through, the paths where they were found and the names by
+/// which they were looked for; and the include lines that were left out; all in order.
 #[derive(Drop)]
 pub(crate) struct Way {
     pub paths: Vec<String>,
+    pub names: Vec<String>,
     pub left_out: Vec<LeftInclude>,
 }
 
 /// Why a way ends early.
 #[derive(Clone, Copy)]
 pub(crate) enum StopKind {
-    /// It isn't known what is at the path.
+    /// It isn't known that there is a file at the path.
     Unknown,
     /// The name in an include line leads out of the root's folder.
     LeadsOut,
@@ -78,8 +81,17 @@ impl Way {
     {
         Way {
             paths: Vec::new(alloc),
+            names: Vec::new(alloc),
             left_out: Vec::new(alloc),
         }
+    }
+
+    /// Adds the name of a file to which it leads.
+    pub(crate) fn add_name(&mut self, alloc: Global, name: &str) -> Result<(), AllocError>
+        ensures { OnOk result (way_view self.new ≡ with_name (way_view self.old) name.now) }
+    {
+        self.names.push(String::from_str(alloc, name)?)?;
+        Ok(())
     }
 
     /// Leaves an include line of a file out.
@@ -174,16 +186,17 @@ pub(crate) fn is_plain(name: &str) -> bool
 }
 
 /// Takes an include line of a file: it is left out, or the way goes on through the file at the path
-/// that is returned.
+/// that is returned, and has its name.
 fn take(
     alloc: Global,
     known: &IndexMap<String, Known>,
+    folders: &[String],
     root: &str,
     file: &str,
     include: &IncludeLine,
     way: &mut Way,
 ) -> Result<Option<String>, Failure<Stop>>
-    ensures { IsTaken (known_answer known.now.entries) root.now file.now (include_view include.now) (way_view way.old) (way_view way.new) result }
+    ensures { IsTaken (map string_bytes folders.now) (known_answer known.now.entries) root.now file.now (include_view include.now) (way_view way.old) (way_view way.new) result }
 {
     let name = include.name.as_str();
     if is_dictionary(name) {
@@ -197,7 +210,8 @@ fn take(
         });
         return Err(stop_at(alloc, StopKind::LeadsOut, name, place));
     }
-    let path = included(alloc, root, name)?;
+    let usual = included(alloc, root, name)?;
+    let path = found_by(alloc, known, folders, usual.as_str(), name)?;
     if is_in(way.paths.as_slice(), path.as_str()) {
         way.leave(alloc, file, include, IncludeReason::Repeated)?;
         return Ok(None);
@@ -206,14 +220,16 @@ fn take(
         way.leave(alloc, file, include, IncludeReason::Missing)?;
         return Ok(None);
     }
+    way.add_name(alloc, name)?;
     Ok(Some(path))
 }
 
-/// Goes on through the file at a path, by what is known of paths. This many files may lead down from
-/// it, itself counted.
+/// Goes on through the file at a path, by what is known of paths, where files are looked for in folders
+/// too. This many files may lead down from it, itself counted.
 pub(crate) fn through(
     alloc: Global,
     known: &IndexMap<String, Known>,
+    folders: &[String],
     root: &str,
     depth: u32,
     place: Option<LocationRef<'_>>,
@@ -221,7 +237,7 @@ pub(crate) fn through(
     way: &mut Way,
 ) -> Result<(), Failure<Stop>>
     ensures { GivesAs (λ _. way_view way.new) stop_view
-        (through_file depth (known_answer known.now.entries) root.now (option_map location_ref_view place.entry) path.now (way_view way.old)) result }
+        (through_file depth (map string_bytes folders.now) (known_answer known.now.entries) root.now (option_map location_ref_view place.entry) path.now (way_view way.old)) result }
 {
     if depth == 0 {
         return Err(stop_at(alloc, StopKind::TooDeep, path, place));
@@ -231,12 +247,13 @@ pub(crate) fn through(
     };
     way.paths.push(String::from_str(alloc, path)?)?;
     for include in &file.includes {
-        if let Some(next) = take(alloc, known, root, path, include, way)? {
+        if let Some(next) = take(alloc, known, folders, root, path, include, way)? {
             let place = Some(LocationRef {
                 file: path,
                 line: include.line,
             });
-            through(alloc, known, root, depth - 1, place, next.as_str(), way)?;
+            let next = next.as_str();
+            through(alloc, known, folders, root, depth - 1, place, next, way)?;
         }
     }
     Ok(())

@@ -1,5 +1,6 @@
 -- Pairs of rules that are looked up, and what they excuse. Where there are none, nothing is excused.
 use Rattle.std.proofs.Common.{◌≡◌, ◌+◌, ℕ, Bool, true, false, ◌&&◌, ◌||◌, nat_eq, List, [], ◌∷◌, ◌++◌, inl, inr, Some, slice_get, take, refl, sym, ◌∙◌, ap, ap₂, subst, arith}
+use Rattle.std.proofs.lemmas.Bool.{or_parts}
 use Rattle.std.specs.List.{list_any}
 use Rattle.std.proofs.lemmas.List.Folds.{list_any-append}
 use Rattle.brl_pairs.specs.Divergence.{has_rules}
@@ -60,19 +61,11 @@ module _ (given : List (ℕ × ℕ)) (n : ℕ) (pair : ℕ × ℕ) (at : slice_g
 pub unnamed : (pairs : List (ℕ × ℕ)) (r s : ℕ) → names_rule pairs r ≡ false → has_rules pairs r s ≡ false
 unnamed [] r s h = refl
 unnamed (pair ∷ pairs) r s h =
-    let later = unnamed pairs r s (or_second (nat_eq r pair.0 || nat_eq r pair.1) (names_rule pairs r) h) in
-    let here = or_first (nat_eq r pair.0 || nat_eq r pair.1) (names_rule pairs r) h in
+    let (here, none) = or_parts (nat_eq r pair.0 || nat_eq r pair.1) (names_rule pairs r) h in
+    let (one, other) = or_parts (nat_eq r pair.0) (nat_eq r pair.1) here in
     ap₂ ◌||◌ (neither (nat_eq pair.0 r) (nat_eq pair.1 s) (nat_eq pair.0 s) (nat_eq pair.1 r)
-    (number_back pair.0 r ∙ or_first (nat_eq r pair.0) (nat_eq r pair.1) here) (number_back pair.1 r ∙ or_second (nat_eq r pair.0) (nat_eq r pair.1) here)) later
+    (number_back pair.0 r ∙ one) (number_back pair.1 r ∙ other)) (unnamed pairs r s none)
   where
-    or_first : (a b : Bool) → (a || b) ≡ false → a ≡ false
-    or_first true b e = e
-    or_first false b e = refl
-
-    or_second : (a b : Bool) → (a || b) ≡ false → b ≡ false
-    or_second true b e = cc
-    or_second false b e = e
-
     neither : (a b c d : Bool) → a ≡ false → d ≡ false → ((a && b) || (c && d)) ≡ false
     neither false b true false a_is d_is = refl
     neither false b false false a_is d_is = refl

@@ -191,25 +191,6 @@ pub fn earlier_splits(
     if !splits.marks[place] {
         return Ok(Vec::new(alloc));
     }
-    let found = earlier_of(alloc, cells, sorted, splits, place)?;
-    Ok(found)
-}
-
-/// The same edges, found by those whose cells begin the cells of this one and those whose cells begin
-/// with them.
-fn earlier_of(
-    alloc: Global,
-    cells: &[Cells],
-    sorted: &[SortedEdge],
-    splits: &Splits,
-    place: usize,
-) -> Result<Vec<SortedEdge>, AllocError>
-    requires ascending { AreAscending cells.now sorted.now }
-    requires splits { AreSplits cells.now sorted.now splits.now }
-    requires there { (x : SortedValue) × Contains sorted.now x × (x.place ≡ place) }
-    ensures { IfOk result (λ found. (y : SortedValue) × Contains sorted.now y × (y.place ≡ place)
-        × AreEarlier cells.now sorted.now (cells_of cells.now y) place found.items) }
-{
     let position = splits.positions[place] as usize;
     let mut found = earlier_shorter(alloc, cells, sorted, splits.shorter.as_slice(), position)?;
     let longer = earlier_longer(alloc, cells, sorted, position)?;

@@ -1,5 +1,5 @@
 -- Work in slices has less to do after each, and ends as it began.
-use Rattle.std.proofs.Common.{Err, IfOk, Ok, Result, ℕ, ◌+◌, ◌<◌, ◌≤◌, subst, sym, arith}
+use Rattle.std.proofs.Common.{Err, IfOk, Ok, Result, ℕ, ◌≡◌, ◌+◌, ◌<◌, ◌≤◌, subst, sym, arith}
 use Rattle.brl_progress.specs.Slices.{EndsWith, IfFinished, IfUnfinished}
 use Rattle.brl_progress.specs.declared.slices.Slice.{Slice}
 use Rattle.brl_progress.specs.declared.slices.Slice.TheVariants.{Finished, Unfinished}
@@ -33,3 +33,11 @@ module _ {S T : Type 0} where
   ends_as P Q ends_with gives (Finished first) finished unfinished (Ok outcome) ends = subst P (sym ends) finished
   ends_as P Q ends_with gives (Unfinished rest) finished unfinished (Ok outcome) ends = gives rest outcome unfinished ends
   ends_as P Q ends_with gives begun finished unfinished (Err fault) ends = tt
+
+  -- work on a machine, with a limit, ends as that machine and that limit say
+  pub ends_for : {E M : Type 0} (P : M → ℕ → T → Type 0) (machine_of : S → M) (limit_of : S → ℕ) (machine : M) (limit : ℕ) (Q : S → Type 0)
+      → ((rest : S) → Q rest → (machine_of rest ≡ machine) × (limit_of rest ≡ limit))
+      → (begun : Slice S T) → IfFinished (P machine limit) begun → IfUnfinished Q begun → (r : Result T E) → IfOk r (EndsWith (λ rest. P (machine_of rest) (limit_of rest)) begun) → IfOk r (P machine limit)
+  ends_for {E} {M} P machine_of limit_of machine limit Q stays =
+      ends_as (P machine limit) Q (λ rest. P (machine_of rest) (limit_of rest))
+      (λ rest outcome same ends. subst (λ (n : ℕ). P machine n outcome) (stays rest same).1 (subst (λ (x : M). P x (limit_of rest) outcome) (stays rest same).0 ends))

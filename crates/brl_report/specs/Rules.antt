@@ -108,6 +108,10 @@ rule_count t = length t.rules + length t.characters
 abbrev pub rule_numbers : TableView → List ℕ
 rule_numbers t = range_with_len 0 (rule_count t)
 
+-- the number of a character's own definition
+abbrev pub own_number : TableView → ℕ → ℕ
+own_number t c = length t.rules + option_map_or (λ info. info.number) (info_of t c) 0
+
 -- the first of these numbers that no rule has
 abbrev pub first_unknown : TableView → List ℕ → Option ℕ
 first_unknown t numbers = find (λ number. nat_le (rule_count t) number) numbers

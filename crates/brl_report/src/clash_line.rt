@@ -29,11 +29,7 @@ pub fn push_clash_line(
 {
     push_texts(alloc, clash, text)?;
     push_after_blanks(text, write_dots(alloc, clash.cells())?.as_str())?;
-    let lined = Lined {
-        alloc,
-        table,
-        lines,
-    };
+    let lined = Lined::new(alloc, table, lines);
     push_rules(&lined, clash, rules, text)?;
     text.push('\n')
 }

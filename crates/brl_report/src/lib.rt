@@ -29,8 +29,8 @@ pub use clash_line::push_clash_line;
 pub use clash_report::{ReportFault, report, report_with};
 pub use cut_report::report_of_cut;
 pub use rules::{
-    Wanted, first_line, first_unknown, push_source_line, push_words, rule_numbers, rule_words,
-    rules_report,
+    Wanted, first_line, first_unknown, own_number, push_source_line, push_words, rule_numbers,
+    rule_words, rules_report,
 };
 pub use skipped::skipped_report;
 pub use survey::survey_report;

@@ -134,11 +134,7 @@ impl Row {
     ) -> Result<Row, AllocError>
         ensures { IfOk result (λ row. row ≡ row_of table.now (map line_view lines.now) columns step.now) }
     {
-        let lined = Lined {
-            alloc,
-            table,
-            lines,
-        };
+        let lined = Lined::new(alloc, table, lines);
         Ok(Row {
             characters: spell_chars(alloc, step.characters.as_slice())?,
             indicators: indicators_column(alloc, columns, step)?,

@@ -17,6 +17,7 @@ ghost use Rattle.brl_report.specs.Rules.{
   known_opcode as opcode_known,
   own_definition,
   rule_count as count_of_rules,
+  own_number as number_of_own,
   rule_numbers as numbers_of_rules,
   rule_text,
   rule_words as words_of_rule,
@@ -45,6 +46,20 @@ pub(crate) struct Lined<'a> {
     pub alloc: Global,
     pub table: &'a Table,
     pub lines: &'a [Line<'a>],
+}
+
+impl<'a> Lined<'a> {
+    /// A table and its lines.
+    pub fn new(alloc: Global, table: &'a Table, lines: &'a [Line<'a>]) -> Lined<'a>
+        ensures table { result.table.now ≡ table.now }
+        ensures lines { result.lines.now ≡ lines.now }
+    {
+        Lined {
+            alloc,
+            table,
+            lines,
+        }
+    }
 }
 
 /// A rule as it is listed: its characters, its cells, and the file and line of its definition.
@@ -87,6 +102,17 @@ pub fn rule_numbers(alloc: Global, table: &Table) -> Result<Vec<u32>, AllocError
     (0..rule_count(table)).collect(alloc)
 }
 
+/// The number of a character's own definition, where a table defines the character.
+pub fn own_number(table: &Table, character: char) -> u32
+    ensures { result ≡ number_of_own table.now character }
+{
+    let place = match table.info(character) {
+        Some(info) => info.number,
+        None => 0,
+    };
+    table.rules_in_rank().len() as u32 + place
+}
+
 /// The first of these numbers that no rule of a table has.
 pub fn first_unknown(table: &Table, numbers: &[u32]) -> Option<u32>
     ensures { result ≡ first_unknown_of table.now numbers.now }
@@ -109,11 +135,7 @@ pub fn rules_report(
 ) -> Result<String, AllocError>
     ensures { IfOk result (λ text. string_bytes text ≡ rules_text table.now (map line_view lines.now) numbers.now) }
 {
-    let lined = Lined {
-        alloc,
-        table,
-        lines,
-    };
+    let lined = Lined::new(alloc, table, lines);
     let mut text = String::new(alloc);
     for number in numbers {
         lined.push_rule(*number, RuleForm::Line, &mut text)?;
@@ -132,11 +154,7 @@ pub fn rule_words(
 ) -> Result<String, AllocError>
     ensures { IfOk result (λ text. string_bytes text ≡ words_of_rule table.now (map line_view lines.now) number) }
 {
-    let lined = Lined {
-        alloc,
-        table,
-        lines,
-    };
+    let lined = Lined::new(alloc, table, lines);
     let mut text = String::new(alloc);
     lined.push_rule(number, RuleForm::Words, &mut text)?;
     Ok(text)

@@ -24,11 +24,7 @@ pub fn unused_report(
 ) -> Result<String, AllocError>
     ensures { IfOk result (λ text. string_bytes text ≡ unused_text table.now (map line_view lines.now) numbers.now) }
 {
-    let lined = Lined {
-        alloc,
-        table,
-        lines,
-    };
+    let lined = Lined::new(alloc, table, lines);
     let mut text = String::new(alloc);
     for number in numbers {
         lined.push_unused(*number, &mut text)?;

@@ -5,6 +5,7 @@
 //! - `found_without` makes what is found from the outcome of the machine's search.
 //! - `clashes` lists every pair of rules at which clashing texts diverge, each with a clash, or as
 //!   many as the limit lets it find. `clashes_without` makes the list from that of the machine.
+//! - `search_up_to` searches a table where pairs of rules are accepted, and others may be exchanged.
 //! - `small_clash_of` leaves characters out of two `Texts` while they clash, and where a pair of rules
 //!   is given, while `clash_at` says that their traces diverge at it.
 //! - `unused_rules` lists the rules of a table that no text uses.
@@ -36,6 +37,7 @@ mod table_clashes;
 mod table_search;
 mod texts;
 mod unused;
+mod up_to;
 
 pub use dues_laws::{dues_certificate_law, dues_closed_law, dues_reached_law};
 pub use list_laws::{accepted_list_law, whole_list_law};
@@ -45,3 +47,4 @@ pub use table_clashes::{ClashList, RuleClash, clashes, clashes_without};
 pub use table_search::{Found, SearchFault, found_without, search, search_with};
 pub use texts::{Texts, clash_at};
 pub use unused::{UnusedRules, unused_rules};
+pub use up_to::{FoundUpTo, search_up_to};

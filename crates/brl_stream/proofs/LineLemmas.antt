@@ -1,5 +1,6 @@
 -- The lines of bytes: the first line, and the others.
 use Rattle.std.proofs.Common.{◌≡◌, ◌≢◌, ℕ, zero, suc, ◌+◌, ◌-◌, ◌<◌, ◌≤◌, Bool, true, false, ◌&&◌, ◌||◌, cond, nat_eq, List, [], ◌∷◌, ◌++◌, length, take, get_or, refl, ap, arith, inl, inr, sym, ◌∙◌}
+use Rattle.std.proofs.lemmas.Bool.{or_parts}
 use Rattle.std.proofs.lemmas.Bool.Decides.{eqb_tells}
 use Rattle.std.proofs.lemmas.List.Sums.{sum_by-cons}
 use Rattle.std.specs.Prelude.{map}
@@ -8,14 +9,6 @@ use Rattle.brl_lines.specs.Rows.{rows, onto, feed_is_next}
 use Rattle.brl_stream.specs.InputLines.{is_feed, lines_of, feeds, without_return}
 use Rattle.brl_rules.proofs.Facts.{and-false}
 use Rattle.brl_lines.proofs.RowLemmas.{not_equal}
-
-or_left : (a b : Bool) → (a || b) ≡ false → a ≡ false
-or_left false b h = refl
-or_left true b h = cc
-
-or_right : (a b : Bool) → (a || b) ≡ false → b ≡ false
-or_right false b h = h
-or_right true b h = cc
 
 -- ---- lines
 
@@ -60,23 +53,23 @@ before_feed b more false = refl
 
 cut-line : (row more : List ℕ) → list_any is_feed row ≡ false → cut (row ++ 10 ∷ more) ≡ without_return row ∷ cut more
 cut-line [] more h = refl
-cut-line (b ∷ []) more h = let first : nat_eq b 10 ≡ false = or_left _ _ h in rw first (before_feed b more (nat_eq b 13))
+cut-line (b ∷ []) more h = let first : nat_eq b 10 ≡ false = (or_parts _ _ h).0 in rw first (before_feed b more (nat_eq b 13))
 cut-line (b ∷ c ∷ row) more h =
-    let others = or_right _ _ h in
-    let first : nat_eq b 10 ≡ false = or_left _ _ h in
-    let second : nat_eq c 10 ≡ false = or_left _ _ others in
+    let others = (or_parts _ _ h).1 in
+    let first : nat_eq b 10 ≡ false = (or_parts _ _ h).0 in
+    let second : nat_eq c 10 ≡ false = (or_parts _ _ others).0 in
     let not_end : (nat_eq b 13 && nat_eq c 10) ≡ false = rw second (and-false (nat_eq b 13)) in
     rw (first, not_end, cut-line (c ∷ row) more others) refl
 
 cut-plain : (b : ℕ) (bs : List ℕ) → list_any is_feed (b ∷ bs) ≡ false → cut (b ∷ bs) ≡ (b ∷ bs) ∷ []
 cut-plain b [] h =
-    let first : nat_eq b 10 ≡ false = or_left _ _ h in
+    let first : nat_eq b 10 ≡ false = (or_parts _ _ h).0 in
     let not_end : (nat_eq b 13 && false) ≡ false = and-false (nat_eq b 13) in
     rw (first, not_end) refl
 cut-plain b (c ∷ bs) h =
-    let others = or_right _ _ h in
-    let first : nat_eq b 10 ≡ false = or_left _ _ h in
-    let second : nat_eq c 10 ≡ false = or_left _ _ others in
+    let others = (or_parts _ _ h).1 in
+    let first : nat_eq b 10 ≡ false = (or_parts _ _ h).0 in
+    let second : nat_eq c 10 ≡ false = (or_parts _ _ others).0 in
     let not_end : (nat_eq b 13 && nat_eq c 10) ≡ false = rw second (and-false (nat_eq b 13)) in
     rw (first, not_end, cut-plain c bs others) refl
 
@@ -94,15 +87,15 @@ feeds-cons b bs = sum_by-cons (λ x. cond (is_feed x) 1 0) b bs
 pub feeds-line : (row more : List ℕ) → list_any is_feed row ≡ false → feeds (row ++ 10 ∷ more) ≡ suc (feeds more)
 feeds-line [] more h = let one = feeds-cons 10 more in omega (arith, one)
 feeds-line (b ∷ row) more h =
-    let first : nat_eq b 10 ≡ false = or_left _ _ h in
-    let others : feeds (row ++ 10 ∷ more) ≡ suc (feeds more) = feeds-line row more (or_right (is_feed b) (list_any is_feed row) h) in
+    let first : nat_eq b 10 ≡ false = (or_parts _ _ h).0 in
+    let others : feeds (row ++ 10 ∷ more) ≡ suc (feeds more) = feeds-line row more (or_parts (is_feed b) (list_any is_feed row) h).1 in
     feeds-cons b (row ++ 10 ∷ more) ∙ rw first (omega (arith, others))
 
 pub feeds-plain : (bs : List ℕ) → list_any is_feed bs ≡ false → feeds bs ≡ 0
 feeds-plain [] h = refl
 feeds-plain (b ∷ bs) h =
-    let first : nat_eq b 10 ≡ false = or_left _ _ h in
-    let others : feeds bs ≡ 0 = feeds-plain bs (or_right (is_feed b) (list_any is_feed bs) h) in
+    let first : nat_eq b 10 ≡ false = (or_parts _ _ h).0 in
+    let others : feeds bs ≡ 0 = feeds-plain bs (or_parts (is_feed b) (list_any is_feed bs) h).1 in
     feeds-cons b bs ∙ rw first (omega (arith, others))
 
 -- ---- carriage returns

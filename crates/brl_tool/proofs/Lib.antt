@@ -1,3 +1,4 @@
+pub mod ClashesLemmas
 pub mod CutFaults
 pub mod PrefixLemmas
 pub mod StatusLemmas

@@ -1,13 +1,17 @@
 -- What the status says of what was delivered.
-use Rattle.std.proofs.Common.{◌≡◌, ◌≢◌, ◌∙◌, ℕ, suc, Bool, ap, true, false, cond, List, [], ◌∷◌, All, arith, length, map, inl, inr, Result, Ok, Err, refl, subst, sym}
+use Rattle.std.proofs.Common.{◌≡◌, ◌≢◌, ◌∙◌, ℕ, suc, Bool, ap, true, false, cond, List, [], ◌∷◌, All, arith, length, map, inl, inr, Option, None, Some, Result, Ok, Err, refl, subst, sym}
 use Rattle.std.specs.Option.{option_copied}
 use Rattle.std.proofs.lemmas.Bool.{eqb-true}
-use Rattle.std.specs.Prelude.{◌==◌, string_bytes}
+use Rattle.std.specs.Prelude.{◌==◌, if◌then◌else◌, string_bytes}
+use Rattle.std.specs.List.{list_all}
+use Rattle.std.specs.Str.Lines.{lines as rows_of_text}
+use Rattle.std.proofs.lemmas.List.Elements.{filter_passes}
+use Rattle.brl_accepted.specs.Pairs.{wording}
+use Rattle.brl_accepted.specs.Reading.{Accepts, is_accepted}
 use Rattle.brl_cert.specs.Reading.{spelling}
-use Rattle.brl_states.specs.declared.cert.Cert.{Cert}
 use Rattle.brl_lines.specs.Answer.{FileAnswers}
 use Rattle.brl_lines.specs.Lines.{Answers as Given}
-use Rattle.brl_lines.specs.Outcome.{AreGiven}
+use Rattle.brl_lines.specs.Outcome.{AreGiven, AreLinesOfFiles}
 use Rattle.brl_lines.specs.declared.operand.CharsFault.{CharsFault}
 use Rattle.brl_table.specs.Files.{IsTableOf, IsTableOfFiles}
 use Rattle.brl_search.specs.Searched.{certificate_of}
@@ -23,24 +27,28 @@ use Rattle.brl_report.specs.Unused.{unused_text}
 use Rattle.brl_rules.specs.TableView.{TableView}
 use Rattle.brl_rules.specs.Translation.{IsClash}
 use Rattle.brl_report.specs.Report.{report_text}
-use Rattle.brl_answers.proofs.DeliveryLemmas.{none_changes}
-use Rattle.brl_clashes.proofs.Verdicts.{clash as clash_listed, unambiguous as none_listed}
-use Rattle.brl_clashes.specs.Sections.{outcome_of}
+use Rattle.brl_answers.proofs.DeliveryLemmas.{none_changes, one_changes}
+use Rattle.brl_clashes.proofs.Verdicts.{none_clash, only_accepted, other_clash}
+use Rattle.brl_clashes.specs.ClashesText.{IsClashesText}
+use Rattle.brl_clashes.specs.Sections.{are_whole, listed_pairs, lists_none, outcome_of}
+use Rattle.brl_clashes.specs.declared.section.Section.{Section}
 use Rattle.brl_clashes.specs.declared.verdict.Outcome.{Outcome}
 use Rattle.brl_clashes.specs.declared.verdict.Outcome.TheVariants.{Unambiguous, Clashing, Unfinished}
-use Rattle.brl_table.specs.Reading.{table_of}
-use Rattle.brl_tool.specs.Diagnosing.{DiagnosesByFile, status_of_outcome}
-use Rattle.brl_cut.specs.Cuts.{IsReadAs, written_path}
+use Rattle.brl_table.specs.Reading.{PassesAll, table_of}
+use Rattle.brl_tool.specs.Baselines.{AreAccepted, AreFilesWith, IsBaseline, accepted_number, text_of_pairs}
+use Rattle.brl_traces.specs.Traces.{ClashesDivergeAtWithout}
+use Rattle.brl_tool.specs.Diagnosing.{DiagnosesByFile, IsDiagnosis, status_of_outcome}
+use Rattle.brl_cut.specs.Cuts.{IsReadAs, written_root}
 use Rattle.brl_cut.specs.Edits.{Texts}
 use Rattle.brl_tool.specs.Comparing.{ComparesByFile, ComparesByWords, IsComparison}
 use Rattle.brl_tool.specs.Tracing.{TracesByFile}
 use Rattle.brl_tool.specs.Unused.{status_of_list, status_of_unused, text_of_unused}
-use Rattle.brl_tool.specs.Verdicts.{IsFileOf, IsJudgement, Judges, SearchesByFile}
+use Rattle.brl_tool.specs.Verdicts.{IsFileWith, IsJudgement, Judges, SearchesByFile}
 use Rattle.brl_answers.specs.Answers.{BySpelled, ByText, IsBadLeftOut, IsBadText, spelled_by, text_of}
-use Rattle.brl_answers.specs.Delivery.{Delivers, World, KeepsFiles, Prints}
+use Rattle.brl_answers.specs.Delivery.{Delivers, World, KeepsFiles, Prints, Writes}
 use Rattle.brl_answers.specs.Files.{GivesAlso, MayBeSame, OthersStay}
 use Rattle.brl_answers.specs.Making.{FilesAfter}
-use Rattle.brl_tool.specs.Running.{Answers, Asks, KeepsFilesUnlessWritten, MeansDone, MeansRefuted}
+use Rattle.brl_tool.specs.Running.{Answers, AreNamedBy, Asks, ClashAtAccepted, KeepsFilesBut, KeepsFilesRefuted, KeepsFilesUnlessWritten, MeansDone, MeansRefuted, WritesList, WritesPairs}
 use Rattle.brl_answers.specs.Status.{status_of}
 use Rattle.brl_answers.specs.declared.answer.Answer.{Answer}
 use Rattle.brl_answers.specs.declared.new_files.NewFiles.{NewFiles}
@@ -78,6 +86,11 @@ some_pair : (o : Outcome) → status_of_outcome o ≡ Refuted → o ≡ Clashing
 some_pair Unambiguous e = absurd cc
 some_pair Clashing e = refl
 some_pair Unfinished e = absurd cc
+
+-- what comes to a verdict is whole
+is_decided : (is_whole none : Bool) → ((if is_whole then (if none then Unambiguous else Clashing) else Unfinished) ≡ Unfinished → ⊥) → is_whole ≡ true
+is_decided true none decided = refl
+is_decided false none decided = absurd (decided refl)
 
 -- a list of unused rules says by its status whether it has one
 some_listed : (none : Bool) → (none ≡ true → ⊥) → cond none Done Refuted ≡ Done → ⊥
@@ -129,11 +142,22 @@ module _ (before after : World) (same_file : MayBeSame) where
 
   -- ---- A file that is written
 
-  file_written : (cert : Cert) (out : List ℕ) (files : NewFiles) → IsFileOf cert out files → FilesAfter before.gives after.gives files → GivesAlso after.gives out (spelling cert) × OthersStay before.gives after.gives out
-  file_written cert out Nothing is written = absurd is
-  file_written cert out (AllNew files) is written = absurd is
-  file_written cert out (InPlace file) (path, bytes) (gives, others) =
-      (subst (λ (p : List ℕ). GivesAlso after.gives p (spelling cert)) path (subst (GivesAlso after.gives (string_bytes file.path)) bytes gives), subst (OthersStay before.gives after.gives) path others)
+  file_written : (content out : List ℕ) (files : NewFiles) → IsFileWith out content files → FilesAfter before.gives after.gives files → GivesAlso after.gives out content × OthersStay before.gives after.gives out
+  file_written content out Nothing is written = absurd is
+  file_written content out (AllNew files) is written = absurd is
+  file_written content out (InPlace file) (path, bytes) (gives, others) =
+      (subst (λ (p : List ℕ). GivesAlso after.gives p content) path (subst (GivesAlso after.gives (string_bytes file.path)) bytes gives), subst (OthersStay before.gives after.gives) path others)
+
+  -- the pairs of a whole list are written, where a path for them is asked for
+  pairs_written : (write : Option (List ℕ)) (is_whole : Bool) (content : List ℕ) (files : NewFiles) → is_whole ≡ true → AreFilesWith write is_whole content files → FilesAfter before.gives after.gives files
+      → WritesPairs before after write content
+  pairs_written None is_whole content files e are written = subst (FilesAfter before.gives after.gives) are written
+  pairs_written (Some path) false content files e are written = absurd cc
+  pairs_written (Some path) true content files e are written = file_written content path files are written
+
+  keeps_others : (write : Option (List ℕ)) (content : List ℕ) → WritesPairs before after write content → KeepsFilesBut write before after
+  keeps_others None content written = written
+  keeps_others (Some path) content written = written.1
 
   -- answers for other files are given after a file is written
   answers_stay : (out : List ℕ) → OthersStay before.gives after.gives out → (answers : Given) → All (λ one. one ≢ out) (map (λ entry. entry.0) answers) → AreGiven before.gives answers → AreGiven after.gives answers
@@ -150,10 +174,47 @@ module _ (before after : World) (same_file : MayBeSame) where
 
   abbrev Means : Question → Answer → Type 0
   Means asked answer = FilesAfter before.gives after.gives answer.files → Prints before after (string_bytes answer.text)
-      → (answer.status ≡ Done → MeansDone asked before after) × (answer.status ≡ Refuted → MeansRefuted asked before after × KeepsFiles before after)
+      → (answer.status ≡ Done → MeansDone asked before after) × (answer.status ≡ Refuted → MeansRefuted asked before after × KeepsFilesRefuted asked before after)
 
   abbrev IsAnswerTo : Question → Answer → Type 0
   IsAnswerTo asked answer = Answers asked before.gives same_file (Ok answer)
+
+  -- ---- A list of clashes beside accepted pairs
+
+  -- the accepted pairs are named by lines of the file
+  named_by : (accept baseline : Option (List ℕ)) (lines : List LineView) (found : List Section) (accepted : List (ℕ × ℕ)) → IsBaseline before.gives accept baseline
+      → AreAccepted baseline (table_of lines) lines found accepted → AreNamedBy before.gives accept lines accepted
+  named_by None baseline lines found accepted none accepts = subst (λ (b : Option (List ℕ)). AreAccepted b (table_of lines) lines found accepted) none accepts
+  named_by (Some path) baseline lines found accepted (text, some, gives) accepts =
+      let words = wording (table_of lines) lines in
+      let is : Accepts words (listed_pairs found) (are_whole found) text accepted = subst (λ (b : Option (List ℕ)). AreAccepted b (table_of lines) lines found accepted) some accepts in
+      (text, gives, subst (All (λ pair. is_accepted words (rows_of_text text) pair ≡ true)) (sym is.named) (filter_passes (is_accepted words (rows_of_text text)) (listed_pairs found)))
+
+  same_number : (accept baseline : Option (List ℕ)) (accepted : List (ℕ × ℕ)) → IsBaseline before.gives accept baseline → accepted_number baseline accepted ≡ accepted_number accept accepted
+  same_number None baseline accepted none = ap (λ b. accepted_number b accepted) none
+  same_number (Some path) baseline accepted (text, some, gives) = ap (λ b. accepted_number b accepted) some
+
+  -- where no other clash is left, no texts clash but at accepted pairs
+  at_accepted : (accept : Option (List ℕ)) (left_out : List ℕ) (lines : List LineView) (accepted : List (ℕ × ℕ)) → AreNamedBy before.gives accept lines accepted
+      → ClashesDivergeAtWithout left_out accepted (table_of lines) → ClashAtAccepted accept left_out accepted (table_of lines)
+  at_accepted None left_out lines accepted none only = none_clash (table_of lines) left_out (subst (λ (pairs : List (ℕ × ℕ)). ClashesDivergeAtWithout left_out pairs (table_of lines)) none only)
+  at_accepted (Some path) left_out lines accepted named only = only
+
+  -- a list that is whole was written, and its pairs
+  list_written : (path left_out : List ℕ) (accept write baseline : Option (List ℕ)) (paths : List (List ℕ)) (lines : List LineView) (limit first : ℕ) (answer : Answer) → AreLinesOfFiles before.gives path paths lines
+      → PassesAll lines → IsBaseline before.gives accept baseline → (d : IsDiagnosis left_out (table_of lines) lines limit first baseline write answer) → (outcome_of d.left ≡ Unfinished → ⊥)
+      → FilesAfter before.gives after.gives answer.files → Prints before after (string_bytes answer.text) → WritesList before after path left_out accept write lines d.accepted
+  list_written path left_out accept write baseline paths lines limit first answer are passes read d decided files prints = record {
+    lines_are = lines_of before.gives path paths lines are;
+    passes = passes;
+    named = named_by accept baseline lines d.found d.accepted read d.accepts;
+    first = first;
+    sections = d.left;
+    text = string_bytes answer.text;
+    shows = subst (λ (n : Option ℕ). IsClashesText (table_of lines) lines left_out first n d.left (string_bytes answer.text)) (same_number accept baseline d.accepted read) d.shows;
+    prints = prints;
+    pairs = pairs_written write (are_whole d.left) (text_of_pairs (table_of lines) lines d.left) answer.files (is_decided (are_whole d.left) (list_all (λ s. lists_none s.found) d.left) decided) d.files files;
+  }
 
   means : (asked : Question) (answer : Answer) → IsAnswerTo asked answer → Means asked answer
   means (question.Clash path left right options) answer compares files prints =
@@ -172,7 +233,7 @@ module _ (before after : World) (same_file : MayBeSame) where
   means (question.Survey paths brief) answer (parts, named, are, says) files prints = ((λ done. tt), (λ refuted. absurd (unrefuted _ (sym says.0 ∙ refuted))))
   means (question.Cut path dir rewrite) answer (cut, (answers, given, gathered, gathers, is), status, text, (made, are, same)) files prints =
       let written : FilesAfter before.gives after.gives (AllNew made) = subst (FilesAfter before.gives after.gives) are files in
-      let read = subst (λ (fs : Texts). IsReadAs fs (written_path dir.now path.now path.now)) (sym (same ∙ is.files_are)) is.read in
+      let read = subst (λ (fs : Texts). IsReadAs fs (written_root dir.now path.now)) (sym (same ∙ is.files_are)) is.read in
       ((λ done. (made.items, written.0, written.1, read)), (λ refuted. let e = sym status ∙ refuted in cc))
   means (question.Trace path text options) answer traces files prints =
       let (chars, spelled, by_file) = spelled_in (text_of options.escapes text.now) (IsBadText options.escapes text.now) (TracesByFile options.lines before.gives path.now) answer traces in
@@ -203,7 +264,7 @@ module _ (before after : World) (same_file : MayBeSame) where
       let (paths, t, table, apart, verdict) = searched in
       elim verdict [
         | inl (none, (body, certified, accepted, (status, text, file, read))) ↦ (
-          (λ done. let (gives, others) = file_written (certificate_of body) out.now answer.files file files in
+          (λ done. let (gives, others) = file_written (spelling (certificate_of body)) out.now answer.files file files in
               (left_out, spelled, t, of_files before.gives path.now paths t table, none, (body, accepted, gives, others, table_stays path.now out.now paths t table apart others, subst (Prints before after) text prints))),
           (λ refuted. let e = sym status ∙ refuted in cc),
         )
@@ -227,18 +288,26 @@ module _ (before after : World) (same_file : MayBeSame) where
         )
         | inr (inr (states, pairs, limit_is, says)) ↦ ((λ done. let e = sym says.0 ∙ done in cc), (λ refuted. let e = sym says.0 ∙ refuted in cc))
       ]
-  means (question.Clashes path limit first option) answer is files prints =
-      let (left_out, spelled, listed) = spelled_in (spelled_by (option_copied option)) (IsBadLeftOut (option_copied option)) (λ left_out. DiagnosesByFile left_out before.gives path.now limit first) answer is in
-      let (paths, lines, are, passes, (sections, found, (text, text_is, says))) = listed in
-      let table : IsTableOf before.gives path.now (table_of lines) = of_files before.gives path.now paths (table_of lines) (lines, are, passes, refl) in
-      let shown : Prints before after text = subst (Prints before after) says.1 prints in (
-        (λ done. (left_out, spelled, table_of lines, table, none_listed (table_of lines) left_out limit sections found (no_pair (outcome_of sections) (sym says.0 ∙ done)), (lines, first, sections, text, text_is, shown))),
+  means (question.Clashes path limit first option pairs) answer is files prints =
+      let accept = option_copied pairs.accept in
+      let write = option_copied pairs.write in
+      let (left_out, spelled, listed) = spelled_in (spelled_by (option_copied option)) (IsBadLeftOut (option_copied option)) (λ left_out. DiagnosesByFile left_out before.gives same_file path.now limit first accept write) answer is in
+      let (paths, lines, are, passes, apart, (defined, (baseline, read, d))) = listed in
+      let t = table_of lines in
+      let list = list_written path.now left_out accept write baseline paths lines limit first answer are passes read d in (
+        (λ done.
+            let none = no_pair (outcome_of d.left) (sym d.status ∙ done) in
+            let written = list (λ e. let u = sym none ∙ e in cc) files prints in
+            (left_out, spelled, (lines, d.accepted, written, at_accepted accept left_out lines d.accepted written.named (only_accepted t left_out limit d.accepted d.found d.left d.are d.beside none)))),
         (λ refuted.
-            let (left, right, cells, clash) = clash_listed (table_of lines) left_out limit sections found (some_pair (outcome_of sections) (sym says.0 ∙ refuted)) in
-            ((path.now, left_out, left, right, cells, table_of lines, table, clash, (lines, first, sections, text, text_is, shown)), subst (FilesAfter before.gives after.gives) says.2 files)),
+            let some = some_pair (outcome_of d.left) (sym d.status ∙ refuted) in
+            let written = list (λ e. let u = sym some ∙ e in cc) files prints in (
+              (left_out, spelled, (lines, d.accepted, written, other_clash t left_out limit d.accepted d.found d.left d.are d.beside some)),
+              keeps_others write (text_of_pairs t lines written.sections) written.pairs,
+            )),
       )
 
-  -- ---- Only a search and a cut have files to write
+  -- ---- Only a search, a cut and a list of clashes have files to write
 
   comparison_has_none : (t : TableView) (lines : List LineView) (left right : List ℕ) (answer : Answer) → IsComparison t lines left right answer → answer.files ≡ Nothing
   comparison_has_none t lines left right answer is = elim is [
@@ -251,6 +320,23 @@ module _ (before after : World) (same_file : MayBeSame) where
     | inl (t, table, none, (accepted, deserved, says)) ↦ says.2
     | inr (fault, of, refused, (rest, says)) ↦ says.2
   ]
+
+  keeps_all_but : (write : Option (List ℕ)) → KeepsFiles before after → KeepsFilesBut write before after
+  keeps_all_but None stay = stay
+  keeps_all_but (Some path) stay = (stay.0, λ p a other. stay.1 p a)
+
+  -- a file with pairs alone changes
+  one_alone : (answer : Answer) (path content : List ℕ) (files : NewFiles) → answer.files ≡ files → IsFileWith path content files → (written : Result Status RunFault) → Writes answer before after written
+      → OthersStay before.gives after.gives path
+  one_alone answer path content Nothing same is written writes = absurd is
+  one_alone answer path content (AllNew files) same is written writes = absurd is
+  one_alone answer path content (InPlace file) same is written writes = subst (OthersStay before.gives after.gives) is.0 (one_changes before after answer file written same writes)
+
+  pairs_alone : (answer : Answer) (write : Option (List ℕ)) (is_whole : Bool) (content : List ℕ) → AreFilesWith write is_whole content answer.files → (written : Result Status RunFault)
+      → Writes answer before after written → KeepsFilesBut write before after
+  pairs_alone answer None is_whole content are written writes = none_changes before after answer written are writes
+  pairs_alone answer (Some path) false content are written writes = keeps_all_but (Some path) (none_changes before after answer written are writes)
+  pairs_alone answer (Some path) true content are written writes = one_alone answer path content answer.files refl are written writes
 
   keeps : (asked : Question) (outcome : Result Answer RunFault) (status : Status) → Answers asked before.gives same_file outcome → Delivers outcome before after status → KeepsFilesUnlessWritten asked before after
   keeps (question.Search path out limit option) outcome status is delivers = tt
@@ -270,10 +356,13 @@ module _ (before after : World) (same_file : MayBeSame) where
   keeps (question.Check path cert option) (Ok answer) status is (written, writes, e) =
       let (left_out, spelled, judges) = spelled_in (spelled_by (option_copied option)) (IsBadLeftOut (option_copied option)) (λ left_out. Judges left_out before.gives path.now cert.now) answer is in
       none_changes before after answer written (judgement_has_none left_out path.now judges.checks.0 answer judges.checks.2) writes
-  keeps (question.Clashes path limit first option) (Ok answer) status is (written, writes, e) =
-      let (left_out, spelled, listed) = spelled_in (spelled_by (option_copied option)) (IsBadLeftOut (option_copied option)) (λ left_out. DiagnosesByFile left_out before.gives path.now limit first) answer is in
-      let (paths, lines, are, passes, (sections, found, (text, text_is, says))) = listed in
-      none_changes before after answer written says.2 writes
+  keeps (question.Clashes path limit first option pairs) (Ok answer) status is (written, writes, e) =
+      let accept = option_copied pairs.accept in
+      let write = option_copied pairs.write in
+      let (left_out, spelled, listed) = spelled_in (spelled_by (option_copied option)) (IsBadLeftOut (option_copied option)) (λ left_out. DiagnosesByFile left_out before.gives same_file path.now limit first accept write) answer is in
+      let (paths, lines, are, passes, apart, (defined, (baseline, read, d))) = listed in
+      pairs_alone answer write (are_whole d.left) (text_of_pairs (table_of lines) lines d.left) d.files written writes
+  keeps (question.Clashes path limit first option pairs) (Err fault) status is (stay, still, e) = keeps_all_but (option_copied pairs.write) stay
   keeps asked (Err fault) status is (stay, still, e) = stay
 
   -- the answer to a question was delivered

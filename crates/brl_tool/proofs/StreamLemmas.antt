@@ -30,10 +30,10 @@ stopped_by_stream lines gives path form input old new t fault error same table w
     subst (λ (f : RunFault). TranslatesBy lines gives path form input old new (Err f)) (sym same) (by_stream lines gives path form input old new t fault table written)
 
 -- no file fails where the stream does
-pub count_at_stream : (before now : ℕ) (fault : Failure StreamFault) (error : RunFault) → error ≡ of_failure Stream fault → now ≡ before → CountsFailure before now (load_outcome {T = Unit {0}} (Err error))
-count_at_stream before now fault error same stays = subst (λ (f : RunFault). CountsFailure before now (load_outcome {T = Unit {0}} (Err f))) (sym same) (by_fault fault)
+pub count_at_stream : (T : Type 0) (before now : ℕ) (fault : Failure StreamFault) (error : RunFault) → error ≡ of_failure Stream fault → now ≡ before → CountsFailure before now (load_outcome {T = T} (Err error))
+count_at_stream T before now fault error same stays = subst (λ (f : RunFault). CountsFailure before now (load_outcome {T = T} (Err f))) (sym same) (by_fault fault)
   where
-    by_fault : (fault : Failure StreamFault) → CountsFailure before now (load_outcome {T = Unit {0}} (Err (of_failure Stream fault)))
+    by_fault : (fault : Failure StreamFault) → CountsFailure before now (load_outcome {T = T} (Err (of_failure Stream fault)))
     by_fault failures.Memory = inl stays
     by_fault (failures.Fault fault) = stays
 

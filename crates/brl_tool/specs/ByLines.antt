@@ -1,5 +1,5 @@
 -- What is answered by the table of a file and by its lines. The project's own choice.
-use Rattle.std.specs.Prelude.{ℕ, Bool, if◌then◌else◌, List, [], Result, Ok, Err}
+use Rattle.std.specs.Prelude.{ℕ, Bool, if◌then◌else◌, List, [], Result, Err}
 use Rattle.brl_answers.specs.Answers.{HasNoTable}
 use Rattle.brl_answers.specs.declared.answer.Answer.{Answer}
 use Rattle.brl_answers.specs.declared.run_fault.RunFault.{RunFault}

@@ -9,5 +9,6 @@ pub mod Surveying
 pub mod Tracing
 pub mod Verdicts
 pub mod Notices
+pub mod Baselines
 pub mod Diagnosing
 pub mod Unused

@@ -1,29 +1,35 @@
 -- What a run of the program comes to. The project's own choice. `same` says which paths may name one
 -- file, `input` what is left of the input where that is known.
-use Rattle.std.specs.Prelude.{ℕ, ◌≡◌, ◌≢◌, ◌<◌, ◌==◌, ◌⊎◌, Bool, if◌then◌else◌, length, List, [], ◌++◌, false, map, Option, None, Result, Ok, Err, String, codes, string_bytes}
+use Rattle.std.specs.Prelude.{ℕ, ◌≡◌, ◌≢◌, ◌<◌, ◌==◌, ◌⊎◌, ◌↔◌, All, Bool, if◌then◌else◌, IsTrue, length, List, [], ◌++◌, false, map, Option, None, Some, Result, Ok, Err, String, codes, string_bytes}
 use Rattle.std.specs.Global.{Global, Vec}
 use Rattle.std.specs.Option.{option_copied}
+use Rattle.std.specs.Str.Lines.{lines as rows_of_text}
 use Rattle.brl_accept.specs.Judging.{IsAcceptedWithout, counted}
+use Rattle.brl_accepted.specs.Pairs.{wording}
+use Rattle.brl_accepted.specs.Reading.{is_accepted}
 use Rattle.brl_cert.specs.Reading.{spelling}
 use Rattle.brl_pairs.specs.Body.{BodyView}
-use Rattle.brl_lines.specs.Answer.{FileAnswers}
+use Rattle.brl_lines.specs.Answer.{FileAnswer, FileAnswers, Holds, MayAnswerSame}
 use Rattle.brl_lines.specs.Outcome.{AreLinesOf}
 use Rattle.brl_table.specs.Files.{IsTableOf}
 use Rattle.brl_table.specs.Reading.{PassesAll, table_of}
 use Rattle.brl_report.specs.Report.{report_text_with}
 use Rattle.brl_report.specs.Unused.{unused_text}
+use Rattle.brl_search.specs.Clashes.{ClashesDiverge}
 use Rattle.brl_search.specs.Searched.{State, certificate_of}
 use Rattle.brl_search.specs.Used.{AreUnused, IsRule, IsUsed}
 use Rattle.brl_cells.specs.declared.form.Form.{Form}
 use Rattle.brl_rules.specs.TableView.{TableView}
 use Rattle.brl_rules.specs.Translation.{IsClash}
 use Rattle.brl_clashes.specs.ClashesText.{IsClashesText}
+use Rattle.brl_clashes.specs.ListedPairs.{has_pair}
 use Rattle.brl_clashes.specs.declared.section.Section.{Section}
 use Rattle.brl_lines.specs.Tokens.{LineView}
+use Rattle.brl_tool.specs.Baselines.{accepted_number, text_of_pairs}
 use Rattle.brl_tool.specs.ByLines.{shown_lines}
 use Rattle.brl_tool.specs.Comparing.{ComparesByWords}
 use Rattle.brl_tool.specs.Diagnosing.{DiagnosesByFile}
-use Rattle.brl_cut.specs.Cuts.{IsReadAs, written_path}
+use Rattle.brl_cut.specs.Cuts.{IsReadAs, written_root}
 use Rattle.brl_tool.specs.Cutting.{CutsByFile, new_file_view}
 use Rattle.brl_tool.specs.Explaining.{Explains}
 use Rattle.brl_tool.specs.Listing.{ListsByFile}
@@ -50,7 +56,8 @@ use Rattle.brl_cli.specs.declared.command.Question.TheVariants as question
 use Rattle.brl_cli.specs.declared.command.Task.{Task}
 use Rattle.brl_cli.specs.declared.command.Work.{Work}
 use Rattle.brl_cli.specs.declared.command.Task.TheVariants as task
-use Rattle.brl_without.specs.Tables.{IsClashWithout, IsUnambiguousWithout}
+use Rattle.brl_traces.specs.Traces.{ClashesDivergeAtWithout}
+use Rattle.brl_without.specs.Tables.{IsUnambiguousWithout}
 
 -- ---- What a question is answered
 
@@ -67,8 +74,8 @@ Answers (question.Check path cert option) gives same outcome =
     ByLeftOut (option_copied option) (λ left_out. Judges left_out gives path.now cert.now) outcome
 Answers (question.Search path out limit option) gives same outcome =
     ByLeftOut (option_copied option) (λ left_out. SearchesByFile left_out gives same path.now out.now limit) outcome
-Answers (question.Clashes path limit first option) gives same outcome =
-    ByLeftOut (option_copied option) (λ left_out. DiagnosesByFile left_out gives path.now limit first) outcome
+Answers (question.Clashes path limit first option pairs) gives same outcome =
+    ByLeftOut (option_copied option) (λ left_out. DiagnosesByFile left_out gives same path.now limit first (option_copied pairs.accept) (option_copied pairs.write)) outcome
 
 -- ---- What the status says of a question
 
@@ -92,19 +99,56 @@ ReportsClash before after =
     × IsClash (table_of lines) left right cells
     × ((with_lines : Bool) × Prints before after (report_text_with (table_of lines) (shown_lines with_lines lines) left right cells))
 
--- the text of a list of clashes of the table of the file at some path was written, by which two texts
--- clash that use none of what is left out
-abbrev pub ReportsClashes : World → World → Type 0
-ReportsClashes before after =
-    (path left_out left right cells : List ℕ) × (t : TableView) × IsTableOf before.gives path t × IsClashWithout left_out t left right cells
-    × ((lines : List LineView) × (first : ℕ) × (sections : List Section) × (text : List ℕ) × IsClashesText t lines left_out first None sections text × Prints before after text)
+-- each of these pairs of rules is named by a line of the file of accepted pairs; none are, where no such
+-- file is asked for
+abbrev pub AreNamedBy : FileAnswers → Option (List ℕ) → List LineView → List (ℕ × ℕ) → Type 0
+AreNamedBy gives None lines accepted = accepted ≡ []
+AreNamedBy gives (Some path) lines accepted =
+    (text : List ℕ) × gives.may path (Holds text) × All (λ pair. IsTrue (is_accepted (wording (table_of lines) lines) (rows_of_text text) pair)) accepted
 
--- the text of a list of clashes was written, and the table of the file at the path is unambiguous
--- without the characters that the option leaves out
-abbrev pub ReportsNoClash : World → World → List ℕ → Option (List ℕ) → Type 0
-ReportsNoClash before after path option =
-    (left_out : List ℕ) × (spelled_by option ≡ Ok left_out) × (t : TableView) × IsTableOf before.gives path t × IsUnambiguousWithout left_out t
-    × ((lines : List LineView) × (first : ℕ) × (sections : List Section) × (text : List ℕ) × IsClashesText t lines left_out first None sections text × Prints before after text)
+-- pairs of rules were written as the text of a file, where a path for it is asked for; no other file
+-- changed
+abbrev pub WritesPairs : World → World → Option (List ℕ) → List ℕ → Type 0
+WritesPairs before after None text = KeepsFiles before after
+WritesPairs before after (Some path) text = GivesAlso after.gives path text × OthersStay before.gives after.gives path
+
+-- The text of a list of clashes of the table of these lines, which are those of the file at a path, was
+-- written, beside the accepted pairs; the pairs of rules of the list were written where that is asked for.
+pub record WritesList (before after : World) (path left_out : List ℕ) (accept write : Option (List ℕ)) (lines : List LineView) (accepted : List (ℕ × ℕ)) : Type 0 where
+  pub lines_are : AreLinesOf before.gives path lines
+  pub passes : PassesAll lines
+  pub named : AreNamedBy before.gives accept lines accepted
+  pub first : ℕ
+  pub sections : List Section
+  pub text : List ℕ
+  pub shows : IsClashesText (table_of lines) lines left_out first (accepted_number accept accepted) sections text
+  pub prints : Prints before after text
+  pub pairs : WritesPairs before after write (text_of_pairs (table_of lines) lines sections)
+
+-- a list of clashes was written of the table of the file at the path, by which two texts clash that use
+-- none of what the option leaves out; they diverge at a pair of rules that isn't accepted
+abbrev pub ReportsOther : World → World → List ℕ → Option (List ℕ) → Option (List ℕ) → Option (List ℕ) → Type 0
+ReportsOther before after path option accept write =
+    (left_out : List ℕ) × (spelled_by option ≡ Ok left_out)
+    × ((lines : List LineView) × (accepted : List (ℕ × ℕ)) × WritesList before after path left_out accept write lines accepted
+    × ((r s : ℕ) × ClashesDiverge left_out (table_of lines) r s × (has_pair accepted (r, s) ≡ false)))
+
+-- the same of the table of the file at some path, with some options
+abbrev pub ReportsClashes : World → World → Type 0
+ReportsClashes before after = (path : List ℕ) × (option accept write : Option (List ℕ)) × ReportsOther before after path option accept write
+
+-- what no other clashes mean: no texts clash; or, where pairs are accepted, texts that clash diverge at these
+abbrev pub ClashAtAccepted : Option (List ℕ) → List ℕ → List (ℕ × ℕ) → TableView → Type 0
+ClashAtAccepted None left_out accepted t = IsUnambiguousWithout left_out t
+ClashAtAccepted (Some path) left_out accepted t = ClashesDivergeAtWithout left_out accepted t
+
+-- a list of no clashes was written, and by the table of the file at the path no texts clash that use
+-- none of what the option leaves out, but at pairs of rules that the file of accepted pairs names
+abbrev pub ReportsNoOther : World → World → List ℕ → Option (List ℕ) → Option (List ℕ) → Option (List ℕ) → Type 0
+ReportsNoOther before after path option accept write =
+    (left_out : List ℕ) × (spelled_by option ≡ Ok left_out)
+    × ((lines : List LineView) × (accepted : List (ℕ × ℕ)) × WritesList before after path left_out accept write lines accepted
+    × ClashAtAccepted accept left_out accepted (table_of lines))
 
 -- the list of the rules that no text uses was written, of the table of the file at some path
 abbrev pub ReportsUnused : World → World → Type 0
@@ -133,13 +177,14 @@ ReportsCertificate before after path out option =
 abbrev pub WritesTable : World → World → List ℕ → List ℕ → Type 0
 WritesTable before after path dir =
     (files : List NewFile) × AreNew before.gives files × AreWritten files before.gives after.gives
-    × IsReadAs (map new_file_view files) (written_path dir path path)
+    × IsReadAs (map new_file_view files) (written_root dir path)
 
 -- what it means that the work was done
 abbrev pub MeansDone : Question → World → World → Type 0
 MeansDone (question.Check path cert option) before after = ReportsAcceptance before after path.now (option_copied option)
 MeansDone (question.Search path out limit option) before after = ReportsCertificate before after path.now out.now (option_copied option)
-MeansDone (question.Clashes path limit first option) before after = ReportsNoClash before after path.now (option_copied option)
+MeansDone (question.Clashes path limit first option pairs) before after =
+    ReportsNoOther before after path.now (option_copied option) (option_copied pairs.accept) (option_copied pairs.write)
 MeansDone (question.Unused path limit) before after = ReportsNoUnused before after path.now
 MeansDone (question.Cut path dir rewrite) before after = WritesTable before after path.now dir.now
 MeansDone asked before after = Unit {0}
@@ -149,22 +194,34 @@ abbrev pub MeansRefuted : Question → World → World → Type 0
 MeansRefuted (question.Clash path left right options) before after = ReportsClash before after
 MeansRefuted (question.Check path cert option) before after = ReportsRefusal before after
 MeansRefuted (question.Search path out limit option) before after = ReportsClash before after
-MeansRefuted (question.Clashes path limit first option) before after = ReportsClashes before after
+MeansRefuted (question.Clashes path limit first option pairs) before after =
+    ReportsOther before after path.now (option_copied option) (option_copied pairs.accept) (option_copied pairs.write)
 MeansRefuted (question.Unused path limit) before after = ReportsUnused before after
 MeansRefuted asked before after = ⊥
 
--- no file changes, unless a table was searched or cut
+-- no file changes, but one at a path that is asked for
+abbrev pub KeepsFilesBut : Option (List ℕ) → World → World → Type 0
+KeepsFilesBut None before after = KeepsFiles before after
+KeepsFilesBut (Some path) before after = OthersStay before.gives after.gives path
+
+-- no file changes, unless a table was searched or cut, or pairs of rules are to be written
 abbrev pub KeepsFilesUnlessWritten : Question → World → World → Type 0
 KeepsFilesUnlessWritten (question.Search path out limit option) before after = Unit {0}
 KeepsFilesUnlessWritten (question.Cut path dir rewrite) before after = Unit {0}
+KeepsFilesUnlessWritten (question.Clashes path limit first option pairs) before after = KeepsFilesBut (option_copied pairs.write) before after
 KeepsFilesUnlessWritten asked before after = KeepsFiles before after
+
+-- no file changes where something was refuted, but the one that gets the pairs of a list of clashes
+abbrev pub KeepsFilesRefuted : Question → World → World → Type 0
+KeepsFilesRefuted (question.Clashes path limit first option pairs) before after = KeepsFilesBut (option_copied pairs.write) before after
+KeepsFilesRefuted asked before after = KeepsFiles before after
 
 -- a question was asked: its answer was delivered, and the status means what it says
 pub record Asks (asked : Question) (same : MayBeSame) (before after : World) (status : Status) : Type 0 where
   pub delivered : IsDelivered (Answers asked before.gives same) before after status
   pub files : KeepsFilesUnlessWritten asked before after
   pub done : status ≡ Done → MeansDone asked before after
-  pub refuted : status ≡ Refuted → MeansRefuted asked before after × KeepsFiles before after
+  pub refuted : status ≡ Refuted → MeansRefuted asked before after × KeepsFilesRefuted asked before after
 
 -- ---- What each task comes to
 
@@ -227,6 +284,13 @@ abbrev pub ReportsOne : Looked → World → Type 0
 ReportsOne looked after =
     (folders : Vec (String Global)) × (ReportsClash (looked folders) after ⊎ ReportsRefusal (looked folders) after
     ⊎ ReportsClashes (looked folders) after ⊎ ReportsUnused (looked folders) after)
+
+-- no file changed, or one alone did, which has the text of pairs of rules of a table
+abbrev pub MayGainPairs : FileAnswers → FileAnswers → Type 0
+MayGainPairs old new =
+    MayAnswerSame old new
+    ⊎ ((path : List ℕ) × ((lines : List LineView) × (sections : List Section) × GivesAlso new path (text_of_pairs (table_of lines) lines sections))
+    × ((p : List ℕ) (a : FileAnswer) → p ≢ path → new.may p a ↔ old.may p a))
 
 -- 0, 1, 2 or 3
 abbrev pub IsStatus : ℕ → Type 0

@@ -34,14 +34,14 @@ use Rattle.brl_answers.specs.Answers.{HasNoTable, HasTextAndStatus, UnlessMemory
 
 -- ---- `brl check`
 
--- why a file has no bytes for a certificate
+-- why a file has no bytes
 abbrev pub LacksBytes : (FileAnswer → Type 0) → LoadFaultKind → Type 0
 LacksBytes gives kinds.NotFound = gives Missing
 LacksBytes gives kinds.ReadFailed = gives Unreadable
 LacksBytes gives kinds.TooLarge = gives Large ⊎ ((bytes : List ℕ) × gives (Holds bytes) × (most_file_bytes < length bytes))
 LacksBytes gives kind = ⊥
 
--- the fault is of the certificate's file: it names its path and no line
+-- the file at a path has no bytes, and the fault names its path and no line; or memory ran out
 abbrev pub IsFaultOfFile : FileAnswers → List ℕ → RunFault → Type 0
 IsFaultOfFile gives path Memory = Unit {0}
 IsFaultOfFile gives path (Load fault) = (string_bytes fault.path ≡ path) × (fault.place ≡ None) × LacksBytes (gives.may path) fault.kind
@@ -116,10 +116,14 @@ pub record Judges (left_out : List ℕ) (gives : FileAnswers) (path cert : List 
 abbrev pub certified_line : Certificate → List ℕ
 certified_line cert = counts_line (codes "certified") (state_count cert) (pair_count cert)
 
--- one file, in place of what is at a path, with the bytes of a certificate
+-- one file, in place of what is at a path, with these bytes
+abbrev pub IsFileWith : List ℕ → List ℕ → NewFiles → Type 0
+IsFileWith path bytes (InPlace file) = (string_bytes file.path ≡ path) × (file.bytes.items ≡ bytes)
+IsFileWith path bytes files = ⊥
+
+-- the same with the bytes of a certificate
 abbrev pub IsFileOf : Certificate → List ℕ → NewFiles → Type 0
-IsFileOf cert path (InPlace file) = (string_bytes file.path ≡ path) × (file.bytes.items ≡ spelling cert)
-IsFileOf cert path files = ⊥
+IsFileOf cert path files = IsFileWith path (spelling cert) files
 
 -- the answer with a certificate, which is read back from the bytes for its file
 abbrev pub IsCertificateAt : List ℕ → List ℕ → Certificate → Answer → Type 0

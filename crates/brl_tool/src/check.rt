@@ -1,16 +1,16 @@
 //! `brl check`: whether a certificate is accepted for a table.
-ghost use Rattle.std.specs.Prelude.{◌≡◌, ◌≤◌, IfErr, IfOk, length};
-ghost use Rattle.brl_lines.specs.Answer.{Unchanged, Holds};
+ghost use Rattle.brl_lines.specs.Answer.{Unchanged};
 ghost use Rattle.brl_lines.specs.Outcome.{CountsFailure};
 ghost use Rattle.std.specs.Option.{option_copied};
 ghost use Rattle.brl_answers.specs.Answers.{ByLeftOut, UnlessMemory, load_outcome};
-ghost use Rattle.brl_tool.specs.Verdicts.{AcceptsGood, Checks, IsAcceptance, IsFaultOfFile, IsRefusal, Judges, Renders};
+ghost use Rattle.brl_tool.specs.Verdicts.{AcceptsGood, Checks, IsAcceptance, IsRefusal, Judges, Renders};
 
+use crate::file_text::bytes_at;
 use brl_accept::{JudgeFault, judge_with};
 use brl_answers::{Answer, RunFault, Status, counts_text, left_out_of, with_left_out_line};
 use brl_closure::Accepted;
 use brl_failure::Failure;
-use brl_lines::{LoadFault, LoadFaultKind, MOST_FILE_BYTES, Source, SourceFault};
+use brl_lines::Source;
 use brl_progress::Progress;
 use brl_without::{LeftOut, Scope};
 use std::alloc::Global;
@@ -55,34 +55,6 @@ pub fn check_by_file<S: Source, W: Progress>(
     let scope = Scope { left_out, progress };
     let judged = judge_with(alloc, source, table, bytes.as_slice(), scope);
     judgement(alloc, left_out, judged)
-}
-
-/// The bytes of the certificate's file.
-fn bytes_at<S: Source>(alloc: Global, source: &mut S, path: &str) -> Result<Vec<u8>, RunFault>
-    ensures bytes { IfOk result (λ bytes. (S.gives source.old).may path.now (Holds bytes.items)) }
-    ensures short { IfOk result (λ bytes. length bytes.items ≤ 16777216) }
-    ensures fault { IfErr result (IsFaultOfFile (S.gives source.old) path.now) }
-    ensures count { CountsFailure (S.faults source.old) (S.faults source.new) (load_outcome result) }
-    ensures same { Unchanged (S.gives source.old) (S.gives source.new) }
-{
-    let kind = match source.read(alloc, path) {
-        Ok(bytes) => {
-            if bytes.len() <= MOST_FILE_BYTES {
-                return Ok(bytes);
-            }
-            LoadFaultKind::TooLarge
-        }
-        Err(Failure::Fault(SourceFault::TooLarge)) => LoadFaultKind::TooLarge,
-        Err(Failure::Fault(SourceFault::NotFound)) => LoadFaultKind::NotFound,
-        Err(Failure::Fault(SourceFault::Failed)) => LoadFaultKind::ReadFailed,
-        Err(Failure::Memory) => return Err(RunFault::Memory),
-    };
-    let path = String::from_str(alloc, path)?;
-    Err(RunFault::Load(LoadFault {
-        kind,
-        path,
-        place: None,
-    }))
 }
 
 /// The answer to what the judge found. A fault of the table, or no memory, says nothing of the

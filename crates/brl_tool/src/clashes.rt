@@ -1,17 +1,25 @@
 //! `brl clashes`: every pair of rules of a table at which clashing texts diverge.
-ghost use Rattle.std.specs.Prelude.{◌≡◌, ℕ, IfErr, IfOk, map};
+ghost use Rattle.std.specs.Prelude.{◌≡◌, ℕ, IfErr, IfOk, List, map, option_map};
 ghost use Rattle.std.specs.Option.{option_copied};
 ghost use Rattle.brl_lines.specs.Answer.{Unchanged};
 ghost use Rattle.brl_lines.specs.Outcome.{CountsFailure};
 ghost use Rattle.brl_lines.specs.Views.{line_view};
 ghost use Rattle.brl_answers.specs.Answers.{ByLeftOut, load_outcome};
-ghost use Rattle.brl_tool.specs.Diagnosing.{DiagnosesByFile, IsDiagnosis, status_of_outcome};
-ghost use Rattle.brl_tool.specs.Verdicts.{IsUndefinedFault};
+ghost use Rattle.brl_clashes.specs.Sections.{AreSections};
+ghost use Rattle.brl_clashes.specs.declared.section.Section.{Section as SectionValue};
+ghost use Rattle.brl_tool.specs.Baselines.{IsBadLineOf, IsFaultOfLine};
+ghost use Rattle.brl_tool.specs.Diagnosing.{Diagnoses, DiagnosesByFile, IsDiagnosis, status_of_outcome};
 
+use crate::baselines::{accepted_pairs, file_of_pairs, refuse_file_that_is_read};
+use crate::file_text::text_at;
 use crate::notices::write_notices;
-use brl_answers::{Answer, RunFault, Status, left_out_of};
-use brl_clashes::{Extent as Shown, Outcome, list_sections, outcome_of, sections_text};
-use brl_lines::{Line, Loaded, Source, load};
+use brl_accepted::Baseline;
+use brl_answers::{Answer, Files, RunFault, Status, left_out_of};
+use brl_clashes::{
+    Extent, Outcome, Section, list_sections, outcome_of, sections_text, without_accepted,
+};
+use brl_cli::PairFiles;
+use brl_lines::{Line, Loaded, load};
 use brl_progress::Progress;
 use brl_rules::Table;
 use brl_table::table_of_loaded;
@@ -19,113 +27,168 @@ use brl_without::{LeftOut, Scope, check_defined};
 use std::alloc::{AllocError, Global};
 use std::io::Write;
 
-/// What a list of clashes is asked for: how many states, pairs and pairs of rules a section may find,
-/// and how many clashes of it are shown, where 0 means all.
+/// What a list of clashes is asked for: how many states, pairs and pairs of rules a section may find, how
+/// many clashes of it are shown, where 0 means all, and the files of pairs of rules.
 #[derive(Clone, Copy)]
-struct Extent {
+struct Wanted<'a> {
     limit: u32,
     first: u32,
+    pairs: PairFiles<'a>,
 }
 
 /// Lists the pairs of rules of the table whose file is at a path at which clashing texts diverge,
-/// without the characters that the option leaves out. What it spells is read first. Standard error is
-/// told how far the work is.
-pub fn list_clashes_by_words<S: Source, E: Write + Progress>(
+/// without the characters that the option leaves out. What it spells is read first. The pairs that the
+/// file at `pairs.accept` names are left out, and those that are left go to the file at `pairs.write`,
+/// unless there may be others. Standard error is told how far the work is.
+pub fn list_clashes_by_words<F: Files, E: Write + Progress>(
     alloc: Global,
-    source: &mut S,
+    files: &mut F,
     path: &str,
     limit: u32,
     first: u32,
     option: Option<&str>,
+    pairs: PairFiles<'_>,
     err: &mut E,
 ) -> Result<Answer, RunFault>
     ensures diagnoses { ByLeftOut (option_copied option.entry)
-        (λ left_out. DiagnosesByFile left_out (S.gives source.old) path.now limit first) result }
-    ensures count { CountsFailure (S.faults source.old) (S.faults source.new) (load_outcome result) }
-    ensures same { Unchanged (S.gives source.old) (S.gives source.new) }
+        (λ left_out. DiagnosesByFile left_out (F.gives files.old) F.same_file path.now limit first (option_copied pairs.entry.accept) (option_copied pairs.entry.write)) result }
+    ensures count { CountsFailure (F.faults files.old) (F.faults files.new) (load_outcome result) }
+    ensures same { Unchanged (F.gives files.old) (F.gives files.new) }
 {
     let left_out = left_out_of(alloc, option)?;
-    list_clashes_by_file(alloc, source, path, Extent { limit, first }, &left_out, err)
+    let wanted = Wanted {
+        limit,
+        first,
+        pairs,
+    };
+    list_clashes_by_file(alloc, files, path, wanted, &left_out, err)
 }
 
-/// Lists them without the characters that are left out. Before the work standard error gets the table's
-/// notices. `NotDefined` where the table doesn't define a character that is left out.
-fn list_clashes_by_file<S: Source, E: Write + Progress>(
+/// Lists them without the characters that are left out. `PairsWouldOverwrite` where the file that gets
+/// pairs is one of the table's, or that of the accepted pairs.
+fn list_clashes_by_file<F: Files, E: Write + Progress>(
     alloc: Global,
-    source: &mut S,
+    files: &mut F,
     path: &str,
-    extent: Extent,
+    wanted: Wanted<'_>,
     left_out: &LeftOut,
     err: &mut E,
 ) -> Result<Answer, RunFault>
-    ensures diagnoses { DiagnosesByFile left_out.now (S.gives source.old) path.now extent.limit extent.first result }
-    ensures count { CountsFailure (S.faults source.old) (S.faults source.new) (load_outcome result) }
-    ensures same { Unchanged (S.gives source.old) (S.gives source.new) }
+    ensures diagnoses { DiagnosesByFile left_out.now (F.gives files.old) F.same_file path.now wanted.entry.limit wanted.entry.first
+        (option_copied wanted.entry.pairs.accept) (option_copied wanted.entry.pairs.write) result }
+    ensures count { CountsFailure (F.faults files.old) (F.faults files.new) (load_outcome result) }
+    ensures same { Unchanged (F.gives files.old) (F.gives files.new) }
 {
-    let loaded = load(alloc, source, path)?;
+    let loaded = load(alloc, files, path)?;
+    refuse_file_that_is_read(alloc, files, &loaded, wanted.pairs)?;
     let table = table_of_loaded(alloc, &loaded)?;
-    let answer = clashes_of_loaded(alloc, &table, &loaded, extent, left_out, err);
+    let answer = clashes_of_loaded(alloc, files, &table, &loaded, wanted, left_out, err);
     drop(table);
     answer
 }
 
 /// Lists the clashes of a table of loaded files.
-fn clashes_of_loaded<E: Write + Progress>(
+fn clashes_of_loaded<F: Files, E: Write + Progress>(
     alloc: Global,
+    files: &mut F,
     table: &Table,
     loaded: &Loaded,
-    extent: Extent,
+    wanted: Wanted<'_>,
     left_out: &LeftOut,
     err: &mut E,
 ) -> Result<Answer, RunFault>
-    ensures diagnosis { IfOk result (IsDiagnosis left_out.now table.now loaded.now.lines extent.limit extent.first) }
-    ensures fault { IfErr result (IsUndefinedFault table.now left_out.now) }
+    ensures diagnoses { Diagnoses left_out.now (F.gives files.old) table.now loaded.now.lines wanted.entry.limit wanted.entry.first
+        (option_copied wanted.entry.pairs.accept) (option_copied wanted.entry.pairs.write) result }
+    ensures count { CountsFailure (F.faults files.old) (F.faults files.new) (load_outcome result) }
+    ensures same { Unchanged (F.gives files.old) (F.gives files.new) }
 {
     let lines = loaded.lines(alloc)?;
-    list_clashes(alloc, table, lines.as_slice(), extent, left_out, err)
+    list_clashes(alloc, files, table, lines.as_slice(), wanted, left_out, err)
 }
 
-/// Lists the clashes of a table of these lines, once it defines what is left out.
-fn list_clashes<E: Write + Progress>(
+/// Lists the clashes of a table of these lines, once it defines what is left out. The file of accepted
+/// pairs is read before the work. `NotDefined` where the table doesn't define a character that is left
+/// out.
+fn list_clashes<F: Files, E: Write + Progress>(
     alloc: Global,
+    files: &mut F,
     table: &Table,
     lines: &[Line<'_>],
-    extent: Extent,
+    wanted: Wanted<'_>,
     left_out: &LeftOut,
     err: &mut E,
 ) -> Result<Answer, RunFault>
-    ensures diagnosis { IfOk result (IsDiagnosis left_out.now table.now (map line_view lines.now) extent.limit extent.first) }
-    ensures fault { IfErr result (IsUndefinedFault table.now left_out.now) }
+    ensures diagnoses { Diagnoses left_out.now (F.gives files.old) table.now (map line_view lines.now) wanted.entry.limit wanted.entry.first
+        (option_copied wanted.entry.pairs.accept) (option_copied wanted.entry.pairs.write) result }
+    ensures count { CountsFailure (F.faults files.old) (F.faults files.new) (load_outcome result) }
+    ensures same { Unchanged (F.gives files.old) (F.gives files.new) }
 {
     check_defined(alloc, table, left_out)?;
-    Ok(diagnosis(alloc, table, lines, extent, left_out, err)?)
+    let Some(path) = wanted.pairs.accept else {
+        return diagnosis(alloc, table, lines, wanted, left_out, None, err);
+    };
+    let text = text_at(alloc, files, path)?;
+    let baseline = Baseline {
+        path,
+        text: text.as_str(),
+    };
+    diagnosis(alloc, table, lines, wanted, left_out, Some(baseline), err)
 }
 
-/// Writes a table's notices, and lists its clashes.
+/// Writes a table's notices, and lists its clashes beside the pairs that a file accepts.
 fn diagnosis<E: Write + Progress>(
     alloc: Global,
     table: &Table,
     lines: &[Line<'_>],
-    extent: Extent,
+    wanted: Wanted<'_>,
     left_out: &LeftOut,
+    baseline: Option<Baseline<'_>>,
     err: &mut E,
-) -> Result<Answer, AllocError>
-    ensures { IfOk result (IsDiagnosis left_out.now table.now (map line_view lines.now) extent.limit extent.first) }
+) -> Result<Answer, RunFault>
+    ensures diagnosis { IfOk result (IsDiagnosis left_out.now table.now (map line_view lines.now) wanted.entry.limit wanted.entry.first
+        (option_map (λ file. file.text.now) baseline.entry) (option_copied wanted.entry.pairs.write)) }
+    ensures fault { IfErr result (IsFaultOfLine (λ fault. (sections : List SectionValue) × AreSections table.now left_out.now wanted.entry.limit sections
+        × IsBadLineOf table.now (map line_view lines.now) sections baseline.entry fault)) }
 {
     write_notices(alloc, table, err)?;
     let scope = Scope {
         left_out,
         progress: err,
     };
-    let sections = list_sections(alloc, table, u64::from(extent.limit), scope)?;
-    let status = status_of(outcome_of(sections.as_slice()));
-    let shown = Shown {
+    let sections = list_sections(alloc, table, u64::from(wanted.limit), scope)?;
+    answer_beside(alloc, table, lines, wanted, left_out, baseline, sections)
+}
+
+/// The answer with the sections of a table, beside the pairs that a file accepts.
+fn answer_beside(
+    alloc: Global,
+    table: &Table,
+    lines: &[Line<'_>],
+    wanted: Wanted<'_>,
+    left_out: &LeftOut,
+    baseline: Option<Baseline<'_>>,
+    sections: Vec<Section>,
+) -> Result<Answer, RunFault>
+    requires { AreSections table.now left_out.now wanted.limit sections.items }
+    ensures diagnosis { IfOk result (IsDiagnosis left_out.now table.now (map line_view lines.now) wanted.entry.limit wanted.entry.first
+        (option_map (λ file. file.text.now) baseline.entry) (option_copied wanted.entry.pairs.write)) }
+    ensures fault { IfErr result (IsFaultOfLine (IsBadLineOf table.now (map line_view lines.now) sections.items baseline.entry)) }
+{
+    let accepted = accepted_pairs(alloc, table, lines, sections.as_slice(), baseline)?;
+    let left = without_accepted(alloc, accepted.as_slice(), sections)?;
+    let status = status_of(outcome_of(left.as_slice()));
+    let files = file_of_pairs(alloc, table, lines, left.as_slice(), wanted.pairs.write)?;
+    let shown = Extent {
         left_out,
-        first: extent.first as usize,
-        accepted: None,
+        first: wanted.first as usize,
+        accepted: baseline.is_some().then_some(accepted.len()),
     };
-    let text = sections_text(alloc, table, lines, shown, sections)?;
-    Ok(Answer::new(status, text))
+    let text = sections_text(alloc, table, lines, shown, left)?;
+    Ok(Answer {
+        text,
+        status,
+        files,
+    })
 }
 
 /// The status of what a list comes to.

@@ -3,21 +3,25 @@
 //! `program` has what each command's words lead to. `translate`, `clash`, `trace`, `rules`, `survey` and
 //! `cut` do the work of these commands by the files of a table, `search`, `clashes`, `unused` and `check` that of theirs, and
 //! `explain` has what a fault means, and
-//! `notices` writes the notices of a table that is searched. What all but `translate` give is an answer
+//! `notices` writes the notices of a table that is searched. `baselines` has the files of pairs of rules
+//! that `clashes` reads and writes. What all but `translate` give is an answer
 //! (brl_answers).
 //!
 //! Room 5, the program (docs/dev/ARCHITECTURE.md). The definitions begin in `specs/Running.antt`.
 #![tactic(auto)]
 
+mod baselines;
 mod check;
 mod clash;
 mod clashes;
 mod cut;
 mod explain;
+mod file_text;
 mod laws;
 mod notices;
 mod program;
 mod rules;
+mod same_file;
 mod search;
 mod shown;
 mod survey;

@@ -2,7 +2,7 @@
 ghost use Rattle.std.specs.Prelude.{◌≡◌};
 ghost use Rattle.brl_lines.specs.Answer.{MayAnswerSame, Unchanged};
 ghost use Rattle.brl_answers.specs.Delivery.{world};
-ghost use Rattle.brl_tool.specs.Running.{Answers, Asks, IsHelp, IsStatus, Performs, Replies, ReportsOne, Runs, TranslatesDefined};
+ghost use Rattle.brl_tool.specs.Running.{Answers, Asks, IsHelp, IsStatus, MayGainPairs, Performs, Replies, ReportsOne, Runs, TranslatesDefined};
 
 use crate::check::check_by_words;
 use crate::clash::compare_by_words;
@@ -33,14 +33,15 @@ use std::io::Write;
 /// that can't be loaded, and goes on), or the text of a use fault; what can't be written there is dropped
 /// and changes no status. It is also told how far a search or a check is, and when that has ended, before
 /// its answer is delivered. Faults come in the order of the work: the words, and what they spell, the
-/// certificate's file, the table's files, a file for a new certificate that is one of these, the
-/// table's lines, a character that is left out and isn't defined, the texts, the input, the certificate
-/// or the search, the file that gets a certificate or the files of a table that is cut, the output.
+/// certificate's file, the table's files, a file for a new certificate or for pairs of rules that is one
+/// that is read, the table's lines, a character that is left out and isn't defined, the file of accepted
+/// pairs of rules, the texts, the input, the certificate or the search, a line of accepted pairs, the file
+/// that gets a certificate or pairs of rules or the files of a table that is cut, the output.
 ///
 /// With `--path` the files of tables are looked for in folders, too; `files` stays with these folders.
-/// Files are written only where a search found a certificate, that file and no other, and where a
-/// table is cut, files at whose paths nothing was. A file of the searched table is refused as the
-/// file for the certificate before the search.
+/// Files are written only where a search found a certificate or all pairs of rules were listed that are
+/// to be written, that file and no other, and where a table is cut, files at whose paths nothing was. A
+/// file that was read is refused as the file for the certificate or the pairs before the search.
 pub fn run<F: Files, I: Input, O: Output, E: Write + Progress>(
     alloc: Global,
     words: &[String],
@@ -54,7 +55,7 @@ pub fn run<F: Files, I: Input, O: Output, E: Write + Progress>(
         (world (F.gives files.old) (O.failures out.old) (O.contents out.old)) (world (F.gives files.new) (O.failures out.new) (O.contents out.new)) result }
     ensures clash { result ≡ 1 → ReportsOne (λ folders. world (F.gives (F.looked folders files.old)) (O.failures out.old) (O.contents out.old))
         (world (F.gives files.new) (O.failures out.new) (O.contents out.new)) }
-    ensures same { result ≡ 1 → MayAnswerSame (F.gives files.old) (F.gives files.new) }
+    ensures same { result ≡ 1 → MayGainPairs (F.gives files.old) (F.gives files.new) }
 {
     match work_of(alloc, words) {
         Ok(work) => do_work(alloc, work, files, input, out, err).code(),
@@ -209,8 +210,11 @@ fn answer<F: Files, E: Write + Progress>(
             limit,
             first,
             without,
+            pairs,
         } => {
-            let outcome = list_clashes_by_words(alloc, files, table, limit, first, without, err);
+            let outcome = list_clashes_by_words(
+                alloc, files, table, limit, first, without, pairs, err,
+            );
             err.end();
             outcome
         }

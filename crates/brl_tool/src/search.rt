@@ -9,6 +9,7 @@ ghost use Rattle.brl_search.specs.Found.{IsFoundWithout};
 ghost use Rattle.brl_without.specs.Tables.{AreDefined};
 
 use crate::notices::write_notices;
+use crate::same_file::path_of_file;
 use brl_answers::{
     Answer, Files, NewFile, NewFiles, RunFault, Status, counts_text, left_out_of,
     with_left_out_line,
@@ -82,12 +83,11 @@ fn refuse_file_of_table<F: Files>(
     ensures apart { OnOk result (All (λ one. one ≢ out.now) loaded.now.paths) }
     ensures refused { IfErr result (IsOverwriting F.same_file loaded.now.paths out.now) }
 {
-    for path in loaded.paths(alloc)? {
-        if files.is_same_file(path, out) {
-            return Err(RunFault::WouldOverwrite(String::from_str(alloc, path)?));
-        }
+    let paths = loaded.paths(alloc)?;
+    match path_of_file(files, paths.as_slice(), out) {
+        Some(path) => Err(RunFault::WouldOverwrite(String::from_str(alloc, path)?)),
+        None => Ok(()),
     }
-    Ok(())
 }
 
 /// Searches a table, once it defines what is left out.

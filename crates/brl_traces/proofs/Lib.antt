@@ -1,3 +1,4 @@
 pub mod Together
 pub mod Traces
 pub mod Alike
+pub mod Widening

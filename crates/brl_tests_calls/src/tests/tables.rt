@@ -5,7 +5,8 @@ use brl_failure::Failure;
 use brl_forward::{Clash, ConfirmFault, ForwardFault, Traced, confirm, trace, translate};
 use brl_lines::{
     CharsFault, FileSource, GatherFault, Gathered, GatheredFile, IncludeReason, LeftInclude, Line,
-    LoadFault, Loaded, MapSource, Source, SourceFault, Token, chars_of, folder, gather, load,
+    LoadFault, Loaded, MapSource, Source, SourceFault, Token, chars_of, folder, gather, last_part,
+    load,
 };
 use brl_report::skipped_report;
 use brl_table::{
@@ -222,12 +223,16 @@ fn is_left_out(left: &LeftInclude) -> bool {
 
 fn is_gathered(gathered: &Gathered) -> bool {
     let files: &[GatheredFile] = gathered.files.as_slice();
-    files.len() == 1 && gathered.left_out.iter().all(|left| is_left_out(left))
+    let names: &[String] = gathered.names.as_slice();
+    files.len() == 1 && names.len() == 1 && gathered.left_out.iter().all(|left| is_left_out(left))
 }
 
-/// Whether a cut keeps one line of three, and folders are names up to a slash.
+/// Whether a cut keeps one line of three, and a slash parts folders and the last parts of paths.
 fn is_cut(cut: &Cut) -> bool {
-    cut.line_files.len() == 1 && cut.left_out.len() == 2 && folder("o/t.ctb") == "o/"
+    cut.line_files.len() == 1
+        && cut.left_out.len() == 2
+        && folder("o/t.ctb") == "o/"
+        && last_part("o/t.ctb") == "t.ctb"
 }
 
 fn has_a_cut(alloc: Global) -> Result<bool, Fail> {

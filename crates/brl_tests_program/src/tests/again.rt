@@ -26,6 +26,9 @@ t.ctb: letter a 1; letter b 12; always ab 14|brl,rules,t.ctb||0  always  ab  14 
 t.ctb: uplow Aa 1; capsletter 6|brl,trace,t.ctb,Aa||text: Aa; cells: 6-1-1;   A  6  1  t.ctb:1;   a  -  1  t.ctb:1||0
 t.ctb: #|brl,search,t.ctb,o||certified: 1 states, 0 pairs||0
 t.ctb: letter a 1; letter b 12|brl,search,t.ctb,o||certified: 2 states, 0 pairs||0
+t.ctb: letter a 1; letter b 12; letter x 1-12 & p: letter a 1 / letter x 1-12|brl,clashes,t.ctb,--accept,p,--write,o||small letters: 0 pairs of rules diverge, and no others; 0 pairs of rules diverge, and no others; accepted: 1 pair of rules||0
+t.ctb: letter a 1; letter b 12; letter x 1-12 & p: letter x 1-12 / letter b 12|brl,clashes,t.ctb,--accept,p|||P2 NotListed letter x 1-12 / letter b 12 at p:1|2
+t.ctb: letter a 1; letter b 12; letter x 1-12|brl,clashes,t.ctb,--write,o||small letters: 1 pair of rules diverges, and no others;   x / ab  1-12  t.ctb:3 letter x  t.ctb:1 letter a; 1 pair of rules diverges, and no others||1
 t.ctb: letter a 1; letter b 12|brl,search,t.ctb,o,--without,b||certified: 2 states, 0 pairs; without: b||0
 t.ctb: letter a 1|brl,search,t.ctb,o,--without,b|||U8 UndefinedLeftOut b|2
 t.ctb: letter a 1 & c: BRLCERT 3; state 1 0 0; end 1 0|brl,check,t.ctb,c,--without,a||accepted: 1 states, 0 pairs; without: a||0

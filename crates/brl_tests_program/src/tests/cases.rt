@@ -204,6 +204,9 @@ t.ctb: letter a 1; pass2 @1 2; include u; include u; include v; include w.dic; a
 t.ctb: include ../u|brl,cut,t.ctb,o|||error: include ../u at t.ctb:1 leads out of the table's folder|2
 t.ctb: letter a 1 & o/t.ctb: #|brl,cut,t.ctb,o|||error: o/t.ctb is there already|2
 t.ctb: letter a 1|brl,cut,u.ctb,o|||L1 NotFound u.ctb|2
+t.ctb: include u; letter b 1 & one/u: letter a 1; pass2 x & two/u: letter a 2|brl,cut,--path,one,--path,two,t.ctb,o||2 of 3 lines are kept; opcode pass2: 1 (not in the profile); file one/u: 1 of 2 lines are read; no verdict: a cut doesn't decide whether two texts have the same cells||0
+t.ctb: include u & one/u: letter a 1 & o/u: #|brl,cut,--path,one,t.ctb,o|||error: o/u is there already|2
+one/t.ctb: include ../u & one/u: letter a 1|brl,cut,--path,one,t.ctb,o|||error: include ../u at one/t.ctb:1 leads out of the table's folder|2
 ";
 
 /// Surveys, in the same form.
@@ -225,6 +228,13 @@ t.ctb: letter a 1; include u; include u & u: letter b 2|brl,survey,t.ctb||3 of 3
 t.ctb: letter a 1; include h.dic; include u|brl,survey,t.ctb||no verdict: a survey doesn't decide whether two texts have the same cells|L1 NotFound u at t.ctb:3|2
 t.ctb: letter a 9; include t.ctb|brl,survey,t.ctb||no verdict: a survey doesn't decide whether two texts have the same cells|L4 Cycle t.ctb at t.ctb:2|2
 |brl,survey,t.ctb||no verdict: a survey doesn't decide whether two texts have the same cells|L1 NotFound t.ctb|2
+t.ctb: include u; letter a 1 & one/u: letter b 9 & two/u: letter c 14|brl,survey,--path,one,--path,two,t.ctb||B4 BadDots 9 at one/u:1; opcode letter: 1; file one/u: 0 of 1 lines are read; undefined characters (B5 to B7) are looked for once no line has another fault; 1 of 2 lines are read; no verdict: a survey doesn't decide whether two texts have the same cells||0
+t.ctb: include u; include h.dic & two/u: letter c 14|brl,survey,--path,one,--path,two,t.ctb||skipped: h.dic at t.ctb:2; 1 of 1 lines are read; no verdict: a survey doesn't decide whether two texts have the same cells||0
+one/t.ctb: include u; include v & one/u: letter a 1 & v: letter b 1 & one/v: letter b 12|brl,survey,--path=one,t.ctb||2 of 2 lines are read; no verdict: a survey doesn't decide whether two texts have the same cells||0
+t.ctb: include u|brl,survey,--path,one,t.ctb||no verdict: a survey doesn't decide whether two texts have the same cells|L1 NotFound u at t.ctb:1|2
+t.ctb: include u & one/u: include u|brl,survey,--path,one,t.ctb||no verdict: a survey doesn't decide whether two texts have the same cells|L4 Cycle one/u at one/u:1|2
+|brl,survey,--path,one,--path,two,t.ctb||no verdict: a survey doesn't decide whether two texts have the same cells|L1 NotFound t.ctb|2
+d/t.ctb: include ../u; include v; include h.dic & one/../u: letter a 1 & one/v: letter b 9 & h.dic: x & one/h.dic: y|brl,survey,--brief,--path,one,d/t.ctb||opcode letter: 1; opcode y: 1 (not in liblouis); file one/v: 0 of 1 lines are read; file one/h.dic: 0 of 1 lines are read; undefined characters (B5 to B7) are looked for once no line has another fault; 1 of 3 lines are read; no verdict: a survey doesn't decide whether two texts have the same cells||0
 ";
 
 /// Traces, in the same form.
@@ -260,6 +270,7 @@ pub const EXPLANATIONS: &str = "\
 |brl,explain,B2 MissingOperand letter at t.ctb:1||B2 MissingOperand; When: the opcode needs another operand; Named: the opcode, or a prefix that ends its line; What to do: Add it.||0
 |brl,explain,refused: K1 Version line 1||K1 Version; When: the header names no version from 1 to 3; What to do: Search again.||0
 t.ctb: letter a 1; noback sign x 1|brl,explain,B1 OutsideProfile sign at t.ctb:2||B1 OutsideProfile; When: the opcode isn't read, or isn't a rule's after `noback` or `nofor`; Named: the opcode, the prefix left out; What to do: TUTORIAL.md, \"A table of liblouis\".; Opcode: sign is read, but not after noback or nofor; Line:;     t.ctb:2: noback sign x 1; Prefix: noback||0
+|brl,explain,P1 NoSuchRules letter a 1 / letter b 1 at p:2||P1 NoSuchRules; When: the line isn't what two rules of the table say, with ` / ` between them; Named: the line; What to do: Write the pairs anew by `brl clashes --write`: a rule may have changed, or the line by hand.||0
 |brl,explain,U10|||error: no fault is written as U10|2
 |brl,explain,|||error: no fault is written as |2
 |brl,explain,refused:|||error: no fault is written as refused:|2
@@ -297,6 +308,24 @@ t.ctb: letter a 19|brl,clashes,t.ctb|||B4 BadDots 19 at t.ctb:1|2
 t.ctb: letter a 1|brl,clashes,t.ctb,--without,b|||U8 UndefinedLeftOut b|2
 |brl,clashes,t.ctb,--without,a\\q|||U9 BadLeftOut a\\q|2
 |brl,clashes,t.ctb|||L1 NotFound t.ctb|2
+t.ctb: letter a 1; letter b 12; letter x 1-12 & p: letter a 1 / letter x 1-12|brl,clashes,t.ctb,--accept,p||small letters: 0 pairs of rules diverge, and no others; 0 pairs of rules diverge, and no others; accepted: 1 pair of rules||0
+t.ctb: letter a 1; letter b 12; letter x 1-12 & p: # meant; ; letter x 1-12 / letter a 1; letter a 1 / letter x 1-12|brl,clashes,t.ctb,--accept,p||small letters: 0 pairs of rules diverge, and no others; 0 pairs of rules diverge, and no others; accepted: 1 pair of rules||0
+t.ctb: letter a 1; letter b 12; letter x 1-12 & p: #|brl,clashes,t.ctb,--accept,p||small letters: 1 pair of rules diverges, and no others;   x / ab  1-12  t.ctb:3 letter x  t.ctb:1 letter a; 1 pair of rules diverges, and no others; accepted: 0 pairs of rules||1
+t.ctb: letter a 1; letter b 12; letter x 1-12; always aa 14; letter c 14 & p: letter x 1-12 / letter a 1|brl,clashes,t.ctb,--accept,p||small letters: 1 pair of rules diverges, and no others;   aa / c  14  t.ctb:4 always aa  t.ctb:5 letter c; 1 pair of rules diverges, and no others; accepted: 1 pair of rules||1
+t.ctb: letter a 1; letter b 12; letter x 1-12 & p: letter a 1 / letter x 1-12; letter a 1 / letter b 12|brl,clashes,t.ctb,--accept,p|||P2 NotListed letter a 1 / letter b 12 at p:2|2
+t.ctb: letter a 1; letter b 12; letter x 1-12 & p: letter a 1 / letter x 12; letter a 1 / letter b 12|brl,clashes,t.ctb,--accept,p|||P1 NoSuchRules letter a 1 / letter x 12 at p:1|2
+t.ctb: letter a 1; letter b 12; letter x 1-12 & p: letter a 1 / letter x 1-12|brl,clashes,t.ctb,--without,x,--accept,p|||P2 NotListed letter a 1 / letter x 1-12 at p:1|2
+t.ctb: letter a 1; letter b 12; letter x 1-12 & p: letter a 1 / letter b 12|brl,clashes,t.ctb,--limit,0,--accept,p||small letters: 0 pairs of rules diverge, and maybe others; limit: 1 states, 0 pairs; 0 pairs of rules diverge, and maybe others; accepted: 0 pairs of rules||3
+t.ctb: letter a 1; letter b 12; letter x 1-12 & p: letter a 1|brl,clashes,t.ctb,--limit,0,--accept,p|||P1 NoSuchRules letter a 1 at p:1|2
+t.ctb: letter a 1; letter b 12; letter x 1-12|brl,clashes,t.ctb,--accept,p|||L1 NotFound p|2
+t.ctb: letter a 19|brl,clashes,t.ctb,--accept,p|||B4 BadDots 19 at t.ctb:1|2
+t.ctb: letter a 1; letter b 12; letter x 1-12|brl,clashes,t.ctb,--accept,p,--without,z|||U8 UndefinedLeftOut z|2
+t.ctb: letter a 1; letter b 12; letter x 1-12 & p: letter a 1 / letter x 1-12|brl,clashes,t.ctb,--accept,p,--write,o||small letters: 0 pairs of rules diverge, and no others; 0 pairs of rules diverge, and no others; accepted: 1 pair of rules||0
+t.ctb: letter a 1; letter b 12; letter x 1-12|brl,clashes,t.ctb,--write,o||small letters: 1 pair of rules diverges, and no others;   x / ab  1-12  t.ctb:3 letter x  t.ctb:1 letter a; 1 pair of rules diverges, and no others||1
+t.ctb: letter a 1; letter b 12; letter x 1-12|brl,clashes,t.ctb,--write,t.ctb|||error: the pairs of rules would overwrite t.ctb, a file that is read|2
+t.ctb: include u; letter a 19 & u: #|brl,clashes,t.ctb,--write,u|||error: the pairs of rules would overwrite u, a file that is read|2
+t.ctb: letter a 1; letter b 12; letter x 1-12|brl,clashes,t.ctb,--accept,p,--write,p|||error: the pairs of rules would overwrite p, a file that is read|2
+|brl,clashes,t.ctb,--write,t.ctb|||L1 NotFound t.ctb|2
 ";
 
 /// Searches and checks without some characters, in the same form.
@@ -390,6 +419,8 @@ brl,search,t.ctb,o,--limit,-1||'-1'|2
 brl,search,t.ctb,o,--limit,ten||invalid value 'ten' for '--limit <N>'|2
 brl,clashes,--help|brl clashes three.ctb||0
 brl,clashes,--help|--first <N>||0
+brl,clashes,--help|--accept <FILE>||0
+brl,clashes,--help|--write <FILE>||0
 brl,clashes||<TABLE>|2
 brl,clashes,t.ctb,o||unexpected argument 'o'|2
 brl,clashes,t.ctb,--first,ten||invalid value 'ten' for '--first <N>'|2

@@ -1,7 +1,7 @@
 //! Cuts of tables in memory, file by file.
 use brl_cut::{Cut, CutFault, cut_table};
 use brl_failure::Failure;
-use brl_testing::{field_of, files_of, for_rows_of_3};
+use brl_testing::{field_of, files_of, for_rows_of_3, for_rows_of_4, words_of};
 use std::alloc::Global;
 use std::test::Fail;
 
@@ -16,6 +16,21 @@ t.ctb: include u; include v & u: include v; letter a 1 & v: numsign 3456|t.ctb|o
 t.ctb: include ../u|t.ctb|include ../u at t.ctb:1 leads out of the table's folder
 t.ctb: include /u|t.ctb|include /u at t.ctb:1 leads out of the table's folder
 t.ctb: letter a 1|u.ctb|L1 NotFound u.ctb";
+
+/// Files, the folders in which they are looked for, the path of a table, and its cut.
+const FOUND: &str = "\
+t.ctb: include u & one/u: letter a 1 & two/u: letter a 2|one,two|t.ctb|o/t.ctb: include u & o/u: letter a 1
+t.ctb: include u & one/u: letter a 1 & two/u: letter a 2|two,one|t.ctb|o/t.ctb: include u & o/u: letter a 2
+t.ctb: include u & u: letter a 12 & one/u: letter a 1|one|t.ctb|o/t.ctb: include u & o/u: letter a 12
+t.ctb: include u & one/u: letter a 1; letter b 9|one/|t.ctb|o/t.ctb: include u & o/u: letter a 1; # B4 BadDots 9: letter b 9
+d/t.ctb: include p/u & one/p/u: include v & d/v: letter a 1 & one/v: letter a 2|one|d/t.ctb|o/t.ctb: include p/u & o/p/u: include v & o/v: letter a 1
+one/d/t.ctb: include u; include v & one/d/u: letter a 1 & d/u: letter a 2 & one/v: letter b 1|one|d/t.ctb|o/t.ctb: include u; include v & o/u: letter a 1 & o/v: letter b 1
+t.ctb: include p/u; include u & one/p/u: include u; letter a 1|one,one/p|t.ctb|o/t.ctb: include p/u; # repeated u: include u & o/p/u: # repeated u: include u; letter a 1
+one/t.ctb: include one/t.ctb; include u & u: letter a 1|one,|t.ctb|o/t.ctb: # repeated one/t.ctb: include one/t.ctb; include u & o/u: letter a 1
+t.ctb: include u; include w.dic & two/v: letter a 1 & one/w.dic: x|one,two|t.ctb|o/t.ctb: # L1 NotFound u: include u; # dictionary w.dic: include w.dic
+t.ctb: include u & one/u: letter a 1||t.ctb|o/t.ctb: # L1 NotFound u: include u
+t.ctb: include u|one,two|v.ctb|L1 NotFound v.ctb
+one/t.ctb: include ../u & u: letter a 1|one|t.ctb|include ../u at one/t.ctb:1 leads out of the table's folder";
 
 /// The same of cuts whose lines may be rewritten.
 const REWRITTEN: &str = "\
@@ -53,6 +68,18 @@ fn are_cut(alloc: Global, rows: &str, rewrite: bool) -> Result<(), Fail> {
         let mut source = files_of(alloc, files)?;
         given(alloc, cut_table(alloc, &mut source, path, "o", rewrite))
     })
+}
+
+/// The cut of a table whose files are looked for in these folders too.
+fn cut_in_folders(alloc: Global, files: &str, folders: &str, path: &str) -> Result<String, Fail> {
+    let mut source = files_of(alloc, files)?;
+    source.folders = Some(words_of(alloc, folders)?);
+    given(alloc, cut_table(alloc, &mut source, path, "o", false))
+}
+
+#[test]
+fn are_written_where_names_say(rt: HostRuntime) -> Result<(), Fail> {
+    for_rows_of_4(rt.alloc(), FOUND, cut_in_folders)
 }
 
 #[test]

@@ -34,7 +34,7 @@ module _ (left_out : List ℕ) (excused : Excused) (t : TableView) (bytes : List
 
 pub returns : goal.returns
 returns g c =
-    let left_out = c.args.left_out.now in
+    let left_out = c.args.scope.left_out.now in
     let excused = c.args.excused.now in
     let bytes = c.args.cert.now in
     let cert = c.in_ok-cert.cert in

@@ -1,4 +1,4 @@
-use Rattle.std.proofs.Common.{◌∙◌, ◌++◌, List, ap, filter, length, map, subst, sym}
+use Rattle.std.proofs.Common.{◌∙◌, ◌++◌, ℕ, List, ap, filter, length, map, string_bytes, subst, sym}
 use Rattle.std.proofs.lemmas.List.{map-append}
 use Rattle.std.proofs.lemmas.Simd.{map-map}
 use Rattle.std.proofs.lemmas.Result.{err_from_is_err_and}
@@ -19,14 +19,15 @@ use Rattle.brl_cut.proofs.cutting.cut_gathered.Goals as goal
 pub returns-in_err-raise-clause-fault : goal.returns-in_err-raise-clause-fault
 returns-in_err-raise-clause-fault c =
     let root = c.args.root.now in
+    let folders = map string_bytes c.args.folders.now in
     let dir = c.args.dir.now in
     let gathered = gathered_view c.args.gathered.now in
     let settled = c.in_ok-settled.settled in
-    let settles = settled-as root _ _ c.settle.result settled (raised_is _ c.settle.result c.raise.result settled c.raise.ensures c.in_ok-settled.was) c.settle.ensures.settled c.in_ok-new.ensures.files in
-    let placed = ap (map file_view) c.as_slice-2.ensures.value ∙ c.in_ok-files.ensures ∙ ap (written_files dir root) (ap (map file_view) c.as_slice.ensures.value) in
+    let settles = settled-as folders root _ _ c.settle.result settled (raised_is _ c.settle.result c.raise.result settled c.raise.ensures c.in_ok-settled.was) c.settle.ensures.settled c.in_ok-new.ensures.files in
+    let placed = ap (map file_view) c.as_slice-2.ensures.value ∙ c.in_ok-files.ensures ∙ ap (λ (ns : List (List ℕ)). written_files dir ns (map file_view c.as_slice.result.now)) (ap (map string_bytes) c.as_slice-names.ensures.value) ∙ ap (written_files dir gathered.names) (ap (map file_view) c.as_slice.ensures.value) in
     let named = c.as_str.ensures.value ∙ c.in_ok-new_root.ensures in
-    let told = if_err-raised _ (IsUnreadAs (map file_view c.as_slice-2.result.now) c.as_str.result.now) (IsUncut c.args.rewrite root dir gathered) c.check_read.result c.raise-2.result c.raise-2.ensures c.check_read.ensures.fault
-    (λ one other same h. subst (IsUncut c.args.rewrite root dir gathered) (sym same)
+    let told = if_err-raised _ (IsUnreadAs (map file_view c.as_slice-2.result.now) c.as_str.result.now) (IsUncut c.args.rewrite folders root dir gathered) c.check_read.result c.raise-2.result c.raise-2.ensures c.check_read.ensures.fault
+    (λ one other same h. subst (IsUncut c.args.rewrite folders root dir gathered) (sym same)
     (map file_view settled.files.items, map faulty_line_view settled.found.items, settles.0, settles.1, unread-as _ _ _ _ one placed named h)) in
     let p = err_from_is_err_and c.from_residual-in_err-raise.result c.from_residual-in_err-raise.ensures.1 in
     rw (p.1, p.2) (rw c.in_err-raise.was at told)
@@ -34,10 +35,12 @@ returns-in_err-raise-clause-fault c =
 pub returns-clause-cut : goal.returns-clause-cut
 returns-clause-cut c =
     let root = c.args.root.now in
+    let folders = map string_bytes c.args.folders.now in
     let dir = c.args.dir.now in
     let settled = c.in_ok-settled.settled in
-    let settles = settled-as root _ _ c.settle.result settled (raised_is _ c.settle.result c.raise.result settled c.raise.ensures c.in_ok-settled.was) c.settle.ensures.settled c.in_ok-new.ensures.files in
-    let written = c.in_ok-files.ensures ∙ ap (written_files dir root) (ap (map file_view) c.as_slice.ensures.value) in
+    let settles = settled-as folders root _ _ c.settle.result settled (raised_is _ c.settle.result c.raise.result settled c.raise.ensures c.in_ok-settled.was) c.settle.ensures.settled c.in_ok-new.ensures.files in
+    let names = (gathered_view c.args.gathered.now).names in
+    let written = c.in_ok-files.ensures ∙ ap (λ (ns : List (List ℕ)). written_files dir ns (map file_view c.as_slice.result.now)) (ap (map string_bytes) c.as_slice-names.ensures.value) ∙ ap (written_files dir names) (ap (map file_view) c.as_slice.ensures.value) in
     let read = rw (raised_is _ c.check_read.result c.raise-2.result _ c.raise-2.ensures c.in_ok-raise.was) at c.check_read.ensures.read in
     let places = ap (map location_view) c.as_slice-4.ensures.value ∙ settles.2 in
     record {
@@ -51,15 +54,16 @@ returns-clause-cut c =
           ∙ ap (λ (xs : List FaultyLineView). xs ++ map faulty_line_view settled.found.items) (c.in_ok-left_out.ensures ∙ ap (map include_fault) (ap (map left_view) c.as_slice-3.ensures.value));
       kept_are = c.in_ok-line_files.ensures ∙ ap (map (λ (place : LocationView). place.file)) places ∙ map-map (λ (place : LocationView). place.file) location_of settles.0;
       rewritten_is = c.count_rewritten-rewritten.ensures ∙ ap (λ (edits : List EditView). length (filter (is_rewritten edits) (map location_view c.as_slice-6.result.now))) (ap (map edit_view) c.as_slice-5.ensures.value ∙ c.in_ok-new.ensures.edits)
-          ∙ ap (λ (places : List LocationView). length (filter (is_rewritten (start_edits c.args.rewrite root (gathered_view c.args.gathered.now))) places)) (ap (map location_view) c.as_slice-6.ensures.value ∙ settles.2);
+          ∙ ap (λ (places : List LocationView). length (filter (is_rewritten (start_edits c.args.rewrite folders root (gathered_view c.args.gathered.now))) places)) (ap (map location_view) c.as_slice-6.ensures.value ∙ settles.2);
       read = read-as _ _ _ _ (ap (map file_view) c.as_slice-2.ensures.value ∙ written) (c.as_str.ensures.value ∙ c.in_ok-new_root.ensures) read;
     }
 
 pub returns-in_err-settled-clause-fault : goal.returns-in_err-settled-clause-fault
 returns-in_err-settled-clause-fault c =
     let root = c.args.root.now in
-    let uncut = IsUncut c.args.rewrite root c.args.dir.now (gathered_view c.args.gathered.now) in
-    let told = if_err-raised _ (IsUnsettled root (map file_view c.in_ok-new.new.files.items)) uncut c.settle.result c.raise.result c.raise.ensures c.settle.ensures.fault
-    (λ one other same h. subst uncut (sym same) (subst (λ (files : Texts). IsUnsettled root files one) c.in_ok-new.ensures.files h)) in
+    let folders = map string_bytes c.args.folders.now in
+    let uncut = IsUncut c.args.rewrite folders root c.args.dir.now (gathered_view c.args.gathered.now) in
+    let told = if_err-raised _ (IsUnsettled folders root (map file_view c.in_ok-new.new.files.items)) uncut c.settle.result c.raise.result c.raise.ensures c.settle.ensures.fault
+    (λ one other same h. subst uncut (sym same) (subst (λ (files : Texts). IsUnsettled folders root files one) c.in_ok-new.ensures.files h)) in
     let p = err_from_is_err_and c.from_residual-in_err-settled.result c.from_residual-in_err-settled.ensures.1 in
     rw (p.1, p.2) (rw c.in_err-settled.was at told)

@@ -1,4 +1,4 @@
-use Rattle.std.proofs.Common.{ℕ, ◌≡◌, map}
+use Rattle.std.proofs.Common.{ℕ, ◌≡◌, map, string_bytes}
 use Rattle.brl_table.specs.Survey.{faulty_line_view}
 use Rattle.brl_cut.specs.Files.{file_view}
 use Rattle.brl_cut.specs.Settling.{after_rounds, found_in_rounds}
@@ -8,4 +8,5 @@ use Rattle.brl_cut.proofs.rounds.settle.Given as goal
 abbrev pub invariant-loop : goal.invariant-loop
 invariant-loop l =
     let start = map file_view l.fn.files.items in
-    (rounds : ℕ) × (map file_view l.files.items ≡ after_rounds rounds l.root start) × (map faulty_line_view l.found.items ≡ found_in_rounds rounds l.root start)
+    let folders = map string_bytes l.folders in
+    (rounds : ℕ) × (map file_view l.files.items ≡ after_rounds rounds folders l.root start) × (map faulty_line_view l.found.items ≡ found_in_rounds rounds folders l.root start)

@@ -1,4 +1,4 @@
-use Rattle.std.proofs.Common.{map, sym}
+use Rattle.std.proofs.Common.{◌∙◌, map, string_bytes, sym}
 use Rattle.brl_lines.specs.GatherFaults.{gathered_view}
 use Rattle.brl_cut.specs.Skipping.{HasWayOut}
 use Rattle.brl_cut.proofs.SkipLemmas.{all_fault, all_lines, gathered_fault, gathered_lines}
@@ -6,11 +6,11 @@ use Rattle.brl_cut.proofs.skipping.load_without_dictionaries.Goals as goal
 
 pub returns-in-Ok-clause-lines : goal.returns-in-Ok-clause-lines
 returns-in-Ok-clause-lines g c =
-    gathered_lines (g.S.Source.gives c.args.source.now) c.args.root.now (gathered_view c.in-Ok.gathered) c.in-Ok.ensures.gathered c.load_gathered.result c.load_gathered.ensures.skipped c.load_gathered.ensures.lines
+    gathered_lines (g.S.Source.gives c.args.source.now) c.args.root.now (gathered_view c.in-Ok.gathered) c.in-Ok.ensures.gathered (map string_bytes c.folders.result.now) (c.folders.ensures ∙ c.in-Ok.ensures.same.0) c.load_gathered.result c.load_gathered.ensures.skipped c.load_gathered.ensures.lines
 
 pub returns-in-Ok-clause-fault : goal.returns-in-Ok-clause-fault
 returns-in-Ok-clause-fault g c =
-    gathered_fault (g.S.Source.gives c.args.source.now) c.args.root.now (gathered_view c.in-Ok.gathered) c.in-Ok.ensures.gathered c.load_gathered.result c.load_gathered.ensures.fault
+    gathered_fault (g.S.Source.gives c.args.source.now) c.args.root.now (gathered_view c.in-Ok.gathered) c.in-Ok.ensures.gathered (map string_bytes c.folders.result.now) (c.folders.ensures ∙ c.in-Ok.ensures.same.0) c.load_gathered.result c.load_gathered.ensures.fault
 
 pub returns-in-Err-Fault-LeadsOut-clause-lines : goal.returns-in-Err-Fault-LeadsOut-clause-lines
 returns-in-Err-Fault-LeadsOut-clause-lines g c =

@@ -1,10 +1,14 @@
-use Rattle.std.proofs.Common.{◌≡◌, ◌∙◌, ◌<◌, Bool, List, Some, ap, arith, false, length, refl, slice_get, subst}
+use Rattle.std.proofs.Common.{◌≡◌, ◌<◌, ℕ, List, length, get_or, Some, slice_get, refl, sym, ◌∙◌, ap, subst, arith, rules, ◌++◌, Bool, false}
 use Rattle.std.specs.Prelude.{Contains}
-use Rattle.std.proofs.lemmas.List.Sorted.{IsNonDecreasingBy-short}
-use Rattle.std.proofs.lemmas.Option.{slice_get_read}
+use Rattle.std.specs.List.Sorted.{IsPermutation}
+use Rattle.std.proofs.lemmas.List.Sorted.{IsNonDecreasingBy-from_sort_by_key, IsNonDecreasingBy-short}
+use Rattle.std.proofs.lemmas.Option.{slice_get_read, slice_get_within}
+use Rattle.brl_pairs.specs.Sorted.{cells_of}
+use Rattle.brl_pairs.specs.Splits.{AreEarlier, ArePositions}
 use Rattle.brl_pairs.specs.declared.sorted.SortedEdge.{SortedEdge}
-use Rattle.brl_pairs.proofs.Numbered.{place_of}
-use Rattle.brl_pairs.proofs.SplitsLaws.{unmarked_alone}
+use Rattle.brl_pairs.proofs.Lists.{same_place}
+use Rattle.brl_pairs.proofs.Numbered.{contained, place_of}
+use Rattle.brl_pairs.proofs.SplitsLaws.{earlier_of_both, unmarked_alone}
 use Rattle.brl_pairs.proofs.splits.earlier_splits.Goals as goal
 
 pub index-requires : goal.index-requires
@@ -34,4 +38,50 @@ returns-then-not-index c =
             own.0 y.0 own.1 unmarked at.0 x at.1 m (omega (arith, early, y.2)));
         ascending = IsNonDecreasingBy-short (λ (x : SortedEdge). x.place) _ (let none = ap length c.new.ensures.items in omega (arith, none));
       },
+    )
+
+-- the position that is read is that of an edge with the place
+read_position : (sorted : List SortedEdge) (positions : List ℕ) → ArePositions sorted positions → (place : ℕ) → (x : SortedEdge) × Contains sorted x × (x.place ≡ place) → (r : ℕ) → r ≡ get_or positions place r
+    → (y : SortedEdge) × (slice_get sorted r ≡ Some y) × (y.place ≡ place)
+read_position sorted positions h place x r is =
+    let p = h x.0 x.1 in
+    let within : x.0.place < length positions = slice_get_within positions x.0.place p.0 p.2 in
+    let r_at = slice_get_read positions (length positions) place r refl (omega (arith, within, x.2)) is in
+    let same : p.0 ≡ r = same_place positions place p.0 r (ap (slice_get positions) (sym x.2) ∙ p.2) r_at in
+    (p.1, ap (slice_get sorted) (sym same) ∙ p.3, p.4 ∙ x.2)
+
+pub index-requires-2 : goal.index-requires-2
+index-requires-2 c =
+    let x = c.requires.there in
+    let p = c.requires.splits.positions x.0 x.1 in
+    let within = slice_get_within c.args.splits.now.positions.items x.0.place p.0 p.2 in
+    omega (arith, within, x.2, c.args.splits.now.positions.ok.0)
+
+pub earlier_shorter-requires-clause-within : goal.earlier_shorter-requires-clause-within
+earlier_shorter-requires-clause-within c =
+    let y = read_position c.args.sorted.now c.args.splits.now.positions.items c.requires.splits.positions c.args.place c.requires.there c.index-2.result.now c.index-2.ensures in
+    slice_get_within c.args.sorted.now c.index-2.result.now y.0 y.1
+
+pub earlier_longer-requires-clause-within : goal.earlier_longer-requires-clause-within
+earlier_longer-requires-clause-within c =
+    let y = read_position c.args.sorted.now c.args.splits.now.positions.items c.requires.splits.positions c.args.place c.requires.there c.index-2.result.now c.index-2.ensures in
+    slice_get_within c.args.sorted.now c.index-2.result.now y.0 y.1
+
+pub returns : goal.returns
+returns c =
+    let a = c.args in
+    let sorted = a.sorted.now in
+    let position = c.index-2.result.now in
+    let y = read_position sorted a.splits.now.positions.items c.requires.splits.positions a.place c.requires.there position c.index-2.ensures in
+    let moved = c.sort_unstable_by_key.ensures.permutation in
+    let whole : c.extend_from_slice.new.self.items ≡ c.in_ok-found.found.items ++ c.in_ok-longer.longer.items =
+    c.in_ok-extend_from_slice.ensures.items ∙ ap (λ (l : List SortedEdge). c.in_ok-found.found.items ++ l) c.as_slice-2.ensures.value in (
+      y.0,
+      contained sorted position y.0 y.1,
+      y.2,
+      subst (λ (n : ℕ). AreEarlier a.cells.now sorted (cells_of a.cells.now y.0) n c.sort_unstable_by_key.new.self.items) y.2
+          (earlier_of_both a.cells.now sorted c.requires.ascending position y.0 y.1 c.in_ok-found.found.items c.in_ok-longer.longer.items c.sort_unstable_by_key.new.self.items
+          (c.in_ok-found.ensures y.0 y.1) (c.in_ok-longer.ensures y.0 y.1)
+          (subst (λ (l : List SortedEdge). IsPermutation l c.sort_unstable_by_key.new.self.items) whole moved)
+          (IsNonDecreasingBy-from_sort_by_key (λ (x : SortedEdge). x.place) _ c.sort_unstable_by_key.ensures.sorted (λ b r q k. search rules))),
     )

@@ -1,27 +1,30 @@
-use Rattle.std.proofs.Common.{◌≡◌, ℕ, List, Result, Ok, Err, IfOk, IfErr, subst}
-use Rattle.brl_answers.specs.declared.answer.Answer.{Answer}
-use Rattle.brl_answers.specs.declared.run_fault.RunFault.{RunFault}
-use Rattle.brl_answers.specs.declared.run_fault.RunFault.TheVariants.{NotDefined, Memory}
-use Rattle.brl_lines.specs.Answer.{FileAnswers}
-use Rattle.brl_lines.specs.Outcome.{AreLinesOfFiles}
-use Rattle.brl_lines.specs.Tokens.{LineView}
-use Rattle.brl_rules.specs.TableView.{TableView}
-use Rattle.brl_table.specs.Reading.{PassesAll, table_of}
-use Rattle.brl_tool.specs.Diagnosing.{DiagnosesByFile, IsDiagnosis}
-use Rattle.brl_tool.specs.Verdicts.{IsUndefinedFault}
-use Rattle.brl_without.specs.Tables.{IsUndefined}
+use Rattle.std.proofs.Common.{sym, subst}
+use Rattle.std.specs.Option.{option_copied}
+use Rattle.std.proofs.lemmas.Result.{err_from_is_err_and}
+use Rattle.brl_tool.specs.Baselines.{IsOverwritingRead, read_paths}
+use Rattle.brl_tool.specs.Diagnosing.{DiagnosesByFile}
+use Rattle.brl_tool.proofs.ClashesLemmas.{diagnoses_before, listed, overwriting}
 use Rattle.brl_tool.proofs.clashes.list_clashes_by_file.Goals as goal
 
-module _ (left_out : List ℕ) (gives : FileAnswers) (path : List ℕ) (limit first : ℕ) (paths : List (List ℕ)) (lines : List LineView) (are : AreLinesOfFiles gives path paths lines) (passes : PassesAll lines) (t : TableView) (is : t ≡ table_of lines) where
-  -- the clashes of the table of these lines were listed, or it doesn't define what is left out
-  answered : (result : Result Answer RunFault) → IfOk result (IsDiagnosis left_out t lines limit first) → IfErr result (IsUndefinedFault t left_out) → DiagnosesByFile left_out gives path limit first result
-  answered (Ok answer) diagnosis h = (paths, lines, are, passes, subst (λ (table : TableView). IsDiagnosis left_out table lines limit first answer) is diagnosis)
-  answered (Err (NotDefined fault)) diagnosis h = (paths, lines, are, passes, subst (λ (table : TableView). IsUndefined table left_out fault) is h)
-  answered (Err Memory) diagnosis h = tt
-  answered (Err fault) diagnosis h = absurd h
+pub returns-in_err-refuse_file_that_is_read-clause-diagnoses : goal.returns-in_err-refuse_file_that_is_read-clause-diagnoses
+returns-in_err-refuse_file_that_is_read-clause-diagnoses g c =
+    let gives = g.F.Source.gives c.args.files.now in
+    let loaded = c.in_ok-loaded.loaded in
+    let accept = option_copied c.args.wanted.pairs.accept in
+    let write = option_copied c.args.wanted.pairs.write in
+    let p = err_from_is_err_and c.from_residual-in_err-refuse_file_that_is_read.result c.from_residual-in_err-refuse_file_that_is_read.ensures.1 in
+    subst (DiagnosesByFile c.args.left_out.now gives g.F.Files.same_file c.args.path.now c.args.wanted.limit c.args.wanted.first accept write) (sym p.1)
+    (overwriting c.args.left_out.now gives g.F.Files.same_file c.args.path.now c.args.wanted.limit c.args.wanted.first accept write loaded.paths loaded.lines p.0 c.in_ok-loaded.ensures.lines
+    (subst (IsOverwritingRead g.F.Files.same_file (read_paths loaded.paths accept) write) (sym p.2) c.in_err-refuse_file_that_is_read.ensures.refused))
 
 pub returns-clause-diagnoses : goal.returns-clause-diagnoses
 returns-clause-diagnoses g c =
+    let gives = g.F.Source.gives c.args.files.now in
     let loaded = c.in_ok-loaded.loaded in
-    answered c.args.left_out.now (g.S.Source.gives c.args.source.now) c.args.path.now c.args.extent.limit c.args.extent.first loaded.paths loaded.lines c.in_ok-loaded.ensures.lines c.in_ok-table.ensures.passes
-    c.in_ok-table.table c.in_ok-table.ensures.table c.clashes_of_loaded-answer.result c.clashes_of_loaded-answer.ensures.diagnosis c.clashes_of_loaded-answer.ensures.fault
+    let table = c.in_ok-table.table in
+    let accept = option_copied c.args.wanted.pairs.accept in
+    let write = option_copied c.args.wanted.pairs.write in
+    let answer = c.clashes_of_loaded-answer in
+    listed c.args.left_out.now gives g.F.Files.same_file c.args.path.now c.args.wanted.limit c.args.wanted.first accept write loaded.paths loaded.lines c.in_ok-loaded.ensures.lines c.in_ok-table.ensures.passes
+    c.in_ok-refuse_file_that_is_read.ensures.apart table c.in_ok-table.ensures.table answer.result
+    (diagnoses_before gives (g.F.Source.gives c.load.new.source) c.in_ok-loaded.ensures.same c.args.left_out.now table loaded.lines c.args.wanted.limit c.args.wanted.first accept write answer.result answer.ensures.diagnoses)

@@ -1,6 +1,6 @@
 use Rattle.std.proofs.Common.{◌∙◌, inl, sym}
 use Rattle.brl_answers.specs.Delivery.{world}
-use Rattle.brl_tool.proofs.RunLemmas.{performed_one}
+use Rattle.brl_tool.proofs.RunLemmas.{gained_since, performed_one}
 use Rattle.brl_tool.proofs.program.run.Goals as goal
 
 pub returns-in-Ok-clause-runs : goal.returns-in-Ok-clause-runs
@@ -13,3 +13,12 @@ returns-in-Ok-clause-clash g c one =
       c.in-Ok.work.folders,
       (performed_one before after g.F.Files.same_file (g.I.Input.remaining c.args.input.now) c.in-Ok.work.task c.do_work.result c.do_work.ensures.performs (sym c.code.ensures ∙ one)).0,
     )
+
+-- what changed since the start
+pub returns-in-Ok-clause-same : goal.returns-in-Ok-clause-same
+returns-in-Ok-clause-same g c one =
+    let gives = g.F.Source.gives in
+    let before = world (gives (g.F.Files.looked c.in-Ok.work.folders c.args.files.now)) (g.O.Output.failures c.args.out.now) (g.O.Output.contents c.args.out.now) in
+    let after = world (gives c.do_work.new.files) (g.O.Output.failures c.do_work.new.out) (g.O.Output.contents c.do_work.new.out) in
+    gained_since (gives c.args.files.now) before.gives after.gives c.do_work.ensures.kept
+    (performed_one before after g.F.Files.same_file (g.I.Input.remaining c.args.input.now) c.in-Ok.work.task c.do_work.result c.do_work.ensures.performs (sym c.code.ensures ∙ one)).1

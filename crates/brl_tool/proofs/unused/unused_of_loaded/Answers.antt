@@ -1,5 +1,4 @@
 use Rattle.std.proofs.Common.{◌≡◌, ◌∙◌, ap, List, map, subst}
-use Rattle.brl_answers.specs.declared.answer.Answer.{Answer}
 use Rattle.brl_lines.specs.Tokens.{LineView}
 use Rattle.brl_lines.specs.Views.{line_view}
 use Rattle.brl_tool.specs.Unused.{IsUnusedAnswer}

@@ -1,0 +1,93 @@
+-- Clashes of a list whose pairs of rules are excused, and the first one whose pair isn't.
+use Rattle.std.proofs.Common.{◌≡◌, ◌∙◌, ◌<◌, ◌++◌, ◌&&◌, ◌||◌, ℕ, suc, All, Bool, true, false, if◌then◌else◌, List, [], ◌∷◌, IsTrue, None, Some, ap, append-nil, arith, length, not, refl, subst, sym}
+use Rattle.std.specs.Prelude.{◌==◌, find}
+use Rattle.std.proofs.lemmas.Bool.{and_parts, eqb-true}
+use Rattle.std.proofs.lemmas.List.Folds.{list_any-append}
+use Rattle.brl_pairs.proofs.Divergence.{either_rules}
+use Rattle.brl_pairs.specs.Body.{BodyView}
+use Rattle.brl_pairs.specs.Divergence.{are_rules, has_rules}
+use Rattle.brl_pairs.specs.Exchanges.{IsClosedUpTo}
+use Rattle.brl_pairs.specs.Sets.{sets_of}
+use Rattle.brl_pairs.specs.declared.excused.Excused.{Excused}
+use Rattle.brl_rules.specs.TableView.{TableView}
+use Rattle.brl_search.specs.Clashes.{AreRuleClashes, IsRuleClash, IsWholeList, rules_of_clashes}
+use Rattle.brl_search.specs.FoundUpTo.{AreAllExcused, is_excused}
+use Rattle.brl_search.specs.Searched.{State, machine_of}
+use Rattle.brl_search.specs.declared.table_clashes.RuleClash.{RuleClash}
+use Rattle.brl_traces.proofs.Widening.{clashes_widen}
+use Rattle.brl_without.specs.Without.{without}
+
+pub not_back : (b : Bool) → not b ≡ true → b ≡ false
+not_back true e = absurd cc
+not_back false e = refl
+
+-- ---- The first of a list
+
+module _ {X : Type 0} (p : X → Bool) where
+  -- the first element that passes is one of the list, and passes
+  pub first_passes : (P : X → Type 0) (xs : List X) → All P xs → (x : X) → find p xs ≡ Some x → P x × (p x ≡ true)
+  first_passes P [] all x is = absurd cc
+  first_passes P (y ∷ xs) all x is = cases (p y) refl (first_passes P xs (λ k d within. all (suc k) d (omega (arith, within))) x) is
+    where
+      cases : (b : Bool) → p y ≡ b → (find p xs ≡ Some x → P x × (p x ≡ true)) → (if b then Some y else find p xs) ≡ Some x → P x × (p x ≡ true)
+      cases true passes later e = let same : y ≡ x = cc in (subst P same (all 0 y (omega arith)), ap p (sym same) ∙ passes)
+      cases false fails later e = later e
+
+-- ---- Excused pairs
+
+module _ (excused : Excused) where
+  -- a pair that is accepted or exchanged is one of both lists
+  both : (x y : ℕ) → has_rules (excused.accepted ++ excused.exchanged) x y ≡ (has_rules excused.accepted x y || has_rules excused.exchanged x y)
+  both x y = list_any-append (are_rules x y) excused.accepted excused.exchanged
+
+  -- two rules that are those of an excused clash are such a pair, in either order
+  of_clash : (c : RuleClash) → is_excused excused c ≡ true → (r s : ℕ) → are_rules r s (c.lesser, c.greater) ≡ true → has_rules (excused.accepted ++ excused.exchanged) r s ≡ true
+  of_clash c known r s is = cases (c.lesser == r && c.greater == s) refl is
+    where
+      here : has_rules (excused.accepted ++ excused.exchanged) c.lesser c.greater ≡ true
+      here = both c.lesser c.greater ∙ known
+
+      cases : (b : Bool) → (c.lesser == r && c.greater == s) ≡ b → (b || (c.lesser == s && c.greater == r)) ≡ true → has_rules (excused.accepted ++ excused.exchanged) r s ≡ true
+      cases true in_order e =
+          let (one, other) = and_parts (c.lesser == r) (c.greater == s) in_order in
+          (λ i. has_rules (excused.accepted ++ excused.exchanged) (sym (eqb-true c.lesser r one) i) (sym (eqb-true c.greater s other) i)) ∙ here
+      cases false in_order e =
+          let (one, other) = and_parts (c.lesser == s) (c.greater == r) e in
+          (λ i. has_rules (excused.accepted ++ excused.exchanged) (sym (eqb-true c.greater r other) i) (sym (eqb-true c.lesser s one) i))
+          ∙ either_rules (excused.accepted ++ excused.exchanged) c.greater c.lesser ∙ here
+
+  -- where no clash of a list is beside what is excused, each pair of the list is excused
+  pub all_excused : (list : List RuleClash) → find (λ (c : RuleClash). not (is_excused excused c)) list ≡ None → (r s : ℕ) → has_rules (rules_of_clashes list) r s ≡ true → has_rules (excused.accepted ++ excused.exchanged) r s ≡ true
+  all_excused [] none r s has = absurd cc
+  all_excused (c ∷ list) none r s has = cases (is_excused excused c) refl (λ rest. all_excused list rest r s) none
+    where
+      by : (b : Bool) → are_rules r s (c.lesser, c.greater) ≡ b → is_excused excused c ≡ true → (has_rules (rules_of_clashes list) r s ≡ true → has_rules (excused.accepted ++ excused.exchanged) r s ≡ true)
+          → (b || has_rules (rules_of_clashes list) r s) ≡ true → has_rules (excused.accepted ++ excused.exchanged) r s ≡ true
+      by true is known later e = of_clash c known r s is
+      by false is known later e = later e
+
+      cases : (b : Bool) → is_excused excused c ≡ b
+          → (find (λ (c : RuleClash). not (is_excused excused c)) list ≡ None → has_rules (rules_of_clashes list) r s ≡ true → has_rules (excused.accepted ++ excused.exchanged) r s ≡ true)
+          → (if not b then Some c else find (λ (c : RuleClash). not (is_excused excused c)) list) ≡ None → has_rules (excused.accepted ++ excused.exchanged) r s ≡ true
+      cases true known later rest = by (are_rules r s (c.lesser, c.greater)) refl known (later rest) has
+      cases false other later rest = absurd cc
+
+  -- ---- A whole list
+
+  module _ (left_out : List ℕ) (t : TableView) (limit : ℕ) (list : List RuleClash) where
+    -- the first clash beside what is excused is one of the table
+    pub first_clash : AreRuleClashes left_out t list → (c : RuleClash) → find (λ (c : RuleClash). not (is_excused excused c)) list ≡ Some c → IsRuleClash left_out t c × (is_excused excused c ≡ false)
+    first_clash are c is =
+        let (clash, passes) = first_passes (λ (c : RuleClash). not (is_excused excused c)) (IsRuleClash left_out t) list are.each c is in
+        (clash, not_back (is_excused excused c) passes)
+
+    -- where each pair is excused, the states and pairs show that texts diverge at no others
+    pub whole_excused : ((exchanged accepted : List (ℕ × ℕ)) (body : BodyView State) → IsWholeList left_out t limit list body → ((r s : ℕ) → IsTrue (has_rules (rules_of_clashes list) r s) → IsTrue (has_rules accepted r s)) → IsClosedUpTo (without left_out (machine_of t)) exchanged accepted (sets_of body))
+        → find (λ (c : RuleClash). not (is_excused excused c)) list ≡ None → (body : BodyView State) → IsWholeList left_out t limit list body → AreAllExcused left_out excused t limit body
+    whole_excused law none body whole = record {
+      no_other = clashes_widen t (rules_of_clashes list) (excused.accepted ++ excused.exchanged) (all_excused list none) left_out whole.no_other;
+      within = whole.within;
+      closed = λ nothing.
+          law excused.exchanged excused.accepted body whole
+          (λ r s has. subst (λ (pairs : List (ℕ × ℕ)). has_rules pairs r s ≡ true) (ap (λ (pairs : List (ℕ × ℕ)). excused.accepted ++ pairs) nothing ∙ append-nil excused.accepted) (all_excused list none r s has));
+    }
