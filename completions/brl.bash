@@ -53,10 +53,10 @@ _brl() {
         translate) options='--form --lacking --path --help' ;;
         clash | trace) options='--escapes --lines --path --help' ;;
         rules | explain) options='--path --help' ;;
-        search) options='--limit --without --path --help' ;;
+        search) options='--limit --without --accept --path --help' ;;
         clashes) options='--first --limit --without --accept --write --path --help' ;;
         unused) options='--limit --path --help' ;;
-        check) options='--without --path --help' ;;
+        check) options='--without --accept --path --help' ;;
         survey) options='--brief --path --help' ;;
         cut) options='--rewrite --path --help' ;;
         help) options='' ;;

@@ -196,7 +196,7 @@ expect 'a rule of a file that was found in a folder' 0 '0  letter  a  1  one/the
 for out in there.ctb ./there.ctb one/../there.ctb; do
     "$program" search --path one here.ctb "$out" >out 2>err
     status=$?
-    expect "a certificate for $out, where an include is looked for" 2 '' 'error: the certificate would overwrite there.ctb, a file of the table\n'
+    expect "a certificate for $out, where an include is looked for" 2 '' 'error: the certificate would overwrite there.ctb, a file that is read\n'
 done
 [ ! -e there.ctb ] || fail 'a certificate where an include is looked for' 'it was written'
 
@@ -445,7 +445,7 @@ two='BRLCERT 3\nstate 1 0 0\nstate 8 0 0\nend 2 0\n'
 found='certified: 2 states, 0 pairs\n'
 
 # Files of the table are refused for its certificate, whatever they are called.
-overwrites="error: the certificate would overwrite own.ctb, a file of the table\n"
+overwrites="error: the certificate would overwrite own.ctb, a file that is read\n"
 printf 'letter a 1\nletter b 12\n' >own.ctb
 ln -s own.ctb link.ctb
 ln own.ctb hard.ctb
@@ -454,14 +454,14 @@ for name in own.ctb ./own.ctb "$work/own.ctb" link.ctb hard.ctb; do
     expect "the table as the certificate, by ${name##*/}" 2 '' "$overwrites"
 done
 search link.ctb own.ctb
-expect 'the file that a table links to as the certificate' 2 '' 'error: the certificate would overwrite link.ctb, a file of the table\n'
+expect 'the file that a table links to as the certificate' 2 '' 'error: the certificate would overwrite link.ctb, a file that is read\n'
 holds own.ctb 'letter a 1\nletter b 12\n' 'the table stays'
 : >nothing.ctb
 printf 'letter a 1\ninclude own.ctb\ninclude nothing.ctb\n' >including.ctb
 search including.ctb own.ctb
 expect 'an included file as the certificate' 2 '' "$overwrites"
 search including.ctb nothing.ctb
-expect 'an included file without lines as the certificate' 2 '' 'error: the certificate would overwrite nothing.ctb, a file of the table\n'
+expect 'an included file without lines as the certificate' 2 '' 'error: the certificate would overwrite nothing.ctb, a file that is read\n'
 
 # So are they, and a file of accepted pairs, for the pairs of rules of a list.
 clashes() {
@@ -479,7 +479,13 @@ for name in own.pairs link.pairs "$work/own.pairs"; do
     clashes own.ctb --accept own.pairs --write "$name"
     expect "the accepted pairs for others, by ${name##*/}" 2 '' 'error: the pairs of rules would overwrite own.pairs, a file that is read\n'
 done
+for name in own.pairs link.pairs; do
+    search --accept own.pairs own.ctb "$name"
+    expect "the accepted pairs as the certificate, by $name" 2 '' 'error: the certificate would overwrite own.pairs, a file that is read\n'
+done
 holds own.pairs '#\n' 'the accepted pairs stay'
+search --accept bytes.ctb own.ctb own.cert
+expect 'a search but for accepted pairs that are not UTF-8' 2 '' 'L3 NotUtf8 bytes.ctb\n'
 clashes own.ctb --accept folder
 expect 'a folder as the accepted pairs' 2 '' 'L2 ReadFailed folder\n'
 clashes own.ctb --accept bytes.ctb

@@ -4,7 +4,8 @@
 # examples/NAME.ctb` writes of the two lines of examples/NAME.texts, examples/NAME.verdict what `check examples/NAME.ctb
 # examples/NAME.cert` writes, and examples/NAME.found what `search examples/NAME.ctb OUT` writes: where that is a certificate, a check
 # accepts it with the same numbers. But for its notes examples/NAME.pairs is the file that `clashes examples/NAME.ctb --write FILE`
-# writes, and examples/NAME.accepted is what `clashes --accept examples/NAME.pairs examples/NAME.ctb` writes. examples/NAME.survey is
+# writes, and examples/NAME.accepted is what `clashes --accept examples/NAME.pairs examples/NAME.ctb` writes, and examples/NAME.certified
+# what `search` with the same file does, where a check with it accepts the certificate. examples/NAME.survey is
 # what `survey examples/NAME.ctb` writes, and examples/NAME.trace what `trace examples/NAME.ctb` writes of the line of examples/NAME.text.
 set -u
 
@@ -78,9 +79,15 @@ for want in *.pairs; do
         rm -rf "$work"
         exit 1
     fi
-    rm -rf "$work"
     echo "ok: examples/$want"
     same "$name.accepted" 0 clashes --accept "$want" "$name.ctb"
+    same "$name.certified" 0 search --accept "$name.pairs" "$name.ctb" "$work/cert"
+    if ! "$program" check --accept "$name.pairs" "$name.ctb" "$work/cert" | sed 's/^accepted/certified/' | cmp - "$name.certified"; then
+        echo "FAILED: the certificate of examples/$name.certified"
+        rm -rf "$work"
+        exit 1
+    fi
+    rm -rf "$work"
 done
 
 for want in *.survey; do

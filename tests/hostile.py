@@ -285,6 +285,7 @@ def refusal(name: str, cert: str, fault: str) -> Run:
 
 # A list of the pairs of rules of a table, and the same beside a file of these.
 PAIRS, STALE = "letter a 1 / letter x 1-12\n", "letter a 1 / letter b 12\n"
+SPACES, SET = "space \\s 0\nspace \\t 0\nletter a 1\n", "exchange \\s\\t\n"
 WRITTEN = Run("", ["clashes", "--write", "o", "t.ctb"], {"t.ctb": ALIKE},
               "small letters: 1 pair of rules diverges, and no others\n  x / ab  1-12  t.ctb:3 letter x  t.ctb:1 letter a\n"
               "1 pair of rules diverges, and no others\n", 1, written=PAIRS)
@@ -312,7 +313,7 @@ RUNS = [
     Run("clashes are listed", ["clashes", "t.ctb"], {"t.ctb": ALIKE},
         "small letters: 1 pair of rules diverges, and no others\n  x / ab  1-12  t.ctb:3 letter x  t.ctb:1 letter a\n"
         "1 pair of rules diverges, and no others\n", 1),
-    Run("a set of characters is listed", ["clashes", "t.ctb"], {"t.ctb": "space \\s 0\nspace \\t 0\nletter a 1\n"},
+    Run("a set of characters is listed", ["clashes", "t.ctb"], {"t.ctb": SPACES},
         "1 sets of characters have the same cells, classes and flags, and are in no rule; "
         "below, the first of each represents its set:\n  0  \\s \\t\n"
         "small letters: 1 pair of rules diverges, and no others\n"
@@ -330,6 +331,19 @@ RUNS = [
         err=f"P1 NoSuchRules {PAIRS.strip()} at p:1\n"),
     Run("pairs would overwrite those that are accepted", ["clashes", "--accept", "p", "--write", "p", "t.ctb"],
         {"t.ctb": ALIKE, "p": PAIRS}, status=2, err="error: the pairs of rules would overwrite p, a file that is read\n"),
+    Run("a table is searched but for accepted pairs", ["search", "--accept", "p", "t.ctb", "o"], {"t.ctb": ALIKE, "p": PAIRS},
+        "certified: 2 states, 0 pairs\nbut for: 1 pair of rules, 0 sets of characters\n", written="BRLCERT 3\n"),
+    Run("a table is searched but for a set of characters", ["search", "--accept", "p", "t.ctb", "o"], {"t.ctb": SPACES, "p": SET},
+        "certified: 2 states, 0 pairs\nbut for: 0 pairs of rules, 1 set of characters\n", written="BRLCERT 3\n"),
+    Run("a clash beside accepted pairs is found", ["search", "--accept", "p", "t.ctb", "o"], {"t.ctb": ALIKE, "p": ""}, "left: ", 1),
+    Run("a limit is passed beside accepted pairs", ["search", "--accept", "p", "--limit", "1", "t.ctb", "o"], {"t.ctb": TWO, "p": ""},
+        "limit: 2 states, 0 pairs\n", 3),
+    Run("a certificate is accepted but for accepted pairs", ["check", "--accept", "p", "t.ctb", "c"],
+        {"t.ctb": TWO, "p": "", "c": TWO_CERT}, "accepted: 2 states, 0 pairs\nbut for: 0 pairs of rules, 0 sets of characters\n"),
+    Run("a certificate is refused but for accepted pairs", ["check", "--accept", "p", "t.ctb", "c"],
+        {"t.ctb": ALIKE, "p": "", "c": TWO_CERT}, "refused: A3 SplitMissing state 0 rules 0 2\n", 1),
+    Run("a line of no set ends a search", ["search", "--accept", "p", "t.ctb", "o"], {"t.ctb": TWO, "p": SET}, status=2,
+        err=f"P3 NoSuchSet {SET.strip()} at p:1\n"),
     check("an empty table's certificate is accepted", "", EMPTY_CERT, "accepted: 1 states, 0 pairs\n", 0),
     check("a certificate of version 1 is accepted", "letter a 1\n", LETTER_CERT, "accepted: 3 states, 1 pairs\n", 0),
     check("a certificate of version 2 is accepted", APART, APART_CERT, "accepted: 3 states, 1 pairs\n", 0),

@@ -2,3 +2,5 @@ mod LineTests
 mod NamingLemmas
 mod Plain
 mod ReadBack
+mod SetLemmas
+mod WrittenLines

@@ -3,6 +3,7 @@ use Rattle.std.proofs.Common.{◌≡◌, ◌≢◌, ◌∙◌, ◌<◌, ◌+◌,
 use Rattle.std.specs.List.{filter, flat_map}
 use Rattle.std.proofs.lemmas.List.{take_more}
 use Rattle.std.proofs.lemmas.List.Concat.{flat_map-append}
+use Rattle.std.proofs.lemmas.List.Elements.{filter-append}
 use Rattle.std.specs.Str.{bytes_eq}
 use Rattle.brl_accepted.specs.Naming.{pairs_of_line, pairs_saying}
 use Rattle.brl_accepted.specs.Pairs.{between, said}
@@ -16,6 +17,14 @@ one_more {X} {Y} f xs i d front now after within is added =
     let more : flat_map f (take (i + 1) xs) ≡ flat_map f (take i xs) ++ f x =
     ap (flat_map f) (take_more xs i d within) ∙ flat_map-append f (take i xs) (x ∷ []) ∙ ap (λ (rest : List Y). flat_map f (take i xs) ++ rest) (append-nil (f x)) in
     added ∙ ap (λ (ys : List Y). ys ++ f x) is ∙ append_assoc front (flat_map f (take i xs)) (f x) ∙ ap (λ (ys : List Y). front ++ ys) (sym more)
+
+-- what passes of the elements up to the next one, after what passes of those before it
+pub one_more_kept : {X : Type 0} (p : X → Bool) (xs : List X) (i : ℕ) (d : X) (now after : List X) → i < length xs → now ≡ filter p (take i xs) → after ≡ now ++ filter p (get_or xs i d ∷ [])
+    → after ≡ filter p (take (i + 1) xs)
+one_more_kept {X} p xs i d now after within is added =
+    added
+    ∙ ap (λ (ys : List X). ys ++ filter p (get_or xs i d ∷ [])) is
+    ∙ sym (ap (filter p) (take_more xs i d within) ∙ filter-append p (take i xs) (get_or xs i d ∷ []))
 
 -- what follows the same front is the same
 pub drop_front : (front xs ys : List ℕ) → front ++ xs ≡ front ++ ys → xs ≡ ys

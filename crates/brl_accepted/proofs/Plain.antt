@@ -1,4 +1,4 @@
--- What a rule says has no control character in it.
+-- What a rule says, and the line of a set of characters, has no control character in it.
 use Rattle.std.proofs.Common.{◌≡◌, ◌<◌, ◌++◌, ◌/◌, ◌%◌, ◌||◌, ℕ, zero, suc, All, Bool, true, false, cond, ltb, List, [], ◌∷◌, Option, None, Some, append-nil, arith, codes, encode_utf8, encode_utf8_all, find, get_or, inl, inr, map, refl, subst, sym}
 use Rattle.std.specs.Char.{digit_char, is_ascii_control}
 use Rattle.std.specs.Cmp.{first_so, second_so}
@@ -16,6 +16,7 @@ use Rattle.brl_cells.specs.Dots.{spelling}
 use Rattle.brl_cert.proofs.FieldLaws.{IsAbove, above_append, above_joined, above_true, cells_above, lower}
 use Rattle.brl_lines.specs.Spelling.{character_spelling, escape_marks, means, spelled_by_mark, spelled_by_number, text_spelling}
 use Rattle.brl_accepted.specs.Pairs.{said, wording}
+use Rattle.brl_accepted.specs.Sets.{exchange, set_line}
 use Rattle.brl_lines.specs.Tokens.{LineView}
 use Rattle.brl_report.specs.Place.{file_name}
 use Rattle.brl_report.specs.Rules.{ListedView, known_opcode, opcode_at, rule_numbers, rule_with_number, rule_words}
@@ -66,6 +67,10 @@ by_mark c (Some mark) is = (omega arith, (found (means c) escape_marks mark (abo
 spelled : (text : List ℕ) → IsAbove 31 (text_spelling text)
 spelled [] = tt
 spelled (c ∷ text) = above_append 31 (character_spelling c) (text_spelling text) (by_mark c (find (means c) escape_marks) refl) (spelled text)
+
+-- the line of a set
+pub set_above : (set : List ℕ) → IsAbove 31 (set_line set)
+set_above set = above_append 31 exchange (encode_utf8_all (text_spelling set)) (above_true 31 exchange refl) (all_encoded (text_spelling set) (spelled set))
 
 -- ---- Opcodes
 

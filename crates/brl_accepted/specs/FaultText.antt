@@ -3,12 +3,13 @@ use Rattle.std.specs.Prelude.{ℕ, List, ◌++◌, codes, string_bytes}
 use Rattle.std.specs.Fmt.{decimal}
 use Rattle.brl_accepted.specs.declared.fault.AcceptFault.{AcceptFault}
 use Rattle.brl_accepted.specs.declared.fault.AcceptFaultKind.{AcceptFaultKind}
-use Rattle.brl_accepted.specs.declared.fault.AcceptFaultKind.TheVariants.{NoSuchRules, NotListed}
+use Rattle.brl_accepted.specs.declared.fault.AcceptFaultKind.TheVariants.{NoSuchRules, NoSuchSet, NotListed}
 
 -- the code and the name of a kind of fault
 abbrev pub kind_text : AcceptFaultKind → List ℕ
 kind_text NoSuchRules = codes "P1 NoSuchRules"
 kind_text NotListed = codes "P2 NotListed"
+kind_text NoSuchSet = codes "P3 NoSuchSet"
 
 -- the text of a fault, as `P2 NotListed word but 12 / letter b 12 at word.pairs:3`
 abbrev pub fault_text : AcceptFault → List ℕ

@@ -1,12 +1,13 @@
--- Which pairs of rules of a table a file names, where no list of pairs is given. The project's own
--- choice.
+-- What a file excuses by its lines, where no list of pairs is given. The project's own choice.
 use Rattle.std.specs.Prelude.{ℕ, ◌≡◌, All, false, List, [], None, flat_map, map}
-use Rattle.std.specs.List.{filter}
+use Rattle.std.specs.List.{count_by, filter}
 use Rattle.std.specs.Str.{bytes_eq}
 use Rattle.std.specs.Str.Lines.{lines as lines_of_text}
 use Rattle.brl_accepted.specs.Pairs.{pair_line, said, wording}
 use Rattle.brl_accepted.specs.Reading.{fault_of}
+use Rattle.brl_accepted.specs.Sets.{exchanged_pairs, is_exchange}
 use Rattle.brl_lines.specs.Tokens.{LineView}
+use Rattle.brl_pairs.specs.declared.excused.Excused.{Excused}
 use Rattle.brl_report.specs.Rules.{rule_numbers}
 use Rattle.brl_rules.specs.TableView.{TableView}
 
@@ -26,8 +27,14 @@ pairs_of_rule words numbers rows r = flat_map (pairs_of_line words numbers r) ro
 abbrev pub named_pairs : List (List ℕ) → List ℕ → List (List ℕ) → List (ℕ × ℕ)
 named_pairs words numbers rows = flat_map (pairs_of_rule words numbers rows) numbers
 
--- a text is read: each line is a note or what two rules of the table say, and these are the pairs of rules
--- that its lines name
-pub record Names (t : TableView) (lines : List LineView) (text : List ℕ) (pairs : List (ℕ × ℕ)) : Type 0 where
-  pub good : All (λ line. fault_of (wording t lines) [] false line ≡ None) (lines_of_text text)
-  pub named : pairs ≡ named_pairs (wording t lines) (rule_numbers t) (lines_of_text text)
+-- a text is read: each line is a note, or names one of these sets of characters or two rules of the
+-- table. It excuses this: the pairs of rules that its lines name are accepted, and the steps of own
+-- definitions of the characters of a set may be exchanged
+pub record Excuses (t : TableView) (lines : List LineView) (sets : List (List ℕ)) (text : List ℕ) (excused : Excused) : Type 0 where
+  pub good : All (λ line. fault_of (wording t lines) sets [] false line ≡ None) (lines_of_text text)
+  pub accepted : excused.accepted ≡ named_pairs (wording t lines) (rule_numbers t) (lines_of_text text)
+  pub exchanged : excused.exchanged ≡ exchanged_pairs t (lines_of_text text)
+
+-- how many lines of a text name sets of characters
+abbrev pub set_count : List ℕ → ℕ
+set_count text = count_by is_exchange (lines_of_text text)

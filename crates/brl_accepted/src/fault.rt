@@ -12,6 +12,8 @@ pub enum AcceptFaultKind {
     NoSuchRules,
     /// Its rules are no pair that is listed, and the list is whole.
     NotListed,
+    /// It begins as the line of a set, but names no characters that are in one set of the table.
+    NoSuchSet,
 }
 
 impl AcceptFaultKind {
@@ -22,6 +24,7 @@ impl AcceptFaultKind {
         match self {
             AcceptFaultKind::NoSuchRules => "P1 NoSuchRules",
             AcceptFaultKind::NotListed => "P2 NotListed",
+            AcceptFaultKind::NoSuchSet => "P3 NoSuchSet",
         }
     }
 }

@@ -1,15 +1,40 @@
-//! A law of the definitions: the function has an empty body, and its contract is the law.
-ghost use Rattle.std.specs.Prelude.{ℕ, Bool, List, map};
-ghost use Rattle.brl_accepted.specs.Pairs.{pairs_text, wording};
+//! A law of the definitions: the function's contract is the law. Its body changes nothing: it only
+//! reads the characters of the sets, by which it is known that they are scalar values, so that a
+//! line of them is read back.
+ghost use Rattle.std.specs.Prelude.{◌≡◌, ℕ, All, Bool, List, map, true};
+ghost use Rattle.std.specs.Str.{all_scalars};
+ghost use Rattle.brl_accepted.specs.Pairs.{wording};
 ghost use Rattle.brl_accepted.specs.Reading.{Accepts};
+ghost use Rattle.brl_accepted.specs.Writing.{accepted_text};
 ghost use Rattle.brl_lines.specs.Views.{line_view};
 
 use brl_lines::Line;
 use brl_rules::Table;
 
-/// Of the file that is written for some listed pairs of rules of a table every line is good, and what it
-/// accepts are just these pairs.
-pub fn read_back_law(table: &Table, lines: &[Line<'_>])
+/// Of the file that is written for some listed pairs of rules of a table every line is good, and
+/// what it accepts are just these pairs, where these are the table's sets of characters.
+pub fn read_back_law(table: &Table, lines: &[Line<'_>], sets: &[Vec<char>])
     ensures { (listed : List (ℕ × ℕ)) (whole : Bool) →
-        Accepts (wording table.now (map line_view lines.now)) listed whole (pairs_text (wording table.now (map line_view lines.now)) listed) listed }
-{}
+        Accepts table.now (wording table.now (map line_view lines.now)) (map (λ set. set.items) sets.now) listed whole
+        (accepted_text table.now (wording table.now (map line_view lines.now)) (map (λ set. set.items) sets.now) listed) listed }
+{
+    sets_law(sets);
+}
+
+/// The items of sets of characters are scalar values of Unicode.
+fn sets_law(sets: &[Vec<char>])
+    ensures { All (λ set. all_scalars set.items ≡ true) sets.now }
+{
+    for set in sets {
+        characters_law(set.as_slice());
+    }
+}
+
+/// Characters are scalar values of Unicode: each of them that is read is known to be one.
+fn characters_law(characters: &[char])
+    ensures { all_scalars characters.now ≡ true }
+{
+    for character in characters {
+        let _read = *character;
+    }
+}

@@ -1,11 +1,12 @@
 //! Accepted pairs of rules: a file that names pairs at which texts may diverge, so that a list of
 //! clashes leaves them out.
 //!
-//! Its lines name rules by what they say, `word absoluto 1-12 / letter a 1`, and not by number or line.
-//! `wording` has what each rule of a table says. `write_pairs` writes the file of some pairs, and
-//! `read_accepted` reads which of the pairs that are listed a file accepts, or refuses its first line
-//! that names none of them. `read_back_law`: what is written is read back. `named_pairs` reads which
-//! pairs of a table's rules a file names, where no list is given.
+//! Its lines name rules by what they say, `word absoluto 1-12 / letter a 1`, and not by number or
+//! line, and sets of characters that the table treats as one, `exchange ab`. `wording` has what
+//! each rule of a table says. `write_accepted` writes the file of some pairs, and `read_accepted`
+//! reads which of the pairs that are listed a file accepts, or refuses its first line that names
+//! none of them. `read_back_law`: what is written is read back. `read_excusal` reads what a file
+//! excuses, where no list is given.
 //!
 //! Room 5, the program (docs/dev/ARCHITECTURE.md). The definitions begin in `specs/Pairs.antt`.
 #![tactic(auto)]
@@ -15,11 +16,14 @@ mod laws;
 mod lines;
 mod naming;
 mod reading;
+mod sets;
 mod texts;
 mod words;
+mod writing;
 
 pub use fault::{AcceptFault, AcceptFaultKind};
 pub use laws::read_back_law;
-pub use naming::named_pairs;
-pub use reading::{Baseline, Listed, read_accepted};
-pub use words::{wording, write_pairs};
+pub use naming::{Excusal, read_excusal};
+pub use reading::{Baseline, Listed, Nameable, read_accepted};
+pub use words::wording;
+pub use writing::write_accepted;

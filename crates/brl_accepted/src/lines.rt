@@ -4,10 +4,11 @@ ghost use Rattle.std.specs.List.{list_any};
 ghost use Rattle.std.specs.Str.{bytes_eq};
 ghost use Rattle.std.specs.Str.Lines.{lines};
 ghost use Rattle.brl_accepted.specs.Pairs.{between, pair_line as line_of_pair, turned};
-ghost use Rattle.brl_accepted.specs.Reading.{fault_of as fault_of_line, is_note as is_note_line, is_parted as is_parted_at, names_listed, names_rules as are_named};
+ghost use Rattle.brl_accepted.specs.Reading.{fault_of as fault_of_line, fault_of_pair as fault_of_pair_line, fault_of_set as fault_of_set_line, is_note as is_note_line, is_parted as is_parted_at, names_listed, names_rules as are_named};
 ghost use Rattle.brl_lines.specs.Tokens.{is_gap as is_gap_mark};
 
 use crate::fault::AcceptFaultKind;
+use crate::sets::{is_exchange, names_set};
 use crate::texts::{Texts, texts_of};
 use crate::words::pair_line;
 use std::alloc::{AllocError, Global};
@@ -115,8 +116,8 @@ fn is_parted(words: &Texts<'_>, row: &[u8], place: usize) -> bool
     goes_on(words, rest) && words.contains(one)
 }
 
-/// Whether a line is what two rules of the table say. It is parted at each place in turn at which what
-/// a rule says can end.
+/// Whether a line is what two rules of the table say. It is parted at each place in turn at which
+/// what a rule says can end.
 fn names_rules(words: &Texts<'_>, row: &[u8]) -> bool
     ensures { result ≡ are_named words.now row.now }
 {
@@ -138,8 +139,23 @@ fn is_listed(words: &Texts<'_>, listed: Listed<'_>, lines: &PairTexts<'_>, row: 
     lines.forth.contains(row) || lines.back.contains(row)
 }
 
-/// The fault of a line, if it has one, where the lines of the listed pairs are given.
-pub(crate) fn fault_of(
+/// The fault of a line of a set of characters, if it has one.
+fn fault_of_set(
+    alloc: Global,
+    sets: &[Vec<char>],
+    row: &str,
+) -> Result<Option<AcceptFaultKind>, AllocError>
+    ensures { IfOk result (λ fault. fault ≡ fault_of_set_line (map (λ set. set.items) sets.now) row.now) }
+{
+    if names_set(alloc, sets, row)? {
+        return Ok(None);
+    }
+    Ok(Some(AcceptFaultKind::NoSuchSet))
+}
+
+/// The fault of a line that is no note and of no set, if it has one, where the lines of the listed
+/// pairs are given.
+fn fault_of_pair(
     words: &Texts<'_>,
     listed: Listed<'_>,
     lines: &PairTexts<'_>,
@@ -147,9 +163,9 @@ pub(crate) fn fault_of(
 ) -> Option<AcceptFaultKind>
     requires forth { lines.now.forth ≡ map (line_of_pair words.now) listed.pairs.now }
     requires back { lines.now.back ≡ map (λ pair. line_of_pair words.now (turned pair)) listed.pairs.now }
-    ensures { result ≡ fault_of_line words.now listed.entry.pairs.now listed.entry.whole row.now }
+    ensures { result ≡ fault_of_pair_line words.now listed.entry.pairs.now listed.entry.whole row.now }
 {
-    if is_note(row) || is_listed(words, listed, lines, row.as_bytes()) {
+    if is_listed(words, listed, lines, row.as_bytes()) {
         return None;
     }
     if !names_rules(words, row.as_bytes()) {
@@ -159,4 +175,26 @@ pub(crate) fn fault_of(
         return Some(AcceptFaultKind::NotListed);
     }
     None
+}
+
+/// The fault of a line, if it has one, where the lines of the listed pairs are given.
+pub(crate) fn fault_of(
+    alloc: Global,
+    words: &Texts<'_>,
+    sets: &[Vec<char>],
+    listed: Listed<'_>,
+    lines: &PairTexts<'_>,
+    row: &str,
+) -> Result<Option<AcceptFaultKind>, AllocError>
+    requires forth { lines.now.forth ≡ map (line_of_pair words.now) listed.pairs.now }
+    requires back { lines.now.back ≡ map (λ pair. line_of_pair words.now (turned pair)) listed.pairs.now }
+    ensures { IfOk result (λ fault. fault ≡ fault_of_line words.now (map (λ set. set.items) sets.now) listed.entry.pairs.now listed.entry.whole row.now) }
+{
+    if is_note(row) {
+        return Ok(None);
+    }
+    if is_exchange(row) {
+        return fault_of_set(alloc, sets, row);
+    }
+    Ok(fault_of_pair(words, listed, lines, row))
 }

@@ -47,7 +47,7 @@ pub(crate) fn pair_line(
 /// The text of a file that names these pairs of rules, a line for each, by what the rules say.
 ///
 /// Every line ends with LF. `AllocError` if memory runs out.
-pub fn write_pairs(
+pub(crate) fn write_pairs(
     alloc: Global,
     words: &[String],
     pairs: &[(u32, u32)],

@@ -5,8 +5,8 @@ use Rattle.std.specs.List.{list_any, starts_with}
 -- how the answers of `brl check`, `brl search`, `brl clash` and `brl trace` begin
 abbrev pub prefixes : List (List ℕ)
 prefixes =
-    codes "accepted:" ∷ codes "refused:" ∷ codes "certified:" ∷ codes "limit:" ∷ codes "left:" ∷ codes "no clash"
-    ∷ codes "text:" ∷ []
+    codes "accepted:" ∷ codes "refused:" ∷ codes "certified:" ∷ codes "limit:" ∷ codes "not exchangeable:" ∷ codes "left:"
+    ∷ codes "no clash" ∷ codes "text:" ∷ []
 
 -- whether a text begins as one of these answers does
 abbrev pub begins_as_answer : List ℕ → Bool

@@ -7,11 +7,12 @@ use std::alloc::{AllocError, Global};
 
 /// How the answers of `brl check`, `brl search`, `brl clash` and `brl trace` begin: the list
 /// `prefixes` of specs/Prefixes.antt. A survey, which gives no verdict, has no prefix.
-const PREFIXES: [&str; 7] = [
+const PREFIXES: [&str; 8] = [
     "accepted:",
     "refused:",
     "certified:",
     "limit:",
+    "not exchangeable:",
     "left:",
     "no clash",
     "text:",

@@ -67,8 +67,8 @@ pub enum RunFault {
     /// A character that is left out isn't one of the table's.
     #[error("{0}")]
     NotDefined(UndefinedLeftOut),
-    /// The file for the certificate is this one of the table's files.
-    #[error("error: the certificate would overwrite {0}, a file of the table")]
+    /// The file for the certificate is this one of the files that are read.
+    #[error("error: the certificate would overwrite {0}, a file that is read")]
     WouldOverwrite(String),
     /// The file for the pairs of a list is this one of the files that are read.
     #[error("error: the pairs of rules would overwrite {0}, a file that is read")]

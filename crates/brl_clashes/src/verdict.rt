@@ -66,7 +66,7 @@ pub fn accepted_line(alloc: Global, accepted: Option<usize>) -> Result<String, A
 }
 
 /// The words after a number of accepted pairs of rules.
-fn accepted_words(count: usize) -> &'static str
+pub fn accepted_words(count: usize) -> &'static str
     ensures { result.now ≡ words_of_accepted count }
 {
     if count == 1 {

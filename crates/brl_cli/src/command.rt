@@ -42,6 +42,14 @@ pub enum Question<'a> {
         cert: &'a str,
         without: Option<&'a str>,
     },
+    /// The same, but for what the file at `accept` excuses: the pairs of rules that it names are accepted,
+    /// and the characters of its sets may be exchanged.
+    CheckUpTo {
+        table: &'a str,
+        cert: &'a str,
+        accept: &'a str,
+        without: Option<&'a str>,
+    },
     /// Whether two texts clash by the table whose file is at one path, of the texts that use none of
     /// the characters that `without` spells. A certificate goes to the file at the other path. At most
     /// `limit` states and `limit` pairs may be found.
@@ -49,6 +57,14 @@ pub enum Question<'a> {
         table: &'a str,
         cert: &'a str,
         limit: u32,
+        without: Option<&'a str>,
+    },
+    /// The same, but for what the file at `accept` excuses.
+    SearchUpTo {
+        table: &'a str,
+        cert: &'a str,
+        limit: u32,
+        accept: &'a str,
         without: Option<&'a str>,
     },
     /// At which pairs of rules clashing texts diverge by the table whose file is at a path, of the texts
@@ -204,9 +220,9 @@ const TABLE: Operand = Operand {
 enum Options {
     /// How cells are written, and whether undefined characters are listed.
     Translate,
-    /// Which characters are left out.
+    /// Which characters are left out, and what is excused.
     Without,
-    /// How much a search may find, and which characters are left out.
+    /// How much a search may find, which characters are left out, and what is excused.
     Search,
     /// How many states may be found.
     States,
@@ -330,8 +346,13 @@ characters give the same cells, however long they are. Whoever made the
 certificate need not be trusted. Else standard output gets why it is refused,
 and the exit status is 1; a refusal doesn't say that two texts look alike.
 
-With --without it is judged for the texts that use none of CHARS, and a second
-line of an acceptance names these. CHARS are spelled as in a table.",
+With --without it is judged for the texts that use none of CHARS, and the last
+line of an acceptance names these. CHARS are spelled as in a table.
+
+With --accept it is judged but for what FILE names, as 'brl clashes' writes it:
+two texts with the same cells are the same step by step, but that characters of
+a set of FILE may stand for each other, to their ends or up to a place where
+they go on by a pair of rules of FILE. The second line says how many these are.",
     example: "Example, a table of one letter and its certificate:
   printf 'letter a 1\\n' > a.ctb
   printf 'BRLCERT 1\\nstate 1 0 0 -\\nstate 8 0 0 61\\nstate 8 0 1 -\\n' > a.cert
@@ -366,10 +387,16 @@ the exit status is 1, and OUT isn't written. No character of one of them, nor on
 of each, can be left out so that they still clash. Where more than N states or
 more than N pairs are found, nothing is decided, and the status is 3.
 
-With --without only texts that use none of CHARS are searched, and a second line
+With --without only texts that use none of CHARS are searched, and the last line
 after 'certified' names these; 'brl check' with the same option accepts the
 certificate. CHARS are spelled as in a table: \\s is a blank, \\x00a0 a no-break
-space.",
+space.
+
+With --accept the pairs of rules and the sets of characters that FILE names are
+no clashes, as 'brl clashes' writes them; the second line says how many these
+are, and 'brl check' with the same option accepts the certificate. Where some
+characters of a set can't stand for each other everywhere, 'not exchangeable' is
+printed, and the status is 3.",
     example: "Example, a table of two letters:
   printf '%s\\n' 'letter a 1' 'letter b 12' > ab.ctb
   brl search ab.ctb ab.cert
@@ -415,11 +442,12 @@ has more than N states, pairs of states or pairs of rules, there may be others
 than those listed, and the status is 3.
 
 With --write the pairs that are listed go to FILE, a line for each: what its two
-rules say, with ' / ' between them. Where there may be others, FILE stays as it
-was. With --accept the pairs that FILE names so are left out, and the last line
-says how many these are. Where no other is left, the status is 0. A line of FILE
-whose pair isn't listed is a fault, and the status is 2, unless there may be
-others. With both options the pairs that are left are written.
+rules say, with ' / ' between them. A line 'exchange' with the characters of a
+set stands for the pairs of their own definitions. Where there may be others,
+FILE stays as it was. With --accept the pairs that FILE names so are left out,
+and the last line says how many these are. Where no other is left, the status is
+0. A line of FILE whose pair isn't listed is a fault, and the status is 2, unless
+there may be others. With both options the pairs that are left are written.
 
 With --without only texts that use none of CHARS are looked at, and a line after
 the last one names these. CHARS are spelled as in a table.",
@@ -727,6 +755,16 @@ fn without_option<'a>(alloc: Global) -> Arg<'a> {
         .help("Look only at texts that use none of these characters")
 }
 
+/// The option of what a certificate need not show.
+fn excusal_option<'a>(alloc: Global) -> Arg<'a> {
+    Arg::new(alloc, "accept")
+        .long("accept")
+        .value_name("FILE")
+        .help(
+            "Accept the pairs of rules that this file names, and exchange the characters of its sets",
+        )
+}
+
 /// The option of which pairs of rules are left out of a list.
 fn accept_option<'a>(alloc: Global) -> Arg<'a> {
     Arg::new(alloc, "accept")
@@ -792,10 +830,14 @@ fn arguments<'a>(alloc: Global, page: &CommandHelp) -> Result<Vec<Arg<'a>>, Allo
             arguments.push(form_option(alloc))?;
             arguments.push(lacking_option(alloc))?;
         }
-        Some(Options::Without) => arguments.push(without_option(alloc))?,
+        Some(Options::Without) => {
+            arguments.push(without_option(alloc))?;
+            arguments.push(excusal_option(alloc))?;
+        }
         Some(Options::Search) => {
             arguments.push(limit_option(alloc))?;
             arguments.push(without_option(alloc))?;
+            arguments.push(excusal_option(alloc))?;
         }
         Some(Options::States) => arguments.push(states_option(alloc))?,
         Some(Options::Clashes) => {
@@ -1006,19 +1048,41 @@ fn text_options(found: &ArgMatches<'_>) -> TextOptions {
 }
 
 fn check_question<'a>(table: &'a str, found: &ArgMatches<'a>) -> Option<Question<'a>> {
-    Some(Question::Check {
-        table,
-        cert: found.get_str("cert")?,
-        without: found.get_str("without"),
+    let cert = found.get_str("cert")?;
+    let without = found.get_str("without");
+    Some(match found.get_str("accept") {
+        Some(accept) => Question::CheckUpTo {
+            table,
+            cert,
+            accept,
+            without,
+        },
+        None => Question::Check {
+            table,
+            cert,
+            without,
+        },
     })
 }
 
 fn search_question<'a>(table: &'a str, found: &ArgMatches<'a>) -> Option<Question<'a>> {
-    Some(Question::Search {
-        table,
-        cert: found.get_str("out")?,
-        limit: found.get_one("limit")?,
-        without: found.get_str("without"),
+    let cert = found.get_str("out")?;
+    let limit = found.get_one("limit")?;
+    let without = found.get_str("without");
+    Some(match found.get_str("accept") {
+        Some(accept) => Question::SearchUpTo {
+            table,
+            cert,
+            limit,
+            accept,
+            without,
+        },
+        None => Question::Search {
+            table,
+            cert,
+            limit,
+            without,
+        },
     })
 }
 

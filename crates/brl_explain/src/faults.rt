@@ -4,7 +4,7 @@
 /// What explains each fault: a line with its own form, or with several, which commas part; when it
 /// comes; for a line of a table what the fault's line names; and what to do about it. Words in capitals
 /// are for what differs.
-pub const FAULTS: [&str; 45] = [
+pub const FAULTS: [&str; 46] = [
     "L8 TooManyIncludes\n\
      When: 1,024 include lines were followed before\n\
      What to do: Join files.\n",
@@ -106,6 +106,10 @@ pub const FAULTS: [&str; 45] = [
      When: the line's pair of rules isn't listed, and the list has all\n\
      Named: the line\n\
      What to do: Take the line out; or it was accepted with another `--without`: give that one.\n",
+    "P3 NoSuchSet\n\
+     When: the line begins with `exchange`, and what follows isn't two characters or more of one set of the table\n\
+     Named: the line\n\
+     What to do: `brl clashes` lists the sets. Take out what is in no set any more, by its cells, classes or flags, or by a rule.\n",
     "K8 Truncated\n\
      When: the line has no line feed, or there is no `end` line\n\
      What to do: The file was cut: copy it again.\n",

@@ -17,7 +17,7 @@ use Rattle.brl_tool.specs.Diagnosing.{Diagnoses, DiagnosesByFile}
 -- ---- By files as they were before a read
 
 module _ (before after : FileAnswers) (same : Unchanged before after) where
-  given_before : (path : List ℕ) (answer : FileAnswer) → after.may path answer → before.may path answer
+  pub given_before : (path : List ℕ) (answer : FileAnswer) → after.may path answer → before.may path answer
   given_before path answer given = (same.1 path answer).0 given
 
   lacks_before : (path : List ℕ) (kind : LoadFaultKind) → LacksText (after.may path) kind → LacksText (before.may path) kind
@@ -30,7 +30,7 @@ module _ (before after : FileAnswers) (same : Unchanged before after) where
   ]
   lacks_before path kind h = absurd h
 
-  text_fault_before : (path : List ℕ) (fault : RunFault) → IsFaultOfText after path fault → IsFaultOfText before path fault
+  pub text_fault_before : (path : List ℕ) (fault : RunFault) → IsFaultOfText after path fault → IsFaultOfText before path fault
   text_fault_before path (Load fault) (named, nowhere, lacks) = (named, nowhere, lacks_before path fault.kind lacks)
   text_fault_before path Memory h = tt
   text_fault_before path fault h = absurd h

@@ -9,4 +9,5 @@ pub mod NoticesLemmas
 pub mod OfFiles
 pub mod RunLemmas
 pub mod SearchLemmas
+pub mod UpToLemmas
 pub mod Answered

@@ -42,7 +42,9 @@ module _ (before after : World) (same_file : MayBeSame) (input : Option (List �
   report_of : (asked : Question) → MeansRefuted asked before after → ReportsClash before after ⊎ ReportsRefusal before after ⊎ ReportsClashes before after ⊎ ReportsUnused before after
   report_of (question.Clash path left right options) means = inl means
   report_of (question.Check path cert option) means = inr (inl means)
+  report_of (question.CheckUpTo path cert accept option) means = inr (inl means)
   report_of (question.Search path out limit option) means = inl means
+  report_of (question.SearchUpTo path out limit accept option) means = inl means
   report_of (question.Clashes path limit first option pairs) means = inr (inr (inl (path.now, option_copied option, option_copied pairs.accept, option_copied pairs.write, means)))
   report_of (question.Unused path limit) means = inr (inr (inr means))
   report_of asked means = absurd means
@@ -56,7 +58,9 @@ module _ (before after : World) (same_file : MayBeSame) (input : Option (List �
   gains (question.Clashes path limit first option pairs) (left_out, spelled, (lines, accepted, list, other)) keeps = gained (option_copied pairs.write) lines list.sections list.pairs
   gains (question.Clash path left right options) means keeps = inl keeps.1
   gains (question.Check path cert option) means keeps = inl keeps.1
+  gains (question.CheckUpTo path cert accept option) means keeps = inl keeps.1
   gains (question.Search path out limit option) means keeps = inl keeps.1
+  gains (question.SearchUpTo path out limit accept option) means keeps = inl keeps.1
   gains (question.Unused path limit) means keeps = inl keeps.1
   gains asked means keeps = absurd means
 

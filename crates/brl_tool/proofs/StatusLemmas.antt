@@ -1,13 +1,14 @@
 -- What the status says of what was delivered.
-use Rattle.std.proofs.Common.{◌≡◌, ◌≢◌, ◌∙◌, ℕ, suc, Bool, ap, true, false, cond, List, [], ◌∷◌, All, arith, length, map, inl, inr, Option, None, Some, Result, Ok, Err, refl, subst, sym}
+use Rattle.std.proofs.Common.{◌≡◌, ◌≢◌, ◌∙◌, ℕ, suc, Bool, ap, true, false, cond, List, [], ◌∷◌, ◌++◌, All, arith, length, map, inl, inr, Option, None, Some, Result, Ok, Err, refl, subst, sym}
 use Rattle.std.specs.Option.{option_copied}
 use Rattle.std.proofs.lemmas.Bool.{eqb-true}
 use Rattle.std.specs.Prelude.{◌==◌, if◌then◌else◌, string_bytes}
 use Rattle.std.specs.List.{list_all}
 use Rattle.std.specs.Str.Lines.{lines as rows_of_text}
+use Rattle.std.proofs.lemmas.List.{get_or_append_left, length-append}
 use Rattle.std.proofs.lemmas.List.Elements.{filter_passes}
 use Rattle.brl_accepted.specs.Pairs.{wording}
-use Rattle.brl_accepted.specs.Reading.{Accepts, is_accepted}
+use Rattle.brl_accepted.specs.Reading.{Accepts, is_excused}
 use Rattle.brl_cert.specs.Reading.{spelling}
 use Rattle.brl_lines.specs.Answer.{FileAnswers}
 use Rattle.brl_lines.specs.Lines.{Answers as Given}
@@ -31,6 +32,7 @@ use Rattle.brl_answers.proofs.DeliveryLemmas.{none_changes, one_changes}
 use Rattle.brl_clashes.proofs.Verdicts.{none_clash, only_accepted, other_clash}
 use Rattle.brl_clashes.specs.ClashesText.{IsClashesText}
 use Rattle.brl_clashes.specs.Sections.{are_whole, listed_pairs, lists_none, outcome_of}
+use Rattle.brl_clashes.specs.Sets.{sets_of_table}
 use Rattle.brl_clashes.specs.declared.section.Section.{Section}
 use Rattle.brl_clashes.specs.declared.verdict.Outcome.{Outcome}
 use Rattle.brl_clashes.specs.declared.verdict.Outcome.TheVariants.{Unambiguous, Clashing, Unfinished}
@@ -43,7 +45,9 @@ use Rattle.brl_cut.specs.Edits.{Texts}
 use Rattle.brl_tool.specs.Comparing.{ComparesByFile, ComparesByWords, IsComparison}
 use Rattle.brl_tool.specs.Tracing.{TracesByFile}
 use Rattle.brl_tool.specs.Unused.{status_of_list, status_of_unused, text_of_unused}
+use Rattle.brl_tool.specs.UpTo.{ChecksUpTo, IsJudgementUpTo, SearchesUpTo}
 use Rattle.brl_tool.specs.Verdicts.{IsFileWith, IsJudgement, Judges, SearchesByFile}
+use Rattle.brl_pairs.specs.declared.excused.Excused.{Excused}
 use Rattle.brl_answers.specs.Answers.{BySpelled, ByText, IsBadLeftOut, IsBadText, spelled_by, text_of}
 use Rattle.brl_answers.specs.Delivery.{Delivers, World, KeepsFiles, Prints, Writes}
 use Rattle.brl_answers.specs.Files.{GivesAlso, MayBeSame, OthersStay}
@@ -170,6 +174,11 @@ module _ (before after : World) (same_file : MayBeSame) where
   table_stays path out paths t (lines, (answers, given, are, lines_are), passes, is) apart others =
       (lines, (answers, answers_stay out others answers (subst (All (λ one. one ≢ out)) (sym are) apart) given, ap (λ fs. lines_of_answers fs answers path) others.0 ∙ lines_are), passes, is)
 
+  -- a file that is none of some and another is none of these
+  front_apart : (out : List ℕ) (paths : List (List ℕ)) (accept : List ℕ) → All (λ one. one ≢ out) (paths ++ accept ∷ []) → All (λ one. one ≢ out) paths
+  front_apart out paths accept apart k d within =
+      subst (λ (one : List ℕ). one ≢ out) (get_or_append_left paths (accept ∷ []) d k within) (apart k d (omega (arith, within, length-append paths (accept ∷ []))))
+
   -- ---- What an answer means that was written whole
 
   abbrev Means : Question → Answer → Type 0
@@ -186,9 +195,10 @@ module _ (before after : World) (same_file : MayBeSame) where
       → AreAccepted baseline (table_of lines) lines found accepted → AreNamedBy before.gives accept lines accepted
   named_by None baseline lines found accepted none accepts = subst (λ (b : Option (List ℕ)). AreAccepted b (table_of lines) lines found accepted) none accepts
   named_by (Some path) baseline lines found accepted (text, some, gives) accepts =
-      let words = wording (table_of lines) lines in
-      let is : Accepts words (listed_pairs found) (are_whole found) text accepted = subst (λ (b : Option (List ℕ)). AreAccepted b (table_of lines) lines found accepted) some accepts in
-      (text, gives, subst (All (λ pair. is_accepted words (rows_of_text text) pair ≡ true)) (sym is.named) (filter_passes (is_accepted words (rows_of_text text)) (listed_pairs found)))
+      let t = table_of lines in
+      let words = wording t lines in
+      let is : Accepts t words (sets_of_table t) (listed_pairs found) (are_whole found) text accepted = subst (λ (b : Option (List ℕ)). AreAccepted b t lines found accepted) some accepts in
+      (text, gives, subst (All (λ pair. is_excused t words (rows_of_text text) pair ≡ true)) (sym is.named) (filter_passes (is_excused t words (rows_of_text text)) (listed_pairs found)))
 
   same_number : (accept baseline : Option (List ℕ)) (accepted : List (ℕ × ℕ)) → IsBaseline before.gives accept baseline → accepted_number baseline accepted ≡ accepted_number accept accepted
   same_number None baseline accepted none = ap (λ b. accepted_number b accepted) none
@@ -259,6 +269,46 @@ module _ (before after : World) (same_file : MayBeSame) where
         | inr (fault, of, refused, (rest, says)) ↦
             ((λ done. let e = sym says.0 ∙ done in cc), (λ refuted. ((rest, subst (Prints before after) says.1 prints), subst (FilesAfter before.gives after.gives) says.2 files)))
       ]
+  means (question.CheckUpTo path cert accept option) answer is files prints =
+      let (left_out, spelled, (bytes, holds, (paths, lines, are, passes, by))) = spelled_in (spelled_by (option_copied option)) (IsBadLeftOut (option_copied option))
+      (λ left_out. ChecksUpTo left_out before.gives path.now cert.now accept.now) answer is in
+      let (defined, (excused, sets, excused_at, judged)) = by in
+      elim judged [
+        | inl (shown, (accepted, deserved, says)) ↦ (
+          (λ done. (
+            left_out,
+            spelled,
+            (lines, excused, sets, (lines_of before.gives path.now paths lines are, passes, excused_at), shown, (accepted.states, accepted.pairs, subst (Prints before after) says.1 prints)),
+          )),
+          (λ refuted. let e = sym says.0 ∙ refuted in cc),
+        )
+        | inr (fault, of, refused, (rest, says)) ↦
+            ((λ done. let e = sym says.0 ∙ done in cc), (λ refuted. ((rest, subst (Prints before after) says.1 prints), subst (FilesAfter before.gives after.gives) says.2 files)))
+      ]
+  means (question.SearchUpTo path out limit accept option) answer is files prints =
+      let (left_out, spelled, (paths, lines, are, passes, apart, (defined, (excused, sets, excused_at, verdict)))) = spelled_in (spelled_by (option_copied option)) (IsBadLeftOut (option_copied option))
+      (λ left_out. SearchesUpTo left_out before.gives same_file path.now out.now limit accept.now) answer is in
+      let here = lines_of before.gives path.now paths lines are in
+      elim verdict [
+        | inl (body, certified, accepted, (status, text, file, read)) ↦ (
+          (λ done. let (gives, others) = file_written (spelling (certificate_of body)) out.now answer.files file files in
+              let stays = table_stays path.now out.now paths (table_of lines) (lines, are, passes, refl) (front_apart out.now paths accept.now apart) others in (
+                left_out,
+                spelled,
+                (lines, excused, sets, (here, passes, excused_at), certified.agree, (body, accepted, gives, others, stays, subst (Prints before after) text prints)),
+              )),
+          (λ refuted. let e = sym status ∙ refuted in cc),
+        )
+        | inr (inl (c, clash, other, says)) ↦ (
+          (λ done. let e = sym says.0 ∙ done in cc),
+          (λ refuted. (
+            (path.now, c.clash.left, c.clash.right, c.clash.cells, lines, here, passes, clash.clash.clash, (false, subst (Prints before after) says.1 prints)),
+            subst (FilesAfter before.gives after.gives) says.2 files,
+          )),
+        )
+        | inr (inr (inl (fault, not, (rest, says)))) ↦ ((λ done. let e = sym says.0 ∙ done in cc), (λ refuted. let e = sym says.0 ∙ refuted in cc))
+        | inr (inr (inr (rules, states, pairs, limit_is, says))) ↦ ((λ done. let e = sym says.0 ∙ done in cc), (λ refuted. let e = sym says.0 ∙ refuted in cc))
+      ]
   means (question.Search path out limit option) answer is files prints =
       let (left_out, spelled, searched) = spelled_in (spelled_by (option_copied option)) (IsBadLeftOut (option_copied option)) (λ left_out. SearchesByFile left_out before.gives same_file path.now out.now limit) answer is in
       let (paths, t, table, apart, verdict) = searched in
@@ -321,6 +371,12 @@ module _ (before after : World) (same_file : MayBeSame) where
     | inr (fault, of, refused, (rest, says)) ↦ says.2
   ]
 
+  judged_has_none : (left_out : List ℕ) (excused : Excused) (sets : ℕ) (t : TableView) (bytes : List ℕ) (answer : Answer) → IsJudgementUpTo left_out excused sets t bytes answer → answer.files ≡ Nothing
+  judged_has_none left_out excused sets t bytes answer is = elim is [
+    | inl (shown, (accepted, deserved, says)) ↦ says.2
+    | inr (fault, of, refused, (rest, says)) ↦ says.2
+  ]
+
   keeps_all_but : (write : Option (List ℕ)) → KeepsFiles before after → KeepsFilesBut write before after
   keeps_all_but None stay = stay
   keeps_all_but (Some path) stay = (stay.0, λ p a other. stay.1 p a)
@@ -340,6 +396,7 @@ module _ (before after : World) (same_file : MayBeSame) where
 
   keeps : (asked : Question) (outcome : Result Answer RunFault) (status : Status) → Answers asked before.gives same_file outcome → Delivers outcome before after status → KeepsFilesUnlessWritten asked before after
   keeps (question.Search path out limit option) outcome status is delivers = tt
+  keeps (question.SearchUpTo path out limit accept option) outcome status is delivers = tt
   keeps (question.Cut path dir rewrite) outcome status is delivers = tt
   keeps (question.Clash path left right options) (Ok answer) status compares (written, writes, e) =
       let (l, r, by_file) = texts_compared options before.gives path.now left.now right.now answer compares in
@@ -356,6 +413,10 @@ module _ (before after : World) (same_file : MayBeSame) where
   keeps (question.Check path cert option) (Ok answer) status is (written, writes, e) =
       let (left_out, spelled, judges) = spelled_in (spelled_by (option_copied option)) (IsBadLeftOut (option_copied option)) (λ left_out. Judges left_out before.gives path.now cert.now) answer is in
       none_changes before after answer written (judgement_has_none left_out path.now judges.checks.0 answer judges.checks.2) writes
+  keeps (question.CheckUpTo path cert accept option) (Ok answer) status is (written, writes, e) =
+      let (left_out, spelled, (bytes, holds, (paths, lines, are, passes, (defined, (excused, sets, excused_at, judged))))) = spelled_in (spelled_by (option_copied option)) (IsBadLeftOut (option_copied option))
+      (λ left_out. ChecksUpTo left_out before.gives path.now cert.now accept.now) answer is in
+      none_changes before after answer written (judged_has_none left_out excused sets (table_of lines) bytes answer judged) writes
   keeps (question.Clashes path limit first option pairs) (Ok answer) status is (written, writes, e) =
       let accept = option_copied pairs.accept in
       let write = option_copied pairs.write in

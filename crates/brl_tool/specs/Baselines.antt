@@ -1,8 +1,9 @@
 -- The files of pairs of rules that `brl clashes` reads and writes. The project's own choice.
 use Rattle.std.specs.Prelude.{ℕ, ◌≡◌, ◌≢◌, All, Any, Bool, true, false, List, [], ◌∷◌, ◌++◌, Option, None, Some, length, option_map, string_bytes}
 use Rattle.std.specs.Str.{is_utf8}
-use Rattle.brl_accepted.specs.Pairs.{pairs_text, wording}
+use Rattle.brl_accepted.specs.Pairs.{wording}
 use Rattle.brl_accepted.specs.Reading.{Accepts, IsRefused}
+use Rattle.brl_accepted.specs.Writing.{accepted_text}
 use Rattle.brl_accepted.specs.declared.fault.AcceptFault.{AcceptFault}
 use Rattle.brl_accepted.specs.declared.reading.Baseline.{Baseline}
 use Rattle.brl_answers.specs.Files.{MayBeSame}
@@ -11,6 +12,7 @@ use Rattle.brl_answers.specs.declared.new_files.NewFiles.TheVariants.{Nothing}
 use Rattle.brl_answers.specs.declared.run_fault.RunFault.{RunFault}
 use Rattle.brl_answers.specs.declared.run_fault.RunFault.TheVariants.{Accept, Load, Memory, PairsWouldOverwrite}
 use Rattle.brl_clashes.specs.Sections.{are_whole, listed_pairs}
+use Rattle.brl_clashes.specs.Sets.{sets_of_table}
 use Rattle.brl_clashes.specs.declared.section.Section.{Section}
 use Rattle.brl_lines.specs.Answer.{FileAnswer, FileAnswers, Holds}
 use Rattle.brl_lines.specs.Tokens.{LineView}
@@ -43,7 +45,7 @@ IsBaseline gives (Some path) baseline = (text : List ℕ) × (baseline ≡ Some 
 -- each line of it is good; none without such a text
 abbrev pub AreAccepted : Option (List ℕ) → TableView → List LineView → List Section → List (ℕ × ℕ) → Type 0
 AreAccepted None t lines sections accepted = accepted ≡ []
-AreAccepted (Some text) t lines sections accepted = Accepts (wording t lines) (listed_pairs sections) (are_whole sections) text accepted
+AreAccepted (Some text) t lines sections accepted = Accepts t (wording t lines) (sets_of_table t) (listed_pairs sections) (are_whole sections) text accepted
 
 -- how many pairs are accepted, where pairs are read
 abbrev pub accepted_number : Option (List ℕ) → List (ℕ × ℕ) → Option ℕ
@@ -52,7 +54,7 @@ accepted_number baseline accepted = option_map (λ text. length accepted) baseli
 -- the first bad line of a file of accepted pairs, by its path and its text, is refused beside what these
 -- sections list
 abbrev pub IsBadLine : TableView → List LineView → List Section → List ℕ → List ℕ → AcceptFault → Type 0
-IsBadLine t lines sections path text fault = IsRefused (wording t lines) (listed_pairs sections) (are_whole sections) path text fault
+IsBadLine t lines sections path text fault = IsRefused (wording t lines) (sets_of_table t) (listed_pairs sections) (are_whole sections) path text fault
 
 -- the same of a file that may be asked for
 abbrev pub IsBadLineOf : TableView → List LineView → List Section → Option Baseline → AcceptFault → Type 0
@@ -69,7 +71,7 @@ IsFaultOfLine is_bad fault = ⊥
 
 -- the pairs of rules that sections list, as the text of a file
 abbrev pub text_of_pairs : TableView → List LineView → List Section → List ℕ
-text_of_pairs t lines sections = pairs_text (wording t lines) (listed_pairs sections)
+text_of_pairs t lines sections = accepted_text t (wording t lines) (sets_of_table t) (listed_pairs sections)
 
 -- the files of an answer: one with a text, where a path for it is asked for and the list is whole
 abbrev pub AreFilesWith : Option (List ℕ) → Bool → List ℕ → NewFiles → Type 0

@@ -11,4 +11,5 @@ pub mod Verdicts
 pub mod Notices
 pub mod Baselines
 pub mod Diagnosing
+pub mod UpTo
 pub mod Unused

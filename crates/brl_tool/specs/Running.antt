@@ -4,11 +4,13 @@ use Rattle.std.specs.Prelude.{ℕ, ◌≡◌, ◌≢◌, ◌<◌, ◌==◌, ◌�
 use Rattle.std.specs.Global.{Global, Vec}
 use Rattle.std.specs.Option.{option_copied}
 use Rattle.std.specs.Str.Lines.{lines as rows_of_text}
+use Rattle.brl_accept.specs.Excusing.{IsAcceptedUpTo, IsShown}
 use Rattle.brl_accept.specs.Judging.{IsAcceptedWithout, counted}
 use Rattle.brl_accepted.specs.Pairs.{wording}
-use Rattle.brl_accepted.specs.Reading.{is_accepted}
+use Rattle.brl_accepted.specs.Reading.{is_excused}
 use Rattle.brl_cert.specs.Reading.{spelling}
 use Rattle.brl_pairs.specs.Body.{BodyView}
+use Rattle.brl_pairs.specs.declared.excused.Excused.{Excused}
 use Rattle.brl_lines.specs.Answer.{FileAnswer, FileAnswers, Holds, MayAnswerSame}
 use Rattle.brl_lines.specs.Outcome.{AreLinesOf}
 use Rattle.brl_table.specs.Files.{IsTableOf}
@@ -44,6 +46,7 @@ use Rattle.brl_tool.specs.Streams.{TranslatesByFile, TranslatesDefinedByFile}
 use Rattle.brl_tool.specs.Surveying.{SurveysByFiles}
 use Rattle.brl_tool.specs.Tracing.{TracesByWord}
 use Rattle.brl_tool.specs.Unused.{ListsUnusedByFile}
+use Rattle.brl_tool.specs.UpTo.{ChecksUpTo, IsExcusedAt, SearchesUpTo, lines_up_to}
 use Rattle.brl_answers.specs.declared.answer.Answer.{Answer}
 use Rattle.brl_answers.specs.declared.new_files.NewFile.{NewFile}
 use Rattle.brl_answers.specs.declared.run_fault.RunFault.{RunFault}
@@ -56,6 +59,7 @@ use Rattle.brl_cli.specs.declared.command.Question.TheVariants as question
 use Rattle.brl_cli.specs.declared.command.Task.{Task}
 use Rattle.brl_cli.specs.declared.command.Work.{Work}
 use Rattle.brl_cli.specs.declared.command.Task.TheVariants as task
+use Rattle.brl_traces.specs.Exchanges.{TextsAgreeBut}
 use Rattle.brl_traces.specs.Traces.{ClashesDivergeAtWithout}
 use Rattle.brl_without.specs.Tables.{IsUnambiguousWithout}
 
@@ -72,12 +76,21 @@ Answers (question.Explain line) gives same outcome = Explains gives line.now out
 Answers (question.Cut path dir rewrite) gives same outcome = CutsByFile rewrite gives path.now dir.now outcome
 Answers (question.Check path cert option) gives same outcome =
     ByLeftOut (option_copied option) (λ left_out. Judges left_out gives path.now cert.now) outcome
+Answers (question.CheckUpTo path cert accept option) gives same outcome =
+    ByLeftOut (option_copied option) (λ left_out. ChecksUpTo left_out gives path.now cert.now accept.now) outcome
+Answers (question.SearchUpTo path out limit accept option) gives same outcome =
+    ByLeftOut (option_copied option) (λ left_out. SearchesUpTo left_out gives same path.now out.now limit accept.now) outcome
 Answers (question.Search path out limit option) gives same outcome =
     ByLeftOut (option_copied option) (λ left_out. SearchesByFile left_out gives same path.now out.now limit) outcome
 Answers (question.Clashes path limit first option pairs) gives same outcome =
     ByLeftOut (option_copied option) (λ left_out. DiagnosesByFile left_out gives same path.now limit first (option_copied pairs.accept) (option_copied pairs.write)) outcome
 
 -- ---- What the status says of a question
+
+-- these are the lines of the table of the file at a path, and the file at another excuses this of it
+abbrev pub IsExcusalOf : World → List ℕ → List ℕ → List LineView → Excused → ℕ → Type 0
+IsExcusalOf before path accept lines excused sets =
+    AreLinesOf before.gives path lines × PassesAll lines × IsExcusedAt before.gives accept (table_of lines) lines excused sets
 
 -- an acceptance was written, and the table of the file at the path is unambiguous without the
 -- characters that the option leaves out
@@ -86,6 +99,15 @@ ReportsAcceptance before after path option =
     (left_out : List ℕ) × (spelled_by option ≡ Ok left_out)
     × ((t : TableView) × IsTableOf before.gives path t × IsUnambiguousWithout left_out t)
     × ((states pairs : ℕ) × Prints before after (with_left_out_line left_out (accepted_line states pairs)))
+
+-- an acceptance was written that says what the file at a path excuses of the table of the file at
+-- another: any two texts of that table that use none of what the option leaves out and that it translates
+-- to the same cells are the same but for this
+abbrev pub ReportsAcceptanceUpTo : World → World → List ℕ → List ℕ → Option (List ℕ) → Type 0
+ReportsAcceptanceUpTo before after path accept option =
+    (left_out : List ℕ) × (spelled_by option ≡ Ok left_out)
+    × ((lines : List LineView) × (excused : Excused) × (sets : ℕ) × IsExcusalOf before path accept lines excused sets × IsShown left_out excused (table_of lines)
+    × ((states pairs : ℕ) × Prints before after (lines_up_to left_out excused sets (accepted_line states pairs))))
 
 -- the refusal of a certificate was written
 abbrev pub ReportsRefusal : World → World → Type 0
@@ -99,12 +121,12 @@ ReportsClash before after =
     × IsClash (table_of lines) left right cells
     × ((with_lines : Bool) × Prints before after (report_text_with (table_of lines) (shown_lines with_lines lines) left right cells))
 
--- each of these pairs of rules is named by a line of the file of accepted pairs; none are, where no such
--- file is asked for
+-- each of these pairs of rules is named by a line of the file of accepted pairs, or is of a set of
+-- characters that one names; none are, where no such file is asked for
 abbrev pub AreNamedBy : FileAnswers → Option (List ℕ) → List LineView → List (ℕ × ℕ) → Type 0
 AreNamedBy gives None lines accepted = accepted ≡ []
 AreNamedBy gives (Some path) lines accepted =
-    (text : List ℕ) × gives.may path (Holds text) × All (λ pair. IsTrue (is_accepted (wording (table_of lines) lines) (rows_of_text text) pair)) accepted
+    (text : List ℕ) × gives.may path (Holds text) × All (λ pair. IsTrue (is_excused (table_of lines) (wording (table_of lines) lines) (rows_of_text text) pair)) accepted
 
 -- pairs of rules were written as the text of a file, where a path for it is asked for; no other file
 -- changed
@@ -172,6 +194,18 @@ ReportsCertificate before after path out option =
     × GivesAlso after.gives out (spelling (certificate_of body)) × OthersStay before.gives after.gives out × IsTableOf after.gives path t
     × Prints before after (with_left_out_line left_out (certified_line (certificate_of body))))
 
+-- a certificate was written that a judge accepts for the table of the file at the path, but for what
+-- another file excuses: any two texts of that table that it translates to the same cells are the same
+-- but for this, both without the characters that the option leaves out; no other file changed
+abbrev pub ReportsCertificateUpTo : World → World → List ℕ → List ℕ → List ℕ → Option (List ℕ) → Type 0
+ReportsCertificateUpTo before after path out accept option =
+    (left_out : List ℕ) × (spelled_by option ≡ Ok left_out)
+    × ((lines : List LineView) × (excused : Excused) × (sets : ℕ) × IsExcusalOf before path accept lines excused sets
+    × TextsAgreeBut left_out excused.exchanged excused.accepted (table_of lines)
+    × ((body : BodyView State) × IsAcceptedUpTo left_out excused (table_of lines) (spelling (certificate_of body)) (counted (certificate_of body))
+    × GivesAlso after.gives out (spelling (certificate_of body)) × OthersStay before.gives after.gives out × IsTableOf after.gives path (table_of lines)
+    × Prints before after (lines_up_to left_out excused sets (certified_line (certificate_of body)))))
+
 -- new files were written, and no other file changed; these files define a table whose root is the file
 -- at the path, written into the folder
 abbrev pub WritesTable : World → World → List ℕ → List ℕ → Type 0
@@ -182,6 +216,8 @@ WritesTable before after path dir =
 -- what it means that the work was done
 abbrev pub MeansDone : Question → World → World → Type 0
 MeansDone (question.Check path cert option) before after = ReportsAcceptance before after path.now (option_copied option)
+MeansDone (question.CheckUpTo path cert accept option) before after = ReportsAcceptanceUpTo before after path.now accept.now (option_copied option)
+MeansDone (question.SearchUpTo path out limit accept option) before after = ReportsCertificateUpTo before after path.now out.now accept.now (option_copied option)
 MeansDone (question.Search path out limit option) before after = ReportsCertificate before after path.now out.now (option_copied option)
 MeansDone (question.Clashes path limit first option pairs) before after =
     ReportsNoOther before after path.now (option_copied option) (option_copied pairs.accept) (option_copied pairs.write)
@@ -193,7 +229,9 @@ MeansDone asked before after = Unit {0}
 abbrev pub MeansRefuted : Question → World → World → Type 0
 MeansRefuted (question.Clash path left right options) before after = ReportsClash before after
 MeansRefuted (question.Check path cert option) before after = ReportsRefusal before after
+MeansRefuted (question.CheckUpTo path cert accept option) before after = ReportsRefusal before after
 MeansRefuted (question.Search path out limit option) before after = ReportsClash before after
+MeansRefuted (question.SearchUpTo path out limit accept option) before after = ReportsClash before after
 MeansRefuted (question.Clashes path limit first option pairs) before after =
     ReportsOther before after path.now (option_copied option) (option_copied pairs.accept) (option_copied pairs.write)
 MeansRefuted (question.Unused path limit) before after = ReportsUnused before after
@@ -207,6 +245,7 @@ KeepsFilesBut (Some path) before after = OthersStay before.gives after.gives pat
 -- no file changes, unless a table was searched or cut, or pairs of rules are to be written
 abbrev pub KeepsFilesUnlessWritten : Question → World → World → Type 0
 KeepsFilesUnlessWritten (question.Search path out limit option) before after = Unit {0}
+KeepsFilesUnlessWritten (question.SearchUpTo path out limit accept option) before after = Unit {0}
 KeepsFilesUnlessWritten (question.Cut path dir rewrite) before after = Unit {0}
 KeepsFilesUnlessWritten (question.Clashes path limit first option pairs) before after = KeepsFilesBut (option_copied pairs.write) before after
 KeepsFilesUnlessWritten asked before after = KeepsFiles before after

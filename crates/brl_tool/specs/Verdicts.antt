@@ -89,14 +89,18 @@ Checks left_out gives path cert (Ok answer) = (bytes : List ℕ) × gives.may ce
 Checks left_out gives path cert (Err fault) =
     IsFaultOfFile gives cert fault ⊎ ((bytes : List ℕ) × gives.may cert (Holds bytes) × IsFaultOfTable left_out gives path bytes fault)
 
+-- what is answered where the judge accepts nothing
+abbrev pub RendersFailure : Failure JudgeFault → Result Answer RunFault → Type 0
+RendersFailure (failures.Fault (judge.NoTable fault)) outcome = outcome ≡ Err (of_no_table fault)
+RendersFailure (failures.Fault (judge.NotDefined fault)) outcome = outcome ≡ Err (NotDefined fault)
+RendersFailure (failures.Fault (judge.Wide fault)) outcome = outcome ≡ Err (Wide fault)
+RendersFailure (failures.Fault fault) outcome = UnlessMemory IsRefusal outcome
+RendersFailure failures.Memory outcome = outcome ≡ Err Memory
+
 -- what is answered for each outcome of the judge
 abbrev pub Renders : List ℕ → Result Accepted (Failure JudgeFault) → Result Answer RunFault → Type 0
 Renders left_out (Ok accepted) outcome = UnlessMemory (IsAcceptance left_out accepted) outcome
-Renders left_out (Err (failures.Fault (judge.NoTable fault))) outcome = outcome ≡ Err (of_no_table fault)
-Renders left_out (Err (failures.Fault (judge.NotDefined fault))) outcome = outcome ≡ Err (NotDefined fault)
-Renders left_out (Err (failures.Fault (judge.Wide fault))) outcome = outcome ≡ Err (Wide fault)
-Renders left_out (Err (failures.Fault fault)) outcome = UnlessMemory IsRefusal outcome
-Renders left_out (Err failures.Memory) outcome = outcome ≡ Err Memory
+Renders left_out (Err failure) outcome = RendersFailure failure outcome
 
 -- Over files that each have one answer: where they define a table, and the certificate's file has
 -- bytes that deserve acceptance for it, they are accepted, unless memory runs out.

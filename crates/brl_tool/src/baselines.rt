@@ -15,9 +15,9 @@ ghost use Rattle.brl_tool.specs.Baselines.{
 };
 
 use crate::same_file::path_of_file;
-use brl_accepted::{Baseline, Listed, read_accepted, wording, write_pairs};
+use brl_accepted::{Baseline, Listed, Nameable, read_accepted, wording, write_accepted};
 use brl_answers::{Files, NewFile, NewFiles, RunFault};
-use brl_clashes::{Section, are_whole, pairs_of_sections};
+use brl_clashes::{Section, are_whole, character_sets, pairs_of_sections};
 use brl_cli::PairFiles;
 use brl_lines::{Line, Loaded};
 use brl_rules::Table;
@@ -47,7 +47,7 @@ pub fn refuse_file_that_is_read<F: Files>(
 }
 
 /// The paths of the files that are read: those of a table, and that of the accepted pairs.
-fn read_paths<'a>(
+pub(crate) fn read_paths<'a>(
     alloc: Global,
     loaded: &'a Loaded,
     accept: Option<&'a str>,
@@ -77,12 +77,17 @@ pub fn accepted_pairs(
         return Ok(Vec::new(alloc));
     };
     let words = wording(alloc, table, lines)?;
+    let sets = character_sets(alloc, table)?;
+    let known = Nameable {
+        words: words.as_slice(),
+        sets: sets.as_slice(),
+    };
     let pairs = pairs_of_sections(alloc, sections)?;
     let listed = Listed {
         pairs: pairs.as_slice(),
         whole: are_whole(sections),
     };
-    Ok(read_accepted(alloc, words.as_slice(), listed, file)?)
+    Ok(read_accepted(alloc, table, known, listed, file)?)
 }
 
 /// The file with the pairs of rules that the sections of a table of these lines list, where a path is
@@ -118,6 +123,11 @@ fn pairs_text(
     ensures { IfOk result (λ text. string_bytes text ≡ text_of_pairs table.now (map line_view lines.now) sections.now) }
 {
     let words = wording(alloc, table, lines)?;
+    let sets = character_sets(alloc, table)?;
+    let known = Nameable {
+        words: words.as_slice(),
+        sets: sets.as_slice(),
+    };
     let pairs = pairs_of_sections(alloc, sections)?;
-    write_pairs(alloc, words.as_slice(), pairs.as_slice())
+    write_accepted(alloc, table, known, pairs.as_slice())
 }

@@ -3,7 +3,7 @@ ghost use Rattle.brl_lines.specs.Answer.{Unchanged};
 ghost use Rattle.brl_lines.specs.Outcome.{CountsFailure};
 ghost use Rattle.std.specs.Option.{option_copied};
 ghost use Rattle.brl_answers.specs.Answers.{ByLeftOut, UnlessMemory, load_outcome};
-ghost use Rattle.brl_tool.specs.Verdicts.{AcceptsGood, Checks, IsAcceptance, IsRefusal, Judges, Renders};
+ghost use Rattle.brl_tool.specs.Verdicts.{AcceptsGood, Checks, IsAcceptance, IsRefusal, Judges, Renders, RendersFailure};
 
 use crate::file_text::bytes_at;
 use brl_accept::{JudgeFault, judge_with};
@@ -68,13 +68,25 @@ fn judgement(
 {
     match judged {
         Ok(accepted) => acceptance(alloc, left_out, accepted),
-        Err(Failure::Fault(JudgeFault::NoTable(fault))) => Err(Failure::Fault(fault).into()),
-        Err(Failure::Fault(JudgeFault::NotDefined(fault))) => Err(RunFault::NotDefined(fault)),
-        Err(Failure::Fault(JudgeFault::Cert(fault))) => refusal(alloc, &fault),
-        Err(Failure::Fault(JudgeFault::OldVersion)) => refusal(alloc, &JudgeFault::OldVersion),
-        Err(Failure::Fault(JudgeFault::Wide(fault))) => Err(RunFault::Wide(fault)),
-        Err(Failure::Fault(JudgeFault::Refused(fault))) => refusal(alloc, &fault),
-        Err(Failure::Memory) => Err(RunFault::Memory),
+        Err(failure) => answer_failure(alloc, failure),
+    }
+}
+
+/// The answer where the judge accepts nothing.
+pub(crate) fn answer_failure(
+    alloc: Global,
+    failure: Failure<JudgeFault>,
+) -> Result<Answer, RunFault>
+    ensures { RendersFailure failure result }
+{
+    match failure {
+        Failure::Fault(JudgeFault::NoTable(fault)) => Err(Failure::Fault(fault).into()),
+        Failure::Fault(JudgeFault::NotDefined(fault)) => Err(RunFault::NotDefined(fault)),
+        Failure::Fault(JudgeFault::Cert(fault)) => refusal(alloc, &fault),
+        Failure::Fault(JudgeFault::OldVersion) => refusal(alloc, &JudgeFault::OldVersion),
+        Failure::Fault(JudgeFault::Wide(fault)) => Err(RunFault::Wide(fault)),
+        Failure::Fault(JudgeFault::Refused(fault)) => refusal(alloc, &fault),
+        Failure::Memory => Err(RunFault::Memory),
     }
 }
 

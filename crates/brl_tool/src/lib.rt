@@ -4,7 +4,8 @@
 //! `cut` do the work of these commands by the files of a table, `search`, `clashes`, `unused` and `check` that of theirs, and
 //! `explain` has what a fault means, and
 //! `notices` writes the notices of a table that is searched. `baselines` has the files of pairs of rules
-//! that `clashes` reads and writes. What all but `translate` give is an answer
+//! that `clashes` reads and writes. `check_up_to` and `search_up_to` have what `check` and `search` answer
+//! where a file excuses something, which `excusing` reads. What all but `translate` give is an answer
 //! (brl_answers).
 //!
 //! Room 5, the program (docs/dev/ARCHITECTURE.md). The definitions begin in `specs/Running.antt`.
@@ -12,9 +13,11 @@
 
 mod baselines;
 mod check;
+mod check_up_to;
 mod clash;
 mod clashes;
 mod cut;
+mod excusing;
 mod explain;
 mod file_text;
 mod laws;
@@ -23,6 +26,7 @@ mod program;
 mod rules;
 mod same_file;
 mod search;
+mod search_up_to;
 mod shown;
 mod survey;
 mod trace;
@@ -35,6 +39,7 @@ pub use brl_stream::{
     translate_defined_lines, translate_lines,
 };
 pub use check::check_by_words;
+pub use check_up_to::{CheckedFiles, check_up_to_by_words};
 pub use clash::compare_by_words;
 pub use clashes::list_clashes_by_words;
 pub use cut::cut_by_file;
@@ -43,6 +48,7 @@ pub use laws::prefixes_law;
 pub use program::run;
 pub use rules::list_rules_by_file;
 pub use search::search_by_words;
+pub use search_up_to::{SearchedFiles, search_up_to_by_words};
 pub use survey::survey_by_files;
 pub use trace::trace_by_word;
 pub use translate::{translate_by_file, translate_defined_by_file};

@@ -5,12 +5,14 @@ ghost use Rattle.brl_answers.specs.Delivery.{world};
 ghost use Rattle.brl_tool.specs.Running.{Answers, Asks, IsHelp, IsStatus, MayGainPairs, Performs, Replies, ReportsOne, Runs, TranslatesDefined};
 
 use crate::check::check_by_words;
+use crate::check_up_to::{CheckedFiles, check_up_to_by_words};
 use crate::clash::compare_by_words;
 use crate::clashes::list_clashes_by_words;
 use crate::cut::cut_by_file;
 use crate::explain::explain_line;
 use crate::rules::list_rules_by_file;
 use crate::search::search_by_words;
+use crate::search_up_to::{SearchedFiles, search_up_to_by_words};
 use crate::survey::survey_by_files;
 use crate::trace::trace_by_word;
 use crate::translate::{translate_by_file, translate_defined_by_file};
@@ -195,6 +197,21 @@ fn answer<F: Files, E: Write + Progress>(
             err.end();
             outcome
         }
+        Question::CheckUpTo {
+            table,
+            cert,
+            accept,
+            without,
+        } => {
+            let paths = CheckedFiles {
+                table,
+                cert,
+                accept,
+            };
+            let outcome = check_up_to_by_words(alloc, files, paths, without, err);
+            err.end();
+            outcome
+        }
         Question::Search {
             table,
             cert,
@@ -202,6 +219,23 @@ fn answer<F: Files, E: Write + Progress>(
             without,
         } => {
             let outcome = search_by_words(alloc, files, table, cert, limit, without, err);
+            err.end();
+            outcome
+        }
+        Question::SearchUpTo {
+            table,
+            cert: out,
+            limit,
+            accept,
+            without,
+        } => {
+            let wanted = SearchedFiles {
+                table,
+                out,
+                accept,
+                limit,
+            };
+            let outcome = search_up_to_by_words(alloc, files, wanted, without, err);
             err.end();
             outcome
         }

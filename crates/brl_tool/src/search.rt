@@ -4,10 +4,12 @@ ghost use Rattle.brl_lines.specs.Answer.{Unchanged};
 ghost use Rattle.brl_lines.specs.Outcome.{CountsFailure};
 ghost use Rattle.std.specs.Option.{option_copied};
 ghost use Rattle.brl_answers.specs.Answers.{ByLeftOut, load_outcome};
+ghost use Rattle.brl_tool.specs.Baselines.{read_paths as paths_of_read};
 ghost use Rattle.brl_tool.specs.Verdicts.{IsCertificateAt, IsOverwriting, IsUndefinedFault, IsVerdict, SearchesByFile};
 ghost use Rattle.brl_search.specs.Found.{IsFoundWithout};
 ghost use Rattle.brl_without.specs.Tables.{AreDefined};
 
+use crate::baselines::read_paths;
 use crate::notices::write_notices;
 use crate::same_file::path_of_file;
 use brl_answers::{
@@ -65,7 +67,7 @@ pub fn search_by_file<F: Files, E: Write + Progress>(
     ensures same { Unchanged (F.gives files.old) (F.gives files.new) }
 {
     let loaded = load(alloc, files, path)?;
-    refuse_file_of_table(alloc, files, &loaded, out)?;
+    refuse_file_that_is_read(alloc, files, &loaded, None, out)?;
     let table = table_of_loaded(alloc, &loaded)?;
     drop(loaded);
     let answer = search_defined(alloc, &table, out, limit, left_out, err);
@@ -73,17 +75,18 @@ pub fn search_by_file<F: Files, E: Write + Progress>(
     answer
 }
 
-/// Refuses a file for the certificate that is one of a table's files.
-fn refuse_file_of_table<F: Files>(
+/// Refuses a file for the certificate that is one of a table's files, or that of what is excused.
+pub(crate) fn refuse_file_that_is_read<F: Files>(
     alloc: Global,
     files: &F,
     loaded: &Loaded,
+    accept: Option<&str>,
     out: &str,
 ) -> Result<(), RunFault>
-    ensures apart { OnOk result (All (λ one. one ≢ out.now) loaded.now.paths) }
-    ensures refused { IfErr result (IsOverwriting F.same_file loaded.now.paths out.now) }
+    ensures apart { OnOk result (All (λ one. one ≢ out.now) (paths_of_read loaded.now.paths (option_copied accept.entry))) }
+    ensures refused { IfErr result (IsOverwriting F.same_file (paths_of_read loaded.now.paths (option_copied accept.entry)) out.now) }
 {
-    let paths = loaded.paths(alloc)?;
+    let paths = read_paths(alloc, loaded, accept)?;
     match path_of_file(files, paths.as_slice(), out) {
         Some(path) => Err(RunFault::WouldOverwrite(String::from_str(alloc, path)?)),
         None => Ok(()),

@@ -1,7 +1,7 @@
 //! Files of accepted pairs of rules.
 use brl_accepted::{
-    AcceptFault, AcceptFaultKind, Baseline, Listed, named_pairs, read_accepted, read_back_law,
-    wording, write_pairs,
+    AcceptFault, AcceptFaultKind, Baseline, Excusal, Listed, Nameable, read_accepted,
+    read_back_law, read_excusal, wording, write_accepted,
 };
 use brl_failure::Failure;
 use brl_table::Table;
@@ -15,85 +15,150 @@ const ONE: Listed<'static> = Listed {
     whole: true,
 };
 
-/// The text of a file that names these pairs.
-fn text_of(alloc: Global, words: &[String]) -> Result<String, AllocError> {
-    write_pairs(alloc, words, ONE.pairs)
-}
-
 /// What is accepted of a text.
 fn read(
     alloc: Global,
-    words: &[String],
+    table: &Table,
+    known: Nameable<'_>,
     text: &str,
 ) -> Result<Vec<(u32, u32)>, Failure<AcceptFault>> {
-    read_accepted(alloc, words, ONE, Baseline { path: "p", text })
+    read_accepted(alloc, table, known, ONE, Baseline { path: "p", text })
+}
+
+/// Whether just the one pair is accepted of a text.
+fn accepts_one(alloc: Global, table: &Table, known: Nameable<'_>, text: &str) -> bool {
+    match read(alloc, table, known, text) {
+        Ok(pairs) => pairs.as_slice() == ONE.pairs,
+        Err(_) => false,
+    }
 }
 
 /// Whether a text is refused at this line for this.
 fn is_refused(
     alloc: Global,
-    words: &[String],
+    table: &Table,
+    known: Nameable<'_>,
     text: &str,
-    kind: AcceptFaultKind,
-    line: usize,
+    (kind, line): (AcceptFaultKind, usize),
 ) -> bool {
-    match read(alloc, words, text) {
+    match read(alloc, table, known, text) {
         Err(Failure::Fault(fault)) => fault.kind == kind && fault.line == line,
         _ => false,
     }
 }
 
-/// Whether a file names just these pairs of a table's rules.
-fn are_named(alloc: Global, table: &Table, text: &str, pairs: &[(u32, u32)]) -> bool {
-    match named_pairs(alloc, table, &[], Baseline { path: "p", text }) {
-        Ok(named) => named.as_slice() == pairs,
+/// The sets of characters of these texts.
+fn sets_of(alloc: Global, texts: &[&str]) -> Result<Vec<Vec<char>>, AllocError> {
+    let mut sets = Vec::new(alloc);
+    for text in texts {
+        sets.push(text.chars().collect(alloc)?)?;
+    }
+    Ok(sets)
+}
+
+/// Whether a file excuses just these pairs of a table's rules, where `a` and `x` are a set.
+fn excuses(
+    alloc: Global,
+    table: &Table,
+    text: &str,
+    accepted: &[(u32, u32)],
+    exchanged: &[(u32, u32)],
+) -> bool {
+    let Ok(sets) = sets_of(alloc, &["ax"]) else {
+        return false;
+    };
+    match read_excusal(
+        alloc,
+        table,
+        &[],
+        sets.as_slice(),
+        Baseline { path: "p", text },
+    ) {
+        Ok(Excusal { excused, sets }) => {
+            excused.accepted.as_slice() == accepted
+                && excused.exchanged.as_slice() == exchanged
+                && sets == exchanged.len()
+        }
         Err(_) => false,
     }
 }
 
 /// Whether the pairs that lines name are found by their numbers, in the order of the line.
 fn names(alloc: Global, table: &Table) -> bool {
-    are_named(alloc, table, "# none\n", &[])
-        && are_named(alloc, table, "rule x 1-12 / rule a 1\n", &[(2, 0)])
-        && are_named(
+    excuses(alloc, table, "# none\n", &[], &[])
+        && excuses(alloc, table, "rule x 1-12 / rule a 1\n", &[(2, 0)], &[])
+        && excuses(
             alloc,
             table,
             "rule a 1 / rule b 12\nrule a 1 / rule a 1",
             &[(0, 1), (0, 0)],
+            &[],
         )
-        && !are_named(alloc, table, "rule a 1 / rule y 12\n", &[])
+        && excuses(alloc, table, "exchange xa\n", &[], &[(0, 2)])
+        && !excuses(alloc, table, "exchange ab\n", &[], &[(0, 1)])
+        && !excuses(alloc, table, "rule a 1 / rule y 12\n", &[], &[])
 }
 
 /// Whether the line of a pair is written and read, and another is refused.
 fn reads(alloc: Global, table: &Table) -> Result<bool, Fail> {
     let words = wording(alloc, table, &[])?;
-    let words = words.as_slice();
-    read_back_law(table, &[]);
-    let text = text_of(alloc, words)?;
-    let Ok(pairs) = read(alloc, words, text.as_str()) else {
-        return Ok(false);
+    let sets = sets_of(alloc, &[])?;
+    let known = Nameable {
+        words: words.as_slice(),
+        sets: sets.as_slice(),
     };
+    let text = write_accepted(alloc, table, known, ONE.pairs)?;
     let turned = "# both\n\nrule x 1-12 / rule a 1\r\n";
-    let Ok(same) = read(alloc, words, turned) else {
-        return Ok(false);
-    };
+    let stale = "rule a 1 / rule b 12\n";
     Ok(
         text.as_str() == "rule a 1 / rule x 1-12\n"
-            && pairs.as_slice() == ONE.pairs
-            && same.as_slice() == ONE.pairs
+            && accepts_one(alloc, table, known, text.as_str())
+            && accepts_one(alloc, table, known, turned)
             && is_refused(
                 alloc,
-                words,
+                table,
+                known,
                 "#\nrule a 1\n",
-                AcceptFaultKind::NoSuchRules,
-                2,
+                (AcceptFaultKind::NoSuchRules, 2),
+            )
+            && is_refused(alloc, table, known, stale, (AcceptFaultKind::NotListed, 1))
+            && is_refused(
+                alloc,
+                table,
+                known,
+                "exchange ax",
+                (AcceptFaultKind::NoSuchSet, 1),
+            ),
+    )
+}
+
+/// Whether the line of a set is written in place of its pair, and read.
+fn reads_sets(alloc: Global, table: &Table) -> Result<bool, Fail> {
+    let words = wording(alloc, table, &[])?;
+    let sets = sets_of(alloc, &["bb", "ax"])?;
+    read_back_law(table, &[], sets.as_slice());
+    let known = Nameable {
+        words: words.as_slice(),
+        sets: sets.as_slice(),
+    };
+    let text = write_accepted(alloc, table, known, ONE.pairs)?;
+    Ok(
+        text.as_str() == "exchange ax\n"
+            && accepts_one(alloc, table, known, text.as_str())
+            && accepts_one(alloc, table, known, "#\nexchange xa\r\n")
+            && is_refused(
+                alloc,
+                table,
+                known,
+                "exchange ab\n",
+                (AcceptFaultKind::NoSuchSet, 1),
             )
             && is_refused(
                 alloc,
-                words,
-                "rule a 1 / rule b 12\n",
-                AcceptFaultKind::NotListed,
-                1,
+                table,
+                known,
+                "exchange ax\nexchange a\n",
+                (AcceptFaultKind::NoSuchSet, 2),
             ),
     )
 }
@@ -102,6 +167,7 @@ fn reads(alloc: Global, table: &Table) -> Result<bool, Fail> {
 fn calls_of_accepted_pairs(rt: HostRuntime) -> Result<(), Fail> {
     let table = table_of(rt.alloc(), "letter a 1; letter b 12; letter x 1-12")?;
     assert!(rt; reads(rt.alloc(), &table)?);
+    assert!(rt; reads_sets(rt.alloc(), &table)?);
     assert!(rt; names(rt.alloc(), &table));
     Ok(())
 }

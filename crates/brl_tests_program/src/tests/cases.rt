@@ -326,6 +326,22 @@ t.ctb: letter a 1; letter b 12; letter x 1-12|brl,clashes,t.ctb,--write,t.ctb|||
 t.ctb: include u; letter a 19 & u: #|brl,clashes,t.ctb,--write,u|||error: the pairs of rules would overwrite u, a file that is read|2
 t.ctb: letter a 1; letter b 12; letter x 1-12|brl,clashes,t.ctb,--accept,p,--write,p|||error: the pairs of rules would overwrite p, a file that is read|2
 |brl,clashes,t.ctb,--write,t.ctb|||L1 NotFound t.ctb|2
+t.ctb: space \\s 0; space \\t 0; letter a 1 & p: exchange \\sa|brl,clashes,t.ctb,--accept,p|||P3 NoSuchSet exchange \\sa at p:1|2
+t.ctb: letter a 1; letter b 12; letter x 1-12 & p: letter x 1-12 / letter a 1|brl,search,t.ctb,o,--accept,p||certified: 2 states, 0 pairs; but for: 1 pair of rules, 0 sets of characters||0
+t.ctb: space \\s 0; space \\t 0; letter a 1 & p: exchange \\t\\s|brl,search,t.ctb,o,--accept,p||certified: 2 states, 0 pairs; but for: 0 pairs of rules, 1 set of characters||0
+t.ctb: space \\s 0; space \\t 0; letter a 1 & p: exchange \\t\\s|brl,search,t.ctb,o,--accept,p,--without,a||certified: 1 states, 0 pairs; but for: 0 pairs of rules, 1 set of characters; without: a||0
+t.ctb: letter a 1; letter b 12; letter x 1-12 & p: #|brl,search,t.ctb,o,--accept,p||left: x; right: ab; cells: 1-12; left from 0:;   x  1-12  t.ctb:3; right from 0:;   a  1   t.ctb:1;   b  12  t.ctb:2||1
+t.ctb: letter a 1; letter b 12; letter x 1-12 & p: #|brl,search,t.ctb,o,--accept,p,--limit,0||limit: 1 states, 0 pairs||3
+t.ctb: letter a 1; letter b 12; letter x 1-12 & p: letter a 1|brl,search,t.ctb,o,--accept,p|||P1 NoSuchRules letter a 1 at p:1|2
+t.ctb: letter a 1; letter b 12; letter x 1-12|brl,search,t.ctb,o,--accept,p|||L1 NotFound p|2
+t.ctb: letter a 1; letter b 12; letter x 1-12|brl,search,t.ctb,p,--accept,p|||error: the certificate would overwrite p, a file that is read|2
+t.ctb: letter a 1; letter b 12; letter x 1-12|brl,search,t.ctb,o,--accept,p,--without,z|||U8 UndefinedLeftOut z|2
+t.ctb: letter a 1; letter b 12; letter x 1-12 & p: letter x 1-12 / letter a 1 & c: BRLCERT 3; state 1 0 0; state 8 0 0; end 2 0|brl,check,t.ctb,c,--accept,p||accepted: 2 states, 0 pairs; but for: 1 pair of rules, 0 sets of characters||0
+t.ctb: letter a 1; letter b 12; letter x 1-12 & p: # & c: BRLCERT 3; state 1 0 0; state 8 0 0; end 2 0|brl,check,t.ctb,c,--accept,p||refused: A3 SplitMissing state 0 rules 0 2||1
+t.ctb: space \\s 0; space \\t 0; letter a 1 & p: exchange \\s\\t & c: BRLCERT 3; state 1 0 0; state 8 0 0; end 2 0|brl,check,t.ctb,c,--accept,p||accepted: 2 states, 0 pairs; but for: 0 pairs of rules, 1 set of characters||0
+t.ctb: letter a 1; letter b 12; letter x 1-12 & p: letter x 1-12 / letter a 1 & c: BRLCERT 1; state 1 0 0 -; end 1 0|brl,check,t.ctb,c,--accept,p||refused: K9 OldVersion line 1||1
+t.ctb: letter a 1; letter b 12; letter x 1-12 & c: BRLCERT 3; state 1 0 0; end 1 0|brl,check,t.ctb,c,--accept,p|||L1 NotFound p|2
+t.ctb: letter a 19 & p: #|brl,check,t.ctb,c,--accept,p|||L1 NotFound c|2
 ";
 
 /// Searches and checks without some characters, in the same form.

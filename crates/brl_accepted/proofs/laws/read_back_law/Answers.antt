@@ -1,11 +1,16 @@
-use Rattle.std.proofs.Common.{map}
+use Rattle.std.proofs.Common.{◌≡◌, map, true}
+use Rattle.std.specs.Str.{all_scalars}
+use Rattle.std.proofs.lemmas.List.Elements.{All-map}
 use Rattle.brl_lines.specs.Views.{line_view}
 use Rattle.brl_accepted.specs.Pairs.{wording}
 use Rattle.brl_accepted.proofs.Plain.{wording_above}
 use Rattle.brl_accepted.proofs.ReadBack.{read_back}
+use Rattle.brl_accepted.proofs.WrittenLines.{pair_apart}
 use Rattle.brl_accepted.proofs.laws.read_back_law.Goals as goal
 
 pub returns : goal.returns
 returns c listed whole =
+    let t = c.args.table.now in
     let lines = map line_view c.args.lines.now in
-    read_back (wording c.args.table.now lines) (wording_above c.args.table.now lines) listed whole
+    let sets = map (λ set. set.items) c.args.sets.now in
+    read_back (wording t lines) (wording_above t lines) t sets listed whole (pair_apart t lines) (All-map (λ cs. all_scalars cs ≡ true) (λ set. set.items) c.args.sets.now c.sets_law.ensures)

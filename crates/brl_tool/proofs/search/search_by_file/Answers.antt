@@ -28,19 +28,19 @@ module _ (left_out : List ℕ) (gives : FileAnswers) (same : MayBeSame) (path ou
   answered paths t is apart (Err Memory) verdict h = tt
   answered paths t is apart (Err fault) verdict h = absurd h
 
-pub returns-in_err-refuse_file_of_table-clause-searches : goal.returns-in_err-refuse_file_of_table-clause-searches
-returns-in_err-refuse_file_of_table-clause-searches g c =
+pub returns-in_err-refuse_file_that_is_read-clause-searches : goal.returns-in_err-refuse_file_that_is_read-clause-searches
+returns-in_err-refuse_file_that_is_read-clause-searches g c =
     let gives = g.F.Source.gives c.args.files.now in
     let loaded = c.in_ok-loaded.loaded in
-    let p = err_from_is_err_and c.from_residual-in_err-refuse_file_of_table.result c.from_residual-in_err-refuse_file_of_table.ensures.1 in
+    let p = err_from_is_err_and c.from_residual-in_err-refuse_file_that_is_read.result c.from_residual-in_err-refuse_file_that_is_read.ensures.1 in
     subst (SearchesByFile c.args.left_out.now gives g.F.Files.same_file c.args.path.now c.args.out.now c.args.limit) (sym p.1)
     (overwriting c.args.left_out.now gives g.F.Files.same_file c.args.path.now c.args.out.now c.args.limit loaded.paths loaded.lines p.0 c.in_ok-loaded.ensures.lines
-    (subst (IsOverwriting g.F.Files.same_file loaded.paths c.args.out.now) (sym p.2) c.in_err-refuse_file_of_table.ensures.refused))
+    (subst (IsOverwriting g.F.Files.same_file loaded.paths c.args.out.now) (sym p.2) c.in_err-refuse_file_that_is_read.ensures.refused))
 
 pub returns-clause-searches : goal.returns-clause-searches
 returns-clause-searches g c =
     let loaded = c.in_ok-loaded.loaded in
     let table = c.in_ok-table.table in
     answered c.args.left_out.now (g.F.Source.gives c.args.files.now) g.F.Files.same_file c.args.path.now c.args.out.now c.args.limit loaded.paths table
-    (loaded.lines, c.in_ok-loaded.ensures.lines, c.in_ok-table.ensures.passes, c.in_ok-table.ensures.table) c.in_ok-refuse_file_of_table.ensures.apart c.search_defined-answer.result
+    (loaded.lines, c.in_ok-loaded.ensures.lines, c.in_ok-table.ensures.passes, c.in_ok-table.ensures.table) c.in_ok-refuse_file_that_is_read.ensures.apart c.search_defined-answer.result
     c.search_defined-answer.ensures.verdict c.search_defined-answer.ensures.fault

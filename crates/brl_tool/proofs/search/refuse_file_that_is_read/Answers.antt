@@ -1,6 +1,6 @@
 use Rattle.std.proofs.Common.{◌≢◌, ◌∙◌, All, ap, map, subst}
 use Rattle.std.proofs.lemmas.List.Elements.{All-map}
-use Rattle.brl_tool.proofs.search.refuse_file_of_table.Goals as goal
+use Rattle.brl_tool.proofs.search.refuse_file_that_is_read.Goals as goal
 
 -- none of the paths is that of the certificate
 pub returns-clause-apart : goal.returns-clause-apart

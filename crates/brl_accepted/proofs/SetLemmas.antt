@@ -1,0 +1,43 @@
+-- Lines of sets of characters, and the pairs of their own definitions.
+use Rattle.std.proofs.Common.{◌≡◌, ◌++◌, ℕ, All, Bool, true, false, cond, List, [], ◌∷◌, ap, arith, encode_utf8_all, get_or, length, map, nat_eq, nat_lt, refl, subst}
+use Rattle.std.specs.List.{AllByRecursion, list_any}
+use Rattle.std.specs.Str.{all_scalars}
+use Rattle.std.proofs.lemmas.Bool.{and_from, false≢true, le-ltb, lt-ltb}
+use Rattle.std.proofs.lemmas.Bool.Decides.{Decides-eqb}
+use Rattle.std.proofs.lemmas.List.Elements.{recursion_from_All}
+use Rattle.std.proofs.lemmas.List.Folds.{list_any_at}
+use Rattle.brl_accepted.specs.Sets.{exchanged_pairs, is_within, named_set, or_none, set_line, set_pairs}
+use Rattle.brl_accepted.specs.Writing.{pairs_of_sets}
+use Rattle.brl_lines.proofs.SpellingLemmas.{spelling_back}
+use Rattle.brl_lines.specs.Spelling.{text_spelling}
+use Rattle.brl_report.specs.Rules.{own_number}
+use Rattle.brl_rules.specs.TableView.{TableView}
+
+-- the line of a set names it
+pub set_back : (set : List ℕ) → all_scalars set ≡ true → named_set (set_line set) ≡ set
+set_back set scalars = ap or_none (spelling_back set (encode_utf8_all (text_spelling set)) scalars refl)
+
+-- a set is within itself
+all_found : (set cs : List ℕ) → AllByRecursion (λ c. list_any (nat_eq c) set ≡ true) cs → is_within set cs ≡ true
+all_found set [] found = refl
+all_found set (c ∷ cs) found = and_from (list_any (nat_eq c) set) (is_within set cs) found.0 (all_found set cs found.1)
+
+pub within_itself : (set : List ℕ) → is_within set set ≡ true
+within_itself set = all_found set set (recursion_from_All (λ c. list_any (nat_eq c) set ≡ true) set each)
+  where
+    each : All (λ c. list_any (nat_eq c) set ≡ true) set
+    each k d within = list_any_at (nat_eq (get_or set k d)) set k d within ((Decides-eqb (get_or set k d) (get_or set k d)).1 refl)
+
+-- a set with a pair of own definitions has two characters or more
+pub of_two : (t : TableView) (set : List ℕ) (p : ℕ × ℕ → Bool) → list_any p (set_pairs t set) ≡ true → nat_lt 1 (length set) ≡ true
+of_two t [] p there = absurd (false≢true there)
+of_two t (c ∷ []) p there =
+    let n = own_number t c in
+    let none : nat_lt n n ≡ false = le-ltb n n (omega arith) in
+    absurd (false≢true (subst (λ (b : Bool). list_any p (map (λ s. (n, s)) (cond b (n ∷ []) []) ++ []) ≡ true) none there))
+of_two t (c ∷ d ∷ set) p there = lt-ltb 1 (length (c ∷ d ∷ set)) (omega arith)
+
+-- the lines of sets name the pairs of the sets
+pub sets_again : (t : TableView) (sets : List (List ℕ)) → AllByRecursion (λ set. all_scalars set ≡ true) sets → exchanged_pairs t (map set_line sets) ≡ pairs_of_sets t sets
+sets_again t [] scalars = refl
+sets_again t (set ∷ sets) scalars = λ i. set_pairs t (set_back set scalars.0 i) ++ sets_again t sets scalars.1 i

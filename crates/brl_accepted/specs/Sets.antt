@@ -1,0 +1,59 @@
+-- How a file of accepted pairs of rules names sets of characters whose steps may be exchanged. The
+-- project's own choice.
+use Rattle.std.specs.Prelude.{ℕ, Bool, ◌&&◌, if◌then◌else◌, List, [], ◌++◌, codes, drop, flat_map, length, map, nat_eq, nat_lt, Result, Ok, Err}
+use Rattle.std.specs.List.{filter, list_all, list_any, starts_with}
+use Rattle.std.specs.Str.{encode_utf8_all}
+use Rattle.brl_lines.specs.Escapes.{characters_of}
+use Rattle.brl_lines.specs.Spelling.{text_spelling}
+use Rattle.brl_lines.specs.declared.operand.CharsFault.{CharsFault}
+use Rattle.brl_report.specs.Rules.{own_number}
+use Rattle.brl_rules.specs.TableView.{TableView}
+
+-- ---- Lines
+
+-- how the line of a set begins
+abbrev pub exchange : List ℕ
+exchange = codes "exchange "
+
+-- whether a line begins so
+abbrev pub is_exchange : List ℕ → Bool
+is_exchange line = starts_with nat_eq line exchange
+
+-- the line of a set of characters, which are spelled as in an operand of a table
+abbrev pub set_line : List ℕ → List ℕ
+set_line set = exchange ++ encode_utf8_all (text_spelling set)
+
+-- the characters that are spelled, or none where this spells no characters
+abbrev pub or_none : Result (List ℕ) CharsFault → List ℕ
+or_none (Ok characters) = characters
+or_none (Err fault) = []
+
+-- the characters that the line of a set names; none of another line, and where they are badly spelled
+abbrev pub named_set : List ℕ → List ℕ
+named_set line = if is_exchange line then or_none (characters_of (drop (length exchange) line)) else []
+
+-- whether all of some characters are in a set
+abbrev pub is_within : List ℕ → List ℕ → Bool
+is_within set characters = list_all (λ c. list_any (nat_eq c) set) characters
+
+-- whether a line names two characters or more that are in one of these sets
+abbrev pub names_set : List (List ℕ) → List ℕ → Bool
+names_set sets line = nat_lt 1 (length (named_set line)) && list_any (λ set. is_within set (named_set line)) sets
+
+-- ---- Pairs of own definitions
+
+-- the pairs of a number and each of these that is greater
+abbrev pub greater_pairs : List ℕ → ℕ → List (ℕ × ℕ)
+greater_pairs numbers r = map (λ s. (r, s)) (filter (λ s. nat_lt r s) numbers)
+
+-- the pairs of two of these numbers, the lesser first
+abbrev pub ordered_pairs : List ℕ → List (ℕ × ℕ)
+ordered_pairs numbers = flat_map (greater_pairs numbers) numbers
+
+-- the pairs of the own definitions of a set of characters of a table
+abbrev pub set_pairs : TableView → List ℕ → List (ℕ × ℕ)
+set_pairs t set = ordered_pairs (map (own_number t) set)
+
+-- those of the sets that these lines name
+abbrev pub exchanged_pairs : TableView → List (List ℕ) → List (ℕ × ℕ)
+exchanged_pairs t rows = flat_map (λ line. set_pairs t (named_set line)) rows

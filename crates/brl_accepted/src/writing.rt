@@ -1,0 +1,136 @@
+//! The text of a file of accepted pairs of rules.
+ghost use Rattle.std.specs.Prelude.{◌≡◌, ◌++◌, ◌∷◌, [], IfOk, OnOk, filter, map, string_bytes};
+ghost use Rattle.brl_accepted.specs.Writing.{
+  accepted_text,
+  is_listed_set as is_listed_set_in,
+  listed_sets as sets_that_are_listed,
+  pairs_beside as pairs_that_are_beside,
+  pairs_of_sets as pairs_in_sets,
+  sets_text as text_of_sets,
+  whole_set_line,
+};
+
+use crate::reading::Nameable;
+use crate::sets::{push_set_pairs, set_line};
+use crate::words::write_pairs;
+use brl_pairs::RulePairs;
+use brl_rules::Table;
+use std::alloc::{AllocError, Global};
+
+/// The text of a file that names these listed pairs of rules of a table: first a line for each of
+/// its sets of characters of which a pair of own definitions is listed, and then one for each pair
+/// that isn't of such a set, by what the rules say.
+///
+/// Every line ends with LF. `AllocError` if memory runs out.
+pub fn write_accepted(
+    alloc: Global,
+    table: &Table,
+    known: Nameable<'_>,
+    listed: &[(u32, u32)],
+) -> Result<String, AllocError>
+    ensures { IfOk result (λ text. string_bytes text
+        ≡ accepted_text table.now (map string_bytes known.entry.words.now) (map (λ set. set.items) known.entry.sets.now) listed.now) }
+{
+    let sets = listed_sets(alloc, table, known.sets, listed)?;
+    let pairs = pairs_beside(alloc, table, sets.as_slice(), listed)?;
+    let mut text = sets_text(alloc, sets.as_slice())?;
+    text.push_str(write_pairs(alloc, known.words, pairs.as_slice())?.as_str())?;
+    Ok(text)
+}
+
+/// Those of a table's sets of characters of which a pair of own definitions is listed.
+fn listed_sets(
+    alloc: Global,
+    table: &Table,
+    sets: &[Vec<char>],
+    listed: &[(u32, u32)],
+) -> Result<Vec<Vec<char>>, AllocError>
+    ensures { IfOk result (λ found. map (λ set. set.items) found.items ≡ sets_that_are_listed table.now (map (λ set. set.items) sets.now) listed.now) }
+{
+    let pairs = RulePairs::new(alloc, Vec::from_slice(alloc, listed)?)?;
+    let mut found = Vec::new(alloc);
+    for set in sets {
+        push_listed(alloc, table, set.as_slice(), &pairs, &mut found)?;
+    }
+    Ok(found)
+}
+
+/// Appends a set where a pair of its own definitions is among these.
+fn push_listed(
+    alloc: Global,
+    table: &Table,
+    set: &[char],
+    listed: &RulePairs,
+    found: &mut Vec<Vec<char>>,
+) -> Result<(), AllocError>
+    ensures { OnOk result (map (λ set. set.items) found.new.items
+        ≡ map (λ set. set.items) found.old.items ++ filter (is_listed_set_in table.now listed.now) (set.now ∷ [])) }
+{
+    if is_listed_set(alloc, table, set, listed)? {
+        found.push(Vec::from_slice(alloc, set)?)?;
+    }
+    Ok(())
+}
+
+/// Whether a pair of own definitions of a set of characters is among these.
+fn is_listed_set(
+    alloc: Global,
+    table: &Table,
+    set: &[char],
+    listed: &RulePairs,
+) -> Result<bool, AllocError>
+    ensures { IfOk result (λ is. is ≡ is_listed_set_in table.now listed.now set.now) }
+{
+    let mut pairs = Vec::new(alloc);
+    push_set_pairs(alloc, table, set, &mut pairs)?;
+    Ok(pairs.iter().any(|pair| listed.has(pair.0, pair.1)))
+}
+
+/// The pairs of own definitions of some sets of characters.
+fn pairs_of_sets(
+    alloc: Global,
+    table: &Table,
+    sets: &[Vec<char>],
+) -> Result<Vec<(u32, u32)>, AllocError>
+    ensures { IfOk result (λ pairs. pairs.items ≡ pairs_in_sets table.now (map (λ set. set.items) sets.now)) }
+{
+    let mut pairs = Vec::new(alloc);
+    for set in sets {
+        push_set_pairs(alloc, table, set.as_slice(), &mut pairs)?;
+    }
+    Ok(pairs)
+}
+
+/// Those of the listed pairs that are of none of these sets of characters.
+fn pairs_beside(
+    alloc: Global,
+    table: &Table,
+    sets: &[Vec<char>],
+    listed: &[(u32, u32)],
+) -> Result<Vec<(u32, u32)>, AllocError>
+    ensures { IfOk result (λ pairs. pairs.items ≡ pairs_that_are_beside table.now (map (λ set. set.items) sets.now) listed.now) }
+{
+    let of_sets = RulePairs::new(alloc, pairs_of_sets(alloc, table, sets)?)?;
+    let mut pairs = Vec::from_slice(alloc, listed)?;
+    pairs.retain(|pair| !of_sets.has(pair.0, pair.1));
+    Ok(pairs)
+}
+
+/// The lines of these sets of characters.
+fn sets_text(alloc: Global, sets: &[Vec<char>]) -> Result<String, AllocError>
+    ensures { IfOk result (λ text. string_bytes text ≡ text_of_sets (map (λ set. set.items) sets.now)) }
+{
+    let mut text = String::new(alloc);
+    for set in sets {
+        push_set_line(alloc, set.as_slice(), &mut text)?;
+    }
+    Ok(text)
+}
+
+/// Appends the line of a set of characters.
+fn push_set_line(alloc: Global, set: &[char], text: &mut String) -> Result<(), AllocError>
+    ensures { OnOk result (string_bytes text.new ≡ string_bytes text.old ++ whole_set_line set.now) }
+{
+    text.push_str(set_line(alloc, set)?.as_str())?;
+    text.push('\n')
+}

@@ -1,0 +1,91 @@
+//! What a file excuses of a table, and the line of an answer that says so.
+ghost use Rattle.std.specs.Prelude.{◌≡◌, [], IfErr, IfOk, false, map, string_bytes};
+ghost use Rattle.brl_accepted.specs.Naming.{Excuses, set_count};
+ghost use Rattle.brl_accepted.specs.Pairs.{wording};
+ghost use Rattle.brl_accepted.specs.Reading.{IsRefused};
+ghost use Rattle.brl_answers.specs.Answers.{load_outcome};
+ghost use Rattle.brl_clashes.specs.Sets.{sets_of_table};
+ghost use Rattle.brl_lines.specs.Answer.{Unchanged};
+ghost use Rattle.brl_lines.specs.Outcome.{CountsFailure};
+ghost use Rattle.brl_lines.specs.Views.{line_view};
+ghost use Rattle.brl_tool.specs.Baselines.{IsFaultOfLine};
+ghost use Rattle.brl_tool.specs.UpTo.{IsExcusedAt, IsFaultOfExcusal, but_for_line as line_of_excused, lines_up_to as whole_lines, sets_words as words_of_sets};
+
+use crate::file_text::text_at;
+use brl_accepted::{Baseline, Excusal, read_excusal};
+use brl_answers::{RunFault, with_left_out_line};
+use brl_clashes::{accepted_words, character_sets};
+use brl_lines::{Line, Source};
+use brl_rules::Table;
+use brl_without::LeftOut;
+use std::alloc::{AllocError, Global};
+
+/// What the file at a path excuses of a table of these lines. The first line that isn't good is a fault.
+pub fn excusal_at<S: Source>(
+    alloc: Global,
+    source: &mut S,
+    table: &Table,
+    lines: &[Line<'_>],
+    path: &str,
+) -> Result<Excusal, RunFault>
+    ensures excuses { IfOk result (λ excusal. IsExcusedAt (S.gives source.old) path.now table.now (map line_view lines.now) excusal.excused excusal.sets) }
+    ensures fault { IfErr result (IsFaultOfExcusal (S.gives source.old) path.now table.now (map line_view lines.now)) }
+    ensures count { CountsFailure (S.faults source.old) (S.faults source.new) (load_outcome result) }
+    ensures same { Unchanged (S.gives source.old) (S.gives source.new) }
+{
+    let text = text_at(alloc, source, path)?;
+    excusal_of(alloc, table, lines, path, text.as_str())
+}
+
+/// What a text excuses of a table of these lines; it is that of the file at a path.
+fn excusal_of(
+    alloc: Global,
+    table: &Table,
+    lines: &[Line<'_>],
+    path: &str,
+    text: &str,
+) -> Result<Excusal, RunFault>
+    ensures excuses { IfOk result (λ excusal. Excuses table.now (map line_view lines.now) (sets_of_table table.now) text.now excusal.excused) }
+    ensures sets { IfOk result (λ excusal. excusal.sets ≡ set_count text.now) }
+    ensures fault { IfErr result (IsFaultOfLine (IsRefused (wording table.now (map line_view lines.now)) (sets_of_table table.now) [] false path.now text.now)) }
+{
+    let sets = character_sets(alloc, table)?;
+    let file = Baseline { path, text };
+    Ok(read_excusal(alloc, table, lines, sets.as_slice(), file)?)
+}
+
+/// The words after this number of sets of characters.
+fn sets_words(count: usize) -> &'static str
+    ensures { result.now ≡ words_of_sets count }
+{
+    if count == 1 {
+        " set of characters"
+    } else {
+        " sets of characters"
+    }
+}
+
+/// The line that says how many pairs of rules and how many sets of characters are excused.
+fn but_for_line(alloc: Global, pairs: usize, sets: usize) -> Result<String, AllocError>
+    ensures { IfOk result (λ text. string_bytes text ≡ line_of_excused pairs sets) }
+{
+    let accepted = accepted_words(pairs);
+    let exchanged = sets_words(sets);
+    format!(in alloc; "but for: {pairs}{accepted}, {sets}{exchanged}\n")
+}
+
+/// A line of an answer, the line of what is excused, and that of what is left out.
+pub fn lines_up_to(
+    alloc: Global,
+    line: String,
+    excusal: &Excusal,
+    left_out: &LeftOut,
+) -> Result<String, AllocError>
+    ensures { IfOk result (λ text. string_bytes text ≡ whole_lines left_out.now excusal.now.excused excusal.now.sets (string_bytes line)) }
+{
+    let pairs = excusal.excused.accepted.as_slice().len();
+    let but_for = but_for_line(alloc, pairs, excusal.sets)?;
+    let mut text = line;
+    text.push_str(but_for.as_str())?;
+    with_left_out_line(alloc, text, left_out)
+}
