@@ -18,21 +18,17 @@ use std::marker::Model;
 /// and its after-condition.
 #[derive(Drop)]
 pub struct Above<'a> {
-    /// The first of its other characters, which differs for most rules.
-    second: Option<char>,
     others: &'a [char],
     after: Cond,
 }
 
 impl<'a> Model for Above<'a> {
-    ghost use Rattle.std.specs.Prelude.{◌≡◌, ℕ, List, slice_get};
+    ghost use Rattle.std.specs.Prelude.{ℕ, List};
     ghost use Rattle.brl_rules.specs.declared.place.Cond.{Cond as CondValue};
 
     ghost Value = { List ℕ × CondValue };
 
     ghost view = { λ a. (a.others.now, a.after) };
-
-    ghost invariant = { λ a. a.second ≡ slice_get a.others.now 0 };
 }
 
 impl<'a> Above<'a> {
@@ -40,11 +36,7 @@ impl<'a> Above<'a> {
     pub fn new(others: &'a [char], after: Cond) -> Above<'a>
         ensures { result ≡ (others.now, after) }
     {
-        Above {
-            second: others.first().copied(),
-            others,
-            after,
-        }
+        Above { others, after }
     }
 
     /// Appends what is left of the bars of its forms that begin with a character after one of these
@@ -83,15 +75,12 @@ impl<'a> Above<'a> {
         add(left, found)
     }
 
-    /// Whether the first or the last of the characters `past` is another one than the rule has
-    /// there, so that nothing is left of its bar out of a run of capitals.
+    /// Whether the last of the characters `past` is another one than the rule has there, so that
+    /// nothing is left of its bar out of a run of capitals.
     fn is_settled(&self, past: &[char]) -> bool
         ensures { (t : TableView) → IsTrue result → bar_carried t past.now self.now.0 self.now.1 ≡ Carried.Settled }
     {
-        match (past.first(), self.second) {
-            (Some(here), Some(second)) => *here != second || self.differs_at(past, past.len() - 1),
-            _ => false,
-        }
+        !past.is_empty() && self.differs_at(past, past.len() - 1)
     }
 
     /// Whether the rule has a character at this place of the characters `past`, and another one.

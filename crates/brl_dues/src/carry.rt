@@ -1,13 +1,16 @@
 //! Dues carried past the characters that a step reads.
-ghost use Rattle.std.specs.Prelude.{◌≡◌, [], ◌∷◌, option_map, true, All, IfOk, IfSome, IsTrue, OnOk};
-ghost use Rattle.brl_rules.specs.Text.{classes_of, has_word_capitals};
+ghost use Rattle.std.specs.Prelude.{◌≡◌, ◌+◌, [], ◌∷◌, ◌&&◌, option_map, true, All, IfOk, IfSome, IsTrue, OnOk, if◌then◌else◌};
+ghost use Rattle.brl_rules.specs.Text.{classes_of, fold_of as fold, has_word_capitals};
 ghost use Rattle.brl_dues.specs.Adding.{Adds};
+ghost use Rattle.brl_dues.specs.Capitals.{is_upper};
 ghost use Rattle.brl_dues.specs.Carry.{carry as carried_past, carry_bar as bar_carried, need as need_of_cond, opposed, settled_if};
 ghost use Rattle.brl_dues.specs.Letters.{bars_of, left_past};
 ghost use Rattle.brl_states.specs.Order.{is_proper};
 
 use crate::above::Above;
 use crate::cased::CasedTable;
+use crate::letter::fold_of;
+use crate::rules_above::RulesAbove;
 use brl_cells::Chars;
 use brl_rules::{Class, Cond, Table, holds};
 use brl_states::Due;
@@ -148,7 +151,8 @@ pub fn add_need(cond: Cond, found: &mut Vec<Due>) -> Result<(), AllocError>
 
 /// Appends what is left of the bars of the rules above, in a run of capitals or out of one, after a
 /// character, which comes after one of these classes, and these others, to the dues found so far.
-/// Returns whether none is broken.
+/// Returns whether none is broken. Nothing is left of rules with another second character than the
+/// step reads.
 pub fn add_bars(
     alloc: Global,
     table: &CasedTable<'_>,
@@ -156,13 +160,62 @@ pub fn add_bars(
     character: char,
     run: bool,
     others: &[char],
-    above: &[Above<'_>],
+    above: &RulesAbove<'_>,
     found: &mut Vec<Due>,
 ) -> Result<bool, AllocError>
     requires { run ≡ true → IsTrue (has_word_capitals table.now) }
     ensures { IfOk result (λ whole. Adds (bars_of table.now before run character others.now above.now) found.old.items found.new.items whole) }
 {
     let cased = table.may_begin_caps_run(character);
+    let Some(second) = others.first() else {
+        let all = above.all();
+        return add_all_bars(
+            alloc, table, before, character, cased, run, others, all, found,
+        );
+    };
+    let second = second_in_rules(table, run, *second);
+    let short = above.with_second(0);
+    let same = above.with_second(second);
+    if !add_all_bars(
+        alloc, table, before, character, cased, run, others, short, found,
+    )? {
+        return Ok(false);
+    }
+    add_all_bars(
+        alloc, table, before, character, cased, run, others, same, found,
+    )
+}
+
+/// The second character, from 1 on, of rules that may go on with this one, in a run of capitals or
+/// out of one.
+fn second_in_rules(table: &CasedTable<'_>, run: bool, second: char) -> u32
+    ensures { result ≡ (if run then fold table.now second else second) + 1 }
+{
+    let second = if run {
+        fold_of(table.table(), second)
+    } else {
+        second
+    };
+    second as u32 + 1
+}
+
+/// The same for each of some rules. `cased` says whether a run of capitals may begin with the
+/// character.
+fn add_all_bars(
+    alloc: Global,
+    table: &CasedTable<'_>,
+    before: Class,
+    character: char,
+    cased: bool,
+    run: bool,
+    others: &[char],
+    above: &[Above<'_>],
+    found: &mut Vec<Due>,
+) -> Result<bool, AllocError>
+    requires word { run ≡ true → IsTrue (has_word_capitals table.now) }
+    requires cased { cased ≡ (has_word_capitals table.now && is_upper table.now character) }
+    ensures { IfOk result (λ whole. Adds (bars_of table.now before run character others.now above.now) found.old.items found.new.items whole) }
+{
     for rule in above {
         if !rule.add_bars(alloc, table, before, character, cased, run, others, found)? {
             return Ok(false);

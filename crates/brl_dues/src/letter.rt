@@ -4,8 +4,8 @@ ghost use Rattle.brl_rules.specs.Text.{fold_of as fold};
 ghost use Rattle.brl_dues.specs.Letters.{bars_from, first_of as first_due_of, lets_in as does_let_in, may_come as does_come, new_letter, new_letters};
 ghost use Rattle.brl_states.specs.Order.{is_proper, AreDues};
 
-use crate::above::Above;
 use crate::carry::class_of;
+use crate::rules_above::RulesAbove;
 use brl_rules::{Cond, Table, holds};
 use brl_states::Due;
 use std::alloc::{AllocError, Global};
@@ -18,7 +18,7 @@ pub struct Letter<'a> {
     character: char,
     fold: char,
     bars: &'a [Due],
-    above: Vec<Above<'a>>,
+    above: RulesAbove<'a>,
 }
 
 impl<'a> Model for Letter<'a> {
@@ -28,7 +28,7 @@ impl<'a> Model for Letter<'a> {
 
     ghost Value = { LetterView };
 
-    ghost view = { λ l. record { character = l.character; fold = l.fold; bars = l.bars.now; above = l.above.items } };
+    ghost view = { λ l. record { character = l.character; fold = l.fold; bars = l.bars.now; above = l.above } };
 
     ghost invariant = { λ l. All (λ due. IsTrue (is_proper due)) l.bars.now };
 }
@@ -43,7 +43,7 @@ impl<'a> Letter<'a> {
             character,
             fold,
             bars,
-            above: Vec::new(alloc),
+            above: RulesAbove::new(alloc),
         }
     }
 
@@ -70,18 +70,17 @@ impl<'a> Letter<'a> {
     }
 
     /// The rules above.
-    pub fn above(&self) -> &[Above<'a>]
+    pub fn above(&self) -> &RulesAbove<'a>
         ensures { result.now ≡ self.now.above }
     {
-        self.above.as_slice()
+        &self.above
     }
 
     /// Adds a rule to those above: its other characters, and its after-condition.
     pub fn push(&mut self, others: &'a [char], after: Cond) -> Result<(), AllocError>
         ensures { OnOk result (self.new ≡ record self.old { above = self.old.above ++ (others.now, after) ∷ [] }) }
     {
-        self.above.push(Above::new(others, after))?;
-        Ok(())
+        self.above.push(others, after)
     }
 }
 

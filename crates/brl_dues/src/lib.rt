@@ -22,6 +22,7 @@ mod letter;
 mod machine;
 mod origin;
 mod parts;
+mod rules_above;
 mod runs;
 mod step;
 mod steps;

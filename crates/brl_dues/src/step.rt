@@ -137,7 +137,7 @@ fn make_room(origin: &Origin<'_>, taken: Taken<'_>, found: &mut Vec<Due>) -> Res
     ensures { OnOk result (found.new.items ≡ found.old.items) }
 {
     if taken.others.is_empty() {
-        found.reserve(origin.letter.above().len())?;
+        found.reserve(origin.letter.above().all().len())?;
     }
     Ok(())
 }
