@@ -32,7 +32,8 @@ use Rattle.brl_dues.specs.SecondCharacter.{has_second, rules_with, second_of, Ar
 other : (m x c : ℕ) → nat_eq m c ≡ true → nat_eq m x ≡ false → nat_eq x c ≡ false
 other m x c h k = grind (arith, nat_tests)
 
--- a list of groups, of which one, or a new one, changes
+-- the rules with the second character c, where those with x change by h: in the group that there is,
+-- or in a new one
 module _ (h : List (List ℕ × Cond) → List (List ℕ × Cond)) (x c : ℕ) where
   abbrev found : List Group → List (List ℕ × Cond)
   found groups = rules_with c groups
@@ -53,6 +54,7 @@ module _ (h : List (List ℕ × Cond) → List (List ℕ × Cond)) (x c : ℕ) w
   passed true z o p differ e = rw (differ refl) refl
   passed false z o p differ e = e
 
+  -- the group at i, which is that of x, changes
   pub found-set : (groups : List Group) (i : ℕ) (y d : Group) → i < length groups → y.second ≡ x → (get_or groups i d).second ≡ x
       → ((k : ℕ) → k < i → nat_eq (get_or groups k d).second x ≡ false) → y.rules.items ≡ h (get_or groups i d).rules.items
       → found (slice_set groups i y) ≡ changed (found groups)
@@ -78,6 +80,7 @@ module _ (h : List (List ℕ × Cond) → List (List ℕ × Cond)) (x c : ℕ) w
   new_one true y e = e
   new_one false y e = refl
 
+  -- there was no group of x
   pub found-push : (groups : List Group) (y : Group) → y.second ≡ x → find (λ (g : Group). nat_eq g.second x) groups ≡ None → y.rules.items ≡ h []
       → found (groups ++ y ∷ []) ≡ changed (found groups)
   found-push [] y my none e = ap (λ m. rules_or (cond (nat_eq m c) (Some y) None)) my ∙ new_one (nat_eq x c) y e
@@ -86,7 +89,7 @@ module _ (h : List (List ℕ × Cond) → List (List ℕ × Cond)) (x c : ℕ) w
       (λ same. other z.second x c same (not_first (nat_eq z.second x) z (find (λ (g : Group). nat_eq g.second x) zs) none))
       (found-push zs y my (nor_behind (nat_eq z.second x) z (find (λ (g : Group). nat_eq g.second x) zs) none) e)
 
--- what the place of a group says of its rules
+-- what the place of a group says of its rules; the groups are seen as a slice
 pub rules-at : (second : ℕ) (groups seen : List Group) (i : ℕ) (d : Group) → seen ≡ groups → Some i ≡ position (λ (g : Group). nat_eq g.second second) seen
     → rules_with second groups ≡ (get_or groups i d).rules.items
 rules-at second groups seen i d same e =
@@ -108,7 +111,7 @@ cond-same : {X : Type 0} (b : Bool) (x : X) → cond b x x ≡ x
 cond-same true x = refl
 cond-same false x = refl
 
--- one more rule in a group that there is, or in a new one
+-- one more rule in a group that there is
 pub set-grows : (old seen : List Group) (i second : ℕ) (y d : Group) (a : List ℕ × Cond) → seen ≡ old → Some i ≡ position (λ (g : Group). nat_eq g.second second) seen
     → second ≡ second_of a.0 → d ≡ get_or old i d → y.second ≡ d.second → y.rules.items ≡ d.rules.items ++ a ∷ [] → Grow old (slice_set old i y) a
 set-grows old seen i second y d a same e is there my more c =
@@ -118,6 +121,7 @@ set-grows old seen i second y d a same e is there my more c =
     found-set (λ rules. rules ++ a ∷ []) second c old i y d at.0 (my ∙ ap (λ (g : Group). g.second) there ∙ mark) mark at.2 (more ∙ ap (λ (g : Group). g.rules.items ++ a ∷ []) there)
     ∙ ap (λ x. cond (nat_eq x c) (rules_with c old ++ a ∷ []) (rules_with c old)) is
 
+-- where no memory was left for it
 pub set-same : (old seen : List Group) (i second : ℕ) (y d : Group) → seen ≡ old → Some i ≡ position (λ (g : Group). nat_eq g.second second) seen
     → d ≡ get_or old i d → y.second ≡ d.second → y.rules.items ≡ d.rules.items → AreSame old (slice_set old i y)
 set-same old seen i second y d same e there my more c =
@@ -127,6 +131,7 @@ set-same old seen i second y d same e there my more c =
     found-set (λ rules. rules) second c old i y d at.0 (my ∙ ap (λ (g : Group). g.second) there ∙ mark) mark at.2 (more ∙ ap (λ (g : Group). g.rules.items) there)
     ∙ cond-same (nat_eq second c) (rules_with c old)
 
+-- and in a new one
 pub push-grows : (old seen : List Group) (second : ℕ) (y : Group) (a : List ℕ × Cond) → seen ≡ old → None ≡ position (λ (g : Group). nat_eq g.second second) seen
     → second ≡ second_of a.0 → y.second ≡ second → y.rules.items ≡ a ∷ [] → Grow old (old ++ y ∷ []) a
 push-grows old seen second y a same e is my more c =
@@ -135,7 +140,8 @@ push-grows old seen second y a same e is my more c =
 
 -- ---- Rules that leave nothing
 
--- the elements that leave anything, and those that may break, are those of two kinds
+-- elements of two kinds, of which only the second kind leaves anything, and others, which leave
+-- nothing and are not broken
 module _ {X : Type 0} (f : X → List Carried) (ends same : X → Bool) where
   abbrev whole-by : List X → Bool
   whole-by xs = list_all is_whole (flat_map f xs)
@@ -143,7 +149,6 @@ module _ {X : Type 0} (f : X → List Carried) (ends same : X → Bool) where
   abbrev left-by : List X → List Due
   left-by xs = lefts (flat_map f xs)
 
-  -- an element of no kind leaves nothing and is not broken; one of the first kind leaves nothing
   pub record Kinds : Type 0 where
     pub apart : (x : X) → ends x ≡ true → same x ≡ false
     pub none_left : (x : X) → same x ≡ false → lefts (f x) ≡ []
@@ -210,7 +215,7 @@ module _ {X : Type 0} (f : X → List Carried) (ends same : X → Bool) where
             ap (λ b. b && (whole-by es && whole-by ss)) (kinds.idle x e k)
             ∙ ap₂ (λ p q. p && q) (ap (λ p. whole-by (cond p (x ∷ es) es)) (sym e)) (ap (λ q. whole-by (cond q (x ∷ ss) ss)) (sym k))
 
-    -- what the elements of the two kinds leave is what all leave
+    -- first the one kind, then the other, adds what all add
     pub adds-kinds : (xs : List X) (old mid new : List Due) (w : Bool) → Adds (flat_map f (filter ends xs)) old mid true → Adds (flat_map f (filter same xs)) mid new w
         → Adds (flat_map f xs) old new w
     adds-kinds xs old mid new w one two = record {
@@ -251,7 +256,7 @@ module _ (t : TableView) (before : Class) (c : ℕ) (b : ℕ) (past : List ℕ) 
   no-two true carried = refl
   no-two false carried = refl
 
-  -- a rule with another second character
+  -- a rule with another second character leaves nothing
   in-run : (x : ℕ) (chars : List ℕ) (d : Cond) → nat_eq x (fold_of t b) ≡ false → bars-at true (x ∷ chars, d) ≡ []
   in-run x chars d h =
       ap (λ k. cond (is_upper t b && k) (carry_capitals t past chars d) []) h ∙ no-two (is_upper t b) (carry_capitals t past chars d)
