@@ -102,7 +102,7 @@ module _ (words : List (List ℕ)) (plain : (number : ℕ) → IsAbove 31 (said 
     abbrev IsGood : List ℕ → Type 0
     IsGood line = fault_of words sets listed whole line ≡ None
 
-    -- a set that is there, of which a pair is listed
+    -- a set that is there and has a listed pair
     set_named : (set : List ℕ) → all_scalars set ≡ true → list_any (λ one. is_within one set) sets ≡ true → is_listed_set t listed set ≡ true → names_set sets (set_line set) ≡ true
     set_named set spelled there pair =
         ap (λ (characters : List ℕ). nat_lt 1 (length characters) && list_any (λ one. is_within one characters) sets) (set_back set spelled)

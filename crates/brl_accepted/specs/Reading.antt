@@ -62,7 +62,7 @@ fault_of words sets listed whole line =
 abbrev pub is_accepted : List (List ℕ) → List (List ℕ) → ℕ × ℕ → Bool
 is_accepted words rows pair = list_any (λ line. names words line pair) rows
 
--- whether one of these lines names a pair of rules, or a set of which it is a pair of own definitions
+-- whether one of these lines names a pair of rules, or a set with this pair of own definitions
 abbrev pub is_excused : TableView → List (List ℕ) → List (List ℕ) → ℕ × ℕ → Bool
 is_excused t words rows pair = is_accepted words rows pair || has_rules (exchanged_pairs t rows) pair.0 pair.1
 

@@ -10,7 +10,7 @@ use Rattle.brl_rules.specs.TableView.{TableView}
 abbrev pub is_listed_set : TableView → List (ℕ × ℕ) → List ℕ → Bool
 is_listed_set t listed set = list_any (λ pair. has_rules listed pair.0 pair.1) (set_pairs t set)
 
--- those of these sets of which one is
+-- the sets that have such a pair
 abbrev pub listed_sets : TableView → List (List ℕ) → List (ℕ × ℕ) → List (List ℕ)
 listed_sets t sets listed = filter (is_listed_set t listed) sets
 
@@ -30,8 +30,8 @@ whole_set_line set = set_line set ++ codes "\n"
 abbrev pub sets_text : List (List ℕ) → List ℕ
 sets_text sets = flat_map whole_set_line sets
 
--- the text of a file that names these listed pairs: a line for each of the sets of which a pair is
--- listed, and one for each other pair
+-- the text of a file that names these listed pairs: a line for each set that has a listed pair, and one
+-- for each other pair
 abbrev pub accepted_text : TableView → List (List ℕ) → List (List ℕ) → List (ℕ × ℕ) → List ℕ
 accepted_text t words sets listed =
     sets_text (listed_sets t sets listed) ++ pairs_text words (pairs_beside t (listed_sets t sets listed) listed)

@@ -30,8 +30,8 @@ pub struct Excusal {
 }
 
 /// What a file excuses of a table of these lines, which treats the characters of these sets as one.
-/// The form of the file is that of `read_accepted`, of which this differs in that no list of pairs
-/// is asked: where several rules say the same, a line names each of them.
+/// The file has the form that `read_accepted` reads, but there is no list of pairs: where several
+/// rules say the same, a line names each of them.
 ///
 /// The first line with a fault decides: `NoSuchSet` where it begins as that of a set, and doesn't
 /// name characters of one; `NoSuchRules` where another isn't what two rules of the table say.

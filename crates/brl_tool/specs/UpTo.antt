@@ -40,8 +40,8 @@ use Rattle.brl_without.specs.Tables.{AreDefined, IsUndefined}
 
 -- ---- What a file excuses
 
--- by its text the file at a path excuses this of the table of these lines, and so many of its lines name
--- sets of characters
+-- the file at a path excuses this of the table of these lines, and this number of its lines name sets of
+-- characters
 pub record IsExcusedAt (gives : FileAnswers) (path : List ℕ) (t : TableView) (lines : List LineView) (excused : Excused) (sets : ℕ) : Type 0 where
   pub text : List ℕ
   pub there : gives.may path (Holds text)
