@@ -5,16 +5,12 @@ use Rattle.brl_cut.proofs.cutting.cut_table.Goals as goal
 
 pub returns-clause-cut : goal.returns-clause-cut
 returns-clause-cut g c =
-    let gives = g.S.Source.gives c.args.source.now in
     let gathered = c.in_ok-gathered.gathered in
     let is = rw (raised_is _ c.gather.result c.raise.result gathered c.raise.ensures c.in_ok-gathered.was) at c.gather.ensures.gathered in
-    let folders = map string_bytes c.folders.result.now in
-    cut-whole c.args.rewrite gives c.args.root.now c.args.dir.now gathered is folders (c.folders.ensures ∙ c.gather.ensures.same.0) c.cut_gathered.result c.cut_gathered.ensures.cut
+    cut-whole c.args.rewrite (g.S.Source.gives c.args.source.now) c.args.root.now c.args.dir.now gathered is (map string_bytes c.folders.result.now) (c.folders.ensures ∙ c.gather.ensures.same.0) c.cut_gathered.result c.cut_gathered.ensures.cut
 
 pub returns-clause-fault : goal.returns-clause-fault
 returns-clause-fault g c =
-    let gives = g.S.Source.gives c.args.source.now in
     let gathered = c.in_ok-gathered.gathered in
     let is = rw (raised_is _ c.gather.result c.raise.result gathered c.raise.ensures c.in_ok-gathered.was) at c.gather.ensures.gathered in
-    let folders = map string_bytes c.folders.result.now in
-    cut-fault c.args.rewrite gives c.args.root.now c.args.dir.now gathered is folders (c.folders.ensures ∙ c.gather.ensures.same.0) c.cut_gathered.result c.cut_gathered.ensures.fault
+    cut-fault c.args.rewrite (g.S.Source.gives c.args.source.now) c.args.root.now c.args.dir.now gathered is (map string_bytes c.folders.result.now) (c.folders.ensures ∙ c.gather.ensures.same.0) c.cut_gathered.result c.cut_gathered.ensures.fault
