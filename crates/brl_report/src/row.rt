@@ -2,7 +2,7 @@
 ghost use Rattle.std.specs.Prelude.{◌≡◌, ◌<◌, ◌++◌, IfOk, OnOk, Some, length, map, option_map, slice_get, string_bytes, take, drop};
 ghost use Rattle.brl_lines.specs.Views.{line_view};
 ghost use Rattle.brl_report.specs.Place.{place_text};
-ghost use Rattle.brl_report.specs.Rows.{cells_or_none, column, column_if, columns_line, filled, indicators_column, place_of_rule, row_line, row_of, rule_cells, widths_of};
+ghost use Rattle.brl_report.specs.Rows.{cells_or_none, column, column_if, filled, indicators_column, place_of_rule, row_line, row_of, rule_cells, widths_of};
 
 use crate::rules::Lined;
 use crate::steps::ReportStep;
@@ -153,25 +153,12 @@ impl Row {
     ) -> Result<(), AllocError>
         ensures { OnOk result (string_bytes text.new ≡ string_bytes text.old ++ row_line widths self.now) }
     {
-        self.push_columns(alloc, text, widths)?;
-        text.push_str(self.sources.as_str())
-    }
-
-    /// Appends the line alone, with these widths of its columns.
-    fn push_columns(
-        &self,
-        alloc: Global,
-        text: &mut String,
-        widths: Widths,
-    ) -> Result<(), AllocError>
-        ensures { OnOk result (string_bytes text.new ≡ string_bytes text.old ++ columns_line widths self.now) }
-    {
         push_column(alloc, text, self.characters.as_str(), widths.characters)?;
         push_column_if(alloc, text, &self.indicators, widths.indicators)?;
         push_column(alloc, text, self.dots.as_str(), widths.dots)?;
-        text.push_str("  ")?;
-        text.push_str(self.place.as_str())?;
-        text.push('\n')
+        let place = self.place.as_str();
+        let sources = self.sources.as_str();
+        write!(text, "  {place}\n{sources}")
     }
 }
 
