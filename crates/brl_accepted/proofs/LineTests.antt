@@ -116,6 +116,10 @@ module _ (words : List (List ℕ)) (line : List ℕ) where
       left_over : (other : List ℕ) → bytes_eq line (take place line ++ (between ++ other)) ≡ bytes_eq (drop place line) (between ++ other)
       left_over other = ap (λ (l : List ℕ). bytes_eq l (take place line ++ (between ++ other))) (sym (take-append-drop place line)) ∙ same_front (take place line) (drop place line) (between ++ other)
 
+  -- the same of what is split off there
+  pub goes_on_after : (place : ℕ) (rest : List ℕ) (on : Bool) → on ≡ list_any (λ (other : List ℕ). bytes_eq rest (between ++ other)) words → rest ≡ drop place line → on ≡ goes_on words line (take place line)
+  goes_on_after place rest on is split = is ∙ ap (λ (text : List ℕ). list_any (λ (other : List ℕ). bytes_eq text (between ++ other)) words) split ∙ front_gone place
+
 -- ---- Texts that are looked up
 
 pub same_order : (xs ys : List ℕ) → bytes_eq xs ys ≡ bytes_eq ys xs

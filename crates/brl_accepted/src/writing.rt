@@ -31,7 +31,8 @@ pub fn write_accepted(
     ensures { IfOk result (λ text. string_bytes text
         ≡ accepted_text table.now (map string_bytes known.entry.words.now) (map (λ set. set.items) known.entry.sets.now) listed.now) }
 {
-    let sets = listed_sets(alloc, table, known.sets, listed)?;
+    let all = RulePairs::new(alloc, Vec::from_slice(alloc, listed)?)?;
+    let sets = listed_sets(alloc, table, known.sets, &all)?;
     let pairs = pairs_beside(alloc, table, sets.as_slice(), listed)?;
     let mut text = sets_text(alloc, sets.as_slice())?;
     text.push_str(write_pairs(alloc, known.words, pairs.as_slice())?.as_str())?;
@@ -43,14 +44,13 @@ fn listed_sets(
     alloc: Global,
     table: &Table,
     sets: &[Vec<char>],
-    listed: &[(u32, u32)],
+    listed: &RulePairs,
 ) -> Result<Vec<Vec<char>>, AllocError>
     ensures { IfOk result (λ found. map (λ set. set.items) found.items ≡ sets_that_are_listed table.now (map (λ set. set.items) sets.now) listed.now) }
 {
-    let pairs = RulePairs::new(alloc, Vec::from_slice(alloc, listed)?)?;
     let mut found = Vec::new(alloc);
     for set in sets {
-        push_listed(alloc, table, set.as_slice(), &pairs, &mut found)?;
+        push_listed(alloc, table, set.as_slice(), listed, &mut found)?;
     }
     Ok(found)
 }
