@@ -6,6 +6,7 @@ ghost use Rattle.brl_lines.specs.Examples.{circle_refused, in_a_circle, lacking,
 ghost use Rattle.brl_lines.specs.Lines.{lines_of};
 
 /// Files, and the lines of a table in them or why it has none, computed from the definitions.
+#[tactic(auto, unfolding(crate::proofs::Computing::of_lines))]
 pub fn include_examples()
     ensures nested { lines_of [] nested (codes "d/t.ctb") ≡ nested_lines }
     ensures circle { lines_of [] in_a_circle (codes "t.ctb") ≡ circle_refused }
@@ -14,6 +15,7 @@ pub fn include_examples()
 
 /// Files in folders, and the lines of a table that includes one of them or why it has none, computed
 /// from the definitions.
+#[tactic(auto, unfolding(crate::proofs::Computing::of_lines))]
 pub fn folder_examples()
     ensures first { lines_of one_then_two (in_folders Missing) (codes "t") ≡ lines_at (codes "one/u") }
     ensures usual { lines_of one_then_two (in_folders (Holds (codes "letter a 1"))) (codes "t") ≡ lines_at (codes "u") }
