@@ -1,5 +1,5 @@
 //! What the sections of a list come to.
-ghost use Rattle.std.specs.Prelude.{◌≡◌, IfOk, string_bytes};
+ghost use Rattle.std.specs.Prelude.{◌≡◌, ◌==◌, if◌then◌else◌, IfOk, string_bytes};
 ghost use Rattle.brl_clashes.specs.Accepted.{accepted_line as line_of_accepted, accepted_words as words_of_accepted, outcome_beside as said_outcome};
 ghost use Rattle.brl_clashes.specs.ClashesText.{
   counts_of as counts_after,
@@ -69,11 +69,14 @@ pub fn accepted_line(alloc: Global, accepted: Option<usize>) -> Result<String, A
 pub fn accepted_words(count: usize) -> &'static str
     ensures { result.now ≡ words_of_accepted count }
 {
-    if count == 1 {
-        " pair of rules"
-    } else {
-        " pairs of rules"
-    }
+    words_for(count, " pair of rules", " pairs of rules")
+}
+
+/// The words for a count of one, and other words for any other count.
+fn words_for(count: usize, one: &'static str, other: &'static str) -> &'static str
+    ensures { result.now ≡ (if count == 1 then one.now else other.now) }
+{
+    if count == 1 { one } else { other }
 }
 
 /// Whether all of these sections are whole.
@@ -153,11 +156,7 @@ fn pairs_line(alloc: Global, count: usize, whole: bool) -> Result<String, AllocE
 pub fn pairs_words(count: usize) -> &'static str
     ensures { result.now ≡ words_of_pairs count }
 {
-    if count == 1 {
-        " pair of rules diverges"
-    } else {
-        " pairs of rules diverge"
-    }
+    words_for(count, " pair of rules diverges", " pairs of rules diverge")
 }
 
 /// What is said after these words: that no others diverge, or that others may.
