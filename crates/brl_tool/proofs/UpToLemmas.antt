@@ -1,5 +1,5 @@
 -- What is answered where a file excuses something.
-use Rattle.std.proofs.Common.{◌≡◌, ◌≢◌, ◌∙◌, ℕ, All, codes, List, inl, inr, refl, Some, Result, Ok, Err, IfOk, subst, sym}
+use Rattle.std.proofs.Common.{◌≡◌, ◌≢◌, ◌∙◌, ℕ, All, codes, List, inl, inr, refl, Some, Result, Ok, Err, IfErr, IfOk, subst, sym}
 use Rattle.brl_accept.specs.Excusing.{IsAcceptedUpTo, IsShown, closed_up_to}
 use Rattle.brl_accept.specs.Judging.{IsRefusedFor}
 use Rattle.brl_accept.specs.declared.judge_fault.JudgeFault.{JudgeFault}
@@ -36,7 +36,7 @@ use Rattle.brl_table.specs.declared.table_fault.TableFault.{TableFault}
 use Rattle.brl_table.specs.declared.no_table.NoTable.TheVariants as no_table
 use Rattle.brl_tool.proofs.ClashesLemmas.{given_before, text_fault_before}
 use Rattle.brl_tool.specs.Baselines.{IsFaultOfLine, read_paths}
-use Rattle.brl_tool.specs.UpTo.{ByExcusal, ChecksUpTo, FindsUpTo, IsAcceptanceUpTo, IsCertificateUpTo, IsExcusedAt, IsFaultOfExcusal, IsUnexchanged, IsVerdictUpTo, JudgesFileUpTo, JudgesUpTo, SearchesUpTo}
+use Rattle.brl_tool.specs.UpTo.{ByExcusal, ChecksUpTo, FindsUpTo, IsAcceptanceUpTo, IsCertificateUpTo, IsExcusedAt, IsFaultBeforeExcusal, IsFaultOfExcusal, IsUnexchanged, IsVerdictUpTo, JudgesFileUpTo, JudgesUpTo, SearchesUpTo}
 use Rattle.brl_tool.specs.Verdicts.{IsOverwriting, IsRefusal, RendersFailure}
 use Rattle.brl_without.specs.Tables.{AreDefined}
 
@@ -108,14 +108,24 @@ IsLater (Load fault) = ⊥
 IsLater (Accept fault) = ⊥
 IsLater fault = Unit {0}
 
-module _ (left_out : List ℕ) (gives : FileAnswers) (path : List ℕ) (t : TableView) (lines : List LineView) (answers : Excused → ℕ → Result Answer RunFault → Type 0) (defined : AreDefined t left_out) where
-  -- nothing is excused
-  pub not_excused : (fault : RunFault) → IsFaultOfExcusal gives path t lines fault → ByExcusal left_out gives path t lines answers (Err fault)
-  not_excused (Load fault) h = (defined, h)
-  not_excused (Accept fault) h = (defined, h)
-  not_excused Memory h = tt
-  not_excused fault h = absurd h
+module _ (left_out : List ℕ) (gives : FileAnswers) (path : List ℕ) (t : TableView) (lines : List LineView) where
+  -- the file excuses nothing
+  pub fault_of_excusal : AreDefined t left_out → {T : Type 0} (result : Result T RunFault) → IfErr result (IsFaultOfExcusal gives path t lines) → IfErr result (IsFaultBeforeExcusal left_out gives path t lines)
+  fault_of_excusal defined (Ok excusal) h = tt
+  fault_of_excusal defined (Err (Load fault)) h = (defined, h)
+  fault_of_excusal defined (Err (Accept fault)) h = (defined, h)
+  fault_of_excusal defined (Err Memory) h = tt
+  fault_of_excusal defined (Err fault) h = absurd h
 
+  -- it isn't known what is excused
+  pub not_excused : (answers : Excused → ℕ → Result Answer RunFault → Type 0) (fault : RunFault) → IsFaultBeforeExcusal left_out gives path t lines fault → ByExcusal left_out gives path t lines answers (Err fault)
+  not_excused answers (NotDefined fault) h = h
+  not_excused answers (Load fault) h = h
+  not_excused answers (Accept fault) h = h
+  not_excused answers Memory h = tt
+  not_excused answers fault h = absurd h.1
+
+module _ (left_out : List ℕ) (gives : FileAnswers) (path : List ℕ) (t : TableView) (lines : List LineView) (answers : Excused → ℕ → Result Answer RunFault → Type 0) (defined : AreDefined t left_out) where
   -- the answer with what is excused, which is never one of the faults before it
   abbrev pub NeverBefore : Type 0
   NeverBefore = (excused : Excused) (sets : ℕ) (fault : RunFault) → answers excused sets (Err fault) → IsLater fault
@@ -212,13 +222,28 @@ module _ (left_out : List ℕ) (gives : FileAnswers) (same : MayBeSame) (path ou
         → SearchesUpTo left_out gives same path out limit accept result
     searched t is result h = by_own result (subst (λ (u : TableView). ByExcusal left_out gives accept u lines (FindsUpTo left_out u out limit) result) is h)
 
+-- a fault that is handed on counts as it did, where no file failed before
+pub count_handed : (S T : Type 0) (before later now : ℕ) → later ≡ before → (fault : RunFault) → CountsFailure later now (load_outcome {T = S} (Err fault)) → CountsFailure before now (load_outcome {T = T} (Err fault))
+count_handed S T before later now same fault h = by fault (subst (λ (n : ℕ). CountsFailure n now (load_outcome {T = S} (Err fault))) same h)
+  where
+    by : (f : RunFault) → CountsFailure before now (load_outcome {T = S} (Err f)) → CountsFailure before now (load_outcome {T = T} (Err f))
+    by (Load f) k = k
+    by Memory k = k
+    by f k = k
+
 -- a certificate's bytes were judged for the table of these lines
-pub judged_of_lines : (left_out : List ℕ) (gives : FileAnswers) (path accept bytes : List ℕ) (paths : List (List ℕ)) (lines : List LineView) → AreLinesOfFiles gives path paths lines → PassesAll lines
+judged_of_lines : (left_out : List ℕ) (gives : FileAnswers) (path accept bytes : List ℕ) (paths : List (List ℕ)) (lines : List LineView) → AreLinesOfFiles gives path paths lines → PassesAll lines
     → (t : TableView) → t ≡ table_of lines → (result : Result Answer RunFault) → ByExcusal left_out gives accept t lines (JudgesUpTo left_out t bytes) result → JudgesFileUpTo left_out gives path accept bytes result
 judged_of_lines left_out gives path accept bytes paths lines are passes t table (Ok answer) is =
     (paths, lines, are, passes, subst (λ (u : TableView). ByExcusal left_out gives accept u lines (JudgesUpTo left_out u bytes) (Ok answer)) table is)
 judged_of_lines left_out gives path accept bytes paths lines are passes t table (Err fault) is =
     inr (paths, lines, are, passes, subst (λ (u : TableView). ByExcusal left_out gives accept u lines (JudgesUpTo left_out u bytes) (Err fault)) table is)
+
+-- the same, where what is excused is read after the table
+pub judged_later : (left_out : List ℕ) (gives after : FileAnswers) → Unchanged gives after → (path accept bytes : List ℕ) (paths : List (List ℕ)) (lines : List LineView) → AreLinesOfFiles gives path paths lines → PassesAll lines
+    → (t : TableView) → t ≡ table_of lines → (result : Result Answer RunFault) → ByExcusal left_out after accept t lines (JudgesUpTo left_out t bytes) result → JudgesFileUpTo left_out gives path accept bytes result
+judged_later left_out gives after same path accept bytes paths lines are passes t table result h =
+    judged_of_lines left_out gives path accept bytes paths lines are passes t table result (excusal_before gives after same left_out accept t lines (JudgesUpTo left_out t bytes) result h)
 
 -- ---- What a search found
 

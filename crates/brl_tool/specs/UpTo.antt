@@ -56,6 +56,13 @@ IsFaultOfExcusal gives path t lines (Accept fault) =
 IsFaultOfExcusal gives path t lines Memory = Unit {0}
 IsFaultOfExcusal gives path t lines fault = ⊥
 
+-- why it isn't known what is excused: the table doesn't define what is left out; or it does, and the file
+-- excuses nothing; or memory ran out
+abbrev pub IsFaultBeforeExcusal : List ℕ → FileAnswers → List ℕ → TableView → List LineView → RunFault → Type 0
+IsFaultBeforeExcusal left_out gives path t lines (NotDefined fault) = IsUndefined t left_out fault
+IsFaultBeforeExcusal left_out gives path t lines Memory = Unit {0}
+IsFaultBeforeExcusal left_out gives path t lines fault = AreDefined t left_out × IsFaultOfExcusal gives path t lines fault
+
 -- what is answered for what the file at a path excuses of the table of these lines, once the table
 -- defines what is left out. Or it doesn't; or it does, and the file excuses nothing
 abbrev pub ByExcusal : List ℕ → FileAnswers → List ℕ → TableView → List LineView → (Excused → ℕ → Result Answer RunFault → Type 0) → Result Answer RunFault → Type 0

@@ -1,7 +1,10 @@
 //! The files of pairs of rules of `brl clashes`: what one accepts, and what goes to another.
 ghost use Rattle.std.specs.Prelude.{◌≡◌, IfErr, IfOk, OnOk, map, option_map, string_bytes};
 ghost use Rattle.std.specs.Option.{option_copied};
-ghost use Rattle.brl_clashes.specs.Sections.{are_whole as all_whole};
+ghost use Rattle.brl_accepted.specs.Pairs.{wording as words_of_rules};
+ghost use Rattle.brl_accepted.specs.Writing.{accepted_text};
+ghost use Rattle.brl_clashes.specs.Sections.{are_whole as all_whole, listed_pairs};
+ghost use Rattle.brl_clashes.specs.Sets.{sets_of_table};
 ghost use Rattle.brl_lines.specs.Views.{line_view};
 ghost use Rattle.brl_tool.specs.Baselines.{
   AreAccepted,
@@ -76,18 +79,13 @@ pub fn accepted_pairs(
     let Some(file) = baseline else {
         return Ok(Vec::new(alloc));
     };
-    let words = wording(alloc, table, lines)?;
-    let sets = character_sets(alloc, table)?;
-    let known = Nameable {
-        words: words.as_slice(),
-        sets: sets.as_slice(),
-    };
+    let names = Names::of(alloc, table, lines)?;
     let pairs = pairs_of_sections(alloc, sections)?;
     let listed = Listed {
         pairs: pairs.as_slice(),
         whole: are_whole(sections),
     };
-    Ok(read_accepted(alloc, table, known, listed, file)?)
+    Ok(read_accepted(alloc, table, names.nameable(), listed, file)?)
 }
 
 /// The file with the pairs of rules that the sections of a table of these lines list, where a path is
@@ -107,27 +105,53 @@ pub fn file_of_pairs(
     if !are_whole(sections) {
         return Ok(NewFiles::Nothing);
     }
-    let text = pairs_text(alloc, table, lines, sections)?;
+    let names = Names::of(alloc, table, lines)?;
+    let text = names.pairs_text(alloc, table, sections)?;
     let path = String::from_str(alloc, path)?;
     let bytes = text.into_bytes();
     Ok(NewFiles::InPlace(NewFile { path, bytes }))
 }
 
-/// The text of a file with the pairs of rules that these sections list.
-fn pairs_text(
-    alloc: Global,
-    table: &Table,
-    lines: &[Line<'_>],
-    sections: &[Section],
-) -> Result<String, AllocError>
-    ensures { IfOk result (λ text. string_bytes text ≡ text_of_pairs table.now (map line_view lines.now) sections.now) }
-{
-    let words = wording(alloc, table, lines)?;
-    let sets = character_sets(alloc, table)?;
-    let known = Nameable {
-        words: words.as_slice(),
-        sets: sets.as_slice(),
-    };
-    let pairs = pairs_of_sections(alloc, sections)?;
-    write_accepted(alloc, table, known, pairs.as_slice())
+/// What a file of pairs may name: the rules of a table, by what each says, and its sets of characters.
+#[derive(Drop)]
+struct Names {
+    words: Vec<String>,
+    sets: Vec<Vec<char>>,
+}
+
+impl Names {
+    /// Those of a table of these lines.
+    fn of(alloc: Global, table: &Table, lines: &[Line<'_>]) -> Result<Names, AllocError>
+        ensures words { IfOk result (λ names. map string_bytes names.words.items ≡ words_of_rules table.now (map line_view lines.now)) }
+        ensures sets { IfOk result (λ names. map (λ set. set.items) names.sets.items ≡ sets_of_table table.now) }
+    {
+        let words = wording(alloc, table, lines)?;
+        let sets = character_sets(alloc, table)?;
+        Ok(Names { words, sets })
+    }
+
+    /// The same, as it is given to what reads and writes such files.
+    fn nameable(&self) -> Nameable<'_>
+        ensures words { result.words.now ≡ self.now.words.items }
+        ensures sets { result.sets.now ≡ self.now.sets.items }
+    {
+        Nameable {
+            words: self.words.as_slice(),
+            sets: self.sets.as_slice(),
+        }
+    }
+
+    /// The text of a file with the pairs of a table's rules that these sections list.
+    fn pairs_text(
+        &self,
+        alloc: Global,
+        table: &Table,
+        sections: &[Section],
+    ) -> Result<String, AllocError>
+        ensures { IfOk result (λ text. string_bytes text
+            ≡ accepted_text table.now (map string_bytes self.now.words.items) (map (λ set. set.items) self.now.sets.items) (listed_pairs sections.now)) }
+    {
+        let pairs = pairs_of_sections(alloc, sections)?;
+        write_accepted(alloc, table, self.nameable(), pairs.as_slice())
+    }
 }

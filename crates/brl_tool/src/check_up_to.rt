@@ -3,21 +3,21 @@ ghost use Rattle.std.specs.Option.{option_copied};
 ghost use Rattle.brl_lines.specs.Answer.{Unchanged};
 ghost use Rattle.brl_lines.specs.Outcome.{CountsFailure};
 ghost use Rattle.brl_answers.specs.Answers.{ByLeftOut, UnlessMemory, load_outcome};
-ghost use Rattle.brl_tool.specs.UpTo.{ByExcusal, ChecksUpTo, IsAcceptanceUpTo, JudgesFileUpTo, JudgesUpTo};
+ghost use Rattle.brl_tool.specs.UpTo.{ChecksUpTo, IsAcceptanceUpTo, JudgesFileUpTo, JudgesUpTo};
 ghost use Rattle.brl_without.specs.Tables.{AreDefined};
 
 use crate::check::answer_failure;
-use crate::excusing::{excusal_at, lines_up_to};
+use crate::excusing::{ButFor, excusal_without, lines_up_to};
 use crate::file_text::bytes_at;
+use crate::loaded_table::table_at;
 use brl_accept::judge_table;
 use brl_accepted::Excusal;
 use brl_answers::{Answer, RunFault, Status, counts_text, left_out_of};
 use brl_closure::Accepted;
-use brl_lines::{Loaded, Source, load};
+use brl_lines::Source;
 use brl_progress::Progress;
 use brl_rules::Table;
-use brl_table::table_of_loaded;
-use brl_without::{LeftOut, Scope, check_defined};
+use brl_without::{LeftOut, Scope};
 use std::alloc::Global;
 
 /// The paths of the files of a check: the table's, the certificate's, and that of what is excused.
@@ -62,60 +62,26 @@ fn check_up_to_by_files<S: Source, W: Progress>(
     ensures same { Unchanged (S.gives source.old) (S.gives source.new) }
 {
     let bytes = bytes_at(alloc, source, paths.cert)?;
-    let judged = Judged {
-        bytes: bytes.as_slice(),
-        accept: paths.accept,
-    };
-    check_bytes(alloc, source, paths.table, judged, left_out, progress)
+    check_bytes(alloc, source, paths, bytes.as_slice(), left_out, progress)
 }
 
-/// What is judged: the bytes of a certificate, but for what the file at a path excuses.
-#[derive(Clone, Copy)]
-struct Judged<'a> {
-    bytes: &'a [u8],
-    accept: &'a str,
-}
-
-/// Judges it for the table whose file is at a path.
+/// Judges a certificate with these bytes, which are read from its file.
 fn check_bytes<S: Source, W: Progress>(
     alloc: Global,
     source: &mut S,
-    path: &str,
-    judged: Judged<'_>,
+    paths: CheckedFiles<'_>,
+    bytes: &[u8],
     left_out: &LeftOut,
     progress: &mut W,
 ) -> Result<Answer, RunFault>
-    ensures judges { JudgesFileUpTo left_out.now (S.gives source.old) path.now judged.entry.accept.now judged.entry.bytes.now result }
+    ensures judges { JudgesFileUpTo left_out.now (S.gives source.old) paths.entry.table.now paths.entry.accept.now bytes.now result }
     ensures count { CountsFailure (S.faults source.old) (S.faults source.new) (load_outcome result) }
     ensures same { Unchanged (S.gives source.old) (S.gives source.new) }
 {
-    let loaded = load(alloc, source, path)?;
-    let table = table_of_loaded(alloc, &loaded)?;
-    let answer = check_loaded(alloc, source, &table, &loaded, judged, left_out, progress);
-    drop(table);
-    answer
-}
-
-/// Judges it for a table of loaded files.
-fn check_loaded<S: Source, W: Progress>(
-    alloc: Global,
-    source: &mut S,
-    table: &Table,
-    loaded: &Loaded,
-    judged: Judged<'_>,
-    left_out: &LeftOut,
-    progress: &mut W,
-) -> Result<Answer, RunFault>
-    ensures judges { ByExcusal left_out.now (S.gives source.old) judged.entry.accept.now table.now loaded.now.lines
-        (JudgesUpTo left_out.now table.now judged.entry.bytes.now) result }
-    ensures count { CountsFailure (S.faults source.old) (S.faults source.new) (load_outcome result) }
-    ensures same { Unchanged (S.gives source.old) (S.gives source.new) }
-{
-    let lines = loaded.lines(alloc)?;
-    check_defined(alloc, table, left_out)?;
-    let excusal = excusal_at(alloc, source, table, lines.as_slice(), judged.accept)?;
+    let loaded = table_at(alloc, source, paths.table)?;
+    let excusal = excusal_without(alloc, source, &loaded, left_out, paths.accept)?;
     let scope = Scope { left_out, progress };
-    judgement_up_to(alloc, table, judged.bytes, &excusal, scope)
+    judgement_up_to(alloc, &loaded.table, bytes, &excusal, scope)
 }
 
 /// The answer to what the judge finds, but for what is excused, of a table that defines what is left out.
@@ -129,9 +95,12 @@ fn judgement_up_to<W: Progress>(
     requires { AreDefined table.now scope.left_out.now }
     ensures { JudgesUpTo scope.entry.left_out.now table.now bytes.now excusal.now.excused excusal.now.sets result }
 {
-    let left_out = scope.left_out;
+    let but_for = ButFor {
+        excusal,
+        left_out: scope.left_out,
+    };
     match judge_table(alloc, table, bytes, &excusal.excused, scope) {
-        Ok(accepted) => acceptance_up_to(alloc, left_out, excusal, accepted),
+        Ok(accepted) => acceptance_up_to(alloc, but_for, accepted),
         Err(failure) => answer_failure(alloc, failure),
     }
 }
@@ -139,15 +108,14 @@ fn judgement_up_to<W: Progress>(
 /// The answer where a certificate is accepted.
 fn acceptance_up_to(
     alloc: Global,
-    left_out: &LeftOut,
-    excusal: &Excusal,
+    but_for: ButFor<'_>,
     accepted: Accepted,
 ) -> Result<Answer, RunFault>
-    ensures { UnlessMemory (IsAcceptanceUpTo left_out.now excusal.now.excused excusal.now.sets accepted) result }
+    ensures { UnlessMemory (IsAcceptanceUpTo but_for.entry.left_out.now but_for.entry.excusal.now.excused but_for.entry.excusal.now.sets accepted) result }
 {
     let states = u64::from(accepted.states);
     let pairs = u64::from(accepted.pairs);
     let line = counts_text(alloc, "accepted", states, pairs)?;
-    let text = lines_up_to(alloc, line, excusal, left_out)?;
+    let text = lines_up_to(alloc, line, but_for)?;
     Ok(Answer::new(Status::Done, text))
 }

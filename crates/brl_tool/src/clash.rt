@@ -1,20 +1,17 @@
 //! `brl clash`: whether two texts have the same cells.
-ghost use Rattle.std.specs.Prelude.{map};
 ghost use Rattle.brl_lines.specs.Answer.{Unchanged};
 ghost use Rattle.brl_lines.specs.Outcome.{CountsFailure};
-ghost use Rattle.brl_lines.specs.Views.{line_view};
 ghost use Rattle.brl_answers.specs.Answers.{load_outcome};
 ghost use Rattle.brl_tool.specs.ByLines.{shown_lines as lines_shown};
 ghost use Rattle.brl_tool.specs.Comparing.{Compares, ComparesByFile, ComparesByWords};
 
+use crate::loaded_table::{LoadedTable, table_at};
 use crate::shown::shown_lines;
 use brl_answers::{Answer, RunFault, Status, text_of_word};
 use brl_cli::TextOptions;
 use brl_forward::confirm;
-use brl_lines::{Line, Loaded, Source, load};
+use brl_lines::Source;
 use brl_report::report_with;
-use brl_rules::Table;
-use brl_table::table_of_loaded;
 use std::alloc::Global;
 
 /// Compares the texts of two words by the table whose file is at a path. With escapes they are read as
@@ -58,41 +55,25 @@ pub fn compare_by_file<S: Source>(
     ensures count { CountsFailure (S.faults source.old) (S.faults source.new) (load_outcome result) }
     ensures same { Unchanged (S.gives source.old) (S.gives source.new) }
 {
-    let loaded = load(alloc, source, path)?;
-    let table = table_of_loaded(alloc, &loaded)?;
-    let answer = compare_by_loaded(alloc, &table, &loaded, with_lines, left, right);
-    drop(table);
-    answer
+    let loaded = table_at(alloc, source, path)?;
+    compare(alloc, &loaded, with_lines, left, right)
 }
 
-/// Compares two texts by a table of loaded files, whose lines are shown or not.
-fn compare_by_loaded(
+/// Compares two texts by a table. Each step of a report has the lines by which it is made, where these
+/// are shown.
+fn compare(
     alloc: Global,
-    table: &Table,
-    loaded: &Loaded,
+    loaded: &LoadedTable,
     with_lines: bool,
     left: &[char],
     right: &[char],
 ) -> Result<Answer, RunFault>
-    ensures { Compares table.now (lines_shown with_lines loaded.now.lines) left.now right.now result }
+    ensures { Compares loaded.now.table (lines_shown with_lines loaded.now.files.lines) left.now right.now result }
 {
-    let lines = shown_lines(alloc, loaded, with_lines)?;
-    compare(alloc, table, lines.as_slice(), left, right)
-}
-
-/// Compares two texts by a table. A report has those of these lines by which each step is made.
-fn compare(
-    alloc: Global,
-    table: &Table,
-    lines: &[Line<'_>],
-    left: &[char],
-    right: &[char],
-) -> Result<Answer, RunFault>
-    ensures { Compares table.now (map line_view lines.now) left.now right.now result }
-{
-    match confirm(alloc, table, left, right)? {
+    let lines = shown_lines(alloc, &loaded.files, with_lines)?;
+    match confirm(alloc, &loaded.table, left, right)? {
         Some(clash) => {
-            let text = report_with(alloc, table, lines, &clash)?;
+            let text = report_with(alloc, &loaded.table, lines.as_slice(), &clash)?;
             Ok(Answer::new(Status::Refuted, text))
         }
         None => Ok(Answer::new(Status::Done, String::from_str(alloc, "no clash\n")?)),

@@ -12,6 +12,7 @@ ghost use Rattle.brl_tool.specs.Diagnosing.{Diagnoses, DiagnosesByFile, IsDiagno
 
 use crate::baselines::{accepted_pairs, file_of_pairs, refuse_file_that_is_read};
 use crate::file_text::text_at;
+use crate::loaded_table::LoadedTable;
 use crate::notices::write_notices;
 use brl_accepted::Baseline;
 use brl_answers::{Answer, Files, RunFault, Status, left_out_of};
@@ -19,20 +20,22 @@ use brl_clashes::{
     Extent, Outcome, Section, list_sections, outcome_of, sections_text, without_accepted,
 };
 use brl_cli::PairFiles;
-use brl_lines::{Line, Loaded, load};
+use brl_lines::{Line, load};
 use brl_progress::Progress;
 use brl_rules::Table;
-use brl_table::table_of_loaded;
 use brl_without::{LeftOut, Scope, check_defined};
 use std::alloc::{AllocError, Global};
 use std::io::Write;
 
-/// What a list of clashes is asked for: how many states, pairs and pairs of rules a section may find, how
-/// many clashes of it are shown, where 0 means all, and the files of pairs of rules.
+/// What a list of clashes is asked for: the path of the table's file, how many states, pairs and pairs of
+/// rules a section may find, how many clashes of it are shown, where 0 means all, the characters that are
+/// left out, and the files of pairs of rules.
 #[derive(Clone, Copy)]
 struct Wanted<'a> {
+    table: &'a str,
     limit: u32,
     first: u32,
+    left_out: &'a LeftOut,
     pairs: PairFiles<'a>,
 }
 
@@ -57,11 +60,13 @@ pub fn list_clashes_by_words<F: Files, E: Write + Progress>(
 {
     let left_out = left_out_of(alloc, option)?;
     let wanted = Wanted {
+        table: path,
         limit,
         first,
+        left_out: &left_out,
         pairs,
     };
-    list_clashes_by_file(alloc, files, path, wanted, &left_out, err)
+    list_clashes_by_file(alloc, files, wanted, err)
 }
 
 /// Lists them without the characters that are left out. `PairsWouldOverwrite` where the file that gets
@@ -69,41 +74,35 @@ pub fn list_clashes_by_words<F: Files, E: Write + Progress>(
 fn list_clashes_by_file<F: Files, E: Write + Progress>(
     alloc: Global,
     files: &mut F,
-    path: &str,
     wanted: Wanted<'_>,
-    left_out: &LeftOut,
     err: &mut E,
 ) -> Result<Answer, RunFault>
-    ensures diagnoses { DiagnosesByFile left_out.now (F.gives files.old) F.same_file path.now wanted.entry.limit wanted.entry.first
+    ensures diagnoses { DiagnosesByFile wanted.entry.left_out.now (F.gives files.old) F.same_file wanted.entry.table.now wanted.entry.limit wanted.entry.first
         (option_copied wanted.entry.pairs.accept) (option_copied wanted.entry.pairs.write) result }
     ensures count { CountsFailure (F.faults files.old) (F.faults files.new) (load_outcome result) }
     ensures same { Unchanged (F.gives files.old) (F.gives files.new) }
 {
-    let loaded = load(alloc, files, path)?;
-    refuse_file_that_is_read(alloc, files, &loaded, wanted.pairs)?;
-    let table = table_of_loaded(alloc, &loaded)?;
-    let answer = clashes_of_loaded(alloc, files, &table, &loaded, wanted, left_out, err);
-    drop(table);
-    answer
+    let read = load(alloc, files, wanted.table)?;
+    refuse_file_that_is_read(alloc, files, &read, wanted.pairs)?;
+    let loaded = LoadedTable::of(alloc, read)?;
+    clashes_of_loaded(alloc, files, &loaded, wanted, err)
 }
 
 /// Lists the clashes of a table of loaded files.
 fn clashes_of_loaded<F: Files, E: Write + Progress>(
     alloc: Global,
     files: &mut F,
-    table: &Table,
-    loaded: &Loaded,
+    loaded: &LoadedTable,
     wanted: Wanted<'_>,
-    left_out: &LeftOut,
     err: &mut E,
 ) -> Result<Answer, RunFault>
-    ensures diagnoses { Diagnoses left_out.now (F.gives files.old) table.now loaded.now.lines wanted.entry.limit wanted.entry.first
+    ensures diagnoses { Diagnoses wanted.entry.left_out.now (F.gives files.old) loaded.now.table loaded.now.files.lines wanted.entry.limit wanted.entry.first
         (option_copied wanted.entry.pairs.accept) (option_copied wanted.entry.pairs.write) result }
     ensures count { CountsFailure (F.faults files.old) (F.faults files.new) (load_outcome result) }
     ensures same { Unchanged (F.gives files.old) (F.gives files.new) }
 {
-    let lines = loaded.lines(alloc)?;
-    list_clashes(alloc, files, table, lines.as_slice(), wanted, left_out, err)
+    let lines = loaded.files.lines(alloc)?;
+    list_clashes(alloc, files, &loaded.table, lines.as_slice(), wanted, err)
 }
 
 /// Lists the clashes of a table of these lines, once it defines what is left out. The file of accepted
@@ -115,24 +114,23 @@ fn list_clashes<F: Files, E: Write + Progress>(
     table: &Table,
     lines: &[Line<'_>],
     wanted: Wanted<'_>,
-    left_out: &LeftOut,
     err: &mut E,
 ) -> Result<Answer, RunFault>
-    ensures diagnoses { Diagnoses left_out.now (F.gives files.old) table.now (map line_view lines.now) wanted.entry.limit wanted.entry.first
+    ensures diagnoses { Diagnoses wanted.entry.left_out.now (F.gives files.old) table.now (map line_view lines.now) wanted.entry.limit wanted.entry.first
         (option_copied wanted.entry.pairs.accept) (option_copied wanted.entry.pairs.write) result }
     ensures count { CountsFailure (F.faults files.old) (F.faults files.new) (load_outcome result) }
     ensures same { Unchanged (F.gives files.old) (F.gives files.new) }
 {
-    check_defined(alloc, table, left_out)?;
+    check_defined(alloc, table, wanted.left_out)?;
     let Some(path) = wanted.pairs.accept else {
-        return diagnosis(alloc, table, lines, wanted, left_out, None, err);
+        return diagnosis(alloc, table, lines, wanted, None, err);
     };
     let text = text_at(alloc, files, path)?;
     let baseline = Baseline {
         path,
         text: text.as_str(),
     };
-    diagnosis(alloc, table, lines, wanted, left_out, Some(baseline), err)
+    diagnosis(alloc, table, lines, wanted, Some(baseline), err)
 }
 
 /// Writes a table's notices, and lists its clashes beside the pairs that a file accepts.
@@ -141,22 +139,21 @@ fn diagnosis<E: Write + Progress>(
     table: &Table,
     lines: &[Line<'_>],
     wanted: Wanted<'_>,
-    left_out: &LeftOut,
     baseline: Option<Baseline<'_>>,
     err: &mut E,
 ) -> Result<Answer, RunFault>
-    ensures diagnosis { IfOk result (IsDiagnosis left_out.now table.now (map line_view lines.now) wanted.entry.limit wanted.entry.first
+    ensures diagnosis { IfOk result (IsDiagnosis wanted.entry.left_out.now table.now (map line_view lines.now) wanted.entry.limit wanted.entry.first
         (option_map (λ file. file.text.now) baseline.entry) (option_copied wanted.entry.pairs.write)) }
-    ensures fault { IfErr result (IsFaultOfLine (λ fault. (sections : List SectionValue) × AreSections table.now left_out.now wanted.entry.limit sections
+    ensures fault { IfErr result (IsFaultOfLine (λ fault. (sections : List SectionValue) × AreSections table.now wanted.entry.left_out.now wanted.entry.limit sections
         × IsBadLineOf table.now (map line_view lines.now) sections baseline.entry fault)) }
 {
     write_notices(alloc, table, err)?;
     let scope = Scope {
-        left_out,
+        left_out: wanted.left_out,
         progress: err,
     };
     let sections = list_sections(alloc, table, u64::from(wanted.limit), scope)?;
-    answer_beside(alloc, table, lines, wanted, left_out, baseline, sections)
+    answer_beside(alloc, table, lines, wanted, baseline, sections)
 }
 
 /// The answer with the sections of a table, beside the pairs that a file accepts.
@@ -165,12 +162,11 @@ fn answer_beside(
     table: &Table,
     lines: &[Line<'_>],
     wanted: Wanted<'_>,
-    left_out: &LeftOut,
     baseline: Option<Baseline<'_>>,
     sections: Vec<Section>,
 ) -> Result<Answer, RunFault>
-    requires { AreSections table.now left_out.now wanted.limit sections.items }
-    ensures diagnosis { IfOk result (IsDiagnosis left_out.now table.now (map line_view lines.now) wanted.entry.limit wanted.entry.first
+    requires { AreSections table.now wanted.left_out.now wanted.limit sections.items }
+    ensures diagnosis { IfOk result (IsDiagnosis wanted.entry.left_out.now table.now (map line_view lines.now) wanted.entry.limit wanted.entry.first
         (option_map (λ file. file.text.now) baseline.entry) (option_copied wanted.entry.pairs.write)) }
     ensures fault { IfErr result (IsFaultOfLine (IsBadLineOf table.now (map line_view lines.now) sections.items baseline.entry)) }
 {
@@ -179,7 +175,7 @@ fn answer_beside(
     let status = status_of(outcome_of(left.as_slice()));
     let files = file_of_pairs(alloc, table, lines, left.as_slice(), wanted.pairs.write)?;
     let shown = Extent {
-        left_out,
+        left_out: wanted.left_out,
         first: wanted.first as usize,
         accepted: baseline.is_some().then_some(accepted.len()),
     };

@@ -9,19 +9,47 @@ ghost use Rattle.brl_lines.specs.Answer.{Unchanged};
 ghost use Rattle.brl_lines.specs.Outcome.{CountsFailure};
 ghost use Rattle.brl_lines.specs.Views.{line_view};
 ghost use Rattle.brl_tool.specs.Baselines.{IsFaultOfLine};
-ghost use Rattle.brl_tool.specs.UpTo.{IsExcusedAt, IsFaultOfExcusal, but_for_line as line_of_excused, lines_up_to as whole_lines, sets_words as words_of_sets};
+ghost use Rattle.brl_without.specs.Tables.{AreDefined};
+ghost use Rattle.brl_tool.specs.UpTo.{IsExcusedAt, IsFaultBeforeExcusal, IsFaultOfExcusal, but_for_line as line_of_excused, lines_up_to as whole_lines, sets_words as words_of_sets};
 
 use crate::file_text::text_at;
+use crate::loaded_table::LoadedTable;
 use brl_accepted::{Baseline, Excusal, read_excusal};
 use brl_answers::{RunFault, with_left_out_line};
 use brl_clashes::{accepted_words, character_sets};
 use brl_lines::{Line, Source};
 use brl_rules::Table;
-use brl_without::LeftOut;
+use brl_without::{LeftOut, check_defined};
 use std::alloc::{AllocError, Global};
 
+/// What an answer doesn't speak of: what a file excuses, and the characters that are left out.
+#[derive(Clone, Copy)]
+pub struct ButFor<'a> {
+    pub excusal: &'a Excusal,
+    pub left_out: &'a LeftOut,
+}
+
+/// What the file at a path excuses of a table, once the table defines what is left out.
+pub fn excusal_without<S: Source>(
+    alloc: Global,
+    source: &mut S,
+    loaded: &LoadedTable,
+    left_out: &LeftOut,
+    path: &str,
+) -> Result<Excusal, RunFault>
+    ensures defined { IfOk result (λ _. AreDefined loaded.now.table left_out.now) }
+    ensures excuses { IfOk result (λ excusal. IsExcusedAt (S.gives source.old) path.now loaded.now.table loaded.now.files.lines excusal.excused excusal.sets) }
+    ensures fault { IfErr result (IsFaultBeforeExcusal left_out.now (S.gives source.old) path.now loaded.now.table loaded.now.files.lines) }
+    ensures count { CountsFailure (S.faults source.old) (S.faults source.new) (load_outcome result) }
+    ensures same { Unchanged (S.gives source.old) (S.gives source.new) }
+{
+    let lines = loaded.files.lines(alloc)?;
+    check_defined(alloc, &loaded.table, left_out)?;
+    excusal_at(alloc, source, &loaded.table, lines.as_slice(), path)
+}
+
 /// What the file at a path excuses of a table of these lines. The first line that isn't good is a fault.
-pub fn excusal_at<S: Source>(
+fn excusal_at<S: Source>(
     alloc: Global,
     source: &mut S,
     table: &Table,
@@ -75,17 +103,14 @@ fn but_for_line(alloc: Global, pairs: usize, sets: usize) -> Result<String, Allo
 }
 
 /// A line of an answer, the line of what is excused, and that of what is left out.
-pub fn lines_up_to(
-    alloc: Global,
-    line: String,
-    excusal: &Excusal,
-    left_out: &LeftOut,
-) -> Result<String, AllocError>
-    ensures { IfOk result (λ text. string_bytes text ≡ whole_lines left_out.now excusal.now.excused excusal.now.sets (string_bytes line)) }
+pub fn lines_up_to(alloc: Global, line: String, but_for: ButFor<'_>) -> Result<String, AllocError>
+    ensures { IfOk result (λ text. string_bytes text
+        ≡ whole_lines but_for.entry.left_out.now but_for.entry.excusal.now.excused but_for.entry.excusal.now.sets (string_bytes line)) }
 {
+    let excusal = but_for.excusal;
     let pairs = excusal.excused.accepted.as_slice().len();
-    let but_for = but_for_line(alloc, pairs, excusal.sets)?;
+    let excused = but_for_line(alloc, pairs, excusal.sets)?;
     let mut text = line;
-    text.push_str(but_for.as_str())?;
-    with_left_out_line(alloc, text, left_out)
+    text.push_str(excused.as_str())?;
+    with_left_out_line(alloc, text, but_for.left_out)
 }

@@ -229,13 +229,8 @@ fn answer<F: Files, E: Write + Progress>(
             accept,
             without,
         } => {
-            let wanted = SearchedFiles {
-                table,
-                out,
-                accept,
-                limit,
-            };
-            let outcome = search_up_to_by_words(alloc, files, wanted, without, err);
+            let paths = SearchedFiles { table, out, accept };
+            let outcome = search_up_to_by_words(alloc, files, paths, limit, without, err);
             err.end();
             outcome
         }

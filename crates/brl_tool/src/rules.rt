@@ -1,16 +1,15 @@
 //! `brl rules`: the rules of a table by their numbers.
-ghost use Rattle.std.specs.Prelude.{◌≡◌, IfOk, map};
+ghost use Rattle.std.specs.Prelude.{◌≡◌, IfOk};
 ghost use Rattle.brl_lines.specs.Answer.{Unchanged};
 ghost use Rattle.brl_lines.specs.Outcome.{CountsFailure};
-ghost use Rattle.brl_lines.specs.Views.{line_view};
 ghost use Rattle.brl_answers.specs.Answers.{load_outcome};
 ghost use Rattle.brl_tool.specs.Listing.{Lists, ListsByFile, listed_numbers as numbers_listed};
 
+use crate::loaded_table::{LoadedTable, table_at};
 use brl_answers::{Answer, RunFault, Status};
-use brl_lines::{Line, Loaded, Source, load};
+use brl_lines::Source;
 use brl_report::{first_unknown, rule_numbers, rules_report};
 use brl_rules::Table;
-use brl_table::table_of_loaded;
 use std::alloc::{AllocError, Global};
 
 /// Lists the rules of the table whose file is at a path: those with these numbers, in their order, and
@@ -25,40 +24,20 @@ pub fn list_rules_by_file<S: Source>(
     ensures count { CountsFailure (S.faults source.old) (S.faults source.new) (load_outcome result) }
     ensures same { Unchanged (S.gives source.old) (S.gives source.new) }
 {
-    let loaded = load(alloc, source, path)?;
-    let table = table_of_loaded(alloc, &loaded)?;
-    let answer = list_of_loaded(alloc, &table, &loaded, numbers);
-    drop(table);
-    answer
+    let loaded = table_at(alloc, source, path)?;
+    list_rules(alloc, &loaded, numbers)
 }
 
-/// Lists rules of a table of loaded files.
-fn list_of_loaded(
-    alloc: Global,
-    table: &Table,
-    loaded: &Loaded,
-    numbers: &[u32],
-) -> Result<Answer, RunFault>
-    ensures { Lists table.now loaded.now.lines numbers.now result }
+/// Lists rules of a table.
+fn list_rules(alloc: Global, loaded: &LoadedTable, numbers: &[u32]) -> Result<Answer, RunFault>
+    ensures { Lists loaded.now.table loaded.now.files.lines numbers.now result }
 {
-    let lines = loaded.lines(alloc)?;
-    list_rules(alloc, table, lines.as_slice(), numbers)
-}
-
-/// Lists rules of a table of these lines.
-fn list_rules(
-    alloc: Global,
-    table: &Table,
-    lines: &[Line<'_>],
-    numbers: &[u32],
-) -> Result<Answer, RunFault>
-    ensures { Lists table.now (map line_view lines.now) numbers.now result }
-{
-    if let Some(number) = first_unknown(table, numbers) {
+    if let Some(number) = first_unknown(&loaded.table, numbers) {
         return Err(RunFault::NoSuchRule(number));
     }
-    let listed = listed_numbers(alloc, table, numbers)?;
-    let text = rules_report(alloc, table, lines, listed.as_slice())?;
+    let listed = listed_numbers(alloc, &loaded.table, numbers)?;
+    let lines = loaded.files.lines(alloc)?;
+    let text = rules_report(alloc, &loaded.table, lines.as_slice(), listed.as_slice())?;
     Ok(Answer::new(Status::Done, text))
 }
 

@@ -10,13 +10,10 @@ ghost use Rattle.brl_search.specs.Found.{IsFoundWithout};
 ghost use Rattle.brl_without.specs.Tables.{AreDefined};
 
 use crate::baselines::read_paths;
+use crate::certificate::{certificate_with, certified_text};
 use crate::notices::write_notices;
 use crate::same_file::path_of_file;
-use brl_answers::{
-    Answer, Files, NewFile, NewFiles, RunFault, Status, counts_text, left_out_of,
-    with_left_out_line,
-};
-use brl_cert::write_cert;
+use brl_answers::{Answer, Files, RunFault, Status, counts_text, left_out_of, with_left_out_line};
 use brl_lines::{Loaded, load};
 use brl_progress::Progress;
 use brl_report::report;
@@ -70,9 +67,7 @@ pub fn search_by_file<F: Files, E: Write + Progress>(
     refuse_file_that_is_read(alloc, files, &loaded, None, out)?;
     let table = table_of_loaded(alloc, &loaded)?;
     drop(loaded);
-    let answer = search_defined(alloc, &table, out, limit, left_out, err);
-    drop(table);
-    answer
+    search_table(alloc, &table, out, limit, left_out, err)
 }
 
 /// Refuses a file for the certificate that is one of a table's files, or that of what is excused.
@@ -93,8 +88,9 @@ pub(crate) fn refuse_file_that_is_read<F: Files>(
     }
 }
 
-/// Searches a table, once it defines what is left out.
-fn search_defined<E: Write + Progress>(
+/// Writes a table's notices, and searches it without the characters that are left out, once it defines
+/// these.
+fn search_table<E: Write + Progress>(
     alloc: Global,
     table: &Table,
     out: &str,
@@ -106,28 +102,13 @@ fn search_defined<E: Write + Progress>(
     ensures fault { IfErr result (IsUndefinedFault table.now left_out.now) }
 {
     check_defined(alloc, table, left_out)?;
-    Ok(search_table(alloc, table, out, limit, left_out, err)?)
-}
-
-/// Writes a table's notices, and searches it without the characters that are left out.
-fn search_table<E: Write + Progress>(
-    alloc: Global,
-    table: &Table,
-    out: &str,
-    limit: u32,
-    left_out: &LeftOut,
-    err: &mut E,
-) -> Result<Answer, AllocError>
-    requires { AreDefined table.now left_out.now }
-    ensures { IfOk result (IsVerdict left_out.now table.now out.now limit) }
-{
     write_notices(alloc, table, err)?;
     let scope = Scope {
         left_out,
         progress: err,
     };
     let found = search_with(alloc, table, u64::from(limit), scope)?;
-    answer_found(alloc, table, out, left_out, &found)
+    Ok(answer_found(alloc, table, out, left_out, &found)?)
 }
 
 /// The answer with what was found of a table without the characters that are left out.
@@ -162,14 +143,7 @@ fn certificate(
 ) -> Result<Answer, AllocError>
     ensures { IfOk result (IsCertificateAt left_out.now path.now cert.now) }
 {
-    let bytes = write_cert(alloc, cert)?;
-    let path = String::from_str(alloc, path)?;
-    let (states, pairs) = cert.counts();
-    let line = counts_text(alloc, "certified", states as u64, pairs as u64)?;
+    let line = certified_text(alloc, cert)?;
     let text = with_left_out_line(alloc, line, left_out)?;
-    Ok(Answer {
-        text,
-        status: Status::Done,
-        files: NewFiles::InPlace(NewFile { path, bytes }),
-    })
+    certificate_with(alloc, cert, path, text)
 }

@@ -8,32 +8,29 @@ ghost use Rattle.brl_search.specs.FoundUpTo.{IsFoundUpTo};
 ghost use Rattle.brl_tool.specs.UpTo.{ByExcusal, FindsUpTo, IsCertificateUpTo, IsUnexchanged, IsVerdictUpTo, SearchesUpTo};
 ghost use Rattle.brl_without.specs.Tables.{AreDefined};
 
-use crate::excusing::{excusal_at, lines_up_to};
+use crate::certificate::{certificate_with, certified_text};
+use crate::excusing::{ButFor, excusal_without, lines_up_to};
+use crate::loaded_table::LoadedTable;
 use crate::notices::write_notices;
 use crate::search::refuse_file_that_is_read;
-use brl_accepted::Excusal;
-use brl_answers::{Answer, Files, NewFile, NewFiles, RunFault, Status, counts_text, left_out_of};
-use brl_cert::write_cert;
+use brl_answers::{Answer, Files, RunFault, Status, counts_text, left_out_of};
 use brl_closure::AcceptFault;
-use brl_lines::{Loaded, load};
+use brl_lines::load;
 use brl_progress::Progress;
 use brl_report::report;
 use brl_rules::Table;
 use brl_search::{FoundUpTo, search_up_to};
 use brl_states::Cert;
-use brl_table::table_of_loaded;
-use brl_without::{LeftOut, Scope, check_defined};
+use brl_without::{LeftOut, Scope};
 use std::alloc::{AllocError, Global};
 use std::io::Write;
 
-/// What a search is asked for: the path of the table's file, that of the certificate's, and that of what is
-/// excused, and how many states and pairs may be found.
+/// The paths of the files of a search: the table's, the certificate's, and that of what is excused.
 #[derive(Clone, Copy)]
 pub struct SearchedFiles<'a> {
     pub table: &'a str,
     pub out: &'a str,
     pub accept: &'a str,
-    pub limit: u32,
 }
 
 /// Searches the table of a file as `search_by_words` does, but for what another file excuses: the pairs of
@@ -46,98 +43,99 @@ pub struct SearchedFiles<'a> {
 pub fn search_up_to_by_words<F: Files, E: Write + Progress>(
     alloc: Global,
     files: &mut F,
-    wanted: SearchedFiles<'_>,
+    paths: SearchedFiles<'_>,
+    limit: u32,
     option: Option<&str>,
     err: &mut E,
 ) -> Result<Answer, RunFault>
     ensures searches { ByLeftOut (option_copied option.entry)
-        (λ left_out. SearchesUpTo left_out (F.gives files.old) F.same_file wanted.entry.table.now wanted.entry.out.now wanted.entry.limit wanted.entry.accept.now) result }
+        (λ left_out. SearchesUpTo left_out (F.gives files.old) F.same_file paths.entry.table.now paths.entry.out.now limit paths.entry.accept.now) result }
     ensures count { CountsFailure (F.faults files.old) (F.faults files.new) (load_outcome result) }
     ensures same { Unchanged (F.gives files.old) (F.gives files.new) }
 {
     let left_out = left_out_of(alloc, option)?;
-    search_up_to_by_files(alloc, files, wanted, &left_out, err)
+    search_up_to_by_files(alloc, files, paths, limit, &left_out, err)
 }
 
 /// Searches it without the characters that are left out.
 fn search_up_to_by_files<F: Files, E: Write + Progress>(
     alloc: Global,
     files: &mut F,
-    wanted: SearchedFiles<'_>,
+    paths: SearchedFiles<'_>,
+    limit: u32,
     left_out: &LeftOut,
     err: &mut E,
 ) -> Result<Answer, RunFault>
-    ensures searches { SearchesUpTo left_out.now (F.gives files.old) F.same_file wanted.entry.table.now wanted.entry.out.now wanted.entry.limit wanted.entry.accept.now result }
+    ensures searches { SearchesUpTo left_out.now (F.gives files.old) F.same_file paths.entry.table.now paths.entry.out.now limit paths.entry.accept.now result }
     ensures count { CountsFailure (F.faults files.old) (F.faults files.new) (load_outcome result) }
     ensures same { Unchanged (F.gives files.old) (F.gives files.new) }
 {
-    let loaded = load(alloc, files, wanted.table)?;
-    refuse_file_that_is_read(alloc, files, &loaded, Some(wanted.accept), wanted.out)?;
-    let table = table_of_loaded(alloc, &loaded)?;
-    let answer = search_loaded(alloc, files, &table, &loaded, wanted, left_out, err);
-    drop(table);
-    answer
+    let read = load(alloc, files, paths.table)?;
+    refuse_file_that_is_read(alloc, files, &read, Some(paths.accept), paths.out)?;
+    let loaded = LoadedTable::of(alloc, read)?;
+    search_loaded(alloc, files, &loaded, paths, limit, left_out, err)
 }
 
-/// Searches a table of loaded files.
+/// Searches a table, but for what the file at a path excuses.
 fn search_loaded<F: Files, E: Write + Progress>(
     alloc: Global,
     files: &mut F,
-    table: &Table,
-    loaded: &Loaded,
-    wanted: SearchedFiles<'_>,
+    loaded: &LoadedTable,
+    paths: SearchedFiles<'_>,
+    limit: u32,
     left_out: &LeftOut,
     err: &mut E,
 ) -> Result<Answer, RunFault>
-    ensures finds { ByExcusal left_out.now (F.gives files.old) wanted.entry.accept.now table.now loaded.now.lines
-        (FindsUpTo left_out.now table.now wanted.entry.out.now wanted.entry.limit) result }
+    ensures finds { ByExcusal left_out.now (F.gives files.old) paths.entry.accept.now loaded.now.table loaded.now.files.lines
+        (FindsUpTo left_out.now loaded.now.table paths.entry.out.now limit) result }
     ensures count { CountsFailure (F.faults files.old) (F.faults files.new) (load_outcome result) }
     ensures same { Unchanged (F.gives files.old) (F.gives files.new) }
 {
-    let lines = loaded.lines(alloc)?;
-    check_defined(alloc, table, left_out)?;
-    let excusal = excusal_at(alloc, files, table, lines.as_slice(), wanted.accept)?;
-    Ok(search_excused(alloc, table, &excusal, wanted, left_out, err)?)
+    let excusal = excusal_without(alloc, files, loaded, left_out, paths.accept)?;
+    let but_for = ButFor {
+        excusal: &excusal,
+        left_out,
+    };
+    Ok(search_excused(alloc, &loaded.table, but_for, paths.out, limit, err)?)
 }
 
 /// Writes a table's notices, and searches it but for what is excused.
 fn search_excused<E: Write + Progress>(
     alloc: Global,
     table: &Table,
-    excusal: &Excusal,
-    wanted: SearchedFiles<'_>,
-    left_out: &LeftOut,
+    but_for: ButFor<'_>,
+    out: &str,
+    limit: u32,
     err: &mut E,
 ) -> Result<Answer, AllocError>
-    requires { AreDefined table.now left_out.now }
-    ensures { IfOk result (IsVerdictUpTo left_out.now excusal.now.excused excusal.now.sets table.now wanted.entry.out.now wanted.entry.limit) }
+    requires { AreDefined table.now but_for.left_out.now }
+    ensures { IfOk result (IsVerdictUpTo but_for.entry.left_out.now but_for.entry.excusal.now.excused but_for.entry.excusal.now.sets table.now out.now limit) }
 {
     write_notices(alloc, table, err)?;
     let scope = Scope {
-        left_out,
+        left_out: but_for.left_out,
         progress: err,
     };
-    let limit = u64::from(wanted.limit);
-    let found = search_up_to(alloc, table, &excusal.excused, limit, scope)?;
-    answer_found(alloc, table, excusal, wanted.out, left_out, &found)
+    let excused = &but_for.excusal.excused;
+    let found = search_up_to(alloc, table, excused, u64::from(limit), scope)?;
+    answer_found(alloc, table, but_for, out, &found)
 }
 
 /// The answer with what was found of a table without the characters that are left out.
 fn answer_found(
     alloc: Global,
     table: &Table,
-    excusal: &Excusal,
+    but_for: ButFor<'_>,
     out: &str,
-    left_out: &LeftOut,
     found: &FoundUpTo,
 ) -> Result<Answer, AllocError>
-    requires defined { AreDefined table.now left_out.now }
-    requires found { (limit : ℕ) × IsFoundUpTo left_out.now excusal.now.excused table.now limit found.now }
-    ensures { (limit : ℕ) → IsFoundUpTo left_out.now excusal.now.excused table.now limit found.now →
-        IfOk result (IsVerdictUpTo left_out.now excusal.now.excused excusal.now.sets table.now out.now limit) }
+    requires defined { AreDefined table.now but_for.left_out.now }
+    requires found { (limit : ℕ) × IsFoundUpTo but_for.left_out.now but_for.excusal.now.excused table.now limit found.now }
+    ensures { (limit : ℕ) → IsFoundUpTo but_for.entry.left_out.now but_for.entry.excusal.now.excused table.now limit found.now →
+        IfOk result (IsVerdictUpTo but_for.entry.left_out.now but_for.entry.excusal.now.excused but_for.entry.excusal.now.sets table.now out.now limit) }
 {
     match found {
-        FoundUpTo::Certified(cert) => certificate_up_to(alloc, cert, excusal, out, left_out),
+        FoundUpTo::Certified(cert) => certificate_up_to(alloc, cert, but_for, out),
         FoundUpTo::Clashing(clash) => Ok(Answer::new(
             Status::Refuted,
             report(alloc, table, &clash.clash)?,
@@ -163,20 +161,12 @@ fn unexchanged(alloc: Global, fault: &AcceptFault) -> Result<Answer, AllocError>
 fn certificate_up_to(
     alloc: Global,
     cert: &Cert,
-    excusal: &Excusal,
+    but_for: ButFor<'_>,
     path: &str,
-    left_out: &LeftOut,
 ) -> Result<Answer, AllocError>
-    ensures { IfOk result (IsCertificateUpTo left_out.now excusal.now.excused excusal.now.sets path.now cert.now) }
+    ensures { IfOk result (IsCertificateUpTo but_for.entry.left_out.now but_for.entry.excusal.now.excused but_for.entry.excusal.now.sets path.now cert.now) }
 {
-    let bytes = write_cert(alloc, cert)?;
-    let path = String::from_str(alloc, path)?;
-    let (states, pairs) = cert.counts();
-    let line = counts_text(alloc, "certified", states as u64, pairs as u64)?;
-    let text = lines_up_to(alloc, line, excusal, left_out)?;
-    Ok(Answer {
-        text,
-        status: Status::Done,
-        files: NewFiles::InPlace(NewFile { path, bytes }),
-    })
+    let line = certified_text(alloc, cert)?;
+    let text = lines_up_to(alloc, line, but_for)?;
+    certificate_with(alloc, cert, path, text)
 }

@@ -1,19 +1,16 @@
 //! `brl trace`: the steps of a text's translation.
-ghost use Rattle.std.specs.Prelude.{map};
 ghost use Rattle.brl_lines.specs.Answer.{Unchanged};
 ghost use Rattle.brl_lines.specs.Outcome.{CountsFailure};
-ghost use Rattle.brl_lines.specs.Views.{line_view};
 ghost use Rattle.brl_answers.specs.Answers.{load_outcome};
 ghost use Rattle.brl_tool.specs.ByLines.{shown_lines as lines_shown};
 ghost use Rattle.brl_tool.specs.Tracing.{Traces, TracesByFile, TracesByWord};
 
+use crate::loaded_table::{LoadedTable, table_at};
 use crate::shown::shown_lines;
 use brl_answers::{Answer, RunFault, Status, text_of_word};
 use brl_cli::TextOptions;
-use brl_lines::{Line, Loaded, Source, load};
+use brl_lines::Source;
 use brl_report::trace_report;
-use brl_rules::Table;
-use brl_table::table_of_loaded;
 use std::alloc::Global;
 
 /// Traces the text of a word by the table whose file is at a path. With escapes it is read as an operand
@@ -47,36 +44,20 @@ pub fn trace_by_file<S: Source>(
     ensures count { CountsFailure (S.faults source.old) (S.faults source.new) (load_outcome result) }
     ensures same { Unchanged (S.gives source.old) (S.gives source.new) }
 {
-    let loaded = load(alloc, source, path)?;
-    let table = table_of_loaded(alloc, &loaded)?;
-    let answer = trace_of_loaded(alloc, &table, &loaded, with_lines, text);
-    drop(table);
-    answer
+    let loaded = table_at(alloc, source, path)?;
+    trace(alloc, &loaded, with_lines, text)
 }
 
-/// Traces a text by a table of loaded files, whose lines are shown or not.
-fn trace_of_loaded(
+/// Traces a text by a table. Each step has the lines by which it is made, where these are shown.
+fn trace(
     alloc: Global,
-    table: &Table,
-    loaded: &Loaded,
+    loaded: &LoadedTable,
     with_lines: bool,
     text: &[char],
 ) -> Result<Answer, RunFault>
-    ensures { Traces table.now (lines_shown with_lines loaded.now.lines) text.now result }
+    ensures { Traces loaded.now.table (lines_shown with_lines loaded.now.files.lines) text.now result }
 {
-    let lines = shown_lines(alloc, loaded, with_lines)?;
-    trace(alloc, table, lines.as_slice(), text)
-}
-
-/// Traces a text by a table, with those of these lines by which each step is made.
-fn trace(
-    alloc: Global,
-    table: &Table,
-    lines: &[Line<'_>],
-    text: &[char],
-) -> Result<Answer, RunFault>
-    ensures { Traces table.now (map line_view lines.now) text.now result }
-{
-    let report = trace_report(alloc, table, lines, text)?;
+    let lines = shown_lines(alloc, &loaded.files, with_lines)?;
+    let report = trace_report(alloc, &loaded.table, lines.as_slice(), text)?;
     Ok(Answer::new(Status::Done, report))
 }

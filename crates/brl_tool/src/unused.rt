@@ -4,16 +4,16 @@ ghost use Rattle.brl_lines.specs.Answer.{Unchanged};
 ghost use Rattle.brl_lines.specs.Outcome.{CountsFailure};
 ghost use Rattle.brl_lines.specs.Views.{line_view};
 ghost use Rattle.brl_answers.specs.Answers.{HasTextAndStatus, load_outcome};
-ghost use Rattle.brl_tool.specs.Unused.{IsUnusedAnswer, ListsUnused, ListsUnusedByFile, limit_line, status_of_list, status_of_unused, text_of_unused};
+ghost use Rattle.brl_tool.specs.Unused.{ListsUnused, ListsUnusedByFile, limit_line, status_of_list, status_of_unused, text_of_unused};
 
+use crate::loaded_table::{LoadedTable, table_at};
 use crate::notices::write_notices;
 use brl_answers::{Answer, RunFault, Status};
-use brl_lines::{Line, Loaded, Source, load};
+use brl_lines::{Line, Source};
 use brl_progress::Progress;
 use brl_report::unused_report;
 use brl_rules::Table;
 use brl_search::{UnusedRules, unused_rules};
-use brl_table::table_of_loaded;
 use std::alloc::{AllocError, Global};
 use std::io::Write;
 
@@ -30,40 +30,23 @@ pub fn list_unused_by_file<S: Source, E: Write + Progress>(
     ensures count { CountsFailure (S.faults source.old) (S.faults source.new) (load_outcome result) }
     ensures same { Unchanged (S.gives source.old) (S.gives source.new) }
 {
-    let loaded = load(alloc, source, path)?;
-    let table = table_of_loaded(alloc, &loaded)?;
-    let answer = unused_of_loaded(alloc, &table, &loaded, limit, err);
-    drop(table);
-    answer
+    let loaded = table_at(alloc, source, path)?;
+    list_unused(alloc, &loaded, limit, err)
 }
 
-/// Lists the unused rules of a table of loaded files.
-fn unused_of_loaded<E: Write + Progress>(
+/// Writes a table's notices, and lists its unused rules.
+fn list_unused<E: Write + Progress>(
     alloc: Global,
-    table: &Table,
-    loaded: &Loaded,
+    loaded: &LoadedTable,
     limit: u32,
     err: &mut E,
 ) -> Result<Answer, RunFault>
-    ensures { ListsUnused table.now loaded.now.lines limit result }
+    ensures { ListsUnused loaded.now.table loaded.now.files.lines limit result }
 {
-    let lines = loaded.lines(alloc)?;
-    Ok(list_unused(alloc, table, lines.as_slice(), limit, err)?)
-}
-
-/// Lists the unused rules of a table of these lines.
-fn list_unused<E: Write + Progress>(
-    alloc: Global,
-    table: &Table,
-    lines: &[Line<'_>],
-    limit: u32,
-    err: &mut E,
-) -> Result<Answer, AllocError>
-    ensures { IfOk result (IsUnusedAnswer table.now (map line_view lines.now) limit) }
-{
-    write_notices(alloc, table, err)?;
-    let found = unused_rules(alloc, table, u64::from(limit), err)?;
-    answer_of(alloc, table, lines, &found)
+    let lines = loaded.files.lines(alloc)?;
+    write_notices(alloc, &loaded.table, err)?;
+    let found = unused_rules(alloc, &loaded.table, u64::from(limit), err)?;
+    Ok(answer_of(alloc, &loaded.table, lines.as_slice(), &found)?)
 }
 
 /// The answer with what is found.

@@ -18,13 +18,14 @@ returns-in_err-read_accepted-clause-fault c =
     let sections = c.args.sections.now in
     let file = c.in-Some.file in
     let failure = c.in_err-read_accepted.field-0.0 in
-    let words : map string_bytes c.as_slice.result.now ≡ wording t lines = ap (map string_bytes) c.as_slice.ensures.value ∙ c.in_ok-words.ensures in
-    let sets : map (λ set. set.items) c.as_slice-2.result.now ≡ sets_of_table t = ap (map (λ set. set.items)) c.as_slice-2.ensures.value ∙ c.in_ok-sets.ensures in
-    let pairs : c.as_slice-3.result.now ≡ listed_pairs sections = c.as_slice-3.ensures.value ∙ c.in_ok-pairs.ensures in
+    let known = c.nameable.result in
+    let words : map string_bytes known.words.now ≡ wording t lines = ap (map string_bytes) c.nameable.ensures.words ∙ c.in_ok-names.ensures.words in
+    let sets : map (λ set. set.items) known.sets.now ≡ sets_of_table t = ap (map (λ set. set.items)) c.nameable.ensures.sets ∙ c.in_ok-names.ensures.sets in
+    let pairs : c.as_slice.result.now ≡ listed_pairs sections = c.as_slice.ensures.value ∙ c.in_ok-pairs.ensures in
     let by_words =
-    subst (λ (ws : List (List ℕ)). IfFault (IsRefused ws (map (λ set. set.items) c.as_slice-2.result.now) c.as_slice-3.result.now c.are_whole.result file.path.now file.text.now) failure) words
+    subst (λ (ws : List (List ℕ)). IfFault (IsRefused ws (map (λ set. set.items) known.sets.now) c.as_slice.result.now c.are_whole.result file.path.now file.text.now) failure) words
     c.in_err-read_accepted.ensures.fault in
-    let by_sets = subst (λ (ss : List (List ℕ)). IfFault (IsRefused (wording t lines) ss c.as_slice-3.result.now c.are_whole.result file.path.now file.text.now) failure) sets by_words in
+    let by_sets = subst (λ (ss : List (List ℕ)). IfFault (IsRefused (wording t lines) ss c.as_slice.result.now c.are_whole.result file.path.now file.text.now) failure) sets by_words in
     let by_pairs = subst (λ (ps : List (ℕ × ℕ)). IfFault (IsRefused (wording t lines) (sets_of_table t) ps c.are_whole.result file.path.now file.text.now) failure) pairs by_sets in
     let bad = subst (λ (whole : Bool). IfFault (IsRefused (wording t lines) (sets_of_table t) (listed_pairs sections) whole file.path.now file.text.now) failure) c.are_whole.ensures by_pairs in
     rw p.1 (subst (λ baseline. IsFaultOfLine (IsBadLineOf t lines sections baseline) p.0) (sym c.in-Some.is) (line_fault (IsBadLine t lines sections file.path.now file.text.now) failure p.0 p.2 bad))

@@ -21,7 +21,7 @@ number_of (Some file) has m n some same = ap (λ b. then_some b m) some ∙ ap S
 pub sections_text-requires : goal.sections_text-requires
 sections_text-requires c =
     let beside = subst (λ (accepted : List (ℕ × ℕ)). AreLeftOf accepted c.args.sections.items c.in_ok-left.left.items) c.as_slice-2.ensures.value c.in_ok-left.ensures in
-    left_are_clashes c.args.table.now c.args.left_out.now c.args.wanted.limit c.in_ok-accepted.accepted.items c.args.sections.items c.in_ok-left.left.items c.requires beside
+    left_are_clashes c.args.table.now c.args.wanted.left_out.now c.args.wanted.limit c.in_ok-accepted.accepted.items c.args.sections.items c.in_ok-left.left.items c.requires beside
 
 pub returns-clause-diagnosis : goal.returns-clause-diagnosis
 returns-clause-diagnosis c =
@@ -38,7 +38,7 @@ returns-clause-diagnosis c =
       are = c.requires;
       accepts = subst (λ (sections : List Section). AreAccepted baseline t lines sections c.in_ok-accepted.accepted.items) c.as_slice.ensures.value c.in_ok-accepted.ensures.accepts;
       beside = subst (λ (accepted : List (ℕ × ℕ)). AreLeftOf accepted c.args.sections.items left) c.as_slice-2.ensures.value c.in_ok-left.ensures;
-      shows = subst (λ (n : Option ℕ). IsClashesText t lines c.args.left_out.now c.args.wanted.first n left (string_bytes c.in_ok-text.text)) counted c.in_ok-text.ensures;
+      shows = subst (λ (n : Option ℕ). IsClashesText t lines c.args.wanted.left_out.now c.args.wanted.first n left (string_bytes c.in_ok-text.text)) counted c.in_ok-text.ensures;
       status = c.status_of-status.ensures ∙ ap status_of_outcome (c.outcome_of.ensures ∙ ap outcome_of c.as_slice-3.ensures.value);
       files = subst (λ (sections : List Section). AreFilesWith (option_copied c.args.wanted.pairs.write) (are_whole sections) (text_of_pairs t lines sections) c.in_ok-files.files) c.as_slice-4.ensures.value c.in_ok-files.ensures;
     }

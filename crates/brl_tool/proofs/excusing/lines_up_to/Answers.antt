@@ -6,9 +6,9 @@ use Rattle.brl_tool.proofs.excusing.lines_up_to.Goals as goal
 pub returns : goal.returns
 returns c =
     let line = string_bytes c.args.line in
-    let excusal = c.args.excusal.now in
-    let told : string_bytes c.in_ok-but_for.but_for ≡ but_for_line (length excusal.excused.accepted) excusal.sets =
-    c.in_ok-but_for.ensures ∙ ap (λ (pairs : List (ℕ × ℕ)). but_for_line (length pairs) excusal.sets) c.as_slice-pairs.ensures in
-    let whole : string_bytes c.push_str.new.self ≡ line ++ string_bytes c.in_ok-but_for.but_for = search rules in
-    subst (λ (bytes : List ℕ). IfOk c.with_left_out_line.result (λ text. string_bytes text ≡ with_left_out_line c.args.left_out.now bytes)) (whole ∙ ap (λ (rest : List ℕ). line ++ rest) told)
+    let excusal = c.args.but_for.excusal.now in
+    let told : string_bytes c.in_ok-excused.excused ≡ but_for_line (length excusal.excused.accepted) excusal.sets =
+    c.in_ok-excused.ensures ∙ ap (λ (pairs : List (ℕ × ℕ)). but_for_line (length pairs) excusal.sets) c.as_slice-pairs.ensures in
+    let whole : string_bytes c.push_str.new.self ≡ line ++ string_bytes c.in_ok-excused.excused = search rules in
+    subst (λ (bytes : List ℕ). IfOk c.with_left_out_line.result (λ text. string_bytes text ≡ with_left_out_line c.args.but_for.left_out.now bytes)) (whole ∙ ap (λ (rest : List ℕ). line ++ rest) told)
     c.with_left_out_line.ensures

@@ -6,5 +6,5 @@ pub returns-clause-lists : goal.returns-clause-lists
 returns-clause-lists g c =
     let loaded = c.in_ok-loaded.loaded in
     answered (g.S.Source.gives c.args.source.now) c.args.path.now (λ t lines. Lists t lines c.args.numbers.now) ((λ t lines fault is. is), (λ t lines fault is. is))
-    loaded.paths loaded.lines c.in_ok-loaded.ensures.lines c.in_ok-table.ensures.passes c.in_ok-table.table c.in_ok-table.ensures.table
-    c.list_of_loaded-answer.result c.list_of_loaded-answer.ensures
+    loaded.files.paths loaded.files.lines c.in_ok-loaded.ensures.lines c.in_ok-loaded.ensures.passes loaded.table c.in_ok-loaded.ensures.table
+    c.list_rules.result c.list_rules.ensures

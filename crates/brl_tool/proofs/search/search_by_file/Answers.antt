@@ -42,5 +42,5 @@ returns-clause-searches g c =
     let loaded = c.in_ok-loaded.loaded in
     let table = c.in_ok-table.table in
     answered c.args.left_out.now (g.F.Source.gives c.args.files.now) g.F.Files.same_file c.args.path.now c.args.out.now c.args.limit loaded.paths table
-    (loaded.lines, c.in_ok-loaded.ensures.lines, c.in_ok-table.ensures.passes, c.in_ok-table.ensures.table) c.in_ok-refuse_file_that_is_read.ensures.apart c.search_defined-answer.result
-    c.search_defined-answer.ensures.verdict c.search_defined-answer.ensures.fault
+    (loaded.lines, c.in_ok-loaded.ensures.lines, c.in_ok-table.ensures.passes, c.in_ok-table.ensures.table) c.in_ok-refuse_file_that_is_read.ensures.apart c.search_table.result
+    c.search_table.ensures.verdict c.search_table.ensures.fault

@@ -7,5 +7,5 @@ pub returns-clause-traces : goal.returns-clause-traces
 returns-clause-traces g c =
     let loaded = c.in_ok-loaded.loaded in
     answered (g.S.Source.gives c.args.source.now) c.args.path.now (λ t lines. Traces t (shown_lines c.args.with_lines lines) c.args.text.now) ((λ t lines fault is. is), (λ t lines fault is. is))
-    loaded.paths loaded.lines c.in_ok-loaded.ensures.lines c.in_ok-table.ensures.passes c.in_ok-table.table c.in_ok-table.ensures.table
-    c.trace_of_loaded-answer.result c.trace_of_loaded-answer.ensures
+    loaded.files.paths loaded.files.lines c.in_ok-loaded.ensures.lines c.in_ok-loaded.ensures.passes loaded.table c.in_ok-loaded.ensures.table
+    c.trace.result c.trace.ensures
