@@ -100,7 +100,7 @@ below-first c (Need p) h = refl
 below-first c (Bar [] p) h = refl
 below-first c (Bar (a ∷ chars) p) h = ne_eqb a c (λ e. let le = leb-true _ c h in omega (arith, le, e))
 
-above-last : (c : ℕ) (d : Due) → leb (first_of d) (c + 1) ≡ false → bars_from c d ≡ false
+pub above-last : (c : ℕ) (d : Due) → leb (first_of d) (c + 1) ≡ false → bars_from c d ≡ false
 above-last c (Need p) h = refl
 above-last c (Bar [] p) h = refl
 above-last c (Bar (a ∷ chars) p) h = ne_eqb a c (λ e. let lt = leb-false _ (c + 1) h in omega (arith, lt, e))

@@ -321,7 +321,7 @@ pub passing-next : {X Y : Type 0} (f : X → Y) (p : X → Bool) (xs : List X) (
     → new ≡ now ++ cond (p x) (f x ∷ []) [] → new ≡ map f (filter p (take (n + 1) xs))
 passing-next f p xs n x now new h e k = k ∙ ap (λ l. l ++ cond (p x) (f x ∷ []) []) e ∙ sym (passing-more f p xs n x h)
 
-letters-count : (es : List (ℕ × Info)) → length (keys_of es) ≡ length es
+pub letters-count : (es : List (ℕ × Info)) → length (keys_of es) ≡ length es
 letters-count [] = refl
 letters-count (e ∷ es) = ap suc (letters-count es)
 

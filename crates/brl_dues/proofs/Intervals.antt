@@ -5,7 +5,7 @@ use Rattle.std.specs.List.{AllWithin, list_all}
 use Rattle.std.specs.List.Sorted.{IsPartitionPoint}
 
 module _ {X : Type 0} (p : X → Bool) where
-  filter-from : (xs : List X) (i : ℕ) → AllWithin (λ y. p y ≡ false) xs 0 i → filter p xs ≡ filter p (drop i xs)
+  pub filter-from : (xs : List X) (i : ℕ) → AllWithin (λ y. p y ≡ false) xs 0 i → filter p xs ≡ filter p (drop i xs)
   filter-from xs zero h = refl
   filter-from [] (suc i) h = refl
   filter-from (x ∷ xs) (suc i) h =
@@ -18,7 +18,7 @@ module _ {X : Type 0} (p : X → Bool) where
       ap (λ b. cond b (x ∷ filter p xs) (filter p xs)) (h zero x (omega arith) (omega arith))
       ∙ filter-none xs (λ k d le lt. h (suc k) d (omega arith) (omega (arith, lt)))
 
-  filter-upto : (xs : List X) (j : ℕ) → j ≤ length xs → AllWithin (λ y. p y ≡ true) xs 0 j → AllWithin (λ y. p y ≡ false) xs j (length xs) → filter p xs ≡ take j xs
+  pub filter-upto : (xs : List X) (j : ℕ) → j ≤ length xs → AllWithin (λ y. p y ≡ true) xs 0 j → AllWithin (λ y. p y ≡ false) xs j (length xs) → filter p xs ≡ take j xs
   filter-upto xs zero le h k = filter-none xs k
   filter-upto [] (suc j) le h k = absurd (omega (arith, le))
   filter-upto (x ∷ xs) (suc j) le h k =

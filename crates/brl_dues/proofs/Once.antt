@@ -107,7 +107,7 @@ key-there [] i c h = cc
 key-there (e ∷ es) zero c h = (e, refl, (let same : e.0 ≡ c = cc in sym same))
 key-there (e ∷ es) (suc i) c h = key-there es i c h
 
-there-key : (es : List (ℕ × Info)) (i : ℕ) (e : ℕ × Info) → slice_get es i ≡ Some e → slice_get (keys_of es) i ≡ Some e.0
+pub there-key : (es : List (ℕ × Info)) (i : ℕ) (e : ℕ × Info) → slice_get es i ≡ Some e → slice_get (keys_of es) i ≡ Some e.0
 there-key [] i e h = cc
 there-key (x ∷ es) zero e h = (let same : x ≡ e = cc in ap (λ (y : ℕ × Info). Some y.0) same)
 there-key (x ∷ es) (suc i) e h = there-key es i e h

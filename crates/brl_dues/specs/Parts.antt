@@ -35,10 +35,14 @@ asked t before = told (share before gap) (share before digit) (share before lett
 abbrev pub asked_context : TableView → Context → Context
 asked_context t here = record here { classes = asked t here.classes }
 
+-- the part of a character with these bars in this context
+abbrev pub part_with : Context → List Due → ℕ → DuesPart
+part_with here bars c = record { state = state_in here bars; character = c }
+
 -- the part of a character in this context: of these dues it has the bars that begin with the
 -- character
 abbrev pub part_in : Context → List Due → ℕ → DuesPart
-part_in here dues c = record { state = state_in here (filter (bars_from c) dues); character = c }
+part_in here dues c = part_with here (filter (bars_from c) dues) c
 
 -- the parts of a state's steps: one for each character that no due refuses
 abbrev pub state_parts : TableView → DuesState → List DuesPart

@@ -1,5 +1,6 @@
 //! The characters that may come next in a state, each with the state's bars that begin with it.
-ghost use Rattle.std.specs.Prelude.{◌≡◌, [], ◌∷◌, ◌++◌, filter, All, IfOk, IsTrue, OnOk, if◌then◌else◌};
+ghost use Rattle.std.specs.Prelude.{◌≡◌, ℕ, [], ◌∷◌, ◌++◌, filter, All, IfOk, IsTrue, OnOk, if◌then◌else◌};
+ghost use Rattle.brl_rules.specs.TableView.{TableView};
 ghost use Rattle.brl_rules.specs.Text.{fold_of as fold};
 ghost use Rattle.brl_dues.specs.Letters.{bars_from, first_of as first_due_of, lets_in as does_let_in, may_come as does_come, new_letter, new_letters};
 ghost use Rattle.brl_states.specs.Order.{is_proper, AreDues};
@@ -134,24 +135,31 @@ pub fn new_letter_of<'a>(
     Letter::new(alloc, character, fold, bars)
 }
 
-/// Whether no due refuses a character. Only the needs can, which come first.
-pub fn may_come(table: &Table, character: char, dues: &[Due]) -> bool
+/// Whether no due refuses a character.
+fn may_come(table: &Table, character: char, dues: &[Due]) -> bool
     requires { AreDues dues.now }
     ensures { result ≡ does_come table.now dues.now character }
 {
-    let needs = dues.partition_point(|due| first_of(due) == 0);
-    all_let_in(table, character, &dues[..needs])
+    all_let_in(table, character, needs_of(dues))
+}
+
+/// The needs of some dues, which come first. Only these can refuse a character.
+pub fn needs_of(dues: &[Due]) -> &[Due]
+    requires { AreDues dues.now }
+    ensures { (t : TableView) (c : ℕ) → does_come t result.now c ≡ does_come t dues.now c }
+{
+    &dues[..dues.partition_point(|due| first_of(due) == 0)]
 }
 
 /// Whether each of some dues allows a character to come next.
-fn all_let_in(table: &Table, character: char, dues: &[Due]) -> bool
+pub fn all_let_in(table: &Table, character: char, dues: &[Due]) -> bool
     ensures { result ≡ does_come table.now dues.now character }
 {
     dues.iter().all(|due| lets_in(table, character, due))
 }
 
 /// The bars of some dues that begin with a character. They stand together.
-pub fn bars_with(character: char, dues: &[Due]) -> &[Due]
+fn bars_with(character: char, dues: &[Due]) -> &[Due]
     requires { AreDues dues.now }
     ensures bars { result.now ≡ filter (bars_from character) dues.now }
     ensures proper { All (λ due. IsTrue (is_proper due)) result.now }

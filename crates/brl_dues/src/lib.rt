@@ -24,6 +24,7 @@ mod origin;
 mod parts;
 mod rules_above;
 mod runs;
+mod starts;
 mod step;
 mod steps;
 mod walk;

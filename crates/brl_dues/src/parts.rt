@@ -3,10 +3,11 @@
 //! states share parts.
 ghost use Rattle.std.specs.Prelude.{◌≡◌, [], ◌∷◌, ◌++◌, IfOk, OnOk, if◌then◌else◌};
 ghost use Rattle.brl_dues.specs.Letters.{may_come as does_come};
-ghost use Rattle.brl_dues.specs.Parts.{asked, asked_context, class_if as classes_if, part_in, state_parts};
+ghost use Rattle.brl_dues.specs.Parts.{asked, asked_context, class_if as classes_if, part_with, state_parts};
 ghost use Rattle.brl_states.specs.Order.{AreDues};
 
-use crate::letter::{bars_with, may_come};
+use crate::letter::{all_let_in, needs_of};
+use crate::starts::{bars_at, starts_of};
 use brl_pairs::Key;
 use brl_rules::{Class, Cond, Context, Table, holds};
 use brl_states::{Due, DueList, DuesState, copy_dues};
@@ -36,16 +37,13 @@ pub fn find_parts(
 {
     let here = asked_of(table, state.context());
     let dues = state.dues.as_slice();
-    let mut parts = Vec::new(alloc);
+    let needs = needs_of(dues);
+    let starts = starts_of(alloc, table, dues)?;
+    let mut parts = Vec::with_capacity(alloc, table.char_count())?;
     for number in 0..table.char_count() {
-        push_part(
-            alloc,
-            table,
-            here,
-            dues,
-            table.char_at(number as u32),
-            &mut parts,
-        )?;
+        let character = table.char_at(number as u32);
+        let bars = bars_at(character, starts[number], dues);
+        push_part(alloc, table, here, needs, bars, character, &mut parts)?;
     }
     Ok(parts)
 }
@@ -81,21 +79,22 @@ fn class_if(is_so: bool, classes: Class) -> Class
     if is_so { classes } else { Class::NONE }
 }
 
-/// Appends the part of a character in this context, if none of these dues refuses it.
+/// Appends the part of a character with these bars in this context, if no need refuses it.
 fn push_part(
     alloc: Global,
     table: &Table,
     here: Context,
-    dues: &[Due],
+    needs: &[Due],
+    bars: &[Due],
     character: char,
     parts: &mut Vec<DuesPart>,
 ) -> Result<(), AllocError>
-    requires { AreDues dues.now }
+    requires { AreDues bars.now }
     ensures { OnOk result (parts.new.items ≡ parts.old.items
-        ++ (if does_come table.now dues.now character then part_in here dues.now character ∷ [] else [])) }
+        ++ (if does_come table.now needs.now character then part_with here bars.now character ∷ [] else [])) }
 {
-    if may_come(table, character, dues) {
-        let bars = DueList::from_vec(copy_dues(alloc, bars_with(character, dues))?);
+    if all_let_in(table, character, needs) {
+        let bars = DueList::from_vec(copy_dues(alloc, bars)?);
         let state = DuesState::from_context(here, bars);
         parts.push(DuesPart { state, character })?;
     }

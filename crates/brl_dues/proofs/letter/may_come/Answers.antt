@@ -1,11 +1,5 @@
-use Rattle.std.proofs.Common.{nat_eq, rules, ◌∙◌}
-use Rattle.std.proofs.lemmas.List.Sorted.{IsPartitionPoint-from_clause}
-use Rattle.brl_dues.specs.Letters.{first_of}
-use Rattle.brl_dues.proofs.Bars.{needs-first, needs-parted}
+use Rattle.std.proofs.Common.{◌∙◌}
 use Rattle.brl_dues.proofs.letter.may_come.Goals as goal
 
 pub returns : goal.returns
-returns c =
-    let dues = c.args.dues.now in
-    let point = IsPartitionPoint-from_clause (λ d. nat_eq (first_of d) 0) _ _ c.partition_point-needs.ensures.partitioned (needs-parted dues c.requires) (λ a r q k. search rules) in
-    c.all_let_in.ensures ∙ needs-first c.args.table.now c.args.character dues c.partition_point-needs.result point
+returns c = c.all_let_in.ensures ∙ c.needs_of.ensures c.args.table.now c.args.character
