@@ -188,16 +188,3 @@ by_fold-kept before r places ls now h e = record {
   rise = h.rise;
   each = λ fold. h.each fold ∙ ap (filter (has_fold fold)) (sym (ap (places_from 0) e ∙ folds-kept before r 0 ls));
 }
-
--- ---- One place
-
--- a place that is the only one has the fold, or there is none
-pub only_with : (fold : ℕ) (places : List Place) → length places ≡ 1 → (d : Place) → nat_eq (get_or places 0 d).fold fold ≡ true → places ≡ filter (has_fold fold) places
-only_with fold [] one d is = absurd (omega (arith, one))
-only_with fold (p ∷ []) one d is = ap (λ t. cond t (p ∷ []) []) (sym is)
-only_with fold (p ∷ (q ∷ places)) one d is = absurd (omega (arith, one))
-
-pub none_with : (fold : ℕ) (places : List Place) → length places ≡ 1 → (d : Place) → nat_eq (get_or places 0 d).fold fold ≡ false → [] ≡ filter (has_fold fold) places
-none_with fold [] one d is = refl
-none_with fold (p ∷ []) one d is = ap (λ t. cond t (p ∷ []) []) (sym is)
-none_with fold (p ∷ (q ∷ places)) one d is = absurd (omega (arith, one))

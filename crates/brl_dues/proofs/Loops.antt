@@ -98,6 +98,11 @@ module _ (t : TableView) (s : DuesState) (number : ℕ) (r : Rule) where
   pub no-step : (l : LetterView) → is_taken s.before r l ≡ false → rule_step t s number r l ≡ []
   no-step l h = ap (λ b. cond b (with_steps [] (cased_steps t s l number (drop 1 r.chars) (after_of r.place s.before) r.cells)) []) h
 
+  -- a rule that isn't taken is left out
+  pub not-taken : (l now : LetterView) (listed new : List (Step DuesState)) → is_taken s.before r l ≡ false → now ≡ l → new ≡ listed
+      → (now ≡ with_rule s.before r l) × (new ≡ listed ++ rule_step t s number r l)
+  not-taken l now listed new h same none = (same ∙ sym (same-letter l h), none ∙ sym (append-nil listed) ∙ ap (λ x. listed ++ x) (sym (no-step l h)))
+
 module _ (t : TableView) (s : DuesState) (number : ℕ) (r : Rule) (none : (l : LetterView) → is_taken s.before r l ≡ false) where
   pub same-letters : (ls : List LetterView) → ls ≡ map (with_rule s.before r) ls
   same-letters [] = refl

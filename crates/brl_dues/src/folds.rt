@@ -41,23 +41,8 @@ pub fn with_fold(fold: char, places: &[Place]) -> &[Place]
     requires { IsNonDecreasingBy (λ (place : PlaceValue). place.fold) places.now }
     ensures { result.now ≡ filter (has_fold fold) places.now }
 {
-    if places.len() == 1 {
-        return only_with_fold(fold, places);
-    }
     let from = &places[places.partition_point(|place| place.fold < fold)..];
     &from[..count_of(fold, from)]
-}
-
-/// The same of one place.
-fn only_with_fold(fold: char, places: &[Place]) -> &[Place]
-    requires { length places.now ≡ 1 }
-    ensures { result.now ≡ filter (has_fold fold) places.now }
-{
-    if places[0].fold == fold {
-        places
-    } else {
-        &places[..0]
-    }
 }
 
 /// The number of places with this fold before the first with another one.

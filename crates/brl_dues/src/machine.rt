@@ -7,7 +7,7 @@ ghost use Rattle.brl_dues.specs.Due.{met_by_space};
 use crate::cased::CasedTable;
 use crate::letter::{new_letter_of, new_letters_of};
 use crate::parts::{DuesPart, find_parts};
-use crate::steps::list_steps;
+use crate::steps::{list_letter_steps, list_steps};
 use brl_pairs::{Machine, Parted, Step};
 use brl_rules::{Class, Context, Table, choice_laws, holds, translation_laws};
 use brl_states::{Due, DueList, DuesState};
@@ -85,9 +85,8 @@ impl<'a> Parted for Dues<'a> {
     ) -> Result<Vec<Step<DuesState>>, AllocError> {
         let table = CasedTable::new(alloc, self.table)?;
         let dues = part.state.dues.as_slice();
-        let mut letters = Vec::with_capacity(alloc, 1)?;
-        letters.push(new_letter_of(alloc, self.table, part.character, dues))?;
-        list_steps(alloc, &table, &part.state, letters)
+        let letter = new_letter_of(alloc, self.table, part.character, dues);
+        list_letter_steps(alloc, &table, &part.state, letter)
     }
 }
 

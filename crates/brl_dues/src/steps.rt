@@ -2,10 +2,9 @@
 ghost use Rattle.std.specs.Prelude.{◌≡◌, ◌<◌, [], ◌∷◌, ◌++◌, false, length, map, IfOk, IsTrue, OnOk};
 ghost use Rattle.std.specs.List.{flat_map, list_any};
 ghost use Rattle.brl_rules.specs.Choice.{own};
-ghost use Rattle.brl_rules.specs.Places.{before_of, holds as does_hold};
 ghost use Rattle.brl_rules.specs.declared.place.Cond.TheVariants.{Any};
 ghost use Rattle.brl_dues.specs.ByFold.{AreByFold};
-ghost use Rattle.brl_dues.specs.Letters.{cased_steps, own_step, rule_step, steps_found, with_rule};
+ghost use Rattle.brl_dues.specs.Letters.{begins_with as does_begin_with, cased_steps, is_taken, own_step, rule_step, steps_found, with_rule};
 ghost use Rattle.brl_dues.specs.Steps.{dues_steps, is_same_step, with_steps};
 
 use crate::cased::CasedTable;
@@ -15,7 +14,7 @@ use crate::origin::Origin;
 use crate::step::{Taken, step_with};
 use crate::walk::push_caps_run_steps;
 use brl_pairs::Step;
-use brl_rules::{Cond, Rule, Table, holds};
+use brl_rules::{Class, Cond, Rule, Table, holds};
 use brl_states::DuesState;
 use std::alloc::{AllocError, Global};
 
@@ -45,6 +44,26 @@ pub fn list_steps<'a>(
     for letter in &letters {
         push_own(alloc, table, state, letter, &mut listed)?;
     }
+    Ok(listed)
+}
+
+/// The steps of a state that begin with this character, which has no rules above yet.
+pub fn list_letter_steps<'a>(
+    alloc: Global,
+    table: &'a CasedTable<'_>,
+    state: &DuesState,
+    mut letter: Letter<'a>,
+) -> Result<Vec<Step<DuesState>>, AllocError>
+    ensures { IfOk result (λ listed. listed.items ≡ steps_found table.now state.now 0 table.now.rules (letter.entry ∷ [])) }
+{
+    let mut listed = Vec::new(alloc);
+    for (number, rule) in table.table().rules_in_rank().iter().enumerate() {
+        if may_take(rule, state.before, &letter) {
+            let number = number as u32;
+            push_taken(alloc, table, state, number, rule, &mut letter, &mut listed)?;
+        }
+    }
+    push_own(alloc, table, state, &letter, &mut listed)?;
     Ok(listed)
 }
 
@@ -78,7 +97,7 @@ fn take_rule<'a>(
 }
 
 /// Appends the steps of a rule that begin with one character, and adds the rule to those above the
-/// character.
+/// character, if it may be taken there.
 fn take_letter<'a>(
     alloc: Global,
     table: &CasedTable<'_>,
@@ -88,17 +107,51 @@ fn take_letter<'a>(
     letter: &mut Letter<'a>,
     listed: &mut Vec<Step<DuesState>>,
 ) -> Result<(), AllocError>
-    requires { IsTrue (does_hold (before_of rule.now.place) state.now.before) }
     ensures letter { OnOk result (letter.new ≡ with_rule state.now.before rule.now letter.old) }
     ensures listed { OnOk result (listed.new.items ≡ listed.old.items
         ++ rule_step table.now state.now number rule.now letter.old) }
 {
-    let Some((first, others)) = rule.chars.as_slice().split_first() else {
+    if may_take(rule, state.before, letter) {
+        push_taken(alloc, table, state, number, rule, letter, listed)?;
+    }
+    Ok(())
+}
+
+/// Whether a rule may be taken after a character of these classes where a character comes.
+fn may_take(rule: &Rule, before: Class, letter: &Letter<'_>) -> bool
+    ensures { result ≡ is_taken before rule.now letter.now }
+{
+    begins_with(letter.fold(), rule.chars.as_slice()) && holds(rule.place.before(), before)
+}
+
+/// Whether some characters begin with this one.
+fn begins_with(character: char, chars: &[char]) -> bool
+    ensures { result ≡ does_begin_with character chars.now }
+{
+    match chars.first() {
+        Some(first) => *first == character,
+        None => false,
+    }
+}
+
+/// The same of a rule that may be taken there.
+fn push_taken<'a>(
+    alloc: Global,
+    table: &CasedTable<'_>,
+    state: &DuesState,
+    number: u32,
+    rule: &'a Rule,
+    letter: &mut Letter<'a>,
+    listed: &mut Vec<Step<DuesState>>,
+) -> Result<(), AllocError>
+    requires { IsTrue (is_taken state.now.before rule.now letter.old) }
+    ensures letter { OnOk result (letter.new ≡ with_rule state.now.before rule.now letter.old) }
+    ensures listed { OnOk result (listed.new.items ≡ listed.old.items
+        ++ rule_step table.now state.now number rule.now letter.old) }
+{
+    let Some((_, others)) = rule.chars.as_slice().split_first() else {
         return Ok(());
     };
-    if *first != letter.fold() {
-        return Ok(());
-    }
     let after = rule.place.after(state.before);
     let taken = Taken {
         number,

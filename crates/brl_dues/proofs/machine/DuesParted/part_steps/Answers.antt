@@ -1,4 +1,4 @@
-use Rattle.std.proofs.Common.{◌≡◌, ◌∙◌, ◌∷◌, ◌++◌, [], List, ap, ap₂, subst}
+use Rattle.std.proofs.Common.{◌≡◌, ◌∙◌, ◌∷◌, [], List, ap, subst}
 use Rattle.std.specs.Result.{IfOk}
 use Rattle.brl_pairs.specs.declared.step.Step.{Step}
 use Rattle.brl_rules.specs.TableView.{TableView}
@@ -13,10 +13,8 @@ pub returns : goal.returns
 returns c =
     let t = c.self.inside.table.now in
     let s = c.args.part.now.state in
-    subst (λ (x : TableView). IfOk c.list_steps.result (λ listed. listed.items ≡ steps_of_part x c.args.part.now)) c.self.view_is
-    (subst (λ (found : List (Step DuesState)). IfOk c.list_steps.result (λ listed. listed.items ≡ found))
-    (ap (λ (x : TableView). steps_found x s 0 x.rules c.push.new.self.items) c.in_ok-table.ensures
-    ∙ ap (steps_found t s 0 t.rules)
-    (c.in_ok-push.ensures.items
-    ∙ ap₂ (λ (ls : List LetterView) (l : LetterView). ls ++ l ∷ []) c.in_ok-letters.ensures.items
-    (c.new_letter_of.ensures ∙ ap (λ (dues : List Due). new_letter t dues c.args.part.now.character) c.as_slice-dues.ensures.dues))) c.list_steps.ensures)
+    subst (λ (x : TableView). IfOk c.list_letter_steps.result (λ listed. listed.items ≡ steps_of_part x c.args.part.now)) c.self.view_is
+    (subst (λ (found : List (Step DuesState)). IfOk c.list_letter_steps.result (λ listed. listed.items ≡ found))
+    (ap (λ (x : TableView). steps_found x s 0 x.rules (c.new_letter_of-letter.result ∷ [])) c.in_ok-table.ensures
+    ∙ ap (λ (l : LetterView). steps_found t s 0 t.rules (l ∷ []))
+    (c.new_letter_of-letter.ensures ∙ ap (λ (dues : List Due). new_letter t dues c.args.part.now.character) c.as_slice-dues.ensures.dues)) c.list_letter_steps.ensures)
