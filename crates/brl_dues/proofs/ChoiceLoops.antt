@@ -1,23 +1,14 @@
 -- Steps of the loops over capitals and over texts of capitals.
-use Rattle.std.proofs.Common.{◌≡◌, ℕ, suc, ◌+◌, ◌-◌, ◌<◌, ◌≤◌, List, [], ◌∷◌, ◌++◌, length, take, drop, get_or, map, refl, sym, ap, ap₂, ◌∙◌, cond, nat_eq, arith, drop-cons, drop_of_length-le}
-use Rattle.std.proofs.lemmas.List.{take_all}
+use Rattle.std.proofs.Common.{◌≡◌, ℕ, suc, ◌+◌, ◌-◌, ◌<◌, ◌≤◌, List, [], ◌∷◌, ◌++◌, length, drop, get_or, map, refl, sym, ap, ap₂, ◌∙◌, arith, drop-cons, drop_of_length-le}
 use Rattle.std.specs.List.{flat_map}
 use Rattle.brl_rules.specs.TableView.{TableView}
-use Rattle.brl_dues.specs.declared.cased.Capital.{Capital}
-use Rattle.brl_dues.specs.CapitalList.{capital_of}
+use Rattle.brl_dues.specs.CapitalList.{capital_of, put_at}
 use Rattle.brl_dues.specs.Capitals.{capitals, choices, put_capital}
 
--- a capital before each of these texts, where it has this fold
-abbrev pub put_at : ℕ → List (List ℕ) → Capital → List (List ℕ)
-put_at a texts capital = cond (nat_eq a capital.fold) (map (λ text. capital.character ∷ text) texts) []
-
-put-same : (t : TableView) (a : ℕ) (texts : List (List ℕ)) (cs : List ℕ) → flat_map (put_at a texts) (map (capital_of t) cs) ≡ flat_map (put_capital t a texts) cs
+-- a capital's fold is that of its character
+pub put-same : (t : TableView) (a : ℕ) (texts : List (List ℕ)) (cs : List ℕ) → flat_map (put_at a texts) (map (capital_of t) cs) ≡ flat_map (put_capital t a texts) cs
 put-same t a texts [] = refl
 put-same t a texts (c ∷ cs) = ap (λ l. put_capital t a texts c ++ l) (put-same t a texts cs)
-
-pub put-all : (t : TableView) (a : ℕ) (texts : List (List ℕ)) (listed : List Capital) (n : ℕ) (found : List (List ℕ)) → length listed ≤ n → listed ≡ map (capital_of t) (capitals t)
-    → found ≡ flat_map (put_at a texts) (take n listed) → found ≡ flat_map (put_capital t a texts) (capitals t)
-put-all t a texts listed n found h is e = e ∙ ap (flat_map (put_at a texts)) (take_all n listed h ∙ is) ∙ put-same t a texts (capitals t)
 
 -- ---- The characters of a rule, from the last to the first
 

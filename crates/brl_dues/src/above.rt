@@ -54,8 +54,7 @@ impl<'a> Above<'a> {
         past: &[char],
         found: &mut Vec<Due>,
     ) -> Result<bool, AllocError>
-        requires word { run ≡ true → IsTrue (has_word_capitals table.now) }
-        requires cased { cased ≡ (has_word_capitals table.now && is_upper table.now character) }
+        requires { cased ≡ (has_word_capitals table.now && is_upper table.now character) }
         ensures { IfOk result (λ whole. Adds (bars_past table.now before run character past.now self.now.0 self.now.1) found.old.items found.new.items whole) }
     {
         if run {

@@ -163,7 +163,6 @@ pub fn add_bars(
     above: &RulesAbove<'_>,
     found: &mut Vec<Due>,
 ) -> Result<bool, AllocError>
-    requires { run ≡ true → IsTrue (has_word_capitals table.now) }
     ensures { IfOk result (λ whole. Adds (bars_of table.now before run character others.now above.now) found.old.items found.new.items whole) }
 {
     let cased = table.may_begin_caps_run(character);
@@ -212,8 +211,7 @@ fn add_all_bars(
     above: &[Above<'_>],
     found: &mut Vec<Due>,
 ) -> Result<bool, AllocError>
-    requires word { run ≡ true → IsTrue (has_word_capitals table.now) }
-    requires cased { cased ≡ (has_word_capitals table.now && is_upper table.now character) }
+    requires { cased ≡ (has_word_capitals table.now && is_upper table.now character) }
     ensures { IfOk result (λ whole. Adds (bars_of table.now before run character others.now above.now) found.old.items found.new.items whole) }
 {
     for rule in above {

@@ -1,9 +1,9 @@
 //! A table with its capitals.
-ghost use Rattle.std.specs.Prelude.{◌≡◌, ℕ, false, [], ◌∷◌, ◌++◌, ◌&&◌, map, not, IfOk, IsTrue, OnOk, if◌then◌else◌};
+ghost use Rattle.std.specs.Prelude.{◌≡◌, ℕ, false, [], ◌∷◌, ◌++◌, ◌&&◌, map, not, IfOk, OnOk, if◌then◌else◌};
 ghost use Rattle.std.specs.List.{flat_map, list_all};
 ghost use Rattle.brl_rules.specs.Text.{context_after, context_after_all, has_word_capitals, is_capital as does_capital, is_mode};
 ghost use Rattle.brl_dues.specs.Capitals.{alike, any_if as any_cond_if, capitals, choices, further as what_follows, is_upper as is_upper_in, put_capital};
-ghost use Rattle.brl_dues.specs.CapitalList.{capital_of, is_fold_of_capital, stands_for as does_stand_for};
+ghost use Rattle.brl_dues.specs.CapitalList.{capital_of, is_fold_among, is_fold_of_capital, listed, put_at, stands_for as does_stand_for};
 
 use crate::carry::class_of;
 use crate::letter::fold_of;
@@ -19,11 +19,32 @@ pub struct Capital {
     pub fold: char,
 }
 
-/// A table, with its capitals where it has word capitals. A contract sees the table.
+/// The capitals of a table: those that a `CasedTable` keeps, or a new list.
+#[derive(Drop)]
+pub enum Capitals<'a> {
+    Kept(&'a [Capital]),
+    New(Vec<Capital>),
+}
+
+impl<'a> Capitals<'a> {
+    /// The capitals.
+    pub fn as_slice(&self) -> &[Capital]
+        ensures { result.now ≡ listed self.now }
+    {
+        match self {
+            Capitals::Kept(capitals) => capitals,
+            Capitals::New(capitals) => capitals.as_slice(),
+        }
+    }
+}
+
+/// A table. It keeps its capitals where steps may ask for them many times. A contract sees the
+/// table.
 #[derive(Drop)]
 pub struct CasedTable<'a> {
     table: &'a Table,
     has_word_capitals: bool,
+    keeps_capitals: bool,
     capitals: Vec<Capital>,
 }
 
@@ -35,22 +56,47 @@ impl<'a> Model for CasedTable<'a> {
 
     ghost view = { λ c. c.table.now };
 
-    ghost invariant = { λ c. AreCapitals c.table.now c.has_word_capitals c.capitals.items };
+    ghost invariant = { λ c. AreCapitals c.table.now c.has_word_capitals c.keeps_capitals c.capitals.items };
 }
 
 impl<'a> CasedTable<'a> {
-    /// A table with its capitals. Memory is allocated only for a table with word capitals.
+    /// A table for steps that begin with any character. It keeps its capitals if it has word
+    /// capitals, and else allocates no memory.
     pub fn new(alloc: Global, table: &'a Table) -> Result<CasedTable<'a>, AllocError>
         ensures { IfOk result (λ cased. cased ≡ table.now) }
     {
-        let has_word_capitals = table.has_word_capitals();
+        CasedTable::with_capitals_if(alloc, table, table.has_word_capitals())
+    }
+
+    /// A table for steps that begin with this character. It keeps its capitals if a run of capitals
+    /// may begin with the character, and else allocates no memory.
+    pub fn for_letter(
+        alloc: Global,
+        table: &'a Table,
+        character: char,
+    ) -> Result<CasedTable<'a>, AllocError>
+        ensures { IfOk result (λ cased. cased ≡ table.now) }
+    {
+        let may_begin = table.has_word_capitals() && is_upper(table, character);
+        CasedTable::with_capitals_if(alloc, table, may_begin)
+    }
+
+    /// A table, which keeps its capitals if this is so.
+    fn with_capitals_if(
+        alloc: Global,
+        table: &'a Table,
+        keeps_capitals: bool,
+    ) -> Result<CasedTable<'a>, AllocError>
+        ensures { IfOk result (λ cased. cased ≡ table.now) }
+    {
         let mut capitals = Vec::new(alloc);
-        if has_word_capitals {
+        if keeps_capitals {
             add_capitals(table, &mut capitals)?;
         }
         Ok(CasedTable {
             table,
-            has_word_capitals,
+            has_word_capitals: table.has_word_capitals(),
+            keeps_capitals,
             capitals,
         })
     }
@@ -128,65 +174,75 @@ impl<'a> CasedTable<'a> {
         is_upper(self.table, character) && fold == fold_of(self.table, character)
     }
 
-    /// The capitals, in the order of their definitions.
-    pub fn capitals(&self) -> &[Capital]
-        requires { IsTrue (has_word_capitals self.now) }
-        ensures { result.now ≡ map (capital_of self.now) (capitals self.now) }
+    /// The capitals, in the order of their definitions. They are listed anew if they aren't kept.
+    pub fn capitals(&self, alloc: Global) -> Result<Capitals<'_>, AllocError>
+        ensures { IfOk result (λ found. listed found ≡ map (capital_of self.now) (capitals self.now)) }
     {
-        self.capitals.as_slice()
+        if self.keeps_capitals {
+            return Ok(Capitals::Kept(self.capitals.as_slice()));
+        }
+        let mut capitals = Vec::new(alloc);
+        add_capitals(self.table, &mut capitals)?;
+        Ok(Capitals::New(capitals))
     }
 
     /// Whether there is a text of capitals whose folds are these characters.
-    pub fn has_choices(&self, chars: &[char]) -> bool
-        requires { IsTrue (has_word_capitals self.now) }
-        ensures { result ≡ list_all (is_fold_of_capital self.now) chars.now }
+    pub fn has_choices(&self, alloc: Global, chars: &[char]) -> Result<bool, AllocError>
+        ensures { IfOk result (λ has. has ≡ list_all (is_fold_of_capital self.now) chars.now) }
     {
-        chars.iter().all(|fold| self.has_capital(*fold))
-    }
-
-    /// Whether a capital has this fold.
-    fn has_capital(&self, fold: char) -> bool
-        requires { IsTrue (has_word_capitals self.now) }
-        ensures { result ≡ is_fold_of_capital self.now fold }
-    {
-        self.capitals.iter().any(|capital| fold == capital.fold)
+        let capitals = self.capitals(alloc)?;
+        Ok(are_folds(chars, capitals.as_slice()))
     }
 
     /// The texts of capitals whose folds are these characters.
     pub fn choices(&self, alloc: Global, chars: &[char]) -> Result<Vec<Chars>, AllocError>
-        requires { IsTrue (has_word_capitals self.now) }
         ensures { IfOk result (λ found. found.items ≡ choices self.now chars.now) }
     {
+        let found = self.capitals(alloc)?;
+        let capitals = found.as_slice();
         let mut texts = Vec::new(alloc);
-        if !self.has_choices(chars) {
+        if !are_folds(chars, capitals) {
             return Ok(texts);
         }
         texts.push(Chars::from_vec(Vec::new(alloc)))?;
         for done in 0..chars.len() {
             let fold = chars[chars.len() - 1 - done];
-            texts = self.put_capitals(alloc, fold, texts.as_slice())?;
+            texts = put_capitals(alloc, fold, capitals, texts.as_slice())?;
         }
         Ok(texts)
     }
+}
 
-    /// These texts with each capital of this fold in front.
-    fn put_capitals(
-        &self,
-        alloc: Global,
-        fold: char,
-        texts: &[Chars],
-    ) -> Result<Vec<Chars>, AllocError>
-        requires { IsTrue (has_word_capitals self.now) }
-        ensures { IfOk result (λ found. found.items ≡ flat_map (put_capital self.now fold texts.now) (capitals self.now)) }
-    {
-        let mut found = Vec::new(alloc);
-        for capital in &self.capitals {
-            if fold == capital.fold {
-                put_front(alloc, capital.character, texts, &mut found)?;
-            }
+/// Whether each of these characters is the fold of one of these capitals.
+fn are_folds(chars: &[char], capitals: &[Capital]) -> bool
+    ensures { result ≡ list_all (is_fold_among capitals.now) chars.now }
+{
+    chars.iter().all(|fold| is_fold(*fold, capitals))
+}
+
+/// Whether a character is the fold of one of these capitals.
+fn is_fold(fold: char, capitals: &[Capital]) -> bool
+    ensures { result ≡ is_fold_among capitals.now fold }
+{
+    capitals.iter().any(|capital| fold == capital.fold)
+}
+
+/// These texts with each of these capitals that has this fold in front.
+fn put_capitals(
+    alloc: Global,
+    fold: char,
+    capitals: &[Capital],
+    texts: &[Chars],
+) -> Result<Vec<Chars>, AllocError>
+    ensures { IfOk result (λ found. found.items ≡ flat_map (put_at fold texts.now) capitals.now) }
+{
+    let mut found = Vec::new(alloc);
+    for capital in capitals {
+        if fold == capital.fold {
+            put_front(alloc, capital.character, texts, &mut found)?;
         }
-        Ok(found)
     }
+    Ok(found)
 }
 
 /// Appends these texts with a character in front.

@@ -83,7 +83,7 @@ impl<'a> Parted for Dues<'a> {
         alloc: Global,
         part: &DuesPart,
     ) -> Result<Vec<Step<DuesState>>, AllocError> {
-        let table = CasedTable::new(alloc, self.table)?;
+        let table = CasedTable::for_letter(alloc, self.table, part.character)?;
         let dues = part.state.dues.as_slice();
         let letter = new_letter_of(alloc, self.table, part.character, dues);
         list_letter_steps(alloc, &table, &part.state, letter)

@@ -1,6 +1,5 @@
 //! The bars of rules in a run of capitals.
-ghost use Rattle.std.specs.Prelude.{◌≡◌, ◌++◌, map, IfOk, IsTrue, OnOk};
-ghost use Rattle.brl_rules.specs.Text.{has_word_capitals};
+ghost use Rattle.std.specs.Prelude.{◌≡◌, ◌++◌, map, IfOk, OnOk};
 ghost use Rattle.brl_dues.specs.Adding.{Adds};
 ghost use Rattle.brl_dues.specs.Capitals.{choices};
 ghost use Rattle.brl_dues.specs.Carry.{carry_capitals};
@@ -22,7 +21,6 @@ pub fn add_caps_run_bars(
     cond: Cond,
     found: &mut Vec<Due>,
 ) -> Result<bool, AllocError>
-    requires { IsTrue (has_word_capitals table.now) }
     ensures { IfOk result (λ whole. Adds (carry_capitals table.now past.now chars.now cond) found.old.items found.new.items whole) }
 {
     let shared = past.len().min(chars.len());
@@ -49,7 +47,6 @@ fn add_choices(
     cond: Cond,
     found: &mut Vec<Due>,
 ) -> Result<(), AllocError>
-    requires { IsTrue (has_word_capitals table.now) }
     ensures { OnOk result (found.new.items ≡ found.old.items ++ map (λ text. Bar text cond) (choices table.now chars.now)) }
 {
     for text in table.choices(alloc, chars)? {

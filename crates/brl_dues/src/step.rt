@@ -1,8 +1,7 @@
 //! One step: what it takes, and what is due after it.
-ghost use Rattle.std.specs.Prelude.{◌≡◌, [], ◌∷◌, ◌++◌, true, All, IfOk, IsTrue, OnOk, Some};
+ghost use Rattle.std.specs.Prelude.{◌≡◌, [], ◌∷◌, ◌++◌, All, IfOk, IsTrue, OnOk, Some};
 ghost use Rattle.std.specs.Option.{option_map_or};
 ghost use Rattle.brl_rules.specs.Indicators.{indicators_before};
-ghost use Rattle.brl_rules.specs.Text.{has_word_capitals};
 ghost use Rattle.brl_states.specs.DuesContext.{context_of};
 ghost use Rattle.brl_rules.specs.declared.place.Cond.TheVariants.{Any};
 ghost use Rattle.brl_dues.specs.Capitals.{further};
@@ -37,7 +36,6 @@ pub fn step_with(
     origin: &Origin<'_>,
     taken: Taken<'_>,
 ) -> Result<Option<Step<DuesState>>, AllocError>
-    requires { taken.run ≡ true → IsTrue (has_word_capitals origin.now.table.now) }
     ensures { IfOk result (λ step. option_map_or (λ x. x ∷ []) step []
         ≡ letter_step origin.now.table.now origin.now.state.now origin.now.letter.now taken.entry.number taken.entry.run taken.entry.others.now taken.entry.after taken.entry.cells.now) }
 {
@@ -86,7 +84,6 @@ pub fn finish_step(
     reads: Vec<char>,
     left: Vec<Due>,
 ) -> Result<Option<Step<DuesState>>, AllocError>
-    requires word { taken.run ≡ true → IsTrue (has_word_capitals origin.now.table.now) }
     requires reads { reads.items ≡ origin.now.letter.now.character ∷ taken.others.now }
     requires left { left_past origin.now.table.now reads.items origin.now.letter.now.bars ≡ Some left.items }
     requires proper { All (λ due. IsTrue (is_proper due)) left.items }
@@ -108,8 +105,7 @@ fn next_dues(
     next: Cond,
     left: Vec<Due>,
 ) -> Result<Option<DueList>, AllocError>
-    requires word { taken.run ≡ true → IsTrue (has_word_capitals origin.now.table.now) }
-    requires proper { All (λ due. IsTrue (is_proper due)) left.items }
+    requires { All (λ due. IsTrue (is_proper due)) left.items }
     ensures { IfOk result (λ dues. dues ≡ gathered (left_with origin.now.table.now origin.now.state.now.before left.items origin.now.letter.now taken.entry.run next taken.entry.others.now taken.entry.after)) }
 {
     let mut found = left;

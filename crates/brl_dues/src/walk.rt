@@ -2,7 +2,6 @@
 //! characters are listed character by character, and a beginning that breaks a due of the state is
 //! left with all that would go on from it.
 ghost use Rattle.std.specs.Prelude.{◌≡◌, [], ◌∷◌, ◌++◌, option_map, All, IfOk, IfSome, IsTrue, OnOk, Some};
-ghost use Rattle.brl_rules.specs.Text.{has_word_capitals};
 ghost use Rattle.brl_dues.specs.Letters.{left_past, caps_run_step, caps_run_steps};
 ghost use Rattle.brl_states.specs.Order.{is_proper};
 
@@ -56,7 +55,10 @@ pub fn push_caps_run_steps(
         ++ caps_run_steps origin.now.table.now origin.now.state.now origin.now.letter.now taken.entry.number taken.entry.after taken.entry.cells.now [] taken.entry.others.now) }
 {
     let first = origin.letter.character();
-    if !origin.table.may_begin_caps_run(first) || !origin.table.has_choices(taken.others) {
+    if !origin.table.may_begin_caps_run(first) {
+        return Ok(());
+    }
+    if !origin.table.has_choices(alloc, taken.others)? {
         return Ok(());
     }
     let bars = origin.letter.bars();
@@ -79,15 +81,15 @@ fn go_on(
     folds: &[char],
     listed: &mut Vec<Step<DuesState>>,
 ) -> Result<(), AllocError>
-    requires word { IsTrue (has_word_capitals origin.now.table.now) }
-    requires left { left_past origin.now.table.now (origin.now.letter.now.character ∷ beginning.capitals.items) origin.now.letter.now.bars ≡ Some beginning.left.items }
+    requires { left_past origin.now.table.now (origin.now.letter.now.character ∷ beginning.capitals.items) origin.now.letter.now.bars ≡ Some beginning.left.items }
     ensures { OnOk result (listed.new.items ≡ listed.old.items
         ++ caps_run_steps origin.now.table.now origin.now.state.now origin.now.letter.now taken.entry.number taken.entry.after taken.entry.cells.now beginning.capitals.items folds.now) }
 {
     let Some((fold, others)) = folds.split_first() else {
         return push_chosen(alloc, origin, taken, beginning, listed);
     };
-    for capital in origin.table.capitals() {
+    let capitals = origin.table.capitals(alloc)?;
+    for capital in capitals.as_slice() {
         if capital.fold != *fold {
             continue;
         }
@@ -107,8 +109,7 @@ fn push_chosen(
     chosen: Beginning,
     listed: &mut Vec<Step<DuesState>>,
 ) -> Result<(), AllocError>
-    requires word { IsTrue (has_word_capitals origin.now.table.now) }
-    requires left { left_past origin.now.table.now (origin.now.letter.now.character ∷ chosen.capitals.items) origin.now.letter.now.bars ≡ Some chosen.left.items }
+    requires { left_past origin.now.table.now (origin.now.letter.now.character ∷ chosen.capitals.items) origin.now.letter.now.bars ≡ Some chosen.left.items }
     ensures { OnOk result (listed.new.items ≡ listed.old.items
         ++ caps_run_step origin.now.table.now origin.now.state.now origin.now.letter.now taken.entry.number taken.entry.after taken.entry.cells.now chosen.capitals.items) }
 {

@@ -6,19 +6,19 @@ use Rattle.brl_dues.specs.Capitals.{is_upper}
 use Rattle.brl_dues.specs.Letters.{left_past}
 use Rattle.brl_dues.proofs.Walking.{broken-steps, no-run, no-steps, nothing-on}
 use Rattle.brl_dues.proofs.walk.push_caps_run_steps.Goals as goal
-use Rattle.brl_dues.proofs.walk.push_caps_run_steps.Goals.{then-not-may_begin_caps_run-via-then-not-may_begin_caps_run, then-not-may_begin_caps_run-via-else-not-may_begin_caps_run+then-not-has_choices}
 
 pub returns-then-not-may_begin_caps_run : goal.returns-then-not-may_begin_caps_run
 returns-then-not-may_begin_caps_run c =
     let o = c.args.origin.now in
     nothing-on o.table.now o.state.now o.letter.now c.args.taken.number c.args.taken.after c.args.taken.cells.now c.args.listed.now.items [] c.args.taken.others.now
-    (elim c.then-not-may_begin_caps_run.branch [
-      | then-not-may_begin_caps_run-via-then-not-may_begin_caps_run w ↦
-          no-run o.table.now o.state.now o.letter.now c.args.taken.number c.args.taken.after c.args.taken.cells.now c.args.taken.others.now
-          (ap (λ x. has_word_capitals o.table.now && is_upper o.table.now x) (sym c.character-first.ensures) ∙ sym w.if-not-may_begin_caps_run.ensures)
-      | then-not-may_begin_caps_run-via-else-not-may_begin_caps_run+then-not-has_choices w ↦
-          no-steps o.table.now o.state.now o.letter.now c.args.taken.number c.args.taken.after c.args.taken.cells.now c.args.taken.others.now (sym w.if-not-has_choices.ensures)
-    ])
+    (no-run o.table.now o.state.now o.letter.now c.args.taken.number c.args.taken.after c.args.taken.cells.now c.args.taken.others.now
+    (ap (λ x. has_word_capitals o.table.now && is_upper o.table.now x) (sym c.character-first.ensures) ∙ sym c.if-not-may_begin_caps_run.ensures))
+
+pub returns-then-not-branch : goal.returns-then-not-branch
+returns-then-not-branch c =
+    let o = c.args.origin.now in
+    nothing-on o.table.now o.state.now o.letter.now c.args.taken.number c.args.taken.after c.args.taken.cells.now c.args.listed.now.items [] c.args.taken.others.now
+    (no-steps o.table.now o.state.now o.letter.now c.args.taken.number c.args.taken.after c.args.taken.cells.now c.args.taken.others.now (sym c.in_ok-has_choices.ensures ∙ c.if-not-branch.true))
 
 pub returns-in_default : goal.returns-in_default
 returns-in_default c =

@@ -1,7 +1,8 @@
 use Rattle.std.proofs.Common.{[], ◌∷◌, ◌++◌, ◌∙◌, ap, ap₂, sym}
-use Rattle.std.specs.List.{flat_map}
-use Rattle.brl_dues.specs.Capitals.{capitals, put_capital}
-use Rattle.brl_dues.proofs.ChoiceLoops.{choices-all, choices-next, choices-none}
+use Rattle.std.specs.List.{flat_map, list_all}
+use Rattle.brl_dues.specs.CapitalList.{is_fold_among, put_at}
+use Rattle.brl_dues.specs.Capitals.{capitals}
+use Rattle.brl_dues.proofs.ChoiceLoops.{choices-all, choices-next, choices-none, put-same}
 use Rattle.brl_dues.proofs.Walking.{no-choices}
 use Rattle.brl_dues.proofs.cased.CasedTable.choices.Goals as goal
 
@@ -12,12 +13,19 @@ loop-done-init c =
 
 pub loop-done-preserved : goal.loop-done-preserved
 loop-done-preserved c =
-    choices-next c.args.self.now c.args.chars.now c.loop-done.done c.index-chars-chars.result _ c.loop-done.texts.items c.in_ok-texts.texts.items
-    c.loop-done-test.true c.index-chars-chars.is c.loop-done.invariant
-    (c.in_ok-texts.ensures ∙ ap (λ l. flat_map (put_capital c.args.self.now c.index-chars-chars.result l) (capitals c.args.self.now)) c.as_slice.ensures.value)
+    let t = c.args.self.now in
+    let fold = c.index-chars-chars.result in
+    choices-next t c.args.chars.now c.loop-done.done fold _ c.loop-done.texts.items c.in_ok-texts.texts.items c.loop-done-test.true c.index-chars-chars.is c.loop-done.invariant
+    (c.in_ok-texts.ensures
+    ∙ ap₂ (λ listed texts. flat_map (put_at fold texts) listed) (c.as_slice-capitals.ensures ∙ c.in_ok-found.ensures) c.as_slice.ensures.value
+    ∙ put-same t fold c.loop-done.texts.items (capitals t))
 
 pub returns : goal.returns
 returns c = choices-all c.args.self.now c.args.chars.now c.loop-done.done c.loop-done.texts.items c.loop-done-test.false c.loop-done.invariant
 
-pub returns-then-not-has_choices : goal.returns-then-not-has_choices
-returns-then-not-has_choices c = c.new-texts.ensures.items ∙ sym (no-choices c.args.self.now c.args.chars.now (sym c.has_choices.ensures ∙ c.if-not-has_choices.true))
+pub returns-then-not-are_folds : goal.returns-then-not-are_folds
+returns-then-not-are_folds c =
+    c.new-texts.ensures.items
+    ∙ sym
+    (no-choices c.args.self.now c.args.chars.now
+    (ap (λ listed. list_all (is_fold_among listed) c.args.chars.now) (sym (c.as_slice-capitals.ensures ∙ c.in_ok-found.ensures)) ∙ sym c.are_folds.ensures ∙ c.if-not-are_folds.true))
