@@ -18,7 +18,7 @@ stands_for t c a = is_upper t c && (a == fold_of t c)
 
 -- whether one of these capitals has this fold
 abbrev pub is_fold_among : List Capital → ℕ → Bool
-is_fold_among listed a = list_any (λ capital. a == capital.fold) listed
+is_fold_among among a = list_any (λ capital. a == capital.fold) among
 
 -- whether a capital has this fold
 abbrev pub is_fold_of_capital : TableView → ℕ → Bool

@@ -134,7 +134,8 @@ fn begins_with(character: char, chars: &[char]) -> bool
     }
 }
 
-/// The same of a rule that may be taken there.
+/// Appends the steps of a rule that may be taken with a character, and adds the rule to those above
+/// the character.
 fn push_taken<'a>(
     alloc: Global,
     table: &CasedTable<'_>,
