@@ -18,7 +18,7 @@ use brl_states::{Due, DueList, DuesState};
 use std::alloc::{AllocError, Global};
 
 /// Writes a condition.
-fn push_cond(alloc: Global, out: &mut Vec<u8>, cond: Cond) -> Result<(), AllocError>
+fn push_cond(out: &mut Vec<u8>, cond: Cond) -> Result<(), AllocError>
     ensures written { OnOk result (out.new.items ≡ out.old.items ++ spelled_cond cond) }
     ensures in_range { HasSet cond }
 {
@@ -29,11 +29,11 @@ fn push_cond(alloc: Global, out: &mut Vec<u8>, cond: Cond) -> Result<(), AllocEr
         }
         Cond::Meets(set) => {
             out.push(b'+')?;
-            push_number(alloc, out, u32::from(set.0))
+            push_number(out, u32::from(set.0))
         }
         Cond::Avoids(set) => {
             out.push(b'-')?;
-            push_number(alloc, out, u32::from(set.0))
+            push_number(out, u32::from(set.0))
         }
     }
 }
@@ -180,77 +180,77 @@ pub fn read_word(alloc: Global, fields: &[&[u8]]) -> Result<Option<DuesState>, A
 }
 
 /// Writes characters, joined by points.
-fn push_joined(alloc: Global, out: &mut Vec<u8>, characters: &[char]) -> Result<(), AllocError>
+fn push_joined(out: &mut Vec<u8>, characters: &[char]) -> Result<(), AllocError>
     ensures written { OnOk result (out.new.items ≡ out.old.items ++ join_with_byte 46 (map (digits 16 false) characters.now)) }
     ensures in_range { OnOk result (All (λ c. is_char c ≡ true) characters.now) }
 {
     let [first, rest @ ..] = characters else {
         return Ok(());
     };
-    push_char(alloc, out, *first)?;
-    push_more(alloc, out, rest)?;
+    push_char(out, *first)?;
+    push_more(out, rest)?;
     Ok(())
 }
 
 /// Writes a due.
-fn push_due(alloc: Global, out: &mut Vec<u8>, due: &Due) -> Result<(), AllocError>
+fn push_due(out: &mut Vec<u8>, due: &Due) -> Result<(), AllocError>
     ensures written { OnOk result (out.new.items ≡ out.old.items ++ spelled_due due.now) }
     ensures in_range { OnOk result (IsDue due.now) }
 {
     match due {
         Due::Need(cond) => {
             out.push(b'n')?;
-            push_cond(alloc, out, *cond)
+            push_cond(out, *cond)
         }
         Due::Bar(chars, cond) => {
             out.push(b'b')?;
-            push_joined(alloc, out, chars.as_slice())?;
-            push_cond(alloc, out, *cond)
+            push_joined(out, chars.as_slice())?;
+            push_cond(out, *cond)
         }
     }
 }
 
 /// Writes the classes before a state and its numeric mode, each after a blank.
-fn push_context(alloc: Global, out: &mut Vec<u8>, state: &DuesState) -> Result<(), AllocError>
+fn push_context(out: &mut Vec<u8>, state: &DuesState) -> Result<(), AllocError>
     ensures written { OnOk result (out.new.items ≡ out.old.items ++ after_blanks ((number 255).spell state.now.before.0 ∷ flag.spell state.now.numeric ∷ [])) }
     ensures in_range { OnOk result (state.now.before.0 < 256) }
 {
     out.push(b' ')?;
-    push_number(alloc, out, u32::from(state.before.0))?;
+    push_number(out, u32::from(state.before.0))?;
     out.push(b' ')?;
     push_flag(out, state.numeric)
 }
 
 /// Writes dues, each after a blank.
-fn push_each_due(alloc: Global, out: &mut Vec<u8>, dues: &[Due]) -> Result<(), AllocError>
+fn push_each_due(out: &mut Vec<u8>, dues: &[Due]) -> Result<(), AllocError>
     ensures written { OnOk result (out.new.items ≡ out.old.items ++ after_blanks (map spelled_due dues.now)) }
     ensures in_range { OnOk result (All IsDue dues.now) }
 {
     for due in dues {
         out.push(b' ')?;
-        push_due(alloc, out, due)?;
+        push_due(out, due)?;
     }
     Ok(())
 }
 
 /// Writes the fields of a state in version 2, each after a blank.
-pub fn push_dues(alloc: Global, out: &mut Vec<u8>, state: &DuesState) -> Result<(), AllocError>
+pub fn push_dues(out: &mut Vec<u8>, state: &DuesState) -> Result<(), AllocError>
     ensures written { OnOk result (out.new.items ≡ out.old.items ++ after_blanks (dues_fields state.now)) }
     ensures in_range { OnOk result (IsDuesState state.now) }
 {
-    push_context(alloc, out, state)?;
-    push_each_due(alloc, out, state.dues.as_slice())?;
+    push_context(out, state)?;
+    push_each_due(out, state.dues.as_slice())?;
     Ok(())
 }
 
 /// Writes the fields of a state in version 3, each after a blank.
-pub fn push_word(alloc: Global, out: &mut Vec<u8>, state: &DuesState) -> Result<(), AllocError>
+pub fn push_word(out: &mut Vec<u8>, state: &DuesState) -> Result<(), AllocError>
     ensures written { OnOk result (out.new.items ≡ out.old.items ++ after_blanks (word_fields state.now)) }
     ensures in_range { OnOk result (IsDuesState state.now) }
 {
-    push_context(alloc, out, state)?;
+    push_context(out, state)?;
     out.push(b' ')?;
     push_flag(out, state.run)?;
-    push_each_due(alloc, out, state.dues.as_slice())?;
+    push_each_due(out, state.dues.as_slice())?;
     Ok(())
 }

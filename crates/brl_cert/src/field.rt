@@ -10,6 +10,7 @@ use brl_cells::{Cell, Cells, Chars, read_dots, write_dots};
 use brl_failure::Failure;
 use brl_rules::{Class, Context};
 use std::alloc::{AllocError, Global};
+use std::io::Write;
 
 /// The value of a digit in any radix to 36, and 36 for any other byte.
 fn digit_of(byte: u8) -> u64
@@ -140,11 +141,10 @@ pub fn read_lead(alloc: Global, field: &[u8]) -> Result<Option<Cells>, AllocErro
 }
 
 /// Writes a number.
-pub fn push_number(alloc: Global, out: &mut Vec<u8>, number: u32) -> Result<(), AllocError>
+pub fn push_number(out: &mut Vec<u8>, number: u32) -> Result<(), AllocError>
     ensures { OnOk result (out.new.items ≡ out.old.items ++ decimal number) }
 {
-    let text = number.to_string(alloc)?;
-    out.extend_from_slice(text.as_bytes())?;
+    write!(out, "{number}").map_err(|_| AllocError)?;
     Ok(())
 }
 
@@ -157,38 +157,37 @@ pub fn push_flag(out: &mut Vec<u8>, flag: bool) -> Result<(), AllocError>
 }
 
 /// Writes a character by its code point.
-pub fn push_char(alloc: Global, out: &mut Vec<u8>, character: char) -> Result<(), AllocError>
+pub fn push_char(out: &mut Vec<u8>, character: char) -> Result<(), AllocError>
     ensures written { OnOk result (out.new.items ≡ out.old.items ++ digits 16 false character) }
     ensures in_range { is_char character ≡ true }
 {
     let number = character as u32;
-    let text = format!(in alloc; "{number:x}")?;
-    out.extend_from_slice(text.as_bytes())?;
+    write!(out, "{number:x}").map_err(|_| AllocError)?;
     Ok(())
 }
 
 /// Writes characters, each after a point.
-pub fn push_more(alloc: Global, out: &mut Vec<u8>, characters: &[char]) -> Result<(), AllocError>
+pub fn push_more(out: &mut Vec<u8>, characters: &[char]) -> Result<(), AllocError>
     ensures written { OnOk result (out.new.items ≡ out.old.items ++ flat_map (λ c. 46 ∷ digits 16 false c) characters.now) }
     ensures in_range { OnOk result (All (λ c. is_char c ≡ true) characters.now) }
 {
     for character in characters {
         out.push(b'.')?;
-        push_char(alloc, out, *character)?;
+        push_char(out, *character)?;
     }
     Ok(())
 }
 
 /// Writes characters.
-pub fn push_chars(alloc: Global, out: &mut Vec<u8>, characters: &[char]) -> Result<(), AllocError>
+pub fn push_chars(out: &mut Vec<u8>, characters: &[char]) -> Result<(), AllocError>
     ensures written { OnOk result (out.new.items ≡ out.old.items ++ spelled_chars characters.now) }
     ensures in_range { OnOk result (All (λ c. is_char c ≡ true) characters.now) }
 {
     match characters {
         [] => out.push(b'-')?,
         [first, rest @ ..] => {
-            push_char(alloc, out, *first)?;
-            push_more(alloc, out, rest)?;
+            push_char(out, *first)?;
+            push_more(out, rest)?;
         }
     }
     Ok(())

@@ -77,7 +77,7 @@ fn read_header(alloc: Global, bytes: &[u8]) -> Result<u64, Failure<CertFault>>
         return Err(CertFaultKind::Syntax.at(1));
     };
     let mut spelled = Vec::from_slice(alloc, b"BRLCERT ")?;
-    push_number(alloc, &mut spelled, version as u32)?;
+    push_number(&mut spelled, version as u32)?;
     if spelled.as_slice() == bytes {
         Ok(version)
     } else {

@@ -24,7 +24,7 @@ pub trait Version {
     ghost is_state: { Self.State → Type 0 };
 
     /// Writes the fields of a state, each after a blank.
-    fn push_fields(alloc: Global, out: &mut Vec<u8>, state: &Self::State) -> Result<(), AllocError>
+    fn push_fields(out: &mut Vec<u8>, state: &Self::State) -> Result<(), AllocError>
         ensures written { OnOk result (out.new.items ≡ out.old.items ++ after_blanks (form.fields state.now)) }
         ensures in_range { OnOk result (is_state state.now) };
 
@@ -52,19 +52,15 @@ impl Version for Version1 {
 
     ghost is_state = { IsWindowState };
 
-    fn push_fields(
-        alloc: Global,
-        out: &mut Vec<u8>,
-        state: &WindowState,
-    ) -> Result<(), AllocError> {
+    fn push_fields(out: &mut Vec<u8>, state: &WindowState) -> Result<(), AllocError> {
         out.push(b' ')?;
-        push_number(alloc, out, u32::from(state.before.0))?;
+        push_number(out, u32::from(state.before.0))?;
         out.push(b' ')?;
         push_flag(out, state.numeric)?;
         out.push(b' ')?;
         push_flag(out, state.ended)?;
         out.push(b' ')?;
-        push_chars(alloc, out, state.coming.as_slice())
+        push_chars(out, state.coming.as_slice())
     }
 
     fn read_fields(alloc: Global, fields: &[&[u8]]) -> Result<Option<WindowState>, AllocError> {
@@ -84,8 +80,8 @@ impl Version for Version2 {
 
     ghost is_state = { IsDuesState };
 
-    fn push_fields(alloc: Global, out: &mut Vec<u8>, state: &DuesState) -> Result<(), AllocError> {
-        push_dues(alloc, out, state)
+    fn push_fields(out: &mut Vec<u8>, state: &DuesState) -> Result<(), AllocError> {
+        push_dues(out, state)
     }
 
     fn read_fields(alloc: Global, fields: &[&[u8]]) -> Result<Option<DuesState>, AllocError> {
@@ -102,8 +98,8 @@ impl Version for Version3 {
 
     ghost is_state = { IsDuesState };
 
-    fn push_fields(alloc: Global, out: &mut Vec<u8>, state: &DuesState) -> Result<(), AllocError> {
-        push_word(alloc, out, state)
+    fn push_fields(out: &mut Vec<u8>, state: &DuesState) -> Result<(), AllocError> {
+        push_word(out, state)
     }
 
     fn read_fields(alloc: Global, fields: &[&[u8]]) -> Result<Option<DuesState>, AllocError> {

@@ -15,16 +15,12 @@ use brl_pairs::{Body, Pair};
 use std::alloc::{AllocError, Global};
 
 /// Writes a state line without its line feed.
-fn push_state<V: Version>(
-    alloc: Global,
-    out: &mut Vec<u8>,
-    state: &V::State,
-) -> Result<(), AllocError>
+fn push_state<V: Version>(out: &mut Vec<u8>, state: &V::State) -> Result<(), AllocError>
     ensures written { OnOk result (out.new.items ≡ out.old.items ++ join_with_byte 32 (codes "state" ∷ V.form.fields state.now)) }
     ensures in_range { OnOk result (V.is_state state.now) }
 {
     out.extend_from_slice(b"state")?;
-    V::push_fields(alloc, out, state)
+    V::push_fields(out, state)
 }
 
 /// Writes a pair line without its line feed.
@@ -33,21 +29,21 @@ fn push_pair(alloc: Global, out: &mut Vec<u8>, pair: &Pair<u32>) -> Result<(), A
     ensures in_range { OnOk result (AreCells pair.now.lead) }
 {
     out.extend_from_slice(b"pair ")?;
-    push_number(alloc, out, pair.ahead)?;
+    push_number(out, pair.ahead)?;
     out.push(b' ')?;
-    push_number(alloc, out, pair.behind)?;
+    push_number(out, pair.behind)?;
     out.push(b' ')?;
     push_lead(alloc, out, pair.lead.as_slice())
 }
 
 /// Writes an end line without its line feed.
-fn push_end(alloc: Global, out: &mut Vec<u8>, states: u32, pairs: u32) -> Result<(), AllocError>
+fn push_end(out: &mut Vec<u8>, states: u32, pairs: u32) -> Result<(), AllocError>
     ensures { OnOk result (out.new.items ≡ out.old.items ++ join_with_byte 32 (end_fields states pairs)) }
 {
     out.extend_from_slice(b"end ")?;
-    push_number(alloc, out, states)?;
+    push_number(out, states)?;
     out.push(b' ')?;
-    push_number(alloc, out, pairs)
+    push_number(out, pairs)
 }
 
 /// Writes a line without its line feed.
@@ -59,23 +55,19 @@ pub fn push_line<V: Version>(
     ensures { OnOk result (out.new.items ≡ out.old.items ++ spelled_line V.form line.now) }
 {
     match line {
-        Line::State(state) => push_state::<V>(alloc, out, state),
+        Line::State(state) => push_state::<V>(out, state),
         Line::Pair(pair) => push_pair(alloc, out, pair),
-        Line::End(states, pairs) => push_end(alloc, out, *states, *pairs),
+        Line::End(states, pairs) => push_end(out, *states, *pairs),
     }
 }
 
 /// Writes the state lines.
-fn push_states<V: Version>(
-    alloc: Global,
-    out: &mut Vec<u8>,
-    states: &[V::State],
-) -> Result<(), AllocError>
+fn push_states<V: Version>(out: &mut Vec<u8>, states: &[V::State]) -> Result<(), AllocError>
     ensures written { OnOk result (out.new.items ≡ out.old.items ++ flat_map (λ s. whole_line V.form (State s)) states.now) }
     ensures in_range { OnOk result (All V.is_state states.now) }
 {
     for state in states {
-        push_state::<V>(alloc, out, state)?;
+        push_state::<V>(out, state)?;
         out.push(b'\n')?;
     }
     Ok(())
@@ -105,9 +97,9 @@ fn push_body<V: Version>(
     body.law();
     let states = body.states();
     let pairs = body.pairs().as_slice();
-    push_states::<V>(alloc, out, states)?;
+    push_states::<V>(out, states)?;
     push_pairs(alloc, out, pairs)?;
-    push_end(alloc, out, states.len() as u32, pairs.len() as u32)?;
+    push_end(out, states.len() as u32, pairs.len() as u32)?;
     out.push(b'\n')?;
     Ok(())
 }
