@@ -20,3 +20,4 @@ pub mod ListedLaws
 pub mod Filtered
 mod RankLaws
 pub mod ByNumber
+pub mod SharedLaws

@@ -1,13 +1,14 @@
 -- The edges of a state by places and by the numbers of their cells.
-use Rattle.std.proofs.Common.{◌≡◌, ◌⊎◌, ℕ, ◌+◌, ◌<◌, List, [], ◌∷◌, ◌++◌, inl, inr, length, get_or, Some, slice_get, sym, ◌∙◌, ap, subst, arith}
+use Rattle.std.proofs.Common.{◌≡◌, ◌⊎◌, ℕ, ◌+◌, ◌<◌, List, [], ◌∷◌, ◌++◌, inl, inr, length, get_or, refl, set, Some, slice_get, swap, sym, ◌∙◌, ap, subst, arith}
 use Rattle.std.specs.Prelude.{Contains}
 use Rattle.std.specs.List.Sorted.{IsPermutation}
+use Rattle.std.proofs.lemmas.List.Edits.{swap_is}
 use Rattle.std.proofs.lemmas.Option.{get_or_from_slice_get, slice_get-get_or, slice_get_within}
-use Rattle.std.proofs.lemmas.List.Sorted.{Contains-permutation, IsPermutation-sym}
-use Rattle.brl_pairs.specs.Sorted.{AreByNumbers, AreMatches, DoMatch, IsAtItsPlace, IsSortedOf, cells_of, is_before, or_none}
+use Rattle.std.proofs.lemmas.List.Sorted.{Contains-permutation, IsPermutation-keeps, IsPermutation-sym}
+use Rattle.brl_pairs.specs.Sorted.{AreByNumbers, AreMatches, DoMatch, HaveOwnPlaces, IsAtItsPlace, IsSortedOf, cells_of, is_before, or_none}
 use Rattle.brl_pairs.specs.declared.edge.Edge.{Edge}
 use Rattle.brl_pairs.specs.declared.sorted.SortedEdge.{SortedEdge}
-use Rattle.brl_pairs.proofs.Lists.{inside, push_cases, same_place}
+use Rattle.brl_pairs.proofs.Lists.{inside, push_cases, same_place, set_cases}
 use Rattle.brl_pairs.proofs.Unmatched.{match_or_not}
 
 pub contained : {X : Type 0} (xs : List X) (k : ℕ) (x : X) → slice_get xs k ≡ Some x → Contains xs x
@@ -31,6 +32,7 @@ module _ (old new : List (List ℕ)) (stays : (k : ℕ) (own : List ℕ) → sli
         let next = same_cells_of edges (get_or sorted (k + 1) d) (h.by_numbers.only _ (at (k + 1) d below)) in
         let here = same_cells_of edges (get_or sorted k d) (h.by_numbers.only _ (at k d (omega (arith, below)))) in
         ap (λ (own : List ℕ). is_before own (cells_of new (get_or sorted k d))) next ∙ ap (is_before (cells_of old (get_or sorted (k + 1) d))) here ∙ h.ascending k d low below;
+    once = h.once;
   }
     where
       at : (k : ℕ) (d : SortedEdge) → k < length sorted → Contains sorted (get_or sorted k d)
@@ -42,6 +44,41 @@ moved_by_numbers cells edges xs ys moved h = record {
   only = λ x is. h.only x (Contains-permutation ys xs x (IsPermutation-sym xs ys moved) is);
   all = λ place e at. (let x = h.all place e at in (x.0, Contains-permutation xs ys x.0 moved x.1, x.2));
 }
+
+-- the position from which an exchange of two elements brings one to this position
+abbrev IsMoved : ℕ → ℕ → ℕ → ℕ → Type 0
+IsMoved i j to from = ((to ≡ j) × (from ≡ i)) ⊎ (((to ≡ j → ⊥) × (to ≡ i) × (from ≡ j)) ⊎ ((to ≡ j → ⊥) × (to ≡ i → ⊥) × (from ≡ to)))
+
+one_target : (i j k l from : ℕ) → IsMoved i j k from → IsMoved i j l from → k ≡ l
+one_target i j k l from a b = elim a [
+  | inl x ↦ elim b [ inl y ↦ omega (arith, x, y) | inr z ↦ elim z [ inl y ↦ omega (arith, x, y) | inr y ↦ omega (arith, x, y) ] ]
+  | inr w ↦ elim w [
+    | inl x ↦ elim b [ inl y ↦ omega (arith, x, y) | inr z ↦ elim z [ inl y ↦ omega (arith, x, y) | inr y ↦ omega (arith, x, y) ] ]
+    | inr x ↦ elim b [ inl y ↦ omega (arith, x, y) | inr z ↦ elim z [ inl y ↦ omega (arith, x, y) | inr y ↦ omega (arith, x, y) ] ]
+  ]
+]
+
+source : (l : List SortedEdge) (i j : ℕ) (d : SortedEdge) → i < length l → j < length l → (k : ℕ) (z : SortedEdge) → slice_get (set (set l i (get_or l j d)) j (get_or l i d)) k ≡ Some z
+    → (from : ℕ) × (slice_get l from ≡ Some z) × IsMoved i j k from
+source l i j d i_in j_in k z at = elim (set_cases (set l i (get_or l j d)) j (get_or l i d) k z at) [
+  | inl last ↦ (i, slice_get-get_or l i d i_in ∙ ap (λ (x : SortedEdge). Some x) last.1, inl (last.0, refl))
+  | inr other ↦ elim (set_cases l i (get_or l j d) k z other.1) [
+    | inl first ↦ (j, slice_get-get_or l j d j_in ∙ ap (λ (x : SortedEdge). Some x) first.1, inr (inl (other.0, first.0, refl)))
+    | inr there ↦ (k, there.1, inr (inr (other.0, there.0, refl)))
+  ]
+]
+
+own_places_swapped : (l : List SortedEdge) (i j : ℕ) → i < length l → j < length l → HaveOwnPlaces l → HaveOwnPlaces (swap l i j)
+own_places_swapped l i j i_in j_in own =
+    let d : SortedEdge = record { cells = 0; next = 0; place = 0 } in
+    subst HaveOwnPlaces (swap_is l i j d i_in j_in) (λ a b x y a_at b_at same.
+    let p = source l i j d i_in j_in a x a_at in
+    let q = source l i j d i_in j_in b y b_at in
+    let from : p.0 ≡ q.0 = own p.0 q.0 x y p.1 q.1 same in
+    one_target i j a b q.0 (subst (IsMoved i j a) from p.2) q.2)
+
+pub moved_own_places : (xs ys : List SortedEdge) → IsPermutation xs ys → HaveOwnPlaces xs → HaveOwnPlaces ys
+moved_own_places xs ys moved own = IsPermutation-keeps xs HaveOwnPlaces own own_places_swapped ys moved
 
 -- ---- One edge after the other
 
@@ -57,6 +94,19 @@ all_numbered cells edges numbered many h = record {
       let x = inside numbered place (omega (arith, within, many)) in
       (x.0, contained numbered place x.0 x.1, (h place x.0 x.1).0));
 }
+
+-- each edge has its own position for its place
+abbrev pub ArePlacedInOrder : List SortedEdge → Type 0
+ArePlacedInOrder numbered = (k : ℕ) (x : SortedEdge) → slice_get numbered k ≡ Some x → x.place ≡ k
+
+pub one_placed : (numbered now : List SortedEdge) (x : SortedEdge) → ArePlacedInOrder numbered → now ≡ numbered ++ x ∷ [] → x.place ≡ length numbered → ArePlacedInOrder now
+one_placed numbered now x h is here k y y_at = elim (push_cases numbered x k y (ap (λ (l : List SortedEdge). slice_get l k) (sym is) ∙ y_at)) [
+  | inl before ↦ h k y before
+  | inr last ↦ ap (λ (z : SortedEdge). z.place) (sym last.1) ∙ here ∙ sym last.0
+]
+
+pub placed_own_places : (numbered : List SortedEdge) → ArePlacedInOrder numbered → HaveOwnPlaces numbered
+placed_own_places numbered h i j x y x_at y_at same = sym (h i x x_at) ∙ same ∙ h j y y_at
 
 module _ (old new : List (List ℕ)) (stays : (k : ℕ) (own : List ℕ) → slice_get old k ≡ Some own → slice_get new k ≡ Some own) where
   pub one_numbered : (edges : List Edge) (numbered now : List SortedEdge) (e : Edge) (x : SortedEdge) → AreNumbered old edges numbered → now ≡ numbered ++ x ∷ [] → slice_get edges (length numbered) ≡ Some e

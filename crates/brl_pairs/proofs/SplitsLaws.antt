@@ -9,7 +9,7 @@ use Rattle.std.proofs.lemmas.List.Elements.{Contains-append_cases, Contains-appe
 use Rattle.std.proofs.lemmas.List.Sorted.{Contains-permutation, IsPermutation-sym}
 use Rattle.std.proofs.lemmas.Option.{get_or_from_slice_get, slice_get-get_or, slice_get_within}
 use Rattle.brl_pairs.specs.Sorted.{AreAscending, BeginsWith, DoMatch, cells_of, is_before}
-use Rattle.brl_pairs.specs.Splits.{AreEarlier, AreMarks, AreShorter, AreWithin, IsLastShorter}
+use Rattle.brl_pairs.specs.Splits.{AreEarlier, AreMarks, AreOthers, AreShorter, AreWithin, IsLastShorter, IsOther}
 use Rattle.brl_pairs.specs.declared.sorted.SortedEdge.{SortedEdge}
 use Rattle.brl_pairs.proofs.CellOrder.{beginning_interval, beginning_not_before, begins_from_test, same_cells, test_from_begins}
 use Rattle.brl_pairs.proofs.Lists.{inside, same_place, set_cases, three_ways}
@@ -22,12 +22,12 @@ pub record IsAdded (x : SortedEdge) (end : ℕ) (old new : List SortedEdge) : Ty
   pub kept : (z : SortedEdge) → Contains old z → Contains new z
   pub added : x.place < end → Contains new x
 
--- the place is before that of an edge, and the cells begin its cells, or begin with them
-abbrev pub IsEarlierShorter : List (List ℕ) → SortedEdge → SortedEdge → Type 0
-IsEarlierShorter cells y x = BeginsWith (cells_of cells y) (cells_of cells x) × (x.place < y.place)
+-- the place is before the limit, and the cells begin those of an edge, or begin with them
+abbrev pub IsEarlierShorter : List (List ℕ) → ℕ → SortedEdge → SortedEdge → Type 0
+IsEarlierShorter cells limit y x = BeginsWith (cells_of cells y) (cells_of cells x) × (x.place < limit)
 
-abbrev pub IsEarlierLonger : List (List ℕ) → SortedEdge → SortedEdge → Type 0
-IsEarlierLonger cells y x = BeginsWith (cells_of cells x) (cells_of cells y) × (x.place < y.place)
+abbrev pub IsEarlierLonger : List (List ℕ) → ℕ → SortedEdge → SortedEdge → Type 0
+IsEarlierLonger cells limit y x = BeginsWith (cells_of cells x) (cells_of cells y) × (x.place < limit)
 
 -- of the edges at these positions none has cells that begin these
 abbrev pub NoneBegins : List (List ℕ) → List SortedEdge → ℕ → ℕ → List ℕ → Type 0
@@ -105,24 +105,24 @@ module _ (cells : List (List ℕ)) (sorted : List SortedEdge) (ascending : AreAs
         begins_next k z is z_at = begins_through (cells_of cells y) (cells_of cells (edge_at sorted (last - 1))) (cells_of cells z) begins (next.begins k z is z_at)
 
         -- the edge at hand is added to those that begin these cells
-        pub chain_step : (old new : List SortedEdge) → IsAdded (edge_at sorted (last - 1)) y.place old new → AreWithin (IsEarlierShorter cells y) sorted last end old
-            → AreWithin (IsEarlierShorter cells y) sorted (get_or shorter (last - 1) 0) end new
-        chain_step old new h before = record {
+        pub chain_step : (limit : ℕ) (old new : List SortedEdge) → IsAdded (edge_at sorted (last - 1)) limit old new → AreWithin (IsEarlierShorter cells limit y) sorted last end old
+            → AreWithin (IsEarlierShorter cells limit y) sorted (get_or shorter (last - 1) 0) end new
+        chain_step limit old new h before = record {
           only = λ z there. elim (h.only z there) [
             | inl was ↦ (let w = before.only z was in (w.0, (let le : last ≤ w.0 = w.1 in omega (arith, le, next.before)), w.2, w.3, w.4))
-            | inr new ↦ (last - 1, next.before, omega (arith, walk.low, walk.some), subst (λ (w : SortedEdge). slice_get sorted (last - 1) ≡ Some w) new.0 x_at, subst (IsEarlierShorter cells y) new.0 (begins, new.1))
+            | inr new ↦ (last - 1, next.before, omega (arith, walk.low, walk.some), subst (λ (w : SortedEdge). slice_get sorted (last - 1) ≡ Some w) new.0 x_at, subst (IsEarlierShorter cells limit y) new.0 (begins, new.1))
           ];
           all = λ k z from less z_at p. elim (three_ways k (last - 1)) [
             | inl lower ↦ absurd (next.others k z from lower z_at (between_begins k (last - 1) end z (edge_at sorted (last - 1)) y (omega (arith, lower)) (omega (arith, walk.low)) z_at x_at y_at p.0))
             | inr more ↦ elim more [
-              | inl here ↦ added_at (last - 1) (edge_at sorted (last - 1)) y.place old new h x_at k z here z_at p.1
+              | inl here ↦ added_at (last - 1) (edge_at sorted (last - 1)) limit old new h x_at k z here z_at p.1
               | inr after ↦ h.kept z (before.all k z (omega (arith, after, walk.some)) less z_at p)
             ]
           ];
         }
 
-  module _ (end : ℕ) (y : SortedEdge) (y_at : slice_get sorted end ≡ Some y) where
-    pub chain_init : (last : ℕ) → IsLastShorter cells sorted end (cells_of cells y) last → (found : List SortedEdge) → found ≡ [] → AreWithin (IsEarlierShorter cells y) sorted last end found
+  module _ (limit end : ℕ) (y : SortedEdge) (y_at : slice_get sorted end ≡ Some y) where
+    pub chain_init : (last : ℕ) → IsLastShorter cells sorted end (cells_of cells y) last → (found : List SortedEdge) → found ≡ [] → AreWithin (IsEarlierShorter cells limit y) sorted last end found
     chain_init last h found none = record {
       only = λ x there. absurd (let gone = subst (λ (l : List SortedEdge). Contains l x) none there in omega (arith, gone.1));
       all = λ k x from less at p. absurd (h.others k x from less at p.0);
@@ -130,20 +130,20 @@ module _ (cells : List (List ℕ)) (sorted : List SortedEdge) (ascending : AreAs
 
     -- ---- Those that begin with these cells
 
-    pub walk_step : (n : ℕ) (x : SortedEdge) → end + 1 ≤ n → slice_get sorted n ≡ Some x → BeginsWith (cells_of cells x) (cells_of cells y) → (old new : List SortedEdge) → IsAdded x y.place old new
-        → AreWithin (IsEarlierLonger cells y) sorted (end + 1) n old → AreWithin (IsEarlierLonger cells y) sorted (end + 1) (n + 1) new
+    pub walk_step : (n : ℕ) (x : SortedEdge) → end + 1 ≤ n → slice_get sorted n ≡ Some x → BeginsWith (cells_of cells x) (cells_of cells y) → (old new : List SortedEdge) → IsAdded x limit old new
+        → AreWithin (IsEarlierLonger cells limit y) sorted (end + 1) n old → AreWithin (IsEarlierLonger cells limit y) sorted (end + 1) (n + 1) new
     walk_step n x low x_at begins old new h before = record {
       only = λ z there. elim (h.only z there) [
         | inl was ↦ (let w = before.only z was in (w.0, w.1, (let less : w.0 < n = w.2 in omega (arith, less)), w.3, w.4))
-        | inr new ↦ (n, low, omega arith, subst (λ (w : SortedEdge). slice_get sorted n ≡ Some w) new.0 x_at, subst (IsEarlierLonger cells y) new.0 (begins, new.1))
+        | inr new ↦ (n, low, omega arith, subst (λ (w : SortedEdge). slice_get sorted n ≡ Some w) new.0 x_at, subst (IsEarlierLonger cells limit y) new.0 (begins, new.1))
       ];
       all = λ k z from less z_at p. elim (cases_eq k n) [
-        | inl here ↦ added_at n x y.place old new h x_at k z here z_at p.1
+        | inl here ↦ added_at n x limit old new h x_at k z here z_at p.1
         | inr apart ↦ h.kept z (before.all k z from (omega (arith, less, apart)) z_at p)
       ];
     }
 
-    pub walk_init : (found : List SortedEdge) → found ≡ [] → AreWithin (IsEarlierLonger cells y) sorted (end + 1) (end + 1) found
+    pub walk_init : (found : List SortedEdge) → found ≡ [] → AreWithin (IsEarlierLonger cells limit y) sorted (end + 1) (end + 1) found
     walk_init found none = record {
       only = λ x there. absurd (let gone = subst (λ (l : List SortedEdge). Contains l x) none there in omega (arith, gone.1));
       all = λ k x from less at p. absurd (omega (arith, from, less));
@@ -151,7 +151,7 @@ module _ (cells : List (List ℕ)) (sorted : List SortedEdge) (ascending : AreAs
 
     -- the walk has stopped: no later edge begins with these cells
     pub walk_end : (n : ℕ) → end + 1 ≤ n → n ≤ length sorted → (length sorted ≤ n) ⊎ ((x : SortedEdge) → slice_get sorted n ≡ Some x → BeginsWith (cells_of cells x) (cells_of cells y) → ⊥)
-        → (found : List SortedEdge) → AreWithin (IsEarlierLonger cells y) sorted (end + 1) n found → AreWithin (IsEarlierLonger cells y) sorted (end + 1) (length sorted) found
+        → (found : List SortedEdge) → AreWithin (IsEarlierLonger cells limit y) sorted (end + 1) n found → AreWithin (IsEarlierLonger cells limit y) sorted (end + 1) (length sorted) found
     walk_end n low within stop found h = record {
       only = λ x there. (let w = h.only x there in (w.0, w.1, (let less : w.0 < n = w.2 in omega (arith, less, within)), w.3, w.4));
       all = λ k x from less at p. elim (cases_lt k n) [
@@ -165,16 +165,16 @@ module _ (cells : List (List ℕ)) (sorted : List SortedEdge) (ascending : AreAs
       ];
     }
 
-    -- ---- All that split with the edge and have an earlier place
+    -- ---- All that split with the edge
 
-    pub earlier_of_both : (shorter longer found : List SortedEdge) → AreWithin (IsEarlierShorter cells y) sorted 0 end shorter → AreWithin (IsEarlierLonger cells y) sorted (end + 1) (length sorted) longer
-        → IsPermutation (shorter ++ longer) found → IsNonDecreasingBy (λ (x : SortedEdge). x.place) found → AreEarlier cells sorted (cells_of cells y) y.place found
-    earlier_of_both shorter longer found s l moved up = record { only = only; all = all; ascending = up }
+    pub others_of_both : (shorter longer : List SortedEdge) → AreWithin (IsEarlierShorter cells limit y) sorted 0 end shorter → AreWithin (IsEarlierLonger cells limit y) sorted (end + 1) (length sorted) longer
+        → AreOthers cells sorted end limit y (shorter ++ longer)
+    others_of_both shorter longer s l = record { only = only; all = all }
       where
-        only : (x : SortedEdge) → Contains found x → Contains sorted x × DoMatch (cells_of cells y) (cells_of cells x) × (x.place < y.place)
-        only x there = elim (Contains-append_cases shorter longer x (Contains-permutation found (shorter ++ longer) x (IsPermutation-sym (shorter ++ longer) found moved) there)) [
-          | inl a ↦ (let w = s.only x a in (contained sorted w.0 x w.3, inl w.4.0, w.4.1))
-          | inr b ↦ (let w = l.only x b in (contained sorted w.0 x w.3, inr w.4.0, w.4.1))
+        only : (x : SortedEdge) → Contains (shorter ++ longer) x → IsOther cells sorted end limit y x
+        only x there = elim (Contains-append_cases shorter longer x there) [
+          | inl a ↦ (let w = s.only x a in record { position = w.0; apart = (let less : w.0 < end = w.2 in λ same. omega (arith, less, same)); at = w.3; match = inl w.4.0; before = w.4.1 })
+          | inr b ↦ (let w = l.only x b in record { position = w.0; apart = (let more : end + 1 ≤ w.0 = w.1 in λ same. omega (arith, more, same)); at = w.3; match = inr w.4.0; before = w.4.1 })
         ]
 
         begins_it : (k : ℕ) (x : SortedEdge) → k ≤ end → slice_get sorted k ≡ Some x → DoMatch (cells_of cells y) (cells_of cells x) → BeginsWith (cells_of cells y) (cells_of cells x)
@@ -183,16 +183,33 @@ module _ (cells : List (List ℕ)) (sorted : List SortedEdge) (ascending : AreAs
         begins_with_it : (k : ℕ) (x : SortedEdge) → end ≤ k → slice_get sorted k ≡ Some x → DoMatch (cells_of cells y) (cells_of cells x) → BeginsWith (cells_of cells x) (cells_of cells y)
         begins_with_it k x le at m = elim m [ inr b ↦ b | inl b ↦ begins_back end k y x le y_at at b ]
 
-        all : (x : SortedEdge) → Contains sorted x → DoMatch (cells_of cells y) (cells_of cells x) → x.place < y.place → Contains found x
-        all x there m early =
-            let k = place_of sorted x there in
-            Contains-permutation (shorter ++ longer) found x moved (elim (three_ways k.0 end) [
-              | inl before ↦ Contains-append_left shorter longer x (s.all k.0 x (omega arith) before k.1 (begins_it k.0 x (omega (arith, before)) k.1 m, early))
-              | inr more ↦ elim more [
-                | inl here ↦ absurd (let same : x ≡ y = same_place sorted end x y (ap (slice_get sorted) (sym here) ∙ k.1) y_at in let places = ap (λ (z : SortedEdge). z.place) same in omega (arith, early, places))
-                | inr after ↦ Contains-append_right shorter longer x (l.all k.0 x (omega (arith, after)) (slice_get_within sorted k.0 x k.1) k.1 (begins_with_it k.0 x (omega (arith, after)) k.1 m, early))
-              ]
-            ])
+        all : (x : SortedEdge) → IsOther cells sorted end limit y x → Contains (shorter ++ longer) x
+        all x is = elim (three_ways is.position end) [
+          | inl before ↦ Contains-append_left shorter longer x (s.all is.position x (omega arith) before is.at (begins_it is.position x (omega (arith, before)) is.at is.match, is.before))
+          | inr more ↦ elim more [
+            | inl here ↦ absurd (is.apart here)
+            | inr after ↦ Contains-append_right shorter longer x (l.all is.position x (omega (arith, after)) (slice_get_within sorted is.position x is.at) is.at (begins_with_it is.position x (omega (arith, after)) is.at is.match, is.before))
+          ]
+        ]
+
+-- those with an earlier place than the edge, by ascending place
+pub earlier_of_others : (cells : List (List ℕ)) (sorted : List SortedEdge) (end : ℕ) (y : SortedEdge) → slice_get sorted end ≡ Some y → (others found : List SortedEdge) → AreOthers cells sorted end y.place y others
+    → IsPermutation others found → IsNonDecreasingBy (λ (x : SortedEdge). x.place) found → AreEarlier cells sorted (cells_of cells y) y.place found
+earlier_of_others cells sorted end y y_at others found are moved up = record {
+  only = λ x there.
+      (let is = are.only x (Contains-permutation found others x (IsPermutation-sym others found moved) there) in
+      (contained sorted is.position x is.at, is.match, is.before));
+  all = λ x there m early.
+      (let k = place_of sorted x there in
+      Contains-permutation others found x moved (are.all x (record { position = k.0; apart = other x k.0 k.1 early; at = k.1; match = m; before = early })));
+  ascending = up;
+}
+  where
+    other : (x : SortedEdge) (k : ℕ) → slice_get sorted k ≡ Some x → x.place < y.place → k ≡ end → ⊥
+    other x k at early here =
+        let same : x ≡ y = same_place sorted end x y (ap (slice_get sorted) (sym here) ∙ at) y_at in
+        let places = ap (λ (z : SortedEdge). z.place) same in
+        omega (arith, early, places)
 
 -- ---- Marks
 

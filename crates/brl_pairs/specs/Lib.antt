@@ -16,5 +16,6 @@ pub mod Sorted
 pub mod Ranks
 pub mod Grouped
 pub mod Splits
+pub mod Shared
 pub mod Parted
 pub mod Listed

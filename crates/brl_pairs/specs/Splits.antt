@@ -1,5 +1,5 @@
 -- The splits of a state's edges, by the order of their cells. The project's own choice.
-use Rattle.std.specs.Prelude.{◌≡◌, ℕ, ◌+◌, ◌<◌, ◌≤◌, Bool, true, Contains, List, length, Some, slice_get}
+use Rattle.std.specs.Prelude.{◌≡◌, ◌≢◌, ℕ, ◌+◌, ◌<◌, ◌≤◌, Bool, true, Contains, List, length, Some, slice_get}
 use Rattle.std.specs.List.Sorted.{IsNonDecreasingBy}
 use Rattle.brl_pairs.specs.Sorted.{BeginsWith, DoMatch, cells_of}
 use Rattle.brl_pairs.specs.declared.sorted.SortedEdge.{SortedEdge}
@@ -16,6 +16,20 @@ pub record AreEarlier (cells : List (List ℕ)) (sorted : List SortedEdge) (own 
 pub record AreWithin (P : SortedEdge → Type 0) (sorted : List SortedEdge) (low high : ℕ) (found : List SortedEdge) : Type 0 where
   pub only : (x : SortedEdge) → Contains found x → (k : ℕ) × (low ≤ k) × (k < high) × (slice_get sorted k ≡ Some x) × P x
   pub all : (k : ℕ) (x : SortedEdge) → low ≤ k → k < high → slice_get sorted k ≡ Some x → P x → Contains found x
+
+-- the edge is at another position than this one, matches the edge there, and has a place before the
+-- limit
+pub record IsOther (cells : List (List ℕ)) (sorted : List SortedEdge) (end limit : ℕ) (y x : SortedEdge) : Type 0 where
+  pub position : ℕ
+  pub apart : position ≢ end
+  pub at : slice_get sorted position ≡ Some x
+  pub match : DoMatch (cells_of cells y) (cells_of cells x)
+  pub before : x.place < limit
+
+-- exactly those edges are found
+pub record AreOthers (cells : List (List ℕ)) (sorted : List SortedEdge) (end limit : ℕ) (y : SortedEdge) (found : List SortedEdge) : Type 0 where
+  pub only : (x : SortedEdge) → Contains found x → IsOther cells sorted end limit y x
+  pub all : (x : SortedEdge) → IsOther cells sorted end limit y x → Contains found x
 
 -- n is one more than the position of the last edge before this position whose cells begin these
 -- ones, or 0

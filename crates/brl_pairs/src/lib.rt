@@ -12,7 +12,8 @@
 //!   the number of its next state: that is looked up once, and from then on only numbers and cells
 //!   are compared.
 //! - The edges of a state are sorted by their cells, which `KeptCells` has once each. `matches` looks
-//!   up those that a lead can follow, and `earlier_splits` those with which an edge splits.
+//!   up those that a lead can follow, and `earlier_splits` those with which an edge splits;
+//!   `unshared_splits` leaves out those of edges that are shared with another state.
 //!   `by_number` puts elements in the order of numbers without comparing them.
 //!
 //! Room 2, any machine (docs/dev/ARCHITECTURE.md). The definitions begin in `specs/Runs.antt`.
@@ -33,6 +34,7 @@ mod number_pairs;
 mod parted;
 mod rule_pairs;
 mod seed;
+mod shared;
 mod sorted;
 mod splits;
 mod step;
@@ -56,6 +58,7 @@ pub use number_pairs::{is_missing, is_there, is_there_swapped};
 pub use parted::Parted;
 pub use rule_pairs::RulePairs;
 pub use seed::{Seed, SeededHasher};
+pub use shared::{TwoPlaces, count_unshared, shared_with, unshared_splits};
 pub use sorted::{SortedEdge, as_u32, cells_at, cells_of, matches, sort_edges};
 pub use splits::{Splits, earlier_splits, splits_of};
 pub use step::{Pair, Step};

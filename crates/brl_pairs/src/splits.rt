@@ -2,7 +2,7 @@
 //! chain before them, and those that begin with them follow.
 ghost use Rattle.std.specs.Prelude.{◌≡◌, ◌⊎◌, ℕ, ◌+◌, ◌<◌, ◌≤◌, Contains, IfOk, OnOk, Some, length, slice_get};
 ghost use Rattle.brl_pairs.specs.Sorted.{AreAscending, BeginsWith, cells_of};
-ghost use Rattle.brl_pairs.specs.Splits.{AreEarlier, AreMarks, ArePositions, AreShorter, AreSplits, AreWithin, IsLastShorter};
+ghost use Rattle.brl_pairs.specs.Splits.{AreEarlier, AreMarks, AreOthers, ArePositions, AreShorter, AreSplits, AreWithin, IsLastShorter};
 ghost use Rattle.brl_pairs.specs.declared.sorted.SortedEdge.{SortedEdge as SortedValue};
 
 use crate::sorted::{SortedEdge, as_u32, begins_with, cells_of};
@@ -53,7 +53,11 @@ fn last_shorter(cells: &[Cells], sorted: &[SortedEdge], shorter: &[u32], positio
 }
 
 /// For each edge one more than the position of the last edge before it whose cells begin its cells.
-fn shorter_of(alloc: Global, cells: &[Cells], sorted: &[SortedEdge]) -> Result<Vec<u32>, AllocError>
+pub(crate) fn shorter_of(
+    alloc: Global,
+    cells: &[Cells],
+    sorted: &[SortedEdge],
+) -> Result<Vec<u32>, AllocError>
     requires { AreAscending cells.now sorted.now }
     ensures many { IfOk result (λ shorter. length shorter.items ≡ length sorted.now) }
     ensures shorter { IfOk result (λ shorter. AreShorter cells.now sorted.now shorter.items) }
@@ -125,51 +129,54 @@ fn add_earlier(found: &mut Vec<SortedEdge>, edge: SortedEdge, end: u32) -> Resul
     Ok(())
 }
 
-/// The edges with an earlier place than this one whose cells are before its cells and begin them.
-fn earlier_shorter(
-    alloc: Global,
-    cells: &[Cells],
-    sorted: &[SortedEdge],
-    shorter: &[u32],
-    position: usize,
-) -> Result<Vec<SortedEdge>, AllocError>
-    requires ascending { AreAscending cells.now sorted.now }
-    requires shorter { AreShorter cells.now sorted.now shorter.now }
-    requires many { length shorter.now ≡ length sorted.now }
-    requires within { position < length sorted.now }
-    ensures { IfOk result (λ found. (y : SortedValue) → slice_get sorted.now position ≡ Some y →
-        AreWithin (λ x. BeginsWith (cells_of cells.now y) (cells_of cells.now x) × (x.place < y.place)) sorted.now 0 position found.items) }
-{
-    let end = sorted[position].place;
-    let mut found = Vec::new(alloc);
-    let mut last = shorter[position] as usize;
-    while last > 0 {
-        add_earlier(&mut found, sorted[last - 1], end)?;
-        last = shorter[last - 1] as usize;
-    }
-    Ok(found)
-}
-
-/// The edges with an earlier place than this one whose cells follow its cells and begin with them.
+/// The edges with a place before `limit` whose cells follow those of the edge at this position and
+/// begin with them.
 fn earlier_longer(
     alloc: Global,
     cells: &[Cells],
     sorted: &[SortedEdge],
     position: usize,
+    limit: u32,
 ) -> Result<Vec<SortedEdge>, AllocError>
     requires ascending { AreAscending cells.now sorted.now }
     requires within { position < length sorted.now }
     ensures { IfOk result (λ found. (y : SortedValue) → slice_get sorted.now position ≡ Some y →
-        AreWithin (λ x. BeginsWith (cells_of cells.now x) (cells_of cells.now y) × (x.place < y.place)) sorted.now (position + 1) (length sorted.now) found.items) }
+        AreWithin (λ x. BeginsWith (cells_of cells.now x) (cells_of cells.now y) × (x.place < limit)) sorted.now (position + 1) (length sorted.now) found.items) }
 {
-    let end = sorted[position].place;
     let own = cells_of(cells, &sorted[position]);
     let mut found = Vec::new(alloc);
     let mut next = position + 1;
     while next < sorted.len() && begins_with(cells_of(cells, &sorted[next]), own) {
-        add_earlier(&mut found, sorted[next], end)?;
+        add_earlier(&mut found, sorted[next], limit)?;
         next += 1;
     }
+    Ok(found)
+}
+
+/// The edges other than the one at this position that split with it and have a place before `limit`, in
+/// no order: those whose cells begin its cells or begin with them.
+pub(crate) fn splits_at(
+    alloc: Global,
+    cells: &[Cells],
+    sorted: &[SortedEdge],
+    shorter: &[u32],
+    position: usize,
+    limit: u32,
+) -> Result<Vec<SortedEdge>, AllocError>
+    requires ascending { AreAscending cells.now sorted.now }
+    requires shorter { AreShorter cells.now sorted.now shorter.now }
+    requires many { length shorter.now ≡ length sorted.now }
+    requires within { position < length sorted.now }
+    ensures { IfOk result (λ found. (y : SortedValue) → slice_get sorted.now position ≡ Some y → AreOthers cells.now sorted.now position limit y found.items) }
+{
+    let mut found = Vec::new(alloc);
+    let mut last = shorter[position] as usize;
+    while last > 0 {
+        add_earlier(&mut found, sorted[last - 1], limit)?;
+        last = shorter[last - 1] as usize;
+    }
+    let longer = earlier_longer(alloc, cells, sorted, position, limit)?;
+    found.extend_from_slice(longer.as_slice())?;
     Ok(found)
 }
 
@@ -192,9 +199,9 @@ pub fn earlier_splits(
         return Ok(Vec::new(alloc));
     }
     let position = splits.positions[place] as usize;
-    let mut found = earlier_shorter(alloc, cells, sorted, splits.shorter.as_slice(), position)?;
-    let longer = earlier_longer(alloc, cells, sorted, position)?;
-    found.extend_from_slice(longer.as_slice())?;
+    let shorter = splits.shorter.as_slice();
+    let limit = sorted[position].place;
+    let mut found = splits_at(alloc, cells, sorted, shorter, position, limit)?;
     found.sort_unstable_by_key(|edge| edge.place);
     Ok(found)
 }

@@ -8,7 +8,7 @@ abbrev pub invariant-loop-next : goal.invariant-loop-next
 invariant-loop-next l = record {
   low : l.position + 1 ≤ l.next;
   within : l.next ≤ length l.sorted;
-  found : (y : SortedEdge) → slice_get l.sorted l.position ≡ Some y → AreWithin (IsEarlierLonger l.cells y) l.sorted (l.position + 1) l.next l.found.items;
+  found : (y : SortedEdge) → slice_get l.sorted l.position ≡ Some y → AreWithin (IsEarlierLonger l.cells l.limit y) l.sorted (l.position + 1) l.next l.found.items;
 }
 
 abbrev pub decreases-loop-next : goal.decreases-loop-next

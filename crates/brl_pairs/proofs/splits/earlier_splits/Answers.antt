@@ -4,11 +4,12 @@ use Rattle.std.specs.List.Sorted.{IsPermutation}
 use Rattle.std.proofs.lemmas.List.Sorted.{IsNonDecreasingBy-from_sort_by_key, IsNonDecreasingBy-short}
 use Rattle.std.proofs.lemmas.Option.{slice_get_read, slice_get_within}
 use Rattle.brl_pairs.specs.Sorted.{cells_of}
-use Rattle.brl_pairs.specs.Splits.{AreEarlier, ArePositions}
+use Rattle.brl_pairs.specs.Splits.{AreEarlier, AreOthers, ArePositions}
 use Rattle.brl_pairs.specs.declared.sorted.SortedEdge.{SortedEdge}
 use Rattle.brl_pairs.proofs.Lists.{same_place}
 use Rattle.brl_pairs.proofs.Numbered.{contained, place_of}
-use Rattle.brl_pairs.proofs.SplitsLaws.{earlier_of_both, unmarked_alone}
+use Rattle.brl_pairs.proofs.SortedLaws.{edge_at, is_at}
+use Rattle.brl_pairs.proofs.SplitsLaws.{earlier_of_others, unmarked_alone}
 use Rattle.brl_pairs.proofs.splits.earlier_splits.Goals as goal
 
 pub index-requires : goal.index-requires
@@ -57,13 +58,13 @@ index-requires-2 c =
     let within = slice_get_within c.args.splits.now.positions.items x.0.place p.0 p.2 in
     omega (arith, within, x.2, c.args.splits.now.positions.ok.0)
 
-pub earlier_shorter-requires-clause-within : goal.earlier_shorter-requires-clause-within
-earlier_shorter-requires-clause-within c =
+pub bounds-sorted-position : goal.bounds-sorted-position
+bounds-sorted-position c =
     let y = read_position c.args.sorted.now c.args.splits.now.positions.items c.requires.splits.positions c.args.place c.requires.there c.index-2.result.now c.index-2.ensures in
     slice_get_within c.args.sorted.now c.index-2.result.now y.0 y.1
 
-pub earlier_longer-requires-clause-within : goal.earlier_longer-requires-clause-within
-earlier_longer-requires-clause-within c =
+pub splits_at-requires-clause-within : goal.splits_at-requires-clause-within
+splits_at-requires-clause-within c =
     let y = read_position c.args.sorted.now c.args.splits.now.positions.items c.requires.splits.positions c.args.place c.requires.there c.index-2.result.now c.index-2.ensures in
     slice_get_within c.args.sorted.now c.index-2.result.now y.0 y.1
 
@@ -73,15 +74,14 @@ returns c =
     let sorted = a.sorted.now in
     let position = c.index-2.result.now in
     let y = read_position sorted a.splits.now.positions.items c.requires.splits.positions a.place c.requires.there position c.index-2.ensures in
-    let moved = c.sort_unstable_by_key.ensures.permutation in
-    let whole : c.extend_from_slice.new.self.items ≡ c.in_ok-found.found.items ++ c.in_ok-longer.longer.items =
-    c.in_ok-extend_from_slice.ensures.items ∙ ap (λ (l : List SortedEdge). c.in_ok-found.found.items ++ l) c.as_slice-2.ensures.value in (
+    let own = is_at sorted position (slice_get_within sorted position y.0 y.1) in
+    let limit : (edge_at sorted position).place ≡ y.0.place = ap (λ (x : SortedEdge). x.place) (same_place sorted position (edge_at sorted position) y.0 own y.1) in (
       y.0,
       contained sorted position y.0 y.1,
       y.2,
       subst (λ (n : ℕ). AreEarlier a.cells.now sorted (cells_of a.cells.now y.0) n c.sort_unstable_by_key.new.self.items) y.2
-          (earlier_of_both a.cells.now sorted c.requires.ascending position y.0 y.1 c.in_ok-found.found.items c.in_ok-longer.longer.items c.sort_unstable_by_key.new.self.items
-          (c.in_ok-found.ensures y.0 y.1) (c.in_ok-longer.ensures y.0 y.1)
-          (subst (λ (l : List SortedEdge). IsPermutation l c.sort_unstable_by_key.new.self.items) whole moved)
+          (earlier_of_others a.cells.now sorted position y.0 y.1 c.in_ok-found.found.items c.sort_unstable_by_key.new.self.items
+          (subst (λ (n : ℕ). AreOthers a.cells.now sorted position n y.0 c.in_ok-found.found.items) limit (c.in_ok-found.ensures y.0 y.1))
+          c.sort_unstable_by_key.ensures.permutation
           (IsNonDecreasingBy-from_sort_by_key (λ (x : SortedEdge). x.place) _ c.sort_unstable_by_key.ensures.sorted (λ b r q k. search rules))),
     )
