@@ -17,6 +17,9 @@ pub mod Additions
 pub mod Adding
 pub mod Edges
 pub mod There
+pub mod SharedSplits
+pub mod PassedLaws
+pub mod UnsharedSplits
 pub mod Queue
 pub mod Steps
 pub mod Path

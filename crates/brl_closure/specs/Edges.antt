@@ -1,5 +1,5 @@
 -- Internal. What a search finds by edges: the splits of a state, and the successors of a pair.
-use Rattle.std.specs.Prelude.{◌≡◌, ◌≢◌, ℕ, ◌<◌, ◌≤◌, List, [], ◌++◌, ◌⊎◌, length, Some, slice_get}
+use Rattle.std.specs.Prelude.{◌≡◌, ◌≢◌, ℕ, Bool, true, ◌<◌, ◌≤◌, List, [], ◌++◌, ◌⊎◌, length, Option, None, Some, slice_get}
 use Rattle.brl_pairs.specs.Body.{NumberPair}
 use Rattle.brl_pairs.specs.Runs.{Behaviour}
 use Rattle.brl_pairs.specs.Edges.{AreEdges}
@@ -32,6 +32,15 @@ pub record IsExpanded {S : Type 0} (m : Behaviour S) (states : List S) (pairs : 
   pub are_edges : AreEdges m states number edges
   pub splits : (i j : ℕ) (x y : Edge) → i < j → slice_get edges i ≡ Some x → slice_get edges j ≡ Some y → IsFollowed pairs x.next x.cells y
 
+-- each split of two edges that are shared is among the pairs
+abbrev pub AreFollowedIfShared : List NumberPair → List Edge → List SortedEdge → List Bool → Type 0
+AreFollowedIfShared pairs edges sorted shared = (k l : ℕ) (x y : SortedEdge) (e f : Edge) → slice_get shared k ≡ Some true → slice_get shared l ≡ Some true → slice_get sorted k ≡ Some x → slice_get sorted l ≡ Some y
+    → x.place < y.place → slice_get edges x.place ≡ Some e → slice_get edges y.place ≡ Some f → IsFollowed pairs e.next e.cells f
+
+-- these are no edges, or the sorted edges of an expanded state
+abbrev pub AreOfExpanded : {S : Type 0} → Behaviour S → List S → List NumberPair → List (List ℕ) → List SortedEdge → Type 0
+AreOfExpanded m states pairs cells sorted = (sorted ≡ []) ⊎ ((number : ℕ) × AreSortedEdges m states number cells sorted × IsExpanded m states pairs number)
+
 -- the successors of the pair with this number are among the pairs
 pub record IsWalked {S : Type 0} (m : Behaviour S) (states : List S) (pairs : List NumberPair) (number : ℕ) : Type 0 where
   pub pair : NumberPair
@@ -47,6 +56,16 @@ AreKeptEdges m states cells kept = (number : ℕ) (sorted : Vec SortedEdge) → 
 -- each list has the sorted edges of the state whose number is the place of the list, or none
 abbrev pub AreKeptOrNone : {S : Type 0} → Behaviour S → List S → List (List ℕ) → List (Vec SortedEdge) → Type 0
 AreKeptOrNone m states cells kept = (number : ℕ) (sorted : Vec SortedEdge) → slice_get kept number ≡ Some sorted → (sorted.items ≡ []) ⊎ AreSortedEdges m states number cells sorted.items
+
+-- the edges of a list, or none
+abbrev pub items_or_none : Option (Vec SortedEdge) → List SortedEdge
+items_or_none None = []
+items_or_none (Some own) = own.items
+
+-- the edges of the state with a number, or none
+abbrev pub edges_or_none : List (Vec SortedEdge) → Option ℕ → List SortedEdge
+edges_or_none lists None = []
+edges_or_none lists (Some number) = items_or_none (slice_get lists number)
 
 -- each list is the one that was there, or has no edges
 abbrev pub AreSomeOf : List (Vec SortedEdge) → List (Vec SortedEdge) → Type 0

@@ -7,6 +7,7 @@ pub mod Alike
 pub mod Listing
 pub mod SameKind
 pub mod Pass
+pub mod Passed
 pub mod Answers
 pub mod Reached
 pub mod Deciding

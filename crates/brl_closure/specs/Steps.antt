@@ -1,5 +1,5 @@
 -- Internal. What a pass over the edges of one state finds.
-use Rattle.std.specs.Prelude.{ℕ, ◌≡◌, ◌<◌, List, Some, slice_get}
+use Rattle.std.specs.Prelude.{ℕ, ◌≡◌, ◌<◌, ◌⊎◌, List, Some, slice_get}
 use Rattle.brl_pairs.specs.Body.{NumberPair}
 use Rattle.brl_pairs.specs.Excused.{AreExcusedEdges}
 use Rattle.brl_pairs.specs.NumberPairs.{IsMissing}
@@ -31,6 +31,16 @@ pub record HasOfRules (Has : Edge → Edge → Type 0) (edges : List Edge) (firs
   pub has_first : earlier.rule ≡ first
   pub has_second : later.rule ≡ second
   pub has : Has earlier later
+
+-- likewise, and these are their places, in either order
+pub record HasOfPlaces (Has : Edge → Edge → Type 0) (edges : List Edge) (place other first second : ℕ) : Type 0 where
+  pub both : HasOfRules Has edges first second
+  pub places : ((both.i ≡ place) × (both.j ≡ other)) ⊎ ((both.i ≡ other) × (both.j ≡ place))
+
+-- likewise, and one of them has this place
+pub record HasOfPlace (Has : Edge → Edge → Type 0) (edges : List Edge) (place first second : ℕ) : Type 0 where
+  pub both : HasOfRules Has edges first second
+  pub one : (both.i ≡ place) ⊎ (both.j ≡ place)
 
 -- two edges split into a pair that isn't listed, and they are not excused
 abbrev pub MissUnexcused : Excused → List NumberPair → Edge → Edge → Type 0

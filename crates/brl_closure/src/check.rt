@@ -4,6 +4,7 @@
 //! `accept` checks states and pairs; `accept_with` also reports its progress, and `accept_up_to` leaves
 //! out what is excused.
 mod checker;
+mod earlier;
 mod edges;
 mod fault;
 mod kinds;

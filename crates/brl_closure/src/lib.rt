@@ -7,6 +7,7 @@
 #![tactic(auto)]
 
 mod check;
+mod last_origins;
 mod search;
 
 pub use check::{AcceptFault, Accepted, accept, accept_up_to, accept_with};

@@ -134,6 +134,7 @@ fn number_of_part<M: Parted>(
     ensures number { IfOk result (λ found. IfSome found (λ number. slice_get kept.new.parts.parts number ≡ Some part)) }
     ensures kept { OnOk result (AreKeptParts (M.steps_of machine.now) body.now.states kept.new.cells kept.new.parts) }
     ensures stays { OnOk result (Stays kept.old.parts.parts kept.new.parts.parts) }
+    ensures cells { OnOk result (Stays kept.old.cells kept.new.cells) }
 {
     if let Some(number) = kept.parts.number_of(&part) {
         return Ok(Some(number));
@@ -160,6 +161,7 @@ fn numbers_of_parts<M: Parted>(
     requires { AreKeptParts (M.steps_of machine.now) body.now.states kept.old.cells kept.old.parts }
     ensures numbers { IfOk result (λ found. IfSome found (λ numbers. AreNumbersOf kept.new.parts.parts listed.items numbers.items)) }
     ensures kept { OnOk result (AreKeptParts (M.steps_of machine.now) body.now.states kept.new.cells kept.new.parts) }
+    ensures cells { OnOk result (Stays kept.old.cells kept.new.cells) }
 {
     let mut numbers = Vec::with_capacity(alloc, listed.len())?;
     for part in listed {
@@ -188,6 +190,7 @@ pub fn edges_of<M: Parted>(
     requires kept { AreKeptParts (M.steps_of machine.now) body.now.states kept.old.cells kept.old.parts }
     ensures edges { IfOk result (λ edges. AreEdgesOf (M.behaviour machine.now) body.now.states kept.new.cells number edges.items) }
     ensures kept { OnOk result (AreKeptParts (M.steps_of machine.now) body.now.states kept.new.cells kept.new.parts) }
+    ensures cells { OnOk result (Stays kept.old.cells kept.new.cells) }
     ensures refused { IfErr result (IfFault (IsStateMissing (M.behaviour machine.now) body.now)) }
 {
     let Some(listed) = machine.parts(alloc, &body.states()[number])? else {

@@ -53,15 +53,16 @@ pub fn sort_first_two<'c>(
     seed: Seed,
 ) -> Result<Sorted<'c>, AllocError>
     requires { HaveCells cells.now edges.items }
-    ensures { IfOk result (λ sorted. AreFirstTwo excused.now (edges_with cells.now edges.items) sorted) }
+    ensures first_two { IfOk result (λ sorted. AreFirstTwo excused.now (edges_with cells.now edges.items) sorted.edges) }
+    ensures cells { IfOk result (λ sorted. sorted.cells ≡ cells.now) }
 {
     let sorted = sort_edges(alloc, cells, edges.as_slice())?;
     if !has_three_alike(sorted.as_slice()) {
-        return Sorted::new(alloc, cells.as_slice(), edges, sorted);
+        return Ok(Sorted::new(cells, edges, sorted));
     }
     let kept = first_two_of_each_kind(alloc, excused, edges.as_slice(), seed)?;
     let sorted = sort_edges(alloc, cells, kept.as_slice())?;
-    Sorted::new(alloc, cells.as_slice(), kept, sorted)
+    Ok(Sorted::new(cells, kept, sorted))
 }
 
 /// Whether three of these edges, which are in the order of their cells, have the same ones.

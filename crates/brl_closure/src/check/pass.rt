@@ -1,17 +1,21 @@
 //! The pass over the states, with the edges of one state at a time.
-ghost use Rattle.std.specs.Prelude.{◌+◌, ◌<◌, ◌↔◌, IfErr, IfOk, IsTrue, MatchOption, OnOk, length};
+ghost use Rattle.std.specs.Prelude.{◌≡◌, ◌+◌, ◌<◌, ◌↔◌, IfErr, IfOk, IsTrue, List, MatchOption, None, OnOk, length};
 ghost use Rattle.brl_closure.specs.Alike.{AreFirstTwoAt};
 ghost use Rattle.brl_closure.specs.Pass.{ArePairsBehind, IsMissingBelow, IsPairFound};
+ghost use Rattle.brl_closure.specs.Passed.{ArePassed, MissNone};
 ghost use Rattle.brl_closure.specs.Excusing.{IsRefusedUpTo};
 ghost use Rattle.brl_closure.specs.Refusals.{HasStart, MissesNoState};
 ghost use Rattle.brl_failure.specs.Failure.{IfFault};
+ghost use Rattle.brl_pairs.specs.Body.{NumberPair};
 ghost use Rattle.brl_pairs.specs.Runs.{KeepsLaws};
 
 use crate::AcceptFault;
+use crate::check::earlier::EarlierEdges;
 use crate::check::edges::{KeptParts, edges_of};
 use crate::check::kinds::sort_first_two;
 use crate::check::missing::{MissingPair, MissingSplit, StateEdges};
 use crate::check::pairs_by_state::{PairsByTrailingState, pairs_by_trailing_state};
+use crate::check::sorted::Sorted;
 use brl_failure::Failure;
 use brl_pairs::{Body, Excused, Key, Machine, Parted, Seed};
 use brl_progress::{Progress, Work};
@@ -45,7 +49,7 @@ fn missing_pair_after<M: Machine>(
 ) -> Result<Option<MissingPair>, AllocError>
     requires behind { ArePairsBehind (length at.now.body.now.states) at.now.body.now.pairs behind.now }
     requires within { state < length at.now.body.now.states }
-    requires edges { AreFirstTwoAt (M.behaviour at.now.machine.now) at.now.excused.now at.now.body.now.states state at.now.edges.now }
+    requires edges { AreFirstTwoAt (M.behaviour at.now.machine.now) at.now.excused.now at.now.body.now.states state at.now.edges.now.edges }
     requires least { IsPairFound (M.behaviour at.now.machine.now) at.now.body.now state least }
     ensures { IfOk result (IsPairFound (M.behaviour at.now.machine.now) at.now.body.now (state + 1)) }
 {
@@ -67,25 +71,45 @@ fn missing_pair_after<M: Machine>(
 /// so nothing more is looked for after it.
 fn missing_after<M: Machine>(
     at: &StateEdges<'_, M>,
+    earlier: &EarlierEdges,
     behind: &PairsByTrailingState,
     state: u32,
     missing: Missing,
 ) -> Result<Missing, AllocError>
     requires behind { ArePairsBehind (length at.now.body.now.states) at.now.body.now.pairs behind.now }
     requires within { state < length at.now.body.now.states }
-    requires edges { AreFirstTwoAt (M.behaviour at.now.machine.now) at.now.excused.now at.now.body.now.states state at.now.edges.now }
+    requires edges { AreFirstTwoAt (M.behaviour at.now.machine.now) at.now.excused.now at.now.body.now.states state at.now.edges.now.edges }
+    requires passed { ArePassed at.now.body.now.pairs at.now.edges.now.cells earlier.now.lists.items }
     requires missing { IsMissingBelow (M.behaviour at.now.machine.now) at.now.excused.now at.now.body.now state missing }
-    ensures { IfOk result (IsMissingBelow (M.behaviour at.now.machine.now) at.now.excused.now at.now.body.now (state + 1)) }
+    ensures listed { IfOk result (λ after. after.split ≡ None → MissNone at.now.excused.now at.now.body.now.pairs at.now.edges.now.edges) }
+    ensures missing { IfOk result (IsMissingBelow (M.behaviour at.now.machine.now) at.now.excused.now at.now.body.now (state + 1)) }
 {
     if missing.split.is_some() {
         return Ok(missing);
     }
-    let split = at.missing_split_at(state)?;
+    let split = at.missing_split_at(state, earlier.likely(at.edges))?;
     if split.is_some() {
         return Ok(Missing { split, pair: None });
     }
     let pair = missing_pair_after(at, behind, state, missing.pair)?;
     Ok(Missing { split, pair })
+}
+
+/// Keeps the edges of a state if none of its splits is missing and nothing is excused.
+fn keep_passed(
+    alloc: Global,
+    excused: &Excused,
+    missing: Missing,
+    edges: Sorted<'_>,
+    earlier: &mut EarlierEdges,
+) -> Result<(), AllocError>
+    ensures { OnOk result ((pairs : List NumberPair) → (missing.split ≡ None → MissNone excused.now pairs edges.entry.edges) → ArePassed pairs edges.entry.cells earlier.old.lists.items → ArePassed pairs edges.entry.cells earlier.new.lists.items) }
+{
+    edges.law();
+    if missing.split.is_some() || !excused.is_nothing() {
+        return Ok(());
+    }
+    earlier.keep(alloc, edges)
 }
 
 /// What is missing, by one pass over the states that holds the edges of one state at a time. A
@@ -107,6 +131,7 @@ pub fn find_missing<M: Parted, W: Progress>(
 {
     let behind = pairs_by_trailing_state(alloc, body)?;
     let mut kept = KeptParts::new(alloc, seed);
+    let mut earlier = EarlierEdges::new(alloc);
     let mut missing = Missing {
         split: None,
         pair: None,
@@ -124,7 +149,8 @@ pub fn find_missing<M: Parted, W: Progress>(
             body,
             edges: &sorted,
         };
-        missing = missing_after(&at, &behind, state, missing)?;
+        missing = missing_after(&at, &earlier, &behind, state, missing)?;
+        keep_passed(alloc, excused, missing, sorted, &mut earlier)?;
     }
     Ok(missing)
 }

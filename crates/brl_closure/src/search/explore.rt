@@ -264,7 +264,8 @@ impl<'m, M: Parted> Finder<'m, M> {
         let known = trail.pairs.len();
         let number = worklist.expanded.len();
         let (cells, parts) = (&mut worklist.cells, &mut worklist.parts);
-        let edges = self.expand(trail, cells, parts, number)?;
+        let (last, expanded) = (&mut worklist.last, worklist.expanded.as_slice());
+        let edges = self.expand(trail, cells, parts, last, expanded, number)?;
         worklist.make_room(self.alloc, edges.len());
         worklist.expanded.push(edges)?;
         worklist.enqueue_from(&trail.pairs, known)?;

@@ -9,19 +9,20 @@ ghost use Rattle.brl_pairs.specs.Sorted.{AreSortedEdges, IsSortedOf};
 ghost use Rattle.brl_pairs.specs.Splits.{AreSplits};
 ghost use Rattle.brl_pairs.specs.declared.edge.Edge.{Edge as EdgeValue};
 ghost use Rattle.brl_failure.specs.Failure.{IfFault};
-ghost use Rattle.brl_closure.specs.Edges.{AreKeptEdges, AreKeptOrNone, IsExpanded, IsWalked};
+ghost use Rattle.brl_closure.specs.Edges.{AreFollowedIfShared, AreKeptEdges, AreKeptOrNone, IsExpanded, IsWalked, edges_or_none};
 ghost use Rattle.brl_closure.specs.SearchView.{Stays};
 ghost use Rattle.brl_closure.specs.Worklist.{StillHas};
 ghost use Rattle.brl_closure.specs.Trail.{AddsPairs, Advances, IsActive, IsMoveOf, IsStopped};
 
+use crate::last_origins::LastOrigins;
 use crate::search::finder::{Finder, Stop};
 use crate::search::trail::{Origins, PairOrigin, Trail};
 use crate::search::worklist::Worklist;
 use brl_cells::Cells;
 use brl_failure::Failure;
 use brl_pairs::{
-    KeptCells, ListedEdge, Machine, Pair, Parted, SortedEdge, Splits, cells_at, cells_of,
-    earlier_splits, matches, sort_edges, splits_of,
+    KeptCells, ListedEdge, Machine, Pair, Parted, SortedEdge, Splits, as_u32, cells_at, cells_of,
+    count_unshared, earlier_splits, matches, shared_with, sort_edges, splits_of, unshared_splits,
 };
 use brl_parts::Parts;
 use std::alloc::AllocError;
@@ -121,6 +122,34 @@ impl<'m, M: Machine> Finder<'m, M> {
         Ok(())
     }
 
+    /// Adds the splits of a state but for those of two edges that it shares with an expanded state:
+    /// these have been found there. Where few edges are shared, all splits are gone through.
+    fn find_new_splits(
+        &self,
+        trail: &mut Trail<M::State>,
+        state: &Expanding<'_>,
+        shared: &[bool],
+    ) -> Result<(), Failure<Stop>>
+        requires active { IsActive M.behaviour self.now trail.old }
+        requires edges { AreEdges (M.behaviour self.now.machine.now) trail.old.states state.now.number (edges_with state.now.cells.now state.now.edges.now) }
+        requires sorted { IsSortedOf state.now.cells.now (edges_with state.now.cells.now state.now.edges.now) state.now.sorted.now }
+        requires count { length shared.now ≡ length state.now.sorted.now }
+        requires known { AreFollowedIfShared trail.old.pairs (edges_with state.now.cells.now state.now.edges.now) state.now.sorted.now shared.now }
+        ensures expanded { OnOk result (IsExpanded (M.behaviour self.now.machine.now) trail.new.states trail.new.pairs state.now.number) }
+        ensures advances { OnOk result (Advances M.behaviour self.now trail.old trail.new) }
+        ensures stopped { IfErr result (IfFault (IsStopped M.behaviour self.now trail.new)) }
+    {
+        if count_unshared(shared) > shared.len() / 2 {
+            return self.find_splits(trail, state);
+        }
+        let limit = as_u32(state.edges.len())?;
+        let splits = unshared_splits(self.alloc, state.cells, state.sorted, shared, limit)?;
+        for split in splits.as_slice() {
+            self.find_split(trail, state, split.first as usize, split.second as usize)?;
+        }
+        Ok(())
+    }
+
     /// Adds the successors of a pair, by the edges of its state behind.
     fn find_moves(
         &self,
@@ -189,17 +218,22 @@ impl<'m, M: Machine> Finder<'m, M> {
 
 impl<'m, M: Parted> Finder<'m, M> {
     /// Adds the next states of the steps of a state, and its splits. Returns the edges of these
-    /// steps in the order of their cells, which are kept.
+    /// steps in the order of their cells, which are kept. The splits of two edges that the state shares
+    /// with an expanded one have been added before.
     pub(crate) fn expand(
         &self,
         trail: &mut Trail<M::State>,
         cells: &mut KeptCells,
         parts: &mut Parts<M::Part>,
+        last: &mut LastOrigins,
+        expanded: &[Vec<SortedEdge>],
         number: usize,
     ) -> Result<Vec<SortedEdge>, Failure<Stop>>
         requires active { IsActive M.behaviour self.now trail.old }
         requires within { number < length trail.old.states }
         requires parts { AreKeptParts (M.steps_of self.now.machine.now) trail.old.states cells.old parts.old }
+        requires kept { AreKeptOrNone (M.behaviour self.now.machine.now) trail.old.states cells.old expanded.now }
+        requires done { (k : ℕ) → k < length expanded.now → IsExpanded (M.behaviour self.now.machine.now) trail.old.states trail.old.pairs k }
         ensures edges { IfOk result (λ sorted. AreSortedEdges (M.behaviour self.now.machine.now) trail.new.states number cells.new sorted.items) }
         ensures cells { OnOk result (Stays cells.old cells.new) }
         ensures parts { OnOk result (AreKeptParts (M.steps_of self.now.machine.now) trail.new.states cells.new parts.new) }
@@ -210,6 +244,11 @@ impl<'m, M: Parted> Finder<'m, M> {
         let edges = self.find_edges(trail, cells, parts, number)?;
         cells.rank(self.alloc)?;
         let sorted = sort_edges(self.alloc, cells, edges.as_slice())?;
+        let others = edges_at(expanded, last.likely(edges.as_slice()));
+        last.set(edges.as_slice(), number)?;
+        let shared = shared_with(self.alloc, cells, sorted.as_slice(), others)?;
+        // No state has two numbers.
+        let _ = trail.states.as_slice();
         let kept = cells.as_slice();
         let state = Expanding {
             number,
@@ -217,7 +256,7 @@ impl<'m, M: Parted> Finder<'m, M> {
             edges: edges.as_slice(),
             sorted: sorted.as_slice(),
         };
-        self.find_splits(trail, &state)?;
+        self.find_new_splits(trail, &state, shared.as_slice())?;
         Ok(sorted)
     }
 
@@ -298,6 +337,19 @@ impl<'m, M: Parted> Finder<'m, M> {
         self.find_moves(trail, number, &pair, cells, edges.as_slice())?;
         worklist.put(behind, edges);
         Ok(())
+    }
+}
+
+/// The edges of the state with this number; none where there is no number, or they aren't kept.
+fn edges_at(expanded: &[Vec<SortedEdge>], number: Option<usize>) -> &[SortedEdge]
+    ensures { result.now ≡ edges_or_none expanded.now number }
+{
+    match number {
+        Some(number) => match expanded.get(number) {
+            Some(own) => own.as_slice(),
+            None => &[],
+        },
+        None => &[],
     }
 }
 

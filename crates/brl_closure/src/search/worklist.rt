@@ -7,6 +7,7 @@ ghost use Rattle.brl_parts.specs.Parts.{no_parts};
 ghost use Rattle.brl_closure.specs.Edges.{AreSomeOf};
 ghost use Rattle.brl_closure.specs.Worklist.{IsItemOf, IsQueued, NoneIsReady};
 
+use crate::last_origins::LastOrigins;
 use brl_pairs::{KeptCells, Key, Members, Pair, Seed, SortedEdge};
 use brl_parts::Parts;
 use std::alloc::{AllocError, Global};
@@ -25,6 +26,8 @@ pub struct Worklist<P: Key> {
     pub cells: KeptCells,
     /// The parts of steps that have been listed.
     pub parts: Parts<P>,
+    /// Which state that has been expanded led to each state last.
+    pub last: LastOrigins,
     /// The edges of each state that has been expanded, in the order of their cells; none where they
     /// aren't kept. The other states are expanded in the order in which they were found.
     pub expanded: Vec<Vec<SortedEdge>>,
@@ -45,6 +48,7 @@ impl<P: Key> Worklist<P> {
         Worklist {
             cells: KeptCells::new(alloc, seed),
             parts: Parts::new(alloc, seed),
+            last: LastOrigins::new(alloc),
             expanded: Vec::new(alloc),
             kept: 0,
             queue: BinaryHeap::new(alloc),

@@ -42,3 +42,6 @@ returns-clause-edges g c =
           (numbers_are steps_of states cells kept listed numbers (rw c.in-Some-2.is at c.in_ok-numbers.ensures.numbers) c.in_ok-numbers.ensures.kept c.law.ensures)
           (subst (λ (l : List ℕ). AreByRule (flat_map (edges_of kept) l) c.in_ok-edges-3.edges.items) c.as_slice.ensures.value c.in_ok-edges-3.ensures);
     }
+
+pub returns-in_default-2-clause-cells : goal.returns-in_default-2-clause-cells
+returns-in_default-2-clause-cells g c = λ k own at. c.list_edges-in_default-2.ensures.cells k own (c.in_ok-numbers.ensures.cells k own at)

@@ -1,4 +1,4 @@
-use Rattle.std.proofs.Common.{◌≡◌, ◌++◌, ◌∷◌, [], ℕ, List, sym, ◌∙◌, ap, subst}
+use Rattle.std.proofs.Common.{◌++◌, ◌∷◌, [], List, sym, ◌∙◌, subst}
 use Rattle.std.proofs.lemmas.Iterator.Consumers.{YieldsList-end}
 use Rattle.std.proofs.lemmas.Iterator.Adapters.{YieldsList-from_vec}
 use Rattle.brl_closure.specs.Listing.{AreNumbersOf}
@@ -7,13 +7,14 @@ use Rattle.brl_closure.proofs.Listing.{no_numbers, numbers_push}
 use Rattle.brl_closure.proofs.check.edges.numbers_of_parts.Goals as goal
 
 pub loop-part-init : goal.loop-part-init
-loop-part-init g c = record { kept = c.requires; numbers = no_numbers c.args.kept.now.parts.parts c.in_ok-numbers.numbers.items c.in_ok-numbers.ensures.items }
+loop-part-init g c = record { kept = c.requires; cells = λ k own at. at; numbers = no_numbers c.args.kept.now.parts.parts c.in_ok-numbers.numbers.items c.in_ok-numbers.ensures.items }
 
 pub loop-part-preserved : goal.loop-part-preserved
 loop-part-preserved g c =
     let l = c.loop-part in
     record {
       kept = c.in_ok-number.ensures.kept;
+      cells = λ k own at. c.in_ok-number.ensures.cells k own (l.invariant.cells k own at);
       numbers = subst (AreNumbersOf c.number_of_part.new.kept.parts.parts (l.yielded ++ c.in-Some.part ∷ [])) (sym c.in_ok-push.ensures.items)
           (numbers_push l.kept.parts.parts c.number_of_part.new.kept.parts.parts c.in_ok-number.ensures.stays l.yielded l.numbers.items c.in-Some.part c.in-Some-2.number l.invariant.numbers (rw c.in-Some-2.is at c.in_ok-number.ensures.number));
     }

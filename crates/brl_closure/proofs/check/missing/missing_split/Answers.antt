@@ -1,22 +1,9 @@
-use Rattle.std.proofs.Common.{◌≡◌, ◌<◌, ℕ, length, ◌∙◌, ap, sym, arith, rules}
-use Rattle.std.specs.Option.{option_map}
-use Rattle.std.proofs.lemmas.Option.{get_or_from_slice_get}
-use Rattle.brl_closure.proofs.LeastSplit.{split_all, split_step}
-use Rattle.brl_pairs.proofs.Lists.{inside}
-use Rattle.brl_closure.specs.Steps.{MissUnexcused}
+use Rattle.std.proofs.Common.{sym, subst}
+use Rattle.brl_closure.specs.Passed.{AreListedIfShared}
+use Rattle.brl_closure.proofs.PassedLaws.{shared_listed}
 use Rattle.brl_closure.proofs.check.missing.missing_split.Goals as goal
 
-pub loop-second-preserved : goal.loop-second-preserved
-loop-second-preserved c =
+pub missing_of_unshared-requires-clause-listed : goal.missing_of_unshared-requires-clause-listed
+missing_of_unshared-requires-clause-listed c =
     let a = c.args in
-    let n = c.loop-second.second in
-    let within : n < length a.edges.now = omega (arith, c.len-second-end.ensures) in
-    let y = inside a.edges.now n within in
-    let paired : c.map.result ≡ option_map (λ (first : ℕ). (first, c.rule_at-rule.result)) c.in_ok-found.found = search rules in
-    split_step (MissUnexcused a.excused.now a.pairs.now) a.edges.now n y.0 within (sym (get_or_from_slice_get a.edges.now n y.0 y.0 y.1))
-    c.loop-second.best c.loop-second.invariant c.in_ok-found.found c.in_ok-found.ensures
-    c.map.result (paired ∙ ap (λ (r : ℕ). option_map (λ (first : ℕ). (first, r)) c.in_ok-found.found) (c.rule_at-rule.ensures y.0 y.1)) c.lesser-best.result c.lesser-best.ensures
-
-pub returns : goal.returns
-returns c =
-    split_all (MissUnexcused c.args.excused.now c.args.pairs.now) c.args.edges.now c.loop-second.second (omega (arith, c.len-second-end.ensures)) c.loop-second.best c.loop-second.invariant
+    subst (AreListedIfShared a.pairs.now a.edges.now) (sym c.as_slice-2.ensures.value) (shared_listed a.pairs.now a.edges.now a.others.now c.in_ok-shared.shared.items c.in_ok-shared.ensures c.requires.passed)

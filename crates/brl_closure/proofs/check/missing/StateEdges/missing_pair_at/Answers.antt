@@ -16,7 +16,7 @@ missing_pair-requires g c =
     let q = c.index-as_slice-number.result in
     let q_at = read_at c.as_slice.result.now a.self.now.body.now.pairs a.number q (c.as_slice.ensures.members ∙ c.pairs.ensures) (omega (arith, c.requires.number, ap length c.as_slice.ensures.members, ap length c.pairs.ensures)) c.index-as_slice-number.is in
     let k = c.requires.edges q q_at in
-    kept_in_order a.self.now.excused.now k.edges a.self.now.edges.now k.first_two (c.edges_law.ensures a.self.now.body.now.states q.behind k.edges k.are_edges)
+    kept_in_order a.self.now.excused.now k.edges a.self.now.edges.now.edges k.first_two (c.edges_law.ensures a.self.now.body.now.states q.behind k.edges k.are_edges)
 
 pub returns : goal.returns
 returns g c =
@@ -28,6 +28,6 @@ returns g c =
     let k = c.requires.edges q q_at in
     let in_order = c.edges_law.ensures a.self.now.body.now.states q.behind k.edges k.are_edges in
     IfOk-weaker c.missing_pair.result _ _
-    (λ found least. move_at m a.self.now.body.now c.law.ensures.states a.number q q_at k.edges k.are_edges range found (move_of_kept a.self.now.excused.now k.edges a.self.now.edges.now k.first_two in_order a.self.now.body.now.pairs q.ahead q.lead found
-    (subst (λ (lead : List ℕ). IsLeastFound (HasOfRule (IsMissing a.self.now.body.now.pairs q.ahead lead) a.self.now.edges.now) found) c.as_slice-2.ensures least)))
-    (subst (λ (pairs : List NumberPair). IfOk c.missing_pair.result (IsLeastFound (HasOfRule (IsMissing pairs q.ahead c.as_slice-2.result.now) a.self.now.edges.now))) c.pairs-2.ensures c.missing_pair.ensures)
+    (λ found least. move_at m a.self.now.body.now c.law.ensures.states a.number q q_at k.edges k.are_edges range found (move_of_kept a.self.now.excused.now k.edges a.self.now.edges.now.edges k.first_two in_order a.self.now.body.now.pairs q.ahead q.lead found
+    (subst (λ (lead : List ℕ). IsLeastFound (HasOfRule (IsMissing a.self.now.body.now.pairs q.ahead lead) a.self.now.edges.now.edges) found) c.as_slice-2.ensures least)))
+    (subst (λ (pairs : List NumberPair). IfOk c.missing_pair.result (IsLeastFound (HasOfRule (IsMissing pairs q.ahead c.as_slice-2.result.now) a.self.now.edges.now.edges))) c.pairs-2.ensures c.missing_pair.ensures)
