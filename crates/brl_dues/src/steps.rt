@@ -91,28 +91,9 @@ fn take_rule<'a>(
     }
     for place in with_fold(*first, places) {
         let letter = &mut letters[place.number];
-        take_letter(alloc, table, state, number, rule, letter, listed)?;
-    }
-    Ok(())
-}
-
-/// Appends the steps of a rule that begin with one character, and adds the rule to those above the
-/// character, if it may be taken there.
-fn take_letter<'a>(
-    alloc: Global,
-    table: &CasedTable<'_>,
-    state: &DuesState,
-    number: u32,
-    rule: &'a Rule,
-    letter: &mut Letter<'a>,
-    listed: &mut Vec<Step<DuesState>>,
-) -> Result<(), AllocError>
-    ensures letter { OnOk result (letter.new ≡ with_rule state.now.before rule.now letter.old) }
-    ensures listed { OnOk result (listed.new.items ≡ listed.old.items
-        ++ rule_step table.now state.now number rule.now letter.old) }
-{
-    if may_take(rule, state.before, letter) {
-        push_taken(alloc, table, state, number, rule, letter, listed)?;
+        if may_take(rule, state.before, letter) {
+            push_taken(alloc, table, state, number, rule, letter, listed)?;
+        }
     }
     Ok(())
 }
