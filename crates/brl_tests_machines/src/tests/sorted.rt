@@ -1,8 +1,8 @@
 //! Edges in the order of their cells: those that a lead can follow, and those that split.
 use brl_cells::{Cells, read_dots};
 use brl_pairs::{
-    KeptCells, ListedEdge, Seed, SortedEdge, by_number, earlier_splits, matches, sort_edges,
-    splits_of,
+    KeptCells, ListedEdge, Seed, SortedEdge, TwoPlaces, as_u32, by_number, earlier_splits, matches,
+    shared_with, sort_edges, splits_of, unshared_splits,
 };
 use brl_testing::{for_rows_of_2, for_rows_of_3};
 use std::alloc::Global;
@@ -37,6 +37,21 @@ const SPLITS: &str = "\
 1 1 1|2|0 1
 ";
 
+/// The cells of a state's edges in listed order, those of another state's, and the places of the splits
+/// of the first whose edges aren't both shared. `:1` after cells is the next state, which is else 0. A
+/// split of two edges that aren't shared is there twice.
+const UNSHARED: &str = "\
+1 1-12 12|1 1-12 12|
+1 1-12 12|12|0-1 0-1
+1 1-12 1|1 1-12|1-2 0-2
+1 1-12:1|1 1-12|0-1
+1 1-12:1|1 1-12:1|
+1-12 1 12|1 12|0-1
+1 1|1|0-1
+1 2|2|
+|1|
+";
+
 /// Numbers below 10, and their places by ascending number; those of one number ascend.
 const BY_NUMBER: &str = "\
 2 0 1 0|1 3 2 0
@@ -54,20 +69,22 @@ fn cells_of_dots(alloc: Global, dots: &str) -> Result<Cells, Fail> {
     Ok(read_dots(alloc, dots, 16)?)
 }
 
-/// The edges with these cells, which are kept. Each leads to the state with the number 0.
+/// The edges with these cells, which are kept. Each leads to the state whose number is after a colon,
+/// or to that with the number 0.
 fn edges_of_dots(
     alloc: Global,
     kept: &mut KeptCells,
     field: &str,
 ) -> Result<Vec<ListedEdge>, Fail> {
     let mut edges = Vec::new(alloc);
-    for dots in field.split(' ') {
-        if !dots.is_empty() {
+    for word in field.split(' ') {
+        if !word.is_empty() {
+            let (dots, next) = word.split_once(':').unwrap_or((word, "0"));
             let cells = cells_of_dots(alloc, dots)?;
             edges.push(ListedEdge {
                 rule: 0,
                 cells: kept.keep(&cells, 0)?,
-                next: 0,
+                next: next.parse()?,
             })?;
         }
     }
@@ -120,6 +137,37 @@ fn splits_text(alloc: Global, field: &str, place: &str) -> Result<String, Fail> 
 #[test]
 fn earlier_edges_that_split(rt: HostRuntime) -> Result<(), Fail> {
     for_rows_of_3(rt.alloc(), SPLITS, splits_text)
+}
+
+/// The places of splits, with a blank between two.
+fn two_places_text(alloc: Global, splits: &[TwoPlaces]) -> Result<String, Fail> {
+    let mut text = String::new(alloc);
+    for split in splits {
+        if !text.is_empty() {
+            text.push(' ')?;
+        }
+        write!(text, "{}-{}", split.first, split.second)?;
+    }
+    Ok(text)
+}
+
+fn unshared_text(alloc: Global, field: &str, others: &str) -> Result<String, Fail> {
+    let mut kept = KeptCells::new(alloc, Seed::of(b"cells"));
+    let edges = edges_of_dots(alloc, &mut kept, field)?;
+    let others = edges_of_dots(alloc, &mut kept, others)?;
+    kept.rank(alloc)?;
+    let sorted = sort_edges(alloc, &kept, edges.as_slice())?;
+    let others = sort_edges(alloc, &kept, others.as_slice())?;
+    let shared = shared_with(alloc, &kept, sorted.as_slice(), others.as_slice())?;
+    let (sorted, shared) = (sorted.as_slice(), shared.as_slice());
+    let limit = as_u32(edges.len())?;
+    let splits = unshared_splits(alloc, kept.as_slice(), sorted, shared, limit)?;
+    two_places_text(alloc, splits.as_slice())
+}
+
+#[test]
+fn splits_that_another_state_does_not_have(rt: HostRuntime) -> Result<(), Fail> {
+    for_rows_of_3(rt.alloc(), UNSHARED, unshared_text)
 }
 
 fn by_number_text(alloc: Global, field: &str) -> Result<String, Fail> {
