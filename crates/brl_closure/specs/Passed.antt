@@ -1,4 +1,4 @@
--- Internal. The edges of a state no split of which is missing.
+-- Internal. The edges of a state that misses no split.
 use Rattle.std.specs.Prelude.{◌≡◌, ◌≢◌, ℕ, ◌<◌, Bool, true, false, List, length, Some, slice_get}
 use Rattle.std.specs.Global.{Vec}
 use Rattle.brl_closure.specs.Sorted.{SortedView}

@@ -119,7 +119,7 @@ module _ (sorted others : List SortedEdge) (shared : List Bool) (x : SortedEdge)
 pub shared_at : (shared : List Bool) (k : ℕ) (b : Bool) → k < length shared → get_or shared k false ≡ b → slice_get shared k ≡ Some b
 shared_at shared k b within is = slice_get-get_or shared k false within ∙ ap (λ (t : Bool). Some t) is
 
--- the splits so far are those of which one edge isn't shared and is at a position before this one
+-- the splits so far are those that have an edge before this position which isn't shared
 pub record AreSplitsBefore (cells : List (List ℕ)) (sorted : List SortedEdge) (shared : List Bool) (limit end : ℕ) (splits : List TwoPlaces) : Type 0 where
   pub only : (split : TwoPlaces) → Contains splits split → IsUnsharedSplit cells sorted shared split
   pub all : (k : ℕ) (y x : SortedEdge) (split : TwoPlaces) → k < end → slice_get shared k ≡ Some false → slice_get sorted k ≡ Some y → IsOther cells sorted k limit y x → IsTwoOf y.place x.place split → Contains splits split
@@ -131,7 +131,7 @@ pub record AreSplitsAdded (y : SortedEdge) (found : List SortedEdge) (old new : 
   pub added : (x : SortedEdge) (split : TwoPlaces) → Contains found x → IsTwoOf y.place x.place split → Contains new split
 
 module _ (cells : List (List ℕ)) (sorted : List SortedEdge) (shared : List Bool) (limit : ℕ) where
-  -- two edges that match, of which one isn't shared, are a split that is left
+  -- two edges that match are such a split if one of them isn't shared
   split_of_two : (k : ℕ) (y x : SortedEdge) (split : TwoPlaces) → slice_get shared k ≡ Some false → slice_get sorted k ≡ Some y → IsOther cells sorted k limit y x → IsTwoOf y.place x.place split → IsUnsharedSplit cells sorted shared split
   split_of_two k y x split alone y_at is two = elim two.1 [
     | inl straight ↦ record {

@@ -31,8 +31,8 @@ IsOneUnshared shared k l = (slice_get shared k ≡ Some false) ⊎ (slice_get sh
 abbrev pub IsTwoOf : ℕ → ℕ → TwoPlaces → Type 0
 IsTwoOf one other split = (split.first < split.second) × (((split.first ≡ one) × (split.second ≡ other)) ⊎ ((split.first ≡ other) × (split.second ≡ one)))
 
--- two edges, at two positions of the order of cells, split, the first of them stands before the second,
--- and not both are shared
+-- two edges, at two positions of the order of cells, split, and one of them isn't shared. The first one
+-- stands before the second in listed order.
 pub record IsUnsharedSplit (cells : List (List ℕ)) (sorted : List SortedEdge) (shared : List Bool) (split : TwoPlaces) : Type 0 where
   pub k : ℕ
   pub l : ℕ
@@ -46,7 +46,7 @@ pub record IsUnsharedSplit (cells : List (List ℕ)) (sorted : List SortedEdge) 
   pub match : DoMatch (cells_of cells first) (cells_of cells second)
   pub unshared : IsOneUnshared shared k l
 
--- these are the splits of which not both edges are shared
+-- these are the splits that have an edge which isn't shared
 pub record AreUnsharedSplits (cells : List (List ℕ)) (sorted : List SortedEdge) (shared : List Bool) (splits : List TwoPlaces) : Type 0 where
   pub only : (split : TwoPlaces) → Contains splits split → IsUnsharedSplit cells sorted shared split
   pub all : (split : TwoPlaces) → IsUnsharedSplit cells sorted shared split → Contains splits split

@@ -89,10 +89,10 @@ pub fn count_unshared(shared: &[bool]) -> usize
     count
 }
 
-/// The splits of which not both edges are shared, by the place of the second edge; of one second edge,
-/// the last first one comes first. A split of two edges that aren't shared is there twice. All places
-/// are below `limit`. The edges are in the order of their
-/// cells, and `shared` says of each whether it is shared.
+/// The splits that have an edge which isn't shared. They ascend by the place of their second edge, and
+/// those with one second edge descend by the place of the first. A split of two edges that aren't
+/// shared is there twice. The edges are in the order of their cells, `shared` says of each whether it
+/// is shared, and all places are below `limit`.
 pub fn unshared_splits(
     alloc: Global,
     cells: &[Cells],
