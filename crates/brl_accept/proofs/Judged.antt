@@ -124,7 +124,7 @@ module _ (terms : Terms) (not_closed : (t : TableView) (cert : Certificate) (fau
 
   module _ (t : TableView) (is : IsTableOf gives root t) (accepted : Accepted) (deserved : IsAcceptedFor terms t bytes accepted)
       (one_table : (u : TableView) → IsTableOf gives root u → t ≡ u) (no_fault : (fault : NoTableFault) → IsFaultAt gives root fault → ⊥) where
-    -- a refusal of what deserves acceptance
+    -- a refusal of what is to be accepted
     later_stage : (fault : JudgeFault) → (u : TableView) × IsTableOf gives root u × IsRefusedFor terms u bytes fault × ((other : Accepted) → IsAcceptedFor terms u bytes other → ⊥) → ⊥
     later_stage fault h = h.3 accepted (subst (λ (u : TableView). IsAcceptedFor terms u bytes accepted) (one_table h.0 h.1) deserved)
 

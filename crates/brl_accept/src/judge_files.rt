@@ -178,9 +178,9 @@ pub fn judge<S: Source>(
     ensures accepted { IfOk result (λ accepted. (t : TableView) × IsTableOf (S.gives source.old) root.now t × IsUnambiguous t
         × IsAccepted t cert.now accepted) }
     // The fault is that of the first stage that refuses. Where the files define a table, the bytes
-    // don't deserve acceptance for it.
+    // aren't acceptable for it.
     ensures refused { IfErr result (IfFault (IsRefusedBy (S.gives source.old) root.now cert.now)) }
-    // Where each file has one content, a certificate that deserves acceptance is accepted, unless
+    // Where each file has one content, a certificate that is acceptable is accepted, unless
     // memory runs out.
     ensures decides { IsDeterministic (S.gives source.old) → (t : TableView) → IsTableOf (S.gives source.old) root.now t
         → (accepted : AcceptedValue) → IsAccepted t cert.now accepted → (result ≡ Ok accepted) ⊎ (result ≡ Err failures.Memory) }
@@ -216,9 +216,9 @@ pub fn judge_with<S: Source, W: Progress>(
     ensures accepted { IfOk result (λ accepted. (t : TableView) × IsTableOf (S.gives source.old) root.now t
         × IsUnambiguousWithout scope.entry.left_out.now t × IsAcceptedWithout scope.entry.left_out.now t cert.now accepted) }
     // The fault is that of the first stage that refuses. Where the files define a table, the bytes
-    // don't deserve acceptance for it without these characters.
+    // aren't acceptable for it without these characters.
     ensures refused { IfErr result (IfFault (IsRefusedByWithout scope.entry.left_out.now (S.gives source.old) root.now cert.now)) }
-    // Where each file has one content, a certificate that deserves acceptance is accepted, unless
+    // Where each file has one content, a certificate that is acceptable is accepted, unless
     // memory runs out.
     ensures decides { IsDeterministic (S.gives source.old) → (t : TableView) → IsTableOf (S.gives source.old) root.now t
         → (accepted : AcceptedValue) → IsAcceptedWithout scope.entry.left_out.now t cert.now accepted
@@ -251,9 +251,9 @@ pub fn judge_up_to<S: Source, W: Progress>(
     ensures accepted { IfOk result (λ accepted. (t : TableView) × IsTableOf (S.gives source.old) root.now t
         × IsShown scope.entry.left_out.now excused.now t × IsAcceptedUpTo scope.entry.left_out.now excused.now t cert.now accepted) }
     // The fault is that of the first stage that refuses. Where the files define a table, the bytes
-    // don't deserve acceptance for it without these characters, but for what is excused.
+    // aren't acceptable for it without these characters, but for what is excused.
     ensures refused { IfErr result (IfFault (IsRefusedByUpTo scope.entry.left_out.now excused.now (S.gives source.old) root.now cert.now)) }
-    // Where each file has one content, a certificate that deserves acceptance is accepted, unless
+    // Where each file has one content, a certificate that is acceptable is accepted, unless
     // memory runs out.
     ensures decides { IsDeterministic (S.gives source.old) → (t : TableView) → IsTableOf (S.gives source.old) root.now t
         → (accepted : AcceptedValue) → IsAcceptedUpTo scope.entry.left_out.now excused.now t cert.now accepted

@@ -1,4 +1,4 @@
--- What stands at other paths where a file in memory is written.
+-- What is at other paths where a file in memory is written.
 use Rattle.std.proofs.Common.{◌≡◌, ◌∙◌, ℕ, List, Bool, true, false, cond, Option, String, refl, sym}
 use Rattle.std.specs.Prelude.{◌≢◌, string_bytes}
 use Rattle.std.proofs.lemmas.Map.Text.{btree_map_updates_text}

@@ -15,7 +15,7 @@ use brl_stream::{Failed, Output};
 use std::alloc::{AllocError, Global};
 use std::io::Write;
 
-/// What a command comes to: a text for standard output, the status, and the files that are written
+/// What a command answers: a text for standard output, the status, and the files that are written
 /// before the text.
 #[derive(Drop)]
 pub struct Answer {
@@ -91,7 +91,7 @@ fn write_answer<F: Files, O: Output>(
     Ok(status)
 }
 
-/// Delivers what a command comes to: its files and its text, or the line of its fault on standard
+/// Delivers what a command answers: its files and its text, or the line of its fault on standard
 /// error. Answers the status.
 pub fn deliver<F: Files, O: Output, E: Write>(
     alloc: Global,

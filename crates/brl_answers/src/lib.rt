@@ -1,7 +1,7 @@
 //! Answers of commands, and their delivery.
 //!
-//! Each command but `translate`, which is a stream, comes to an `Answer`: a text, a status and the
-//! files to be written, if there are any; or to a `RunFault`. `deliver` writes it to the output and
+//! Each command but `translate`, which is a stream, gives an `Answer`: a text, a status and the
+//! files to be written, if there are any; or a `RunFault`. `deliver` writes it to the output and
 //! to `Files`.
 //!
 //! Room 5, the program (docs/dev/ARCHITECTURE.md). The definitions begin in `specs/Answers.antt`.

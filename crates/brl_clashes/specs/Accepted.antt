@@ -27,9 +27,9 @@ AreLeftOf accepted [] [] = Unit {0}
 AreLeftOf accepted (s ∷ sections) (x ∷ left) = IsLeftOf accepted s x × AreLeftOf accepted sections left
 AreLeftOf accepted sections left = ⊥
 
--- ---- What is said
+-- ---- What is reported
 
--- What is said of sections from which this many accepted pairs were left out, where they come to this:
+-- The outcome of sections from which this many accepted pairs were left out, where theirs is this:
 -- a table of which pairs are accepted isn't unambiguous, and as many pairs as are left diverge, which
 -- may be none.
 abbrev pub outcome_beside : ℕ → Outcome → Outcome

@@ -53,7 +53,7 @@ last_counts word sections = option_map_or (λ s. counts_of word s.found) (slice_
 abbrev pub pairs_line : ℕ → Bool → List ℕ
 pairs_line count whole = decimal count ++ (pairs_words count ++ (others_note whole ++ codes "\n"))
 
--- the counts that are said: of a table that is unambiguous, and those at which a limit was passed
+-- the counts that are reported: of a table that is unambiguous, and those at which a limit was passed
 abbrev pub verdict_counts : Outcome → List Section → List ℕ
 verdict_counts Unambiguous sections = last_counts (codes "unambiguous") sections
 verdict_counts Clashing sections = []
@@ -65,7 +65,7 @@ verdict_pairs Unambiguous count = []
 verdict_pairs Clashing count = pairs_line count true
 verdict_pairs Unfinished count = pairs_line count false
 
--- the last lines of what comes to this: the table is unambiguous, or this many pairs of rules diverge
+-- the last lines for this outcome: the table is unambiguous, or this many pairs of rules diverge
 abbrev pub outcome_text : Outcome → List Section → List ℕ
 outcome_text outcome sections = verdict_counts outcome sections ++ verdict_pairs outcome (length (listed_pairs sections))
 

@@ -56,7 +56,7 @@ abbrev pub shown_in : TableView → List ℕ → List (ℕ × ℕ) → Section �
 shown_in t characters before s = filter (λ clash. not (is_represented t characters (listed_after before s) clash)) (new_in before s)
 
 -- the lines of a section with these clashes in order: the first of them, how many more there are, and
--- for how many others another line stands
+-- how many others another line counts
 abbrev pub clash_lines : TableView → List LineView → ℕ → ℕ → List RuleClash → List ℕ
 clash_lines t lines first count shown =
     flat_map (rule_clash_line t lines) (first_ones first shown) ++ number_line (length shown - length (first_ones first shown)) (codes " more")

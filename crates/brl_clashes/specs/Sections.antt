@@ -54,7 +54,7 @@ listed_after before s = before ++ rules_of_clashes (new_in before s)
 abbrev pub listed_pairs : List Section → List (ℕ × ℕ)
 listed_pairs sections = fold listed_after [] sections
 
--- what sections come to: there is no pair of rules; or these, and no others; or maybe others
+-- the outcome of sections: there is no pair of rules; or these, and no others; or maybe others
 abbrev pub outcome_of : List Section → Outcome
 outcome_of sections =
     if are_whole sections then (if list_none sections then Unambiguous else Clashing) else Unfinished

@@ -5,7 +5,7 @@
 //!   for its texts.
 //! - `sections_text` is their text: the sets of characters that the table treats as one; of each section
 //!   the pairs of rules that no earlier one lists, the most suspicious first; and a verdict.
-//! - `outcome_of` says what the sections come to, and `character_sets` has the sets of characters.
+//! - `outcome_of` is the outcome of the sections, and `character_sets` has the sets of characters.
 //! - `pairs_of_sections` are the pairs of rules of all sections, and `without_accepted` the sections without
 //!   some of them.
 //!

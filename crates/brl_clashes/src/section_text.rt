@@ -128,7 +128,7 @@ fn heading(
     format!(in alloc; "{name}: {count}{more}{pairs}{others}\n")
 }
 
-/// What is said after the number of pairs of rules where earlier sections list some.
+/// The words after the number of pairs of rules where earlier sections list some.
 fn more_note(more: bool) -> &'static str
     ensures { result.now ≡ note_of_more more }
 {

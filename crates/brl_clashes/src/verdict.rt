@@ -1,4 +1,4 @@
-//! What the sections of a list come to.
+//! The outcome of the sections of a list.
 ghost use Rattle.std.specs.Prelude.{◌≡◌, ◌==◌, if◌then◌else◌, IfOk, string_bytes};
 ghost use Rattle.brl_clashes.specs.Accepted.{accepted_line as line_of_accepted, accepted_words as words_of_accepted, outcome_beside as said_outcome};
 ghost use Rattle.brl_clashes.specs.ClashesText.{
@@ -17,7 +17,7 @@ use brl_answers::counts_text;
 use brl_search::ClashList;
 use std::alloc::{AllocError, Global};
 
-/// What the sections of a list come to.
+/// The outcome of the sections of a list.
 #[derive(Clone, Copy)]
 pub enum Outcome {
     /// No pair of rules is listed, and no texts clash.
@@ -28,7 +28,7 @@ pub enum Outcome {
     Unfinished,
 }
 
-/// What these sections come to.
+/// The outcome of these sections.
 pub fn outcome_of(sections: &[Section]) -> Outcome
     ensures { result ≡ outcome_of_sections sections.now }
 {
@@ -41,7 +41,7 @@ pub fn outcome_of(sections: &[Section]) -> Outcome
     Outcome::Unambiguous
 }
 
-/// What is said of sections that come to this, where this many accepted pairs of rules were left out of
+/// The outcome of sections with this outcome, where this many accepted pairs of rules were left out of
 /// them: such a table isn't unambiguous, also where no pair is left.
 pub fn outcome_beside(accepted: usize, outcome: Outcome) -> Outcome
     ensures { result ≡ said_outcome accepted outcome }
@@ -93,7 +93,7 @@ fn list_none(sections: &[Section]) -> bool
     sections.iter().all(|s| lists_none(&s.found))
 }
 
-/// The counts that are said of what sections come to, and empty where none are.
+/// The counts that are reported of an outcome of sections, and empty where none are.
 pub fn verdict_counts(
     alloc: Global,
     outcome: Outcome,
@@ -159,7 +159,7 @@ pub fn pairs_words(count: usize) -> &'static str
     words_for(count, " pair of rules diverges", " pairs of rules diverge")
 }
 
-/// What is said after these words: that no others diverge, or that others may.
+/// The words after these: that no others diverge, or that others may.
 pub fn others_note(whole: bool) -> &'static str
     ensures { result.now ≡ note_of_others whole }
 {

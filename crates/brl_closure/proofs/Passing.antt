@@ -53,7 +53,7 @@ module _ {S : Type 0} (m : Behaviour S) (body : BodyView S) (state : ℕ) where
         | inr apart ↦ (let le : number ≤ k = from k rule behind misses in omega arith)
       ]
 
-  -- behind the last place there is none
+  -- after the last place there is none
   pub none_from_end : (place : Option ℕ) → ((number : ℕ) → place ≡ Some number → ⊥) → AreFrom place → (k rule : ℕ) → IsBehind body.pairs state k → MissesPair m body k rule → ⊥
   none_from_end None apart from = from
   none_from_end (Some number) apart from = absurd (apart number refl)
@@ -81,7 +81,7 @@ module _ {S : Type 0} (m : Behaviour S) (body : BodyView S) (state : ℕ) where
       let lt : h.state < state = h.below in
       absurd (omega (arith, lt, h.behind.behind, behind.behind, same))
 
-  -- what was the least stays it, where the pairs of this state that miss one come behind it
+  -- what was the least stays it, where the pairs of this state that miss one come after it
   pub least_stays : (least : Option MissingPair) → ((number rule : ℕ) → IsBehind body.pairs state number → MissesPair m body number rule → MatchOption least ⊥ (λ missing. missing.pair ≤ number))
       → IsPairFound m body state least → IsPairFound m body (state + 1) least
   least_stays None beyond none = λ number rule h. elim (at_or_before number rule h) [ inl before ↦ none number rule before | inr here ↦ beyond number rule here h.misses ]

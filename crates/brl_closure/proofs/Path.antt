@@ -82,7 +82,7 @@ module _ {S : Type 0} (m : Behaviour S) (t : Trail S) (traced : IsTraced m t) wh
     behind_reads = reads_back behind more x.reads (reads_of two) put behind_reads;
   }
 
-  -- the run behind stayed behind
+  -- the run behind is still behind
   pub still_back : (n number place : ℕ) (ahead behind more : List ℕ) (h : Continues m t.states t.pairs n ahead behind) → (q : NumberPair) → slice_get t.pairs number ≡ Some q
       → (by : StaysBehindOf m t.states q place h.pair) → more ≡ behind ++ reverse by.step.reads → Continues m t.states t.pairs number ahead more
   still_back n number place ahead behind more h q q_at by put =

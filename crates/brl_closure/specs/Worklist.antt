@@ -61,7 +61,7 @@ pub record IsStep {M S P : Type 0} (behaviour : M → Behaviour S) (steps_of : M
   pub extends : Extends t t'
   pub fewer : steps_left f.limit t' w' < steps_left f.limit t w
 
--- what this number of steps does: at least so many fewer are left
+-- what this number of steps does: at least this many fewer are left
 pub record AreSteps {M S P : Type 0} (behaviour : M → Behaviour S) (steps_of : M → P → List (Step S)) (steps : ℕ) (f : Finder M S) (t : Trail S) (w : Worklist P) (t' : Trail S) (w' : Worklist P) : Type 0 where
   pub working : IsWorking behaviour steps_of f t' w'
   pub extends : Extends t t'

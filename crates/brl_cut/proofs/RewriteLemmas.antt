@@ -10,7 +10,7 @@ use Rattle.brl_cut.specs.Edits.{EditView}
 use Rattle.brl_rules.specs.declared.rule.Info.{Info}
 use Rattle.brl_cut.specs.Rewriting.{edit_to_pair, edit_to_words, is_definition}
 
--- what a survey of one line found tells whether it is a definition
+-- by what a survey of one line found it is known whether it is a definition
 pub definition-found : (found : Findings) (line : LineView) → findings_view found ≡ survey_of (line ∷ []) → (found.has_characters && (length found.faulty.items == 0)) ≡ is_definition line
 definition-found found line told =
     ap (λ n. found.has_characters && (n == 0)) (sym (length-map found.faulty.items faulty_line_view)) ∙ ap (λ (f : FindingsView). f.has_characters && (length f.faulty == 0)) told

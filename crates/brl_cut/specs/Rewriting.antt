@@ -67,7 +67,7 @@ character_alone word = the_only (characters_of word)
 abbrev pub dots_among : List (ℕ × Info) → List ℕ → Option (List ℕ)
 dots_among characters word = option_and_then (λ c. option_map (λ info. spelling info.cells) (lookup (nat_eq c) characters)) (character_alone word)
 
--- a word that stands in no file
+-- a word that is in no file
 abbrev pub new_word : List ℕ → TokenView
 new_word text = record { text = text; start = 0 }
 

@@ -1,4 +1,4 @@
--- Internal. What surveys of files come to, as the code has it.
+-- Internal. What surveys of files find, as the code has it.
 use Rattle.std.specs.Prelude.{ℕ, ◌≡◌, List, map, Ok, Err}
 use Rattle.brl_lines.specs.Lines.{location_of}
 use Rattle.brl_lines.specs.Tokens.{LineView}

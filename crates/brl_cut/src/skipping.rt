@@ -19,7 +19,7 @@ use std::alloc::{AllocError, Global};
 #[derive(Drop)]
 pub struct WithoutDictionaries {
     pub loaded: Loaded,
-    /// The include lines of the dictionaries, in the order in which they were come to.
+    /// The include lines of the dictionaries, in the order in which they were reached.
     pub skipped: Vec<LeftInclude>,
 }
 

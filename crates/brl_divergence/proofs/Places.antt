@@ -1,4 +1,4 @@
--- One step of a state is settled with each earlier one: those that may split with it are looked at, and
+-- One step of a state is settled with each earlier one: those that may split with it are tested, and
 -- the others don't split.
 use Rattle.std.proofs.Common.{◌≡◌, ℕ, ◌<◌, List, inl, inr, length, Some, slice_get, subst, arith}
 use Rattle.std.specs.Prelude.{Contains}

@@ -24,7 +24,7 @@ use Rattle.brl_closure.specs.declared.search.trail.Trail.{Trail}
 pub all_at : {X : Type 0} (P : X → Type 0) (xs : List X) (k : ℕ) (x : X) → All P xs → slice_get xs k ≡ Some x → P x
 all_at P xs k x h at = subst P (get_or_from_slice_get xs k x x at) (h k x (slice_get_within xs k x at))
 
--- an element of the second list, behind the first
+-- an element of the second list, after the first
 pub behind : {X : Type 0} (P : X → Type 0) (xs ys : List X) (k : ℕ) (x : X) → All P ys → length xs ≤ k → slice_get (xs ++ ys) k ≡ Some x → P x
 behind P [] ys k x h low at = all_at P ys k x h at
 behind P (y ∷ xs) ys zero x h low at = absurd (omega arith)

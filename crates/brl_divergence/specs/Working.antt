@@ -49,7 +49,7 @@ pub record IsStep {M S P : Type 0} (behaviour : M → Behaviour S) (steps_of : M
   pub working : IsWorking behaviour steps_of f e' parts it settled'
   pub fewer : steps_left f.limit e' settled' < steps_left f.limit e settled
 
--- what this number of steps does: at least so many fewer are left
+-- what this number of steps does: at least this many fewer are left
 pub record AreSteps {M S P : Type 0} (behaviour : M → Behaviour S) (steps_of : M → P → List (Step S)) (steps : ℕ) (f : Finder M S) (e : Expanded) (settled : ℕ) (e' : Expanded) (parts : PartsView P) (it : Found S) (settled' : ℕ) : Type 0 where
   pub working : IsWorking behaviour steps_of f e' parts it settled'
   pub fewer : steps_left f.limit e' settled' + steps ≤ steps_left f.limit e settled

@@ -89,7 +89,7 @@ impl<'a, 'm, M: Machine> Explorer<'a, 'm, M> {
         Ok(())
     }
 
-    /// The rules of two edges of a state. The first edge stands before the second.
+    /// The rules of two edges of a state. The first edge comes before the second.
     fn rules_of(&self, state: usize, first: &SortedEdge, second: &SortedEdge) -> (u32, u32)
         requires expanded { (states : List M.State) × AreExpanded (M.behaviour self.now.finder.now.machine.now) states self.now.expanded.now }
         requires first { IsEdgeOf self.now.expanded.now state first.now }

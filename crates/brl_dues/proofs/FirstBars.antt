@@ -74,7 +74,7 @@ module _ (place : ℕ) (later : ℕ → ℕ) where
 
 -- ---- From the last due to the first
 
--- where the first due from this place on stands that passes a test
+-- the place of the first due from this place on that passes a test
 abbrev pub place_from : (Due → Bool) → List Due → ℕ → ℕ
 place_from test dues k = k + first_place test (drop k dues)
 

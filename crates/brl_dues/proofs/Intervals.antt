@@ -1,4 +1,4 @@
--- What a test keeps of a list where it stands together, between two places that are searched for.
+-- What a test keeps of a list where that is in one piece, between two places that are searched for.
 use Rattle.std.proofs.Common.{◌≡◌, ℕ, zero, suc, ◌+◌, ◌-◌, ◌≤◌, Bool, true, false, ◌&&◌, List, [], ◌∷◌, length, filter, take, drop, get_or, refl, sym, ap, ◌∙◌, cond, arith}
 use Rattle.std.proofs.lemmas.List.{get_or-drop, length-drop, take_rest}
 use Rattle.std.specs.List.{AllWithin, list_all}
@@ -31,7 +31,7 @@ module _ {X : Type 0} (p : X → Bool) where
   all-upto (x ∷ xs) zero h = sym (ap (λ b. b && list_all p xs) (h zero x (omega arith) (omega arith)) ∙ sym (all-upto xs zero (λ m d lo lt. h (suc m) d (omega arith) (omega (arith, lt)))))
   all-upto (x ∷ xs) (suc i) h = ap (λ b. p x && b) (all-upto xs i (λ m d lo lt. h (suc m) d (omega (arith, lo)) (omega (arith, lt))))
 
-  -- what comes before the first place passes the test `early`, and what comes behind the last one
+  -- what comes before the first place passes the test `early`, and what comes after the last one
   -- fails the test `within`
   module _ (early within : X → Bool) (before : (x : X) → early x ≡ true → p x ≡ false)
       (between : (x : X) → early x ≡ false → within x ≡ true → p x ≡ true) (behind : (x : X) → within x ≡ false → p x ≡ false) where

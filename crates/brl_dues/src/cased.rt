@@ -156,7 +156,7 @@ impl<'a> CasedTable<'a> {
         }
     }
 
-    /// The context after more characters, as far as it matters to a character behind them that
+    /// The context after more characters, as far as it matters to a character after them that
     /// isn't in `numericmodechars`: a capital there is in a run where the last of these is one.
     fn context_before(&self, here: Context, chars: &[char]) -> Context
         ensures { (c : ℕ) → is_mode self.now c ≡ false → context_after self.now result c ≡ context_after self.now (context_after_all self.now here chars.now) c }

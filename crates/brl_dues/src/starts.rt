@@ -50,8 +50,8 @@ fn first_char(due: &Due) -> Option<char>
     }
 }
 
-/// The bars of some dues that begin with a character, where the first of them stands at this place.
-/// They stand together.
+/// The bars of some dues that begin with a character, where the first of them is at this place.
+/// They are next to each other.
 pub fn bars_at(character: char, start: usize, dues: &[Due]) -> &[Due]
     requires dues { AreDues dues.now }
     requires start { start ≡ first_place (bars_from character) dues.now }

@@ -11,7 +11,7 @@ use brl_pairs::{
 };
 use std::alloc::{AllocError, Global};
 
-/// The machine of `letter a 1; letter b 1-12`. A state tells whether a letter stands before.
+/// The machine of `letter a 1; letter b 1-12`. A state knows whether a letter is before it.
 pub struct Letters;
 
 impl Machine for Letters {

@@ -104,7 +104,7 @@ opcode_line line =
     if bytes_eq (code_of line) (codes "B1") && nat_lt 0 (length (operand_of line)) then titled (codes "Opcode: ") (opcode_note (operand_of line))
     else []
 
--- ---- All that is said
+-- ---- The whole explanation
 
 -- what explains a line: the text for its fault, and what can be seen
 abbrev pub explanation : List ℕ → List ℕ → List ℕ

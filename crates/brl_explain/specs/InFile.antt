@@ -53,7 +53,7 @@ prefix_line fault word =
 abbrev pub unclear_line : LineView → List ℕ
 unclear_line line = titled (codes "Characters of the line:") (flat_map unclear_spelling (chars (words_of line)))
 
--- a line that has a fault: as it stands in its file, its prefix, and its unclear characters
+-- a line that has a fault: as it is in its file, its prefix, and its unclear characters
 abbrev pub faulty_line : List ℕ → LineView → List ℕ
 faulty_line fault line = codes "Line:\n" ++ source_line line ++ prefix_line fault line.opcode.text ++ unclear_line line
 

@@ -164,7 +164,7 @@ fn push_dots(alloc: Global, text: &mut String, dots: &str) -> Result<(), AllocEr
     push_titled(text, "Dots: ", whole_note(alloc, dots)?.as_str())
 }
 
-/// What is said of dots, which one comma may part.
+/// The note on dots, which one comma may part.
 fn whole_note(alloc: Global, dots: &str) -> Result<String, AllocError>
     ensures { IfOk result (λ note. string_bytes note ≡ note_on_whole dots.now) }
 {
@@ -174,7 +174,7 @@ fn whole_note(alloc: Global, dots: &str) -> Result<String, AllocError>
     }
 }
 
-/// What is said of dots before a comma or, where these are right, of those after it; where both are
+/// The note on dots before a comma or, where these are right, of those after it; where both are
 /// right, of the comma.
 fn sides_note(alloc: Global, upper: &str, lower: &str) -> Result<String, AllocError>
     ensures { IfOk result (λ note. string_bytes note ≡ note_on_sides upper.now lower.now) }
@@ -190,7 +190,7 @@ fn sides_note(alloc: Global, upper: &str, lower: &str) -> Result<String, AllocEr
     String::from_str(alloc, "a comma is read in uplow alone")
 }
 
-/// What is said of dots that spell no cells, or too many; nothing of others.
+/// The note on dots that spell no cells, or too many; empty for others.
 fn dots_note(alloc: Global, dots: &str) -> Result<String, AllocError>
     ensures { IfOk result (λ note. string_bytes note ≡ note_on_dots dots.now (reading 16 dots.now)) }
 {
@@ -215,7 +215,7 @@ fn odd_mark(dots: &str) -> Option<char>
     dots.chars().find(|mark| !matches!(*mark, '0'..='8' | '-'))
 }
 
-/// What is said of the first odd character of dots.
+/// The note on the first odd character of dots.
 fn mark_note(alloc: Global, mark: Option<char>) -> Result<String, AllocError>
     ensures { IfOk result (λ note. string_bytes note ≡ note_on_mark mark) }
 {

@@ -57,7 +57,7 @@ never_unread lines want h other path place e = other (ap (λ r. r.kind) (same (s
     same : {r s : Refusal} → ◌≡◌ {A = Result (List LineView) Refusal} (Err r) (Err s) → r ≡ s
     same e = cc
 
--- A load of files that can all be read comes to what the definition gives for all of them.
+-- A load of files that can all be read gives what the definition gives for all of them.
 module _ (folders : List (List ℕ)) (all : List ℕ → FileAnswer) (readable : (path : List ℕ) → Unreadable ≡ all path → ⊥) (root : List ℕ) where
   abbrev gives : FileAnswers
   gives = record { folders = folders; may = λ path answer. answer ≡ all path }

@@ -1,4 +1,4 @@
--- Worked tables: files with their bytes, and the lines that they come to.
+-- Worked tables: files with their bytes, and the lines that they define.
 use Rattle.std.specs.Prelude.{ℕ, List, [], ◌∷◌, codes, Some, Result, Ok, Err}
 use Rattle.brl_lines.specs.Answer.{Holds, Missing}
 use Rattle.brl_lines.specs.Lines.{Answers, Refusal, refusal}

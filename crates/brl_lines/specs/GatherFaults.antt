@@ -1,4 +1,4 @@
--- What gathering the files of a table comes to: its files, or why they can't be gathered. The
+-- What gathering the files of a table gives: its files, or why they can't be gathered. The
 -- project's own choice.
 use Rattle.std.specs.Prelude.{◌≡◌, ◌≢◌, IsTrue, ◌≤◌, ◌+◌, ◌*◌, ◌⊎◌, ℕ, List, length, map, Ok, Err, Some, string_bytes}
 use Rattle.brl_failure.specs.Failure.{IsChanged}

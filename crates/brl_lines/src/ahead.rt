@@ -81,8 +81,8 @@ fn include_count(known: &IndexMap<String, Known>, index: usize) -> usize {
     }
 }
 
-/// Reads what is at a path, unless it is known or too many are. Whether a file is faulty is told where
-/// the way comes to it.
+/// Reads what is at a path, unless it is known or too many are. A faulty file is reported where
+/// the way leads to it.
 fn read_path<S: Source>(
     alloc: Global,
     source: &mut S,

@@ -33,7 +33,7 @@ pub struct GatheredFile {
 
 /// The files of a table, in the order in which include lines first lead to them, the root first; their
 /// names in the same order; and the include lines that are left out, in the order in which they were
-/// come to.
+/// reached.
 #[derive(Debug, Drop)]
 pub struct Gathered {
     /// Each file with the path where it was found.

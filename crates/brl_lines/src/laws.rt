@@ -24,7 +24,7 @@ pub fn one_answer_law<S: Source>(source: &S)
         IsLoadFault (S.gives source.now) root failure → failure ≡ Failure.Memory }
 {}
 
-/// Files in memory have one answer for each path; and a load of a table over them comes to what the
+/// Files in memory have one answer for each path; and a load of a table over them gives what the
 /// definition gives for all of them, unless memory runs out.
 pub fn files_in_memory_law(source: &MapSource)
     ensures one { IsDeterministic (⟦<MapSource as Source>⟧.gives source.now) }

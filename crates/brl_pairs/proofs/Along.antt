@@ -50,7 +50,7 @@ module _ {X Y : Type 0} (R : X → Y → Type 0) where
   along-flat_map Q f g each (a ∷ us) [] h = absurd h
   along-flat_map Q f g each (a ∷ us) (b ∷ vs) h = along-append (f a) (flat_map f us) (g b) (flat_map g vs) (each a b h.0) (along-flat_map Q f g each us vs h.1)
 
-  -- those that pass a test, where related elements pass it alike
+  -- those that pass a test, where of related elements both pass it or neither
   pub along-filter : (p : X → Bool) (q : Y → Bool) → ((x : X) (y : Y) → R x y → q y ≡ p x) → (xs : List X) (ys : List Y) → AllZip R xs ys → AllZip R (filter p xs) (filter q ys)
   along-filter p q alike [] [] h = tt
   along-filter p q alike [] (y ∷ ys) h = absurd h

@@ -115,7 +115,7 @@ module _ (sorted others : List SortedEdge) (shared : List Bool) (x : SortedEdge)
 
 -- ---- The splits that are left
 
--- what is read tells whether the edge is shared
+-- by what is read it is known whether the edge is shared
 pub shared_at : (shared : List Bool) (k : ℕ) (b : Bool) → k < length shared → get_or shared k false ≡ b → slice_get shared k ≡ Some b
 shared_at shared k b within is = slice_get-get_or shared k false within ∙ ap (λ (t : Bool). Some t) is
 

@@ -32,7 +32,7 @@ abbrev pub IsTwoOf : ℕ → ℕ → TwoPlaces → Type 0
 IsTwoOf one other split = (split.first < split.second) × (((split.first ≡ one) × (split.second ≡ other)) ⊎ ((split.first ≡ other) × (split.second ≡ one)))
 
 -- two edges, at two positions of the order of cells, split, and one of them isn't shared. The first one
--- stands before the second in listed order.
+-- comes before the second in listed order.
 pub record IsUnsharedSplit (cells : List (List ℕ)) (sorted : List SortedEdge) (shared : List Bool) (split : TwoPlaces) : Type 0 where
   pub k : ℕ
   pub l : ℕ

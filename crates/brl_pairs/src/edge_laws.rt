@@ -18,7 +18,7 @@ pub fn edges_law<M: Machine>(machine: &M)
     let _ = machine.start();
 }
 
-/// What needn't be looked at: `advance` answers `Apart` exactly for cells that don't match the lead,
+/// What needn't be tested: `advance` answers `Apart` exactly for cells that don't match the lead,
 /// and the run behind makes no pair by an edge with such cells, so no pair of its is missing.
 pub fn unmatched_law()
     ensures apart { (lead cells : List ℕ) → IsAdvanced lead cells Apart ↔ (DoMatch lead cells → ⊥) }

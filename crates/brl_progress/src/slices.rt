@@ -5,7 +5,7 @@ ghost use Rattle.brl_progress.specs.Slices.{EndsWith, IfFinished, IfUnfinished};
 use crate::{Progress, Work};
 use std::alloc::AllocError;
 
-/// What work has come to after some steps.
+/// What work gives after some steps.
 #[derive(Drop)]
 pub enum Slice<S, T> {
     /// There is more to do.

@@ -55,7 +55,7 @@ abbrev pub is_wanted : Wanted → LineView → Bool
 is_wanted (At file number) = is_at file.now number
 is_wanted (Giving sign) = gives_sign sign
 
--- ---- A line as it stands in its file
+-- ---- A line as it is in its file
 
 -- the words of a line, with a blank between two
 abbrev pub words_of : LineView → List ℕ

@@ -11,11 +11,11 @@ use brl_lines::Line;
 use brl_table::{FaultyLine, Findings, OpcodeOrigin, origin_of};
 use std::alloc::{AllocError, Global};
 
-/// What is said where a line has a fault by itself.
+/// The note where a line has a fault by itself.
 const SECOND_PASS: &str =
     "undefined characters (B5 to B7) are looked for once no line has another fault\n";
 
-/// What is said where no line defines a character.
+/// The note where no line defines a character.
 const NO_CHARACTER: &str = "no line defines a character\n";
 
 /// The report of a survey of lines, of files with these paths, with what it found: the fault of

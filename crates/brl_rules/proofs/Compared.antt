@@ -55,7 +55,7 @@ folds-mark t (c ∷ rest) (suc k) d inside within = cases (is_cap t c) refl (fol
         ∙ ap (λ l. slice_get l (suc k)) (sym (folds-capital t c rest is))
     cases false is more = absurd (omega (arith, inside, ap length (folds-other t c rest is)))
 
--- what comes behind the first character
+-- what comes after the first character
 abbrev pub behind_first : TableView → Bool → List ℕ → List ℕ
 behind_first t run rest = cond run (folds_of_capitals t rest) rest
 

@@ -41,7 +41,7 @@ record MatchesItems (t : TableView) (run : Bool) (rest chars : List ℕ) : Type 
   capitals : run ≡ true → (k : ℕ) → 1 ≤ k → k < length chars → is_cap t (slice_index rest k) ≡ true
   folds : run ≡ true → (k : ℕ) → 1 ≤ k → k < length chars → fold_of t (slice_index rest k) ≡ slice_index chars k
 
--- a fact of the elements behind the first
+-- a fact of the elements after the first
 later : (P : ℕ → ℕ → Type 0) (c x : ℕ) (rest xs : List ℕ) → ((k : ℕ) → k < length xs → P (slice_index rest k) (slice_index xs k))
     → (k : ℕ) → 1 ≤ k → k < length (x ∷ xs) → P (slice_index (c ∷ rest) k) (slice_index (x ∷ xs) k)
 later P c x rest xs tail zero some within = absurd (omega (arith, some))

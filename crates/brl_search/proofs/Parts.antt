@@ -8,7 +8,7 @@ use Rattle.brl_rules.specs.TableView.{TableView}
 use Rattle.brl_rules.specs.Text.{is_defined, is_text}
 use Rattle.brl_search.specs.Small.{IsPartOf}
 
--- a character more in front of the given text
+-- a character more before the given text
 part-more : (text given : List ℕ) (d : ℕ) → IsPartOf text given → IsPartOf text (d ∷ given)
 part-more [] given d is = tt
 part-more (c ∷ text) given d is = inr is

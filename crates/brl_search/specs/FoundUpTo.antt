@@ -24,7 +24,7 @@ use Rattle.brl_closure.specs.declared.check.fault.AcceptFault.{AcceptFault}
 abbrev pub is_excused : Excused → RuleClash → Bool
 is_excused excused c = has_rules excused.accepted c.lesser c.greater || has_rules excused.exchanged c.lesser c.greater
 
--- States and pairs, at most so many of each, are closed but for what is excused. So any two texts that
+-- States and pairs, at most `limit` of each, are closed but for what is excused. So any two texts that
 -- use none of some characters and are translated to the same cells are the same step by step but for
 -- exchanges, to their ends or up to a place where they diverge at an accepted pair of rules.
 pub record IsCertifiedUpTo (left_out : List ℕ) (excused : Excused) (t : TableView) (limit : ℕ) (body : BodyView State) : Type 0 where
@@ -41,7 +41,7 @@ pub record IsNotExchangeable (left_out : List ℕ) (excused : Excused) (t : Tabl
   pub refused : IsRefusedUpTo (without left_out (machine_of t)) excused body fault
 
 -- Texts diverge at no pairs of rules but those that are excused, and the states and pairs show it, which
--- are at most so many of each. Where none may be exchanged, they are closed but for the accepted pairs.
+-- are at most `limit` of each. Where none may be exchanged, they are closed but for the accepted pairs.
 pub record AreAllExcused (left_out : List ℕ) (excused : Excused) (t : TableView) (limit : ℕ) (body : BodyView State) : Type 0 where
   pub no_other : ClashesDivergeAtWithout left_out (excused.accepted ++ excused.exchanged) t
   pub within : IsWithin limit body

@@ -22,7 +22,7 @@ abbrev pub size_of : Texts → ℕ
 size_of texts = length texts.left.items + length texts.right.items
 
 -- The texts without the characters at two places don't clash so. A place after the last character
--- stands for the whole text, and one of the two is to be in its text.
+-- means the whole text, and one of the two is to be in its text.
 abbrev pub IsNone : TableView → Option (ℕ × ℕ) → Texts → ℕ → ℕ → Type 0
 IsNone t rules texts i j =
     (i < length texts.left.items) ⊎ (j < length texts.right.items)

@@ -1,4 +1,4 @@
-//! Keys of cells: numbers by which lists of cells are told apart at once.
+//! Keys of cells: numbers by which two lists of cells are compared at once.
 ghost use Rattle.std.specs.Prelude.{◌≡◌, ◌≤◌, IfOk, IsTrue, length};
 ghost use Rattle.std.specs.List.{remove};
 ghost use Rattle.brl_rules.specs.Text.{is_text};

@@ -122,7 +122,7 @@ impl<'a> Wanted<'a> {
     }
 
     /// Two texts without the character at a place of the left one, and without none or one of the right
-    /// one, if they clash then. The place after the last character stands for the whole text.
+    /// one, if they clash then. The place after the last character means the whole text.
     fn without_one_at(
         &self,
         texts: &Texts,

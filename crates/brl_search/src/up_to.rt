@@ -36,8 +36,8 @@ pub enum FoundUpTo {
 
 /// Searches a table for a certificate or a clash of texts that use none of some characters, where some
 /// pairs of rules are accepted, and others may be exchanged. It lists the pairs of rules at which
-/// clashing texts diverge, as `clashes` does, and then checks what shows that there are no others. Who
-/// is told how far the work is hears of both.
+/// clashing texts diverge, as `clashes` does, and then checks what shows that there are no others. The
+/// observer of its progress hears of both.
 ///
 /// The clash is that of the least pair of rules that isn't excused. `Limit` as soon as the states
 /// found, the pairs found or the pairs of rules listed are more than `limit`, where each that is

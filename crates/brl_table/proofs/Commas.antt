@@ -7,7 +7,7 @@ use Rattle.std.specs.List.{list_any, position_or_len}
 use Rattle.std.proofs.lemmas.Str.Pattern.{IsSplitOnceResult, split_once_first}
 use Rattle.brl_table.specs.Items.{is_comma, parts_of}
 
--- a search that comes to the end of the list finds nothing
+-- a search that reaches the end of the list finds nothing
 pub none_there : (p : ℕ → Bool) (xs : List ℕ) → position_or_len p xs ≡ length xs → list_any p xs ≡ false
 none_there p [] h = refl
 none_there p (x ∷ xs) h = cases (p x) h (none_there p xs)

@@ -91,7 +91,7 @@ some_pair Unambiguous e = absurd cc
 some_pair Clashing e = refl
 some_pair Unfinished e = absurd cc
 
--- what comes to a verdict is whole
+-- what has a verdict is whole
 is_decided : (is_whole none : Bool) → ((if is_whole then (if none then Unambiguous else Clashing) else Unfinished) ≡ Unfinished → ⊥) → is_whole ≡ true
 is_decided true none decided = refl
 is_decided false none decided = absurd (decided refl)

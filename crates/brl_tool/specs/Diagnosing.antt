@@ -21,7 +21,7 @@ use Rattle.brl_table.specs.Reading.{PassesAll, table_of}
 use Rattle.brl_tool.specs.Baselines.{AreAccepted, AreFilesWith, IsApart, IsBadLine, IsBaseline, IsFaultOfText, IsOverwritingRead, accepted_number, read_paths, text_of_pairs}
 use Rattle.brl_without.specs.Tables.{AreDefined, IsUndefined}
 
--- the status of what sections come to
+-- the status for an outcome of sections
 abbrev pub status_of_outcome : Outcome → Status
 status_of_outcome Unambiguous = Done
 status_of_outcome Clashing = Refuted

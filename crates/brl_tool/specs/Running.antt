@@ -1,4 +1,4 @@
--- What a run of the program comes to. The project's own choice. `same` says which paths may name one
+-- What a run of the program does. The project's own choice. `same` says which paths may name one
 -- file, `input` what is left of the input where that is known.
 use Rattle.std.specs.Prelude.{ℕ, ◌≡◌, ◌≢◌, ◌<◌, ◌==◌, ◌⊎◌, ◌↔◌, All, Bool, if◌then◌else◌, IsTrue, length, List, [], ◌++◌, false, map, Option, None, Some, Result, Ok, Err, String, codes, string_bytes}
 use Rattle.std.specs.Global.{Global, Vec}
@@ -262,7 +262,7 @@ pub record Asks (asked : Question) (same : MayBeSame) (before after : World) (st
   pub done : status ≡ Done → MeansDone asked before after
   pub refuted : status ≡ Refuted → MeansRefuted asked before after × KeepsFilesRefuted asked before after
 
--- ---- What each task comes to
+-- ---- What each task gives
 
 -- the status after the translation of a stream
 abbrev pub stream_status : Result (Unit {0}) RunFault → Status

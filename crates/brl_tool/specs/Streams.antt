@@ -1,4 +1,4 @@
--- What the translation of a stream comes to. The project's own choice.
+-- What the translation of a stream gives. The project's own choice.
 use Rattle.std.specs.Fmt.{decimal, digits, format_spec, padded_integral}
 use Rattle.std.specs.Prelude.{ℕ, ◌≡◌, ◌⊎◌, ◌-◌, ◌^◌, ◌++◌, ◌∷◌, [], false, true, codes, flat_map, List, Option, Some, Result, Ok, Err, String, string_bytes}
 use Rattle.std.specs.Global.{Global}

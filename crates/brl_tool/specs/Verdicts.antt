@@ -103,13 +103,13 @@ Renders left_out (Ok accepted) outcome = UnlessMemory (IsAcceptance left_out acc
 Renders left_out (Err failure) outcome = RendersFailure failure outcome
 
 -- Over files that each have one answer: where they define a table, and the certificate's file has
--- bytes that deserve acceptance for it, they are accepted, unless memory runs out.
+-- bytes that are acceptable for it, they are accepted, unless memory runs out.
 abbrev pub AcceptsGood : List ℕ → FileAnswers → List ℕ → List ℕ → Result Answer RunFault → Type 0
 AcceptsGood left_out gives path cert outcome =
     IsDeterministic gives → (bytes : List ℕ) → gives.may cert (Holds bytes) → length bytes ≤ most_file_bytes
     → (t : TableView) → IsTableOf gives path t → (accepted : Accepted) → IsAcceptedWithout left_out t bytes accepted → UnlessMemory (IsAcceptance left_out accepted) outcome
 
--- the certificate was judged, and accepted where it deserves that
+-- the certificate was judged, and accepted where it is acceptable
 pub record Judges (left_out : List ℕ) (gives : FileAnswers) (path cert : List ℕ) (outcome : Result Answer RunFault) : Type 0 where
   pub checks : Checks left_out gives path cert outcome
   pub accepts : AcceptsGood left_out gives path cert outcome

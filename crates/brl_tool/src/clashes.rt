@@ -42,7 +42,7 @@ struct Wanted<'a> {
 /// Lists the pairs of rules of the table whose file is at a path at which clashing texts diverge,
 /// without the characters that the option leaves out. What it spells is read first. The pairs that the
 /// file at `pairs.accept` names are left out, and those that are left go to the file at `pairs.write`,
-/// unless there may be others. Standard error is told how far the work is.
+/// unless there may be others. Standard error gets reports of progress.
 pub fn list_clashes_by_words<F: Files, E: Write + Progress>(
     alloc: Global,
     files: &mut F,
@@ -187,7 +187,7 @@ fn answer_beside(
     })
 }
 
-/// The status of what a list comes to.
+/// The status for the outcome of a list.
 fn status_of(outcome: Outcome) -> Status
     ensures { result ≡ status_of_outcome outcome }
 {

@@ -33,7 +33,7 @@ use std::io::Write;
 /// by a survey, the steps of a text, the rules of a table or those of them that no text uses, what a fault means, or help or the version where these are asked for. Standard error
 /// gets the notices of a table that is searched, the characters that are listed as lacking, one line for a fault (a survey has one for each table
 /// that can't be loaded, and goes on), or the text of a use fault; what can't be written there is dropped
-/// and changes no status. It is also told how far a search or a check is, and when that has ended, before
+/// and changes no status. It also gets reports of how far a search or a check is, and of its end, before
 /// its answer is delivered. Faults come in the order of the work: the words, and what they spell, the
 /// certificate's file, the table's files, a file for a new certificate or for pairs of rules that is one
 /// that is read, the table's lines, a character that is left out and isn't defined, the file of accepted
@@ -149,7 +149,7 @@ fn ask<F: Files, O: Output, E: Write + Progress>(
     deliver(alloc, outcome, files, out, err)
 }
 
-/// The answer to a question. Standard error is told when a check or a search has ended.
+/// The answer to a question. Standard error hears of the end of a check or a search.
 fn answer<F: Files, E: Write + Progress>(
     alloc: Global,
     question: Question<'_>,

@@ -26,7 +26,7 @@ use std::alloc::{AllocError, Global};
 use std::io::Write;
 
 /// Searches the table whose file is at a path, without the characters that the option leaves out. What
-/// it spells is read first. Standard error is told how far the search is.
+/// it spells is read first. Standard error gets reports of progress.
 pub fn search_by_words<F: Files, E: Write + Progress>(
     alloc: Global,
     files: &mut F,
@@ -48,7 +48,7 @@ pub fn search_by_words<F: Files, E: Write + Progress>(
 /// Searches the table whose file is at a path, without the characters that are left out, until more
 /// than `limit` states or pairs are found. The answer is a certificate for the file at `out`, with its
 /// numbers; or the report of a clash; or the numbers at which the limit was passed. Before the search
-/// standard error gets the table's notices, and it is told how far the search is. `WouldOverwrite` where `out` names one of the table's
+/// standard error gets the table's notices, and then reports of progress. `WouldOverwrite` where `out` names one of the table's
 /// files; `NotDefined` where the table doesn't define a character that is left out.
 pub fn search_by_file<F: Files, E: Write + Progress>(
     alloc: Global,

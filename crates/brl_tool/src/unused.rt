@@ -18,7 +18,7 @@ use std::alloc::{AllocError, Global};
 use std::io::Write;
 
 /// Lists the rules of the table whose file is at a path that no text uses. Before the work standard
-/// error gets the table's notices, and then it is told how far the work is.
+/// error gets the table's notices, and then reports of its progress.
 pub fn list_unused_by_file<S: Source, E: Write + Progress>(
     alloc: Global,
     source: &mut S,

@@ -259,7 +259,7 @@ module _ (marks : List Bool) (mark : Bool) (places : List ℕ) (next : ℕ) (are
 pub ascending-none : AreAscending []
 ascending-none i j a b less a_at b_at = absurd (let within = slice_get_within [] i a a_at in omega (arith, within))
 
--- all places were looked at
+-- all places were read
 pub places-all : (marks : List Bool) (mark : Bool) (places : List ℕ) (next : ℕ) → length marks ≤ next → ((place : ℕ) → Contains places place ↔ ((place < next) × (slice_get marks place ≡ Some mark)))
     → (place : ℕ) → Contains places place ↔ (slice_get marks place ≡ Some mark)
 places-all marks mark places next all are place = (λ h. ((are place).0 h).1, λ h. (are place).1 (let within = slice_get_within marks place mark h in (omega (arith, all, within), h)))

@@ -43,7 +43,7 @@ defined-in (e ∷ es) c h = cases (nat_eq c e.0) refl h (defined-in es c)
     cases true q k more = inl (eqb-true c e.0 q)
     cases false q k more = inr (more k)
 
--- the window that comes to be known where this text follows
+-- the window that is known where this text follows
 abbrev pub window_of : ℕ → List ℕ → List ℕ → Window
 window_of zero known later = record { known = known; ended = false }
 window_of (suc n) known [] = record { known = known; ended = true }
@@ -95,7 +95,7 @@ pub record Sees (t : TableView) (s : WindowState) (rest : List ℕ) (w : Window)
   pub all : w.ended ≡ true → left ≡ []
   pub enough : w.ended ≡ false → longest t.rules < length w.known
 
--- the window that a state with this text left comes to know
+-- the window that a state with this text left knows then
 sees-cases : (t : TableView) (b : Bool) (s : WindowState) (rest : List ℕ) → s.ended ≡ b → Knows s rest → AllByRecursion (λ c. IsIn c (keys_of t.characters)) rest
     → (w : Window) × Sees t s rest w
 sees-cases t true s rest e k h =

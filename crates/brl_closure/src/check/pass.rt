@@ -113,7 +113,7 @@ fn keep_passed(
 }
 
 /// What is missing, by one pass over the states that holds the edges of one state at a time. A
-/// watcher is told of each state. The fault is the first step that leads to no state of the body.
+/// watcher hears of each state. The fault is the first step that leads to no state of the body.
 /// Parts, cells and kinds are found by hashes of this seed.
 pub fn find_missing<M: Parted, W: Progress>(
     alloc: Global,

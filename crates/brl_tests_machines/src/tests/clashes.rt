@@ -35,7 +35,7 @@ uplow Aa 1; letter b 2; always ab 12|A|99|complete
 uplow Aa 1; uplow Bb 12; capsletter 6; begcapsword 6||99|complete; 0+0 AA Aa; 0+1 AAA AAa; 2+2 BA Ba; 2+3 AAB AAb
 ";
 
-/// Appends a pair of rules and its texts. It is told where these don't clash.
+/// Appends a pair of rules and its texts. It adds a note where these don't clash.
 fn push_pair(alloc: Global, table: &Table, it: &RuleClash, text: &mut String) -> Result<(), Fail> {
     let start = format!(in alloc; "; {}+{} ", it.lesser, it.greater)?;
     text.push_str(start.as_str())?;

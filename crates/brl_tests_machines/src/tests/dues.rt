@@ -38,7 +38,7 @@ const STEPS_OF_CAPITALS: &str = "\
 4|b|12|24 0 0
 ";
 
-/// Word capitals: a capital is the first of a run, or stands alone.
+/// Word capitals: a capital is the first of a run, or is alone.
 const WORD_CAPITALS: &str =
     "uplow Aa 1; uplow Bb 12; capsletter 6; begcapsword 6-6; endcapsword 6-3; always ab 14";
 
@@ -55,7 +55,7 @@ const STEPS_OF_WORD_CAPITALS: &str = "\
 4|b|12|24 0 0
 ";
 
-/// A rule of two capitals: one of them that stands alone isn't the first of two, so its step owes
+/// A rule of two capitals: one of them that is alone isn't the first of two, so its step owes
 /// the rule no bar.
 const TWO_CAPITALS: &str = "uppercase A 2; always AA 3; begcapsword 12";
 

@@ -45,7 +45,7 @@ letter a 1|BRLCERT 1;state 1 0 0 -;state 8 0 0 61;state 8 0 1 -;pair 1 2 -;end 3
 letter a 1|BRLCERT 1;state 1 0 0 -;state 8 0 0 61;state 8 0 1 -;pair 1 2 -;end 3 1;|e0-0|K9 OldVersion line 1
 ";
 
-/// The pair of rules of a word behind its first letter.
+/// The pair of rules of a word after its first letter.
 fn pair_of(word: &str) -> Result<(u32, u32), Fail> {
     match word[1..].split_once('-') {
         Some((one, other)) => Ok((

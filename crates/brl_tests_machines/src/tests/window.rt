@@ -12,7 +12,7 @@ use std::test::Fail;
 /// The table of one letter.
 pub const ONE_LETTER: &str = "letter a 1";
 
-/// Whether a state stands after a letter outside of numeric mode, and knows these characters.
+/// Whether a state is after a letter outside of numeric mode, and knows these characters.
 fn is_after_letter(state: &WindowState, ended: bool, coming: &[char]) -> bool {
     state.before == Class::LETTER
         && !state.numeric

@@ -5,7 +5,7 @@ use brl_testing::for_rows_of_2;
 use std::alloc::Global;
 use std::test::Fail;
 
-/// The line of a fault, and what is said of its dots; nothing where nothing is.
+/// The line of a fault, and the note on its dots; nothing where there is none.
 const DOTS: &str = "\
 B4 BadDots 1,9 at t.ctb:1|9 is a virtual dot, which isn't read
 B4 BadDots 9,1 at t.ctb:1|9 is a virtual dot, which isn't read
@@ -21,7 +21,7 @@ B4|
 B2 MissingOperand 1,9 at t.ctb:1|
 ";
 
-/// What is said of the dots of a line.
+/// The note on the dots of a line.
 fn said_of_dots(alloc: Global, line: &str) -> Result<String, Fail> {
     let text = explain(alloc, line)?.ok_or("no fault has this line")?;
     for row in text.as_str().lines() {

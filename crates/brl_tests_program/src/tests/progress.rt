@@ -61,7 +61,7 @@ impl Clock for HandClock {
 }
 
 /// What happens to a terminal, and what is written to it then. `say` writes a word, `end` ends the
-/// work; else a search is told of at this time, with so many states and ten times as many pairs.
+/// work; else a search is reported at this time, with this number of states and ten times as many pairs.
 const SHOWN: &str = "\
 0 1,1999 2|
 0 1,2000 2|\r\x1b[Ksearching: 2 states, 20 pairs, 2 s
@@ -76,7 +76,7 @@ const SHOWN: &str = "\
 broken 1,3000 2,5000 3|\r\x1b[Ksearching: 3 states, 30 pairs, 2 s
 ";
 
-/// Tells a console of a search.
+/// Reports a search to a console.
 fn tell<E: Write>(
     clock: &HandClock,
     console: &mut Console<'_, HandClock, E>,
@@ -130,7 +130,7 @@ fn a_terminal_shows_how_far_long_work_is(rt: HostRuntime) -> Result<(), Fail> {
     for_rows_of_2(rt.alloc(), SHOWN, shown)
 }
 
-/// Whether another stream gets what is said and nothing else.
+/// Whether another stream gets what is written and nothing else.
 fn is_plain(alloc: Global) -> Result<bool, Fail> {
     let written = shown_by(alloc, "0 1,3000 2,say,5000 3,end", false)?;
     Ok(written.as_slice() == b"said".as_slice())

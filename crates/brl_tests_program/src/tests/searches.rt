@@ -21,7 +21,7 @@ fn table_of(alloc: Global, lines: &str) -> Result<MapSource, Fail> {
     files_of(alloc, files.as_str())
 }
 
-/// Whether what a search wrote is accepted: the check tells the numbers that the search told.
+/// Whether what a search wrote is accepted: the check has the numbers of the search.
 fn is_accepted(alloc: Global, files: &mut MapSource, told: &[u8]) -> Result<bool, Fail> {
     let Some(numbers) = told.strip_prefix(b"certified") else {
         return Ok(false);

@@ -269,7 +269,7 @@ fn a_read_that_fails_once(rt: HostRuntime) -> Result<(), Fail> {
     check_rows(rt.alloc(), FAILING, is_failing)
 }
 
-/// How often a byte stands in the file `u`, which the table includes, and what comes of the table.
+/// How often a byte is in the file `u`, which the table includes, and what comes of the table.
 fn included_bytes(alloc: Global, byte: u8, count: usize) -> Result<String, Fail> {
     let mut files = no_files(alloc);
     add(alloc, &mut files, "t", "include u")?;

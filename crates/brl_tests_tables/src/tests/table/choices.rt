@@ -108,7 +108,7 @@ fn classes_of(table: &Table, character: Option<&char>) -> Class {
     }
 }
 
-/// Whether the characters of a rule are in front of a rest whose first character has this fold.
+/// Whether the characters of a rule may come before a rest whose first character has this fold.
 fn begins_with(rest: &[char], fold: char, rule: &Rule) -> bool {
     let Some((first, others)) = rule.chars.as_slice().split_first() else {
         return false;
@@ -138,7 +138,7 @@ fn is_capital_of(table: &Table, character: Option<&char>, fold: char) -> bool {
     info.classes.intersects(Class::UPPERCASE) && info.fold == fold
 }
 
-/// Whether capitals with these folds are in front of a rest.
+/// Whether capitals with these folds begin a rest.
 fn begins_with_capitals(table: &Table, rest: &[char], folds: &[char]) -> bool {
     for (place, fold) in folds.iter().enumerate() {
         if !is_capital_of(table, rest.get(place), *fold) {
@@ -154,7 +154,7 @@ fn may_stand(table: &Table, before: Class, rest: &[char], rule: &Rule) -> bool {
     holds(rule.place.before(), before) && holds(rule.place.after(before), after)
 }
 
-/// The number of the rule that is taken, found by a look at each rule in rank.
+/// The number of the rule that is taken, found by a test of each rule in rank.
 fn plainly_chosen(table: &Table, before: Class, rest: &[char]) -> Option<u32> {
     let info = table.info(*rest.first()?)?;
     for (place, rule) in table.rules_in_rank().iter().enumerate() {

@@ -31,7 +31,7 @@ is_mark c =
     c.mark_of.ensures ∙ ap (mark_of c.args.self.now c.args.run) c.character-item.is
     ∙ behind-mark c.args.self.now c.args.run c.in_ok-others.others.now c.loop-character.character-index c.character-item.result c.loop-character.invariant.inside c.loop-character-test.true
 
--- it is there, where there is one, and the rules that end behind it are those that go on so
+-- it is there, where there is one, and the rules that end after it are those that go on so
 is_there : (c : In-Some) → let xs = behind_first c.args.self.now c.args.run c.in_ok-others.others.now in let k = c.loop-character.character-index in
     c.mark_of.result ≡ slice_get xs k
     → (k < length xs) × ((at : List ℕ) → ends_at c.loop-character.node.now (c.in-Some.mark ∷ at) ≡ ends_of c.args.self.now.rules (c.args.fold ∷ (take k xs ++ get_or xs k 0 ∷ at)))

@@ -9,7 +9,7 @@ on_err : {T E P : Type 0} (r : Result T E) → P → OnErr r P
 on_err (Ok x) p = tt
 on_err (Err e) p = p
 
--- what was read stands in the buffer, after the bytes before
+-- what was read is in the buffer, after the bytes before
 is_read : (g : Over) (c : After-min-within g) → IsRead c.self.inside.buffer.len c.self.inside.start c.self.inside.end c.in_ok-count.count c.min-within.result c.args.self.now.bytes c.self.inside.buffer.items c.read_after.new.buffer
 is_read g c =
     let inside = c.self.inside in
