@@ -1,5 +1,6 @@
 #!/usr/bin/env python3
-"""Checks the documents: all *.md of the repository, outside of what a script writes into them.
+"""Checks the documents: all *.md of the repository, outside of what a script writes into them; and the comments of the
+sources, where no document is named.
 
   tests/prose.py [DOCUMENT..]
 
@@ -7,6 +8,8 @@
 - A link leads to a file, and to a heading of it; a path of the repository, or the name of a document, is there.
 - What is written `crate::item` is an item that the crate exports, and `crate::Type::item` one of such a type.
 - The words that the house doesn't use aren't used, outside of code.
+
+Comments are held to the columns and the words.
 
 A line is printed for each fault, with the document and the line, and 'ok: ..' for each check that finds none. The exit
 status is 1 where there is a fault.
@@ -58,8 +61,12 @@ WORDS = {
 
 # Where one is used all the same, with why.
 ALLOWED = [
-    (r"(?:runs?|states?|stays?|as) behind", "the run of a pair that has given fewer cells"),
+    (r"(?:runs?|states?|stays?|stayed|still|as) behind", "the run of a pair that has given fewer cells"),
+    (r"steps?(?: that)? (?:are|is) alike|alike steps?", "steps that are the same, or of rules that may be exchanged"),
 ]
+
+# How a comment begins, by the ending of its file.
+MARKS = {".rt": r"\s*//[/!]?", ".antt": r"\s*--"}
 
 
 @dataclass(frozen=True)
@@ -87,6 +94,14 @@ class Document:
             elif fence and line.strip() == fence:
                 fence = ""
         return Document(path, lines, frozenset(own), frozenset(code))
+
+    @staticmethod
+    def comments_of(path: Path) -> "Document":
+        """A source, of which the comments count. What begins a comment is blank."""
+        mark = re.compile(MARKS[path.suffix])
+        lines = path.read_text().splitlines()
+        own = frozenset(number for number, line in enumerate(lines) if mark.match(line))
+        return Document(path, tuple(mark.sub(lambda it: " " * len(it[0]), line, count=1) for line in lines), own, frozenset())
 
     def name(self) -> str:
         return str(self.path.relative_to(TOP))
@@ -216,6 +231,11 @@ CHECKS: dict[str, Callable[[Document], Faults]] = {
     "no word is used that the house doesn't use": other_words,
 }
 
+OF_COMMENTS: dict[str, Callable[[Document], Faults]] = {
+    f"no comment has more than {MOST_COLUMNS} columns": long_lines,
+    "no comment has a word that the house doesn't use": other_words,
+}
+
 
 def documents() -> list[Path]:
     """The documents of the repository: those that git knows, or all where there is no git."""
@@ -225,21 +245,34 @@ def documents() -> list[Path]:
     return sorted(it for it in TOP.rglob("*.md") if "out" not in it.relative_to(TOP).parts)
 
 
+def sources_with_comments() -> list[Path]:
+    """The sources, definitions and proofs of all crates."""
+    found = (it for room in ("src", "specs", "proofs") for it in TOP.glob(f"crates/*/{room}/**/*"))
+    return sorted(it for it in found if it.suffix in MARKS)
+
+
+def run_checks(checks: dict[str, Callable[[Document], Faults]], read: list[Document], kind: str) -> int:
+    """Prints what these checks find in some documents, or that they find nothing. How many faults there are."""
+    failed = 0
+    for name, check in checks.items():
+        found = [f"{it.name()}:{number + 1}: {what}" for it in read for number, what in check(it)]
+        print(*found, sep="\n", end="\n" if found else "")
+        if not found:
+            print(f"ok: {name} ({len(read)} {kind})")
+        failed += len(found)
+    if failed:
+        print(f"FAILED: {failed} faults in {len(read)} {kind}")
+    return failed
+
+
 def main(words: list[str]) -> int:
     if any(it.startswith("-") for it in words):
         print(__doc__, file=sys.stderr)
         return 2
     read = [Document.read(Path(it).resolve()) for it in words] or [Document.read(it) for it in documents()]
-    failed = 0
-    for name, check in CHECKS.items():
-        found = [f"{it.name()}:{number + 1}: {what}" for it in read for number, what in check(it)]
-        print(*found, sep="\n", end="\n" if found else "")
-        if not found:
-            print(f"ok: {name} ({len(read)} documents)")
-        failed += len(found)
-    if failed:
-        print(f"FAILED: {failed} faults in {len(read)} documents")
-    return 1 if failed or not read else 0
+    commented = [] if words else [Document.comments_of(it) for it in sources_with_comments()]
+    failed = run_checks(CHECKS, read, "documents") + (run_checks(OF_COMMENTS, commented, "sources") if not words else 0)
+    return 1 if failed or not read or not words and not commented else 0
 
 
 if __name__ == "__main__":

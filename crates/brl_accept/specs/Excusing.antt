@@ -1,5 +1,5 @@
--- When a certificate is accepted where some splits are excused, and what it shows then. The project's
--- own choice.
+-- When a certificate is accepted where some splits are excused, and what it shows then. The
+-- project's own choice.
 use Rattle.std.specs.Prelude.{◌≡◌, ℕ, List, []}
 use Rattle.brl_accept.specs.Judging.{IsAcceptedFor, IsFirstFault, Terms}
 use Rattle.brl_accept.specs.Kinds.{HasVersion, OfMachine}
@@ -19,14 +19,14 @@ use Rattle.brl_without.specs.Without.{without}
 abbrev pub IsNothing : Excused → Type 0
 IsNothing excused = (excused.accepted ≡ []) × (excused.exchanged ≡ [])
 
--- Any two texts over the table's other characters that it translates to the same cells have traces that
--- are the same but for exchanges, to their ends or up to a place where they go on with two steps of an
--- accepted pair of rules. Where nothing is excused they are equal.
+-- Any two texts over the table's other characters that it translates to the same cells have traces
+-- that are the same but for exchanges, to their ends or up to a place where they go on with two
+-- steps of an accepted pair of rules. Where nothing is excused they are equal.
 abbrev pub IsShown : List ℕ → Excused → TableView → Type 0
 IsShown left_out excused t = TextsAgreeBut left_out excused.exchanged excused.accepted t × (IsNothing excused → IsUnambiguousWithout left_out t)
 
--- something is excused only of certificates that list states of the machine with dues, whose paths are
--- traces
+-- something is excused only of certificates that list states of the machine with dues, whose paths
+-- are traces
 abbrev pub MayExcuse : Excused → Certificate → Type 0
 MayExcuse excused (Window body) = IsNothing excused
 MayExcuse excused (Dues body) = Unit {0}

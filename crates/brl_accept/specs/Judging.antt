@@ -25,8 +25,8 @@ use Rattle.brl_without.specs.Without.{without}
 abbrev pub counted : Certificate → Accepted
 counted cert = record { states = state_count cert; pairs = pair_count cert }
 
--- What is asked of a certificate: the characters that the texts don't use, none where all texts of a
--- table are meant; for which tables its version is; and when it is closed for one, or refused.
+-- What is asked of a certificate: the characters that the texts don't use, none where all texts of
+-- a table are meant; for which tables its version is; and when it is closed for one, or refused.
 pub record Terms : Type 1 where
   pub left_out : List ℕ
   pub IsFor : TableView → Certificate → Type 0
@@ -34,19 +34,21 @@ pub record Terms : Type 1 where
   pub IsRefused : AcceptFault → TableView → Certificate → Type 0
 
 module _ (terms : Terms) where
-  -- the table has the machine of its version, the states and pairs are closed, and have these numbers
+  -- the table has the machine of its version, the states and pairs are closed, and have these
+  -- numbers
   abbrev pub IsProved : TableView → Certificate → Accepted → Type 0
   IsProved t cert accepted = HasMachine t cert × terms.IsClosed t cert × (accepted ≡ counted cert)
 
-  -- its version isn't for the table, or else the table is too wide for its machine, or it isn't closed
+  -- its version isn't for the table, or else the table is too wide for its machine, or it isn't
+  -- closed
   abbrev pub IsRefusedAs : TableView → Certificate → JudgeFault → Type 0
   IsRefusedAs t cert OldVersion = terms.IsFor t cert → ⊥
   IsRefusedAs t cert (Wide fault) = terms.IsFor t cert × (HasMachine t cert → ⊥)
   IsRefusedAs t cert (Refused fault) = terms.IsFor t cert × HasMachine t cert × terms.IsRefused fault t cert
   IsRefusedAs t cert fault = ⊥
 
-  -- the table defines what is left out, and the bytes spell a certificate of a version for the table
-  -- that proves it, with these numbers of states and pairs
+  -- the table defines what is left out, and the bytes spell a certificate of a version for the
+  -- table that proves it, with these numbers of states and pairs
   abbrev pub IsAcceptedFor : TableView → List ℕ → Accepted → Type 0
   IsAcceptedFor t bytes accepted =
       AreDefined t terms.left_out × ((cert : Certificate) × (reading bytes ≡ Ok cert) × terms.IsFor t cert × IsProved t cert accepted)

@@ -18,8 +18,8 @@ pub enum JudgeFault {
     /// The bytes spell no certificate.
     #[error("{0}")]
     Cert(CertFault),
-    /// The certificate is of version 1 or 2, which say nothing of runs of capitals, and the table has
-    /// word capitals; or it is of version 1, and something is excused.
+    /// The certificate is of version 1 or 2, which say nothing of runs of capitals, and the table
+    /// has word capitals; or it is of version 1, and something is excused.
     #[error("K9 OldVersion line 1")]
     OldVersion,
     /// The certificate lists states of a window machine, and the table is too wide for one.

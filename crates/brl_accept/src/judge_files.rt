@@ -93,7 +93,8 @@ fn has_version(table: &Table, excused: &Excused, cert: &Cert) -> bool
     }
 }
 
-/// Judges a certificate that was read, for a table without some characters, but for what is excused.
+/// Judges a certificate that was read, for a table without some characters, but for what is
+/// excused.
 fn judge_read<W: Progress>(
     alloc: Global,
     table: &Table,
@@ -196,13 +197,14 @@ pub fn judge<S: Source>(
 
 /// Judges a certificate for the table that the file at the path `root` defines, for the texts that
 /// use none of some characters. An acceptance gives the numbers of states and pairs that the
-/// certificate lists. Then any two texts over the table's other characters that the table translates
-/// to the same cells are equal, whatever their length. Progress is reported state by state.
+/// certificate lists. Then any two texts over the table's other characters that the table
+/// translates to the same cells are equal, whatever their length. Progress is reported state by
+/// state.
 ///
-/// Otherwise the fault is that of the first stage that refuses: those of `judge`, and after `NoTable`
-/// `NotDefined` where the table doesn't define a character that is left out. `Refused` where the
-/// certificate's states and pairs aren't closed for the machine of its version without these
-/// characters.
+/// Otherwise the fault is that of the first stage that refuses: those of `judge`, and after
+/// `NoTable` `NotDefined` where the table doesn't define a character that is left out. `Refused`
+/// where the certificate's states and pairs aren't closed for the machine of its version without
+/// these characters.
 pub fn judge_with<S: Source, W: Progress>(
     alloc: Global,
     source: &mut S,
@@ -210,9 +212,9 @@ pub fn judge_with<S: Source, W: Progress>(
     cert: &[u8],
     scope: Scope<'_, W>,
 ) -> Result<Accepted, Failure<JudgeFault>>
-    // The files define a table, as the source gave them. Any two texts over its other characters that
-    // it translates to the same cells are equal, whatever their length. The bytes spell a certificate
-    // that proves it, with these numbers of states and pairs.
+    // The files define a table, as the source gave them. Any two texts over its other characters
+    // that it translates to the same cells are equal, whatever their length. The bytes spell a
+    // certificate that proves it, with these numbers of states and pairs.
     ensures accepted { IfOk result (λ accepted. (t : TableView) × IsTableOf (S.gives source.old) root.now t
         × IsUnambiguousWithout scope.entry.left_out.now t × IsAcceptedWithout scope.entry.left_out.now t cert.now accepted) }
     // The fault is that of the first stage that refuses. Where the files define a table, the bytes
@@ -229,14 +231,14 @@ pub fn judge_with<S: Source, W: Progress>(
     judge_up_to(alloc, source, root, cert, &Excused::nothing(alloc), scope)
 }
 
-/// Judges a certificate as `judge_with` does, but for splits that are excused. An acceptance says that
-/// any two texts over the table's other characters that the table translates to the same cells are the
-/// same step by step but for exchanges, to their ends or up to a place where they go on with two steps
-/// of an accepted pair of rules. What is excused is part of this statement, and any pairs of numbers
-/// will do: one that no two rules have excuses nothing.
+/// Judges a certificate as `judge_with` does, but for splits that are excused. An acceptance says
+/// that any two texts over the table's other characters that the table translates to the same cells
+/// are the same step by step but for exchanges, to their ends or up to a place where they go on
+/// with two steps of an accepted pair of rules. What is excused is part of this statement, and any
+/// pairs of numbers will do: one that no two rules have excuses nothing.
 ///
-/// The faults are those of `judge_with`. `OldVersion` is also that of a certificate of version 1 where
-/// something is excused: its states are of a machine whose paths aren't known to be traces.
+/// The faults are those of `judge_with`. `OldVersion` is also that of a certificate of version 1
+/// where something is excused: its states are of a machine whose paths aren't known to be traces.
 pub fn judge_up_to<S: Source, W: Progress>(
     alloc: Global,
     source: &mut S,
@@ -245,9 +247,10 @@ pub fn judge_up_to<S: Source, W: Progress>(
     excused: &Excused,
     scope: Scope<'_, W>,
 ) -> Result<Accepted, Failure<JudgeFault>>
-    // The files define a table, as the source gave them. Any two texts over its other characters that
-    // it translates to the same cells, whatever their length, are the same but for what is excused. The
-    // bytes spell a certificate that proves it, with these numbers of states and pairs.
+    // The files define a table, as the source gave them. Any two texts over its other characters
+    // that it translates to the same cells, whatever their length, are the same but for what is
+    // excused. The bytes spell a certificate that proves it, with these numbers of states and
+    // pairs.
     ensures accepted { IfOk result (λ accepted. (t : TableView) × IsTableOf (S.gives source.old) root.now t
         × IsShown scope.entry.left_out.now excused.now t × IsAcceptedUpTo scope.entry.left_out.now excused.now t cert.now accepted) }
     // The fault is that of the first stage that refuses. Where the files define a table, the bytes

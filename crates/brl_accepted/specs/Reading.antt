@@ -20,7 +20,8 @@ use Rattle.brl_rules.specs.TableView.{TableView}
 abbrev pub is_note : List ℕ → Bool
 is_note line = option_map_or (λ mark. mark == 35) (find (λ mark. not (is_gap mark)) line) true
 
--- whether a line is what one rule says, the mark between two, and what another says, of what each says
+-- whether a line is what one rule says, the mark between two, and what another says, of what each
+-- says
 abbrev pub goes_on : List (List ℕ) → List ℕ → List ℕ → Bool
 goes_on words line one = list_any (λ other. bytes_eq line (one ++ (between ++ other))) words
 
@@ -36,12 +37,13 @@ is_parted words line place = goes_on words line (take place line) && list_any (b
 abbrev pub names_listed : List (List ℕ) → List (ℕ × ℕ) → List ℕ → Bool
 names_listed words listed line = list_any (names words line) listed
 
--- the fault of a line that begins as that of a set of characters, if it has one: it names none of these
+-- the fault of a line that begins as that of a set of characters, if it has one: it names none of
+-- these
 abbrev pub fault_of_set : List (List ℕ) → List ℕ → Option AcceptFaultKind
 fault_of_set sets line = if names_set sets line then None else Some NoSuchSet
 
--- The fault of another line that is no note, if it has one, where these pairs are listed and, of a whole
--- list, no others: it isn't what two rules say; or these are no pair that is listed.
+-- The fault of another line that is no note, if it has one, where these pairs are listed and, of a
+-- whole list, no others: it isn't what two rules say; or these are no pair that is listed.
 abbrev pub fault_of_pair : List (List ℕ) → List (ℕ × ℕ) → Bool → List ℕ → Option AcceptFaultKind
 fault_of_pair words listed whole line =
     if names_listed words listed line then None
@@ -75,8 +77,8 @@ pub record Accepts (t : TableView) (words sets : List (List ℕ)) (listed : List
   pub good : All (λ line. fault_of words sets listed whole line ≡ None) (lines text)
   pub named : pairs ≡ accepted t words listed text
 
--- a fault is that of the first line of a text that has one, at this place, from 0; it names the file,
--- the line and its number
+-- a fault is that of the first line of a text that has one, at this place, from 0; it names the
+-- file, the line and its number
 pub record IsFirstFault (words sets : List (List ℕ)) (listed : List (ℕ × ℕ)) (whole : Bool) (path text : List ℕ) (place : ℕ) (fault : AcceptFault) : Type 0 where
   pub there : slice_get (lines text) place ≡ Some (string_bytes fault.subject)
   pub kind : fault_of words sets listed whole (string_bytes fault.subject) ≡ Some fault.kind

@@ -28,7 +28,8 @@ abbrev pub or_none : Result (List ℕ) CharsFault → List ℕ
 or_none (Ok characters) = characters
 or_none (Err fault) = []
 
--- the characters that the line of a set names; none of another line, and where they are badly spelled
+-- the characters that the line of a set names; none of another line, and where they are badly
+-- spelled
 abbrev pub named_set : List ℕ → List ℕ
 named_set line = if is_exchange line then or_none (characters_of (drop (length exchange) line)) else []
 

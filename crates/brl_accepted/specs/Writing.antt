@@ -1,4 +1,5 @@
--- The text of a file that names listed pairs of rules and sets of characters. The project's own choice.
+-- The text of a file that names listed pairs of rules and sets of characters. The project's own
+-- choice.
 use Rattle.std.specs.Prelude.{ℕ, Bool, List, ◌++◌, codes, flat_map, not}
 use Rattle.std.specs.List.{filter, list_any}
 use Rattle.brl_accepted.specs.Pairs.{pairs_text}
@@ -30,8 +31,8 @@ whole_set_line set = set_line set ++ codes "\n"
 abbrev pub sets_text : List (List ℕ) → List ℕ
 sets_text sets = flat_map whole_set_line sets
 
--- the text of a file that names these listed pairs: a line for each set that has a listed pair, and one
--- for each other pair
+-- the text of a file that names these listed pairs: a line for each set that has a listed pair, and
+-- one for each other pair
 abbrev pub accepted_text : TableView → List (List ℕ) → List (List ℕ) → List (ℕ × ℕ) → List ℕ
 accepted_text t words sets listed =
     sets_text (listed_sets t sets listed) ++ pairs_text words (pairs_beside t (listed_sets t sets listed) listed)

@@ -39,7 +39,8 @@ impl fmt::Display for AcceptFaultKind {
 
 impl Error for AcceptFaultKind {}
 
-/// A fault of a line of a file of accepted pairs: its kind, the line as it is written, and its place.
+/// A fault of a line of a file of accepted pairs: its kind, the line as it is written, and its
+/// place.
 #[derive(Debug, Drop)]
 pub struct AcceptFault {
     pub kind: AcceptFaultKind,

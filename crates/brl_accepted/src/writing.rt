@@ -17,9 +17,9 @@ use brl_pairs::RulePairs;
 use brl_rules::Table;
 use std::alloc::{AllocError, Global};
 
-/// The text of a file that names these listed pairs of rules of a table. First comes a line for each
-/// set of characters that has a listed pair: one of the own definitions of two of its characters.
-/// Then comes a line for each other pair, by what the rules say.
+/// The text of a file that names these listed pairs of rules of a table. First comes a line for
+/// each set of characters that has a listed pair: one of the own definitions of two of its
+/// characters. Then comes a line for each other pair, by what the rules say.
 ///
 /// Every line ends with LF. `AllocError` if memory runs out.
 pub fn write_accepted(

@@ -64,7 +64,8 @@ BySpelled spelled is_bad answers outcome =
 
 -- ---- Texts
 
--- the text of a word: with escapes the characters that it spells as an operand of a table, else its own
+-- the text of a word: with escapes the characters that it spells as an operand of a table, else its
+-- own
 abbrev pub text_of : Bool → List ℕ → Result (List ℕ) CharsFault
 text_of escapes word = if escapes then characters_of word else Ok (chars word)
 
@@ -85,7 +86,8 @@ abbrev pub spelled_by : Option (List ℕ) → Result (List ℕ) CharsFault
 spelled_by None = Ok []
 spelled_by (Some word) = characters_of word
 
--- the fault is that the option spells no characters, and names it as it was written; or memory ran out
+-- the fault is that the option spells no characters, and names it as it was written; or memory ran
+-- out
 abbrev pub IsBadLeftOut : Option (List ℕ) → RunFault → Type 0
 IsBadLeftOut (Some word) (BadLeftOut named) = ((fault : CharsFault) × (characters_of word ≡ Err fault)) × (string_bytes named ≡ word)
 IsBadLeftOut option Memory = Unit {0}

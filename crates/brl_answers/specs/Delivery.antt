@@ -50,7 +50,8 @@ abbrev pub status_after : Result Status RunFault → Status
 status_after (Ok status) = status
 status_after (Err fault) = status_of fault
 
--- What a command came to was delivered: an answer was written, or there is a fault, and nothing was.
+-- What a command came to was delivered: an answer was written, or there is a fault, and nothing
+-- was.
 abbrev pub Delivers : Result Answer RunFault → World → World → Status → Type 0
 Delivers (Ok answer) before after status =
     (written : Result Status RunFault) × Writes answer before after written × (status ≡ status_after written)

@@ -49,8 +49,8 @@ IsThereAlready gives files fault = ⊥
 
 -- ---- While they are made
 
--- a source looks in the same folders as before, and may answer the same for each path but those of these
--- files
+-- a source looks in the same folders as before, and may answer the same for each path but those of
+-- these files
 abbrev pub OnlyTheseChange : FileAnswers → FileAnswers → List NewFile → Type 0
 OnlyTheseChange old new files = (new.folders ≡ old.folders) × ((p : List ℕ) (a : FileAnswer) → IsNoneOf files p → new.may p a ↔ old.may p a)
 
@@ -72,8 +72,8 @@ abbrev pub IsNamed : List NewFile → ℕ → RunFault → Type 0
 IsNamed files place (CannotWrite path made) = HasPathAt files place (string_bytes path) × (made.items ≡ take place files)
 IsNamed files place fault = ⊥
 
--- Files were made. Or the fault names the first that isn't new, and no file changed; or it names one
--- that couldn't be written, and those before it were; or memory ran out at one of them.
+-- Files were made. Or the fault names the first that isn't new, and no file changed; or it names
+-- one that couldn't be written, and those before it were; or memory ran out at one of them.
 abbrev pub AreMade : List NewFile → FileAnswers → FileAnswers → Result (Unit {0}) RunFault → Type 0
 AreMade files before after (Ok done) = AreNew before files × AreWritten files before after
 AreMade files before after (Err (AlreadyThere path)) = IsThereAlready before files (AlreadyThere path) × Unchanged before after

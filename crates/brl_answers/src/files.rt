@@ -39,7 +39,8 @@ pub trait Files: Source {
     // whether two paths may name one file
     ghost same_file: { MayBeSame };
 
-    /// Sets the folders in which the files of tables are looked for that aren't at their usual paths.
+    /// Sets the folders in which the files of tables are looked for that aren't at their usual
+    /// paths.
     fn look_in(&mut self, folders: Vec<String>)
         ensures looked { self.new ≡ looked folders self.old }
         ensures looks { Unchanged (looking (map string_bytes folders.items) (Self.gives self.old)) (Self.gives self.new) }
@@ -152,8 +153,8 @@ impl<R: rt::Files> Files for FileSource<R> {
         self.folders = Some(folders);
     }
 
-    /// Paths of one plain file are the same, also where they are links to it; where nothing is, those of
-    /// one name in one folder.
+    /// Paths of one plain file are the same, also where they are links to it; where nothing is,
+    /// those of one name in one folder.
     fn is_same_file(&self, one: &str, other: &str) -> bool {
         one == other || is_one_file(&self.system, one, other)
     }
@@ -168,8 +169,8 @@ impl<R: rt::Files> Files for FileSource<R> {
         fs::symlink_metadata(&self.system, path).is_ok()
     }
 
-    /// Nothing is ever overwritten, also not through a link. What was written of a file that can't be
-    /// written whole is removed, where that can be done.
+    /// Nothing is ever overwritten, also not through a link. What was written of a file that can't
+    /// be written whole is removed, where that can be done.
     fn create(&mut self, _alloc: Global, path: &str, bytes: &[u8]) -> Result<(), NewFileFault> {
         create_file(&self.system, path, bytes)
     }

@@ -44,8 +44,8 @@ pub fn spell_one_by_one(alloc: Global, characters: &[char]) -> Result<String, Al
     Ok(text)
 }
 
-/// A line of an answer, and where characters are left out another line, which spells them one by one,
-/// so that `a-z` isn't read as a range.
+/// A line of an answer, and where characters are left out another line, which spells them one by
+/// one, so that `a-z` isn't read as a range.
 pub fn with_left_out_line(
     alloc: Global,
     line: String,

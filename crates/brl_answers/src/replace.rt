@@ -70,8 +70,8 @@ fn target_at<R: Files>(alloc: Global, system: &R, path: &str) -> io::Result<Opti
     Ok(Some(Target { path, permissions }))
 }
 
-/// The plain file that a link names. `None` where it names something else, and where the link is one
-/// of the system's, such as /dev/stdout.
+/// The plain file that a link names. `None` where it names something else, and where the link is
+/// one of the system's, such as /dev/stdout.
 fn target_of_link<R: Files>(alloc: Global, system: &R, link: &str) -> io::Result<Option<Target>> {
     if link.starts_with("/dev/") || link.starts_with("/proc/") {
         return Ok(None);

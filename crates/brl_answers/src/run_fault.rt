@@ -86,8 +86,8 @@ pub enum RunFault {
     /// written.
     #[error("U4 OutputFailed")]
     OutputFailed,
-    /// The file at this path couldn't be written, and what is there now isn't known. Those that were
-    /// made before it stay.
+    /// The file at this path couldn't be written, and what is there now isn't known. Those that
+    /// were made before it stay.
     #[error("U7 CannotWrite {path}{after}", after = AfterThese(.made))]
     CannotWrite { path: String, made: Vec<NewFile> },
     /// Memory ran out.

@@ -70,8 +70,8 @@ lenient_parts field =
 abbrev pub lenient_due : List ℕ → Option Due
 lenient_due field = lenient_parts field >>= λ due. if is_proper due then Some due else None
 
--- the dues state of lenient fields: of its classes and its numeric mode, with this run flag, and of its
--- dues
+-- the dues state of lenient fields: of its classes and its numeric mode, with this run flag, and of
+-- its dues
 abbrev pub lenient_state : List ℕ → List ℕ → Bool → List (List ℕ) → Option DuesState
 lenient_state b n run fields = lenient_context b n run >>= λ here. each lenient_due fields >>= λ dues. Some (state_in here (in_order dues))
 

@@ -50,8 +50,8 @@ pub record IsDuesState (s : DuesState) : Type 0 where
   pub each : All IsDue s.dues
   pub kept : AreDues s.dues
 
--- the state is valid, and no run of capitals goes to it, where the second says whether one goes to a
--- state
+-- the state is valid, and no run of capitals goes to it, where the second says whether one goes to
+-- a state
 abbrev pub IsCapsFree : {S : Type 0} → (S → Type 0) → (S → Bool) → S → Type 0
 IsCapsFree IsState run s = IsState s × (run s ≡ false)
 

@@ -154,8 +154,8 @@ fn read_version_lines(
     }
 }
 
-/// The certificate of the lines of bytes. Its states and pairs are found by hashes of a seed that is
-/// drawn from all the bytes, so that nobody can choose states that have one hash.
+/// The certificate of the lines of bytes. Its states and pairs are found by hashes of a seed that
+/// is drawn from all the bytes, so that nobody can choose states that have one hash.
 fn read_lines(alloc: Global, bytes: &[u8]) -> Result<Cert, Failure<CertFault>>
     ensures { Gives (reading bytes.now) result }
 {

@@ -19,8 +19,8 @@ pub trait Version {
     // How states are written, and when two of them are equal.
     ghost form: { StateFormat Self.State };
 
-    // Which states are in range. In versions 1 and 2 no run of capitals goes to a state: they have no
-    // field for one.
+    // Which states are in range. In versions 1 and 2 no run of capitals goes to a state: they have
+    // no field for one.
     ghost is_state: { Self.State → Type 0 };
 
     /// Writes the fields of a state, each after a blank.

@@ -203,7 +203,8 @@ none_left left_out t limit accepted (Complete list body) (Complete left same) ar
     let nothing : clashes_beside accepted list.items ≡ [] = sym is.0 ∙ is_empty left.items none in
     clashes_widen t (rules_of_clashes list.items) accepted (all_accepted accepted list.items nothing) left_out are.1.no_other
 
--- where all sections are whole and no clash is left of them, clashing texts diverge at accepted pairs
+-- where all sections are whole and no clash is left of them, clashing texts diverge at accepted
+-- pairs
 pub only_accepted : (t : TableView) (left_out : List ℕ) (limit : ℕ) (accepted : List (ℕ × ℕ)) (sections left : List Section) → AreSections t left_out limit sections → AreLeftOf accepted sections left
     → outcome_of left ≡ Unambiguous → ClashesDivergeAtWithout left_out accepted t
 only_accepted t left_out limit accepted sections left are are_left is =
@@ -251,7 +252,8 @@ first_left left_out t accepted list (x ∷ left) is some are =
     let apart : All (λ y. not (has_pair accepted (y.lesser, y.greater)) ≡ true) (x ∷ left) = subst (All (λ (y : RuleClash). not (has_pair accepted (y.lesser, y.greater)) ≡ true)) (sym is) (filter_passes (λ (y : RuleClash). not (has_pair accepted (y.lesser, y.greater))) list) in
     (x, each 0 x (omega arith), not_back (has_pair accepted (x.lesser, x.greater)) (apart 0 x (omega arith)))
 
--- where a section has a clash that is left, two texts clash and diverge at a pair that isn't accepted
+-- where a section has a clash that is left, two texts clash and diverge at a pair that isn't
+-- accepted
 pub other_clash : (t : TableView) (left_out : List ℕ) (limit : ℕ) (accepted : List (ℕ × ℕ)) (sections left : List Section) → AreSections t left_out limit sections → AreLeftOf accepted sections left
     → outcome_of left ≡ Clashing → (r s : ℕ) × ClashesDiverge left_out t r s × (has_pair accepted (r, s) ≡ false)
 other_clash t left_out limit accepted sections left are are_left is =

@@ -10,8 +10,8 @@ use Rattle.brl_search.specs.declared.table_clashes.ClashList.TheVariants.{Comple
 
 -- ---- What is left
 
--- what is left of a list without the clashes at accepted pairs: those at the other pairs, and what the
--- list rests on
+-- what is left of a list without the clashes at accepted pairs: those at the other pairs, and what
+-- the list rests on
 abbrev pub IsLeftOfList : List (ℕ × ℕ) → ClashList → ClashList → Type 0
 IsLeftOfList accepted (Complete list body) (Complete left same) = (left.items ≡ clashes_beside accepted list.items) × (same ≡ body)
 IsLeftOfList accepted (Partial list states pairs) (Partial left as_many of_them) = (left.items ≡ clashes_beside accepted list.items) × (as_many ≡ states) × (of_them ≡ pairs)
@@ -30,8 +30,8 @@ AreLeftOf accepted sections left = ⊥
 -- ---- What is reported
 
 -- The outcome of sections from which this many accepted pairs were left out, where theirs is this:
--- a table of which pairs are accepted isn't unambiguous, and as many pairs as are left diverge, which
--- may be none.
+-- a table of which pairs are accepted isn't unambiguous, and as many pairs as are left diverge,
+-- which may be none.
 abbrev pub outcome_beside : ℕ → Outcome → Outcome
 outcome_beside accepted Unambiguous = if accepted == 0 then Unambiguous else Clashing
 outcome_beside accepted outcome = outcome

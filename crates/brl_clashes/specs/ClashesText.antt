@@ -53,7 +53,8 @@ last_counts word sections = option_map_or (λ s. counts_of word s.found) (slice_
 abbrev pub pairs_line : ℕ → Bool → List ℕ
 pairs_line count whole = decimal count ++ (pairs_words count ++ (others_note whole ++ codes "\n"))
 
--- the counts that are reported: of a table that is unambiguous, and those at which a limit was passed
+-- the counts that are reported: of a table that is unambiguous, and those at which a limit was
+-- passed
 abbrev pub verdict_counts : Outcome → List Section → List ℕ
 verdict_counts Unambiguous sections = last_counts (codes "unambiguous") sections
 verdict_counts Clashing sections = []
@@ -82,8 +83,8 @@ AreSectionTexts t lines characters first before (s ∷ sections) text =
     (front rest : List ℕ) × IsSectionText t lines characters first before s front
     × AreSectionTexts t lines characters first (listed_after before s) sections rest × (text ≡ front ++ rest)
 
--- The text of a list of clashes: the sets of characters, the sections, and the verdict, with the line
--- of what is left out. Where accepted pairs are left out of the sections, it says how many.
+-- The text of a list of clashes: the sets of characters, the sections, and the verdict, with the
+-- line of what is left out. Where accepted pairs are left out of the sections, it says how many.
 abbrev pub IsClashesText : TableView → List LineView → List ℕ → ℕ → Option ℕ → List Section → List ℕ → Type 0
 IsClashesText t lines left_out first accepted sections text =
     (parts : List ℕ) × AreSectionTexts t lines (plain t left_out) first [] sections parts

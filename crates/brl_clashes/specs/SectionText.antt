@@ -55,15 +55,15 @@ rule_clash_line t lines x = clash_line t lines x.clash x.lesser x.greater
 abbrev pub shown_in : TableView → List ℕ → List (ℕ × ℕ) → Section → List RuleClash
 shown_in t characters before s = filter (λ clash. not (is_represented t characters (listed_after before s) clash)) (new_in before s)
 
--- the lines of a section with these clashes in order: the first of them, how many more there are, and
--- how many others another line counts
+-- the lines of a section with these clashes in order: the first of them, how many more there are,
+-- and how many others another line counts
 abbrev pub clash_lines : TableView → List LineView → ℕ → ℕ → List RuleClash → List ℕ
 clash_lines t lines first count shown =
     flat_map (rule_clash_line t lines) (first_ones first shown) ++ number_line (length shown - length (first_ones first shown)) (codes " more")
     ++ number_line (count - length shown) (codes " of other characters of the sets")
 
--- The text of a section after sections with these pairs of rules, the most suspicious clashes first.
--- These are the characters that have sets.
+-- The text of a section after sections with these pairs of rules, the most suspicious clashes
+-- first. These are the characters that have sets.
 abbrev pub IsSectionText : TableView → List LineView → List ℕ → ℕ → List (ℕ × ℕ) → Section → List ℕ → Type 0
 IsSectionText t lines characters first before s text =
     (shown : List RuleClash) × IsPermutation (shown_in t characters before s) shown × IsSorted suspicion_cmp shown

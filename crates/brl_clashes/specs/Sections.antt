@@ -1,5 +1,5 @@
--- The sections of a list of clashes: what is found for the texts of some kinds of characters, and of
--- one kind more in each section. The project's own choice.
+-- The sections of a list of clashes: what is found for the texts of some kinds of characters, and
+-- of one kind more in each section. The project's own choice.
 use Rattle.std.specs.Prelude.{ℕ, ◌≡◌, ◌==◌, All, Bool, true, false, if◌then◌else◌, IsTrue, List, [], ◌++◌, Some, length, not, slice_get}
 use Rattle.std.specs.List.{filter, fold, list_all}
 use Rattle.brl_clashes.specs.Kinds.{left_out_in, section_kinds}

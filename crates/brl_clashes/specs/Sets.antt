@@ -78,8 +78,8 @@ representative t characters number =
 abbrev pub in_order : ℕ → ℕ → ℕ × ℕ
 in_order r s = if nat_le r s then (r, s) else (s, r)
 
--- Whether another line represents the clash at two rules, which these two represent: that of the set of
--- two characters, or that of the pair of these two, which is listed.
+-- Whether another line represents the clash at two rules, which these two represent: that of the
+-- set of two characters, or that of the pair of these two, which is listed.
 abbrev pub is_folded : List (ℕ × ℕ) → ℕ × ℕ → ℕ × ℕ → Bool
 is_folded listed rules first =
     not (is_pair rules first) && ((not (rules.0 == rules.1) && (first.0 == first.1)) || has_pair listed (in_order first.0 first.1))

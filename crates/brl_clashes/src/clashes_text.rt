@@ -30,10 +30,10 @@ pub struct Extent<'a> {
     pub accepted: Option<usize>,
 }
 
-/// The text of the sections of a table with these lines: the sets of characters that the table treats
-/// as one, where the first of a set represents the others; for each section the first `first` pairs of
-/// rules that no earlier one lists, all of them where `first` is 0; and the verdict with its counts, how
-/// many pairs are accepted, and the characters that are left out.
+/// The text of the sections of a table with these lines: the sets of characters that the table
+/// treats as one, where the first of a set represents the others; for each section the first
+/// `first` pairs of rules that no earlier one lists, all of them where `first` is 0; and the
+/// verdict with its counts, how many pairs are accepted, and the characters that are left out.
 ///
 /// Every line ends with LF. `AllocError` if memory runs out.
 pub fn sections_text(

@@ -19,8 +19,8 @@ use brl_rules::{Class, Table};
 use brl_without::LeftOut;
 use std::alloc::{AllocError, Global};
 
-/// The kind of a character: what it is first of these, in the order of capitals, digits, letters and
-/// blanks, marks.
+/// The kind of a character: what it is first of these, in the order of capitals, digits, letters
+/// and blanks, marks.
 #[derive(Clone, Copy)]
 pub enum Kind {
     /// A letter that is no capital, or a blank.
@@ -165,7 +165,8 @@ fn has_kind(table: &Table, characters: &[char], kind: Kind) -> bool
     characters.iter().any(|c| is_of(table, kind, *c))
 }
 
-/// What is left out, and after it those of these characters of a table that are of one of these kinds.
+/// What is left out, and after it those of these characters of a table that are of one of these
+/// kinds.
 pub fn left_out_and(
     alloc: Global,
     table: &Table,

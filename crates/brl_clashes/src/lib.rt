@@ -1,15 +1,18 @@
-//! The list of every pair of rules of a table at which clashing texts diverge, as an author reads it.
+//! The list of every pair of rules of a table at which clashing texts diverge, as an author reads
+//! it.
 //!
-//! - `list_sections` lists them in `Section`s: first for the texts of small letters and blanks, then
-//!   with digits, with capitals, with marks, and for all. Each section is a list of its own, complete
-//!   for its texts.
-//! - `sections_text` is their text: the sets of characters that the table treats as one; of each section
-//!   the pairs of rules that no earlier one lists, the most suspicious first; and a verdict.
+//! - `list_sections` lists them in `Section`s: first for the texts of small letters and blanks,
+//!   then with digits, with capitals, with marks, and for all. Each section is a list of its own,
+//!   complete for its texts.
+//! - `sections_text` is their text: the sets of characters that the table treats as one; of each
+//!   section the pairs of rules that no earlier one lists, the most suspicious first; and a
+//!   verdict.
 //! - `outcome_of` is the outcome of the sections, and `character_sets` has the sets of characters.
-//! - `pairs_of_sections` are the pairs of rules of all sections, and `without_accepted` the sections without
-//!   some of them.
+//! - `pairs_of_sections` are the pairs of rules of all sections, and `without_accepted` the
+//!   sections without some of them.
 //!
-//! Room 5, the program (docs/dev/ARCHITECTURE.md). The definitions begin in `specs/ClashesText.antt`.
+//! Room 5, the program (docs/dev/ARCHITECTURE.md). The definitions begin in
+//! `specs/ClashesText.antt`.
 #![tactic(auto)]
 
 mod accepted;

@@ -18,8 +18,8 @@ use brl_rules::Table;
 use brl_search::RuleClash;
 use std::alloc::{AllocError, Global};
 
-/// For each character of a table, by its number, the number of the own definition that represents that
-/// of the character, where these characters have sets.
+/// For each character of a table, by its number, the number of the own definition that represents
+/// that of the character, where these characters have sets.
 pub fn first_numbers(
     alloc: Global,
     table: &Table,

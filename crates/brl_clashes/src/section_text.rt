@@ -135,8 +135,8 @@ fn more_note(more: bool) -> &'static str
     if more { " more" } else { "" }
 }
 
-/// Appends the lines of the first of these clashes, how many more there are, and how many of a number
-/// of clashes aren't among these.
+/// Appends the lines of the first of these clashes, how many more there are, and how many of a
+/// number of clashes aren't among these.
 fn push_clashes(
     alloc: Global,
     table: &Table,

@@ -15,9 +15,9 @@ use std::alloc::{AllocError, Global};
 
 /// Lists every pair of rules of a table at which clashing texts diverge that use none of some
 /// characters, in sections: for the texts of small letters and blanks, and then with digits, with
-/// capitals, with marks, and for all. There is a section for each kind that the table has a character
-/// of. Each is the whole list of its texts; a list that isn't whole, since more states, pairs or pairs
-/// of rules than `limit` were found, is the last one.
+/// capitals, with marks, and for all. There is a section for each kind that the table has a
+/// character of. Each is the whole list of its texts; a list that isn't whole, since more states,
+/// pairs or pairs of rules than `limit` were found, is the last one.
 pub fn list_sections<P: Progress>(
     alloc: Global,
     table: &Table,

@@ -20,8 +20,8 @@ use brl_rules::{Info, Table};
 use brl_without::LeftOut;
 use std::alloc::{AllocError, Global};
 
-/// Those of these characters of a table, which aren't left out, that no rule has, and that are their own
-/// folds.
+/// Those of these characters of a table, which aren't left out, that no rule has, and that are
+/// their own folds.
 pub fn plain_characters(
     alloc: Global,
     table: &Table,
@@ -122,8 +122,8 @@ fn opens_set(table: &Table, characters: &[char], character: char) -> bool
     count > 1 && first_among(table, characters, character) == character
 }
 
-/// The sets of two or more characters of a table that it treats as one: they have the same cells, classes
-/// and flags, and are in no rule.
+/// The sets of two or more characters of a table that it treats as one: they have the same cells,
+/// classes and flags, and are in no rule.
 pub fn character_sets(alloc: Global, table: &Table) -> Result<Vec<Vec<char>>, AllocError>
     ensures { IfOk result (λ sets. map (λ set. set.items) sets.items ≡ sets_of_table table.now) }
 {
@@ -149,8 +149,8 @@ fn sets_opened(
     Ok(sets)
 }
 
-/// The lines of the sets of two or more of these characters of a table, after how many there are; the
-/// characters are those that aren't left out and that no rule has. Empty where there are none.
+/// The lines of the sets of two or more of these characters of a table, after how many there are;
+/// the characters are those that aren't left out and that no rule has. Empty where there are none.
 pub fn sets_text(alloc: Global, table: &Table, characters: &[char]) -> Result<String, AllocError>
     ensures { IfOk result (λ text. string_bytes text ≡ text_of_sets table.now characters.now) }
 {

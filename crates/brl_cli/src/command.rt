@@ -18,8 +18,8 @@ pub struct Work<'a> {
 pub enum Task<'a> {
     /// Translate the input to this form by the table whose file is at this path.
     Translate { table: &'a str, form: Form },
-    /// Translate the lines of the input whose characters are all defined by the table whose file is at
-    /// this path, and list the other characters.
+    /// Translate the lines of the input whose characters are all defined by the table whose file is
+    /// at this path, and list the other characters.
     TranslateDefined { table: &'a str, form: Form },
     /// Answer a question.
     Ask(Question<'a>),
@@ -35,24 +35,24 @@ pub enum Question<'a> {
         right: &'a str,
         options: TextOptions,
     },
-    /// Whether the certificate in the file at one path is one for the table whose file is at another,
-    /// for the texts that use none of the characters that `without` spells.
+    /// Whether the certificate in the file at one path is one for the table whose file is at
+    /// another, for the texts that use none of the characters that `without` spells.
     Check {
         table: &'a str,
         cert: &'a str,
         without: Option<&'a str>,
     },
-    /// The same, but for what the file at `accept` excuses: the pairs of rules that it names are accepted,
-    /// and the characters of its sets may be exchanged.
+    /// The same, but for what the file at `accept` excuses: the pairs of rules that it names are
+    /// accepted, and the characters of its sets may be exchanged.
     CheckUpTo {
         table: &'a str,
         cert: &'a str,
         accept: &'a str,
         without: Option<&'a str>,
     },
-    /// Whether two texts clash by the table whose file is at one path, of the texts that use none of
-    /// the characters that `without` spells. A certificate goes to the file at the other path. At most
-    /// `limit` states and `limit` pairs may be found.
+    /// Whether two texts clash by the table whose file is at one path, of the texts that use none
+    /// of the characters that `without` spells. A certificate goes to the file at the other path.
+    /// At most `limit` states and `limit` pairs may be found.
     Search {
         table: &'a str,
         cert: &'a str,
@@ -67,9 +67,10 @@ pub enum Question<'a> {
         accept: &'a str,
         without: Option<&'a str>,
     },
-    /// At which pairs of rules clashing texts diverge by the table whose file is at a path, of the texts
-    /// that use none of the characters that `without` spells. At most `limit` states, pairs and pairs of
-    /// rules may be found for each section; `first` clashes of each are shown, and all where it is 0.
+    /// At which pairs of rules clashing texts diverge by the table whose file is at a path, of the
+    /// texts that use none of the characters that `without` spells. At most `limit` states, pairs
+    /// and pairs of rules may be found for each section; `first` clashes of each are shown, and all
+    /// where it is 0.
     Clashes {
         table: &'a str,
         limit: u32,
@@ -83,14 +84,14 @@ pub enum Question<'a> {
         tables: Vec<&'a str>,
         brief: bool,
     },
-    /// Which rules of the table whose file is at this path have these numbers; where none are given, which
-    /// it has.
+    /// Which rules of the table whose file is at this path have these numbers; where none are
+    /// given, which it has.
     Rules {
         table: &'a str,
         numbers: Vec<u32>,
     },
-    /// Which rules of the table whose file is at this path no text uses. At most `limit` states may be
-    /// found.
+    /// Which rules of the table whose file is at this path no text uses. At most `limit` states may
+    /// be found.
     Unused {
         table: &'a str,
         limit: u32,
@@ -99,8 +100,8 @@ pub enum Question<'a> {
     Explain {
         line: &'a str,
     },
-    /// Which lines of the table whose file is at one path are read, as a table of its own in the folder
-    /// at the other path. More lines are read where they are rewritten.
+    /// Which lines of the table whose file is at one path are read, as a table of its own in the
+    /// folder at the other path. More lines are read where they are rewritten.
     Cut {
         table: &'a str,
         dir: &'a str,
@@ -226,8 +227,8 @@ enum Options {
     Search,
     /// How many states may be found.
     States,
-    /// How much a list may find, how much of it is shown, which characters and which pairs of rules are left
-    /// out, and which file gets its pairs.
+    /// How much a list may find, how much of it is shown, which characters and which pairs of rules
+    /// are left out, and which file gets its pairs.
     Clashes,
     /// Whether faults are listed.
     Brief,
@@ -665,8 +666,8 @@ It prints:
     }],
 };
 
-/// The commands of `brl` on texts and on all texts, which `brl --help` shows first. The prover's steps
-/// don't suffice for one list of all commands.
+/// The commands of `brl` on texts and on all texts, which `brl --help` shows first. The prover's
+/// steps don't suffice for one list of all commands.
 static TEXT_HELPS: [CommandHelp; 5] = [TRANSLATE, CLASH, CHECK, SEARCH, CLASHES];
 
 /// Its commands on lines and steps.

@@ -1,4 +1,5 @@
--- A body from which nothing is missing is closed but for what is excused, and one that is refused isn't.
+-- A body from which nothing is missing is closed but for what is excused, and one that is refused
+-- isn't.
 use Rattle.std.proofs.Common.{◌≡◌, ℕ, ◌<◌, ◌⊎◌, inl, inr, length, min, max, Bool, true, Option, Some, None, slice_get, refl}
 use Rattle.std.proofs.lemmas.Option.{slice_get_within}
 use Rattle.std.proofs.lemmas.Slice.Eq.{bytes_eq-Decides}

@@ -1,4 +1,5 @@
--- Steps of states that have been listed: none of them, and those of a list of states that is the same.
+-- Steps of states that have been listed: none of them, and those of a list of states that is the
+-- same.
 use Rattle.std.proofs.Common.{◌≡◌, List, [], slice_get, ap, sym, ◌∙◌}
 use Rattle.brl_pairs.specs.Runs.{Behaviour}
 use Rattle.brl_closure.specs.KnownSteps.{AreKnown}

@@ -1,5 +1,5 @@
--- The least rule of the edges that have a property, where edges with it match a lead: the rule of the
--- first one of those that match.
+-- The least rule of the edges that have a property, where edges with it match a lead: the rule of
+-- the first one of those that match.
 use Rattle.std.proofs.Common.{◌≡◌, ◌↔◌, ℕ, ◌+◌, ◌<◌, ◌≤◌, Bool, false, IsTrue, true≢false, List, inl, inr, length, Some, slice_get, refl, sym, ◌∙◌, ap, subst, arith}
 use Rattle.std.proofs.lemmas.Bool.{cases_eq, cases_lt}
 use Rattle.std.proofs.lemmas.Option.{get_or_from_slice_get, slice_get_within}

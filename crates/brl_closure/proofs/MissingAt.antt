@@ -156,7 +156,8 @@ module _ {S : Type 0} where
         abbrev Missing : Edge → Edge → Type 0
         Missing = MissUnexcused excused body.pairs
 
-        -- of two edges, one gives the cells of the other and more, and they lead to a missing pair: their steps miss a split
+        -- of two edges, one gives the cells of the other and more, and they lead to a missing pair:
+        -- their steps miss a split
         of_longer : (i j : ℕ) (e f : Edge) → (i ≡ j → ⊥) → slice_get edges i ≡ Some e → slice_get edges j ≡ Some f → (l g : ℕ) → min e.rule f.rule ≡ l → max e.rule f.rule ≡ g
             → (rest : List ℕ) → e.cells ≡ f.cells ++ rest → (IsThere body.pairs e.next f.next rest → ⊥) → (AreExcusedEdges excused.exchanged excused.accepted e f → ⊥) → MissesUnexcused m excused body k l g
         of_longer i j e f differ e_at f_at l g lesser greater rest longer missing unexcused =

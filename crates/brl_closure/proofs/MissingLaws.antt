@@ -1,5 +1,5 @@
--- Edges of one kind miss the same pairs and are excused with the same edges, and two edges miss a pair,
--- or are excused, in either order.
+-- Edges of one kind miss the same pairs and are excused with the same edges, and two edges miss a
+-- pair, or are excused, in either order.
 use Rattle.std.proofs.Common.{◌≡◌, ℕ, ◌||◌, Bool, true, false, if◌then◌else◌, List, [], ◌∷◌, ◌++◌, inl, inr, Some, None, refl, sym, ◌∙◌, ap, subst}
 use Rattle.std.proofs.lemmas.Bool.{or_parts}
 use Rattle.std.proofs.lemmas.List.{append-nil}

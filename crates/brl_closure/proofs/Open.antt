@@ -13,7 +13,8 @@ use Rattle.brl_pairs.specs.declared.excused.Excused.{Excused}
 use Rattle.brl_pairs.specs.declared.step.Step.{Step}
 
 module _ {S : Type 0} (m : Behaviour S) (body : BodyView S) where
-  -- where no split that must be listed is missing from sets that are closed but for splits of this kind
+  -- where no split that must be listed is missing from sets that are closed but for splits of this
+  -- kind
   open_where_first : (Misses : ℕ → ℕ → ℕ → Type 0) (Kind : Step S → Step S → Type 0) (closed : IsClosedExcept m Kind (sets_of body)) → ((number lesser greater : ℕ) → Misses number lesser greater → ⊥)
       → (fault : AcceptFault) → IsFirstRefusal m body Misses fault → ⊥
   open_where_first Misses Kind closed none NoStart h = h closed.start

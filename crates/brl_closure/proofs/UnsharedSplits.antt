@@ -103,7 +103,8 @@ module _ (excused : Excused) (pairs : List NumberPair) where
   -- ---- The edge at one place
 
   module _ (edges : List Edge) (place : ℕ) (found : List SortedEdge) where
-    -- two edges of these rules split into a missing pair: that at the place, and the match with this number
+    -- two edges of these rules split into a missing pair: that at the place, and the match with
+    -- this number
     pub record HasOfMatch (n first second : ℕ) : Type 0 where
       pub match : SortedEdge
       pub at : slice_get found n ≡ Some match

@@ -1,6 +1,6 @@
 -- Internal. The edges of a state that decide which pairs are missing: the first two of each kind.
--- Two edges of one kind have the same cells and the same next state, and their rule is the same or has
--- nothing to do with what is excused.
+-- Two edges of one kind have the same cells and the same next state, and their rule is the same or
+-- has nothing to do with what is excused.
 use Rattle.std.specs.Prelude.{◌≡◌, ◌++◌, ◌∷◌, [], ℕ, ◌<◌, ◌⊎◌, ◌||◌, Bool, true, false, if◌then◌else◌, List, length, Option, Some, None, slice_get}
 use Rattle.brl_pairs.specs.Members.{IsMember}
 use Rattle.brl_closure.specs.declared.check.kinds.Kind.{Kind as NumberKind}
@@ -48,8 +48,8 @@ pub record HasTwo (excused : Excused) (edges : List Edge) (kind : Kind) : Type 0
   pub first_is : IsOfKind excused edges kind first
   pub second_is : IsOfKind excused edges kind second
 
--- A kind is counted: it becomes the last of those that are there once, or where it is there already of
--- those that are there twice, if it isn't there either. The answer says whether it was added.
+-- A kind is counted: it becomes the last of those that are there once, or where it is there already
+-- of those that are there twice, if it isn't there either. The answer says whether it was added.
 abbrev pub IsCounted : {K : Type 0} → K → List K → List K → List K → List K → Bool → Type 0
 IsCounted kind once twice once' twice' added =
     ((added ≡ true) × (once' ≡ once ++ kind ∷ []) × (twice' ≡ twice))

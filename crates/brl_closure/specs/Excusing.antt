@@ -1,5 +1,5 @@
--- Why a body is refused where some splits are excused: what keeps its states and pairs from being closed
--- but for these. The project's own choice.
+-- Why a body is refused where some splits are excused: what keeps its states and pairs from being
+-- closed but for these. The project's own choice.
 use Rattle.std.specs.Prelude.{ℕ}
 use Rattle.brl_closure.specs.Refusals.{IsFirstRefusal, MissesSplit}
 use Rattle.brl_closure.specs.declared.check.fault.AcceptFault.{AcceptFault}

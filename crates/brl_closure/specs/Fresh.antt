@@ -1,5 +1,5 @@
--- Internal. Parts of a state's steps that aren't kept yet, and the steps of theirs that are taken by
--- numbers so far.
+-- Internal. Parts of a state's steps that aren't kept yet, and the steps of theirs that are taken
+-- by numbers so far.
 use Rattle.std.specs.Prelude.{◌≡◌, ℕ, ◌<◌, List, [], ◌++◌, length, reverse, Some, slice_get, slice_index}
 use Rattle.std.specs.Global.{Vec}
 use Rattle.brl_pairs.specs.Listed.{AreListedEdges}
@@ -30,8 +30,8 @@ module _ {S P : Type 0} where
     pub none : f.edges.items ≡ []
     pub all_left : reverse f.left.items ≡ steps_of part
 
-  -- The first steps of the part are taken by numbers, and the others are left. All of them are steps
-  -- of the state with this number.
+  -- The first steps of the part are taken by numbers, and the others are left. All of them are
+  -- steps of the state with this number.
   pub record IsPartly (m : Behaviour S) (steps_of : P → List (Step S)) (states : List S) (cells : List (List ℕ)) (number : ℕ) (f : Fresh S P) : Type 0 where
     pub done : List (Step S)
     pub split : steps_of f.part ≡ done ++ reverse f.left.items

@@ -23,8 +23,8 @@ pub record AreNumbersOf {P : Type 0} (parts listed : List P) (numbers : List ℕ
   pub count : length numbers ≡ length listed
   pub each : (k : ℕ) (part : P) (number : ℕ) → slice_get listed k ≡ Some part → slice_get numbers k ≡ Some number → slice_get parts number ≡ Some part
 
--- a step leads to a state that isn't listed: the fault names the least state that has such a step, and
--- the least rule of one there
+-- a step leads to a state that isn't listed: the fault names the least state that has such a step,
+-- and the least rule of one there
 abbrev pub IsStateMissing : {S : Type 0} → Behaviour S → BodyView S → AcceptFault → Type 0
 IsStateMissing m body (StateMissing state rule) =
     HasStart m body

@@ -33,8 +33,8 @@ abbrev pub AreListedIfShared : List NumberPair → SortedView → List Bool → 
 AreListedIfShared pairs edges shared = (k l : ℕ) (z w : SortedEdge) (e f : Edge) → k ≢ l → slice_get shared k ≡ Some true → slice_get shared l ≡ Some true → slice_get edges.sorted k ≡ Some z → slice_get edges.sorted l ≡ Some w
     → HasCellsAndNext edges.cells z e → HasCellsAndNext edges.cells w f → IsMissing pairs e.next e.cells f → ⊥
 
--- two edges of these rules, in this order, have the property, and one of them is at this position of the
--- order of cells and isn't shared
+-- two edges of these rules, in this order, have the property, and one of them is at this position
+-- of the order of cells and isn't shared
 pub record HasOfUnshared (Has : Edge → Edge → Type 0) (edges : SortedView) (shared : List Bool) (position first second : ℕ) : Type 0 where
   pub sorted : SortedEdge
   pub at : slice_get edges.sorted position ≡ Some sorted

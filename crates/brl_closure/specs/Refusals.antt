@@ -60,8 +60,9 @@ module _ {S : Type 0} (m : Behaviour S) (body : BodyView S) where
   abbrev pub MissesNoPair : Type 0
   MissesNoPair = (number rule : ℕ) → MissesPair m body number rule → ⊥
 
-  -- The first fault that applies, by the splits that are missing. It names the least state or pair to which
-  -- it applies, and then the least rule, or the least lesser rule and with it the least greater one.
+  -- The first fault that applies, by the splits that are missing. It names the least state or pair
+  -- to which it applies, and then the least rule, or the least lesser rule and with it the least
+  -- greater one.
   abbrev pub IsFirstRefusal : (ℕ → ℕ → ℕ → Type 0) → AcceptFault → Type 0
   IsFirstRefusal Misses NoStart = HasStart → ⊥
   IsFirstRefusal Misses (StateMissing state rule) =

@@ -5,7 +5,8 @@ use Rattle.brl_pairs.specs.Sorted.{DoMatch}
 use Rattle.brl_pairs.specs.declared.edge.Edge.{Edge}
 use Rattle.brl_pairs.specs.declared.sorted.SortedEdge.{SortedEdge}
 
--- these have the places of exactly the edges before this place whose cells match the lead, ascending
+-- these have the places of exactly the edges before this place whose cells match the lead,
+-- ascending
 pub record AreFound (edges : List Edge) (lead : List ℕ) (end : ℕ) (found : List SortedEdge) : Type 0 where
   pub only : (k : ℕ) (x : SortedEdge) → slice_get found k ≡ Some x → (e : Edge) × (slice_get edges x.place ≡ Some e) × DoMatch lead e.cells × (x.place < end)
   pub all : (place : ℕ) (e : Edge) → place < end → slice_get edges place ≡ Some e → DoMatch lead e.cells → (k : ℕ) × (x : SortedEdge) × (slice_get found k ≡ Some x) × (x.place ≡ place)

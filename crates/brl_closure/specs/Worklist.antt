@@ -36,8 +36,8 @@ pub record IsWorking {M S P : Type 0} (behaviour : M → Behaviour S) (steps_of 
   pub pairs : (n : ℕ) → n < length t.pairs → IsQueued n (heap_items w.queue) ⊎ IsWalked (behaviour f.machine.now) t.states t.pairs n
   pub items : All (IsItemOf t.pairs) (heap_items w.queue)
 
--- After the edges of a state were asked for, the same states are expanded and the same pairs queued.
--- What is kept of edges and parts is right for these states.
+-- After the edges of a state were asked for, the same states are expanded and the same pairs
+-- queued. What is kept of edges and parts is right for these states.
 pub record StillHas {S P : Type 0} (m : Behaviour S) (steps_of : P → List (Step S)) (states : List S) (old new : Worklist P) : Type 0 where
   pub cells : Stays old.cells new.cells
   pub count : length new.expanded.items ≡ length old.expanded.items

@@ -1,8 +1,8 @@
-//! The check of a machine's states and pairs: it accepts exactly those that are closed, and names the
-//! first thing that is missing where they aren't.
+//! The check of a machine's states and pairs: it accepts exactly those that are closed, and names
+//! the first thing that is missing where they aren't.
 //!
-//! `accept` checks states and pairs; `accept_with` also reports its progress, and `accept_up_to` leaves
-//! out what is excused.
+//! `accept` checks states and pairs; `accept_with` also reports its progress, and `accept_up_to`
+//! leaves out what is excused.
 mod checker;
 mod earlier;
 mod edges;

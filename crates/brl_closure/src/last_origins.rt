@@ -3,8 +3,8 @@ use brl_pairs::{ListedEdge, as_u32};
 use std::alloc::{AllocError, Global};
 
 /// For each state, by its number, the last state that had an edge to it. A state is likely to share
-/// edges with the one that led last to most of its next states. Only the speed of a search and a check
-/// depends on it.
+/// edges with the one that led last to most of its next states. Only the speed of a search and a
+/// check depends on it.
 #[derive(Drop)]
 pub struct LastOrigins {
     /// One more than the number of the state, and 0 for none.

@@ -1,5 +1,5 @@
-//! Closed sets of states and pairs of any machine: `check` decides whether given sets are closed, and
-//! `search` finds closed sets, or two texts with the same cells.
+//! Closed sets of states and pairs of any machine: `check` decides whether given sets are closed,
+//! and `search` finds closed sets, or two texts with the same cells.
 //!
 //! A machine with closed sets translates no two different texts, of any length, to the same cells.
 //!

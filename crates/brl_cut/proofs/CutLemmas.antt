@@ -39,8 +39,8 @@ read-as files same_files root same_root e d h = subst (λ (r : List ℕ). IsRead
 pub unread-as : (files same_files : Texts) (root same_root : List ℕ) (why : NoTable) → files ≡ same_files → root ≡ same_root → IsUnreadAs files root why → IsUnreadAs same_files same_root why
 unread-as files same_files root same_root why e d h = subst (λ (r : List ℕ). IsUnreadAs same_files r why) d (subst (λ (fs : Texts). IsUnreadAs fs root why) e h)
 
--- what is cut of the files that were gathered, in the folders of the source, is cut of the table; and
--- why they aren't cut is why the table isn't
+-- what is cut of the files that were gathered, in the folders of the source, is cut of the table;
+-- and why they aren't cut is why the table isn't
 module _ (rewrite : Bool) (gives : FileAnswers) (root dir : List ℕ) (gathered : Gathered) (is : IsGathered gives root gathered) (folders : List (List ℕ)) (looked : folders ≡ gives.folders) where
   pub cut-whole : (result : Result Cut (Failure CutFault)) → IfOk result (IsCutOf rewrite folders (gathered_view gathered) root dir) → IfOk result (IsCut rewrite gives root dir)
   cut-whole (Ok cut) h = (is.0, is.1, gathered_view gathered, is.2, subst (λ (fs : List (List ℕ)). IsCutOf rewrite fs (gathered_view gathered) root dir cut) looked h)

@@ -77,7 +77,8 @@ written_files dir names files = map (λ entry. (path_in dir entry.0, entry.1.1))
 abbrev pub only : List (List ℕ) → Texts → FileAnswers
 only folders files = record { folders = folders; may = λ path answer. answer ≡ answer_of (bytes_at files path) }
 
--- these files, and no others, define a table with its root at a path, and are looked for in no folders
+-- these files, and no others, define a table with its root at a path, and are looked for in no
+-- folders
 abbrev pub IsReadAs : Texts → List ℕ → Type 0
 IsReadAs files root = (t : TableView) × IsTableOf (only [] files) root t
 
@@ -85,10 +86,10 @@ IsReadAs files root = (t : TableView) × IsTableOf (only [] files) root t
 abbrev pub IsUnreadAs : Texts → List ℕ → NoTable → Type 0
 IsUnreadAs files root why = IsFaultAt (only [] files) root why
 
--- The cut of files that were gathered, where they were looked for in these folders too, for a folder:
--- lines are rewritten where this is asked for; the files are settled and written into the folder, where
--- they define a table. `found` are the faulty lines, and `lines` those that are kept; `cut.rewritten` is
--- how many of these are rewritten.
+-- The cut of files that were gathered, where they were looked for in these folders too, for a
+-- folder: lines are rewritten where this is asked for; the files are settled and written into the
+-- folder, where they define a table. `found` are the faulty lines, and `lines` those that are kept;
+-- `cut.rewritten` is how many of these are rewritten.
 pub record IsCutOf (rewrite : Bool) (folders : List (List ℕ)) (gathered : GatheredView) (root dir : List ℕ) (cut : Cut) : Type 0 where
   pub settled : Texts
   pub found : List FaultyLineView

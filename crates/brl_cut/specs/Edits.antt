@@ -11,7 +11,8 @@ abbrev pub whole_lines : List ℕ → List (List ℕ)
 whole_lines [] = []
 whole_lines (b ∷ bs) = if b == 10 then (b ∷ []) ∷ whole_lines bs else onto b (whole_lines bs)
 
--- how many bytes a line has without its end: a line feed, a carriage return and a line feed, or none
+-- how many bytes a line has without its end: a line feed, a carriage return and a line feed, or
+-- none
 abbrev pub row_length : List ℕ → ℕ
 row_length line =
     if ends_with nat_eq line (13 ∷ 10 ∷ []) then length line - 2

@@ -75,8 +75,8 @@ new_word text = record { text = text; start = 0 }
 abbrev pub uplow_in_place : LineView → List ℕ → List ℕ → LineView
 uplow_in_place line pair dots = line_in_place line (new_word (codes "uplow")) (new_word pair) (new_word dots)
 
--- the edit that puts the `uplow` line of two words before a line: each spells one character, and the
--- second one's dots are those that it has among these characters
+-- the edit that puts the `uplow` line of two words before a line: each spells one character, and
+-- the second one's dots are those that it has among these characters
 abbrev pub edit_to_uplow : List (ℕ × Info) → LineView → List ℕ → List ℕ → List EditView
 edit_to_uplow characters line upper lower =
     if is_some (character_alone upper)
@@ -107,8 +107,8 @@ abbrev pub lines_or_none : Result (List LineView) Refusal → List LineView
 lines_or_none (Ok lines) = lines
 lines_or_none (Err refused) = []
 
--- the lines of the table whose root has a path, of these files and no others, which are looked for in
--- these folders too; none where it can't be loaded
+-- the lines of the table whose root has a path, of these files and no others, which are looked for
+-- in these folders too; none where it can't be loaded
 abbrev pub known_lines : List (List ℕ) → List ℕ → Texts → List LineView
 known_lines folders root files = lines_or_none (lines_among folders files root)
 

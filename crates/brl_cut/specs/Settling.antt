@@ -13,8 +13,8 @@ use Rattle.brl_cut.specs.Edits.{EditView, Texts, edited_files}
 abbrev pub bytes_at : Texts → List ℕ → Option (List ℕ)
 bytes_at files path = fold (λ found file. if bytes_eq file.0 path then Some file.1 else found) None files
 
--- the lines of the table whose root has a path, of these files and no others, which are looked for in
--- these folders too
+-- the lines of the table whose root has a path, of these files and no others, which are looked for
+-- in these folders too
 abbrev pub lines_among : List (List ℕ) → Texts → List ℕ → Result (List LineView) Refusal
 lines_among folders files root = lines_over folders (λ path. Some (answer_of (bytes_at files path))) root
 

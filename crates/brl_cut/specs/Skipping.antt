@@ -1,4 +1,5 @@
--- The lines of a table without the hyphenation dictionaries that it includes. The project's own choice.
+-- The lines of a table without the hyphenation dictionaries that it includes. The project's own
+-- choice.
 use Rattle.std.specs.Prelude.{ℕ, ◌≡◌, ◌⊎◌, Bool, true, false, List, [], filter, Ok}
 use Rattle.brl_failure.specs.declared.failure.Failure.TheVariants as failures
 use Rattle.brl_lines.specs.Answer.{FileAnswers}
@@ -42,8 +43,8 @@ abbrev pub HasWayOut : FileAnswers → List ℕ → Type 0
 HasWayOut gives root = (out : LeadsOut) × IsGatherFault gives root (gather_faults.LeadsOut out)
 
 -- the lines of the table whose root has a path, by answers for these paths: those of the gathered
--- files, where these include lines of dictionaries are skipped, and which are looked for in the same
--- folders; or, where an include line leads out of the root's folder, all of them
+-- files, where these include lines of dictionaries are skipped, and which are looked for in the
+-- same folders; or, where an include line leads out of the root's folder, all of them
 abbrev pub AreLinesWithout : FileAnswers → List ℕ → List LeftView → List (List ℕ) → List LineView → Type 0
 AreLinesWithout gives root skipped paths lines =
     ((gathered : GatheredView) × IsGatheredAs gives root gathered × (skipped ≡ of_dictionaries gathered.left_out)

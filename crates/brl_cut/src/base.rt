@@ -1,5 +1,5 @@
-//! Lines that begin with `base uppercase`: each is read as the `uplow` line of its two characters, with
-//! the dots of the lowercase one for both.
+//! Lines that begin with `base uppercase`: each is read as the `uplow` line of its two characters,
+//! with the dots of the lowercase one for both.
 ghost use Rattle.std.specs.Prelude.{◌≡◌, ◌++◌, IfOk, OnOk, flat_map, map, option_map, string_bytes};
 ghost use Rattle.brl_lines.specs.Views.{line_view, token_view};
 ghost use Rattle.brl_cut.specs.Files.{edit_view};
@@ -77,8 +77,8 @@ fn push_uplow(
     push_if_put(alloc, edits, &new)
 }
 
-/// Adds the edit that puts the `uplow` line of two words before a line, where each spells one character
-/// and the second one's has dots among these.
+/// Adds the edit that puts the `uplow` line of two words before a line, where each spells one
+/// character and the second one's has dots among these.
 fn push_pair(
     alloc: Global,
     edits: &mut Vec<Edit>,

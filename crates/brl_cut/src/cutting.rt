@@ -59,8 +59,8 @@ fn paths_of(alloc: Global, files: &[GatheredFile]) -> Result<Vec<String>, AllocE
     Ok(paths)
 }
 
-/// Reads the table whose root is at a path, of these files and no others, which are looked for in no
-/// folders.
+/// Reads the table whose root is at a path, of these files and no others, which are looked for in
+/// no folders.
 fn check_read(alloc: Global, files: &[GatheredFile], root: &str) -> Result<(), Failure<NoTable>>
     ensures read { OnOk result (IsReadAs (map file_view files.now) root.now) }
     ensures fault { IfErr result (IfFault (IsUnreadAs (map file_view files.now) root.now)) }
@@ -81,8 +81,8 @@ fn files_of_places(alloc: Global, places: &[Location]) -> Result<Vec<String>, Al
     Ok(paths)
 }
 
-/// Gathered files without the include lines that are left out, and with lines rewritten where this is
-/// asked for.
+/// Gathered files without the include lines that are left out, and with lines rewritten where this
+/// is asked for.
 fn rewrite_gathered(
     alloc: Global,
     folders: &[String],
@@ -101,11 +101,11 @@ fn rewrite_gathered(
     rewrite_files(alloc, folders, files, root, rewrite)
 }
 
-/// The table whose root has a path, with the lines that aren't read as comments, for the folder `dir`.
-/// A file gets the name in the include line that first leads to it, wherever it was found, and the root
-/// the last part of its path; so the files there are found in no other folder. Each line keeps its number
-/// and its end. A line that isn't read becomes a comment that says why: `# `, the reason, `: ` and the
-/// line; one of more than 2,048 bytes is cut off.
+/// The table whose root has a path, with the lines that aren't read as comments, for the folder
+/// `dir`. A file gets the name in the include line that first leads to it, wherever it was found,
+/// and the root the last part of its path; so the files there are found in no other folder. Each
+/// line keeps its number and its end. A line that isn't read becomes a comment that says why: `# `,
+/// the reason, `: ` and the line; one of more than 2,048 bytes is cut off.
 ///
 /// Lines are left out in this order: include lines as `gather` leaves them out; and then, again and
 /// again, the lines that a survey of the others finds faulty, until it finds none. So every command

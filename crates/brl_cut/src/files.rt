@@ -145,8 +145,8 @@ pub(crate) fn source_of(
     })
 }
 
-/// Loads the table whose root has a path, of these files and no others, which are looked for in these
-/// folders too.
+/// Loads the table whose root has a path, of these files and no others, which are looked for in
+/// these folders too.
 pub(crate) fn load_files(
     alloc: Global,
     folders: &[String],

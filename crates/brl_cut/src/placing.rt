@@ -6,7 +6,8 @@ ghost use Rattle.brl_cut.specs.Files.{file_view};
 use brl_lines::{GatheredFile, last_part, path_in};
 use std::alloc::{AllocError, Global};
 
-/// The path where the root that has a path is written into a folder: under the last part of its path.
+/// The path where the root that has a path is written into a folder: under the last part of its
+/// path.
 pub(crate) fn written_root(alloc: Global, dir: &str, root: &str) -> Result<String, AllocError>
     ensures { IfOk result (λ written. string_bytes written ≡ root_written dir.now root.now) }
 {

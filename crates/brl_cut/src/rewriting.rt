@@ -20,8 +20,8 @@ pub(crate) struct Rewritten {
     pub edits: Vec<Edit>,
 }
 
-/// The table whose root has a path, of these files and no others, which are looked for in these folders
-/// too; `None` where it can't be loaded.
+/// The table whose root has a path, of these files and no others, which are looked for in these
+/// folders too; `None` where it can't be loaded.
 fn load_if_whole(
     alloc: Global,
     folders: &[String],

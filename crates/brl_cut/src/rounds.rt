@@ -21,7 +21,8 @@ pub(crate) struct Surveyed {
     pub places: Vec<Location>,
 }
 
-/// Files whose lines are all read, the faulty lines that became comments, and the place of each line.
+/// Files whose lines are all read, the faulty lines that became comments, and the place of each
+/// line.
 #[derive(Drop)]
 pub(crate) struct Settled {
     pub files: Vec<GatheredFile>,
@@ -29,8 +30,8 @@ pub(crate) struct Settled {
     pub places: Vec<Location>,
 }
 
-/// Surveys the table whose root has a path, of these files and no others, which are looked for in these
-/// folders too.
+/// Surveys the table whose root has a path, of these files and no others, which are looked for in
+/// these folders too.
 fn survey_files(
     alloc: Global,
     folders: &[String],
@@ -79,9 +80,9 @@ impl BecomesComment for FaultyLine {
     }
 }
 
-/// Makes lines comments until a survey of the table whose root has a path finds none faulty: again and
-/// again all those that it finds. A table that can't be loaded from these files, which are looked for in
-/// these folders too, is a fault.
+/// Makes lines comments until a survey of the table whose root has a path finds none faulty: again
+/// and again all those that it finds. A table that can't be loaded from these files, which are
+/// looked for in these folders too, is a fault.
 pub(crate) fn settle(
     alloc: Global,
     folders: &[String],

@@ -24,8 +24,8 @@ pub struct WithoutDictionaries {
 }
 
 /// Loads the table whose root is at a path without the hyphenation dictionaries that it includes:
-/// files whose names end in `.dic`. Their patterns aren't lines of a table. Where an include line leads
-/// out of the root's folder, the dictionaries are loaded too, and none is skipped.
+/// files whose names end in `.dic`. Their patterns aren't lines of a table. Where an include line
+/// leads out of the root's folder, the dictionaries are loaded too, and none is skipped.
 ///
 /// A file that can't be read is a fault as in `load`.
 pub fn load_without_dictionaries<S: Source>(
@@ -62,7 +62,8 @@ fn load_all<S: Source>(
     Ok(WithoutDictionaries { loaded, skipped })
 }
 
-/// Loads a table of gathered files, which are looked for in these folders too, without its dictionaries.
+/// Loads a table of gathered files, which are looked for in these folders too, without its
+/// dictionaries.
 fn load_gathered(
     alloc: Global,
     folders: &[String],

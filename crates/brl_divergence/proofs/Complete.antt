@@ -1,5 +1,5 @@
--- Over an exact machine the texts of two paths that diverge are two texts that clash, and a list that
--- is complete has each pair of rules at which such texts diverge.
+-- Over an exact machine the texts of two paths that diverge are two texts that clash, and a list
+-- that is complete has each pair of rules at which such texts diverge.
 use Rattle.std.proofs.Common.{◌≡◌, ℕ, Bool, true, false, ◌&&◌, ◌||◌, ◌==◌, IsTrue, List, [], ◌∷◌, ◌⊎◌, inl, inr, refl, sym, ◌∙◌, ap, subst, subst₂}
 use Rattle.std.specs.Cmp.{first_so, second_so}
 use Rattle.std.specs.List.{AllByRecursion}

@@ -1,5 +1,5 @@
--- One step of a state is settled with each earlier one: those that may split with it are tested, and
--- the others don't split.
+-- One step of a state is settled with each earlier one: those that may split with it are tested,
+-- and the others don't split.
 use Rattle.std.proofs.Common.{◌≡◌, ℕ, ◌<◌, List, inl, inr, length, Some, slice_get, subst, arith}
 use Rattle.std.specs.Prelude.{Contains}
 use Rattle.std.proofs.lemmas.Option.{slice_get_within}

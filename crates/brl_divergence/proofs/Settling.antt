@@ -1,5 +1,5 @@
--- Steps that are settled stay settled, and where all are, the sets are closed but for the listed pairs
--- of rules.
+-- Steps that are settled stay settled, and where all are, the sets are closed but for the listed
+-- pairs of rules.
 use Rattle.std.proofs.Common.{◌≡◌, ℕ, ◌<◌, ◌≤◌, ◌⊎◌, List, inl, inr, length, Some, slice_get, refl, sym, ◌∙◌, ap, subst, arith}
 use Rattle.std.specs.BTreeMap.{btree_map_len}
 use Rattle.std.proofs.lemmas.Option.{slice_get_within}

@@ -25,8 +25,8 @@ pub record IsComplete {S : Type 0} (m : Behaviour S) (limit : ℕ) (list : RuleT
   pub within : IsWithin limit body
   pub order : AreInOrder m body.states
 
--- one of three numbers is more than the limit, none by more than one, and no more states or pairs are
--- counted than are reached
+-- one of three numbers is more than the limit, none by more than one, and no more states or pairs
+-- are counted than are reached
 pub record IsPartial {S : Type 0} (m : Behaviour S) (limit : ℕ) (list : RuleTexts) (states pairs : ℕ) : Type 0 where
   pub passed : (limit < states) ⊎ ((limit < pairs) ⊎ (limit < btree_map_len list))
   pub few_states : states ≤ limit + 1

@@ -14,8 +14,8 @@ use Rattle.brl_divergence.specs.declared.expanded.Expanded.{Expanded}
 abbrev pub rules_of_edges : List Edge → List ℕ
 rules_of_edges edges = map (λ (e : Edge). e.rule) edges
 
--- these are the edges of the state with this number, in the order of their cells, and their rules by
--- their places
+-- these are the edges of the state with this number, in the order of their cells, and their rules
+-- by their places
 pub record AreStepsOf {S : Type 0} (m : Behaviour S) (states : List S) (number : ℕ) (cells : List (List ℕ)) (sorted : List SortedEdge) (rules : List ℕ) : Type 0 where
   pub edges : List Edge
   pub are_edges : AreEdges m states number edges

@@ -46,8 +46,8 @@ IsSettledState m f number = (i j : ℕ) → i < j → AreSettledAt m f number i 
 
 -- ---- Exploring
 
--- the origin is the split of the steps at these two places of a state, or a step of a pair from some
--- number on
+-- the origin is the split of the steps at these two places of a state, or a step of a pair from
+-- some number on
 abbrev pub IsOfSplit : ℕ → ℕ → ℕ → ℕ → PairOrigin → Type 0
 IsOfSplit number i j from (Split state longer shorter) = (state ≡ number) × (((longer ≡ i) × (shorter ≡ j)) ⊎ ((longer ≡ j) × (shorter ≡ i)))
 IsOfSplit number i j from (Still pair place) = from ≤ pair
@@ -64,7 +64,8 @@ pub record IsExplored {M S : Type 0} (behaviour : M → Behaviour S) (f : Finder
   pub ready : AreAllExpanded behaviour f e t
   pub walked : (n : ℕ) → n < length t.pairs → IsWalked (behaviour f.machine.now) t.states t.pairs n
 
--- and each listed pair of rules has its texts, and the steps that are kept are those of their states
+-- and each listed pair of rules has its texts, and the steps that are kept are those of their
+-- states
 pub record IsSound {M S : Type 0} (behaviour : M → Behaviour S) (f : Finder M S) (e : Expanded) (it : Found S) : Type 0 where
   pub explored : IsExplored behaviour f e it.trail
   pub listed : IsListed (behaviour f.machine.now) it.list

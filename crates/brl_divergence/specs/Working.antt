@@ -1,5 +1,5 @@
--- Internal. What is left to do in a listing: states to be expanded, and states whose splits are to be
--- settled.
+-- Internal. What is left to do in a listing: states to be expanded, and states whose splits are to
+-- be settled.
 use Rattle.std.specs.Prelude.{◌≡◌, ℕ, ◌+◌, ◌-◌, ◌<◌, ◌≤◌, ◌⊎◌, List, [], length}
 use Rattle.std.specs.BTreeMap.{IsEmpty}
 use Rattle.brl_pairs.specs.Runs.{Behaviour}
@@ -13,8 +13,8 @@ use Rattle.brl_divergence.specs.Found.{IsSettledState, IsSound}
 use Rattle.brl_divergence.specs.declared.expanded.Expanded.{Expanded}
 use Rattle.brl_divergence.specs.declared.found.Found.{Found}
 
--- states are expanded, with the parts of their steps, and neither a pair nor a pair of rules is found
--- yet, nor are steps kept
+-- states are expanded, with the parts of their steps, and neither a pair nor a pair of rules is
+-- found yet, nor are steps kept
 pub record IsExpanding {M S P : Type 0} (behaviour : M → Behaviour S) (steps_of : M → P → List (Step S)) (f : Finder M S) (e : Expanded) (parts : PartsView P) (it : Found S) : Type 0 where
   pub active : IsActive behaviour f it.trail
   pub expanded : AreExpanded (behaviour f.machine.now) it.trail.states e

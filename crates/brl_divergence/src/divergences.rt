@@ -3,8 +3,8 @@ use brl_closure::Texts;
 use brl_pairs::{Body, Key};
 use std::collections::BTreeMap;
 
-/// Pairs of rules in ascending order, each with two texts that diverge at it. The lesser rule number
-/// of a pair comes first.
+/// Pairs of rules in ascending order, each with two texts that diverge at it. The lesser rule
+/// number of a pair comes first.
 pub type RuleTexts = BTreeMap<(u32, u32), Texts>;
 
 /// The pairs of rules of a machine at which two texts with the same cells diverge.

@@ -62,7 +62,8 @@ impl<'a, 'm, M: Machine> Explorer<'a, 'm, M> {
             .follow(trail, first.next, lead, second.next, own, origins)
     }
 
-    /// Adds the pair into which two steps of a state split, if they do, and all pairs that follow it.
+    /// Adds the pair into which two steps of a state split, if they do, and all pairs that follow
+    /// it.
     fn explore(
         &self,
         trail: &mut Trail<M::State>,
@@ -116,8 +117,8 @@ impl<'a, 'm, M: Machine> Explorer<'a, 'm, M> {
     }
 
     /// Settles two steps of a state: where their pair of rules isn't listed, explores the pair into
-    /// which they split, if they do. Where two ends are met, what was found is dropped, and the pair
-    /// of rules is listed.
+    /// which they split, if they do. Where two ends are met, what was found is dropped, and the
+    /// pair of rules is listed.
     fn settle_split(
         &self,
         found: &mut Found<M::State>,

@@ -1,5 +1,5 @@
-//! What a complete list of an exact machine says of its texts. The law is the contract of a function
-//! that does nothing.
+//! What a complete list of an exact machine says of its texts. The law is the contract of a
+//! function that does nothing.
 ghost use Rattle.std.specs.Prelude.{ℕ};
 ghost use Rattle.brl_divergence.specs.Answers.{IsComplete, IsListed};
 ghost use Rattle.brl_divergence.specs.Listed.{RuleTexts as ListValue, rules_of};

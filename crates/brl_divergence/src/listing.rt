@@ -113,8 +113,8 @@ impl<'m, M: Parted> Sliced for Listing<'m, M> {
         }
     }
 
-    /// Continues the listing for at most this number of steps. A step expands a state, or settles the
-    /// splits of one. After `AllocError` the listing can't be continued.
+    /// Continues the listing for at most this number of steps. A step expands a state, or settles
+    /// the splits of one. After `AllocError` the listing can't be continued.
     fn run(self, steps: u64) -> Result<Slice<Listing<'m, M>, Divergences<M::State>>, AllocError> {
         let Listing {
             finder,
@@ -166,8 +166,8 @@ pub fn list_divergences<M: Machine>(
     list_divergences_with(alloc, &Whole::new(machine), limit, seed, &mut NoProgress)
 }
 
-/// Lists the divergences of a machine as `list_divergences` does, and reports its progress to `watch`
-/// before each slice of steps.
+/// Lists the divergences of a machine as `list_divergences` does, and reports its progress to
+/// `watch` before each slice of steps.
 pub fn list_divergences_with<M: Parted, W: Progress>(
     alloc: Global,
     machine: &M,
@@ -204,8 +204,8 @@ fn run<M: Parted>(
     Ok(true)
 }
 
-/// Expands the next state, or where all are expanded settles the splits of the next one. False where
-/// nothing is left to do.
+/// Expands the next state, or where all are expanded settles the splits of the next one. False
+/// where nothing is left to do.
 fn step<M: Parted>(
     finder: &Finder<'_, M>,
     expanded: &mut Expanded,

@@ -32,8 +32,8 @@ use Rattle.brl_dues.specs.SecondCharacter.{has_second, rules_with, second_of, Ar
 other : (m x c : ℕ) → nat_eq m c ≡ true → nat_eq m x ≡ false → nat_eq x c ≡ false
 other m x c h k = grind (arith, nat_tests)
 
--- the rules with the second character c, where those with x change by h: in the group that there is,
--- or in a new one
+-- the rules with the second character c, where those with x change by h: in the group that there
+-- is, or in a new one
 module _ (h : List (List ℕ × Cond) → List (List ℕ × Cond)) (x c : ℕ) where
   abbrev found : List Group → List (List ℕ × Cond)
   found groups = rules_with c groups

@@ -64,13 +64,13 @@ carry_capitals t (c ∷ past) [] cond = settled_if (not (holds cond (classes_of 
 carry_capitals t (c ∷ past) (a ∷ chars) cond = if is_upper t c && (a == fold_of t c) then carry_capitals t past chars cond else []
 
 -- what is left of the bar of a rule out of a run of capitals that begins with this character in
--- place of its first and goes on with these others, after the characters `past`: none where the rule
--- has no such form after a character of these classes
+-- place of its first and goes on with these others, after the characters `past`: none where the
+-- rule has no such form after a character of these classes
 abbrev pub carry_out : TableView → Class → ℕ → List ℕ → List ℕ → Cond → List Carried
 carry_out t before c past chars cond = if is_some (further t before false (c ∷ chars)) then carry_bar t past chars cond ∷ [] else []
 
--- what is left of the bars of a rule's forms that begin with this character, in a run of capitals or
--- out of one
+-- what is left of the bars of a rule's forms that begin with this character, in a run of capitals
+-- or out of one
 abbrev pub bars_past : TableView → Class → Bool → ℕ → List ℕ → List ℕ → Cond → List Carried
 bars_past t before run c past chars cond = if run then carry_capitals t past chars cond else carry_out t before c past chars cond
 

@@ -45,7 +45,8 @@ pub record Row : Type 0 where
 abbrev pub row : List ℕ → CertFaultKind → ℕ → Row
 row bytes wrong line = record { bytes = bytes; wrong = wrong; line = line }
 
--- the same certificate with another line at a number, counted from 1: that line is the first faulty one
+-- the same certificate with another line at a number, counted from 1: that line is the first faulty
+-- one
 abbrev pub with_line : ℕ → CertFaultKind → List ℕ → Row
 with_line n wrong line = row (lines (take (n - 1) three_lines ++ line ∷ drop n three_lines)) wrong n
 
@@ -65,7 +66,8 @@ faulty =
     ++ with_each 2 NotCanonical (codes "state 01 0 0 -" ∷ [])
     -- a character with a leading zero; a capital hexadecimal digit
     ++ with_each 3 NotCanonical (codes "state 8 0 0 061" ∷ codes "state 8 0 0 6A" ∷ [])
-    -- a number that is no character; a flag of two digits; a set of classes over 255; two blanks between fields
+    -- a number that is no character; a flag of two digits; a set of classes over 255; two blanks
+    -- between fields
     ++ with_each 3 Syntax (codes "state 8 0 0 d800" ∷ codes "state 8 00 0 61" ∷ codes "state 256 0 0 61" ∷ codes "state 8  0 0 61" ∷ [])
     -- a state twice; a pair twice
     ++ (with_more 4 DuplicateState (codes "state 8 0 0 61") ∷ with_more 6 DuplicatePair (codes "pair 1 2 -") ∷ [])
@@ -81,7 +83,8 @@ faulty =
     ++ (with_more 6 Syntax (codes "state 9 0 0 -") ∷ with_more 7 Syntax (codes "") ∷ [])
     -- states of another version than the header's
     ++ (row (lines (codes "BRLCERT 2" ∷ drop 1 three_lines)) Syntax 2 ∷ [])
-    -- a version that is not known; one with a leading zero, as its spelling is tested first; one over its range
+    -- a version that is not known; one with a leading zero, as its spelling is tested first; one
+    -- over its range
     ++ (with_line 1 Version (codes "BRLCERT 9") ∷ with_line 1 NotCanonical (codes "BRLCERT 09") ∷ with_line 1 Syntax (codes "BRLCERT 4294967296") ∷ [])
 
 -- each row is refused as it says

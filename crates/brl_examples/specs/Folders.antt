@@ -10,7 +10,8 @@ use Rattle.brl_lines.specs.declared.fault.LoadFaultKind.TheVariants as kinds
 abbrev pub one_then_two : List (List ℕ)
 one_then_two = codes "one" ∷ codes "two" ∷ []
 
--- a table that includes a file: this is answered at the file's usual place, and both folders have one
+-- a table that includes a file: this is answered at the file's usual place, and both folders have
+-- one
 abbrev pub in_folders : FileAnswer → Answers
 in_folders usual =
     (codes "t", Holds (codes "include u")) ∷ (codes "u", usual) ∷ (codes "one/u", Holds (codes "letter a 1"))

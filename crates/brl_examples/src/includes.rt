@@ -13,8 +13,8 @@ pub fn include_examples()
     ensures lacking { lines_of [] lacking (codes "t.ctb") ≡ lacking_refused }
 {}
 
-/// Files in folders, and the lines of a table that includes one of them or why it has none, computed
-/// from the definitions.
+/// Files in folders, and the lines of a table that includes one of them or why it has none,
+/// computed from the definitions.
 #[tactic(auto, unfolding(crate::proofs::Computing::of_lines))]
 pub fn folder_examples()
     ensures first { lines_of one_then_two (in_folders Missing) (codes "t") ≡ lines_at (codes "one/u") }

@@ -11,8 +11,8 @@ use Rattle.brl_explain.specs.Opcodes.{opcode_note}
 
 -- ---- Characters
 
--- a character that may be taken for another, or not be seen: any but a blank and the visible ones of
--- ASCII
+-- a character that may be taken for another, or not be seen: any but a blank and the visible ones
+-- of ASCII
 abbrev pub is_unclear : ℕ → Bool
 is_unclear c = nat_lt c 32 || nat_le 127 c
 
@@ -79,8 +79,8 @@ first_filled (byte ∷ bytes) other = byte ∷ bytes
 abbrev pub is_comma : ℕ → Bool
 is_comma byte = nat_eq byte 44
 
--- the note on dots before a comma or, where these are right, on those after it; where both are right, on
--- the comma
+-- the note on dots before a comma or, where these are right, on those after it; where both are
+-- right, on the comma
 abbrev pub sides_note : List ℕ → List ℕ → List ℕ
 sides_note upper lower = first_filled (side_note upper) (first_filled (side_note lower) (codes "a comma is read in uplow alone"))
 

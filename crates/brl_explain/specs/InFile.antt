@@ -43,7 +43,8 @@ place_of line =
 
 -- ---- A line of a table
 
--- the prefix with which a line begins, by its first word, where its fault is that its opcode isn't read
+-- the prefix with which a line begins, by its first word, where its fault is that its opcode isn't
+-- read
 abbrev pub prefix_line : List ℕ → List ℕ → List ℕ
 prefix_line fault word =
     if bytes_eq (code_of fault) (codes "B1") && (bytes_eq word (codes "noback") || bytes_eq word (codes "nofor"))

@@ -6,13 +6,13 @@ use Rattle.std.specs.Str.{bytes_eq, chars}
 use Rattle.strsim.specs.Edits.{osa_table}
 use Rattle.brl_table.specs.Words.{opcode_words}
 
--- how many edits lead from one word to another: a character is added, left out or replaced by another,
--- or changes places with its neighbour
+-- how many edits lead from one word to another: a character is added, left out or replaced by
+-- another, or changes places with its neighbour
 abbrev pub edits_between : List ℕ → List ℕ → ℕ
 edits_between from to = (osa_table (chars from) (chars to)).last_row (length (chars to))
 
--- the first of these words from which at most this number of edits leads to another; empty where none
--- does
+-- the first of these words from which at most this number of edits leads to another; empty where
+-- none does
 abbrev pub word_within : ℕ → List ℕ → List (List ℕ) → List ℕ
 word_within most word words = unwrap_or (find (λ own. nat_le (edits_between own word) most) words) []
 

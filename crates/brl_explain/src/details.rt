@@ -31,10 +31,11 @@ use std::alloc::{AllocError, Global};
 /// The most cells of dots.
 const MOST_CELLS: usize = 16;
 
-/// What explains the line of a fault, or its code alone, which it begins with or has after `refused:`: the
-/// form of its line, when it comes, for a line of a table what it names, and what to do about it. Notes on
-/// this line follow: the opcode that may be meant, why its dots spell no cells, and by their numbers the
-/// characters that may be taken for others or not be seen. `None` where no fault has the code.
+/// What explains the line of a fault, or its code alone, which it begins with or has after
+/// `refused:`: the form of its line, when it comes, for a line of a table what it names, and what
+/// to do about it. Notes on this line follow: the opcode that may be meant, why its dots spell no
+/// cells, and by their numbers the characters that may be taken for others or not be seen. `None`
+/// where no fault has the code.
 ///
 /// Every line ends with LF. `AllocError` if memory runs out.
 pub fn explain(alloc: Global, line: &str) -> Result<Option<String>, AllocError>
@@ -72,7 +73,8 @@ fn push_opcode_line(alloc: Global, text: &mut String, line: &str) -> Result<(), 
     push_titled(text, "Opcode: ", opcode_note(alloc, opcode)?.as_str())
 }
 
-/// Appends what is wrong with the dots that a line names, if its fault is of dots and it names some.
+/// Appends what is wrong with the dots that a line names, if its fault is of dots and it names
+/// some.
 fn push_dots_line(alloc: Global, text: &mut String, line: &str) -> Result<(), AllocError>
     ensures { OnOk result (string_bytes text.new ≡ string_bytes text.old ++ dots_line line.now) }
 {

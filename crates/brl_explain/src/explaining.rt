@@ -49,8 +49,8 @@ fn find_code<'a>(texts: &[&'a str], code: &str) -> Option<&'a str>
     texts.iter().copied().find(|text| first_word(text) == code)
 }
 
-/// What explains the fault of a line: the text for the code that is the line's first word or, where that is
-/// `refused:`, the next; a code alone is such a line. `None` where no fault has that code.
+/// What explains the fault of a line: the text for the code that is the line's first word or, where
+/// that is `refused:`, the next; a code alone is such a line. `None` where no fault has that code.
 pub(crate) fn text_of_fault(line: &str) -> Option<&'static str>
     ensures { option_map (λ text. text.now) result ≡ text_of_fault line.now }
 {

@@ -1,9 +1,9 @@
-//! The texts of all faults with a code. tools/faults-list makes the tables of docs/guide/FAULTS.md of
-//! them.
+//! The texts of all faults with a code. tools/faults-list makes the tables of docs/guide/FAULTS.md
+//! of them.
 
 /// What explains each fault: a line with its own form, or with several, which commas part; when it
-/// comes; for a line of a table what the fault's line names; and what to do about it. Words in capitals
-/// are for what differs.
+/// comes; for a line of a table what the fault's line names; and what to do about it. Words in
+/// capitals are for what differs.
 pub const FAULTS: [&str; 46] = [
     "L8 TooManyIncludes\n\
      When: 1,024 include lines were followed before\n\

@@ -45,11 +45,11 @@ struct Place<'a> {
 }
 
 /// Notes on the file that a fault's line names, as it is now. For a fault of a table's line, which
-/// ends with `at FILE:LINE`: that line, a prefix before an opcode that isn't read, and by their numbers
-/// the line's characters that may be taken for others or not be seen; for an indicator that is
-/// defined again also the line that defined it first. For a file that isn't UTF-8 the first byte that
-/// isn't, and its line. Empty for other faults, and where the files of FILE can't be loaded or the
-/// line isn't there.
+/// ends with `at FILE:LINE`: that line, a prefix before an opcode that isn't read, and by their
+/// numbers the line's characters that may be taken for others or not be seen; for an indicator that
+/// is defined again also the line that defined it first. For a file that isn't UTF-8 the first byte
+/// that isn't, and its line. Empty for other faults, and where the files of FILE can't be loaded or
+/// the line isn't there.
 ///
 /// Every line ends with LF. `AllocError` if memory runs out.
 pub fn file_notes<S: Source>(

@@ -49,8 +49,8 @@ fn is_among(words: &[&str], word: &str) -> bool
     words.contains(&word)
 }
 
-/// The opcode that a word may be meant for: one that is an edit away or, for words of more than four
-/// bytes, two; empty where none is.
+/// The opcode that a word may be meant for: one that is an edit away or, for words of more than
+/// four bytes, two; empty where none is.
 fn nearest_opcode(alloc: Global, word: &str) -> Result<&'static str, AllocError>
     ensures { IfOk result (λ near. near.now ≡ nearest word.now) }
 {
@@ -69,8 +69,8 @@ fn opcode_within(alloc: Global, most: usize, word: &str) -> Result<&'static str,
     near_word(alloc, &OPCODES, most, word)
 }
 
-/// The first of these words from which at most this number of edits leads to another; empty where none
-/// does.
+/// The first of these words from which at most this number of edits leads to another; empty where
+/// none does.
 fn near_word<'a>(
     alloc: Global,
     words: &[&'a str],

@@ -14,7 +14,8 @@ same_refusal : {A : Type 0} {r s : Refusal} → ◌≡◌ {A = Result A Refusal}
 same_refusal e = cc
 
 module _ (f g : List ℕ → Option FileAnswer) (extends : (path : List ℕ) (answer : FileAnswer) → f path ≡ Some answer → g path ≡ Some answer) where
-  -- a file was asked for that has no answer in f; where it can't be read by g, so is the whole refused
+  -- a file was asked for that has no answer in f; where it can't be read by g, so is the whole
+  -- refused
   pub record Asks {X : Type 0} (r s : Result X Refusal) : Type 0 where
     pub path : List ℕ
     pub place : Option LocationView
@@ -161,7 +162,8 @@ module _ (f g : List ℕ → Option FileAnswer) (extends : (path : List ℕ) (an
             | inr asks ↦ absurd (calm asks.path asks.place asks.asked)
           ]
 
-      -- where more answers give lines, fewer give them too, or ask for a file that the others can read
+      -- where more answers give lines, fewer give them too, or ask for a file that the others can
+      -- read
       pub lines_over-fewer : (lines : List LineView) → lines_over folders g root ≡ Ok lines → (path : List ℕ) (place : Option LocationView) → lines_over folders f root ≡ Err (refusal kinds.ReadFailed path place)
           → text_of path place (g path) ≡ Err (refusal kinds.ReadFailed path place) → ⊥
       lines_over-fewer lines found path place e unread =

@@ -32,8 +32,8 @@ abbrev pub IsGathered : FileAnswers → List ℕ → Gathered → Type 0
 IsGathered gives root found =
     (answers : Answers) × AreGiven gives answers × (gathered_from gives.folders (answer_at answers) root ≡ Ok (gathered_view found))
 
--- the most paths that are asked for: 1,025 for each place where a file is looked for, the usual one and
--- the folders
+-- the most paths that are asked for: 1,025 for each place where a file is looked for, the usual one
+-- and the folders
 abbrev pub most_paths : List (List ℕ) → ℕ
 most_paths folders = (length folders + 1) * 1025
 
@@ -56,8 +56,8 @@ IsUnreadAt gives stop (LeadsOut out) = ⊥
 abbrev pub IsNowhere : Answers → StopView → GatherFault → Type 0
 IsNowhere answers stop fault = IsTrue (is_missing (answer_at answers stop.subject)) × IsRefusalAt kinds.NotFound stop fault
 
--- why a way that ended so can't go on: its file would be too deep, or is one too many after the most
--- paths, or is nowhere, or is refused; or its include line leads out of the folder
+-- why a way that ended so can't go on: its file would be too deep, or is one too many after the
+-- most paths, or is nowhere, or is refused; or its include line leads out of the folder
 abbrev pub IsFaultAs : StopKind → FileAnswers → Answers → StopView → GatherFault → Type 0
 IsFaultAs stops.LeadsOut gives answers stop fault = IsOutside stop fault
 IsFaultAs stops.TooDeep gives answers stop fault = IsRefusalAt kinds.TooDeep stop fault

@@ -48,8 +48,8 @@ known_answers entries = map (λ entry. (string_bytes entry.0, answer_of_known en
 abbrev pub known_answer : KnownPaths → List ℕ → Option FileAnswer
 known_answer entries = answer_at (known_answers entries)
 
--- an include line was taken: it is left out; or it leads on to the file at a path, and the way has its
--- name; or the way ends there
+-- an include line was taken: it is left out; or it leads on to the file at a path, and the way has
+-- its name; or the way ends there
 abbrev pub IsTaken : List (List ℕ) → (List ℕ → Option FileAnswer) → List ℕ → List ℕ → IncludeView → WayView → WayView → Result (Option (String Global)) (Failure Stop) → Type 0
 IsTaken folders answer root file include old new (Ok None) = (visit : Visit) → taken visit folders answer root file include old ≡ Ok new
 IsTaken folders answer root file include old new (Ok (Some path)) =

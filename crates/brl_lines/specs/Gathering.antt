@@ -1,8 +1,8 @@
 -- The files of a table that are there, and the include lines that are left out on the way through
 -- them: those of hyphenation dictionaries, which have no lines of a table, those of files that were
 -- gone through before, and those of files that aren't there. The way goes through a file where the
--- first include line leads to it, and through the files that it includes before the lines after. The
--- project's own choice.
+-- first include line leads to it, and through the files that it includes before the lines after.
+-- The project's own choice.
 use Rattle.std.specs.Prelude.{ℕ, zero, suc, ◌||◌, ◌==◌, Bool, not, nat_eq, if◌then◌else◌, List, [], ◌∷◌, ◌++◌, codes, flat_map, length, Option, Some, None, Result, Ok, Err, string_bytes}
 use Rattle.std.specs.List.{ends_with, list_all, list_any, slice_split}
 use Rattle.std.specs.Str.{bytes_eq}
@@ -59,8 +59,8 @@ pub record LeftView : Type 0 where
   pub name : List ℕ
   pub reason : IncludeReason
 
--- the way so far: of the files that it went through, the paths where they were found and the names by
--- which they were looked for; and the include lines that were left out; all in order
+-- the way so far: of the files that it went through, the paths where they were found and the names
+-- by which they were looked for; and the include lines that were left out; all in order
 pub record WayView : Type 0 where
   pub paths : List (List ℕ)
   pub names : List (List ℕ)
@@ -70,8 +70,8 @@ pub record WayView : Type 0 where
 abbrev pub no_way : WayView
 no_way = record { paths = []; names = []; left_out = [] }
 
--- why the way ends early: at the file at a path, or at a name in an include line; and that line, where
--- it isn't the root
+-- why the way ends early: at the file at a path, or at a name in an include line; and that line,
+-- where it isn't the root
 pub record StopView : Type 0 where
   pub kind : StopKind
   pub subject : List ℕ
@@ -139,8 +139,8 @@ unfoldable pub through : ℕ → List (List ℕ) → (List ℕ → Option FileAn
 through zero folders answer root place path way = Err (stop stops.TooDeep path place)
 through (suc depth) folders answer root place path way = entered (through depth folders answer root) folders answer root place path (held (answer path)) way
 
--- the whole way from the root that was found at a path, with this name: it is 1 deep, and a file may be
--- 16 deep
+-- the whole way from the root that was found at a path, with this name: it is 1 deep, and a file
+-- may be 16 deep
 abbrev pub way_on : List (List ℕ) → (List ℕ → Option FileAnswer) → List ℕ → List ℕ → Result WayView StopView
 way_on folders answer name root = through 16 folders answer root None root (with_name no_way name)
 
@@ -150,8 +150,8 @@ way_from folders answer root = way_on folders answer (last_part root) (found fol
 
 -- ---- What is gathered
 
--- the files of a table, each with its path and its bytes, and their names in the same order; and the
--- include lines that are left out
+-- the files of a table, each with its path and its bytes, and their names in the same order; and
+-- the include lines that are left out
 pub record GatheredView : Type 0 where
   pub files : List (List ℕ × List ℕ)
   pub names : List (List ℕ)
@@ -170,8 +170,8 @@ gathered_on answer way = record {
   left_out = way.left_out;
 }
 
--- the files of the table whose root has a path, by what is known of each path, where files are looked
--- for in these folders too
+-- the files of the table whose root has a path, by what is known of each path, where files are
+-- looked for in these folders too
 abbrev pub gathered_from : List (List ℕ) → (List ℕ → Option FileAnswer) → List ℕ → Result GatheredView StopView
 gathered_from folders answer root = do
   way ← way_from folders answer root

@@ -33,15 +33,15 @@ path_in folder name = folder ++ (slash_after folder ++ name)
 abbrev pub paths_in : List (List ℕ) → List ℕ → List (List ℕ)
 paths_in folders name = if slice_index name 0 == 47 then [] else map (λ folder. path_in folder name) folders
 
--- the first of some paths at which it isn't known that there is no file; where it is known of all of
--- them, another path
+-- the first of some paths at which it isn't known that there is no file; where it is known of all
+-- of them, another path
 abbrev pub first_there : (List ℕ → Option FileAnswer) → List (List ℕ) → List ℕ → List ℕ
 first_there answer [] other = other
 first_there answer (path ∷ paths) other = if is_missing (answer path) then first_there answer paths other else path
 
 -- the path at which a file is found that has a name, and a usual path: that path; where there is no
--- file, the first path of the name in the folders where there is one; and the usual path where there
--- is none either
+-- file, the first path of the name in the folders where there is one; and the usual path where
+-- there is none either
 abbrev pub found : List (List ℕ) → (List ℕ → Option FileAnswer) → List ℕ → List ℕ → List ℕ
 found folders answer usual name = first_there answer (usual ∷ paths_in folders name) usual
 

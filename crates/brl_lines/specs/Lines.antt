@@ -121,16 +121,16 @@ few usual place includes = if nat_le most_includes includes then Err (refusal ki
 abbrev pub apart : List ℕ → LocationView → List (List ℕ) → Result (Unit {0}) Refusal
 apart path place chain = if list_any (bytes_eq path) chain then Err (refusal kinds.Cycle path (Some place)) else Ok tt
 
--- what an include line is replaced by, whose file is at a path: the lines of that file, each include
--- line replaced
+-- what an include line is replaced by, whose file is at a path: the lines of that file, each
+-- include line replaced
 abbrev pub entered : (List (List ℕ) → Follow) → (List ℕ → Option FileAnswer) → List (List ℕ) → LocationView → List ℕ → ℕ → Result Expanded Refusal
 entered within answer chain place path includes = do
   text ← text_of path (Some place) (answer path)
   _ ← apart path place chain
   expanded (within (path ∷ chain)) (lines_in path text) (includes + 1)
 
--- What an include line is replaced by, where its file and the files below it may be this many deep. A
--- file that would be too deep isn't looked for in the folders.
+-- What an include line is replaced by, where its file and the files below it may be this many deep.
+-- A file that would be too deep isn't looked for in the folders.
 unfoldable pub follow : ℕ → List (List ℕ) → (List ℕ → Option FileAnswer) → List ℕ → List (List ℕ) → Follow
 follow zero folders answer root chain place name includes = do
   _ ← few (included root name) place includes
@@ -140,7 +140,7 @@ follow (suc depth) folders answer root chain place name includes = do
   _ ← few (included root name) place includes
   entered (follow depth folders answer root) answer chain place (found folders answer (included root name) name) includes
 
--- the lines of the table whose root was found at a path: the root is 1 deep, and a file may be 16 deep
+-- the lines of the table whose root was found at a path: the root is 1 deep, any file 16 at most
 abbrev pub lines_from_root : List (List ℕ) → (List ℕ → Option FileAnswer) → List ℕ → Result (List LineView) Refusal
 lines_from_root folders answer root = do
   text ← text_of root None (answer root)

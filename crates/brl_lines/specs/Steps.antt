@@ -130,8 +130,8 @@ pub record Locates (gives : FileAnswers) (old new : Files) (usual name path : Li
   pub grows : Grows gives old new
   pub found_is : (answer : List ℕ → Option FileAnswer) → Extends new answer → found gives.folders answer usual name ≡ path
 
--- the first of some paths where there is a file, or else another, over any answers that have those of
--- the files
+-- the first of some paths where there is a file, or else another, over any answers that have those
+-- of the files
 pub record FindsFirst (gives : FileAnswers) (old new : Files) (paths : List (List ℕ)) (other path : List ℕ) : Type 0 where
   pub grows : Grows gives old new
   pub first_is : (answer : List ℕ → Option FileAnswer) → Extends new answer → first_there answer paths other ≡ path

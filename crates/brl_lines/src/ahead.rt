@@ -15,8 +15,8 @@ use brl_failure::Failure;
 use indexmap::IndexMap;
 use std::alloc::{AllocError, Global};
 
-/// The most paths that are asked for, the root counted, for each place where a file is looked for: the
-/// usual one and the folders.
+/// The most paths that are asked for, the root counted, for each place where a file is looked for:
+/// the usual one and the folders.
 const MOST_PATHS: usize = 1025;
 
 /// The paths at which the file of an include line is looked for, in order, and that line.
@@ -55,7 +55,8 @@ fn ahead_of(
     Ok(Some(Ahead { paths, place }))
 }
 
-/// Where an include line leads: the one with this number, from 0, of the known file with that index.
+/// Where an include line leads: the one with this number, from 0, of the known file with that
+/// index.
 fn ahead_at(
     alloc: Global,
     known: &IndexMap<String, Known>,
@@ -147,8 +148,8 @@ fn read_from<S: Source>(
     Ok(())
 }
 
-/// Reads what is at the paths to which include lines of known files lead, and then on from these, up
-/// to the most paths that are asked for. The root was found at this path.
+/// Reads what is at the paths to which include lines of known files lead, and then on from these,
+/// up to the most paths that are asked for. The root was found at this path.
 pub(crate) fn read_ahead<S: Source>(
     alloc: Global,
     source: &mut S,

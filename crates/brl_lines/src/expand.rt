@@ -77,8 +77,8 @@ fn enter<S: Source>(
     })
 }
 
-/// Why the file at a path, to which a file leads, is refused where it would be too deep: it leads to
-/// itself, or it is too deep.
+/// Why the file at a path, to which a file leads, is refused where it would be too deep: it leads
+/// to itself, or it is too deep.
 fn too_deep(
     alloc: Global,
     file: &OpenFile,

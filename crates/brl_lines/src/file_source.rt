@@ -11,8 +11,8 @@ use std::fs::File;
 use std::io::{ErrorKind, Read};
 use std::rt::Files;
 
-/// The files of a system, and the folders in which the files of tables are looked for too. Nothing is
-/// known of what they hold.
+/// The files of a system, and the folders in which the files of tables are looked for too. Nothing
+/// is known of what they hold.
 #[derive(Drop)]
 pub struct FileSource<R> {
     pub system: R,

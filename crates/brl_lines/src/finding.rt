@@ -17,8 +17,8 @@ use brl_failure::Failure;
 use indexmap::IndexMap;
 use std::alloc::{AllocError, Global};
 
-/// The usual path of a file, and its paths by its name in these folders; none of these where the name
-/// begins with a slash.
+/// The usual path of a file, and its paths by its name in these folders; none of these where the
+/// name begins with a slash.
 pub(crate) fn paths_to_try(
     alloc: Global,
     folders: &[String],
@@ -80,8 +80,9 @@ fn first_there<S: Source>(
     Ok(String::from_str(alloc, other)?)
 }
 
-/// The path at which a file is found that has a name and a usual path. Nothing is read where the source
-/// has no folders; else the paths are read where a file may be, up to the first that has one.
+/// The path at which a file is found that has a name and a usual path. Nothing is read where the
+/// source has no folders; else the paths are read where a file may be, up to the first that has
+/// one.
 pub(crate) fn locate<S: Source>(
     alloc: Global,
     source: &mut S,

@@ -31,15 +31,15 @@ pub struct GatheredFile {
     pub bytes: Vec<u8>,
 }
 
-/// The files of a table, in the order in which include lines first lead to them, the root first; their
-/// names in the same order; and the include lines that are left out, in the order in which they were
-/// reached.
+/// The files of a table, in the order in which include lines first lead to them, the root first;
+/// their names in the same order; and the include lines that are left out, in the order in which
+/// they were reached.
 #[derive(Debug, Drop)]
 pub struct Gathered {
     /// Each file with the path where it was found.
     pub files: Vec<GatheredFile>,
-    /// The name in the include line that first leads to each file; the root's is what is after the last
-    /// slash of its path.
+    /// The name in the include line that first leads to each file; the root's is what is after the
+    /// last slash of its path.
     pub names: Vec<String>,
     pub left_out: Vec<LeftInclude>,
 }
@@ -66,13 +66,13 @@ pub enum GatherFault {
 /// Gathers the files of the table whose root has a path: the root, and the files to which include
 /// lines lead, where `load` finds them.
 ///
-/// An include line is left out, in this order, where it includes a hyphenation dictionary, whose name
-/// ends in `.dic`; where its file was gone through before, or leads to it; and where its file isn't
-/// there. `LeadsOut` where the name in one isn't one of a file below the root's folder: it is absolute,
-/// or a part of it is empty, `.` or `..`; a dictionary's may be. `Load` where a file can't be read or
-/// isn't good, as in `load`; where there is no root; where a file is deeper than 16, the root being 1
-/// (`TooDeep`); and where more than 1,024 paths are asked for beside the root (`TooManyIncludes`), as
-/// often as there are places where a file is looked for.
+/// An include line is left out, in this order, where it includes a hyphenation dictionary, whose
+/// name ends in `.dic`; where its file was gone through before, or leads to it; and where its file
+/// isn't there. `LeadsOut` where the name in one isn't one of a file below the root's folder: it is
+/// absolute, or a part of it is empty, `.` or `..`; a dictionary's may be. `Load` where a file
+/// can't be read or isn't good, as in `load`; where there is no root; where a file is deeper than
+/// 16, the root being 1 (`TooDeep`); and where more than 1,024 paths are asked for beside the root
+/// (`TooManyIncludes`), as often as there are places where a file is looked for.
 pub fn gather<S: Source>(
     alloc: Global,
     source: &mut S,
@@ -142,7 +142,8 @@ fn files_on(
     })
 }
 
-/// Finds out what a way that ended early asks for, and what is ahead of it; or says why it can't go on.
+/// Finds out what a way that ended early asks for, and what is ahead of it; or says why it can't go
+/// on.
 fn go_on<S: Source>(
     alloc: Global,
     source: &mut S,
@@ -199,8 +200,8 @@ fn leads_out(alloc: Global, stop: &Stop) -> Failure<GatherFault>
     }
 }
 
-/// An include line that leads out of the root's folder, with copies of its name and place. `None` at
-/// the root, to which no include line leads.
+/// An include line that leads out of the root's folder, with copies of its name and place. `None`
+/// at the root, to which no include line leads.
 fn outside(alloc: Global, stop: &Stop) -> Result<Option<LeadsOut>, AllocError>
     ensures { IfOk result (λ found. IfSome found (λ out. (string_bytes out.name ≡ string_bytes stop.now.subject) × (Some (location_view out.place) ≡ option_map location_view stop.now.place))) }
 {

@@ -63,8 +63,9 @@ impl Loaded {
         Ok(lines)
     }
 
-    /// The paths that were read, each once, in that order: those of its files, and those where a file
-    /// was looked for in vain that was found in a folder. `AllocError` where an allocation failed.
+    /// The paths that were read, each once, in that order: those of its files, and those where a
+    /// file was looked for in vain that was found in a folder. `AllocError` where an allocation
+    /// failed.
     pub fn paths(&self, alloc: Global) -> Result<Vec<&str>, AllocError>
         ensures { IfOk result (λ v. map (λ path. path.now) v.items ≡ self.now.paths) }
     {
@@ -81,16 +82,15 @@ impl Loaded {
 /// lines lead to them.
 ///
 /// A line `include NAME` is replaced by the lines of the file at NAME where that begins with `/`,
-/// else of the file NAME in the root's folder. Where there is no file, it is looked for by its name in
-/// the folders of the source, in their order, unless the name begins with `/` or the file would be too
-/// deep; so is the root, whose name is its path. A file that is found is named by the path where it is.
-/// The first fault decides. An include line is refused,
-/// in this order, as `TooManyIncludes` where 1,024 were followed before, as `Cycle` where its file
-/// leads to itself, and as `TooDeep` where its file would be deeper than 16, the root being 1; the
-/// file then, as the root, as `NotFound`, `ReadFailed` or `TooLarge` where the source says so, as
-/// `TooLarge` where it gave more than `MOST_FILE_BYTES` all the same, as `NotUtf8`, and as
-/// `LineTooLong` at its first line of more than 2,048 bytes. An include line with no name stays
-/// among the lines.
+/// else of the file NAME in the root's folder. Where there is no file, it is looked for by its name
+/// in the folders of the source, in their order, unless the name begins with `/` or the file would
+/// be too deep; so is the root, whose name is its path. A file that is found is named by the path
+/// where it is. The first fault decides. An include line is refused, in this order, as
+/// `TooManyIncludes` where 1,024 were followed before, as `Cycle` where its file leads to itself,
+/// and as `TooDeep` where its file would be deeper than 16, the root being 1; the file then, as the
+/// root, as `NotFound`, `ReadFailed` or `TooLarge` where the source says so, as `TooLarge` where it
+/// gave more than `MOST_FILE_BYTES` all the same, as `NotUtf8`, and as `LineTooLong` at its first
+/// line of more than 2,048 bytes. An include line with no name stays among the lines.
 pub fn load<S: Source>(
     alloc: Global,
     source: &mut S,

@@ -52,8 +52,8 @@ fn missing_or(
     }
 }
 
-/// What is at a path: a file, which is read and checked whole, or none, where that may be. The place is
-/// the include line that names it.
+/// What is at a path: a file, which is read and checked whole, or none, where that may be. The
+/// place is the include line that names it.
 pub(crate) fn find_file<S: Source>(
     alloc: Global,
     source: &mut S,

@@ -35,8 +35,8 @@ pub enum IncludeReason {
     Missing,
 }
 
-/// An include line that is left out: the path of its file, its number there, from 1, the name in it,
-/// and why.
+/// An include line that is left out: the path of its file, its number there, from 1, the name in
+/// it, and why.
 #[derive(Debug, Drop)]
 pub struct LeftInclude {
     pub file: String,
@@ -45,8 +45,8 @@ pub struct LeftInclude {
     pub reason: IncludeReason,
 }
 
-/// The way so far: of the files that it went through, the paths where they were found and the names by
-/// which they were looked for; and the include lines that were left out; all in order.
+/// The way so far: of the files that it went through, the paths where they were found and the names
+/// by which they were looked for; and the include lines that were left out; all in order.
 #[derive(Drop)]
 pub(crate) struct Way {
     pub paths: Vec<String>,
@@ -65,8 +65,8 @@ pub(crate) enum StopKind {
     TooDeep,
 }
 
-/// Where a way ends early, and why: at the file at a path, or at a name in an include line; and that
-/// line, where it isn't the root.
+/// Where a way ends early, and why: at the file at a path, or at a name in an include line; and
+/// that line, where it isn't the root.
 #[derive(Drop)]
 pub(crate) struct Stop {
     pub kind: StopKind,
@@ -224,8 +224,8 @@ fn take(
     Ok(Some(path))
 }
 
-/// Goes on through the file at a path, by what is known of paths, where files are looked for in folders
-/// too. This many files may lead down from it, itself counted.
+/// Goes on through the file at a path, by what is known of paths, where files are looked for in
+/// folders too. This many files may lead down from it, itself counted.
 pub(crate) fn through(
     alloc: Global,
     known: &IndexMap<String, Known>,

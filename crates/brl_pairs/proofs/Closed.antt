@@ -1,6 +1,6 @@
 -- Closed sets of states and pairs: two paths to final states that give the same cells differ by
--- exchanges alone, up to a place where they diverge at one of the pairs of rules but for which the sets
--- are closed. Where no steps are exchanged they are one path up to there.
+-- exchanges alone, up to a place where they diverge at one of the pairs of rules but for which the
+-- sets are closed. Where no steps are exchanged they are one path up to there.
 use Rattle.std.proofs.Common.{◌≡◌, ◌≢◌, ℕ, ◌+◌, ◌≤◌, Bool, true, false, ◌&&◌, ◌||◌, nat_eq, IsTrue, List, [], ◌∷◌, ◌++◌, ◌⊎◌, inl, inr, length, zero, suc, Some, refl, sym, ◌∙◌, ap, ap₂, subst, arith, eq-eqb}
 use Rattle.std.specs.Prelude.{slice_get}
 use Rattle.std.specs.Cmp.{first_so, second_so}
@@ -43,7 +43,7 @@ module _ {S : Type 0} (exchanged rules : List (ℕ × ℕ)) where
     next = sym exchange.next;
   })
 
-  -- with a step before each, which are alike
+  -- with two alike steps before them
   after : (x y : Step S) (first second : List (Step S)) → AreAlike exchanged x y → DifferByExchangesBut exchanged rules first second → DifferByExchangesBut exchanged rules (x ∷ first) (y ∷ second)
   after x y first second alike (inl rest) = inl (alike, rest)
   after x y first second alike (inr at) = inr (record {
@@ -143,8 +143,8 @@ module _ {S : Type 0} (m : Behaviour S) (sets : Sets S) (laws : KeepsLaws m) (ex
         | inr t ↦ excused_back exchanged rules y x (split_excused s has j i y x (λ h. differ (sym h)) y_at x_at t.0 t.2 second first b a (sym t.3))
       ]
 
-  -- two paths from a state of the set that give the same cells differ by exchanges, to their ends or
-  -- up to a place where they diverge at one of the pairs of rules
+  -- two paths from a state of the set that give the same cells differ by exchanges, to their ends
+  -- or up to a place where they diverge at one of the pairs of rules
   differ_from : (s : S) → sets.has_state s → (first second : List (Step S)) → IsPath m s first → IsPath m s second → cells_of first ≡ cells_of second
       → DifferByExchangesBut exchanged rules first second
   differ_from s has [] [] a b e = inl tt

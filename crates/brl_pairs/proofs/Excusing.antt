@@ -1,4 +1,5 @@
--- Pairs of rules that are looked up, and what they excuse. Where there are none, nothing is excused.
+-- Pairs of rules that are looked up, and what they excuse. Where there are none, nothing is
+-- excused.
 use Rattle.std.proofs.Common.{◌≡◌, ◌+◌, ℕ, Bool, true, false, ◌&&◌, ◌||◌, nat_eq, List, [], ◌∷◌, ◌++◌, inl, inr, Some, slice_get, take, refl, sym, ◌∙◌, ap, ap₂, subst, arith}
 use Rattle.std.proofs.lemmas.Bool.{or_parts}
 use Rattle.std.specs.List.{list_any}

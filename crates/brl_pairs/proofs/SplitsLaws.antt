@@ -33,7 +33,8 @@ IsEarlierLonger cells limit y x = BeginsWith (cells_of cells x) (cells_of cells 
 abbrev pub NoneBegins : List (List ℕ) → List SortedEdge → ℕ → ℕ → List ℕ → Type 0
 NoneBegins cells sorted low high own = (k : ℕ) (x : SortedEdge) → low ≤ k → k < high → slice_get sorted k ≡ Some x → BeginsWith own (cells_of cells x) → ⊥
 
--- a walk back along the chain of shorter edges, from the one at `end`, has come to the one before `last`
+-- a walk back along the chain of shorter edges, from the one at `end`, has come to the one before
+-- `last`
 pub record HasComeTo (cells : List (List ℕ)) (sorted : List SortedEdge) (shorter : List ℕ) (end last : ℕ) : Type 0 where
   pub known : AreShorter cells sorted shorter
   pub within : end < length sorted

@@ -1,4 +1,5 @@
--- Pairs of rules that are looked up, and edges whose split need not be listed. The project's own choice.
+-- Pairs of rules that are looked up, and edges whose split need not be listed. The project's own
+-- choice.
 use Rattle.std.specs.Prelude.{◌≡◌, ℕ, Bool, ◌&&◌, ◌||◌, ◌==◌, IsTrue, List, ◌⊎◌, nat_eq}
 use Rattle.std.specs.List.{list_any}
 use Rattle.brl_pairs.specs.Divergence.{has_rules}
@@ -25,8 +26,8 @@ pub record AreLookedUp (given set : List (ℕ × ℕ)) (rules : List ℕ) : Type
 
 -- ---- Edges
 
--- the edges of two steps that may be exchanged: their rules are one of these pairs, and they have the
--- same cells and the same next state
+-- the edges of two steps that may be exchanged: their rules are one of these pairs, and they have
+-- the same cells and the same next state
 pub record AreExchangeableEdges (exchanged : List (ℕ × ℕ)) (x y : Edge) : Type 0 where
   pub rules : IsTrue (has_rules exchanged x.rule y.rule)
   pub cells : x.cells ≡ y.cells

@@ -1,4 +1,5 @@
--- Edges that a state shares with another one, and the splits that are left. The project's own choice.
+-- Edges that a state shares with another one, and the splits that are left. The project's own
+-- choice.
 use Rattle.std.specs.Prelude.{◌≡◌, ◌≢◌, ℕ, ◌<◌, Bool, true, false, Contains, List, ◌⊎◌, length, Some, slice_get}
 use Rattle.brl_pairs.specs.Sorted.{DoMatch, cells_of}
 use Rattle.brl_pairs.specs.declared.shared.TwoPlaces.{TwoPlaces}
@@ -11,8 +12,8 @@ pub record IsLikeAt (others : List SortedEdge) (position : ℕ) (x : SortedEdge)
   pub same_cells : other.cells ≡ x.cells
   pub same_next : other.next ≡ x.next
 
--- Each shared edge has one of its own among the others, with the same cells and the same next state.
--- All edges are shared with themselves.
+-- Each shared edge has one of its own among the others, with the same cells and the same next
+-- state. All edges are shared with themselves.
 pub record AreShared (sorted others : List SortedEdge) (shared : List Bool) : Type 0 where
   -- the position of a shared edge's own one
   pub own : ℕ → ℕ
@@ -31,8 +32,8 @@ IsOneUnshared shared k l = (slice_get shared k ≡ Some false) ⊎ (slice_get sh
 abbrev pub IsTwoOf : ℕ → ℕ → TwoPlaces → Type 0
 IsTwoOf one other split = (split.first < split.second) × (((split.first ≡ one) × (split.second ≡ other)) ⊎ ((split.first ≡ other) × (split.second ≡ one)))
 
--- two edges, at two positions of the order of cells, split, and one of them isn't shared. The first one
--- comes before the second in listed order.
+-- two edges, at two positions of the order of cells, split, and one of them isn't shared. The first
+-- one comes before the second in listed order.
 pub record IsUnsharedSplit (cells : List (List ℕ)) (sorted : List SortedEdge) (shared : List Bool) (split : TwoPlaces) : Type 0 where
   pub k : ℕ
   pub l : ℕ

@@ -5,8 +5,9 @@ ghost use Rattle.brl_pairs.specs.Excused.{AreExchangeableEdges, AreExcusedEdges,
 use crate::{Edge, RulePairs};
 use std::alloc::Global;
 
-/// The splits that closed sets need not have: those into two steps whose rules are an accepted pair,
-/// and those into two steps of an exchanged pair that give the same cells and lead to the same state.
+/// The splits that closed sets need not have: those into two steps whose rules are an accepted
+/// pair, and those into two steps of an exchanged pair that give the same cells and lead to the
+/// same state.
 #[derive(Drop)]
 pub struct Excused {
     /// Pairs of rules at which texts may diverge.

@@ -63,11 +63,11 @@ pub fn numbered_divergence_law<M: Machine>(machine: &M)
     let _ = machine.start();
 }
 
-/// The theorem for sets that are closed but for some exchanges, and for some pairs of rules: any two
-/// paths to final states that give the same cells are the same step by step, but for exchanges of steps
-/// with the same cells that lead to the same state, to their ends or up to a place where they go on with
-/// two different steps of one of the pairs of rules. So any two texts with the same translation have
-/// paths that do so.
+/// The theorem for sets that are closed but for some exchanges, and for some pairs of rules: any
+/// two paths to final states that give the same cells are the same step by step, but for exchanges
+/// of steps with the same cells that lead to the same state, to their ends or up to a place where
+/// they go on with two different steps of one of the pairs of rules. So any two texts with the same
+/// translation have paths that do so.
 pub fn exchange_law<M: Machine, C: Sets<M::State>>(machine: &M)
     ensures paths { (exchanged rules : List (ℕ × ℕ)) → IsClosedUpTo (M.behaviour machine.now) exchanged rules C.sets →
         PathsDifferByExchangesBut exchanged rules (M.behaviour machine.now) }

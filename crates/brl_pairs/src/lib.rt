@@ -6,15 +6,15 @@
 //! - `Machine` is a machine, with `Step` and `Pair`; `advance` is what becomes of a lead. The laws
 //!   state what closed sets imply.
 //! - `Members` is a list without repeats that finds its members by hash. The hashes depend on a
-//!   `Seed` that is drawn from the bytes that the members come from, so that nobody can make members
-//!   of one hash.
+//!   `Seed` that is drawn from the bytes that the members come from, so that nobody can make
+//!   members of one hash.
 //! - `Body` has states, and pairs that name two of them by their numbers. An `Edge` is a step with
 //!   the number of its next state: that is looked up once, and from then on only numbers and cells
 //!   are compared.
-//! - The edges of a state are sorted by their cells, which `KeptCells` has once each. `matches` looks
-//!   up those that a lead can follow, and `earlier_splits` those with which an edge splits;
-//!   `unshared_splits` leaves out those of edges that are shared with another state.
-//!   `by_number` puts elements in the order of numbers without comparing them.
+//! - The edges of a state are sorted by their cells, which `KeptCells` has once each. `matches`
+//!   looks up those that a lead can follow, and `earlier_splits` those with which an edge splits;
+//!   `unshared_splits` leaves out those of edges that are shared with another state. `by_number`
+//!   puts elements in the order of numbers without comparing them.
 //!
 //! Room 2, any machine (docs/dev/ARCHITECTURE.md). The definitions begin in `specs/Runs.antt`.
 #![tactic(auto)]

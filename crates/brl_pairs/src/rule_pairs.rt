@@ -68,7 +68,8 @@ impl RulePairs {
         self.given.is_empty()
     }
 
-    /// Whether these are the two rules of one of the pairs, in either order. It is looked up by hash.
+    /// Whether these are the two rules of one of the pairs, in either order. It is looked up by
+    /// hash.
     pub fn has(&self, one: u32, other: u32) -> bool
         ensures { result ≡ has_rules self.now one other }
     {

@@ -41,8 +41,8 @@ fn number(digest: &[u8; 32], at: usize) -> u64
     number_of(&digest[at..at + 8])
 }
 
-/// The number that the first eight of these bytes spell, the lowest first. Where there are fewer, the
-/// others count as 0.
+/// The number that the first eight of these bytes spell, the lowest first. Where there are fewer,
+/// the others count as 0.
 #[inline(always)]
 fn number_of(bytes: &[u8]) -> u64
     ensures { result ≡ from_le_bytes w64 bytes.now }
@@ -85,9 +85,9 @@ impl BuildHasher for Seed {
     }
 }
 
-/// A hash by a seed: the value of a polynomial at the seed's point, modulo 2^61 - 1. Its coefficients
-/// are the numbers that are written. Two members that write n numbers have one hash at n of the
-/// points at most.
+/// A hash by a seed: the value of a polynomial at the seed's point, modulo 2^61 - 1. Its
+/// coefficients are the numbers that are written. Two members that write n numbers have one hash at
+/// n of the points at most.
 #[derive(Clone, Copy)]
 pub struct SeededHasher {
     state: u64,

@@ -1,5 +1,5 @@
-//! Edges that a state shares with another one. The splits of two of them are splits of the other state
-//! too, so only those with an edge that isn't shared are left.
+//! Edges that a state shares with another one. The splits of two of them are splits of the other
+//! state too, so only those with an edge that isn't shared are left.
 ghost use Rattle.std.specs.Prelude.{◌≡◌, ◌⊎◌, ◌<◌, ◌≤◌, Contains, IfOk, IsTrue, OnOk, Some, filter, length, not, slice_get};
 ghost use Rattle.brl_pairs.specs.Shared.{AreShared, AreUnsharedSplits, IsLikeAt, IsTwoOf};
 ghost use Rattle.brl_pairs.specs.Sorted.{AreAscending};
@@ -20,9 +20,9 @@ pub struct TwoPlaces {
     pub second: u32,
 }
 
-/// Of each edge, by its position in the order of cells, whether it is shared: whether it has an edge
-/// of its own among the others, with the same cells and the same next state. Both lists are gone
-/// through once, so of edges with the same cells some may be passed over.
+/// Of each edge, by its position in the order of cells, whether it is shared: whether it has an
+/// edge of its own among the others, with the same cells and the same next state. Both lists are
+/// gone through once, so of edges with the same cells some may be passed over.
 pub fn shared_with(
     alloc: Global,
     kept: &KeptCells,
@@ -58,7 +58,8 @@ fn pass_before(kept: &KeptCells, edge: &SortedEdge, others: &[SortedEdge], from:
     next
 }
 
-/// Whether the cells of the first edge are other ones than those of the second, and come before them.
+/// Whether the cells of the first edge are other ones than those of the second, and come before
+/// them.
 fn comes_before(kept: &KeptCells, one: &SortedEdge, other: &SortedEdge) -> bool
     ensures { one.now.cells ≡ other.now.cells → IsTrue result → ⊥ }
 {
@@ -89,10 +90,10 @@ pub fn count_unshared(shared: &[bool]) -> usize
     count
 }
 
-/// The splits that have an edge which isn't shared. They ascend by the place of their second edge, and
-/// those with one second edge descend by the place of the first. A split of two edges that aren't
-/// shared is there twice. The edges are in the order of their cells, `shared` says of each whether it
-/// is shared, and all places are below `limit`.
+/// The splits that have an edge which isn't shared. They ascend by the place of their second edge,
+/// and those with one second edge descend by the place of the first. A split of two edges that
+/// aren't shared is there twice. The edges are in the order of their cells, `shared` says of each
+/// whether it is shared, and all places are below `limit`.
 pub fn unshared_splits(
     alloc: Global,
     cells: &[Cells],

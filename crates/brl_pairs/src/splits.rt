@@ -153,8 +153,8 @@ fn earlier_longer(
     Ok(found)
 }
 
-/// The edges other than the one at this position that split with it and have a place before `limit`, in
-/// no order: those whose cells begin its cells or begin with them.
+/// The edges other than the one at this position that split with it and have a place before
+/// `limit`, in no order: those whose cells begin its cells or begin with them.
 pub(crate) fn splits_at(
     alloc: Global,
     cells: &[Cells],

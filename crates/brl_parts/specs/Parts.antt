@@ -1,4 +1,5 @@
--- Parts of a machine's steps that are kept, each with its steps by numbers. The project's own choice.
+-- Parts of a machine's steps that are kept, each with its steps by numbers. The project's own
+-- choice.
 use Rattle.std.specs.Prelude.{◌≡◌, ℕ, ◌==◌, List, [], filter, Option, Some, None, slice_get}
 use Rattle.std.specs.Global.{Vec}
 use Rattle.std.specs.List.Sorted.{IsNonDecreasingBy}

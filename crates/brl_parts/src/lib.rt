@@ -1,5 +1,5 @@
-//! The parts of a machine's steps, each listed once. Many states share a part, so a search or a check
-//! that keeps the steps of parts by their numbers needn't list them again.
+//! The parts of a machine's steps, each listed once. Many states share a part, so a search or a
+//! check that keeps the steps of parts by their numbers needn't list them again.
 //!
 //! - `Parts` keeps parts with their steps by numbers, and puts the steps of a state together from
 //!   those of its parts.

@@ -61,8 +61,8 @@ impl<P: Key> Parts<P> {
         self.parts.index_of(part)
     }
 
-    /// The number of a part, from 0, if it is kept. The part with the number `likely` is tried first,
-    /// which costs less than a look-up by hash.
+    /// The number of a part, from 0, if it is kept. The part with the number `likely` is tried
+    /// first, which costs less than a look-up by hash.
     pub fn number_near(&self, part: &P, likely: usize) -> Option<usize>
         ensures { IfSome result (λ number. slice_get self.now.parts number ≡ Some part.now) }
     {

@@ -14,9 +14,9 @@ const PAUSE: u64 = 200;
 /// Takes a terminal back to the start of its line, and clears that line.
 const CLEAR: &str = "\r\x1b[K";
 
-/// A stream for messages. Where it is a terminal, work that takes longer than two seconds is shown on
-/// one line, which is written anew five times a second at most, and cleared before anything else is
-/// written. Where it isn't, nothing is added.
+/// A stream for messages. Where it is a terminal, work that takes longer than two seconds is shown
+/// on one line, which is written anew five times a second at most, and cleared before anything else
+/// is written. Where it isn't, nothing is added.
 #[derive(Drop)]
 pub struct Console<'c, C, E> {
     clock: &'c C,

@@ -31,7 +31,8 @@ pub trait Sliced: Sized + Drop {
     /// How far it is.
     fn work(&self) -> Work;
 
-    /// Continues the work for at most this number of steps. After `AllocError` it can't be continued.
+    /// Continues the work for at most this number of steps. After `AllocError` it can't be
+    /// continued.
     fn run(self, steps: u64) -> Result<Slice<Self, Self::Outcome>, AllocError>
         ensures finished { IfOk result (IfFinished (ends_with self)) }
         ensures unfinished { IfOk result (IfUnfinished (comes_to steps self)) };

@@ -28,8 +28,8 @@ report_of t lines front left right =
     front ++ side t lines (codes "left") (drop (common_prefix left right) left)
     ++ side t lines (codes "right") (drop (common_prefix left right) right)
 
--- the whole report of two texts and their cells, where each step has the lines by which it is made, if
--- lines are given
+-- the whole report of two texts and their cells, where each step has the lines by which it is made,
+-- if lines are given
 abbrev pub report_text_with : TableView → List LineView → List ℕ → List ℕ → List ℕ → List ℕ
 report_text_with t lines left right cells = report_of t lines (header left right cells) (report_steps t left) (report_steps t right)
 

@@ -18,8 +18,8 @@ use Rattle.brl_rules.specs.declared.rule.Info.{Info}
 use Rattle.brl_rules.specs.declared.rule.Rule.{Rule}
 
 -- the columns of a line: a step's characters as they are spelled, the cells of its indicators if
--- they have a column of their own, its cells in dots, and the location of its rule; and the lines of
--- the table that follow it
+-- they have a column of their own, its cells in dots, and the location of its rule; and the lines
+-- of the table that follow it
 pub record RowView : Type 0 where
   pub characters : List ℕ
   pub indicators : Option (List ℕ)

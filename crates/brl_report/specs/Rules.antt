@@ -35,7 +35,8 @@ borrowed_line_view line = line_view line.now
 abbrev pub is_at : List ℕ → ℕ → LineView → Bool
 is_at file number line = (line.line == number) && bytes_eq line.file file
 
--- the opcode by which a line defines a rule or a character: its first word, and after `noback` the next
+-- the opcode by which a line defines a rule or a character: its first word, and after `noback` the
+-- next
 abbrev pub defining_opcode : LineView → List ℕ
 defining_opcode line =
     if bytes_eq line.opcode.text (codes "noback") then option_map_or (λ token. token.text) (slice_get line.operands 0) [] else line.opcode.text
@@ -71,8 +72,8 @@ first_source is_so lines = option_map_or source_line (find is_so lines) []
 
 -- ---- The rules by their numbers
 
--- a rule as it is listed: its characters, its cells, and the place of its line; of a character's own
--- definition, of the line that gave it its cells
+-- a rule as it is listed: its characters, its cells, and the place of its line; of a character's
+-- own definition, of the line that gave it its cells
 pub record ListedView : Type 0 where
   pub characters : List ℕ
   pub cells : List ℕ
@@ -126,8 +127,8 @@ after_blanks entry = codes "  " ++ entry
 abbrev pub number_and_opcode : TableView → List LineView → ℕ → ListedView → List ℕ
 number_and_opcode t lines number x = decimal number ++ after_blanks (opcode_at (file_name t x.file) x.line lines)
 
--- the entry of a rule with a number: the number and the opcode, its characters as they are spelled, its
--- cells in dots, and the file and line
+-- the entry of a rule with a number: the number and the opcode, its characters as they are spelled,
+-- its cells in dots, and the file and line
 abbrev pub listed_entry : TableView → List LineView → ℕ → ListedView → List ℕ
 listed_entry t lines number x =
     number_and_opcode t lines number x ++ after_blanks (encode_utf8_all (text_spelling x.characters)) ++ after_blanks (spelling x.cells)
@@ -143,13 +144,13 @@ noted_rule t lines x =
     after_blanks (place_text t x.file x.line) ++ codes " " ++ opcode_at (file_name t x.file) x.line lines ++ codes " "
     ++ encode_utf8_all (text_spelling x.characters)
 
--- a word that is an opcode of the profile, and `rule` for any other; a line that defines a rule begins
--- with one, or has it after `noback`
+-- a word that is an opcode of the profile, and `rule` for any other; a line that defines a rule
+-- begins with one, or has it after `noback`
 abbrev pub known_opcode : List ℕ → List ℕ
 known_opcode word = if list_any (bytes_eq word) opcode_words then word else codes "rule"
 
--- what a rule says: the opcode, its characters as they are spelled, and its cells, with a blank between
--- two of these
+-- what a rule says: the opcode, its characters as they are spelled, and its cells, with a blank
+-- between two of these
 abbrev pub said_rule : TableView → List LineView → ListedView → List ℕ
 said_rule t lines x =
     known_opcode (opcode_at (file_name t x.file) x.line lines)

@@ -1,5 +1,5 @@
--- The lines of a table by which a step of a translation is made: those of its indicators, and that of
--- its rule. The project's own choice.
+-- The lines of a table by which a step of a translation is made: those of its indicators, and that
+-- of its rule. The project's own choice.
 use Rattle.std.specs.Prelude.{ℕ, if◌then◌else◌, List, [], ◌∷◌, ◌++◌, flat_map}
 use Rattle.std.specs.Option.{option_map_or}
 use Rattle.brl_lines.specs.Tokens.{LineView}

@@ -10,7 +10,8 @@ use Rattle.brl_rules.specs.TableView.{TableView}
 use Rattle.brl_rules.specs.Text.{context_at, is_in_caps_run}
 use Rattle.brl_rules.specs.declared.context.Context.{Context}
 
--- a step after a context, with the characters that it reads, and whether it begins in a run of capitals
+-- a step after a context, with the characters that it reads, and whether it begins in a run of
+-- capitals
 abbrev pub step_after : TableView → List ℕ → Context → Traced → ReportStep
 step_after t text here step = record {
   step = step;

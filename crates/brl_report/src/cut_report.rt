@@ -10,11 +10,11 @@ use brl_cut::Cut;
 use brl_table::FaultyLine;
 use std::alloc::{AllocError, Global};
 
-/// The report of a cut: how many lines are kept and, where lines might be rewritten, how many of these
-/// are; how many of those that are left out there are of each
-/// opcode, and whether the profile or liblouis has it; and for each file that has some, how many of
-/// its lines are read. Opcodes of more lines come first, and those of as many by name; files in the
-/// order in which include lines first lead to them.
+/// The report of a cut: how many lines are kept and, where lines might be rewritten, how many of
+/// these are; how many of those that are left out there are of each opcode, and whether the profile
+/// or liblouis has it; and for each file that has some, how many of its lines are read. Opcodes of
+/// more lines come first, and those of as many by name; files in the order in which include lines
+/// first lead to them.
 ///
 /// Every line ends with LF. `AllocError` if memory runs out.
 pub fn report_of_cut(alloc: Global, cut: &Cut, rewrite: bool) -> Result<String, AllocError>

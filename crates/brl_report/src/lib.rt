@@ -2,9 +2,9 @@
 //! translation from the first one that the other text doesn't have. `push_clash_line` has the same
 //! clash in one line, with the two rules at which its texts diverge. `trace_report` has one text,
 //! its cells and all its steps. `survey_report` has the lines of a table that have a fault by
-//! themselves, `skipped_report` the dictionaries that a survey skipped. `report_of_cut` says how many
-//! lines of a table are kept in a cut of it. `rules_report` has the rules of a table by their numbers,
-//! `unused_report` those that no text uses.
+//! themselves, `skipped_report` the dictionaries that a survey skipped. `report_of_cut` says how
+//! many lines of a table are kept in a cut of it. `rules_report` has the rules of a table by their
+//! numbers, `unused_report` those that no text uses.
 //!
 //! Room 5, the program (docs/dev/ARCHITECTURE.md). The definitions begin in `specs/Report.antt`.
 #![tactic(auto)]

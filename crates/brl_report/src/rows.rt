@@ -37,8 +37,8 @@ fn push_rows(alloc: Global, text: &mut String, rows: &[Row]) -> Result<(), Alloc
     Ok(())
 }
 
-/// Appends the lines of steps to a text, each with those of these lines of the table by which the step
-/// is made.
+/// Appends the lines of steps to a text, each with those of these lines of the table by which the
+/// step is made.
 pub fn push_steps(
     alloc: Global,
     table: &Table,

@@ -122,9 +122,9 @@ pub fn first_unknown(table: &Table, numbers: &[u32]) -> Option<u32>
 }
 
 /// The rules of a table that have these numbers, each with the opcode of its line among the table's
-/// lines: for each a line with the number, the opcode, the characters as they are spelled in a table,
-/// the cells in dots, and the file and line. For a character's own definition these are of the line
-/// that gave it its cells. A number that no rule has gives no line.
+/// lines: for each a line with the number, the opcode, the characters as they are spelled in a
+/// table, the cells in dots, and the file and line. For a character's own definition these are of
+/// the line that gave it its cells. A number that no rule has gives no line.
 ///
 /// Every line ends with LF. `AllocError` if memory runs out.
 pub fn rules_report(
@@ -144,8 +144,8 @@ pub fn rules_report(
 }
 
 /// What the rule of a table with a number says: the opcode of its line among the table's lines, its
-/// characters as they are spelled in a table, and its cells in dots, with a blank between two of these.
-/// It names neither the rule's number nor its line. Empty where no rule has the number.
+/// characters as they are spelled in a table, and its cells in dots, with a blank between two of
+/// these. It names neither the rule's number nor its line. Empty where no rule has the number.
 pub fn rule_words(
     alloc: Global,
     table: &Table,
@@ -374,8 +374,8 @@ fn defining_opcode<'a>(line: &Line<'a>) -> &'a str
     line.operands.first().map_or("", |next| next.text)
 }
 
-/// Appends the first of these lines that is looked for, if there is one: its file and number, and its
-/// words.
+/// Appends the first of these lines that is looked for, if there is one: its file and number, and
+/// its words.
 pub(crate) fn push_source(
     lines: &[Line<'_>],
     wanted: Wanted<'_>,

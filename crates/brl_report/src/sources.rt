@@ -9,8 +9,9 @@ use brl_rules::{Info, Sign};
 use std::alloc::AllocError;
 
 impl Lined<'_> {
-    /// The lines by which a step is made, among the lines of a table: those of its indicators, and that
-    /// of its rule; none where no lines are given. Each has its file and number, and its words.
+    /// The lines by which a step is made, among the lines of a table: those of its indicators, and
+    /// that of its rule; none where no lines are given. Each has its file and number, and its
+    /// words.
     pub(crate) fn step_sources(&self, step: &ReportStep) -> Result<String, AllocError>
         ensures { IfOk result (λ text. string_bytes text ≡ step_sources self.now.table.now (map line_view self.now.lines.now) step.now) }
     {

@@ -19,8 +19,8 @@ use std::alloc::Global;
 /// The report of a text: the text, its cells, and the steps of its translation. A step's line has
 /// its characters, the cells of the indicators before them (`-` for none), the cells of its rule,
 /// and the file and line of its rule, or of the line that gave the character its cells. It is
-/// followed by those of `lines` by which the step is made: the lines of its indicators, and that of its
-/// rule. With no lines given there are none.
+/// followed by those of `lines` by which the step is made: the lines of its indicators, and that of
+/// its rule. With no lines given there are none.
 ///
 /// Every line ends with LF. Texts are spelled as in an operand of a table. The columns before the
 /// location are as wide as their widest entries. `UnknownChar` where the table doesn't define a

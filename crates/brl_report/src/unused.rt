@@ -11,9 +11,9 @@ use brl_lines::Line;
 use brl_rules::Table;
 use std::alloc::{AllocError, Global};
 
-/// The rules of a table that have these numbers, as those that no text uses: for each the entry of the
-/// list of rules, and the rule that is chosen for its characters where these are a text. The last line
-/// says how many they are, and how many rules the table has.
+/// The rules of a table that have these numbers, as those that no text uses: for each the entry of
+/// the list of rules, and the rule that is chosen for its characters where these are a text. The
+/// last line says how many they are, and how many rules the table has.
 ///
 /// Every line ends with LF. `AllocError` if memory runs out.
 pub fn unused_report(
@@ -73,8 +73,8 @@ fn rule_in_place(alloc: Global, table: &Table, number: u32) -> Result<Option<u32
     first_rule(alloc, table, &[character])
 }
 
-/// The rule of the first step of a text's trace. `None` where the table doesn't define a character of
-/// the text, and for an empty text.
+/// The rule of the first step of a text's trace. `None` where the table doesn't define a character
+/// of the text, and for an empty text.
 fn first_rule(alloc: Global, table: &Table, text: &[char]) -> Result<Option<u32>, AllocError>
     ensures { IfOk result (λ found. found ≡ rule_of_first_step table.now text.now) }
 {

@@ -13,10 +13,10 @@ use Rattle.brl_rules.specs.Places.{letter, share}
 use Rattle.brl_rules.specs.Text.{has_word_capitals, is_capital, is_in_caps_run}
 
 -- whether a table uses an indicator before a character that is in a run of capitals, or isn't: the
--- one after a run, which is for tables with word capitals, before a letter that isn't a capital; the
--- no-contract sign in numeric mode before a character that could be read as a digit; the number sign
--- outside numeric mode before a literary digit; the one before a run at its first capital; and the
--- capital sign before a capital that is in no run
+-- one after a run, which is for tables with word capitals, before a letter that isn't a capital;
+-- the no-contract sign in numeric mode before a character that could be read as a digit; the number
+-- sign outside numeric mode before a literary digit; the one before a run at its first capital; and
+-- the capital sign before a capital that is in no run
 abbrev pub is_used : TableView → Context → Bool → Info → Sign → Bool
 is_used t here run info EndCapsWord = here.run && has_word_capitals t && share info.classes letter && not (is_capital info.classes)
 is_used t here run info NoContractSign = here.numeric && info.nocont

@@ -1,14 +1,14 @@
 -- Rank: which of two rules is tried first. The manual, section "Translation Opcodes": of several
 -- eligible entries the one with the longest character string is used, and of those for one string
--- the one defined first is tested first. That of rules of one length those with a place of their own
--- come before `always` rules, and that else the earlier line comes first, also of different strings,
+-- the one defined first is tested first. That of rules of one length those with a place of their
+-- own come before `always` rules, and that else the earlier line is first, also of other strings,
 -- are this project's own choices: at one position rules of one length differ in case alone.
 use Rattle.std.specs.Prelude.{ℕ, ◌≡◌, ◌&&◌, ◌||◌, ◌==◌, Bool, false, not, nat_lt, AllPairs, List, [], ◌∷◌, length, filter, if◌then◌else◌}
 use Rattle.std.specs.List.Sorted.{ties}
 use Rattle.brl_rules.specs.declared.rule.Rule.{Rule}
 use Rattle.brl_rules.specs.Places.{is_placed}
 
--- one rule outranks another: it has more characters, or as many, and it is placed and the other isn't
+-- a rule outranks another: it has more characters, or as many, and it is placed and the other isn't
 abbrev pub outranks : Rule → Rule → Bool
 outranks r s = nat_lt (length s.chars) (length r.chars) || ((length r.chars == length s.chars) && is_placed r.place && not (is_placed s.place))
 

@@ -3,7 +3,8 @@ use crate::{Class, Info, Sign, Table};
 use bitflags::Flags;
 
 /// What a position of a text knows of the characters before it: the classes of the last one (class
-/// space at the text's start), whether numeric mode holds, and whether a run of capitals goes there.
+/// space at the text's start), whether numeric mode holds, and whether a run of capitals goes
+/// there.
 #[derive(Clone, Copy, PartialEq, Eq, Hash, Debug)]
 pub struct Context {
     pub classes: Class,

@@ -1,6 +1,6 @@
 //! Braille tables. A `Table` has characters with their classes (`Info`, `Class`), rules with their
-//! places (`Rule`, `Place`) and the cells of indicators (`Sign`); it is made from `TableParts`. At a
-//! position of a text it gives the indicators, by the `Context` there, and the chosen rule
+//! places (`Rule`, `Place`) and the cells of indicators (`Sign`); it is made from `TableParts`. At
+//! a position of a text it gives the indicators, by the `Context` there, and the chosen rule
 //! (`Choice`). The specs define forward translation, on which every crate above builds.
 //!
 //! Room 1, text and tables (docs/dev/ARCHITECTURE.md). The definitions begin in

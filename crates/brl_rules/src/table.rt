@@ -148,8 +148,8 @@ impl Table {
     }
 }
 
-/// Puts rules in rank: longer ones first, of one length those that are placed before `always` rules,
-/// and else in the order that they have.
+/// Puts rules in rank: longer ones first, of one length those that are placed before `always`
+/// rules, and else in the order that they have.
 fn rank(rules: &mut Vec<Rule>) -> Result<(), AllocError>
     ensures ranking { OnOk result (IsRanking rules.old.items rules.new.items) }
     ensures permutation { IsPermutation rules.old.items rules.new.items }

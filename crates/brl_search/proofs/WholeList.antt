@@ -1,4 +1,5 @@
--- A whole list has just the pairs of rules at which the traces of clashing texts diverge, so there is one.
+-- A whole list has just the pairs of rules at which the traces of clashing texts diverge, so there
+-- is one.
 use Rattle.std.proofs.Common.{◌≡◌, ◌∙◌, ◌≤◌, ℕ, zero, suc, false, IsTrue, List, [], ◌∷◌, inl, inr, Some, take, refl, sym, ap, arith, subst, subst₂}
 use Rattle.std.specs.Prelude.{slice_get}
 use Rattle.std.specs.List.{AllByRecursion, AllZip}

@@ -1,4 +1,5 @@
--- Every pair of rules of a table at which clashing texts diverge. These are this project's own choice.
+-- Every pair of rules of a table at which clashing texts diverge. These are this project's own
+-- choice.
 use Rattle.std.specs.Prelude.{ℕ, ◌+◌, ◌<◌, ◌≤◌, ◌⊎◌, ◌↔◌, All, IsTrue, List, [], ◌∷◌, Some, length, map}
 use Rattle.std.specs.List.Sorted.{IsStrictlySortedBy}
 use Rattle.brl_closure.specs.Answers.{IsWithin}
@@ -22,7 +23,8 @@ abbrev pub rules_of_clashes : List RuleClash → List (ℕ × ℕ)
 rules_of_clashes list = map (λ (c : RuleClash). (c.lesser, c.greater)) list
 
 -- Two texts that use none of some characters clash, and their traces diverge at this pair of rules,
--- the lesser number first. No character can be left out of them so that they clash and diverge there.
+-- the lesser number first. No character can be left out of them so that they clash and diverge
+-- there.
 pub record IsRuleClash (left_out : List ℕ) (t : TableView) (c : RuleClash) : Type 0 where
   pub in_order : c.lesser ≤ c.greater
   pub clash : IsClashWithout left_out t c.clash.left c.clash.right c.clash.cells
@@ -34,9 +36,9 @@ pub record AreRuleClashes (left_out : List ℕ) (t : TableView) (list : List Rul
   pub ascending : IsStrictlySortedBy compare_rules (rules_of_clashes list)
   pub each : All (IsRuleClash left_out t) list
 
--- Any two texts that use none of some characters and that are translated to the same cells are equal,
--- or their traces diverge at one of these pairs of rules. These states and pairs show it, and the list
--- is the one complete list of the machine. It is within the limit, as they are.
+-- Any two texts that use none of some characters and that are translated to the same cells are
+-- equal, or their traces diverge at one of these pairs of rules. These states and pairs show it,
+-- and the list is the one complete list of the machine. It is within the limit, as they are.
 pub record IsWholeList (left_out : List ℕ) (t : TableView) (limit : ℕ) (list : List RuleClash) (body : BodyView State) : Type 0 where
   pub no_other : ClashesDivergeAtWithout left_out (rules_of_clashes list) t
   pub closed : IsClosedBut (without left_out (machine_of t)) (rules_of_clashes list) (sets_of body)
@@ -44,8 +46,8 @@ pub record IsWholeList (left_out : List ℕ) (t : TableView) (limit : ℕ) (list
   pub within : IsWithin limit body
   pub few_rules : length list ≤ limit
 
--- two texts that use none of some characters clash, and their traces diverge at the pair of these two
--- rules
+-- two texts that use none of some characters clash, and their traces diverge at the pair of these
+-- two rules
 pub record ClashesDiverge (left_out : List ℕ) (t : TableView) (r s : ℕ) : Type 0 where
   pub left : List ℕ
   pub right : List ℕ
@@ -57,8 +59,8 @@ pub record ClashesDiverge (left_out : List ℕ) (t : TableView) (r s : ℕ) : Ty
 abbrev pub AreJustThose : List ℕ → TableView → List (ℕ × ℕ) → Type 0
 AreJustThose left_out t rules = (r s : ℕ) → IsTrue (has_rules rules r s) ↔ ClashesDiverge left_out t r s
 
--- one of three numbers is more than the limit, none by more than one, and no more states or pairs are
--- counted than are reached
+-- one of three numbers is more than the limit, none by more than one, and no more states or pairs
+-- are counted than are reached
 pub record IsOverLimit (left_out : List ℕ) (t : TableView) (limit rules states pairs : ℕ) : Type 0 where
   pub passed : (limit < states) ⊎ ((limit < pairs) ⊎ (limit < rules))
   pub few_states : states ≤ limit + 1

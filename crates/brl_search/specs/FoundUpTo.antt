@@ -1,5 +1,5 @@
--- What a search of a table may answer where pairs of rules are accepted, and others may be exchanged.
--- These are this project's own choice.
+-- What a search of a table may answer where pairs of rules are accepted, and others may be
+-- exchanged. These are this project's own choice.
 use Rattle.std.specs.Prelude.{ℕ, ◌≡◌, Bool, true, false, ◌||◌, List, [], ◌++◌}
 use Rattle.brl_closure.specs.Answers.{IsWithin}
 use Rattle.brl_closure.specs.Excusing.{IsRefusedUpTo}
@@ -24,24 +24,27 @@ use Rattle.brl_closure.specs.declared.check.fault.AcceptFault.{AcceptFault}
 abbrev pub is_excused : Excused → RuleClash → Bool
 is_excused excused c = has_rules excused.accepted c.lesser c.greater || has_rules excused.exchanged c.lesser c.greater
 
--- States and pairs, at most `limit` of each, are closed but for what is excused. So any two texts that
--- use none of some characters and are translated to the same cells are the same step by step but for
--- exchanges, to their ends or up to a place where they diverge at an accepted pair of rules.
+-- States and pairs, at most `limit` of each, are closed but for what is excused. So any two texts
+-- that use none of some characters and are translated to the same cells are the same step by step
+-- but for exchanges, to their ends or up to a place where they diverge at an accepted pair of
+-- rules.
 pub record IsCertifiedUpTo (left_out : List ℕ) (excused : Excused) (t : TableView) (limit : ℕ) (body : BodyView State) : Type 0 where
   pub closed : IsClosedUpTo (without left_out (machine_of t)) excused.exchanged excused.accepted (sets_of body)
   pub agree : TextsAgreeBut left_out excused.exchanged excused.accepted t
   pub within : IsWithin limit body
 
--- Some pairs may be exchanged, and texts diverge at no pairs but these and those that are accepted. But
--- states and pairs that show it are refused with this fault where the first may only be exchanged.
+-- Some pairs may be exchanged, and texts diverge at no pairs but these and those that are accepted.
+-- But states and pairs that show it are refused with this fault where the first may only be
+-- exchanged.
 pub record IsNotExchangeable (left_out : List ℕ) (excused : Excused) (t : TableView) (fault : AcceptFault) : Type 0 where
   pub some : excused.exchanged ≡ [] → ⊥
   pub no_other : ClashesDivergeAtWithout left_out (excused.accepted ++ excused.exchanged) t
   pub body : BodyView State
   pub refused : IsRefusedUpTo (without left_out (machine_of t)) excused body fault
 
--- Texts diverge at no pairs of rules but those that are excused, and the states and pairs show it, which
--- are at most `limit` of each. Where none may be exchanged, they are closed but for the accepted pairs.
+-- Texts diverge at no pairs of rules but those that are excused, and the states and pairs show it,
+-- which are at most `limit` of each. Where none may be exchanged, they are closed but for the
+-- accepted pairs.
 pub record AreAllExcused (left_out : List ℕ) (excused : Excused) (t : TableView) (limit : ℕ) (body : BodyView State) : Type 0 where
   pub no_other : ClashesDivergeAtWithout left_out (excused.accepted ++ excused.exchanged) t
   pub within : IsWithin limit body

@@ -19,12 +19,13 @@ pub record IsUsed (t : TableView) (number : ℕ) : Type 0 where
   pub one : Contains (trace_of t text) step
   pub of_rule : step.rule ≡ number
 
--- a rule of the table has this number: one in rank or, after these, the own definition of a character
+-- a rule of the table has this number: one in rank or, after these, the own definition of a
+-- character
 abbrev pub IsRule : TableView → ℕ → Type 0
 IsRule t number = number < length t.rules + length t.characters
 
--- These are the numbers of the rules that no text uses, ascending. Of each other rule there is a text
--- that uses it.
+-- These are the numbers of the rules that no text uses, ascending. Of each other rule there is a
+-- text that uses it.
 pub record AreUnused (t : TableView) (numbers : List ℕ) : Type 0 where
   pub ascending : AreAscending numbers
   pub rules : (number : ℕ) → Contains numbers number → IsRule t number

@@ -5,13 +5,14 @@
 //! - `found_without` makes what is found from the outcome of the machine's search.
 //! - `clashes` lists every pair of rules at which clashing texts diverge, each with a clash, or as
 //!   many as the limit lets it find. `clashes_without` makes the list from that of the machine.
-//! - `search_up_to` searches a table where pairs of rules are accepted, and others may be exchanged.
-//! - `small_clash_of` leaves characters out of two `Texts` while they clash, and where a pair of rules
-//!   is given, while `clash_at` says that their traces diverge at it.
+//! - `search_up_to` searches a table where pairs of rules are accepted, and others may be
+//!   exchanged.
+//! - `small_clash_of` leaves characters out of two `Texts` while they clash, and where a pair of
+//!   rules is given, while `clash_at` says that their traces diverge at it.
 //! - `unused_rules` lists the rules of a table that no text uses.
 //! - `seed_of` is the seed by which the search hashes what it finds.
-//! - The laws state what is reached of the table's dues machine, and that there is one whole list of
-//!   clashes.
+//! - The laws state what is reached of the table's dues machine, and that there is one whole list
+//!   of clashes.
 //!
 //! By a table of the lines `letter a 1` and `letter b 12`, with at most a million states and as
 //! many pairs:

@@ -6,8 +6,8 @@ use std::alloc::{AllocError, Global};
 
 /// The seed by which the search of a table hashes states and pairs. It is drawn from all that the
 /// table's machine depends on, so that nobody can make a table whose states have one hash: the
-/// characters with their classes, modes, folds and cells, the rules with their characters, cells and
-/// places, and the cells of the indicators.
+/// characters with their classes, modes, folds and cells, the rules with their characters, cells
+/// and places, and the cells of the indicators.
 pub fn seed_of(alloc: Global, table: &Table) -> Result<Seed, AllocError> {
     let mut bytes = Vec::new(alloc);
     for number in 0..table.char_count() {

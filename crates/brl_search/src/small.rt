@@ -20,14 +20,16 @@ struct Wanted<'a> {
     rules: Option<(u32, u32)>,
 }
 
-/// The clash of two texts that are known to clash, made small: characters are left out of both until
-/// no one character of either text, nor one of each, can be left out so that they clash. Where a pair
-/// of rules is given, at which the traces of the two texts diverge, only such clashes count.
+/// The clash of two texts that are known to clash, made small: characters are left out of both
+/// until no one character of either text, nor one of each, can be left out so that they clash.
+/// Where a pair of rules is given, at which the traces of the two texts diverge, only such clashes
+/// count.
 ///
-/// Each time that a character of one text or of each is left out, and the last time, when none can be,
-/// this costs one translation for each character of the two texts, and a comparison of two numbers for
-/// each two places. Before that half of the characters, from some place on, are tried at once, then a
-/// quarter, and so on, which costs at most eight translations for each character of the left text.
+/// Each time that a character of one text or of each is left out, and the last time, when none can
+/// be, this costs one translation for each character of the two texts, and a comparison of two
+/// numbers for each two places. Before that half of the characters, from some place on, are tried
+/// at once, then a quarter, and so on, which costs at most eight translations for each character of
+/// the left text.
 pub fn small_clash_of(
     alloc: Global,
     table: &Table,
@@ -52,8 +54,8 @@ pub fn small_clash_of(
 }
 
 impl<'a> Wanted<'a> {
-    /// Two texts that clash, without blocks of their first characters: first long blocks, then shorter
-    /// ones.
+    /// Two texts that clash, without blocks of their first characters: first long blocks, then
+    /// shorter ones.
     fn without_blocks(&self, given: Texts) -> Result<Texts, AllocError>
         requires { ClashAt self.now.table.now self.now.rules given.left.items given.right.items }
         ensures { IfOk result (Keeps self.now.table.now self.now.rules given) }
@@ -67,8 +69,8 @@ impl<'a> Wanted<'a> {
         Ok(texts)
     }
 
-    /// Two texts that clash, without each block of this many characters that can be left out of both at
-    /// one place.
+    /// Two texts that clash, without each block of this many characters that can be left out of
+    /// both at one place.
     fn without_blocks_of(&self, given: Texts, size: usize) -> Result<Texts, AllocError>
         requires clash { ClashAt self.now.table.now self.now.rules given.left.items given.right.items }
         requires size { 0 < size }
@@ -121,8 +123,8 @@ impl<'a> Wanted<'a> {
         Ok(None)
     }
 
-    /// Two texts without the character at a place of the left one, and without none or one of the right
-    /// one, if they clash then. The place after the last character means the whole text.
+    /// Two texts without the character at a place of the left one, and without none or one of the
+    /// right one, if they clash then. The place after the last character means the whole text.
     fn without_one_at(
         &self,
         texts: &Texts,

@@ -18,8 +18,8 @@ use brl_traces::{dues_divergence_law, dues_trace_law};
 use brl_without::{LeftOut, Scope, Without, exact_without_law};
 use std::alloc::{AllocError, Global};
 
-/// A pair of rules, by their numbers, and a clash whose texts diverge at it. No character can be left
-/// out of these so that they clash and diverge there.
+/// A pair of rules, by their numbers, and a clash whose texts diverge at it. No character can be
+/// left out of these so that they clash and diverge there.
 #[derive(Drop)]
 pub struct RuleClash {
     pub lesser: u32,
@@ -45,10 +45,11 @@ pub enum ClashList {
 }
 
 /// Lists every pair of rules of a table at which clashing texts diverge that use none of some
-/// characters, over its dues machine without these. What is found so far is reported slice by slice.
+/// characters, over its dues machine without these. What is found so far is reported slice by
+/// slice.
 ///
-/// `Partial` as soon as the states found, the pairs found or the pairs of rules listed are more than
-/// `limit`.
+/// `Partial` as soon as the states found, the pairs found or the pairs of rules listed are more
+/// than `limit`.
 pub fn clashes<P: Progress>(
     alloc: Global,
     table: &Table,

@@ -35,8 +35,8 @@ pub enum Found {
 pub type SearchFault = AllocError;
 
 /// Searches a table for a certificate or a clash, over its dues machine. The certificate is of
-/// version 3. Its states are in the order in which they are found: the start first, and then each as
-/// the next state of a step of an earlier one.
+/// version 3. Its states are in the order in which they are found: the start first, and then each
+/// as the next state of a step of an earlier one.
 ///
 /// `Limit` as soon as the states found, or the pairs found, are more than `limit`.
 pub fn search(alloc: Global, table: &Table, limit: u64) -> Result<Found, SearchFault>
@@ -52,9 +52,9 @@ pub fn search(alloc: Global, table: &Table, limit: u64) -> Result<Found, SearchF
     search_with(alloc, table, limit, scope)
 }
 
-/// Searches a table for a certificate or a clash of texts that use none of some characters, over its
-/// dues machine without these. Else the same as `search`. What is found so far is reported slice by
-/// slice.
+/// Searches a table for a certificate or a clash of texts that use none of some characters, over
+/// its dues machine without these. Else the same as `search`. What is found so far is reported
+/// slice by slice.
 pub fn search_with<P: Progress>(
     alloc: Global,
     table: &Table,

@@ -20,9 +20,9 @@ pub enum UnusedRules {
     Limit { states: u64 },
 }
 
-/// The rules of a table that no text over its characters uses, of any length: the rules that no path of
-/// its dues machine takes. Own definitions of characters are rules too. How many states are found is
-/// reported. `Limit` as soon as they are more than `limit`.
+/// The rules of a table that no text over its characters uses, of any length: the rules that no
+/// path of its dues machine takes. Own definitions of characters are rules too. How many states are
+/// found is reported. `Limit` as soon as they are more than `limit`.
 pub fn unused_rules<P: Progress>(
     alloc: Global,
     table: &Table,

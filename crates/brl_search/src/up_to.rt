@@ -21,23 +21,23 @@ use std::alloc::{AllocError, Global};
 /// What a search of a table finds where something is excused.
 #[derive(Drop)]
 pub enum FoundUpTo {
-    /// A certificate: texts with the same translation are the same but for exchanges, to their ends or
-    /// up to a place where they diverge at an accepted pair of rules.
+    /// A certificate: texts with the same translation are the same but for exchanges, to their ends
+    /// or up to a place where they diverge at an accepted pair of rules.
     Certified(Cert),
     /// A clash whose texts diverge at a pair of rules that is neither accepted nor exchanged.
     Clashing(RuleClash),
-    /// Texts diverge at no other pairs, but steps of exchanged ones can't be exchanged everywhere. This
-    /// is the first fault of the states and pairs that show it.
+    /// Texts diverge at no other pairs, but steps of exchanged ones can't be exchanged everywhere.
+    /// This is the first fault of the states and pairs that show it.
     NotExchangeable(AcceptFault),
     /// This number of states and this number of pairs were found when one of the two, or the number
     /// of pairs of rules at which texts diverge, became more than the limit.
     Limit { states: u64, pairs: u64 },
 }
 
-/// Searches a table for a certificate or a clash of texts that use none of some characters, where some
-/// pairs of rules are accepted, and others may be exchanged. It lists the pairs of rules at which
-/// clashing texts diverge, as `clashes` does, and then checks what shows that there are no others. The
-/// observer of its progress hears of both.
+/// Searches a table for a certificate or a clash of texts that use none of some characters, where
+/// some pairs of rules are accepted, and others may be exchanged. It lists the pairs of rules at
+/// which clashing texts diverge, as `clashes` does, and then checks what shows that there are no
+/// others. The observer of its progress hears of both.
 ///
 /// The clash is that of the least pair of rules that isn't excused. `Limit` as soon as the states
 /// found, the pairs found or the pairs of rules listed are more than `limit`, where each that is

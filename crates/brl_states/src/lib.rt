@@ -1,7 +1,7 @@
 //! The states of the two machines of a table, and certificates, which list them.
 //!
-//! A state of the window machine knows some of the characters to come; one of the dues machine knows
-//! what is still due of them. The machines themselves, and what a certificate must list to be
+//! A state of the window machine knows some of the characters to come; one of the dues machine
+//! knows what is still due of them. The machines themselves, and what a certificate must list to be
 //! accepted, stand in crates above.
 //!
 //! Room 3, the machines of a table (docs/dev/ARCHITECTURE.md). The definitions begin in

@@ -1,8 +1,8 @@
 //! Streams: the input of a reader is translated line by line, and written to a writer. `Input` and
 //! `Output` are the reader and the writer, which `Counting` makes of those of the standard library;
 //! `translate_lines` does the work. `StreamFault` is the first fault, with its line, from 1.
-//! `translate_defined_lines` passes over the lines with a character that the table doesn't define, and
-//! lists these characters.
+//! `translate_defined_lines` passes over the lines with a character that the table doesn't define,
+//! and lists these characters.
 //!
 //! By a table of the lines `letter a 1` and `letter b 12`:
 //!

@@ -47,12 +47,12 @@ pub fn translate_lines<R: Input, W: Output>(
 }
 
 /// Translates the lines of an input that have no character that the table doesn't define, as
-/// `translate_lines` does. Nothing is written for the other lines. Answers the characters that the table
-/// doesn't define, in the order of their first uses, each with its number of uses and the number of
-/// the first line that has it, from 1.
+/// `translate_lines` does. Nothing is written for the other lines. Answers the characters that the
+/// table doesn't define, in the order of their first uses, each with its number of uses and the
+/// number of the first line that has it, from 1.
 ///
-/// Faults are those of `translate_lines` but for `UnknownChar`; the first one ends the stream. The list
-/// takes memory by the number of its characters.
+/// Faults are those of `translate_lines` but for `UnknownChar`; the first one ends the stream. The
+/// list takes memory by the number of its characters.
 pub fn translate_defined_lines<R: Input, W: Output>(
     alloc: Global,
     table: &Table,

@@ -51,9 +51,9 @@ pub struct Findings {
 }
 
 /// The lines that have a fault, in order, each with its fault. These are the faults of the first
-/// pass of `read_table` and, where it finds none, those of the second one. A line with a fault of the
-/// first pass defines nothing: each line is read after the good lines before it. `AllocError` if
-/// memory runs out.
+/// pass of `read_table` and, where it finds none, those of the second one. A line with a fault of
+/// the first pass defines nothing: each line is read after the good lines before it. `AllocError`
+/// if memory runs out.
 pub fn survey(alloc: Global, lines: &[Line<'_>]) -> Result<Findings, AllocError>
     ensures { IfOk result (λ found. findings_view found ≡ survey_of (map line_view lines.now)) }
 {
@@ -152,8 +152,8 @@ fn faulty_line(
     Ok(FaultyLine { opcode, fault })
 }
 
-/// The opcode of a line: its first word, and after `noback` or `nofor` and a blank what follows that,
-/// if anything does.
+/// The opcode of a line: its first word, and after `noback` or `nofor` and a blank what follows
+/// that, if anything does.
 fn named_opcode(alloc: Global, line: &Line<'_>) -> Result<String, AllocError>
     ensures { IfOk result (λ opcode. string_bytes opcode ≡ opcode_by (line_view line.now)) }
 {
@@ -175,9 +175,9 @@ fn prefixed_word<'a>(line: &Line<'a>) -> Option<&'a str>
     }
 }
 
-/// A survey finds no line with a fault by itself exactly where the first pass finds none. Where that
-/// finds the first fault of the lines, it is that of the first line found. It finds no faulty line at
-/// all exactly where both passes find none, so that the lines define a table.
+/// A survey finds no line with a fault by itself exactly where the first pass finds none. Where
+/// that finds the first fault of the lines, it is that of the first line found. It finds no faulty
+/// line at all exactly where both passes find none, so that the lines define a table.
 pub fn survey_laws()
     ensures none { (lines : List LineView) → (faulty_lines lines ≡ []) ↔ PassesFirst lines }
     ensures first { (lines : List LineView) (found : Fault) → IsFaultOf lines found → (PassesFirst lines → ⊥) →

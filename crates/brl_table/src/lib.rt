@@ -2,9 +2,10 @@
 //!
 //! A line is read to an `Item` by itself; a `TableBuilder` adds up the items in a first pass, and
 //! resolves the characters of rules and lists in a second one. `survey` lists the lines with a
-//! fault of the first pass or, where none has one, of the second. `TableFault` is why lines define no table, `NoTable` why files define none.
-//! A table with its rules, classes and indicators is defined in `brl_rules`, and all of that crate
-//! is reached from here: `Table`, `Rule`, `Info`, `Class`.
+//! fault of the first pass or, where none has one, of the second. `TableFault` is why lines define
+//! no table, `NoTable` why files define none. A table with its rules, classes and indicators is
+//! defined in `brl_rules`, and all of that crate is reached from here: `Table`, `Rule`, `Info`,
+//! `Class`.
 //!
 //! From files whose `t.ctb` has the lines `letter a 1` and `letter b 12`:
 //!

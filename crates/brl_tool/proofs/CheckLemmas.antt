@@ -1,4 +1,5 @@
--- What is answered for the judge's outcome, by the source as it was before the certificate's file was read.
+-- What is answered for the judge's outcome, by the source as it was before the certificate's file
+-- was read.
 use Rattle.std.proofs.Common.{◌≡◌, ℕ, ◌<◌, List, length, ◌⊎◌, inl, inr, Result, Ok, Err, IfOk, IfErr, arith, refl, subst, sym}
 use Rattle.brl_accept.specs.Judging.{IsAcceptedWithout, IsRefusedByWithout}
 use Rattle.brl_closure.specs.declared.check.checker.Accepted.{Accepted}

@@ -41,8 +41,8 @@ abbrev pub IsBaseline : FileAnswers → Option (List ℕ) → Option (List ℕ) 
 IsBaseline gives None baseline = baseline ≡ None
 IsBaseline gives (Some path) baseline = (text : List ℕ) × (baseline ≡ Some text) × gives.may path (Holds text)
 
--- the pairs that are accepted of those that sections list: those that the text of a file names, where
--- each line of it is good; none without such a text
+-- the pairs that are accepted of those that sections list: those that the text of a file names,
+-- where each line of it is good; none without such a text
 abbrev pub AreAccepted : Option (List ℕ) → TableView → List LineView → List Section → List (ℕ × ℕ) → Type 0
 AreAccepted None t lines sections accepted = accepted ≡ []
 AreAccepted (Some text) t lines sections accepted = Accepts t (wording t lines) (sets_of_table t) (listed_pairs sections) (are_whole sections) text accepted
@@ -51,8 +51,8 @@ AreAccepted (Some text) t lines sections accepted = Accepts t (wording t lines) 
 abbrev pub accepted_number : Option (List ℕ) → List (ℕ × ℕ) → Option ℕ
 accepted_number baseline accepted = option_map (λ text. length accepted) baseline
 
--- the first bad line of a file of accepted pairs, by its path and its text, is refused beside what these
--- sections list
+-- the first bad line of a file of accepted pairs, by its path and its text, is refused beside what
+-- these sections list
 abbrev pub IsBadLine : TableView → List LineView → List Section → List ℕ → List ℕ → AcceptFault → Type 0
 IsBadLine t lines sections path text fault = IsRefused (wording t lines) (sets_of_table t) (listed_pairs sections) (are_whole sections) path text fault
 

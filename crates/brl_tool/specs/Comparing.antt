@@ -16,8 +16,8 @@ use Rattle.brl_cli.specs.declared.command.TextOptions.{TextOptions}
 use Rattle.brl_table.specs.Reading.{table_of}
 use Rattle.brl_tool.specs.ByLines.{ByLines, shown_lines}
 
--- the answer for two texts of a table: the report of a clash, with those of these lines by which each
--- step is made, or that there is none
+-- the answer for two texts of a table: the report of a clash, with those of these lines by which
+-- each step is made, or that there is none
 abbrev pub IsComparison : TableView → List LineView → List ℕ → List ℕ → Answer → Type 0
 IsComparison t lines left right answer =
     ((cells : List ℕ) × IsClash t left right cells × HasTextAndStatus Refuted (report_text_with t lines left right cells) answer)

@@ -27,10 +27,10 @@ status_of_outcome Unambiguous = Done
 status_of_outcome Clashing = Refuted
 status_of_outcome Unfinished = Undecided
 
--- The answer with what is left of the sections of a table of these lines beside the pairs that the text
--- of a file accepts. The sections are what is found with a limit without the characters that are left
--- out; `first` clashes of a section are shown. The pairs of rules that are left go to the file at a path,
--- where one is asked for and the list is whole.
+-- The answer with what is left of the sections of a table of these lines beside the pairs that the
+-- text of a file accepts. The sections are what is found with a limit without the characters that
+-- are left out; `first` clashes of a section are shown. The pairs of rules that are left go to the
+-- file at a path, where one is asked for and the list is whole.
 pub record IsDiagnosis (left_out : List ℕ) (t : TableView) (lines : List LineView) (limit first : ℕ) (baseline write : Option (List ℕ)) (answer : Answer) : Type 0 where
   pub found : List Section
   pub accepted : List (ℕ × ℕ)
@@ -42,8 +42,9 @@ pub record IsDiagnosis (left_out : List ℕ) (t : TableView) (lines : List LineV
   pub status : answer.status ≡ status_of_outcome (outcome_of left)
   pub files : AreFilesWith write (are_whole left) (text_of_pairs t lines left) answer.files
 
--- The clashes of a table of these lines were listed, beside the pairs of a file that accepts some. Or the
--- table doesn't define what is left out; or it does, and that file has no text, or a bad line.
+-- The clashes of a table of these lines were listed, beside the pairs of a file that accepts some.
+-- Or the table doesn't define what is left out; or it does, and that file has no text, or a bad
+-- line.
 abbrev pub Diagnoses : List ℕ → FileAnswers → TableView → List LineView → ℕ → ℕ → Option (List ℕ) → Option (List ℕ) → Result Answer RunFault → Type 0
 Diagnoses left_out gives t lines limit first accept write (Ok answer) =
     AreDefined t left_out × ((baseline : Option (List ℕ)) × IsBaseline gives accept baseline × IsDiagnosis left_out t lines limit first baseline write answer)
@@ -57,14 +58,15 @@ Diagnoses left_out gives t lines limit first accept write (Err (Accept fault)) =
 Diagnoses left_out gives t lines limit first accept write (Err Memory) = Unit {0}
 Diagnoses left_out gives t lines limit first accept write (Err fault) = ⊥
 
--- the same by the table of the file at a path, where the file that gets the pairs is none that is read
+-- the same by the table of the file at a path, where the file that gets the pairs is none that is
+-- read
 abbrev pub DiagnosesTable : List ℕ → FileAnswers → List ℕ → ℕ → ℕ → Option (List ℕ) → Option (List ℕ) → Result Answer RunFault → Type 0
 DiagnosesTable left_out gives path limit first accept write outcome =
     (paths : List (List ℕ)) × (lines : List LineView) × AreLinesOfFiles gives path paths lines × PassesAll lines × IsApart write (read_paths paths accept)
     × Diagnoses left_out gives (table_of lines) lines limit first accept write outcome
 
--- The clashes of the table of the file at a path were listed so. Or there is no table; or the file that
--- gets the pairs is one that is read. `same` says which paths may name one file.
+-- The clashes of the table of the file at a path were listed so. Or there is no table; or the file
+-- that gets the pairs is one that is read. `same` says which paths may name one file.
 abbrev pub DiagnosesByFile : List ℕ → FileAnswers → MayBeSame → List ℕ → ℕ → ℕ → Option (List ℕ) → Option (List ℕ) → Result Answer RunFault → Type 0
 DiagnosesByFile left_out gives same path limit first accept write (Err (Table fault)) = HasNoTable gives path (Table fault)
 DiagnosesByFile left_out gives same path limit first accept write (Err (Load fault)) =

@@ -17,7 +17,8 @@ abbrev pub listed_numbers : TableView → List ℕ → List ℕ
 listed_numbers t [] = rule_numbers t
 listed_numbers t (number ∷ numbers) = number ∷ numbers
 
--- the rules of a table of these lines were listed, or the fault names the first number that none has
+-- the rules of a table of these lines were listed, or the fault names the first number that none
+-- has
 abbrev pub Lists : TableView → List LineView → List ℕ → Result Answer RunFault → Type 0
 Lists t lines numbers (Ok answer) =
     (first_unknown t numbers ≡ None) × HasTextAndStatus Done (rules_text t lines (listed_numbers t numbers)) answer

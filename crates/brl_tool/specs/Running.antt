@@ -87,7 +87,8 @@ Answers (question.Clashes path limit first option pairs) gives same outcome =
 
 -- ---- What the status says of a question
 
--- these are the lines of the table of the file at a path, and the file at another excuses this of it
+-- these are the lines of the table of the file at a path, and the file at another excuses this of
+-- it
 abbrev pub IsExcusalOf : World → List ℕ → List ℕ → List LineView → Excused → ℕ → Type 0
 IsExcusalOf before path accept lines excused sets =
     AreLinesOf before.gives path lines × PassesAll lines × IsExcusedAt before.gives accept (table_of lines) lines excused sets
@@ -101,8 +102,8 @@ ReportsAcceptance before after path option =
     × ((states pairs : ℕ) × Prints before after (with_left_out_line left_out (accepted_line states pairs)))
 
 -- an acceptance was written that says what the file at a path excuses of the table of the file at
--- another: any two texts of that table that use none of what the option leaves out and that it translates
--- to the same cells are the same but for this
+-- another: any two texts of that table that use none of what the option leaves out and that it
+-- translates to the same cells are the same but for this
 abbrev pub ReportsAcceptanceUpTo : World → World → List ℕ → List ℕ → Option (List ℕ) → Type 0
 ReportsAcceptanceUpTo before after path accept option =
     (left_out : List ℕ) × (spelled_by option ≡ Ok left_out)
@@ -113,8 +114,8 @@ ReportsAcceptanceUpTo before after path accept option =
 abbrev pub ReportsRefusal : World → World → Type 0
 ReportsRefusal before after = (rest : List ℕ) × Prints before after (codes "refused: " ++ rest)
 
--- the report of two texts that clash by the table of the file at some path was written, with lines of
--- that table or without
+-- the report of two texts that clash by the table of the file at some path was written, with lines
+-- of that table or without
 abbrev pub ReportsClash : World → World → Type 0
 ReportsClash before after =
     (path left right cells : List ℕ) × (lines : List LineView) × AreLinesOf before.gives path lines × PassesAll lines
@@ -128,14 +129,15 @@ AreNamedBy gives None lines accepted = accepted ≡ []
 AreNamedBy gives (Some path) lines accepted =
     (text : List ℕ) × gives.may path (Holds text) × All (λ pair. IsTrue (is_excused (table_of lines) (wording (table_of lines) lines) (rows_of_text text) pair)) accepted
 
--- pairs of rules were written as the text of a file, where a path for it is asked for; no other file
--- changed
+-- pairs of rules were written as the text of a file, where a path for it is asked for; no other
+-- file changed
 abbrev pub WritesPairs : World → World → Option (List ℕ) → List ℕ → Type 0
 WritesPairs before after None text = KeepsFiles before after
 WritesPairs before after (Some path) text = GivesAlso after.gives path text × OthersStay before.gives after.gives path
 
--- The text of a list of clashes of the table of these lines, which are those of the file at a path, was
--- written, beside the accepted pairs; the pairs of rules of the list were written where that is asked for.
+-- The text of a list of clashes of the table of these lines, which are those of the file at a path,
+-- was written, beside the accepted pairs; the pairs of rules of the list were written where that is
+-- asked for.
 pub record WritesList (before after : World) (path left_out : List ℕ) (accept write : Option (List ℕ)) (lines : List LineView) (accepted : List (ℕ × ℕ)) : Type 0 where
   pub lines_are : AreLinesOf before.gives path lines
   pub passes : PassesAll lines
@@ -147,8 +149,8 @@ pub record WritesList (before after : World) (path left_out : List ℕ) (accept 
   pub prints : Prints before after text
   pub pairs : WritesPairs before after write (text_of_pairs (table_of lines) lines sections)
 
--- a list of clashes was written of the table of the file at the path, by which two texts clash that use
--- none of what the option leaves out; they diverge at a pair of rules that isn't accepted
+-- a list of clashes was written of the table of the file at the path, by which two texts clash that
+-- use none of what the option leaves out; they diverge at a pair of rules that isn't accepted
 abbrev pub ReportsOther : World → World → List ℕ → Option (List ℕ) → Option (List ℕ) → Option (List ℕ) → Type 0
 ReportsOther before after path option accept write =
     (left_out : List ℕ) × (spelled_by option ≡ Ok left_out)
@@ -159,13 +161,15 @@ ReportsOther before after path option accept write =
 abbrev pub ReportsClashes : World → World → Type 0
 ReportsClashes before after = (path : List ℕ) × (option accept write : Option (List ℕ)) × ReportsOther before after path option accept write
 
--- what no other clashes mean: no texts clash; or, where pairs are accepted, texts that clash diverge at these
+-- what no other clashes mean: no texts clash; or, where pairs are accepted, texts that clash
+-- diverge at these
 abbrev pub ClashAtAccepted : Option (List ℕ) → List ℕ → List (ℕ × ℕ) → TableView → Type 0
 ClashAtAccepted None left_out accepted t = IsUnambiguousWithout left_out t
 ClashAtAccepted (Some path) left_out accepted t = ClashesDivergeAtWithout left_out accepted t
 
--- a list of no clashes was written, and by the table of the file at the path no texts clash that use
--- none of what the option leaves out, but at pairs of rules that the file of accepted pairs names
+-- a list of no clashes was written, and by the table of the file at the path no texts clash that
+-- use none of what the option leaves out, but at pairs of rules that the file of accepted pairs
+-- names
 abbrev pub ReportsNoOther : World → World → List ℕ → Option (List ℕ) → Option (List ℕ) → Option (List ℕ) → Type 0
 ReportsNoOther before after path option accept write =
     (left_out : List ℕ) × (spelled_by option ≡ Ok left_out)
@@ -178,7 +182,8 @@ ReportsUnused before after =
     (path : List ℕ) × (t : TableView) × IsTableOf before.gives path t
     × ((lines : List LineView) × (numbers : List ℕ) × (numbers ≢ []) × AreUnused t numbers × Prints before after (unused_text t lines numbers))
 
--- a list of no rules was written, and each rule of the table of the file at the path is used by some text
+-- a list of no rules was written, and each rule of the table of the file at the path is used by
+-- some text
 abbrev pub ReportsNoUnused : World → World → List ℕ → Type 0
 ReportsNoUnused before after path =
     (t : TableView) × IsTableOf before.gives path t × ((number : ℕ) → IsRule t number → IsUsed t number)
@@ -194,9 +199,10 @@ ReportsCertificate before after path out option =
     × GivesAlso after.gives out (spelling (certificate_of body)) × OthersStay before.gives after.gives out × IsTableOf after.gives path t
     × Prints before after (with_left_out_line left_out (certified_line (certificate_of body))))
 
--- a certificate was written that a judge accepts for the table of the file at the path, but for what
--- another file excuses: any two texts of that table that it translates to the same cells are the same
--- but for this, both without the characters that the option leaves out; no other file changed
+-- a certificate was written that a judge accepts for the table of the file at the path, but for
+-- what another file excuses: any two texts of that table that it translates to the same cells are
+-- the same but for this, both without the characters that the option leaves out; no other file
+-- changed
 abbrev pub ReportsCertificateUpTo : World → World → List ℕ → List ℕ → List ℕ → Option (List ℕ) → Type 0
 ReportsCertificateUpTo before after path out accept option =
     (left_out : List ℕ) × (spelled_by option ≡ Ok left_out)
@@ -206,8 +212,8 @@ ReportsCertificateUpTo before after path out accept option =
     × GivesAlso after.gives out (spelling (certificate_of body)) × OthersStay before.gives after.gives out × IsTableOf after.gives path (table_of lines)
     × Prints before after (lines_up_to left_out excused sets (certified_line (certificate_of body)))))
 
--- new files were written, and no other file changed; these files define a table whose root is the file
--- at the path, written into the folder
+-- new files were written, and no other file changed; these files define a table whose root is the
+-- file at the path, written into the folder
 abbrev pub WritesTable : World → World → List ℕ → List ℕ → Type 0
 WritesTable before after path dir =
     (files : List NewFile) × AreNew before.gives files × AreWritten files before.gives after.gives
@@ -225,7 +231,8 @@ MeansDone (question.Unused path limit) before after = ReportsNoUnused before aft
 MeansDone (question.Cut path dir rewrite) before after = WritesTable before after path.now dir.now
 MeansDone asked before after = Unit {0}
 
--- what it means that something was refuted; a survey, a trace, a list of rules and a cut never say so
+-- what it means that something was refuted; a survey, a trace, a list of rules and a cut never say
+-- so
 abbrev pub MeansRefuted : Question → World → World → Type 0
 MeansRefuted (question.Clash path left right options) before after = ReportsClash before after
 MeansRefuted (question.Check path cert option) before after = ReportsRefusal before after
@@ -282,8 +289,8 @@ abbrev pub defined_status : Result (String Global) RunFault → Status
 defined_status (Ok text) = if length (string_bytes text) == 0 then Done else Faulty
 defined_status (Err fault) = status_of fault
 
--- the input's lines without undefined characters were translated by the table of the file at a path,
--- which changes no file
+-- the input's lines without undefined characters were translated by the table of the file at a
+-- path, which changes no file
 abbrev pub TranslatesDefined : List ℕ → Form → Option (List ℕ) → World → World → Status → Type 0
 TranslatesDefined path form input before after status =
     KeepsFiles before after
@@ -318,7 +325,8 @@ Runs same input looked before after code =
     × (((work : Work) × Performs work.task same input (looked work.folders) after status) ⊎ ((reply : NotATask) × Replies reply before after status))
 
 -- what it means that a run ended with status 1: for some folders in which the files of tables were
--- looked for, the report of a clash, a refusal, a list of clashes or one of unused rules was written
+-- looked for, the report of a clash, a refusal, a list of clashes or one of unused rules was
+-- written
 abbrev pub ReportsOne : Looked → World → Type 0
 ReportsOne looked after =
     (folders : Vec (String Global)) × (ReportsClash (looked folders) after ⊎ ReportsRefusal (looked folders) after

@@ -19,8 +19,8 @@ use Rattle.brl_answers.specs.declared.status.Status.TheVariants.{Done, Faulty}
 abbrev pub skipped_part : Bool → List LeftView → List ℕ
 skipped_part brief skipped = if brief then [] else flat_map skipped_line skipped
 
--- the text is the report of a survey of these lines, of files at these paths, where these include lines
--- were skipped
+-- the text is the report of a survey of these lines, of files at these paths, where these include
+-- lines were skipped
 abbrev pub IsReportOf : Bool → List LeftView → List LineView → List (List ℕ) → List ℕ → Type 0
 IsReportOf brief skipped lines paths text =
     (surveyed : List ℕ) × IsSurveyText brief (survey_of lines) lines paths surveyed × (text ≡ skipped_part brief skipped ++ surveyed)

@@ -15,8 +15,8 @@ use Rattle.brl_answers.specs.declared.run_fault.RunFault.{RunFault}
 use Rattle.brl_answers.specs.declared.run_fault.RunFault.TheVariants.{Text, Memory}
 use Rattle.brl_answers.specs.declared.status.Status.TheVariants.{Done}
 
--- a text was traced by a table: its report, with those of these lines by which each step is made, or
--- its first unknown character
+-- a text was traced by a table: its report, with those of these lines by which each step is made,
+-- or its first unknown character
 abbrev pub Traces : TableView → List LineView → List ℕ → Result Answer RunFault → Type 0
 Traces t lines text (Ok answer) = IsTrue (is_text t text) × HasTextAndStatus Done (trace_text t lines text) answer
 Traces t lines text (Err (Text fault)) = IsFaultOf t text fault

@@ -1,5 +1,5 @@
--- What `brl check` and `brl search` answer where a file says which pairs of rules are accepted, and which
--- characters may be exchanged. The project's own choice.
+-- What `brl check` and `brl search` answer where a file says which pairs of rules are accepted, and
+-- which characters may be exchanged. The project's own choice.
 use Rattle.std.specs.Prelude.{ℕ, ◌≡◌, ◌≢◌, ◌⊎◌, All, false, if◌then◌else◌, ◌==◌, List, [], ◌++◌, length, Some, Result, Ok, Err, codes, string_bytes}
 use Rattle.std.specs.Fmt.{decimal}
 use Rattle.brl_accept.specs.Excusing.{IsAcceptedUpTo, IsShown, closed_up_to}
@@ -40,8 +40,8 @@ use Rattle.brl_without.specs.Tables.{AreDefined, IsUndefined}
 
 -- ---- What a file excuses
 
--- the file at a path excuses this of the table of these lines, and this number of its lines name sets of
--- characters
+-- the file at a path excuses this of the table of these lines, and this number of its lines name
+-- sets of characters
 pub record IsExcusedAt (gives : FileAnswers) (path : List ℕ) (t : TableView) (lines : List LineView) (excused : Excused) (sets : ℕ) : Type 0 where
   pub text : List ℕ
   pub there : gives.may path (Holds text)
@@ -56,8 +56,8 @@ IsFaultOfExcusal gives path t lines (Accept fault) =
 IsFaultOfExcusal gives path t lines Memory = Unit {0}
 IsFaultOfExcusal gives path t lines fault = ⊥
 
--- why it isn't known what is excused: the table doesn't define what is left out; or it does, and the file
--- excuses nothing; or memory ran out
+-- why it isn't known what is excused: the table doesn't define what is left out; or it does, and
+-- the file excuses nothing; or memory ran out
 abbrev pub IsFaultBeforeExcusal : List ℕ → FileAnswers → List ℕ → TableView → List LineView → RunFault → Type 0
 IsFaultBeforeExcusal left_out gives path t lines (NotDefined fault) = IsUndefined t left_out fault
 IsFaultBeforeExcusal left_out gives path t lines Memory = Unit {0}
@@ -96,8 +96,9 @@ IsAcceptanceUpTo left_out excused sets accepted answer =
     HasTextAndStatus Done (lines_up_to left_out excused sets (accepted_line accepted.states accepted.pairs)) answer
 
 -- The answer for a certificate's bytes and a table. Where they are accepted, any two texts over the
--- table's characters but those that are left out, of whatever length, that it translates to the same
--- cells are the same step by step but for exchanges, to their ends or up to an accepted pair of rules.
+-- table's characters but those that are left out, of whatever length, that it translates to the
+-- same cells are the same step by step but for exchanges, to their ends or up to an accepted pair
+-- of rules.
 abbrev pub IsJudgementUpTo : List ℕ → Excused → ℕ → TableView → List ℕ → Answer → Type 0
 IsJudgementUpTo left_out excused sets t bytes answer =
     (IsShown left_out excused t
@@ -111,8 +112,8 @@ JudgesUpTo left_out t bytes excused sets (Err (Wide fault)) = IsRefusedFor (clos
 JudgesUpTo left_out t bytes excused sets (Err Memory) = Unit {0}
 JudgesUpTo left_out t bytes excused sets (Err fault) = ⊥
 
--- the certificate with these bytes was judged for the table of the file at a path, but for what another
--- file excuses
+-- the certificate with these bytes was judged for the table of the file at a path, but for what
+-- another file excuses
 abbrev pub JudgesLinesUpTo : List ℕ → FileAnswers → List ℕ → List ℕ → List ℕ → Result Answer RunFault → Type 0
 JudgesLinesUpTo left_out gives path accept bytes outcome =
     ByGivenLines gives path (λ lines. ByExcusal left_out gives accept (table_of lines) lines (JudgesUpTo left_out (table_of lines) bytes)) outcome
@@ -142,9 +143,9 @@ abbrev pub IsUnexchanged : Answer → Type 0
 IsUnexchanged answer = (rest : List ℕ) × HasTextAndStatus Undecided (codes "not exchangeable: " ++ rest) answer
 
 -- The answer of the search of a table with a limit, without the characters that are left out: a
--- certificate for a file, which `brl check` accepts for the same table and the same excuses; or the report
--- of a clash, whose texts diverge at a pair of rules that isn't excused; or why some steps can't be
--- exchanged; or the numbers at which the limit was passed.
+-- certificate for a file, which `brl check` accepts for the same table and the same excuses; or the
+-- report of a clash, whose texts diverge at a pair of rules that isn't excused; or why some steps
+-- can't be exchanged; or the numbers at which the limit was passed.
 abbrev pub IsVerdictUpTo : List ℕ → Excused → ℕ → TableView → List ℕ → ℕ → Answer → Type 0
 IsVerdictUpTo left_out excused sets t out limit answer =
     ((body : BodyView State) × IsCertifiedUpTo left_out excused t limit body
@@ -160,15 +161,16 @@ FindsUpTo left_out t out limit excused sets (Ok answer) = IsVerdictUpTo left_out
 FindsUpTo left_out t out limit excused sets (Err Memory) = Unit {0}
 FindsUpTo left_out t out limit excused sets (Err fault) = ⊥
 
--- the table of the file at a path was searched so, for a certificate for a file that is none that is read
+-- the table of the file at a path was searched so, for a certificate for a file that is none that
+-- is read
 abbrev pub SearchesLinesUpTo : List ℕ → FileAnswers → List ℕ → List ℕ → ℕ → List ℕ → Result Answer RunFault → Type 0
 SearchesLinesUpTo left_out gives path out limit accept outcome =
     (paths : List (List ℕ)) × (lines : List LineView) × AreLinesOfFiles gives path paths lines × PassesAll lines
     × All (λ one. one ≢ out) (read_paths paths (Some accept))
     × ByExcusal left_out gives accept (table_of lines) lines (FindsUpTo left_out (table_of lines) out limit) outcome
 
--- The same. Or there is no table; or the file for the certificate is one that is read. `same` says which
--- paths may name one file.
+-- The same. Or there is no table; or the file for the certificate is one that is read. `same` says
+-- which paths may name one file.
 abbrev pub SearchesUpTo : List ℕ → FileAnswers → MayBeSame → List ℕ → List ℕ → ℕ → List ℕ → Result Answer RunFault → Type 0
 SearchesUpTo left_out gives same path out limit accept (Err (Table fault)) = HasNoTable gives path (Table fault)
 SearchesUpTo left_out gives same path out limit accept (Err (Load fault)) =

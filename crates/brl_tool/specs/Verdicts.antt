@@ -66,9 +66,9 @@ IsOfCertificate judge.OldVersion = Unit {0}
 IsOfCertificate (judge.Refused fault) = Unit {0}
 IsOfCertificate fault = ⊥
 
--- The answer for a certificate's bytes and the table of the file at a path. Where they are accepted,
--- any two texts over the table's characters but those that are left out, of whatever length, that it
--- translates to the same cells are equal.
+-- The answer for a certificate's bytes and the table of the file at a path. Where they are
+-- accepted, any two texts over the table's characters but those that are left out, of whatever
+-- length, that it translates to the same cells are equal.
 abbrev pub IsJudgement : List ℕ → FileAnswers → List ℕ → List ℕ → Answer → Type 0
 IsJudgement left_out gives path bytes answer =
     ((t : TableView) × IsTableOf gives path t × IsUnambiguousWithout left_out t
@@ -136,8 +136,8 @@ IsCertificateAt left_out path cert answer =
     × (reading (spelling cert) ≡ Ok cert)
 
 -- The answer of the search of a table with a limit, without the characters that are left out: a
--- certificate for a file, where no two texts clash; or the report of a clash; or the numbers at which
--- the limit was passed.
+-- certificate for a file, where no two texts clash; or the report of a clash; or the numbers at
+-- which the limit was passed.
 abbrev pub IsVerdict : List ℕ → TableView → List ℕ → ℕ → Answer → Type 0
 IsVerdict left_out t out limit answer =
     (IsUnambiguousWithout left_out t × ((body : BodyView State) × IsCertified (without left_out (machine_of t)) limit body
@@ -159,8 +159,8 @@ IsUndefinedFault t left_out Memory = Unit {0}
 IsUndefinedFault t left_out fault = ⊥
 
 -- The table of the file at a path was searched, up to a limit, for a certificate for a file that is
--- none of the table's, without the characters that are left out; `same` says which paths may name one
--- file.
+-- none of the table's, without the characters that are left out; `same` says which paths may name
+-- one file.
 abbrev pub SearchesByFile : List ℕ → FileAnswers → MayBeSame → List ℕ → List ℕ → ℕ → Result Answer RunFault → Type 0
 SearchesByFile left_out gives same path out limit (Ok answer) =
     (paths : List (List ℕ)) × (t : TableView) × IsTableOfFiles gives path paths t × All (λ one. one ≢ out) paths

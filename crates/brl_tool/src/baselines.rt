@@ -64,8 +64,8 @@ pub(crate) fn read_paths<'a>(
     Ok(paths)
 }
 
-/// The pairs of rules that a file accepts of those that the sections of a table of these lines list; none
-/// without a file. The first line that isn't good is a fault.
+/// The pairs of rules that a file accepts of those that the sections of a table of these lines
+/// list; none without a file. The first line that isn't good is a fault.
 pub fn accepted_pairs(
     alloc: Global,
     table: &Table,
@@ -88,8 +88,8 @@ pub fn accepted_pairs(
     Ok(read_accepted(alloc, table, names.nameable(), listed, file)?)
 }
 
-/// The file with the pairs of rules that the sections of a table of these lines list, where a path is
-/// given and the list is whole.
+/// The file with the pairs of rules that the sections of a table of these lines list, where a path
+/// is given and the list is whole.
 pub fn file_of_pairs(
     alloc: Global,
     table: &Table,
@@ -112,7 +112,8 @@ pub fn file_of_pairs(
     Ok(NewFiles::InPlace(NewFile { path, bytes }))
 }
 
-/// What a file of pairs may name: the rules of a table, by what each says, and its sets of characters.
+/// What a file of pairs may name: the rules of a table, by what each says, and its sets of
+/// characters.
 #[derive(Drop)]
 struct Names {
     words: Vec<String>,

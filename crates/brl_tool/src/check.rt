@@ -16,9 +16,9 @@ use brl_without::{LeftOut, Scope};
 use std::alloc::Global;
 use std::fmt::Display;
 
-/// Judges the certificate in the file at one path for the table whose file is at another, without the
-/// characters that the option leaves out. The option is parsed first. Progress is reported state by
-/// state.
+/// Judges the certificate in the file at one path for the table whose file is at another, without
+/// the characters that the option leaves out. The option is parsed first. Progress is reported
+/// state by state.
 pub fn check_by_words<S: Source, W: Progress>(
     alloc: Global,
     source: &mut S,
@@ -35,9 +35,9 @@ pub fn check_by_words<S: Source, W: Progress>(
     check_by_file(alloc, source, table, cert, &left_out, progress)
 }
 
-/// Judges the certificate in the file at one path for the table whose file is at another, without the
-/// characters that are left out. The certificate's file is read first. The answer is the lines of an
-/// acceptance or the line of a refusal.
+/// Judges the certificate in the file at one path for the table whose file is at another, without
+/// the characters that are left out. The certificate's file is read first. The answer is the lines
+/// of an acceptance or the line of a refusal.
 pub fn check_by_file<S: Source, W: Progress>(
     alloc: Global,
     source: &mut S,

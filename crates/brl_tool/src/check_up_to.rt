@@ -1,4 +1,5 @@
-//! `brl check --accept`: whether a certificate is accepted for a table, but for what a file excuses.
+//! `brl check --accept`: whether a certificate is accepted for a table, but for what a file
+//! excuses.
 ghost use Rattle.std.specs.Option.{option_copied};
 ghost use Rattle.brl_lines.specs.Answer.{Unchanged};
 ghost use Rattle.brl_lines.specs.Outcome.{CountsFailure};
@@ -28,11 +29,11 @@ pub struct CheckedFiles<'a> {
     pub accept: &'a str,
 }
 
-/// Judges the certificate in a file for the table of another, without the characters that the option
-/// leaves out, but for what a third one excuses: the pairs of rules that it names are accepted, and the
-/// steps of characters of its sets may be exchanged. The option is parsed first, the certificate's file is
-/// read before the table's, and that of what is excused once the table defines what is left out. Progress
-/// is reported state by state.
+/// Judges the certificate in a file for the table of another, without the characters that the
+/// option leaves out, but for what a third one excuses: the pairs of rules that it names are
+/// accepted, and the steps of characters of its sets may be exchanged. The option is parsed first,
+/// the certificate's file is read before the table's, and that of what is excused once the table
+/// defines what is left out. Progress is reported state by state.
 pub fn check_up_to_by_words<S: Source, W: Progress>(
     alloc: Global,
     source: &mut S,
@@ -84,7 +85,8 @@ fn check_bytes<S: Source, W: Progress>(
     judgement_up_to(alloc, &loaded.table, bytes, &excusal, scope)
 }
 
-/// The answer to what the judge finds, but for what is excused, of a table that defines what is left out.
+/// The answer to what the judge finds, but for what is excused, of a table that defines what is
+/// left out.
 fn judgement_up_to<W: Progress>(
     alloc: Global,
     table: &Table,

@@ -14,9 +14,9 @@ use brl_lines::Source;
 use brl_report::report_with;
 use std::alloc::Global;
 
-/// Compares the texts of two words by the table whose file is at a path. With escapes they are read as
-/// operands of a table, and with lines each step of a report is followed by the table's lines by which
-/// it is made. The texts are read before the table, the left one first.
+/// Compares the texts of two words by the table whose file is at a path. With escapes they are read
+/// as operands of a table, and with lines each step of a report is followed by the table's lines by
+/// which it is made. The texts are read before the table, the left one first.
 pub fn compare_by_words<S: Source>(
     alloc: Global,
     source: &mut S,
@@ -41,8 +41,8 @@ pub fn compare_by_words<S: Source>(
     )
 }
 
-/// Compares two texts by the table whose file is at a path, whose lines are shown or not. The answer is
-/// the report of a clash, or `no clash`.
+/// Compares two texts by the table whose file is at a path, whose lines are shown or not. The
+/// answer is the report of a clash, or `no clash`.
 pub fn compare_by_file<S: Source>(
     alloc: Global,
     source: &mut S,
@@ -59,8 +59,8 @@ pub fn compare_by_file<S: Source>(
     compare(alloc, &loaded, with_lines, left, right)
 }
 
-/// Compares two texts by a table. Each step of a report has the lines by which it is made, where these
-/// are shown.
+/// Compares two texts by a table. Each step of a report has the lines by which it is made, where
+/// these are shown.
 fn compare(
     alloc: Global,
     loaded: &LoadedTable,

@@ -27,9 +27,9 @@ use brl_without::{LeftOut, Scope, check_defined};
 use std::alloc::{AllocError, Global};
 use std::io::Write;
 
-/// What a list of clashes is asked for: the path of the table's file, how many states, pairs and pairs of
-/// rules a section may find, how many clashes of it are shown, where 0 means all, the characters that are
-/// left out, and the files of pairs of rules.
+/// What a list of clashes is asked for: the path of the table's file, how many states, pairs and
+/// pairs of rules a section may find, how many clashes of it are shown, where 0 means all, the
+/// characters that are left out, and the files of pairs of rules.
 #[derive(Clone, Copy)]
 struct Wanted<'a> {
     table: &'a str,
@@ -40,9 +40,9 @@ struct Wanted<'a> {
 }
 
 /// Lists the pairs of rules of the table whose file is at a path at which clashing texts diverge,
-/// without the characters that the option leaves out. What it spells is read first. The pairs that the
-/// file at `pairs.accept` names are left out, and those that are left go to the file at `pairs.write`,
-/// unless there may be others. Standard error gets reports of progress.
+/// without the characters that the option leaves out. What it spells is read first. The pairs that
+/// the file at `pairs.accept` names are left out, and those that are left go to the file at
+/// `pairs.write`, unless there may be others. Standard error gets reports of progress.
 pub fn list_clashes_by_words<F: Files, E: Write + Progress>(
     alloc: Global,
     files: &mut F,
@@ -69,8 +69,8 @@ pub fn list_clashes_by_words<F: Files, E: Write + Progress>(
     list_clashes_by_file(alloc, files, wanted, err)
 }
 
-/// Lists them without the characters that are left out. `PairsWouldOverwrite` where the file that gets
-/// pairs is one of the table's, or that of the accepted pairs.
+/// Lists them without the characters that are left out. `PairsWouldOverwrite` where the file that
+/// gets pairs is one of the table's, or that of the accepted pairs.
 fn list_clashes_by_file<F: Files, E: Write + Progress>(
     alloc: Global,
     files: &mut F,
@@ -105,9 +105,9 @@ fn clashes_of_loaded<F: Files, E: Write + Progress>(
     list_clashes(alloc, files, &loaded.table, lines.as_slice(), wanted, err)
 }
 
-/// Lists the clashes of a table of these lines, once it defines what is left out. The file of accepted
-/// pairs is read before the work. `NotDefined` where the table doesn't define a character that is left
-/// out.
+/// Lists the clashes of a table of these lines, once it defines what is left out. The file of
+/// accepted pairs is read before the work. `NotDefined` where the table doesn't define a character
+/// that is left out.
 fn list_clashes<F: Files, E: Write + Progress>(
     alloc: Global,
     files: &mut F,

@@ -10,8 +10,9 @@ use brl_lines::GatheredFile;
 use brl_report::report_of_cut;
 use std::alloc::{AllocError, Global};
 
-/// Cuts the table whose file is at a path, with lines rewritten where that is asked for: the answer has the cut's files, which are new, for the
-/// folder `dir`; and its report, and a line that there is no verdict.
+/// Cuts the table whose file is at a path, with lines rewritten where that is asked for: the answer
+/// has the cut's files, which are new, for the folder `dir`; and its report, and a line that there
+/// is no verdict.
 pub fn cut_by_file<F: Files>(
     alloc: Global,
     files: &mut F,

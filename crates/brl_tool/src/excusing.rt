@@ -48,7 +48,8 @@ pub fn excusal_without<S: Source>(
     excusal_at(alloc, source, &loaded.table, lines.as_slice(), path)
 }
 
-/// What the file at a path excuses of a table of these lines. The first line that isn't good is a fault.
+/// What the file at a path excuses of a table of these lines. The first line that isn't good is a
+/// fault.
 fn excusal_at<S: Source>(
     alloc: Global,
     source: &mut S,

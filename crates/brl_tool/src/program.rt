@@ -25,25 +25,29 @@ use std::alloc::Global;
 use std::io::Write;
 
 /// Does what the words ask for, and answers the exit status: 0 where the work was done, 1 where two
-/// texts clash, a certificate is refused or no text uses some rule, 2 where the words, a file, the table, a text, the input or
-/// the output had a fault, and 3 where memory ran out, a search decided nothing, or a table is too wide
-/// for a certificate of version 1. The first of the words is the program's name.
+/// texts clash, a certificate is refused or no text uses some rule, 2 where the words, a file, the
+/// table, a text, the input or the output had a fault, and 3 where memory ran out, a search decided
+/// nothing, or a table is too wide for a certificate of version 1. The first of the words is the
+/// program's name.
 ///
-/// Standard output gets the translation, what was found of two texts, of a certificate, by a search or
-/// by a survey, the steps of a text, the rules of a table or those of them that no text uses, what a fault means, or help or the version where these are asked for. Standard error
-/// gets the notices of a table that is searched, the characters that are listed as lacking, one line for a fault (a survey has one for each table
-/// that can't be loaded, and goes on), or the text of a use fault; what can't be written there is dropped
-/// and changes no status. It also gets reports of how far a search or a check is, and of its end, before
-/// its answer is delivered. Faults come in the order of the work: the words, and what they spell, the
-/// certificate's file, the table's files, a file for a new certificate or for pairs of rules that is one
-/// that is read, the table's lines, a character that is left out and isn't defined, the file of accepted
-/// pairs of rules, the texts, the input, the certificate or the search, a line of accepted pairs, the file
-/// that gets a certificate or pairs of rules or the files of a table that is cut, the output.
+/// Standard output gets the translation, what was found of two texts, of a certificate, by a search
+/// or by a survey, the steps of a text, the rules of a table or those of them that no text uses,
+/// what a fault means, or help or the version where these are asked for. Standard error gets the
+/// notices of a table that is searched, the characters that are listed as lacking, one line for a
+/// fault (a survey has one for each table that can't be loaded, and goes on), or the text of a use
+/// fault; what can't be written there is dropped and changes no status. It also gets reports of how
+/// far a search or a check is, and of its end, before its answer is delivered. Faults come in the
+/// order of the work: the words, and what they spell, the certificate's file, the table's files, a
+/// file for a new certificate or for pairs of rules that is one that is read, the table's lines, a
+/// character that is left out and isn't defined, the file of accepted pairs of rules, the texts,
+/// the input, the certificate or the search, a line of accepted pairs, the file that gets a
+/// certificate or pairs of rules or the files of a table that is cut, the output.
 ///
-/// With `--path` the files of tables are looked for in folders, too; `files` stays with these folders.
-/// Files are written only where a search found a certificate or all pairs of rules were listed that are
-/// to be written, that file and no other, and where a table is cut, files at whose paths nothing was. A
-/// file that was read is refused as the file for the certificate or the pairs before the search.
+/// With `--path` the files of tables are looked for in folders, too; `files` stays with these
+/// folders. Files are written only where a search found a certificate or all pairs of rules were
+/// listed that are to be written, that file and no other, and where a table is cut, files at whose
+/// paths nothing was. A file that was read is refused as the file for the certificate or the pairs
+/// before the search.
 pub fn run<F: Files, I: Input, O: Output, E: Write + Progress>(
     alloc: Global,
     words: &[String],
@@ -110,8 +114,8 @@ fn perform<F: Files, I: Input, O: Output, E: Write + Progress>(
     }
 }
 
-/// `brl translate --lacking`. Standard error gets the lines of the characters that the table doesn't
-/// define.
+/// `brl translate --lacking`. Standard error gets the lines of the characters that the table
+/// doesn't define.
 fn translate_defined<F: Files, I: Input, O: Output, E: Write>(
     alloc: Global,
     files: &mut F,
@@ -269,8 +273,8 @@ fn answer_words<F: Files, O: Output, E: Write>(
     deliver(alloc, help(alloc, reply), files, out, err)
 }
 
-/// The answer with help or the version. No contract says what `clap` prints, so that its text begins
-/// as no answer of a command does is tested as the program runs.
+/// The answer with help or the version. No contract says what `clap` prints, so that its text
+/// begins as no answer of a command does is tested as the program runs.
 fn help(alloc: Global, reply: &NotATask) -> Result<Answer, RunFault>
     ensures { IsHelp result }
 {

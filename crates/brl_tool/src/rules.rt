@@ -12,8 +12,8 @@ use brl_report::{first_unknown, rule_numbers, rules_report};
 use brl_rules::Table;
 use std::alloc::{AllocError, Global};
 
-/// Lists the rules of the table whose file is at a path: those with these numbers, in their order, and
-/// where none are given all. `NoSuchRule` for the first number that no rule has.
+/// Lists the rules of the table whose file is at a path: those with these numbers, in their order,
+/// and where none are given all. `NoSuchRule` for the first number that no rule has.
 pub fn list_rules_by_file<S: Source>(
     alloc: Global,
     source: &mut S,

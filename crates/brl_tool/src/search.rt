@@ -25,8 +25,8 @@ use brl_without::{LeftOut, Scope, check_defined};
 use std::alloc::{AllocError, Global};
 use std::io::Write;
 
-/// Searches the table whose file is at a path, without the characters that the option leaves out. What
-/// it spells is read first. Standard error gets reports of progress.
+/// Searches the table whose file is at a path, without the characters that the option leaves out.
+/// What it spells is read first. Standard error gets reports of progress.
 pub fn search_by_words<F: Files, E: Write + Progress>(
     alloc: Global,
     files: &mut F,
@@ -46,10 +46,11 @@ pub fn search_by_words<F: Files, E: Write + Progress>(
 }
 
 /// Searches the table whose file is at a path, without the characters that are left out, until more
-/// than `limit` states or pairs are found. The answer is a certificate for the file at `out`, with its
-/// numbers; or the report of a clash; or the numbers at which the limit was passed. Before the search
-/// standard error gets the table's notices, and then reports of progress. `WouldOverwrite` where `out` names one of the table's
-/// files; `NotDefined` where the table doesn't define a character that is left out.
+/// than `limit` states or pairs are found. The answer is a certificate for the file at `out`, with
+/// its numbers; or the report of a clash; or the numbers at which the limit was passed. Before the
+/// search standard error gets the table's notices, and then reports of progress. `WouldOverwrite`
+/// where `out` names one of the table's files; `NotDefined` where the table doesn't define a
+/// character that is left out.
 pub fn search_by_file<F: Files, E: Write + Progress>(
     alloc: Global,
     files: &mut F,
@@ -88,8 +89,8 @@ pub(crate) fn refuse_file_that_is_read<F: Files>(
     }
 }
 
-/// Writes a table's notices, and searches it without the characters that are left out, once it defines
-/// these.
+/// Writes a table's notices, and searches it without the characters that are left out, once it
+/// defines these.
 fn search_table<E: Write + Progress>(
     alloc: Global,
     table: &Table,

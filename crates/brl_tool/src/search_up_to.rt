@@ -33,13 +33,14 @@ pub struct SearchedFiles<'a> {
     pub accept: &'a str,
 }
 
-/// Searches the table of a file as `search_by_words` does, but for what another file excuses: the pairs of
-/// rules that it names are accepted, and the steps of characters of its sets may be exchanged. The answer
-/// is a certificate for the file at `out`; or the report of a clash at another pair of rules; or why some
-/// steps can't be exchanged; or the numbers at which the limit was passed.
+/// Searches the table of a file as `search_by_words` does, but for what another file excuses: the
+/// pairs of rules that it names are accepted, and the steps of characters of its sets may be
+/// exchanged. The answer is a certificate for the file at `out`; or the report of a clash at
+/// another pair of rules; or why some steps can't be exchanged; or the numbers at which the limit
+/// was passed.
 ///
-/// `WouldOverwrite` where `out` names a file that is read. What is excused is read before the search, once
-/// the table defines what is left out.
+/// `WouldOverwrite` where `out` names a file that is read. What is excused is read before the
+/// search, once the table defines what is left out.
 pub fn search_up_to_by_words<F: Files, E: Write + Progress>(
     alloc: Global,
     files: &mut F,

@@ -19,10 +19,10 @@ use std::alloc::{AllocError, Global};
 use std::io::Write;
 
 /// Surveys the tables whose files are at these paths. The answer has the report of each table that
-/// can be loaded, after a line that names it where there are several paths, and then a line that there
-/// is no verdict. A report begins with the hyphenation dictionaries that were skipped; one that is to be
-/// brief has neither these nor the faults. Standard error gets a line for each table that can't be
-/// loaded; then the status is that of a fault.
+/// can be loaded, after a line that names it where there are several paths, and then a line that
+/// there is no verdict. A report begins with the hyphenation dictionaries that were skipped; one
+/// that is to be brief has neither these nor the faults. Standard error gets a line for each table
+/// that can't be loaded; then the status is that of a fault.
 pub fn survey_by_files<S: Source, E: Write>(
     alloc: Global,
     source: &mut S,

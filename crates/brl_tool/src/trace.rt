@@ -13,9 +13,9 @@ use brl_lines::Source;
 use brl_report::trace_report;
 use std::alloc::Global;
 
-/// Traces the text of a word by the table whose file is at a path. With escapes it is read as an operand
-/// of a table, and with lines each step is followed by the table's lines by which it is made. The text
-/// is read before the table.
+/// Traces the text of a word by the table whose file is at a path. With escapes it is read as an
+/// operand of a table, and with lines each step is followed by the table's lines by which it is
+/// made. The text is read before the table.
 pub fn trace_by_word<S: Source>(
     alloc: Global,
     source: &mut S,
@@ -31,8 +31,8 @@ pub fn trace_by_word<S: Source>(
     trace_by_file(alloc, source, path, options.lines, text.as_slice())
 }
 
-/// Traces a text by the table whose file is at a path, whose lines are shown or not. The answer is the
-/// report of the text.
+/// Traces a text by the table whose file is at a path, whose lines are shown or not. The answer is
+/// the report of the text.
 pub fn trace_by_file<S: Source>(
     alloc: Global,
     source: &mut S,

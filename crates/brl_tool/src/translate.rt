@@ -63,9 +63,9 @@ fn lacking_texts(alloc: Global, list: &[Lacking]) -> Result<String, AllocError>
     Ok(text)
 }
 
-/// Translates the lines of the input whose characters are all defined by the table whose file is at a
-/// path. Answers the lines that name the other characters, in the order of their first uses; the text
-/// is empty where there are none.
+/// Translates the lines of the input whose characters are all defined by the table whose file is at
+/// a path. Answers the lines that name the other characters, in the order of their first uses; the
+/// text is empty where there are none.
 pub fn translate_defined_by_file<S: Source, R: Input, W: Output>(
     alloc: Global,
     source: &mut S,

@@ -1,5 +1,5 @@
--- Where two paths of the dues machine are the same but for exchanges, to their ends or up to a place
--- where they diverge, the traces of what they read are.
+-- Where two paths of the dues machine are the same but for exchanges, to their ends or up to a
+-- place where they diverge, the traces of what they read are.
 use Rattle.std.proofs.Common.{◌≡◌, ◌≢◌, ℕ, zero, suc, ◌+◌, ◌≤◌, List, [], ◌∷◌, ◌++◌, ◌⊎◌, inl, inr, length, IsTrue, Some, slice_get, take, drop, refl, sym, ap, ap₂, ◌∙◌, subst, subst₂, arith}
 use Rattle.std.specs.List.{AllZip}
 use Rattle.std.proofs.lemmas.Bool.{and_from}
@@ -25,7 +25,8 @@ use Rattle.brl_traces.specs.Exchanges.{IsAlikeStep, TextsAgreeBut, TracesAgreeBu
 use Rattle.brl_traces.specs.Traces.{IsSameStep}
 use Rattle.brl_traces.proofs.Traces.{Further, Walked, same-step, step-from_same, walked}
 
--- two lists of steps begin with steps that are alike, and go on with two different ones of a pair of rules
+-- two lists of steps begin with steps that are alike, and go on with two different ones of a pair
+-- of rules
 record DivergeLater (t : TableView) (exchanged rules : List (ℕ × ℕ)) (left right : List ℕ) (xs ys : List Traced) : Type 0 where
   place : ℕ
   one : Traced
@@ -42,7 +43,7 @@ itself t exchanged text [] = tt
 itself t exchanged text (x ∷ xs) = (inl (record { rule = refl; reads = refl; cells = refl; run = refl }), itself t exchanged text xs)
 
 module _ (t : TableView) (choosing : Choosing t) (translating : Translating t) (known : AreKnown t) (further : Further t) (exchanged rules : List (ℕ × ℕ)) where
-  -- two alike steps of one state are alike in both texts, and lead to one state
+  -- two alike steps of one state make alike steps of both texts, and lead to one state
   alike_step : (left right : List ℕ) (i j : ℕ) (s : DuesState) (x y : Step DuesState) (path other : List (Step DuesState)) → AreAlike exchanged x y → Walked t left i s x path → Walked t right j s y other
       → IsAlikeStep t exchanged left right (step_at t left i) (step_at t right j) × (x.next ≡ y.next)
   alike_step left right i j s x y path other (inl same) v w = (
@@ -57,7 +58,7 @@ module _ (t : TableView) (choosing : Choosing t) (translating : Translating t) (
     exchange.next,
   )
 
-  -- from a state on, traces are alike to their ends where paths are
+  -- from a state on, traces have alike steps to their ends where paths have
   alike_to_ends : (left right : List ℕ) (n k i j : ℕ) (s : DuesState) (first second : List (Step DuesState)) → DifferByExchanges exchanged first second
       → IsPath (dues_machine t) s first → IsPath (dues_machine t) s second → context_of s ≡ context_at t left i → context_of s ≡ context_at t right j
       → drop i left ≡ reads_of first → drop j right ≡ reads_of second → length (reads_of first) ≤ n → length (reads_of second) ≤ k

@@ -1,6 +1,6 @@
 -- The steps of a path of the dues machine are those of the trace of what it reads. So where two
--- paths diverge, the traces of what they read do: steps of one state are one step exactly where they
--- have one rule and read the same, both in a run of capitals or both out of one.
+-- paths diverge, the traces of what they read do: steps of one state are one step exactly where
+-- they have one rule and read the same, both in a run of capitals or both out of one.
 use Rattle.std.proofs.Common.{◌≡◌, ◌≢◌, ℕ, zero, suc, ◌+◌, ◌<◌, ◌≤◌, true, List, [], ◌∷◌, ◌++◌, inl, inr, length, take, drop, nat_lt, refl, sym, ap, ◌∙◌, subst, subst₂, arith, drop-drop}
 use Rattle.std.proofs.lemmas.List.{length-append}
 use Rattle.std.specs.List.{AllZip}

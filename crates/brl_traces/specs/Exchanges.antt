@@ -1,5 +1,5 @@
--- Texts whose traces are the same but for steps that may be exchanged, to their ends or up to a place
--- where they diverge at one of some pairs of rules. The project's own choice.
+-- Texts whose traces are the same but for steps that may be exchanged, to their ends or up to a
+-- place where they diverge at one of some pairs of rules. The project's own choice.
 use Rattle.std.specs.Prelude.{◌≡◌, ◌⊎◌, ℕ, IsTrue, List, Some, slice_get, take}
 use Rattle.std.specs.List.{AllZip}
 use Rattle.brl_forward.specs.Trace.{trace_of}

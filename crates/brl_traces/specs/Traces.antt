@@ -35,8 +35,8 @@ pub record IsSameStep (t : TableView) (left right : List ℕ) (x y : Traced) : T
 
 -- ---- Paths and traces
 
--- a step of a path and one of the trace of a text take the same rule, with as many characters, which
--- are the same, and the same cells
+-- a step of a path and one of the trace of a text take the same rule, with as many characters,
+-- which are the same, and the same cells
 pub record IsTraced (text : List ℕ) (x : Step DuesState) (y : Traced) : Type 0 where
   pub rule : x.rule ≡ y.rule
   pub length : length x.reads ≡ y.length
@@ -63,8 +63,8 @@ pub record TracesDivergeAt (t : TableView) (rules : List (ℕ × ℕ)) (left rig
   pub differ : IsSameStep t left right one other → ⊥
   pub pair : IsTrue (has_rules rules one.rule other.rule)
 
--- where two paths from the start to final states diverge at one of some pairs of rules, the traces of
--- what they read do
+-- where two paths from the start to final states diverge at one of some pairs of rules, the traces
+-- of what they read do
 abbrev pub TracesDivergeAsPaths : TableView → Type 0
 TracesDivergeAsPaths t =
     (rules : List (ℕ × ℕ)) (first second : List (Step DuesState)) → IsPath (dues_machine t) (dues_machine t).start first → IsPath (dues_machine t) (dues_machine t).start second

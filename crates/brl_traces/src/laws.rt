@@ -1,4 +1,5 @@
-//! What paths of the dues machine are in texts. Each law is the contract of a function that does nothing.
+//! What paths of the dues machine are in texts. Each law is the contract of a function that does
+//! nothing.
 ghost use Rattle.std.specs.Prelude.{ℕ, List};
 ghost use Rattle.brl_dues.specs.Steps.{dues_machine};
 ghost use Rattle.brl_pairs.specs.Divergence.{IsUnambiguousBut};
@@ -23,8 +24,8 @@ pub fn dues_trace_law(table: &Table)
 
 /// Where the dues machine of a table is unambiguous but for some pairs of rules, any two texts of
 /// the table that are translated to the same cells are equal, or their traces begin with the same
-/// steps and go on with two different ones of one of these pairs. Where the machine without some characters
-/// is so, this holds of the texts that use none of them.
+/// steps and go on with two different ones of one of these pairs. Where the machine without some
+/// characters is so, this holds of the texts that use none of them.
 pub fn dues_divergence_law(table: &Table)
     ensures texts { (rules : List (ℕ × ℕ)) → IsUnambiguousBut rules (dues_machine table.now) → ClashesDivergeAt rules table.now }
     ensures without { (left_out : List ℕ) (rules : List (ℕ × ℕ)) → IsUnambiguousBut rules (without left_out (dues_machine table.now)) →
@@ -34,8 +35,8 @@ pub fn dues_divergence_law(table: &Table)
 }
 
 /// Where any two texts with the same translation have paths of the dues machine without some
-/// characters that are the same but for exchanges, to their ends or up to a place where they diverge
-/// at some pairs of rules, so are the traces of these texts.
+/// characters that are the same but for exchanges, to their ends or up to a place where they
+/// diverge at some pairs of rules, so are the traces of these texts.
 pub fn dues_exchange_law(table: &Table)
     ensures { (left_out : List ℕ) (exchanged rules : List (ℕ × ℕ)) →
         TextsDifferByExchangesBut exchanged rules (without left_out (dues_machine table.now)) → TextsAgreeBut left_out exchanged rules table.now }

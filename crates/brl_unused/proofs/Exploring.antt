@@ -1,5 +1,5 @@
--- States are found one by one, with the steps between them. Where all are found, the rules of steps into
--- live states are those that paths take.
+-- States are found one by one, with the steps between them. Where all are found, the rules of steps
+-- into live states are those that paths take.
 use Rattle.std.proofs.Common.{◌≡◌, ℕ, ◌+◌, ◌<◌, ◌≤◌, Bool, true, false, IsTrue, List, [], ◌∷◌, ◌++◌, length, map, refl, ap, sym, subst, ◌∙◌, arith, Option, None, Some, Contains, slice_get, ◌⊎◌, inl, inr, set}
 use Rattle.std.specs.Prelude.{IfNone, IfSome}
 use Rattle.std.proofs.Math.ListN.{length-set}

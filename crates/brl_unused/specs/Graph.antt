@@ -1,5 +1,5 @@
--- The transitions of a machine by the numbers of its states, and the states from which a final state
--- is reached. The project's own choice.
+-- The transitions of a machine by the numbers of its states, and the states from which a final
+-- state is reached. The project's own choice.
 use Rattle.std.specs.Prelude.{ℕ, ◌≡◌, ◌<◌, ◌↔◌, Bool, true, List, Some, length, slice_get}
 use Rattle.std.specs.List.{Contains}
 use Rattle.brl_unused.specs.declared.graph.Transition.{Transition}

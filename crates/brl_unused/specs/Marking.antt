@@ -12,7 +12,8 @@ pub record Leads (transitions : List Transition) (from to : ℕ) : Type 0 where
   pub leaves : transition.from ≡ from
   pub enters : transition.to ≡ to
 
--- for each of this number of states the list has those from which one of these transitions leads to it
+-- for each of this number of states the list has those from which one of these transitions leads to
+-- it
 pub record AreBefore (count : ℕ) (transitions : List Transition) (before : List (Vec ℕ)) : Type 0 where
   pub many : length before ≡ count
   pub all : (t : Transition) (states : Vec ℕ) → Contains transitions t → slice_get before t.to ≡ Some states → Contains states.items t.from

@@ -53,8 +53,8 @@ fn number_of<S: Key>(
     Ok(Some(number as u32))
 }
 
-/// Finds the next states of the steps of the state with this number, and these steps. False where more
-/// states are found than the limit allows.
+/// Finds the next states of the steps of the state with this number, and these steps. False where
+/// more states are found than the limit allows.
 fn expand<M: Machine>(
     alloc: Global,
     machine: &M,
@@ -171,8 +171,9 @@ fn marks_of<M: Machine>(
     mark_rules(alloc, rules, transitions, live.as_slice())
 }
 
-/// Which of the rules of a machine with numbers below `rules` are taken: by a path from the start to a
-/// final state. How many states are found is reported. `Limit` as soon as they are more than `limit`.
+/// Which of the rules of a machine with numbers below `rules` are taken: by a path from the start
+/// to a final state. How many states are found is reported. `Limit` as soon as they are more than
+/// `limit`.
 pub fn taken_rules<M: Machine, P: Progress>(
     alloc: Global,
     machine: &M,

@@ -8,8 +8,8 @@ ghost use Rattle.brl_window.specs.Steps.{IsStep};
 ghost use Rattle.brl_window.specs.Windows.{window_steps};
 ghost use Rattle.brl_states.specs.declared.window_state.WindowState.{WindowState as StateValue};
 
-/// A window machine lists exactly the steps of a state's windows, for every value of the state type.
-/// That each is listed once, by ascending rule number, is a law of every machine.
+/// A window machine lists exactly the steps of a state's windows, for every value of the state
+/// type. That each is listed once, by ascending rule number, is a law of every machine.
 pub fn window_law()
     ensures { (t : TableView) (s : StateValue) (x : StepValue StateValue) →
         IsListed (window_steps t s) x ↔ IsStep t s x }

@@ -1,5 +1,5 @@
-//! Machines without some characters: what is left of a machine for the texts that don't use them. So
-//! a table's question can be decided for the texts over its other characters.
+//! Machines without some characters: what is left of a machine for the texts that don't use them.
+//! So a table's question can be decided for the texts over its other characters.
 //!
 //! `Without` is such a machine, over any other one; `LeftOut` has the characters, and `Scope` the
 //! options of a search or a check. The laws state that

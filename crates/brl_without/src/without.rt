@@ -7,8 +7,8 @@ use brl_pairs::{Key, Machine, Parted, Step};
 use std::alloc::{AllocError, Global};
 use std::marker::Model;
 
-/// A machine without the texts that use some characters: its steps are those that read none of them.
-/// A contract sees the machine and the characters.
+/// A machine without the texts that use some characters: its steps are those that read none of
+/// them. A contract sees the machine and the characters.
 #[derive(Drop)]
 pub struct Without<'m, M: Machine> {
     machine: &'m M,

@@ -102,8 +102,8 @@ fn check<M: Parted, W: Progress>(
 ///
 /// Otherwise the fault is the first of `NoStart`, `StateMissing`, `SplitMissing`, `PairMissing` and
 /// `BothEnd` that applies. It names the least state or pair to which it applies, and then the least
-/// rules, of two rules the lesser one first. The cells of steps are found by hashes that a machine's
-/// maker can foresee; `accept_with` takes a seed for them.
+/// rules, of two rules the lesser one first. The cells of steps are found by hashes that a
+/// machine's maker can foresee; `accept_with` takes a seed for them.
 pub fn accept<M: Machine>(
     alloc: Global,
     machine: &M,
@@ -125,8 +125,8 @@ pub fn accept<M: Machine>(
 }
 
 /// Checks states and pairs as `accept` does, and reports its progress to `watch` after each state.
-/// The parts of the machine's steps are listed once each. They and their cells are found by hashes of
-/// this seed, which is to be drawn from all that the machine and the body depend on.
+/// The parts of the machine's steps are listed once each. They and their cells are found by hashes
+/// of this seed, which is to be drawn from all that the machine and the body depend on.
 pub fn accept_with<M: Parted, W: Progress>(
     alloc: Global,
     machine: &M,
@@ -150,8 +150,9 @@ pub fn accept_with<M: Parted, W: Progress>(
 /// translates to the same cells are the same step by step but for exchanges, to their ends or up to
 /// a place where they go on with two steps of an accepted pair of rules.
 ///
-/// Otherwise the fault is the first one that applies, as for `accept`; `SplitMissing` names the least
-/// split that is neither listed nor excused. Progress and the seed are those of `accept_with`.
+/// Otherwise the fault is the first one that applies, as for `accept`; `SplitMissing` names the
+/// least split that is neither listed nor excused. Progress and the seed are those of
+/// `accept_with`.
 pub fn accept_up_to<M: Parted, W: Progress>(
     alloc: Global,
     machine: &M,

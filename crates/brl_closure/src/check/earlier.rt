@@ -12,8 +12,8 @@ use std::alloc::{AllocError, Global};
 /// them.
 const MOST_KEPT: usize = 250_000;
 
-/// The edges of states that miss no split, in the order of their cells. Another state often shares most
-/// of its edges with one of these.
+/// The edges of states that miss no split, in the order of their cells. Another state often shares
+/// most of its edges with one of these.
 #[derive(Drop)]
 pub struct EarlierEdges {
     pub lists: Vec<Vec<SortedEdge>>,

@@ -35,8 +35,8 @@ impl<P: Key> KeptParts<P> {
         }
     }
 
-    /// Keeps no parts any more where as many are kept as should be. New ones will be found by hashes
-    /// of this seed.
+    /// Keeps no parts any more where as many are kept as should be. New ones will be found by
+    /// hashes of this seed.
     pub fn forget_parts(&mut self, alloc: Global, seed: Seed)
         ensures parts { (self.new.parts ≡ self.old.parts) ⊎ (self.new.parts ≡ no_parts) }
         ensures cells { self.new.cells ≡ self.old.cells }

@@ -41,10 +41,11 @@ impl Kind {
     }
 }
 
-/// The edges in their order, sorted by their cells, without those that have two of their kind before
-/// them. Edges of one kind miss the same pairs, and are excused with the same edges, so further ones tell
-/// nothing new; the second one is kept, since two edges of one kind split with each other. Where no
-/// three edges have the same cells, all are kept. Kinds are found by hashes of this seed.
+/// The edges in their order, sorted by their cells, without those that have two of their kind
+/// before them. Edges of one kind miss the same pairs, and are excused with the same edges, so
+/// further ones tell nothing new; the second one is kept, since two edges of one kind split with
+/// each other. Where no three edges have the same cells, all are kept. Kinds are found by hashes of
+/// this seed.
 pub fn sort_first_two<'c>(
     alloc: Global,
     excused: &Excused,
@@ -96,8 +97,8 @@ fn first_two_of_each_kind(
     Ok(kept)
 }
 
-/// Counts the kind of an edge: adds it to the kinds that are there once, and where it is there to those that are
-/// there twice. Whether it was added.
+/// Counts the kind of an edge: adds it to the kinds that are there once, and where it is there to
+/// those that are there twice. Whether it was added.
 fn count(
     excused: &Excused,
     edge: &ListedEdge,

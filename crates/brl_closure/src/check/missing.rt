@@ -77,8 +77,8 @@ fn is_missing_split(
     Ok(!excused.has(&edge, other))
 }
 
-/// The least rule of the edges before the second one that split with it into a missing pair and aren't
-/// excused. Places ascend by rule, so the first one found has the least rule.
+/// The least rule of the edges before the second one that split with it into a missing pair and
+/// aren't excused. Places ascend by rule, so the first one found has the least rule.
 fn missing_split_with(
     alloc: Global,
     excused: &Excused,
@@ -141,8 +141,8 @@ fn missing_of_all(
     Ok(best)
 }
 
-/// The rules of an edge, which has this place, and of another one, where they split into a missing pair
-/// and aren't excused: that of the first one comes first.
+/// The rules of an edge, which has this place, and of another one, where they split into a missing
+/// pair and aren't excused: that of the first one comes first.
 fn missing_split_of(
     alloc: Global,
     excused: &Excused,
@@ -170,8 +170,8 @@ fn missing_split_of(
     }
 }
 
-/// The least rules of the edge at this place and of another one that split into a missing pair and aren't
-/// excused.
+/// The least rules of the edge at this place and of another one that split into a missing pair and
+/// aren't excused.
 fn missing_split_at_place(
     alloc: Global,
     excused: &Excused,
@@ -193,8 +193,8 @@ fn missing_split_at_place(
     Ok(best)
 }
 
-/// The least rules of the edge at this position of the order of cells and of another one that split into
-/// a missing pair and aren't excused; `None` if the edge is shared.
+/// The least rules of the edge at this position of the order of cells and of another one that split
+/// into a missing pair and aren't excused; `None` if the edge is shared.
 fn missing_unless_shared(
     alloc: Global,
     excused: &Excused,
@@ -214,8 +214,8 @@ fn missing_unless_shared(
     missing_split_at_place(alloc, excused, pairs, edges, edges.place_at(position))
 }
 
-/// The least rules of two edges that split into a missing pair and aren't excused, of those that aren't
-/// both shared. No two shared ones split into a missing pair.
+/// The least rules of two edges that split into a missing pair and aren't excused, of those that
+/// aren't both shared. No two shared ones split into a missing pair.
 fn missing_of_unshared(
     alloc: Global,
     excused: &Excused,
@@ -236,9 +236,9 @@ fn missing_of_unshared(
     Ok(best)
 }
 
-/// The least rules of two edges that split into a missing pair and aren't excused. None of the others,
-/// which are in the order of their cells, split into a missing pair; where most edges are shared with
-/// them, the splits of two shared ones are passed over.
+/// The least rules of two edges that split into a missing pair and aren't excused. None of the
+/// others, which are in the order of their cells, split into a missing pair; where most edges are
+/// shared with them, the splits of two shared ones are passed over.
 fn missing_split(
     alloc: Global,
     excused: &Excused,
@@ -269,9 +269,9 @@ pub struct StateEdges<'a, M: Machine> {
 }
 
 impl<'a, M: Machine> StateEdges<'a, M> {
-    /// The least rules of two steps from the state with this number that split into a missing pair and
-    /// aren't excused, if it has these edges. None of the others, which are in the order of their cells,
-    /// split into a missing pair.
+    /// The least rules of two steps from the state with this number that split into a missing pair
+    /// and aren't excused, if it has these edges. None of the others, which are in the order of
+    /// their cells, split into a missing pair.
     pub fn missing_split_at(
         &self,
         state: u32,

@@ -5,8 +5,8 @@ ghost use Rattle.brl_closure.specs.Pass.{ArePairsBehind};
 use brl_pairs::{Body, Key};
 use std::alloc::{AllocError, Global};
 
-/// For each state a linked list of the pairs whose trailing run is in it, by their numbers: `first` by
-/// state, `next` by pair.
+/// For each state a linked list of the pairs whose trailing run is in it, by their numbers: `first`
+/// by state, `next` by pair.
 #[derive(Drop)]
 pub struct PairsByTrailingState {
     pub first: Vec<Option<u32>>,

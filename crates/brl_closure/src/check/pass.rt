@@ -67,8 +67,8 @@ fn missing_pair_after<M: Machine>(
     Ok(least)
 }
 
-/// What is missing, once one more state is passed. A missing split is named before any missing pair,
-/// so nothing more is looked for after it.
+/// What is missing, once one more state is passed. A missing split is named before any missing
+/// pair, so nothing more is looked for after it.
 fn missing_after<M: Machine>(
     at: &StateEdges<'_, M>,
     earlier: &EarlierEdges,

@@ -16,8 +16,8 @@ use brl_pairs::{
 use std::alloc::{AllocError, Global};
 use std::marker::Model;
 
-/// The edges of a state. A contract sees them in listed order, with their cells, and in the order of
-/// their cells.
+/// The edges of a state. A contract sees them in listed order, with their cells, and in the order
+/// of their cells.
 #[derive(Drop)]
 pub struct Sorted<'c> {
     cells: &'c KeptCells,

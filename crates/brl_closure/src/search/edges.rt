@@ -18,8 +18,9 @@ use brl_parts::Parts;
 use std::alloc::AllocError;
 
 impl<'m, M: Machine> Finder<'m, M> {
-    /// A step of the state with this number, by numbers. Its next state is added where it hasn't been
-    /// found before, and its cells are kept, where those with the number `likely` are tried first.
+    /// A step of the state with this number, by numbers. Its next state is added where it hasn't
+    /// been found before, and its cells are kept, where those with the number `likely` are tried
+    /// first.
     fn number_step(
         &self,
         trail: &mut Trail<M::State>,
@@ -77,8 +78,8 @@ impl<'m, M: Machine> Finder<'m, M> {
 
 impl<'m, M: Parted> Finder<'m, M> {
     /// The edges of the state with this number, in listed order. The next states of its steps are
-    /// added where they haven't been found before, in the order of the steps; the cells of the steps
-    /// are kept, and the parts of the steps.
+    /// added where they haven't been found before, in the order of the steps; the cells of the
+    /// steps are kept, and the parts of the steps.
     pub fn find_edges(
         &self,
         trail: &mut Trail<M::State>,
@@ -106,7 +107,8 @@ impl<'m, M: Parted> Finder<'m, M> {
         }
     }
 
-    /// The edges of the state with this number, put together from those of these parts of its steps.
+    /// The edges of the state with this number, put together from those of these parts of its
+    /// steps.
     fn join_edges(
         &self,
         trail: &mut Trail<M::State>,
@@ -150,7 +152,8 @@ impl<'m, M: Parted> Finder<'m, M> {
             match parts.number_near(&part, likely) {
                 Some(number) => {
                     places.push(Place::Known(number))?;
-                    // States mostly have parts that were first listed together, one after the other.
+                    // States mostly have parts that were first listed together, one after the
+                    // other.
                     likely = number.saturating_add(1);
                 }
                 None => {
@@ -175,8 +178,8 @@ impl<'m, M: Parted> Finder<'m, M> {
         })
     }
 
-    /// Takes the steps of these parts by numbers, that of the least rule first and of one rule those of the
-    /// first part: in the order in which the state lists them.
+    /// Takes the steps of these parts by numbers, that of the least rule first and of one rule
+    /// those of the first part: in the order in which the state lists them.
     fn number_parts(
         &self,
         trail: &mut Trail<M::State>,

@@ -53,8 +53,8 @@ impl<'m, M: Parted> Model for Search<'m, M> {
 }
 
 impl<'m, M: Parted> Search<'m, M> {
-    /// The search of a machine that has found the start. It finds states and pairs by hashes of this
-    /// seed, which is to be drawn from all that the machine depends on.
+    /// The search of a machine that has found the start. It finds states and pairs by hashes of
+    /// this seed, which is to be drawn from all that the machine depends on.
     pub fn start(
         alloc: Global,
         machine: &'m M,
@@ -168,8 +168,8 @@ pub fn search_machine<M: Machine>(
     search_machine_with(alloc, &Whole::new(machine), limit, seed, &mut NoProgress)
 }
 
-/// Searches a machine as `search_machine` does, and reports its progress to `watch` before each slice
-/// of steps.
+/// Searches a machine as `search_machine` does, and reports its progress to `watch` before each
+/// slice of steps.
 pub fn search_machine_with<M: Parted, W: Progress>(
     alloc: Global,
     machine: &M,

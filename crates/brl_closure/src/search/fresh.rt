@@ -9,7 +9,8 @@ use brl_pairs::{Key, ListedEdge, Step};
 use brl_parts::Parts;
 use std::alloc::{AllocError, Global};
 
-/// A part that isn't kept yet: the edges of its first steps, and its other steps, the last one first.
+/// A part that isn't kept yet: the edges of its first steps, and its other steps, the last one
+/// first.
 #[derive(Drop)]
 pub struct Fresh<S: Key, P: Key> {
     pub part: P,

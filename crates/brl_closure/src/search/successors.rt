@@ -218,8 +218,8 @@ impl<'m, M: Machine> Finder<'m, M> {
 
 impl<'m, M: Parted> Finder<'m, M> {
     /// Adds the next states of the steps of a state, and its splits. Returns the edges of these
-    /// steps in the order of their cells, which are kept. The splits of two edges that the state shares
-    /// with an expanded one have been added before.
+    /// steps in the order of their cells, which are kept. The splits of two edges that the state
+    /// shares with an expanded one have been added before.
     pub(crate) fn expand(
         &self,
         trail: &mut Trail<M::State>,
@@ -312,8 +312,8 @@ impl<'m, M: Parted> Finder<'m, M> {
         Ok(edges)
     }
 
-    /// Adds the successors of the pair with this number, by the edges of its state behind, which has
-    /// been expanded.
+    /// Adds the successors of the pair with this number, by the edges of its state behind, which
+    /// has been expanded.
     pub(crate) fn walk_queued(
         &self,
         trail: &mut Trail<M::State>,

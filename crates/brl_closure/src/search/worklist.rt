@@ -15,8 +15,8 @@ use std::cmp::Reverse;
 use std::collections::BinaryHeap;
 use std::mem;
 
-/// The most edges of states that are kept, but for those of the state that is asked for last: 3 MB of
-/// them.
+/// The most edges of states that are kept, but for those of the state that is asked for last: 3 MB
+/// of them.
 const MOST_KEPT: usize = 250_000;
 
 /// What is left to do in a search: states to be expanded, and pairs to be walked.
@@ -55,8 +55,8 @@ impl<P: Key> Worklist<P> {
         }
     }
 
-    /// Keeps no parts any more where as many are kept as should be. New ones will be found by hashes
-    /// of this seed.
+    /// Keeps no parts any more where as many are kept as should be. New ones will be found by
+    /// hashes of this seed.
     pub fn forget_parts(&mut self, alloc: Global, seed: Seed)
         ensures parts { (self.new.parts ≡ self.old.parts) ⊎ (self.new.parts ≡ no_parts) }
         ensures cells { self.new.cells ≡ self.old.cells }
@@ -68,7 +68,8 @@ impl<P: Key> Worklist<P> {
         }
     }
 
-    /// Counts edges of a state that will be kept. Where too many are, those that are kept are dropped.
+    /// Counts edges of a state that will be kept. Where too many are, those that are kept are
+    /// dropped.
     pub fn make_room(&mut self, alloc: Global, edges: usize)
         ensures parts { self.new.parts ≡ self.old.parts }
         ensures cells { self.new.cells ≡ self.old.cells }

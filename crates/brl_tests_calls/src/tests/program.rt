@@ -108,7 +108,8 @@ fn is_of_letters(sections: &[Section]) -> bool {
         && matches!(outcome_of(sections), Outcome::Clashing)
 }
 
-/// The list of a table's clashes, as an author reads it, where its first pair is accepted or none is.
+/// The list of a table's clashes, as an author reads it, where its first pair is accepted or none
+/// is.
 fn clashes_text(alloc: Global, table: &Table, accepts: bool) -> Result<String, AllocError> {
     let left_out = LeftOut::none(alloc);
     let scope = Scope {

@@ -134,8 +134,8 @@ fn lists_both(alloc: Global, table: &Table) -> bool {
     }
 }
 
-/// Whether the list of the divergences of a table's machine, of two letters with the same cells, has
-/// their pair alone.
+/// Whether the list of the divergences of a table's machine, of two letters with the same cells,
+/// has their pair alone.
 fn machine_lists_both(alloc: Global, table: &Table) -> Result<bool, Fail> {
     let dues = Dues::new(alloc, table);
     let seed = seed_of(alloc, table)?;
@@ -161,8 +161,8 @@ fn finds_a_clash(alloc: Global) -> Result<bool, Fail> {
     Ok(is_found && lists_both(alloc, &table) && machine_lists_both(alloc, &table)?)
 }
 
-/// Whether that certificate is judged for the table of two letters with the same cells, up to their pair
-/// of rules.
+/// Whether that certificate is judged for the table of two letters with the same cells, up to their
+/// pair of rules.
 fn is_judged_up_to(alloc: Global, files: &mut MapSource) -> Result<bool, Fail> {
     let mut pairs = Vec::new(alloc);
     pairs.push((0, 1))?;

@@ -102,8 +102,8 @@ fn worked_certificates(rt: HostRuntime) -> Result<(), Fail> {
     for_rows_of_4(rt.alloc(), JUDGED, judged)
 }
 
-/// A table's lines, and how many pairs of rules the sets of the whole list of its clashes need: they are
-/// accepted with all of the list's pairs, and without any one of them they are refused.
+/// A table's lines, and how many pairs of rules the sets of the whole list of its clashes need:
+/// they are accepted with all of the list's pairs, and without any one of them they are refused.
 const NEEDED: &str = "\
 letter a 1; letter b 12|0 of 0
 letter a 1; letter b 1|1 of 1
@@ -181,9 +181,10 @@ fn sets_of_whole_lists(rt: HostRuntime) -> Result<(), Fail> {
     for_rows_of_2(rt.alloc(), NEEDED, needed)
 }
 
-/// A table's lines, its characters, the pairs of rules that are accepted and exchanged, and what comes of
-/// the sets of the whole list of its clashes: where they are accepted, how many pairs of texts of up to
-/// four of the characters have the same cells, of which all agree but for what is excused.
+/// A table's lines, its characters, the pairs of rules that are accepted and exchanged, and what
+/// comes of the sets of the whole list of its clashes: where they are accepted, how many pairs of
+/// texts of up to four of the characters have the same cells, of which all agree but for what is
+/// excused.
 const AGREE: &str = "\
 letter a 1; letter b 1|ab||A3 SplitMissing state 0 rules 0 1
 letter a 1; letter b 1|ab|e0-1|155 agree
@@ -207,8 +208,8 @@ fn are_alike(
     one.cells.as_slice() == other.cells.as_slice() && (same || exchanged.has(one.rule, other.rule))
 }
 
-/// Whether two texts agree but for what is excused: step by step, to their ends or up to two steps of an
-/// accepted pair of rules. No table here has runs of capitals.
+/// Whether two texts agree but for what is excused: step by step, to their ends or up to two steps
+/// of an accepted pair of rules. No table here has runs of capitals.
 fn agree_but(
     alloc: Global,
     table: &Table,

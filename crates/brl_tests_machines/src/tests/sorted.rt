@@ -37,9 +37,9 @@ const SPLITS: &str = "\
 1 1 1|2|0 1
 ";
 
-/// The cells of a state's edges in listed order, those of another state's, and the places of the splits
-/// of the first whose edges aren't both shared. `:1` after cells is the next state, which is else 0. A
-/// split of two edges that aren't shared is there twice.
+/// The cells of a state's edges in listed order, those of another state's, and the places of the
+/// splits of the first whose edges aren't both shared. `:1` after cells is the next state, which is
+/// else 0. A split of two edges that aren't shared is there twice.
 const UNSHARED: &str = "\
 1 1-12 12|1 1-12 12|
 1 1-12 12|12|0-1 0-1
@@ -69,8 +69,8 @@ fn cells_of_dots(alloc: Global, dots: &str) -> Result<Cells, Fail> {
     Ok(read_dots(alloc, dots, 16)?)
 }
 
-/// The edges with these cells, which are kept. Each leads to the state whose number is after a colon,
-/// or to that with the number 0.
+/// The edges with these cells, which are kept. Each leads to the state whose number is after a
+/// colon, or to that with the number 0.
 fn edges_of_dots(
     alloc: Global,
     kept: &mut KeptCells,

@@ -5,8 +5,8 @@ use brl_testing::{field_of, files_of, for_rows_of_3, for_rows_of_4, words_of};
 use std::alloc::Global;
 use std::test::Fail;
 
-/// Files, the path of a table, and the files of its cut for the folder `o`, each with its lines; or why
-/// it isn't cut.
+/// Files, the path of a table, and the files of its cut for the folder `o`, each with its lines; or
+/// why it isn't cut.
 const CUTS: &str = "\
 t.ctb: letter a 1; pass2 @1 2; letter b 12|t.ctb|o/t.ctb: letter a 1; # B1 OutsideProfile pass2: pass2 @1 2; letter b 12
 t.ctb: letter a 1; letter b 9; always ab 12; always aa 1|t.ctb|o/t.ctb: letter a 1; # B4 BadDots 9: letter b 9; # B5 UndefinedInRule ab: always ab 12; always aa 1

@@ -1,5 +1,5 @@
-//! What `explain` says of the dots of a fault's line. Some have a comma, at which the words of other rows
-//! are cut.
+//! What `explain` says of the dots of a fault's line. Some have a comma, at which the words of
+//! other rows are cut.
 use brl_explain::explain;
 use brl_testing::for_rows_of_2;
 use std::alloc::Global;

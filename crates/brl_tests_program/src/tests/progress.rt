@@ -61,7 +61,8 @@ impl Clock for HandClock {
 }
 
 /// What happens to a terminal, and what is written to it then. `say` writes a word, `end` ends the
-/// work; else a search is reported at this time, with this number of states and ten times as many pairs.
+/// work; else a search is reported at this time, with this number of states and ten times as many
+/// pairs.
 const SHOWN: &str = "\
 0 1,1999 2|
 0 1,2000 2|\r\x1b[Ksearching: 2 states, 20 pairs, 2 s

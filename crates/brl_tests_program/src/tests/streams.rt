@@ -78,8 +78,8 @@ fn run_stream<R: Input, W: Output>(
     )
 }
 
-/// What a stream answers: the text of its fault, or the characters that it lists, each with its count
-/// and its first line.
+/// What a stream answers: the text of its fault, or the characters that it lists, each with its
+/// count and its first line.
 fn answer_of(
     alloc: Global,
     outcome: Result<Vec<Lacking>, Failure<StreamFault>>,
@@ -203,7 +203,8 @@ fn a_line_has_no_more_bytes(rt: HostRuntime) -> Result<(), Fail> {
     for_rows_of_3(rt.alloc(), TOO_LONG, long_line_answer)
 }
 
-/// The option, the bytes that the reader gives before it fails, what is answered, and what is written.
+/// The option, the bytes that the reader gives before it fails, what is answered, and what is
+/// written.
 const INTERRUPTED: &str = "\
 |abc a\r;|U3 InputFailed at line 2|ABC A;
 |abc a;a|U3 InputFailed at line 2|ABC A;

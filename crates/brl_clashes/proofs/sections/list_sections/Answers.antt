@@ -32,8 +32,8 @@ section_of t left_out limit place s kinds later characters without kinds_are kep
       clashes = subst (λ (lo : List ℕ). AreClashes lo t limit s.found) all found;
     }
 
--- each section is one of the table, and so is that of the next kind: of the kinds as they are listed, of
--- what is left of them, and of the characters that are kept
+-- each section is one of the table, and so is that of the next kind: of the kinds as they are
+-- listed, of what is left of them, and of the characters that are kept
 each_after : (t : TableView) (left_out : List ℕ) (limit place : ℕ) (sections after : List Section) (s : Section) (own kinds again : List Kind) (letters characters left without : List ℕ)
     → length sections ≡ place → after ≡ sections ++ s ∷ [] → ((p : ℕ) (x : Section) → slice_get sections p ≡ Some x → IsSection t left_out limit p x)
     → own ≡ or_letter (kinds_among t letters) → letters ≡ left → left ≡ kept t left_out → kinds ≡ own → again ≡ own → characters ≡ left → slice_get kinds place ≡ Some s.kind

@@ -137,7 +137,8 @@ fn many_include_lines(rt: HostRuntime) -> Result<(), Fail> {
     for_rows_of_3(rt.alloc(), MANY_LINES, many_included)
 }
 
-/// Files, the folders in which they are looked for, the root, and what comes of it after how many reads.
+/// Files, the folders in which they are looked for, the root, and what comes of it after how many
+/// reads.
 const FOLDERS: &str = "\
 t: include u & one/u: letter a 1 & two/u: letter b 1|one,two|t|one/u:1 letter@0 a@7 1@9; after 3 reads, 0 failed
 t: include u & one/u: letter a 1 & two/u: letter b 1|two,one|t|two/u:1 letter@0 b@7 1@9; after 3 reads, 0 failed
@@ -158,8 +159,8 @@ t: include u & one/u: include u|one|t|L4 Cycle one/u at one/u:1 after 3 reads, 0
 t: include u & u: letter a 1|,one|t|u:1 letter@0 a@7 1@9; after 2 reads, 0 failed
 ";
 
-/// What comes of a source's table, where its files are looked for in these folders, and how many reads
-/// there were.
+/// What comes of a source's table, where its files are looked for in these folders, and how many
+/// reads there were.
 fn looked_for(
     alloc: Global,
     source: &mut Watched,

@@ -108,7 +108,7 @@ fn classes_of(table: &Table, character: Option<&char>) -> Class {
     }
 }
 
-/// Whether the characters of a rule may come before a rest whose first character has this fold.
+/// Whether a rest, whose first character has this fold, begins with the characters of a rule.
 fn begins_with(rest: &[char], fold: char, rule: &Rule) -> bool {
     let Some((first, others)) = rule.chars.as_slice().split_first() else {
         return false;
@@ -138,7 +138,7 @@ fn is_capital_of(table: &Table, character: Option<&char>, fold: char) -> bool {
     info.classes.intersects(Class::UPPERCASE) && info.fold == fold
 }
 
-/// Whether capitals with these folds begin a rest.
+/// Whether a rest begins with capitals that have these folds.
 fn begins_with_capitals(table: &Table, rest: &[char], folds: &[char]) -> bool {
     for (place, fold) in folds.iter().enumerate() {
         if !is_capital_of(table, rest.get(place), *fold) {
