@@ -1,4 +1,9 @@
 //! Edges in the order of their cells: those that a lead can follow, and those that split.
+ghost use Rattle.std.specs.Prelude.{◌≡◌, ◌<◌, ℕ, Contains, IfOk, length, true};
+ghost use Rattle.brl_pairs.specs.Listed.{HaveCells};
+ghost use Rattle.brl_pairs.specs.Sorted.{AreAscending};
+ghost use Rattle.brl_pairs.specs.declared.sorted.SortedEdge.{SortedEdge as SortedValue};
+
 use brl_cells::{Cells, read_dots};
 use brl_pairs::{
     KeptCells, ListedEdge, Seed, SortedEdge, TwoPlaces, as_u32, by_number, earlier_splits, matches,
@@ -103,12 +108,41 @@ fn places_text(alloc: Global, edges: &[SortedEdge]) -> Result<String, Fail> {
     Ok(text)
 }
 
+/// Whether the cells of each edge are kept.
+fn have_cells(kept: &KeptCells, edges: &[ListedEdge]) -> bool
+    ensures { result ≡ true → HaveCells kept.now edges.now }
+{
+    let count = kept.as_slice().len();
+    for edge in edges {
+        if edge.cells as usize >= count {
+            return false;
+        }
+    }
+    true
+}
+
+/// The edges in the order of their cells. Their places are those in the list.
+fn sorted_edges(
+    alloc: Global,
+    kept: &KeptCells,
+    edges: &[ListedEdge],
+) -> Result<Vec<SortedEdge>, Fail>
+    ensures ascending { IfOk result (λ sorted. AreAscending kept.now sorted.items) }
+    ensures places { IfOk result (λ sorted. (x : SortedValue) → Contains sorted.items x → x.place < length edges.now) }
+    ensures all { IfOk result (λ sorted. (place : ℕ) → place < length edges.now → (x : SortedValue) × Contains sorted.items x × (x.place ≡ place)) }
+{
+    if !have_cells(kept, edges) {
+        return Err(Fail::new("an edge has cells that aren't kept"));
+    }
+    Ok(sort_edges(alloc, kept, edges)?)
+}
+
 fn matches_text(alloc: Global, field: &str, lead: &str) -> Result<String, Fail> {
     let mut kept = KeptCells::new(alloc, Seed::of(b"cells"));
     let edges = edges_of_dots(alloc, &mut kept, field)?;
     let lead = cells_of_dots(alloc, lead)?;
     kept.rank(alloc)?;
-    let sorted = sort_edges(alloc, &kept, edges.as_slice())?;
+    let sorted = sorted_edges(alloc, &kept, edges.as_slice())?;
     let cells = kept.as_slice();
     let found = matches(alloc, cells, sorted.as_slice(), lead.as_slice())?;
     places_text(alloc, found.as_slice())
@@ -127,7 +161,7 @@ fn splits_text(alloc: Global, field: &str, place: &str) -> Result<String, Fail> 
         return Err(Fail::new("there is no such edge"));
     }
     kept.rank(alloc)?;
-    let sorted = sort_edges(alloc, &kept, edges.as_slice())?;
+    let sorted = sorted_edges(alloc, &kept, edges.as_slice())?;
     let cells = kept.as_slice();
     let splits = splits_of(alloc, cells, sorted.as_slice(), edges.len())?;
     let found = earlier_splits(alloc, cells, sorted.as_slice(), &splits, place)?;
@@ -156,12 +190,12 @@ fn unshared_text(alloc: Global, field: &str, others: &str) -> Result<String, Fai
     let edges = edges_of_dots(alloc, &mut kept, field)?;
     let others = edges_of_dots(alloc, &mut kept, others)?;
     kept.rank(alloc)?;
-    let sorted = sort_edges(alloc, &kept, edges.as_slice())?;
-    let others = sort_edges(alloc, &kept, others.as_slice())?;
+    let sorted = sorted_edges(alloc, &kept, edges.as_slice())?;
+    let others = sorted_edges(alloc, &kept, others.as_slice())?;
     let shared = shared_with(alloc, &kept, sorted.as_slice(), others.as_slice())?;
-    let (sorted, shared) = (sorted.as_slice(), shared.as_slice());
     let limit = as_u32(edges.len())?;
-    let splits = unshared_splits(alloc, kept.as_slice(), sorted, shared, limit)?;
+    let (edges, shared) = (sorted.as_slice(), shared.as_slice());
+    let splits = unshared_splits(alloc, kept.as_slice(), edges, shared, limit)?;
     two_places_text(alloc, splits.as_slice())
 }
 
@@ -182,7 +216,7 @@ fn by_number_text(alloc: Global, field: &str) -> Result<String, Fail> {
             edges.push(SortedEdge {
                 cells: 0,
                 next: 0,
-                place: numbers.len() as u32,
+                place: as_u32(numbers.len())?,
             })?;
             numbers.push(number)?;
         }
