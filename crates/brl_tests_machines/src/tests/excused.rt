@@ -195,6 +195,12 @@ letter a 1; letter b 12; letter x 1-12|abx|a0-2|45 agree
 letter a 1; letter b 12; letter x 1-12|abx|e0-2|A3 SplitMissing state 0 rules 0 2
 ";
 
+/// The characters of a text that a step reads.
+fn read_by<'t>(text: &'t [char], step: &Traced) -> Option<&'t [char]> {
+    let end = step.start.checked_add(step.length)?;
+    text.get(step.start..end)
+}
+
 /// Whether two steps of two texts are the same, or may be exchanged.
 fn are_alike(
     left: &[char],
@@ -203,8 +209,7 @@ fn are_alike(
     other: &Traced,
     exchanged: &RulePairs,
 ) -> bool {
-    let same = one.rule == other.rule
-        && left[one.start..][..one.length] == right[other.start..][..other.length];
+    let same = one.rule == other.rule && read_by(left, one) == read_by(right, other);
     one.cells.as_slice() == other.cells.as_slice() && (same || exchanged.has(one.rule, other.rule))
 }
 
@@ -235,8 +240,9 @@ fn texts_of(alloc: Global, characters: &str) -> Result<Vec<Vec<char>>, Fail> {
         if number >= texts.len() || texts[number].len() == 4 {
             break;
         }
+        let begun = Vec::from_slice(alloc, texts[number].as_slice())?;
         for character in characters.chars() {
-            let mut text = Vec::from_slice(alloc, texts[number].as_slice())?;
+            let mut text = Vec::from_slice(alloc, begun.as_slice())?;
             text.push(character)?;
             texts.push(text)?;
         }
