@@ -30,8 +30,8 @@ AreLeftOf accepted sections left = ⊥
 -- ---- What is reported
 
 -- The outcome of sections from which this many accepted pairs were left out, where theirs is this:
--- a table of which pairs are accepted isn't unambiguous, and as many pairs as are left diverge,
--- which may be none.
+-- where pairs are accepted, the table isn't unambiguous; as many pairs as are left diverge, which
+-- may be none.
 abbrev pub outcome_beside : ℕ → Outcome → Outcome
 outcome_beside accepted Unambiguous = if accepted == 0 then Unambiguous else Clashing
 outcome_beside accepted outcome = outcome

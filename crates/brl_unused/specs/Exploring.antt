@@ -63,8 +63,8 @@ pub record Takes (transitions : List Transition) (live : List Bool) (rule : ℕ)
   pub of_rule : transition.rule ≡ rule
   pub is_live : slice_get live transition.to ≡ Some true
 
--- of the rules with numbers below this one just those are marked of which a transition enters a
--- live state
+-- a rule with a number below this one is marked where some transition by it enters a live state,
+-- and no other is
 pub record AreMarkedBy (transitions : List Transition) (live : List Bool) (rules : ℕ) (marks : List Bool) : Type 0 where
   pub count : length marks ≡ rules
   pub each : (rule : ℕ) → rule < rules → (slice_get marks rule ≡ Some true) ↔ Takes transitions live rule
