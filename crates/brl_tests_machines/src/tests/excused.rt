@@ -47,7 +47,7 @@ letter a 1|BRLCERT 1;state 1 0 0 -;state 8 0 0 61;state 8 0 1 -;pair 1 2 -;end 3
 
 /// The pair of rules of a word after its first letter.
 fn pair_of(word: &str) -> Result<(u32, u32), Fail> {
-    match word[1..].split_once('-') {
+    match word.get(1..).and_then(|numbers| numbers.split_once('-')) {
         Some((one, other)) => Ok((
             u32::from_str_radix(one, 10)?,
             u32::from_str_radix(other, 10)?,
