@@ -41,8 +41,8 @@ pub fn outcome_of(sections: &[Section]) -> Outcome
     Outcome::Unambiguous
 }
 
-/// The outcome of sections with this outcome, where this many accepted pairs of rules were left out
-/// of them: such a table isn't unambiguous, also where no pair is left.
+/// The outcome for a table whose sections have this one after this many accepted pairs of rules
+/// were left out. Where some were, the table isn't unambiguous, also where no pair is left.
 pub fn outcome_beside(accepted: usize, outcome: Outcome) -> Outcome
     ensures { result ≡ said_outcome accepted outcome }
 {

@@ -182,9 +182,9 @@ fn sets_of_whole_lists(rt: HostRuntime) -> Result<(), Fail> {
 }
 
 /// A table's lines, its characters, the pairs of rules that are accepted and exchanged, and what
-/// comes of the sets of the whole list of its clashes: where they are accepted, how many pairs of
-/// texts of up to four of the characters have the same cells, all of which agree but for what is
-/// excused.
+/// comes of the sets of the whole list of its clashes. Where they are accepted, that is how many
+/// pairs of texts of up to four of the characters have the same cells. All of these pairs agree
+/// but for what is excused.
 const AGREE: &str = "\
 letter a 1; letter b 1|ab||A3 SplitMissing state 0 rules 0 1
 letter a 1; letter b 1|ab|e0-1|155 agree
