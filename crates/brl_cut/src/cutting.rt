@@ -111,9 +111,10 @@ fn rewrite_gathered(
 /// again, the lines that a survey of the others finds faulty, until it finds none. So every command
 /// reads what is written.
 ///
-/// With `rewrite` lines are rewritten before faulty ones are left out: of a line `noback OP C D ..`
-/// where `OP C D` by itself defines a character, that is put before it, and ` # `, so that the line
-/// itself is a comment.
+/// With `rewrite` lines are rewritten before faulty ones are left out. Before a line `noback OP C D
+/// ..` where `OP C D` by itself defines a character that is put, and ` # `, so that the line itself
+/// is a comment; and then before a line `base uppercase C D` in the same way `uplow CD` with the
+/// dots that the small letter D has by other lines.
 pub fn cut_table<S: Source>(
     alloc: Global,
     source: &mut S,
