@@ -1,10 +1,8 @@
 -- Edits and files, one more at a time.
 use Rattle.std.proofs.Common.{◌≡◌, ℕ, ◌+◌, ◌<◌, Bool, true, false, cond, nat_lt, arith, Bor, if◌then◌else◌, ◌&&◌, nat_eq, List, [], ◌∷◌, ◌++◌, length, map, take, get_or, refl, ap, sym, ◌∙◌, Option, Some, None, option_map, string_bytes}
-use Rattle.std.proofs.lemmas.Bool.Decides.{nat_tests}
 use Rattle.std.specs.BTreeMap.{BTreeMap, get_by, get_by_text, is_at}
 use Rattle.std.specs.Global.{Global, Vec}
-use Rattle.std.specs.Ordering.{is_eq, nat_cmp}
-use Rattle.std.specs.declared.cmp.Ordering.TheVariants.{Less, Equal, Greater}
+use Rattle.std.specs.Ordering.{nat_cmp}
 use Rattle.std.specs.Prelude.{String}
 use Rattle.std.specs.Str.{bytes_eq}
 use Rattle.std.proofs.lemmas.List.{map-append, take_more}
@@ -13,6 +11,7 @@ use Rattle.brl_cut.specs.Edits.{EditView, Texts, is_of, prefix_in}
 use Rattle.brl_cut.specs.Files.{HasPrefixes, HoldsFiles, edit_view, file_view}
 use Rattle.brl_cut.specs.Settling.{bytes_at}
 use Rattle.brl_cut.specs.declared.files.Edit.{Edit}
+use Rattle.brl_lines.proofs.Ordered.{is_eq-nat_eq}
 use Rattle.brl_lines.specs.InMemory.{bytes_in}
 use Rattle.brl_lines.specs.declared.gathering.GatheredFile.{GatheredFile}
 
@@ -57,15 +56,6 @@ pub held-more : (m n : BTreeMap (String Global) (Vec ℕ)) (key : String Global)
     → (files : List GatheredFile) (i : ℕ) (file : GatheredFile) → i < length files → file ≡ get_or files i file → string_bytes key ≡ string_bytes file.path → bytes.items ≡ file.bytes.items
     → HoldsFiles [] (map file_view (take i files)) (record { files = m; folders = None }) → HoldsFiles [] (map file_view (take (i + 1) files)) (record { files = n; folders = None })
 held-more m n key bytes updates files i file within is named same before = (held-at m n key bytes updates files i file within is named same before, refl)
-
-is_eq-nat_eq : (a b : ℕ) → is_eq (nat_cmp a b) ≡ nat_eq a b
-is_eq-nat_eq a b = by_tests (nat_lt a b) refl (nat_eq a b) refl
-  where
-    by_tests : (less : Bool) → nat_lt a b ≡ less → (same : Bool) → nat_eq a b ≡ same → is_eq (cond less Less (cond same Equal Greater)) ≡ same
-    by_tests true l true s = absurd (grind (arith, nat_tests, l, s))
-    by_tests true l false s = refl
-    by_tests false l true s = refl
-    by_tests false l false s = refl
 
 -- what is put before lines, after one edit more, of this file or of another
 module _ (edits : List Edit) (i : ℕ) (edit : Edit) (within : i < length edits) (is : edit ≡ get_or edits i edit) (path : List ℕ) (m : BTreeMap ℕ (Bor (List ℕ))) (before : HasPrefixes m (prefix_in (map edit_view (take i edits)) path)) where

@@ -21,3 +21,4 @@ pub mod SpellingLemmas
 pub mod TextLemmas
 pub mod TokenLemmas
 pub mod WayLemmas
+pub mod Ordered

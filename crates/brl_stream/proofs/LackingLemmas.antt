@@ -1,22 +1,26 @@
 -- One more use of a character that the table doesn't define, and the uses of one more line.
-use Rattle.std.proofs.Common.{◌≡◌, ℕ, zero, suc, ◌+◌, ◌-◌, ◌*◌, ◌&&◌, ◌<◌, ◌≤◌, Bool, true, false, not, ◌||◌, cond, nat_eq, List, [], ◌∷◌, ◌++◌, length, take, get_or, map, filter, refl, ap, sym, ◌∙◌, arith, None, Some, append_assoc, append-nil, Bor}
+use Rattle.std.proofs.Common.{◌≡◌, ℕ, zero, suc, ◌+◌, ◌-◌, ◌*◌, ◌&&◌, ◌<◌, ◌≤◌, Bool, true, false, not, ◌||◌, cond, nat_eq, List, [], ◌∷◌, ◌++◌, length, take, get_or, map, filter, refl, ap, sym, ◌∙◌, arith, Option, None, Some, append_assoc, append-nil, flat_map}
 use Rattle.std.specs.List.{list_any}
 use Rattle.std.specs.Str.{chars, chars_after, continuation_len, lead_bits}
+use Rattle.std.specs.BTreeMap.{BTreeMap, get_by, is_at}
 use Rattle.std.specs.Map.{lookup}
+use Rattle.std.specs.Option.{option_map_or}
+use Rattle.std.specs.Ordering.{nat_cmp}
+use Rattle.brl_lines.proofs.Ordered.{is_eq-nat_eq}
 use Rattle.std.proofs.lemmas.Bool.{eqb-true}
 use Rattle.std.proofs.lemmas.List.{map-append, take_more}
-use Rattle.std.proofs.lemmas.Simd.{map-map}
+use Rattle.std.proofs.lemmas.List.Concat.{flat_map-append}
 use Rattle.std.proofs.lemmas.Str.{chars-nil}
 use Rattle.std.proofs.lemmas.List.Elements.{filter-append}
 use Rattle.std.proofs.lemmas.List.Sums.{count_by-le-length, sum_by-cons, sum_by_push}
-use Rattle.indexmap.specs.IndexMap.{insert_entry}
 use Rattle.brl_rules.specs.TableView.{TableView}
 use Rattle.brl_rules.specs.Text.{is_defined, is_text}
 use Rattle.brl_rules.proofs.Facts.{nat_eq-itself, nat_eq-sym}
 use Rattle.brl_stream.specs.Lacking.{Use, are_of_one, count_of, first_uses, lacking_of, summary, uses_from, uses_in}
-use Rattle.brl_stream.specs.Noting.{IsNoted, entry_of}
+use Rattle.brl_stream.specs.Noting.{IsNoted, entries_of, entry_of}
 use Rattle.brl_stream.specs.declared.lacking.Found.{Found}
 use Rattle.brl_stream.specs.declared.lacking.Lacking.{Lacking}
+use Rattle.brl_stream.specs.declared.lacking.Noted.{Noted}
 
 -- ---- Uses of one character
 
@@ -121,6 +125,41 @@ first-apart : (us : List Use) → AreApart (first_uses us)
 first-apart [] = tt
 first-apart (u ∷ us) = (any-others u u (first_uses us) (nat_eq-itself u.0), apart-fewer (is_other u) (first_uses us) (first-apart us))
 
+-- ---- Entries
+
+-- the entries in which that of a character is set: in its place, or last
+abbrev set_entry : List (ℕ × Found) → ℕ → Found → List (ℕ × Found)
+set_entry [] c x = (c, x) ∷ []
+set_entry (e ∷ es) c x = cond (nat_eq c e.0) ((e.0, x) ∷ es) (e ∷ set_entry es c x)
+
+lookup-set : (es : List (ℕ × Found)) (c q : ℕ) (x : Found) → lookup (nat_eq q) (set_entry es c x) ≡ cond (nat_eq c q) (Some x) (lookup (nat_eq q) es)
+lookup-set [] c q x = ap (λ b. cond b (Some x) None) (nat_eq-sym q c)
+lookup-set (e ∷ es) c q x = cases (nat_eq c e.0) refl (nat_eq q e.0) refl (lookup-set es c q x)
+  where
+    rest : Option Found
+    rest = lookup (nat_eq q) es
+
+    twice : (d : Bool) → cond d (Some x) rest ≡ cond d (Some x) (cond d (Some e.1) rest)
+    twice true = refl
+    twice false = refl
+
+    cases : (b : Bool) → nat_eq c e.0 ≡ b → (d : Bool) → nat_eq q e.0 ≡ d → lookup (nat_eq q) (set_entry es c x) ≡ cond (nat_eq c q) (Some x) rest
+        → lookup (nat_eq q) (cond b ((e.0, x) ∷ es) (e ∷ set_entry es c x)) ≡ cond (nat_eq c q) (Some x) (cond d (Some e.1) rest)
+    cases true same d is more =
+        let there : nat_eq c q ≡ d = ap (λ n. nat_eq n q) (eqb-true c e.0 same) ∙ nat_eq-sym e.0 q ∙ is in
+        ap (λ y. cond y (Some x) rest) is ∙ twice d ∙ sym (ap (λ y. cond y (Some x) (cond d (Some e.1) rest)) there)
+    cases false other true is more =
+        ap (λ y. cond y (Some e.1) (lookup (nat_eq q) (set_entry es c x))) is
+        ∙ sym (ap (λ y. cond y (Some x) (Some e.1)) (ap (nat_eq c) (eqb-true q e.0 is) ∙ other))
+    cases false other false is more = ap (λ y. cond y (Some e.1) (lookup (nat_eq q) (set_entry es c x))) is ∙ more
+
+abbrev character_of : Use → ℕ
+character_of one = one.0
+
+-- the characters of uses, in the order of their first uses
+abbrev characters_of : List Use → List ℕ
+characters_of uses = map character_of (first_uses uses)
+
 -- ---- What was noted
 
 -- a character that no use is of is used nowhere
@@ -152,13 +191,13 @@ module _ (all : List Use) (v : Use) where
           λ j. (w.0, record { count = count j; line = w.1 }) ∷ more j
 
   new-entry : (fs : List Use) (x : Found) → lookup (nat_eq v.0) (map (entry_of all) fs) ≡ None
-      → (insert_entry nat_eq (map (entry_of all) fs) v.0 x ≡ map (entry_of all) fs ++ (v.0, x) ∷ []) × (list_any (are_of_one v) fs ≡ false)
+      → (set_entry (map (entry_of all) fs) v.0 x ≡ map (entry_of all) fs ++ (v.0, x) ∷ []) × (list_any (are_of_one v) fs ≡ false)
   new-entry [] x h = (refl, refl)
   new-entry (w ∷ ws) x h = cases (are_of_one v w) h (new-entry ws x)
     where
       cases : (b : Bool) → cond b (Some (entry_of all w).1) (lookup (nat_eq v.0) (map (entry_of all) ws)) ≡ None
-          → (lookup (nat_eq v.0) (map (entry_of all) ws) ≡ None → (insert_entry nat_eq (map (entry_of all) ws) v.0 x ≡ map (entry_of all) ws ++ (v.0, x) ∷ []) × (list_any (are_of_one v) ws ≡ false))
-          → (cond b ((w.0, x) ∷ map (entry_of all) ws) (entry_of all w ∷ insert_entry nat_eq (map (entry_of all) ws) v.0 x) ≡ entry_of all w ∷ (map (entry_of all) ws ++ (v.0, x) ∷ [])) × (b || list_any (are_of_one v) ws ≡ false)
+          → (lookup (nat_eq v.0) (map (entry_of all) ws) ≡ None → (set_entry (map (entry_of all) ws) v.0 x ≡ map (entry_of all) ws ++ (v.0, x) ∷ []) × (list_any (are_of_one v) ws ≡ false))
+          → (cond b ((w.0, x) ∷ map (entry_of all) ws) (entry_of all w ∷ set_entry (map (entry_of all) ws) v.0 x) ≡ entry_of all w ∷ (map (entry_of all) ws ++ (v.0, x) ∷ [])) × (b || list_any (are_of_one v) ws ≡ false)
       cases true k more = absurd (some_is k)
         where
           some_is : Some (entry_of all w).1 ≡ None → ⊥
@@ -166,7 +205,7 @@ module _ (all : List Use) (v : Use) where
       cases false k more = let m = more k in (ap (λ es. entry_of all w ∷ es) m.0, m.1)
 
   known-entry : (fs : List Use) (found : Found) → AreApart fs → lookup (nat_eq v.0) (map (entry_of all) fs) ≡ Some found
-      → (insert_entry nat_eq (map (entry_of all) fs) v.0 (record { count = found.count + 1; line = found.line }) ≡ map (entry_of (all ++ v ∷ [])) fs) × (list_any (are_of_one v) fs ≡ true)
+      → (set_entry (map (entry_of all) fs) v.0 (record { count = found.count + 1; line = found.line }) ≡ map (entry_of (all ++ v ∷ [])) fs) × (list_any (are_of_one v) fs ≡ true)
   known-entry [] found apart h = cc
   known-entry (w ∷ ws) found apart h = cases (are_of_one v w) refl h (known-entry ws found apart.1)
     where
@@ -174,8 +213,8 @@ module _ (all : List Use) (v : Use) where
       x = record { count = found.count + 1; line = found.line }
 
       cases : (b : Bool) → are_of_one v w ≡ b → cond b (Some (entry_of all w).1) (lookup (nat_eq v.0) (map (entry_of all) ws)) ≡ Some found
-          → (lookup (nat_eq v.0) (map (entry_of all) ws) ≡ Some found → (insert_entry nat_eq (map (entry_of all) ws) v.0 x ≡ map (entry_of (all ++ v ∷ [])) ws) × (list_any (are_of_one v) ws ≡ true))
-          → (cond b ((w.0, x) ∷ map (entry_of all) ws) (entry_of all w ∷ insert_entry nat_eq (map (entry_of all) ws) v.0 x) ≡ map (entry_of (all ++ v ∷ [])) (w ∷ ws)) × (b || list_any (are_of_one v) ws ≡ true)
+          → (lookup (nat_eq v.0) (map (entry_of all) ws) ≡ Some found → (set_entry (map (entry_of all) ws) v.0 x ≡ map (entry_of (all ++ v ∷ [])) ws) × (list_any (are_of_one v) ws ≡ true))
+          → (cond b ((w.0, x) ∷ map (entry_of all) ws) (entry_of all w ∷ set_entry (map (entry_of all) ws) v.0 x) ≡ map (entry_of (all ++ v ∷ [])) (w ∷ ws)) × (b || list_any (are_of_one v) ws ≡ true)
       cases true e k more =
           let is : (entry_of all w).1 ≡ found = cc in
           let others = entries-stay ws (any-same e apart.0) in
@@ -191,37 +230,69 @@ module _ (all : List Use) (v : Use) where
           let count : count_of all w ≡ count_of (all ++ v ∷ []) w = omega (arith, count-more w, ap one_if (nat_eq-sym w.0 v.0 ∙ e)) in
           (λ j. (w.0, record { count = count j; line = w.1 }) ∷ m.0 j, m.1)
 
-  -- a new character was noted
-  pub noted-new : (entries : List (ℕ × Found)) → IsNoted all entries → lookup (nat_eq v.0) entries ≡ None → IsNoted (all ++ v ∷ []) (insert_entry nat_eq entries v.0 (record { count = 1; line = v.1 }))
-  noted-new entries noted h =
+  -- a new character is noted last
+  entries-new : lookup (nat_eq v.0) (entries_of all) ≡ None
+      → (set_entry (entries_of all) v.0 (record { count = 1; line = v.1 }) ≡ entries_of (all ++ v ∷ [])) × (characters_of (all ++ v ∷ []) ≡ characters_of all ++ v.0 ∷ [])
+  entries-new h =
       let x : Found = record { count = 1; line = v.1 } in
       let fs = first_uses all in
-      let new = new-entry fs x (sym (ap (lookup (nat_eq v.0)) noted) ∙ h) in
+      let new = new-entry fs x h in
       let zero_before = none-counted all v new.1 in
       let count : 1 ≡ count_of (all ++ v ∷ []) v = omega (arith, zero_before, count-more v, ap one_if (nat_eq-itself v.0)) in
       let entry : (v.0, x) ≡ entry_of (all ++ v ∷ []) v = λ j. (v.0, record { count = count j; line = v.1 }) in
-      ap (λ es. insert_entry nat_eq es v.0 x) noted ∙ new.0 ∙ ap (λ es. es ++ (v.0, x) ∷ []) (entries-stay fs new.1)
-      ∙ ap (λ e. map (entry_of (all ++ v ∷ [])) fs ++ e ∷ []) entry ∙ sym (map-append (entry_of (all ++ v ∷ [])) fs (v ∷ []))
-      ∙ ap (map (entry_of (all ++ v ∷ []))) (sym (first_uses-more all v ∙ ap (λ b. cond b fs (fs ++ v ∷ [])) new.1))
+      let more : first_uses (all ++ v ∷ []) ≡ fs ++ v ∷ [] = first_uses-more all v ∙ ap (λ b. cond b fs (fs ++ v ∷ [])) new.1 in (
+        new.0 ∙ ap (λ es. es ++ (v.0, x) ∷ []) (entries-stay fs new.1)
+            ∙ ap (λ e. map (entry_of (all ++ v ∷ [])) fs ++ e ∷ []) entry ∙ sym (map-append (entry_of (all ++ v ∷ [])) fs (v ∷ []))
+            ∙ ap (map (entry_of (all ++ v ∷ []))) (sym more),
+        ap (map character_of) more ∙ map-append character_of fs (v ∷ []),
+      )
+
+  -- a character is noted again where it was
+  entries-again : (found : Found) → lookup (nat_eq v.0) (entries_of all) ≡ Some found
+      → (set_entry (entries_of all) v.0 (record { count = found.count + 1; line = found.line }) ≡ entries_of (all ++ v ∷ [])) × (characters_of (all ++ v ∷ []) ≡ characters_of all)
+  entries-again found h =
+      let fs = first_uses all in
+      let known = known-entry fs found (first-apart all) h in
+      let more : first_uses (all ++ v ∷ []) ≡ fs = first_uses-more all v ∙ ap (λ b. cond b fs (fs ++ v ∷ [])) known.1 in
+      (known.0 ∙ ap (map (entry_of (all ++ v ∷ []))) (sym more), ap (map character_of) more)
+
+  -- what is found of each character, after this of one of them
+  found-set : (x : Found) (m n : BTreeMap ℕ Found) → ((q : ℕ) → get_by (nat_cmp q) m ≡ lookup (nat_eq q) (entries_of all))
+      → ((q : ℕ) → get_by (nat_cmp q) n ≡ cond (is_at (nat_cmp v.0) q) (Some x) (get_by (nat_cmp q) m)) → set_entry (entries_of all) v.0 x ≡ entries_of (all ++ v ∷ [])
+      → (q : ℕ) → get_by (nat_cmp q) n ≡ lookup (nat_eq q) (entries_of (all ++ v ∷ []))
+  found-set x m n before updates same q =
+      updates q ∙ ap (λ b. cond b (Some x) (get_by (nat_cmp q) m)) (is_eq-nat_eq v.0 q) ∙ ap (cond (nat_eq v.0 q) (Some x)) (before q) ∙ sym (lookup-set (entries_of all) v.0 q x)
+      ∙ ap (lookup (nat_eq q)) same
+
+  -- a new character was noted
+  pub noted-new : (old new : Noted) → IsNoted all old → get_by (nat_cmp v.0) old.found ≡ None → new.order.items ≡ old.order.items ++ v.0 ∷ []
+      → ((q : ℕ) → get_by (nat_cmp q) new.found ≡ cond (is_at (nat_cmp v.0) q) (Some (record { count = 1; line = v.1 })) (get_by (nat_cmp q) old.found)) → IsNoted (all ++ v ∷ []) new
+  noted-new old new noted none order updates =
+      let is = entries-new (sym (noted.each v.0) ∙ none) in
+      record {
+        order = order ∙ ap (λ cs. cs ++ v.0 ∷ []) noted.order ∙ sym is.1;
+        each = found-set (record { count = 1; line = v.1 }) old.found new.found noted.each updates is.0;
+      }
 
   -- a character was noted again
-  pub noted-again : (entries : List (ℕ × Found)) (found : Found) → IsNoted all entries → lookup (nat_eq v.0) entries ≡ Some found
-      → IsNoted (all ++ v ∷ []) (insert_entry nat_eq entries v.0 (record { count = found.count + 1; line = found.line }))
-  noted-again entries found noted h =
-      let fs = first_uses all in
-      let x : Found = record { count = found.count + 1; line = found.line } in
-      let known = known-entry fs found (first-apart all) (sym (ap (lookup (nat_eq v.0)) noted) ∙ h) in
-      ap (λ es. insert_entry nat_eq es v.0 x) noted ∙ known.0 ∙ ap (map (entry_of (all ++ v ∷ []))) (sym (first_uses-more all v ∙ ap (λ b. cond b fs (fs ++ v ∷ [])) known.1))
+  pub noted-again : (old new : Noted) (found : Found) → IsNoted all old → get_by (nat_cmp v.0) old.found ≡ Some found → new.order.items ≡ old.order.items
+      → ((q : ℕ) → get_by (nat_cmp q) new.found ≡ cond (is_at (nat_cmp v.0) q) (Some (record { count = found.count + 1; line = found.line })) (get_by (nat_cmp q) old.found)) → IsNoted (all ++ v ∷ []) new
+  noted-again old new found noted there order updates =
+      let is = entries-again found (sym (noted.each v.0) ∙ there) in
+      record {
+        order = order ∙ noted.order ∙ sym is.1;
+        each = found-set (record { count = found.count + 1; line = found.line }) old.found new.found noted.each updates is.0;
+      }
 
 -- a count is at most the number of uses
-pub few-found : (all : List Use) (entries : List (ℕ × Found)) (test : ℕ → Bool) (found : Found) → IsNoted all entries → lookup test entries ≡ Some found → found.count ≤ length all
-few-found all entries test found noted h = among (first_uses all) (sym (ap (lookup test) noted) ∙ h)
+pub few-found : (all : List Use) (c : ℕ) (noted : Noted) (found : Found) → IsNoted all noted → get_by (nat_cmp c) noted.found ≡ Some found → found.count ≤ length all
+few-found all c noted found is there = among (first_uses all) (sym (is.each c) ∙ there)
   where
-    among : (fs : List Use) → lookup test (map (entry_of all) fs) ≡ Some found → found.count ≤ length all
+    among : (fs : List Use) → lookup (nat_eq c) (map (entry_of all) fs) ≡ Some found → found.count ≤ length all
     among [] k = cc
-    among (w ∷ ws) k = cases (test w.0) k (among ws)
+    among (w ∷ ws) k = cases (nat_eq c w.0) k (among ws)
       where
-        cases : (b : Bool) → cond b (Some (entry_of all w).1) (lookup test (map (entry_of all) ws)) ≡ Some found → (lookup test (map (entry_of all) ws) ≡ Some found → found.count ≤ length all) → found.count ≤ length all
+        cases : (b : Bool) → cond b (Some (entry_of all w).1) (lookup (nat_eq c) (map (entry_of all) ws)) ≡ Some found → (lookup (nat_eq c) (map (entry_of all) ws) ≡ Some found → found.count ≤ length all) → found.count ≤ length all
         cases true k more =
             let is : (entry_of all w).1 ≡ found = cc in
             let counted : count_of all w ≡ found.count = ap (λ f. f.count) is in
@@ -231,15 +302,53 @@ few-found all entries test found noted h = among (first_uses all) (sym (ap (look
 
 -- ---- The list
 
-abbrev pub lacking_entry : ℕ × Found → Lacking
-lacking_entry e = record { character = e.0; count = e.1.count; line = e.1.line }
+-- a character in the list, where something was found of it
+abbrev pub listed : ℕ → Option Found → List Lacking
+listed c found = option_map_or (λ (f : Found). record { character = c; count = f.count; line = f.line } ∷ []) found []
 
--- the entry that a loop is shown
-abbrev pub shown_entry : Bor ℕ × Bor Found → ℕ × Found
-shown_entry e = (e.0.now, e.1.now)
+abbrev lacking_use : List Use → Use → Lacking
+lacking_use all one = record { character = one.0; count = count_of all one; line = one.1 }
 
-pub noted-listed : (uses : List Use) (entries : List (ℕ × Found)) → IsNoted uses entries → map lacking_entry entries ≡ summary uses
-noted-listed uses entries noted = ap (map lacking_entry) noted ∙ map-map lacking_entry (entry_of uses) (first_uses uses)
+module _ (all : List Use) where
+  -- another entry first changes nothing for others
+  listed-behind : (e : ℕ × Found) (es : List (ℕ × Found)) (w : Use) (xs : List Use) → e.0 ≡ w.0 → list_any (are_of_one w) xs ≡ false
+      → flat_map (λ c. listed c (lookup (nat_eq c) (e ∷ es))) (map character_of xs) ≡ flat_map (λ c. listed c (lookup (nat_eq c) es)) (map character_of xs)
+  listed-behind e es w [] is h = refl
+  listed-behind e es w (x ∷ xs) is h = cases (are_of_one w x) refl h (listed-behind e es w xs is)
+    where
+      cases : (b : Bool) → are_of_one w x ≡ b → b || list_any (are_of_one w) xs ≡ false
+          → (list_any (are_of_one w) xs ≡ false → flat_map (λ c. listed c (lookup (nat_eq c) (e ∷ es))) (map character_of xs) ≡ flat_map (λ c. listed c (lookup (nat_eq c) es)) (map character_of xs))
+          → listed x.0 (cond (nat_eq x.0 e.0) (Some e.1) (lookup (nat_eq x.0) es)) ++ flat_map (λ c. listed c (lookup (nat_eq c) (e ∷ es))) (map character_of xs)
+          ≡ listed x.0 (lookup (nat_eq x.0) es) ++ flat_map (λ c. listed c (lookup (nat_eq c) es)) (map character_of xs)
+      cases true apart k more = cc
+      cases false apart k more =
+          let other : nat_eq x.0 e.0 ≡ false = ap (nat_eq x.0) is ∙ nat_eq-sym x.0 w.0 ∙ apart in
+          ap (λ b. listed x.0 (cond b (Some e.1) (lookup (nat_eq x.0) es)) ++ flat_map (λ c. listed c (lookup (nat_eq c) (e ∷ es))) (map character_of xs)) other
+          ∙ ap (λ rest. listed x.0 (lookup (nat_eq x.0) es) ++ rest) (more k)
+
+  -- of each character there is its entry
+  listed-all : (fs : List Use) → AreApart fs → flat_map (λ c. listed c (lookup (nat_eq c) (map (entry_of all) fs))) (map character_of fs) ≡ map (lacking_use all) fs
+  listed-all [] apart = refl
+  listed-all (w ∷ ws) apart =
+      ap (λ b. listed w.0 (cond b (Some (entry_of all w).1) (lookup (nat_eq w.0) (map (entry_of all) ws))) ++ flat_map (λ c. listed c (lookup (nat_eq c) (entry_of all w ∷ map (entry_of all) ws))) (map character_of ws)) (nat_eq-itself w.0)
+      ∙ ap (λ rest. lacking_use all w ∷ rest) (listed-behind (entry_of all w) (map (entry_of all) ws) w ws refl apart.0 ∙ listed-all ws apart.1)
+
+  listed-same : (found : BTreeMap ℕ Found) (es : List (ℕ × Found)) → ((c : ℕ) → get_by (nat_cmp c) found ≡ lookup (nat_eq c) es) → (cs : List ℕ)
+      → flat_map (λ c. listed c (get_by (nat_cmp c) found)) cs ≡ flat_map (λ c. listed c (lookup (nat_eq c) es)) cs
+  listed-same found es same [] = refl
+  listed-same found es same (c ∷ cs) = ap (λ f. listed c f ++ flat_map (λ c. listed c (get_by (nat_cmp c) found)) cs) (same c) ∙ ap (λ rest. listed c (lookup (nat_eq c) es) ++ rest) (listed-same found es same cs)
+
+  pub noted-listed : (noted : Noted) → IsNoted all noted → flat_map (λ c. listed c (get_by (nat_cmp c) noted.found)) noted.order.items ≡ summary all
+  noted-listed noted is =
+      ap (flat_map (λ c. listed c (get_by (nat_cmp c) noted.found))) is.order ∙ listed-same noted.found (entries_of all) is.each (characters_of all)
+      ∙ listed-all (first_uses all) (first-apart all)
+
+-- one character more of the list
+pub listed-more : (found : BTreeMap ℕ Found) (cs : List ℕ) (i c : ℕ) → i < length cs → c ≡ get_or cs i c
+    → flat_map (λ c. listed c (get_by (nat_cmp c) found)) (take (i + 1) cs) ≡ flat_map (λ c. listed c (get_by (nat_cmp c) found)) (take i cs) ++ listed c (get_by (nat_cmp c) found)
+listed-more found cs i c within is =
+    ap (flat_map (λ c. listed c (get_by (nat_cmp c) found))) (take_more cs i c within ∙ ap (λ x. take i cs ++ x ∷ []) (sym is))
+    ∙ flat_map-append (λ c. listed c (get_by (nat_cmp c) found)) (take i cs) (c ∷ []) ∙ ap (λ rest. flat_map (λ c. listed c (get_by (nat_cmp c) found)) (take i cs) ++ rest) (append-nil (listed c (get_by (nat_cmp c) found)))
 
 pub lacking_of-is : (t : TableView) (lines : List (List ℕ)) → lacking_of t lines ≡ summary (uses_from t 1 lines)
 unfolding lacking_of

@@ -4,8 +4,8 @@ ghost use Rattle.brl_stream.specs.Lacking.{summary, uses_in, Use};
 ghost use Rattle.brl_stream.specs.Noting.{IsNoted};
 
 use brl_rules::Table;
-use indexmap::IndexMap;
 use std::alloc::{AllocError, Global};
+use std::collections::BTreeMap;
 
 /// A character that lines have and the table doesn't define: how often they have it, and the number
 /// of the first line that has it, from 1.
@@ -23,13 +23,31 @@ pub struct Found {
     line: u64,
 }
 
-/// The characters that were found, in the order of their first uses.
-pub type Noted = IndexMap<char, Found>;
+/// The characters that were found. They are looked up by their order, and not by a hash: who
+/// chooses the input could choose characters that meet in a table of hashes, of whatever seed.
+#[derive(Drop)]
+pub struct Noted {
+    /// Each once, in the order of their first uses.
+    order: Vec<char>,
+    found: BTreeMap<char, Found>,
+}
+
+impl Noted {
+    /// Nothing was noted yet. It takes no memory yet.
+    pub fn new(alloc: Global) -> Noted
+        ensures { IsNoted [] result }
+    {
+        Noted {
+            order: Vec::new(alloc),
+            found: BTreeMap::new(alloc),
+        }
+    }
+}
 
 /// Notes the characters of a line that the table doesn't define.
 pub fn note(table: &Table, text: &[char], number: u64, noted: &mut Noted) -> Result<(), AllocError>
-    requires { (uses : List Use) × IsNoted uses noted.old.entries × (length uses + length text.now < 2 ^ 64) }
-    ensures { OnOk result ((uses : List Use) → IsNoted uses noted.old.entries → IsNoted (uses ++ uses_in table.now number text.now) noted.new.entries) }
+    requires { (uses : List Use) × IsNoted uses noted.old × (length uses + length text.now < 2 ^ 64) }
+    ensures { OnOk result ((uses : List Use) → IsNoted uses noted.old → IsNoted (uses ++ uses_in table.now number text.now) noted.new) }
 {
     for character in text {
         if table.info(*character).is_none() {
@@ -41,34 +59,41 @@ pub fn note(table: &Table, text: &[char], number: u64, noted: &mut Noted) -> Res
 
 /// Notes a use of a character in the line with this number.
 fn note_use(character: char, number: u64, noted: &mut Noted) -> Result<(), AllocError>
-    requires { (uses : List Use) × IsNoted uses noted.old.entries × (length uses + 1 < 2 ^ 64) }
-    ensures { OnOk result ((uses : List Use) → IsNoted uses noted.old.entries → IsNoted (uses ++ (character, number) ∷ []) noted.new.entries) }
+    requires { (uses : List Use) × IsNoted uses noted.old × (length uses + 1 < 2 ^ 64) }
+    ensures { OnOk result ((uses : List Use) → IsNoted uses noted.old → IsNoted (uses ++ (character, number) ∷ []) noted.new) }
 {
-    let found = match noted.get(&character) {
+    let found = match noted.found.get(&character) {
         Some(found) => Found {
             count: found.count + 1,
             line: found.line,
         },
-        None => Found {
-            count: 1,
-            line: number,
-        },
+        None => {
+            noted.order.push(character)?;
+            Found {
+                count: 1,
+                line: number,
+            }
+        }
     };
-    noted.insert(character, found)?;
+    noted.found.insert(character, found)?;
     Ok(())
 }
 
 /// The characters that were noted.
 pub fn list_noted(alloc: Global, noted: &Noted) -> Result<Vec<Lacking>, AllocError>
-    ensures { IfOk result (λ list. (uses : List Use) → IsNoted uses noted.now.entries → list.items ≡ summary uses) }
+    ensures { IfOk result (λ list. (uses : List Use) → IsNoted uses noted.now → list.items ≡ summary uses) }
 {
-    let mut list = Vec::with_capacity(alloc, noted.len())?;
-    for (character, found) in noted.iter() {
-        list.push(Lacking {
-            character: *character,
-            count: found.count,
-            line: found.line,
-        })?;
+    let order = noted.order.as_slice();
+    let mut list = Vec::with_capacity(alloc, order.len())?;
+    for character in order {
+        match noted.found.get(character) {
+            Some(found) => list.push(Lacking {
+                character: *character,
+                count: found.count,
+                line: found.line,
+            })?,
+            None => {}
+        }
     }
     Ok(list)
 }

@@ -51,7 +51,7 @@ impl Kept {
     /// Nothing was noted yet. It takes no memory yet.
     pub fn new(alloc: Global, passes: bool) -> Kept
         ensures passes { result.passes ≡ passes }
-        ensures noted { IsNoted [] result.noted.entries }
+        ensures noted { IsNoted [] result.noted }
     {
         Kept {
             passes,
@@ -62,7 +62,7 @@ impl Kept {
 
     /// The characters that were noted.
     pub fn list(&self, alloc: Global) -> Result<Vec<Lacking>, AllocError>
-        ensures { IfOk result (λ list. (uses : List Use) → IsNoted uses self.now.noted.entries → list.items ≡ summary uses) }
+        ensures { IfOk result (λ list. (uses : List Use) → IsNoted uses self.now.noted → list.items ≡ summary uses) }
     {
         list_noted(alloc, &self.noted)
     }
@@ -80,11 +80,11 @@ pub fn write_line<W: Output>(
     writer: &mut W,
 ) -> Result<(), Failure<StreamFault>>
     requires short { length line.now ≤ 65536 }
-    requires few { (uses : List Use) × IsNoted uses kept.old.noted.entries × (length uses + length line.now < 2 ^ 64) }
+    requires few { (uses : List Use) × IsNoted uses kept.old.noted × (length uses + length line.now < 2 ^ 64) }
     ensures written { WritesOutput (output_by kept.old.passes table.now form line.now) number (W.contents writer.old) (W.contents writer.new)
         result }
-    ensures noted { OnOk result ((uses : List Use) → IsNoted uses kept.old.noted.entries
-        → IsNoted (uses ++ uses_in table.now number (chars line.now)) kept.new.noted.entries) }
+    ensures noted { OnOk result ((uses : List Use) → IsNoted uses kept.old.noted
+        → IsNoted (uses ++ uses_in table.now number (chars line.now)) kept.new.noted) }
     ensures passes { kept.new.passes ≡ kept.old.passes }
     ensures cause { IsErrOf result (failures.Fault (fault_at number LineFault.OutputFailed)) → W.failures writer.new ≢ W.failures writer.old }
     ensures calm { OnOk result (W.failures writer.new ≡ W.failures writer.old) }
@@ -107,10 +107,10 @@ fn pass_over(
     kept: &mut Kept,
 ) -> Result<(), Failure<StreamFault>>
     requires { (position : ℕ) → failure ≡ failures.Fault (LineFault.UnknownChar position)
-        → (uses : List Use) × IsNoted uses kept.old.noted.entries × (length uses + length kept.old.scratch.text.items < 2 ^ 64) }
+        → (uses : List Use) × IsNoted uses kept.old.noted × (length uses + length kept.old.scratch.text.items < 2 ^ 64) }
     ensures passed { IsPassedOver kept.old.passes number failure result }
-    ensures noted { OnOk result ((uses : List Use) → IsNoted uses kept.old.noted.entries
-        → IsNoted (uses ++ uses_in table.now number kept.old.scratch.text.items) kept.new.noted.entries) }
+    ensures noted { OnOk result ((uses : List Use) → IsNoted uses kept.old.noted
+        → IsNoted (uses ++ uses_in table.now number kept.old.scratch.text.items) kept.new.noted) }
     ensures passes { kept.new.passes ≡ kept.old.passes }
 {
     match failure {

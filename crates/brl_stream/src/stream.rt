@@ -88,12 +88,12 @@ fn take_lines<R: Input, W: Output>(
     reader: &mut R,
     writer: &mut W,
 ) -> Result<(), Failure<StreamFault>>
-    requires { IsNoted [] kept.old.noted.entries }
+    requires { IsNoted [] kept.old.noted }
     ensures written { (input : List ℕ) → R.remaining reader.old ≡ Some input
         → HasWritten (verdict_within (output_by kept.old.passes table.now form) most_input input) (W.contents writer.old)
         (W.contents writer.new) result }
     ensures noted { (input : List ℕ) → R.remaining reader.old ≡ Some input
-        → OnOk result (IsNoted (uses_from table.now 1 (lines_of input)) kept.new.noted.entries) }
+        → OnOk result (IsNoted (uses_from table.now 1 (lines_of input)) kept.new.noted) }
     ensures whole { OnOk result (IsAtEnd (R.remaining reader.new)) }
     ensures few { ReadsFew (R.remaining reader.old) (R.remaining reader.new) }
     ensures undecided { (input : List ℕ) → R.remaining reader.old ≡ Some input

@@ -1,4 +1,4 @@
-use Rattle.std.proofs.Common.{◌≡◌, ◌∙◌, ℕ, ◌+◌, ◌<◌, ◌^◌, List, ◌∷◌, ◌++◌, [], arith, length-append, length-take, take}
+use Rattle.std.proofs.Common.{◌++◌, arith, length-append, length-take, take}
 use Rattle.brl_stream.specs.Lacking.{uses_in}
 use Rattle.brl_stream.proofs.LackingLemmas.{uses_in-few}
 use Rattle.brl_stream.proofs.lacking.note.Goals as goal

@@ -5,4 +5,4 @@ use Rattle.brl_stream.proofs.lacking.note.Given as goal
 
 abbrev pub invariant-loop-character : goal.invariant-loop-character
 invariant-loop-character l =
-    (uses : List Use) → IsNoted uses l.initial.noted.entries → IsNoted (uses ++ uses_in l.table l.number (take l.character-index l.text)) l.noted.entries
+    (uses : List Use) → IsNoted uses l.initial.noted → IsNoted (uses ++ uses_in l.table l.number (take l.character-index l.text)) l.noted

@@ -1,4 +1,4 @@
-use Rattle.std.proofs.Common.{Err, ℕ, ◌<◌, ◌∙◌, List, ap, append-nil, arith, length, subst, sym, ◌++◌}
+use Rattle.std.proofs.Common.{Err, ◌∙◌, List, ap, append-nil, arith, length, subst, sym, ◌++◌}
 use Rattle.brl_stream.specs.Lacking.{Use}
 use Rattle.brl_stream.specs.Noting.{IsNoted}
 use Rattle.brl_stream.proofs.LackingLemmas.{chars-few, uses_in-text}
@@ -23,4 +23,4 @@ pub returns-in-Ok-clause-noted : goal.returns-in-Ok-clause-noted
 returns-in-Ok-clause-noted g c = λ uses noted.
     let defined = made_text c.args.table.now c.args.form c.args.line.now c.make_output.new.scratch.output.items c.in_default.ensures.made in
     let none = uses_in-text c.args.table.now c.args.number _ defined in
-    subst (λ (us : List Use). IsNoted us c.args.kept.now.noted.entries) (sym (ap (λ (more : List Use). uses ++ more) none ∙ append-nil uses)) noted
+    subst (λ (us : List Use). IsNoted us c.args.kept.now.noted) (sym (ap (λ (more : List Use). uses ++ more) none ∙ append-nil uses)) noted

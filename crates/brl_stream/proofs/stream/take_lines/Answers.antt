@@ -1,4 +1,4 @@
-use Rattle.std.proofs.Common.{Bool, ◌≡◌, ◌+◌, OnOk, ◌≤◌, ◌<◌, ◌∙◌, ap, refl, sym, subst, arith, length, take, Ok, Err, Result, List, ℕ, length-append, length-drop, length-take, ◌∷◌, ◌++◌, []}
+use Rattle.std.proofs.Common.{Bool, ◌≡◌, OnOk, ◌≤◌, ◌<◌, ◌∙◌, ap, refl, sym, subst, arith, length, take, Ok, Err, Result, List, ℕ, length-append, length-drop, length-take, ◌∷◌, ◌++◌, []}
 use Rattle.brl_stream.specs.InputBuffer.{ReadsNext}
 use Rattle.brl_stream.specs.InputLines.{lines_of}
 use Rattle.brl_stream.specs.Writing.{WritesOutput}
@@ -91,8 +91,8 @@ returns-in-Ok-Last-clause-noted g c = λ input known.
     let uses = uses_from table 1 taken in
     let all : uses_from table 1 (lines_of input) ≡ uses ++ uses_in table c.loop-fault.number (chars (take len w.bytes)) =
     ap (uses_from table 1) lines ∙ uses_from-more table 1 taken (take len w.bytes) ∙ ap (λ (n : ℕ). uses ++ uses_in table n (chars (take len w.bytes))) (sym c.loop-fault.invariant.1.numbered) in
-    let noted = subst (λ (bytes : List ℕ). OnOk c.write_line.result ((us : List Use) → IsNoted us c.loop-fault.kept.noted.entries → IsNoted (us ++ uses_in table c.loop-fault.number (chars (take len bytes))) c.write_line.new.kept.noted.entries)) c.bytes.ensures.bytes c.write_line.ensures.noted in
-    on_ok_weaker c.write_line.result (λ holds. subst (λ (us : List Use). IsNoted us c.write_line.new.kept.noted.entries) (sym all) (holds uses c.loop-fault.invariant.1.noted)) noted
+    let noted = subst (λ (bytes : List ℕ). OnOk c.write_line.result ((us : List Use) → IsNoted us c.loop-fault.kept.noted → IsNoted (us ++ uses_in table c.loop-fault.number (chars (take len bytes))) c.write_line.new.kept.noted)) c.bytes.ensures.bytes c.write_line.ensures.noted in
+    on_ok_weaker c.write_line.result (λ holds. subst (λ (us : List Use). IsNoted us c.write_line.new.kept.noted) (sym all) (holds uses c.loop-fault.invariant.1.noted)) noted
 
 pub returns-in-Ok-Last-clause-few : goal.returns-in-Ok-Last-clause-few
 returns-in-Ok-Last-clause-few g c =
@@ -137,7 +137,7 @@ loop-fault-preserved g c =
     let line = take len w.bytes in
     let more = uses_from-more table 1 c.loop-fault.invariant.0 line in
     let there = ap (λ (n : ℕ). uses ++ uses_in table n (chars line)) (sym c.loop-fault.invariant.1.numbered) in
-    let noted = subst (λ (bytes : List ℕ). IsNoted (uses ++ uses_in table c.loop-fault.number (chars (take len bytes))) c.write_line-in-Ok-Line.new.kept.noted.entries) c.bytes-in-Ok-Line.ensures.bytes (c.in_ok-write_line-in-Ok-Line.ensures.noted uses c.loop-fault.invariant.1.noted) in
+    let noted = subst (λ (bytes : List ℕ). IsNoted (uses ++ uses_in table c.loop-fault.number (chars (take len bytes))) c.write_line-in-Ok-Line.new.kept.noted) c.bytes-in-Ok-Line.ensures.bytes (c.in_ok-write_line-in-Ok-Line.ensures.noted uses c.loop-fault.invariant.1.noted) in
     let few_uses = length-append uses (uses_in table c.loop-fault.number (chars line)) in
     let few_in = uses_in-few table c.loop-fault.number (chars line) in
     let few_chars = chars-few line in
@@ -147,7 +147,7 @@ loop-fault-preserved g c =
       c.loop-fault.invariant.0 ++ line ∷ [],
       record {
         numbered = omega (arith, c.loop-fault.invariant.1.numbered, length-append c.loop-fault.invariant.0 (line ∷ []));
-        noted = subst (λ (us : List Use). IsNoted us c.write_line-in-Ok-Line.new.kept.noted.entries) (sym (more ∙ there)) noted;
+        noted = subst (λ (us : List Use). IsNoted us c.write_line-in-Ok-Line.new.kept.noted) (sym (more ∙ there)) noted;
         few = omega (arith, left, room, some, line-is.6, read.counted, c.loop-fault.invariant.1.few, few_uses, few_in, few_chars, few_bytes, all_uses);
         passes = c.in_ok-write_line-in-Ok-Line.ensures.passes ∙ c.loop-fault.invariant.1.passes;
         held = omega (arith, left, within.few);

@@ -11,7 +11,7 @@ invariant-loop-fault g l = (taken : List (List ℕ)) × record {
   counted : l.number + length l.buffer.bytes ≤ l.buffer.taken + 1;
   numbered : l.number ≡ 1 + length taken;
   progress : HasProgressed (output_by l.initial.kept.passes l.table l.form) taken (g.R.Input.remaining l.initial.reader) (g.R.Input.remaining l.reader) l.buffer (g.W.Output.contents l.initial.writer) (g.W.Output.contents l.writer) l.number;
-  noted : IsNoted (uses_from l.table 1 taken) l.kept.noted.entries;
+  noted : IsNoted (uses_from l.table 1 taken) l.kept.noted;
   few : length (uses_from l.table 1 taken) + length l.buffer.bytes ≤ l.buffer.taken;
   passes : l.kept.passes ≡ l.initial.kept.passes;
   reads : g.R.Input.failures l.reader ≡ g.R.Input.failures l.initial.reader;
