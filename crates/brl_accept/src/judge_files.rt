@@ -23,7 +23,7 @@ use brl_closure::{Accepted, accept_up_to};
 use brl_dues::Dues;
 use brl_failure::{Failure, raise};
 use brl_lines::Source;
-use brl_pairs::{Body, Excused, Parted, Seed, numbered_sets_law};
+use brl_pairs::{Body, Excused, Parted, numbered_sets_law};
 use brl_progress::{NoProgress, Progress};
 use brl_rules::Table;
 use brl_states::WindowState;
@@ -41,7 +41,6 @@ fn judge_body<M: Parted, W: Progress>(
     left_out: &LeftOut,
     excused: &Excused,
     body: &Body<M::State>,
-    seed: Seed,
     progress: &mut W,
 ) -> Result<Accepted, Failure<JudgeFault>>
     ensures texts { OnOk result (TextsDifferByExchangesBut excused.now.exchanged excused.now.accepted (without left_out.now (M.behaviour machine.now))) }
@@ -54,7 +53,7 @@ fn judge_body<M: Parted, W: Progress>(
     unambiguous_without_law(machine);
     let without = Without::new(machine, left_out);
     numbered_sets_law(&without);
-    let accepted = accept_up_to(alloc, &without, excused, body, seed, progress);
+    let accepted = accept_up_to(alloc, &without, excused, body, progress);
     raise(accepted, JudgeFault::Refused)
 }
 
@@ -66,7 +65,6 @@ fn judge_windows<W: Progress>(
     left_out: &LeftOut,
     excused: &Excused,
     body: &Body<WindowState>,
-    seed: Seed,
     progress: &mut W,
 ) -> Result<Accepted, Failure<JudgeFault>>
     requires { HasVersion table.now (Cert.Window body.now) × IsNothing excused.now }
@@ -77,7 +75,7 @@ fn judge_windows<W: Progress>(
     let Ok(window) = Window::new(alloc, table) else {
         return Err(Failure::Fault(JudgeFault::Wide(TooWide)));
     };
-    judge_body(alloc, &window, left_out, excused, body, seed, progress)
+    judge_body(alloc, &window, left_out, excused, body, progress)
 }
 
 /// Whether certificates of this one's version are for the table and for what is excused: those of
@@ -101,7 +99,6 @@ fn judge_read<W: Progress>(
     left_out: &LeftOut,
     excused: &Excused,
     cert: &Cert,
-    seed: Seed,
     progress: &mut W,
 ) -> Result<Accepted, Failure<JudgeFault>>
     ensures shown { OnOk result (IsShown left_out.now excused.now table.now) }
@@ -121,19 +118,10 @@ fn judge_read<W: Progress>(
             left_out,
             excused,
             listed.body(),
-            seed,
             progress,
         ),
-        Cert::Dues(listed) => judge_body(
-            alloc,
-            &dues,
-            left_out,
-            excused,
-            listed.body(),
-            seed,
-            progress,
-        ),
-        Cert::Word(body) => judge_body(alloc, &dues, left_out, excused, body, seed, progress),
+        Cert::Dues(listed) => judge_body(alloc, &dues, left_out, excused, listed.body(), progress),
+        Cert::Word(body) => judge_body(alloc, &dues, left_out, excused, body, progress),
     }
 }
 
@@ -152,10 +140,8 @@ pub fn judge_table<W: Progress>(
     let Scope { left_out, progress } = scope;
     let defined = check_defined(alloc, table, left_out);
     raise(defined, JudgeFault::NotDefined)?;
-    // A table gives at most some thousand different cells, so that the certificate alone counts.
-    let seed = Seed::of(cert);
     let cert = raise(read_cert(alloc, cert), JudgeFault::Cert)?;
-    judge_read(alloc, table, left_out, excused, &cert, seed, progress)
+    judge_read(alloc, table, left_out, excused, &cert, progress)
 }
 
 /// Judges a certificate for the table that the file at the path `root` defines. An acceptance gives

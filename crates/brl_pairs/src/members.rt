@@ -33,6 +33,11 @@ impl<T: Key> Members<T> {
         }
     }
 
+    /// The seed by whose hashes they are found.
+    pub fn seed(&self) -> Seed {
+        *self.items.hasher()
+    }
+
     /// The number of members.
     pub fn len(&self) -> usize
         ensures { result ≡ length self.now }

@@ -6,7 +6,7 @@ ghost use Rattle.brl_search.specs.Clashes.{IsWholeList, rules_of_clashes};
 ghost use Rattle.brl_search.specs.FoundUpTo.{AreAllExcused, IsFoundUpTo, is_excused as is_excused_clash};
 ghost use Rattle.brl_search.specs.declared.table_clashes.RuleClash.{RuleClash as ClashValue};
 
-use crate::{ClashList, RuleClash, accepted_list_law, clashes, seed_of};
+use crate::{ClashList, RuleClash, accepted_list_law, clashes};
 use brl_closure::{AcceptFault, accept_up_to};
 use brl_dues::Dues;
 use brl_failure::Failure;
@@ -107,8 +107,7 @@ fn check_body<P: Progress>(
     dues_exchange_law(table);
     let dues = Dues::new(alloc, table);
     let machine = Without::new(&dues, left_out);
-    let seed = seed_of(alloc, table)?;
-    match accept_up_to(alloc, &machine, excused, &body, seed, progress) {
+    match accept_up_to(alloc, &machine, excused, &body, progress) {
         Ok(_) => Ok(FoundUpTo::Certified(Cert::Word(body))),
         Err(Failure::Fault(fault)) => Ok(FoundUpTo::NotExchangeable(fault)),
         Err(Failure::Memory) => Err(AllocError),

@@ -8,6 +8,7 @@ mod edges;
 mod excused;
 mod pairs;
 mod search;
+mod seeds;
 mod small;
 mod sorted;
 mod window;

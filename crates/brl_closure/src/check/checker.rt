@@ -12,7 +12,7 @@ use crate::AcceptFault;
 use crate::check::missing::has_two_ends_at;
 use crate::check::pass::find_missing;
 use brl_failure::Failure;
-use brl_pairs::{Body, Excused, Machine, Parted, Seed, numbered_exchange_law, numbered_sets_law};
+use brl_pairs::{Body, Excused, Machine, Parted, numbered_exchange_law, numbered_sets_law};
 use brl_parts::Whole;
 use brl_progress::{NoProgress, Progress};
 use std::alloc::Global;
@@ -30,7 +30,6 @@ fn check_missing<M: Parted, W: Progress>(
     machine: &M,
     excused: &Excused,
     body: &Body<M::State>,
-    seed: Seed,
     watch: &mut W,
 ) -> Result<(), Failure<AcceptFault>>
     requires laws { KeepsLaws (M.behaviour machine.now) }
@@ -40,6 +39,7 @@ fn check_missing<M: Parted, W: Progress>(
     ensures moves { OnOk result (MissesNoPair (M.behaviour machine.now) body.now) }
     ensures refused { IfErr result (IfFault (IsRefusedUpTo (M.behaviour machine.now) excused.now body.now)) }
 {
+    let seed = body.pairs().seed();
     let missing = find_missing(alloc, machine, excused, body, seed, watch)?;
     if let Some(split) = missing.split {
         return Err(Failure::Fault(AcceptFault::SplitMissing {
@@ -84,7 +84,6 @@ fn check<M: Parted, W: Progress>(
     machine: &M,
     excused: &Excused,
     body: &Body<M::State>,
-    seed: Seed,
     watch: &mut W,
 ) -> Result<(), Failure<AcceptFault>>
     ensures closed { OnOk result (IsClosedBody (M.behaviour machine.now) excused.now body.now) }
@@ -93,7 +92,7 @@ fn check<M: Parted, W: Progress>(
     if !body.has_state(&machine.start()) {
         return Err(Failure::Fault(AcceptFault::NoStart));
     }
-    check_missing(alloc, machine, excused, body, seed, watch)?;
+    check_missing(alloc, machine, excused, body, watch)?;
     check_ends(machine, excused, body)
 }
 
@@ -102,8 +101,7 @@ fn check<M: Parted, W: Progress>(
 ///
 /// Otherwise the fault is the first of `NoStart`, `StateMissing`, `SplitMissing`, `PairMissing` and
 /// `BothEnd` that applies. It names the least state or pair to which it applies, and then the least
-/// rules, of two rules the lesser one first. The cells of steps are found by hashes that a
-/// machine's maker can foresee; `accept_with` takes a seed for them.
+/// rules, of two rules the lesser one first.
 pub fn accept<M: Machine>(
     alloc: Global,
     machine: &M,
@@ -120,18 +118,16 @@ pub fn accept<M: Machine>(
     // States and pairs that are refused are not closed.
     ensures not_closed { IfErr result (IfFault (λ _. IsClosed (M.behaviour machine.now) (sets_of body.now) → ⊥)) }
 {
-    let seed = Seed::of(b"accept");
-    accept_with(alloc, &Whole::new(machine), body, seed, &mut NoProgress)
+    accept_with(alloc, &Whole::new(machine), body, &mut NoProgress)
 }
 
 /// Checks states and pairs as `accept` does, and reports its progress to `watch` after each state.
 /// The parts of the machine's steps are listed once each. They and their cells are found by hashes
-/// of this seed, which is to be drawn from all that the machine and the body depend on.
+/// of the seed of the body's pairs.
 pub fn accept_with<M: Parted, W: Progress>(
     alloc: Global,
     machine: &M,
     body: &Body<M::State>,
-    seed: Seed,
     watch: &mut W,
 ) -> Result<Accepted, Failure<AcceptFault>>
     ensures closed { OnOk result (IsClosed (M.behaviour machine.now) (sets_of body.now)) }
@@ -142,7 +138,7 @@ pub fn accept_with<M: Parted, W: Progress>(
     ensures not_closed { IfErr result (IfFault (λ _. IsClosed (M.behaviour machine.now) (sets_of body.now) → ⊥)) }
 {
     numbered_sets_law(machine);
-    accept_up_to(alloc, machine, &Excused::nothing(alloc), body, seed, watch)
+    accept_up_to(alloc, machine, &Excused::nothing(alloc), body, watch)
 }
 
 /// Accepts states and pairs for a machine exactly where they are closed but for splits that are
@@ -151,14 +147,12 @@ pub fn accept_with<M: Parted, W: Progress>(
 /// a place where they go on with two steps of an accepted pair of rules.
 ///
 /// Otherwise the fault is the first one that applies, as for `accept`; `SplitMissing` names the
-/// least split that is neither listed nor excused. Progress and the seed are those of
-/// `accept_with`.
+/// least split that is neither listed nor excused. Progress is reported as by `accept_with`.
 pub fn accept_up_to<M: Parted, W: Progress>(
     alloc: Global,
     machine: &M,
     excused: &Excused,
     body: &Body<M::State>,
-    seed: Seed,
     watch: &mut W,
 ) -> Result<Accepted, Failure<AcceptFault>>
     // The states and pairs are closed, but for splits that are excused.
@@ -174,7 +168,7 @@ pub fn accept_up_to<M: Parted, W: Progress>(
     ensures not_closed { IfErr result (IfFault (λ _. IsClosedUpTo (M.behaviour machine.now) excused.now.exchanged excused.now.accepted (sets_of body.now) → ⊥)) }
 {
     numbered_exchange_law(machine);
-    check(alloc, machine, excused, body, seed, watch)?;
+    check(alloc, machine, excused, body, watch)?;
     Ok(Accepted {
         states: body.state_count(),
         pairs: body.pair_count(),
