@@ -2,5 +2,4 @@ pub mod Answers
 pub mod Delivery
 pub mod Files
 pub mod Making
-pub mod Prefixes
 pub mod Status

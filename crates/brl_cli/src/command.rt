@@ -1,9 +1,12 @@
 //! The words of the command line.
+ghost use Rattle.brl_cli.specs.Replies.{IsReplyTo};
+
 use brl_cells::Form;
+use brl_failure::Failure;
 use clap::error::{Error, ErrorKind};
 use clap::{Arg, ArgAction, ArgMatches, Command, value_parser};
 use std::alloc::{AllocError, Global};
-use std::fmt;
+use std::fmt::Display;
 
 /// What the words ask for: a task, and the folders in which the files of tables are looked for that
 /// aren't at their usual paths, in order.
@@ -133,28 +136,39 @@ pub struct PairFiles<'a> {
     pub write: Option<&'a str>,
 }
 
-/// Why the words ask for no work: a use fault, or help or the version that was asked for, or memory
-/// ran out. It is shown as the text that belongs to it.
+/// Why the words ask for no work, with the text of `clap` that answers them.
 #[derive(Drop)]
-pub struct NotATask {
-    error: Error,
+pub enum NotATask {
+    /// They ask for help or the version. The text goes to standard output.
+    Help(String),
+    /// They have a fault, or `clap` had not enough memory. The text goes to standard error.
+    UseFault(String),
 }
 
-impl NotATask {
-    ghost use Rattle.std.specs.Prelude.{◌↔◌, IsTrue};
-    ghost use Rattle.brl_cli.specs.Replies.{IsUseFault};
+/// The words of a command line; the first is the program's name.
+pub trait Words<'a> {
+    ghost use Rattle.std.specs.Prelude.{Result};
+    ghost use Rattle.brl_failure.specs.declared.failure.Failure.{Failure};
+    ghost use Rattle.brl_cli.specs.declared.command.NotATask.{NotATask};
+    ghost use Rattle.brl_cli.specs.declared.command.Work.{Work};
 
-    /// Whether the text goes to standard error. Help and the version go to standard output.
-    pub fn is_fault(&self) -> bool
-        ensures { IsTrue result ↔ IsUseFault self.now }
-    {
-        self.error.use_stderr()
-    }
+    // whether the words may ask for this
+    ghost asks: { Self → Result Work (Failure NotATask) → Type 0 };
+
+    /// What the words ask for.
+    fn work(self, alloc: Global) -> Result<Work<'a>, Failure<NotATask>>
+        ensures { asks self result };
 }
 
-impl fmt::Display for NotATask {
-    fn fmt<W: fmt::Write>(&self, f: &mut fmt::Formatter<W>) -> fmt::Result {
-        write!(f, "{}", self.error)
+impl<'a> Words<'a> for &'a [String] {
+    // No contract says what `clap` makes of words, so they may ask for anything.
+    ghost asks = { λ _ _. Unit {0} };
+
+    fn work(self, alloc: Global) -> Result<Work<'a>, Failure<NotATask>> {
+        match read_words(alloc, self) {
+            Ok(work) => Ok(work),
+            Err(error) => Err(reply_to(alloc, error.kind(), &error)),
+        }
     }
 }
 
@@ -915,12 +929,17 @@ fn whole_command<'a>(alloc: Global) -> Result<Command<'a>, AllocError> {
         .subcommands(rules)
 }
 
-/// What the words ask for; the first is the program's name.
-pub fn work_of<'a>(alloc: Global, words: &'a [String]) -> Result<Work<'a>, NotATask> {
-    match read_words(alloc, words) {
-        Ok(work) => Ok(work),
-        Err(error) => Err(NotATask { error }),
-    }
+/// What answers words for which `clap` has an error of this kind: what is shown of it.
+fn reply_to<D: Display>(alloc: Global, kind: ErrorKind, error: &D) -> Failure<NotATask>
+    ensures { IsReplyTo kind (D.output error.now) result }
+{
+    let Ok(text) = error.to_string(alloc) else {
+        return Failure::Memory;
+    };
+    Failure::Fault(match kind {
+        ErrorKind::DisplayHelp | ErrorKind::DisplayVersion => NotATask::Help(text),
+        _ => NotATask::UseFault(text),
+    })
 }
 
 /// What the words ask for; an error has the text that answers them.

@@ -5,4 +5,4 @@
 
 mod command;
 
-pub use command::{NotATask, PairFiles, Question, Task, TextOptions, Work, work_of};
+pub use command::{NotATask, PairFiles, Question, Task, TextOptions, Words, Work};

@@ -1,5 +1,5 @@
 -- Clashes of a list whose pairs of rules are excused, and the first one whose pair isn't.
-use Rattle.std.proofs.Common.{◌≡◌, ◌∙◌, ◌<◌, ◌++◌, ◌&&◌, ◌||◌, ℕ, suc, All, Bool, true, false, if◌then◌else◌, List, [], ◌∷◌, IsTrue, None, Some, ap, append-nil, arith, length, not, refl, subst, sym}
+use Rattle.std.proofs.Common.{◌≡◌, ◌∙◌, ◌<◌, ◌⊎◌, ◌++◌, ◌&&◌, ◌||◌, ℕ, suc, All, Bool, true, false, if◌then◌else◌, List, [], ◌∷◌, IsTrue, None, Some, ap, append-nil, arith, length, not, refl, subst, sym}
 use Rattle.std.specs.Prelude.{◌==◌, find}
 use Rattle.std.proofs.lemmas.Bool.{and_parts, eqb-true}
 use Rattle.std.proofs.lemmas.List.Folds.{list_any-append}
@@ -10,8 +10,8 @@ use Rattle.brl_pairs.specs.Exchanges.{IsClosedUpTo}
 use Rattle.brl_pairs.specs.Sets.{sets_of}
 use Rattle.brl_pairs.specs.declared.excused.Excused.{Excused}
 use Rattle.brl_rules.specs.TableView.{TableView}
-use Rattle.brl_search.specs.Clashes.{AreRuleClashes, IsRuleClash, IsWholeList, rules_of_clashes}
-use Rattle.brl_search.specs.FoundUpTo.{AreAllExcused, is_excused}
+use Rattle.brl_search.specs.Clashes.{AreRuleClashes, IsOverLimit, IsRuleClash, IsWholeList, rules_of_clashes}
+use Rattle.brl_search.specs.FoundUpTo.{AreAllExcused, IsLeastUnexcused, first_unexcused, is_excused}
 use Rattle.brl_search.specs.Searched.{State, machine_of}
 use Rattle.brl_search.specs.declared.table_clashes.RuleClash.{RuleClash}
 use Rattle.brl_traces.proofs.Widening.{clashes_widen}
@@ -57,7 +57,7 @@ module _ (excused : Excused) where
           ∙ either_rules (excused.accepted ++ excused.exchanged) c.greater c.lesser ∙ here
 
   -- where no clash of a list is beside what is excused, each pair of the list is excused
-  pub all_excused : (list : List RuleClash) → find (λ (c : RuleClash). not (is_excused excused c)) list ≡ None → (r s : ℕ) → has_rules (rules_of_clashes list) r s ≡ true → has_rules (excused.accepted ++ excused.exchanged) r s ≡ true
+  pub all_excused : (list : List RuleClash) → first_unexcused excused list ≡ None → (r s : ℕ) → has_rules (rules_of_clashes list) r s ≡ true → has_rules (excused.accepted ++ excused.exchanged) r s ≡ true
   all_excused [] none r s has = absurd cc
   all_excused (c ∷ list) none r s has = cases (is_excused excused c) refl (λ rest. all_excused list rest r s) none
     where
@@ -67,8 +67,8 @@ module _ (excused : Excused) where
       by false is known later e = later e
 
       cases : (b : Bool) → is_excused excused c ≡ b
-          → (find (λ (c : RuleClash). not (is_excused excused c)) list ≡ None → has_rules (rules_of_clashes list) r s ≡ true → has_rules (excused.accepted ++ excused.exchanged) r s ≡ true)
-          → (if not b then Some c else find (λ (c : RuleClash). not (is_excused excused c)) list) ≡ None → has_rules (excused.accepted ++ excused.exchanged) r s ≡ true
+          → (first_unexcused excused list ≡ None → has_rules (rules_of_clashes list) r s ≡ true → has_rules (excused.accepted ++ excused.exchanged) r s ≡ true)
+          → (if not b then Some c else first_unexcused excused list) ≡ None → has_rules (excused.accepted ++ excused.exchanged) r s ≡ true
       cases true known later rest = by (are_rules r s (c.lesser, c.greater)) refl known (later rest) has
       cases false other later rest = absurd cc
 
@@ -76,17 +76,26 @@ module _ (excused : Excused) where
 
   module _ (left_out : List ℕ) (t : TableView) (limit : ℕ) (list : List RuleClash) where
     -- the first clash beside what is excused is one of the table
-    pub first_clash : AreRuleClashes left_out t list → (c : RuleClash) → find (λ (c : RuleClash). not (is_excused excused c)) list ≡ Some c → IsRuleClash left_out t c × (is_excused excused c ≡ false)
-    first_clash are c is =
+    pub first_clash : AreRuleClashes left_out t list → ((body : BodyView State) × IsWholeList left_out t limit list body) ⊎ ((states pairs : ℕ) × IsOverLimit left_out t limit (length list) states pairs)
+        → (c : RuleClash) → first_unexcused excused list ≡ Some c → IsLeastUnexcused left_out excused t limit c
+    first_clash are whole c is =
         let (clash, passes) = first_passes (λ (c : RuleClash). not (is_excused excused c)) (IsRuleClash left_out t) list are.each c is in
-        (clash, not_back (is_excused excused c) passes)
+        record {
+          clash = clash;
+          unexcused = not_back (is_excused excused c) passes;
+          list = list;
+          are = are;
+          least = is;
+          whole = whole;
+        }
 
     -- where each pair is excused, the states and pairs show that texts diverge at no others
     pub whole_excused : ((exchanged accepted : List (ℕ × ℕ)) (body : BodyView State) → IsWholeList left_out t limit list body → ((r s : ℕ) → IsTrue (has_rules (rules_of_clashes list) r s) → IsTrue (has_rules accepted r s)) → IsClosedUpTo (without left_out (machine_of t)) exchanged accepted (sets_of body))
-        → find (λ (c : RuleClash). not (is_excused excused c)) list ≡ None → (body : BodyView State) → IsWholeList left_out t limit list body → AreAllExcused left_out excused t limit body
+        → first_unexcused excused list ≡ None → (body : BodyView State) → IsWholeList left_out t limit list body → AreAllExcused left_out excused t limit body
     whole_excused law none body whole = record {
       no_other = clashes_widen t (rules_of_clashes list) (excused.accepted ++ excused.exchanged) (all_excused list none) left_out whole.no_other;
       within = whole.within;
+      shown = law excused.exchanged (excused.accepted ++ excused.exchanged) body whole (all_excused list none);
       closed = λ nothing.
           law excused.exchanged excused.accepted body whole
           (λ r s has. subst (λ (pairs : List (ℕ × ℕ)). has_rules pairs r s ≡ true) (ap (λ (pairs : List (ℕ × ℕ)). excused.accepted ++ pairs) nothing ∙ append-nil excused.accepted) (all_excused list none r s has));

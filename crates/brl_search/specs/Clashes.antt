@@ -2,7 +2,7 @@
 -- choice.
 use Rattle.std.specs.Prelude.{ℕ, ◌+◌, ◌<◌, ◌≤◌, ◌⊎◌, ◌↔◌, All, IsTrue, List, [], ◌∷◌, Some, length, map}
 use Rattle.std.specs.List.Sorted.{IsStrictlySortedBy}
-use Rattle.brl_closure.specs.Answers.{IsWithin}
+use Rattle.brl_closure.specs.Answers.{AreInOrder, HasReachedPairs, HasReachedStates, IsWithin}
 use Rattle.brl_closure.specs.Reached.{AtLeast, Reached, ReachedPair, SamePair, SameState}
 use Rattle.brl_divergence.specs.Listed.{compare_rules}
 use Rattle.brl_pairs.specs.Body.{BodyView}
@@ -38,11 +38,15 @@ pub record AreRuleClashes (left_out : List ℕ) (t : TableView) (list : List Rul
 
 -- Any two texts that use none of some characters and that are translated to the same cells are
 -- equal, or their traces diverge at one of these pairs of rules. These states and pairs show it,
--- and the list is the one complete list of the machine. It is within the limit, as they are.
+-- and the list is the one complete list of the machine. It is within the limit, as they are. The
+-- states and pairs are reached, and the states are in the order in which they are found.
 pub record IsWholeList (left_out : List ℕ) (t : TableView) (limit : ℕ) (list : List RuleClash) (body : BodyView State) : Type 0 where
   pub no_other : ClashesDivergeAtWithout left_out (rules_of_clashes list) t
   pub closed : IsClosedBut (without left_out (machine_of t)) (rules_of_clashes list) (sets_of body)
   pub complete : IsCompleteList (without left_out (machine_of t)) (rules_of_clashes list)
+  pub states : HasReachedStates (without left_out (machine_of t)) body
+  pub pairs : HasReachedPairs (without left_out (machine_of t)) body
+  pub order : AreInOrder (without left_out (machine_of t)) body.states
   pub within : IsWithin limit body
   pub few_rules : length list ≤ limit
 

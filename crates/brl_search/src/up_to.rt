@@ -1,9 +1,9 @@
 //! The search of a table where pairs of rules are accepted, and others may be exchanged.
-ghost use Rattle.std.specs.Prelude.{◌≡◌, ◌≤◌, ℕ, IfOk, List, find, not};
+ghost use Rattle.std.specs.Prelude.{◌≡◌, ◌≤◌, ℕ, IfOk, List};
 ghost use Rattle.brl_closure.specs.Answers.{IsWithin};
 ghost use Rattle.brl_pairs.specs.Divergence.{IsClosedBut, has_rules};
 ghost use Rattle.brl_search.specs.Clashes.{IsWholeList, rules_of_clashes};
-ghost use Rattle.brl_search.specs.FoundUpTo.{AreAllExcused, IsFoundUpTo, is_excused as is_excused_clash};
+ghost use Rattle.brl_search.specs.FoundUpTo.{AreAllExcused, IsFoundUpTo, first_unexcused, is_excused as is_excused_clash};
 ghost use Rattle.brl_search.specs.declared.table_clashes.RuleClash.{RuleClash as ClashValue};
 
 use crate::{ClashList, RuleClash, accepted_list_law, clashes};
@@ -27,7 +27,7 @@ pub enum FoundUpTo {
     /// A clash whose texts diverge at a pair of rules that is neither accepted nor exchanged.
     Clashing(RuleClash),
     /// Texts diverge at no other pairs, but steps of exchanged ones can't be exchanged everywhere.
-    /// This is the first fault of the states and pairs that show it.
+    /// This is the first fault of the states and pairs that show that there are no others.
     NotExchangeable(AcceptFault),
     /// This number of states and this number of pairs were found when one of the two, or the number
     /// of pairs of rules at which texts diverge, became more than the limit.
@@ -39,9 +39,9 @@ pub enum FoundUpTo {
 /// which clashing texts diverge, as `clashes` does, and then checks what shows that there are no
 /// others. The observer of its progress hears of both.
 ///
-/// The clash is that of the least pair of rules that isn't excused. `Limit` as soon as the states
-/// found, the pairs found or the pairs of rules listed are more than `limit`, where each that is
-/// listed is excused.
+/// The clash is that of the least pair of rules listed that isn't excused. `Limit` as soon as the
+/// states found, the pairs found or the pairs of rules listed are more than `limit`, where each of
+/// these is excused: a clash at another pair is answered also where the limit is passed.
 pub fn search_up_to<P: Progress>(
     alloc: Global,
     table: &Table,
@@ -86,7 +86,7 @@ fn is_excused(excused: &Excused, clash: &RuleClash) -> bool
 
 /// The first of these clashes whose pair of rules isn't excused.
 fn first_beside(excused: &Excused, list: Vec<RuleClash>) -> Option<RuleClash>
-    ensures { result ≡ find (λ c. not (is_excused_clash excused.now c)) list.items }
+    ensures { result ≡ first_unexcused excused.now list.items }
 {
     list.into_iter().find(|clash| !is_excused(excused, clash))
 }

@@ -1,6 +1,5 @@
 pub mod ClashesLemmas
 pub mod CutFaults
-pub mod PrefixLemmas
 pub mod StatusLemmas
 pub mod StreamLemmas
 pub mod SurveyLemmas

@@ -299,15 +299,15 @@ module _ (before after : World) (same_file : MayBeSame) where
               )),
           (λ refuted. let e = sym status ∙ refuted in cc),
         )
-        | inr (inl (c, clash, other, says)) ↦ (
+        | inr (inl (c, least, says)) ↦ (
           (λ done. let e = sym says.0 ∙ done in cc),
           (λ refuted. (
-            (path.now, c.clash.left, c.clash.right, c.clash.cells, lines, here, passes, clash.clash.clash, (false, subst (Prints before after) says.1 prints)),
+            (path.now, c.clash.left, c.clash.right, c.clash.cells, lines, here, passes, least.clash.clash.clash, (false, subst (Prints before after) says.1 prints)),
             subst (FilesAfter before.gives after.gives) says.2 files,
           )),
         )
         | inr (inr (inl (fault, not, (rest, says)))) ↦ ((λ done. let e = sym says.0 ∙ done in cc), (λ refuted. let e = sym says.0 ∙ refuted in cc))
-        | inr (inr (inr (rules, states, pairs, limit_is, says))) ↦ ((λ done. let e = sym says.0 ∙ done in cc), (λ refuted. let e = sym says.0 ∙ refuted in cc))
+        | inr (inr (inr (states, pairs, limit_is, says))) ↦ ((λ done. let e = sym says.0 ∙ done in cc), (λ refuted. let e = sym says.0 ∙ refuted in cc))
       ]
   means (question.Search path out limit option) answer is files prints =
       let (left_out, spelled, searched) = spelled_in (spelled_by (option_copied option)) (IsBadLeftOut (option_copied option)) (λ left_out. SearchesByFile left_out before.gives same_file path.now out.now limit) answer is in

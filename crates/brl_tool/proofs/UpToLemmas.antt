@@ -268,7 +268,7 @@ module _ (left_out : List ℕ) (excused : Excused) (sets : ℕ) (t : TableView) 
       → IsVerdictUpTo left_out excused sets t out limit answer
   clash_found c answer text same says text_is =
       let it = subst (IsFoundUpTo left_out excused t limit) same is in
-      inr (inl (c, it.0, it.1, (says.0, says.1 ∙ text_is, says.2)))
+      inr (inl (c, it, (says.0, says.1 ∙ text_is, says.2)))
 
   -- the answer where steps can't be exchanged, unless memory ran out
   pub unexchanged_found : {E : Type 0} (fault : AcceptFault) (result : Result Answer E) → search ≡ found.NotExchangeable fault → IfOk result IsUnexchanged → IfOk result (IsVerdictUpTo left_out excused sets t out limit)
@@ -280,4 +280,4 @@ module _ (left_out : List ℕ) (excused : Excused) (sets : ℕ) (t : TableView) 
       → IsVerdictUpTo left_out excused sets t out limit answer
   limit_found states pairs answer text same says text_is =
       let it = subst (IsFoundUpTo left_out excused t limit) same is in
-      inr (inr (inr (it.0, states, pairs, it.1, (says.0, says.1 ∙ text_is, says.2))))
+      inr (inr (inr (states, pairs, it, (says.0, says.1 ∙ text_is, says.2))))

@@ -35,12 +35,11 @@ use Rattle.brl_cut.specs.Cuts.{IsReadAs, written_root}
 use Rattle.brl_tool.specs.Cutting.{CutsByFile, new_file_view}
 use Rattle.brl_tool.specs.Explaining.{Explains}
 use Rattle.brl_tool.specs.Listing.{ListsByFile}
-use Rattle.brl_answers.specs.Answers.{ByLeftOut, HasTextAndStatus, UnlessMemory, spelled_by, with_left_out_line}
+use Rattle.brl_answers.specs.Answers.{ByLeftOut, HasTextAndStatus, spelled_by, with_left_out_line}
 use Rattle.brl_tool.specs.Verdicts.{Judges, SearchesByFile, accepted_line, certified_line}
 use Rattle.brl_answers.specs.Delivery.{World, IsDelivered, KeepsFiles, Prints, PrintsNothing}
 use Rattle.brl_answers.specs.Files.{GivesAlso, MayBeSame, OthersStay}
 use Rattle.brl_answers.specs.Making.{AreNew, AreWritten}
-use Rattle.brl_answers.specs.Prefixes.{begins_as_answer}
 use Rattle.brl_answers.specs.Status.{code_of, status_of}
 use Rattle.brl_tool.specs.Streams.{TranslatesByFile, TranslatesDefinedByFile}
 use Rattle.brl_tool.specs.Surveying.{SurveysByFiles}
@@ -51,9 +50,11 @@ use Rattle.brl_answers.specs.declared.answer.Answer.{Answer}
 use Rattle.brl_answers.specs.declared.new_files.NewFile.{NewFile}
 use Rattle.brl_answers.specs.declared.run_fault.RunFault.{RunFault}
 use Rattle.brl_answers.specs.declared.status.Status.{Status}
-use Rattle.brl_answers.specs.declared.status.Status.TheVariants.{Done, Faulty, Refuted}
-use Rattle.brl_cli.specs.Replies.{IsUseFault}
+use Rattle.brl_answers.specs.declared.status.Status.TheVariants.{Done, Faulty, Refuted, Undecided}
+use Rattle.brl_failure.specs.declared.failure.Failure.{Failure}
+use Rattle.brl_failure.specs.declared.failure.Failure.TheVariants as failures
 use Rattle.brl_cli.specs.declared.command.NotATask.{NotATask}
+use Rattle.brl_cli.specs.declared.command.NotATask.TheVariants as not_a_task
 use Rattle.brl_cli.specs.declared.command.Question.{Question}
 use Rattle.brl_cli.specs.declared.command.Question.TheVariants as question
 use Rattle.brl_cli.specs.declared.command.Task.{Task}
@@ -303,26 +304,33 @@ Performs (task.Translate path form) same input before after status = Translates 
 Performs (task.TranslateDefined path form) same input before after status = TranslatesDefined path.now form input before after status
 Performs (task.Ask asked) same input before after status = Asks asked same before after status
 
--- The answer with help or the version. It begins as no answer of a command does.
-abbrev pub IsHelp : Result Answer RunFault → Type 0
-IsHelp outcome = UnlessMemory (λ answer. (text : List ℕ) × (begins_as_answer text ≡ false) × HasTextAndStatus Done text answer) outcome
+-- the answer with this text of help or of the version
+abbrev pub IsHelp : List ℕ → Result Answer RunFault → Type 0
+IsHelp text (Ok answer) = HasTextAndStatus Done text answer
+IsHelp text (Err fault) = ⊥
 
--- words that ask for no work were answered: with help or the version, or as a use fault
-abbrev pub Replies : NotATask → World → World → Status → Type 0
-Replies reply before after status =
-    (¬ IsUseFault reply × IsDelivered IsHelp before after status)
-    ⊎ (IsUseFault reply × KeepsFiles before after × PrintsNothing before after × (status ≡ Faulty))
+-- words that ask for no work were answered: with the text of help or of the version; or as a use
+-- fault, or as memory ran out, and nothing was written
+abbrev pub Replies : Failure NotATask → World → World → Status → Type 0
+Replies (failures.Fault (not_a_task.Help text)) before after status = IsDelivered (IsHelp (string_bytes text)) before after status
+Replies (failures.Fault (not_a_task.UseFault text)) before after status = KeepsFiles before after × PrintsNothing before after × (status ≡ Faulty)
+Replies failures.Memory before after status = KeepsFiles before after × PrintsNothing before after × (status ≡ Undecided)
 
 -- the world before a task, where the files of tables are looked for in some folders
 abbrev pub Looked : Type 1
 Looked = Vec (String Global) → World
 
--- what a run did: the task that its words ask for, where the files of tables are looked for in the
--- folders of the words, or it answered words that ask for none
-abbrev pub Runs : MayBeSame → Option (List ℕ) → Looked → World → World → ℕ → Type 0
-Runs same input looked before after code =
-    (status : Status) × (code ≡ code_of status)
-    × (((work : Work) × Performs work.task same input (looked work.folders) after status) ⊎ ((reply : NotATask) × Replies reply before after status))
+-- what words ask for was done: the task, where the files of tables are looked for in the folders of
+-- the words; or words that ask for none were answered
+abbrev pub Does : MayBeSame → Option (List ℕ) → Looked → World → World → Status → Result Work (Failure NotATask) → Type 0
+Does same input looked before after status (Ok work) = Performs work.task same input (looked work.folders) after status
+Does same input looked before after status (Err reply) = Replies reply before after status
+
+-- what a run did: what its words ask for; `asks` says what that may be
+abbrev pub Runs : (Result Work (Failure NotATask) → Type 0) → MayBeSame → Option (List ℕ) → Looked → World → World → ℕ → Type 0
+Runs asks same input looked before after code =
+    (asked : Result Work (Failure NotATask)) × asks asked
+    × ((status : Status) × (code ≡ code_of status) × Does same input looked before after status asked)
 
 -- what it means that a run ended with status 1: for some folders in which the files of tables were
 -- looked for, the report of a clash, a refusal, a list of clashes or one of unused rules was

@@ -27,8 +27,7 @@ use Rattle.brl_pairs.specs.Body.{BodyView}
 use Rattle.brl_pairs.specs.declared.excused.Excused.{Excused}
 use Rattle.brl_report.specs.Report.{report_text}
 use Rattle.brl_rules.specs.TableView.{TableView}
-use Rattle.brl_search.specs.Clashes.{IsOverLimit, IsRuleClash}
-use Rattle.brl_search.specs.FoundUpTo.{IsCertifiedUpTo, IsNotExchangeable, is_excused}
+use Rattle.brl_search.specs.FoundUpTo.{IsCertifiedUpTo, IsLeastUnexcused, IsNotExchangeable, IsUndecided}
 use Rattle.brl_search.specs.Searched.{State, certificate_of}
 use Rattle.brl_search.specs.declared.table_clashes.RuleClash.{RuleClash}
 use Rattle.brl_states.specs.declared.cert.Cert.{Cert as Certificate}
@@ -144,16 +143,16 @@ IsUnexchanged answer = (rest : List ℕ) × HasTextAndStatus Undecided (codes "n
 
 -- The answer of the search of a table with a limit, without the characters that are left out: a
 -- certificate for a file, which `brl check` accepts for the same table and the same excuses; or the
--- report of a clash, whose texts diverge at a pair of rules that isn't excused; or why some steps
--- can't be exchanged; or the numbers at which the limit was passed.
+-- report of a clash, whose texts diverge at the least pair of rules listed that isn't excused; or
+-- why some steps can't be exchanged; or the numbers at which the limit was passed.
 abbrev pub IsVerdictUpTo : List ℕ → Excused → ℕ → TableView → List ℕ → ℕ → Answer → Type 0
 IsVerdictUpTo left_out excused sets t out limit answer =
     ((body : BodyView State) × IsCertifiedUpTo left_out excused t limit body
     × IsAcceptedUpTo left_out excused t (spelling (certificate_of body)) (counted (certificate_of body)) × IsCertificateUpTo left_out excused sets out (certificate_of body) answer)
-    ⊎ ((c : RuleClash) × IsRuleClash left_out t c × (is_excused excused c ≡ false)
+    ⊎ ((c : RuleClash) × IsLeastUnexcused left_out excused t limit c
     × HasTextAndStatus Refuted (report_text t c.clash.left c.clash.right c.clash.cells) answer)
     ⊎ ((fault : AcceptFault) × IsNotExchangeable left_out excused t fault × IsUnexchanged answer)
-    ⊎ ((rules states pairs : ℕ) × IsOverLimit left_out t limit rules states pairs × HasTextAndStatus Undecided (counts_line (codes "limit") states pairs) answer)
+    ⊎ ((states pairs : ℕ) × IsUndecided left_out excused t limit states pairs × HasTextAndStatus Undecided (counts_line (codes "limit") states pairs) answer)
 
 -- the table was searched, but for what a file excuses; or memory ran out
 abbrev pub FindsUpTo : List ℕ → TableView → List ℕ → ℕ → Excused → ℕ → Result Answer RunFault → Type 0

@@ -2,7 +2,7 @@
 ghost use Rattle.std.specs.Prelude.{◌≡◌};
 ghost use Rattle.brl_lines.specs.Answer.{MayAnswerSame, Unchanged};
 ghost use Rattle.brl_answers.specs.Delivery.{world};
-ghost use Rattle.brl_tool.specs.Running.{Answers, Asks, IsHelp, IsStatus, MayGainPairs, Performs, Replies, ReportsOne, Runs, TranslatesDefined};
+ghost use Rattle.brl_tool.specs.Running.{Answers, Asks, IsStatus, MayGainPairs, Performs, Replies, ReportsOne, Runs, TranslatesDefined};
 
 use crate::check::check_by_words;
 use crate::check_up_to::{CheckedFiles, check_up_to_by_words};
@@ -18,8 +18,9 @@ use crate::trace::trace_by_word;
 use crate::translate::{translate_by_file, translate_defined_by_file};
 use crate::unused::list_unused_by_file;
 use crate::{Files, Form, Input, Output};
-use brl_answers::{Answer, RunFault, Status, deliver, set_apart};
-use brl_cli::{NotATask, Question, Task, Work, work_of};
+use brl_answers::{Answer, RunFault, Status, deliver};
+use brl_cli::{NotATask, Question, Task, Words, Work};
+use brl_failure::Failure;
 use brl_progress::Progress;
 use std::alloc::Global;
 use std::io::Write;
@@ -48,24 +49,24 @@ use std::io::Write;
 /// listed that are to be written, that file and no other, and where a table is cut, files at whose
 /// paths nothing was. A file that was read is refused as the file for the certificate or the pairs
 /// before the search.
-pub fn run<F: Files, I: Input, O: Output, E: Write + Progress>(
+pub fn run<'a, W: Words<'a>, F: Files, I: Input, O: Output, E: Write + Progress>(
     alloc: Global,
-    words: &[String],
+    words: W,
     files: &mut F,
     input: &mut I,
     out: &mut O,
     err: &mut E,
 ) -> u8
     ensures status { IsStatus result }
-    ensures runs { Runs F.same_file (I.remaining input.old) (λ folders. world (F.gives (F.looked folders files.old)) (O.failures out.old) (O.contents out.old))
+    ensures runs { Runs (W.asks words) F.same_file (I.remaining input.old) (λ folders. world (F.gives (F.looked folders files.old)) (O.failures out.old) (O.contents out.old))
         (world (F.gives files.old) (O.failures out.old) (O.contents out.old)) (world (F.gives files.new) (O.failures out.new) (O.contents out.new)) result }
     ensures clash { result ≡ 1 → ReportsOne (λ folders. world (F.gives (F.looked folders files.old)) (O.failures out.old) (O.contents out.old))
         (world (F.gives files.new) (O.failures out.new) (O.contents out.new)) }
     ensures same { result ≡ 1 → MayGainPairs (F.gives files.old) (F.gives files.new) }
 {
-    match work_of(alloc, words) {
+    match words.work(alloc) {
         Ok(work) => do_work(alloc, work, files, input, out, err).code(),
-        Err(reply) => answer_words(alloc, &reply, files, out, err).code(),
+        Err(reply) => answer_words(alloc, reply, files, out, err).code(),
     }
 }
 
@@ -254,30 +255,26 @@ fn answer<F: Files, E: Write + Progress>(
     }
 }
 
-/// Answers words that ask for no work: help and the version go to standard output, a use fault to
-/// standard error.
+/// Answers words that ask for no work: the text of help and of the version goes to standard output,
+/// that of a use fault to standard error.
 fn answer_words<F: Files, O: Output, E: Write>(
     alloc: Global,
-    reply: &NotATask,
+    reply: Failure<NotATask>,
     files: &mut F,
     out: &mut O,
     err: &mut E,
 ) -> Status
-    ensures { Replies reply.now (world (F.gives files.old) (O.failures out.old) (O.contents out.old))
+    ensures { Replies reply (world (F.gives files.old) (O.failures out.old) (O.contents out.old))
         (world (F.gives files.new) (O.failures out.new) (O.contents out.new)) result }
 {
-    if reply.is_fault() {
-        let _ = write!(err, "{reply}");
-        return Status::Faulty;
+    match reply {
+        Failure::Fault(NotATask::Help(text)) => {
+            deliver(alloc, Ok(Answer::new(Status::Done, text)), files, out, err)
+        }
+        Failure::Fault(NotATask::UseFault(text)) => {
+            let _ = err.write_all(text.as_bytes());
+            Status::Faulty
+        }
+        Failure::Memory => RunFault::Memory.report(err),
     }
-    deliver(alloc, help(alloc, reply), files, out, err)
-}
-
-/// The answer with help or the version. No contract says what `clap` prints, so that its text
-/// begins as no answer of a command does is tested as the program runs.
-fn help(alloc: Global, reply: &NotATask) -> Result<Answer, RunFault>
-    ensures { IsHelp result }
-{
-    let text = format!(in alloc; "{reply}")?;
-    Ok(Answer::new(Status::Done, set_apart(alloc, text)?))
 }

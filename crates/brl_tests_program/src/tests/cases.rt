@@ -332,6 +332,9 @@ t.ctb: space \\s 0; space \\t 0; letter a 1 & p: exchange \\t\\s|brl,search,t.ct
 t.ctb: space \\s 0; space \\t 0; letter a 1 & p: exchange \\t\\s|brl,search,t.ctb,o,--accept,p,--without,a||certified: 1 states, 0 pairs; but for: 0 pairs of rules, 1 set of characters; without: a||0
 t.ctb: letter a 1; letter b 12; letter x 1-12 & p: #|brl,search,t.ctb,o,--accept,p||left: x; right: ab; cells: 1-12; left from 0:;   x  1-12  t.ctb:3; right from 0:;   a  1   t.ctb:1;   b  12  t.ctb:2||1
 t.ctb: letter a 1; letter b 12; letter x 1-12 & p: #|brl,search,t.ctb,o,--accept,p,--limit,0||limit: 1 states, 0 pairs||3
+t.ctb: letter a 1; letter b 1; letter c 1 & p: #|brl,search,t.ctb,o,--accept,p,--limit,2||left: a; right: b; cells: 1; left from 0:;   a  1  t.ctb:1; right from 0:;   b  1  t.ctb:2||1
+t.ctb: letter a 1; letter b 1; letter c 1 & p: letter a 1 / letter b 1|brl,search,t.ctb,o,--accept,p,--limit,2||left: a; right: c; cells: 1; left from 0:;   a  1  t.ctb:1; right from 0:;   c  1  t.ctb:3||1
+t.ctb: letter a 1; letter b 1; letter c 1 & p: letter a 1 / letter b 1; letter a 1 / letter c 1; letter b 1 / letter c 1|brl,search,t.ctb,o,--accept,p,--limit,2||limit: 2 states, 0 pairs||3
 t.ctb: letter a 1; letter b 12; letter x 1-12 & p: letter a 1|brl,search,t.ctb,o,--accept,p|||P1 NoSuchRules letter a 1 at p:1|2
 t.ctb: letter a 1; letter b 12; letter x 1-12|brl,search,t.ctb,o,--accept,p|||L1 NotFound p|2
 t.ctb: letter a 1; letter b 12; letter x 1-12|brl,search,t.ctb,p,--accept,p|||error: the certificate would overwrite p, a file that is read|2

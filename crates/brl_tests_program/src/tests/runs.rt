@@ -7,7 +7,7 @@ use brl_testing::{
     Broken, Closed, Listener, Refusing, check_rows, cut, field_of, files_of, for_rows_of_2,
     for_rows_of_4, lines_of, no_files, one_file, words_of,
 };
-use brl_tool::{Counting, Files, Input, prefixes_law, run};
+use brl_tool::{Counting, Files, Input, run};
 use std::alloc::Global;
 use std::io::ErrorKind;
 use std::test::Fail;
@@ -54,7 +54,6 @@ fn outcome_of_reader<F: Files, I: Input>(
     let words = words_of(alloc, words)?;
     let mut out = Counting::new(Vec::new(alloc));
     let mut err = Listener::new(Vec::new(alloc));
-    prefixes_law(files);
     let status = run(alloc, words.as_slice(), files, reader, &mut out, &mut err);
     Ok(Outcome {
         out: out.device,

@@ -35,6 +35,9 @@ returns-in_ok-list-in-Complete c limit divergences =
         no_other = subst (λ (l : List (ℕ × ℕ)). ClashesDivergeAtWithout left_out l t) (sym rules) (c.dues_divergence_law.ensures.without left_out (rules_of list) complete.no_other);
         closed = subst (λ (l : List (ℕ × ℕ)). IsClosedBut (without left_out (dues_machine t)) l (sets_of c.in-Complete.body)) (sym rules) are.2.closed;
         complete = subst (IsCompleteList (without left_out (dues_machine t))) (sym rules) complete;
+        states = are.2.states;
+        pairs = are.2.pairs;
+        order = are.2.order;
         within = are.2.within;
         few_rules = let many = as_many_rules c.in_ok-list-in-Complete.list.items list rules in omega (arith, many, are.1);
       },

@@ -39,6 +39,7 @@ returns-in-Err-Fault g c limit are =
           subst₂ (λ (cs : List ℕ) (t : TableView). IsClosedUpTo (without cs (dues_machine t)) excused.exchanged excused.accepted (sets_of c.args.body) → ⊥) c.new-machine.ensures.left_out is_table unclosed (are.closed nothing);
       no_other = are.no_other;
       body = c.args.body;
+      shown = are.shown;
       refused = subst₂ (λ (cs : List ℕ) (t : TableView). IsRefusedUpTo (without cs (dues_machine t)) excused c.args.body fault) c.new-machine.ensures.left_out is_table
           (given _ c.in-Err-Fault.field-0 fault is c.in-Err-Fault.ensures.refused);
     }

@@ -1,4 +1,4 @@
-use Rattle.std.proofs.Common.{◌∙◌, ℕ, IfOk, Result, length, subst, sym}
+use Rattle.std.proofs.Common.{◌∙◌, ℕ, IfOk, Result, inl, inr, subst, sym}
 use Rattle.std.specs.declared.alloc.AllocError.{AllocError}
 use Rattle.brl_search.specs.FoundUpTo.{IsFoundUpTo}
 use Rattle.brl_search.specs.declared.up_to.FoundUpTo.{FoundUpTo}
@@ -26,7 +26,7 @@ returns g c =
     elim c.match-branch-2.branch [
       | in-Complete+in-Some w ↦ (
           let are = rw w.in-Complete.is at c.in_ok-list.ensures in
-          rw w.result-is (first_clash excused left_out t limit w.in-Complete.list.items are.0 w.in-Some.clash (sym w.first_beside.ensures ∙ w.in-Some.is)))
+          rw w.result-is (first_clash excused left_out t limit w.in-Complete.list.items are.0 (inl (w.in-Complete.body, are.1)) w.in-Some.clash (sym w.first_beside.ensures ∙ w.in-Some.is)))
       | in-Complete+in-None w ↦ (
           let are = rw w.in-Complete.is at c.in_ok-list.ensures in
           let list = w.in-Complete.list.items in
@@ -35,8 +35,13 @@ returns g c =
           (sym w.first_beside.ensures ∙ w.in-None.is) w.in-Complete.body are.1)))
       | in-Partial+in-Some-first_beside w ↦ (
           let are = rw w.in-Partial.is at c.in_ok-list.ensures in
-          rw w.result-is (first_clash excused left_out t limit w.in-Partial.list.items are.0 w.in-Some-first_beside.clash (sym w.first_beside-in-Partial.ensures ∙ w.in-Some-first_beside.is)))
+          rw w.result-is (first_clash excused left_out t limit w.in-Partial.list.items are.0 (inr (w.in-Partial.states, w.in-Partial.pairs, are.1)) w.in-Some-first_beside.clash (sym w.first_beside-in-Partial.ensures ∙ w.in-Some-first_beside.is)))
       | in-Partial+in-None-first_beside w ↦ (
           let are = rw w.in-Partial.is at c.in_ok-list.ensures in
-          rw w.result-is (length w.in-Partial.list.items, are.1))
+          rw w.result-is (record {
+            list = w.in-Partial.list.items;
+            are = are.0;
+            all_excused = sym w.first_beside-in-Partial.ensures ∙ w.in-None-first_beside.is;
+            over = are.1;
+          }))
     ]

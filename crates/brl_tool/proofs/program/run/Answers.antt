@@ -1,10 +1,13 @@
-use Rattle.std.proofs.Common.{◌∙◌, inl, sym}
+use Rattle.std.proofs.Common.{◌∙◌, Err, Ok, subst, sym}
 use Rattle.brl_answers.specs.Delivery.{world}
 use Rattle.brl_tool.proofs.RunLemmas.{gained_since, performed_one}
 use Rattle.brl_tool.proofs.program.run.Goals as goal
 
 pub returns-in-Ok-clause-runs : goal.returns-in-Ok-clause-runs
-returns-in-Ok-clause-runs g c = (c.do_work.result, c.code.ensures, inl (c.in-Ok.work, c.do_work.ensures.performs))
+returns-in-Ok-clause-runs g c = (Ok c.in-Ok.work, subst (g.W.Words.asks c.args.words) c.in-Ok.is c.work.ensures, (c.do_work.result, c.code.ensures, c.do_work.ensures.performs))
+
+pub returns-in-Err-clause-runs : goal.returns-in-Err-clause-runs
+returns-in-Err-clause-runs g c = (Err c.in-Err.reply, subst (g.W.Words.asks c.args.words) c.in-Err.is c.work.ensures, (c.answer_words.result, c.code-in-Err.ensures, c.answer_words.ensures))
 
 pub returns-in-Ok-clause-clash : goal.returns-in-Ok-clause-clash
 returns-in-Ok-clause-clash g c one =
