@@ -480,6 +480,11 @@ def write(folder: str, files: dict[str, bytes]) -> None:
             raise Stop(f"U7 CannotWrite {path}{before}") from None
 
 
+def status_of(text: str) -> int:
+    """The status of a cut whose report this is."""
+    return 1 if " (not in liblouis)\n" in text else 0
+
+
 def run(words: list[str]) -> int:
     table, folder = [it for it in words if not it.startswith("--")]
     folders = [it.removeprefix("--path=") for it in words if it.startswith("--path=")]
@@ -490,7 +495,7 @@ def run(words: list[str]) -> int:
         sys.stderr.buffer.write(f"{fault}\n".encode())
         return 2
     sys.stdout.buffer.write(text.encode())
-    return 0
+    return status_of(text)
 
 
 # ---- Its own checks
