@@ -14,6 +14,8 @@ A line is printed for each case that failed. The last line is 'cut: N passed, M 
 import contextlib
 import os
 import re
+import resource
+import signal
 import subprocess
 import sys
 import tempfile
@@ -34,6 +36,10 @@ LIMIT = "40"
 
 # A table of more files is cut by its name alone, without `--rewrite`: it takes seconds.
 MANY_FILES = 100
+
+
+# What a table's notices are on standard error.
+NOTICES = re.compile(rb"(notice DefinedAgain [^\n]*\n)*")
 
 
 class Wrong(Exception):
@@ -85,7 +91,7 @@ class Room:
                 files, text = plain_cut.cut(table, is_rewriting, looked)
             except Stop as fault:
                 return Answer(b"", f"{fault}\n".encode(), 2), {}
-        return Answer(text.encode(), b"", 0), {f"{folder}/{name}": it for name, it in files.items()}
+        return Answer(text.encode(), b"", plain_cut.status_of(text)), {f"{folder}/{name}": it for name, it in files.items()}
 
     def cut(self, table: str, folder: str, is_rewriting: bool, looked: list[str]) -> dict[str, bytes]:
         """Cuts a table. The answer, the files of the cut and all others are as the plain program has them."""
@@ -101,13 +107,14 @@ class Room:
     def check_cut(self, root: str, kept: int) -> None:
         """A cut is read, as `brl survey` and `brl search` say."""
         surveyed = self.run("survey", root)
-        need(surveyed.status == 0 and not surveyed.err, f"survey of the cut: {surveyed}")
+        status = 1 if b"no line defines a character\n" in surveyed.out else 0
+        need(surveyed.status == status and NOTICES.fullmatch(surveyed.err), f"survey of the cut: {surveyed}")
         notes = {b"no line defines a character", f"{kept} of {kept} lines are read".encode()}
         others = set(surveyed.out.splitlines()[:-1]) - notes
         need(not others and f"{kept} of {kept} lines".encode() in surveyed.out, f"survey of the cut: {surveyed.out!r}")
         found = self.run("search", "--limit", LIMIT, root, "/dev/null")
-        notices = re.fullmatch(rb"(notice DefinedAgain [^\n]*\n)*", found.err)
-        need(found.status in (0, 1, 3) and found.out and notices, f"search of the cut: {found}")
+        need(found.status in (0, 1, 3) and found.out and NOTICES.fullmatch(found.err), f"search of the cut: {found}")
+        need(surveyed.err == found.err, f"the notices of a survey: {surveyed.err!r}\nand of a search: {found.err!r}")
 
     def check_again(self, root: str, files: dict[str, bytes], is_rewriting: bool) -> None:
         """Cutting a cut again gives the same bytes, and leaves nothing out."""
@@ -257,7 +264,7 @@ def folder_in_folders(room: Room) -> None:
 def whole_path(room: Room) -> None:
     got = room.run("cut", str(room.folder / "t.ctb"), str(room.folder / "d"))
     told = CUT_TEXT.replace(b"file t.ctb", f"file {room.folder}/t.ctb".encode())
-    need(got == Answer(told, b"", 0), f"{got}")
+    need(got == Answer(told, b"", 1), f"{got}")
     need({name: it for name, it in tree(room.folder).items() if name in CUT} == CUT, "the files differ")
 
 
@@ -265,7 +272,7 @@ def link_to_folder(room: Room) -> None:
     (room.folder / "e").mkdir()
     (room.folder / "d").symlink_to("e")
     got = room.run("cut", "t.ctb", "d")
-    need(got == Answer(CUT_TEXT, b"", 0), f"{got}")
+    need(got == Answer(CUT_TEXT, b"", 1), f"{got}")
     need((room.folder / "e/t.ctb").read_bytes() == CUT["d/t.ctb"], "the file behind the link")
 
 
@@ -318,6 +325,26 @@ def full_device(room: Room) -> None:
     need(tree(room.folder / "seen") == {"a": True, "t.ctb": CUT["d/t.ctb"]}, f"{tree(room.folder / 'seen')}")
 
 
+def ended_while_writing(room: Room) -> None:
+    """A cut that the system ends in the middle of its second file leaves the first one whole, and the part by its own name."""
+    text = f"space \\s 0\n#{'x' * 1000}\n"
+    (room.folder / "a/u").write_text(text)
+    before = tree(room.folder)
+    limit = partial(resource.setrlimit, resource.RLIMIT_FSIZE, (500, 500))
+    ran = subprocess.run([room.program, "cut", "t.ctb", "d"], cwd=room.folder, capture_output=True, preexec_fn=limit, timeout=60)
+    need(ran.returncode == -signal.SIGXFSZ or b"U7 CannotWrite d/a/u" in ran.stderr, f"{ran}")
+    after = tree(room.folder)
+    part = after.pop("d/a/u.part1", b"")
+    need(isinstance(part, bytes) and text.encode().startswith(part), f"the part: {part!r}")
+    need(after == before | {"d": True, "d/a": True, "d/t.ctb": CUT["d/t.ctb"]}, f"{after}")
+
+
+def beside_a_part(room: Room) -> None:
+    """A part that an earlier cut left stays, and is no file of the cut."""
+    plain_cut.make(room.folder, {"d/t.ctb.part1": "somebody else"})
+    room.cut("t.ctb", "d", False, [])
+
+
 def full_output(room: Room) -> None:
     """A full standard output changes nothing of the files."""
     with open("/dev/full", "wb") as full:
@@ -328,7 +355,7 @@ def full_output(room: Room) -> None:
 
 def table_from_input(room: Room) -> None:
     got = room.run("cut", "/dev/stdin", "d", input=b"letter a 1\nx")
-    need(got.status == 0 and got.out.startswith(b"1 of 2 lines are kept\n"), f"{got}")
+    need(got.status == 1 and got.out.startswith(b"1 of 2 lines are kept\n"), f"{got}")
     need((room.folder / "d/stdin").read_bytes() == b"letter a 1\n# B1 OutsideProfile x: x", "the file differs")
 
 
@@ -344,7 +371,7 @@ DEVICES = [device_as_folder, full_output, table_from_input]
 PLACES: list[Callable[[Room], None]] = [
     file_is_there, second_file_is_there, same_cut_twice, own_folder, folder_is_there, link_is_there, link_to_nothing,
     other_files_stay, folder_in_folders, whole_path, link_to_folder, folder_is_file, folder_below_file, second_folder_is_file,
-    closed_folder, device_as_folder, full_device, full_output, table_from_input, bad_words,
+    closed_folder, device_as_folder, full_device, ended_while_writing, beside_a_part, full_output, table_from_input, bad_words,
 ]
 
 

@@ -184,6 +184,20 @@ no verdict: a cut doesn't decide whether two texts have the same cells
 status=$?
 expect 'a cut is read without the folders' 0 '0  letter  a  12  whole/there.ctb:1\n' ''
 
+# A path below a file is one where nothing is.
+: >below
+printf 'letter z 12\nletter a 1\n' >one/z.ctb
+mkdir -p one/below
+printf 'letter y 1\n' >one/below/y.ctb
+printf 'include below/y.ctb\nletter a 12\n' >beneath.ctb
+looked_for --path one beneath.ctb
+expect 'an include below a file is looked for in a folder' 0 'B\n' ''
+looked_for --path below --path one z.ctb
+expect 'a file is no folder to look in' 0 'A\n' ''
+looked_for beneath.ctb
+expect 'an include below a file' 2 '' 'L1 NotFound below/y.ctb at beneath.ctb:1\n'
+rm below
+
 mkdir there.ctb
 looked_for --path one here.ctb
 expect 'a folder where an include is looked for first' 2 '' 'L2 ReadFailed there.ctb at here.ctb:1\n'
@@ -199,6 +213,22 @@ for out in there.ctb ./there.ctb one/../there.ctb; do
     expect "a certificate for $out, where an include is looked for" 2 '' 'error: the certificate would overwrite there.ctb, a file that is read\n'
 done
 [ ! -e there.ctb ] || fail 'a certificate where an include is looked for' 'it was written'
+
+# Links that lead there are no way around it, nor a link there that leads nowhere.
+ln -s there.ctb to.there
+ln -s to.there to.link
+ln -s "$work/./there.ctb" to.whole
+for out in to.there to.link to.whole; do
+    "$program" search --path one here.ctb "$out" >out 2>err
+    status=$?
+    expect "a certificate through $out, where an include is looked for" 2 '' 'error: the certificate would overwrite there.ctb, a file that is read\n'
+    [ -L "$out" ] && [ ! -e there.ctb ] || fail "a certificate through $out" 'it was written'
+done
+ln -s far.cert there.ctb
+"$program" search --path one here.ctb far.cert >out 2>err
+status=$?
+expect 'a certificate where a link leads at which an include is looked for' 2 '' 'error: the certificate would overwrite there.ctb, a file that is read\n'
+rm there.ctb to.there to.link to.whole
 
 # Two texts by a table.
 clash() {
@@ -523,6 +553,16 @@ ln -s new.cert lost.cert
 search ab.ctb lost.cert
 expect 'a certificate through a link to a missing file' 0 "$found" ''
 holds new.cert "$two" 'the missing file has it'
+[ -L lost.cert ] || fail 'a certificate through a link to a missing file' 'the link was replaced'
+ln -s round.cert loop.cert
+ln -s loop.cert round.cert
+search ab.ctb loop.cert
+expect 'a certificate through links without end' 2 '' 'U7 CannotWrite loop.cert\n'
+[ -L loop.cert ] && [ -L round.cert ] || fail 'a certificate through links without end' 'a link was replaced'
+ln -s link.cert links.cert
+search ab.ctb links.cert
+expect 'a certificate through two links' 0 "$found" ''
+[ -L links.cert ] && [ -L link.cert ] || fail 'a certificate through two links' 'a link was replaced'
 echo kept >closed.cert
 chmod a-w closed.cert
 if [ "$(id -u)" = 0 ]; then
@@ -571,6 +611,43 @@ expect 'a certificate without end' 2 '' 'L9 TooLarge /dev/zero\n'
 status=$(cat status)
 sed -i 's/[0-9]*$/N/' err
 expect 'a reader that takes one line of many' 2 'A\n' 'U4 OutputFailed at line N\n'
+
+# Runs the program where nobody reads its output.
+unread() {
+    { sleep 0.1; "$program" "$@" 2>err; echo $? >status; } | :
+    status=$(cat status)
+    : >out
+}
+for words in 'clashes alike.ctb' 'rules alike.ctb' 'trace alike.ctb a' 'survey alike.ctb' 'unused alike.ctb' \
+    'explain B1' '--help' 'rules --help'; do
+    # shellcheck disable=SC2086
+    unread $words
+    expect "a closed pipe after $words" 2 '' ''
+done
+unread cut alike.ctb unread.cut
+expect 'a closed pipe after a cut' 2 '' ''
+cmp -s alike.ctb unread.cut/alike.ctb || fail 'a closed pipe after a cut' 'the cut differs'
+for words in 'clash alike.ctb ab x' 'check ab.ctb new.cert' 'search alike.ctb /dev/null'; do
+    # shellcheck disable=SC2086
+    unread $words
+    expect "a closed pipe after $words" 2 '' 'U4 OutputFailed\n'
+done
+if [ -c /dev/full ]; then
+    "$program" rules alike.ctb 2>err >/dev/full
+    status=$?
+    : >out
+    expect 'a list on a full standard output' 2 '' 'U4 OutputFailed\n'
+fi
+
+# A line of a fault that names a pipe, or a file that includes one, which nobody writes to.
+mkfifo waiting.pipe
+printf 'include waiting.pipe\nletter a 9\n' >waiting.ctb
+for line in 'B1 OutsideProfile x at waiting.pipe:1' 'B4 BadDots 9 at waiting.ctb:2' 'L3 NotUtf8 waiting.pipe' 'B2 MissingOperand x at /dev/zero:1'; do
+    timeout 10 "$program" explain "$line" >out 2>err
+    status=$?
+    expect_text "an explanation of $line" 'What to do:'
+done
+rm waiting.pipe
 
 # A word that is not UTF-8.
 "$program" translate "$(printf 'a\377.ctb')" >out 2>err </dev/null

@@ -348,7 +348,7 @@ RUNS = [
     check("a certificate of version 1 is accepted", "letter a 1\n", LETTER_CERT, "accepted: 3 states, 1 pairs\n", 0),
     check("a certificate of version 2 is accepted", APART, APART_CERT, "accepted: 3 states, 1 pairs\n", 0),
     Run("two texts clash", ["clash", "t.ctb", "ab", "x"], {"t.ctb": ALIKE}, REPORT, 1),
-    Run("two tables are surveyed", ["survey", "t.ctb", "u.ctb"], {"t.ctb": TWO + "pass2 x\nletter c 9\n", "u.ctb": ""}, SURVEY),
+    Run("two tables are surveyed", ["survey", "t.ctb", "u.ctb"], {"t.ctb": TWO + "pass2 x\nletter c 9\n", "u.ctb": ""}, SURVEY, 1),
     Run("a table is cut", ["cut", "t.ctb", "d", "--rewrite"], WHOLE, CUT_ANSWER, tree=CUT),
     Run("a table whose files are in folders is cut", ["cut", "--path", "c", "--path", "e", "t.ctb", "d", "--rewrite"],
         {"t.ctb": WHOLE["t.ctb"], "c/p/u.cti": WHOLE["p/u.cti"], "e/v.cti": WHOLE["v.cti"]},
@@ -377,7 +377,7 @@ RUNS = [
         "a fault is explained with the line of its file",
         ["explain", "B2 MissingOperand letter at t.ctb:2"],
         {"t.ctb": "letter a 1\nletter\n"},
-        EXPLANATION + "Line:\n    t.ctb:2: letter\n",
+        EXPLANATION + "Line:\n    t.ctb:2: letter\nMissing: characters and dots\n",
     ),
     Run("a line is no fault's", ["explain", "B10"], {}, status=2, err="error: no fault is written as B10\n"),
     Run("one text twice is no clash", ["clash", "t.ctb", "ab", "ab"], {"t.ctb": ALIKE}, "no clash\n"),
@@ -578,7 +578,7 @@ def refused_writes(machine: Machine) -> Result:
 
 
 def interrupted_cut(machine: Machine) -> Result:
-    """A cut that is killed while it writes leaves the files whole that it wrote before, and at most the start of one more."""
+    """A cut that is killed while it writes leaves the files whole that it wrote before, and at most a part of one more by its name."""
     result = Result("a cut's writing is interrupted after each number of bytes")
     ends = list(accumulate(map(len, CUT.values())))
     for size in range(ends[-1]):
@@ -586,7 +586,7 @@ def interrupted_cut(machine: Machine) -> Result:
         number = sum(end <= size for end in ends)
         rest = {name: text for name, text in ended.tree.items() if name not in first_files(CUTTING, number)}
         next_name = [*CUT][number]
-        is_start = all(name == next_name and CUT[name].startswith(text) for name, text in rest.items())
+        is_start = all(name == f"{next_name}.part1" and CUT[next_name].startswith(text) for name, text in rest.items())
         is_first = {**ended.tree, **first_files(CUTTING, number)} == ended.tree
         if (ended.status, ended.out, ended.err, ended.left) != (-signal.SIGKILL, "", "", []) or not is_start or not is_first:
             result.wrong.append(f"{size} bytes: {ended.answer()}")

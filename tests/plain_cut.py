@@ -199,7 +199,8 @@ class Line:
     words: list[str]
     # why it isn't read: its fault, or what the comment of an include says
     fault: str = ""
-    is_rewritten: bool = False
+    # what a line that is rewritten becomes, where that is kept
+    rewritten: str = ""
     is_followed: bool = False
 
     def does_something(self) -> bool:
@@ -212,7 +213,7 @@ class Line:
 
     def written(self) -> str:
         """The line of the cut."""
-        return (commented(self.fault, self.text) if self.fault else self.text) + self.end
+        return (commented(self.fault, self.text) if self.fault else self.rewritten or self.text) + self.end
 
 
 @dataclass
@@ -348,9 +349,8 @@ def put(line: Line, words: list[str]) -> None:
     """Puts a line that defines characters before another, which becomes a comment."""
     before = f"{' '.join(words)} # "
     if defines(words) and len(before.encode()) <= MOST_BEFORE_BYTES:
-        line.text = limited(before + line.text)
-        line.words = line.text.split(" ")
-        line.is_rewritten = True
+        line.rewritten = limited(before + line.text)
+        line.words = line.rewritten.split(" ")
 
 
 def capital(words: list[str], good: Good) -> list[str]:
@@ -432,7 +432,7 @@ def report(files: list[File], is_rewriting: bool) -> str:
     counted = [[it for it in file.lines if it.does_something()] for file in files]
     whole = sum(counted, [])
     left_out = [it for it in whole if it.fault]
-    rewritten = sum(it.is_rewritten for it in whole if not it.fault)
+    rewritten = sum(bool(it.rewritten) for it in whole if not it.fault)
     text = f"{len(whole) - len(left_out)} of {len(whole)} lines are kept"
     text += f", {rewritten} of them rewritten\n" if is_rewriting else "\n"
     counts = Counter(it.opcode() for it in left_out)
@@ -480,6 +480,11 @@ def write(folder: str, files: dict[str, bytes]) -> None:
             raise Stop(f"U7 CannotWrite {path}{before}") from None
 
 
+def status_of(text: str) -> int:
+    """The status of a cut whose report this is."""
+    return 1 if " (not in liblouis)\n" in text else 0
+
+
 def run(words: list[str]) -> int:
     table, folder = [it for it in words if not it.startswith("--")]
     folders = [it.removeprefix("--path=") for it in words if it.startswith("--path=")]
@@ -490,7 +495,7 @@ def run(words: list[str]) -> int:
         sys.stderr.buffer.write(f"{fault}\n".encode())
         return 2
     sys.stdout.buffer.write(text.encode())
-    return 0
+    return status_of(text)
 
 
 # ---- Its own checks
@@ -577,6 +582,11 @@ CASES = [
     one("the limit of characters", "".join(f"sign \\x{it:04x} 1\n" for it in range(0x400, 0x801)) + "litdigit \\x0400 2\n",
         "".join(f"sign \\x{it:04x} 1\n" for it in range(0x400, 0x800)) + "# B8 TooMany sign: sign \\x0800 1\nlitdigit \\x0400 2\n",
         "1025 of 1026 lines are kept\nopcode sign: 1\nfile t.ctb: 1025 of 1026 lines are read\n"),
+    one("a line that is rewritten and left out is as it was",
+        "".join(f"sign \\x{it:04x} 1\n" for it in range(0x400, 0x7FF)) + "noback sign \\x0800 2 a\n noback  sign\t\\x0801 3\r\n",
+        "".join(f"sign \\x{it:04x} 1\n" for it in range(0x400, 0x7FF))
+        + "sign \\x0800 2 # noback sign \\x0800 2 a\n# B8 TooMany sign:  noback  sign\t\\x0801 3\r\n",
+        "1024 of 1025 lines are kept, 1 of them rewritten\nopcode sign: 1\nfile t.ctb: 1024 of 1025 lines are read\n", True),
     one("the limit of rules that are used", "letter a 1\n" + "always a 1\n" * 4097 + "nofor always a 1\nnoback word a 1\n",
         "letter a 1\n" + "always a 1\n" * 4096 + "# B8 TooMany always: always a 1\nnofor always a 1\n# B8 TooMany word: noback word a 1\n",
         "4098 of 4100 lines are kept\nopcode always: 1\nopcode noback word: 1\nfile t.ctb: 4098 of 4100 lines are read\n"),

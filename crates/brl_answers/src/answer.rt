@@ -92,10 +92,12 @@ fn write_answer<F: Files, O: Output>(
 }
 
 /// Delivers what a command answers: its files and its text, or the line of its fault on standard
-/// error. Answers the status.
+/// error. With `quiet` there is no line where nobody reads the output any more, as after `| head`.
+/// Answers the status.
 pub fn deliver<F: Files, O: Output, E: Write>(
     alloc: Global,
     outcome: Result<Answer, RunFault>,
+    quiet: bool,
     files: &mut F,
     out: &mut O,
     err: &mut E,
@@ -109,6 +111,7 @@ pub fn deliver<F: Files, O: Output, E: Write>(
     };
     match write_answer(alloc, answer, files, out) {
         Ok(status) => status,
+        Err(RunFault::OutputFailed) if quiet && out.is_closed() => Status::Faulty,
         Err(fault) => fault.report(err),
     }
 }

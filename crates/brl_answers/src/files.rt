@@ -3,6 +3,7 @@ ghost use Rattle.std.specs.Prelude.{◌≡◌, Some, OnErr, OnOk};
 ghost use Rattle.brl_lines.specs.InMemory.{bytes_in, folders_of};
 ghost use Rattle.brl_answers.specs.Files.{AllAre, OthersAre};
 
+use crate::links::end_if_followed;
 use crate::replace::{create_file, replace_file};
 use brl_failure::Failure;
 use brl_lines::{FileSource, MapSource, Source, folder};
@@ -28,7 +29,7 @@ pub type NewFileFault = Failure<CreateFault>;
 
 /// Files that can be read and written.
 pub trait Files: Source {
-    ghost use Rattle.std.specs.Prelude.{◌≡◌, IfErr, IsTrue, MatchBool, OnOk, String, map, string_bytes};
+    ghost use Rattle.std.specs.Prelude.{◌≡◌, IfErr, IfOk, IsTrue, MatchBool, OnOk, String, map, string_bytes};
     ghost use Rattle.std.specs.Global.{Global, Vec};
     ghost use Rattle.brl_lines.specs.Answer.{Unchanged, looking};
     ghost use Rattle.brl_answers.specs.Files.{GivesAlso, MayBeAbsent, MayBeSame, MayBeThere, OthersStay, StaysWhereThere};
@@ -46,10 +47,16 @@ pub trait Files: Source {
         ensures looks { Unchanged (looking (map string_bytes folders.items) (Self.gives self.old)) (Self.gives self.new) }
         ensures count { Self.faults self.new ≡ Self.faults self.old };
 
+    /// Reads nothing but plain files from now on: what is at another path is seen as a file that
+    /// can't be read.
+    fn read_plain_files(&mut self)
+        ensures same { Unchanged (Self.gives self.old) (Self.gives self.new) }
+        ensures count { Self.faults self.new ≡ Self.faults self.old };
+
     /// Whether two paths name one file. Equal paths do.
-    fn is_same_file(&self, one: &str, other: &str) -> bool
-        ensures may { IsTrue result → same_file one.now other.now }
-        ensures equal { one.now ≡ other.now → IsTrue result };
+    fn is_same_file(&self, alloc: Global, one: &str, other: &str) -> Result<bool, AllocError>
+        ensures may { IfOk result (λ is. IsTrue is → same_file one.now other.now) }
+        ensures equal { one.now ≡ other.now → IfOk result (λ is. IsTrue is) };
 
     /// Writes a file with these bytes at `path`, in place of the one that was there. `Failed` where
     /// they couldn't all be written. What is at `path` after a failure isn't known. No other file
@@ -88,8 +95,11 @@ impl Files for MapSource {
         self.folders = Some(folders);
     }
 
-    fn is_same_file(&self, one: &str, other: &str) -> bool {
-        one == other
+    /// All files in memory are plain ones.
+    fn read_plain_files(&mut self) {}
+
+    fn is_same_file(&self, _alloc: Global, one: &str, other: &str) -> Result<bool, AllocError> {
+        Ok(one == other)
     }
 
     /// On an error all files stay as they were.
@@ -153,10 +163,17 @@ impl<R: rt::Files> Files for FileSource<R> {
         self.folders = Some(folders);
     }
 
+    fn read_plain_files(&mut self) {
+        self.plain = true;
+    }
+
     /// Paths of one plain file are the same, also where they are links to it; where nothing is,
-    /// those of one name in one folder.
-    fn is_same_file(&self, one: &str, other: &str) -> bool {
-        one == other || is_one_file(&self.system, one, other)
+    /// those that name or link to one name in one folder.
+    fn is_same_file(&self, alloc: Global, one: &str, other: &str) -> Result<bool, AllocError> {
+        if one == other {
+            return Ok(true);
+        }
+        is_one_file(alloc, &self.system, one, other)
     }
 
     /// A plain file is replaced at once by a new one that was written beside it: on an error, and
@@ -169,19 +186,43 @@ impl<R: rt::Files> Files for FileSource<R> {
         fs::symlink_metadata(&self.system, path).is_ok()
     }
 
-    /// Nothing is ever overwritten, also not through a link. What was written of a file that can't
-    /// be written whole is removed, where that can be done.
-    fn create(&mut self, _alloc: Global, path: &str, bytes: &[u8]) -> Result<(), NewFileFault> {
-        create_file(&self.system, path, bytes)
+    /// Nothing is ever overwritten, also not through a link. The file is written beside its path,
+    /// and gets that once it is whole: wherever the program is stopped, no part of it is at `path`.
+    /// What was written of a file that can't be written whole is removed, where that can be done.
+    fn create(&mut self, alloc: Global, path: &str, bytes: &[u8]) -> Result<(), NewFileFault> {
+        create_file(alloc, &self.system, path, bytes)
     }
 }
 
-/// Whether two paths name one plain file of a system, or, where nothing is, one name in one folder.
-fn is_one_file<R: rt::Files>(system: &R, one: &str, other: &str) -> bool {
-    let Ok(file) = fs::metadata(system, one) else {
-        return is_one_place(system, one, other);
+/// Whether two paths name one plain file of a system, or, where nothing is at the first, they lead
+/// to one name in one folder.
+fn is_one_file<R: rt::Files>(
+    alloc: Global,
+    system: &R,
+    one: &str,
+    other: &str,
+) -> Result<bool, AllocError> {
+    match fs::metadata(system, one) {
+        Ok(file) => Ok(file.is_file() && is_one_thing(system, one, other)),
+        Err(_) => lead_to_one_place(alloc, system, one, other),
+    }
+}
+
+/// Whether the links at two paths lead to one name in one folder of a system. Links that can't be
+/// followed lead nowhere.
+fn lead_to_one_place<R: rt::Files>(
+    alloc: Global,
+    system: &R,
+    one: &str,
+    other: &str,
+) -> Result<bool, AllocError> {
+    let (Some(one), Some(other)) = (
+        end_if_followed(alloc, system, one)?,
+        end_if_followed(alloc, system, other)?,
+    ) else {
+        return Ok(false);
     };
-    file.is_file() && is_one_thing(system, one, other)
+    Ok(is_one_place(system, one.as_str(), other.as_str()))
 }
 
 /// Whether two paths have one name in one folder of a system.

@@ -10,6 +10,7 @@
 mod answer;
 mod files;
 mod left_out;
+mod links;
 mod making;
 mod new_files;
 mod replace;

@@ -1,6 +1,7 @@
 //! Writing and making files of a system so that nothing is lost where that fails.
 
 use crate::files::{CreateFault, NewFileFault};
+use crate::links::end_of_links;
 use brl_failure::Failure;
 use brl_stream::Failed;
 use std::alloc::Global;
@@ -51,39 +52,16 @@ fn put_file<R: Files>(alloc: Global, system: &R, path: &str, bytes: &[u8]) -> io
     }
 }
 
-/// The plain file that a path names, or the one that it will name. `None` where something else is
-/// there.
+/// The plain file that a path names, also by links, or the one that it will name. `None` where
+/// something else is there. An error where that isn't known, as where a link can't be followed.
 fn target_at<R: Files>(alloc: Global, system: &R, path: &str) -> io::Result<Option<Target>> {
-    let Ok(found) = fs::symlink_metadata(system, path) else {
-        let path = String::from_str(alloc, path)?;
-        let permissions = None;
-        return Ok(Some(Target { path, permissions }));
+    let path = end_of_links(alloc, system, path)?;
+    let permissions = match fs::symlink_metadata(system, path.as_str()) {
+        Ok(found) if found.is_file() => Some(found.permissions()),
+        Ok(_) => return Ok(None),
+        Err(error) if error.kind() == ErrorKind::NotFound => None,
+        Err(error) => return Err(error),
     };
-    if found.is_symlink() {
-        return target_of_link(alloc, system, path);
-    }
-    if !found.is_file() {
-        return Ok(None);
-    }
-    let path = String::from_str(alloc, path)?;
-    let permissions = Some(found.permissions());
-    Ok(Some(Target { path, permissions }))
-}
-
-/// The plain file that a link names. `None` where it names something else, and where the link is
-/// one of the system's, such as /dev/stdout.
-fn target_of_link<R: Files>(alloc: Global, system: &R, link: &str) -> io::Result<Option<Target>> {
-    if link.starts_with("/dev/") || link.starts_with("/proc/") {
-        return Ok(None);
-    }
-    let Ok(found) = fs::metadata(system, link) else {
-        return Ok(None);
-    };
-    if !found.is_file() {
-        return Ok(None);
-    }
-    let path = system.canonicalize(alloc, link)?.into_string();
-    let permissions = Some(found.permissions());
     Ok(Some(Target { path, permissions }))
 }
 
@@ -120,27 +98,56 @@ fn new_file_beside<R: Files>(
             Err(error) => return Err(error),
         }
     }
-    Err(io::Error::from(ErrorKind::AlreadyExists))
+    Err(io::Error::from(ErrorKind::Other))
 }
 
-/// Makes a file with these bytes at a path where nothing is, and the folders in which it is. Where
-/// not all of them can be written, it is removed again.
-pub fn create_file<R: Files>(system: &R, path: &str, bytes: &[u8]) -> Result<(), NewFileFault> {
-    if let Err(error) = make_folders_of(system, path) {
-        return Err(not_made(&error));
+/// Makes a file with these bytes at a path where nothing is, and the folders in which it is. It is
+/// written beside the path first, so that no part of it is ever there.
+pub fn create_file<R: Files>(
+    alloc: Global,
+    system: &R,
+    path: &str,
+    bytes: &[u8],
+) -> Result<(), NewFileFault> {
+    match make_file(alloc, system, path, bytes) {
+        Ok(()) => Ok(()),
+        Err(error) => Err(not_made(&error)),
     }
-    let file = match File::create_new(system, path) {
-        Ok(file) => file,
-        Err(error) if error.kind() == ErrorKind::AlreadyExists => {
-            return Err(Failure::Fault(CreateFault::AlreadyThere));
-        }
-        Err(error) => return Err(not_made(&error)),
+}
+
+fn make_file<R: Files>(alloc: Global, system: &R, path: &str, bytes: &[u8]) -> io::Result<()> {
+    make_folders_of(system, path)?;
+    if fs::symlink_metadata(system, path).is_ok() {
+        return Err(io::Error::from(ErrorKind::AlreadyExists));
+    }
+    let new = new_file_beside(alloc, system, path)?;
+    let Sibling { path: beside, file } = new;
+    let outcome = match fill(file, None, bytes) {
+        Ok(()) => give_path(system, beside.as_str(), path),
+        Err(error) => Err(error),
     };
-    if let Err(error) = fill(file, None, bytes) {
-        let _ = fs::remove_file(system, path);
-        return Err(not_made(&error));
+    let _ = fs::remove_file(system, beside.as_str());
+    outcome
+}
+
+/// Gives a whole file a path where nothing is, also where something was put there meanwhile: then
+/// it is `AlreadyExists`. Where a file can't have two paths, as on some memory cards, the path is
+/// taken by an empty file first.
+fn give_path<R: Files>(system: &R, beside: &str, path: &str) -> io::Result<()> {
+    match fs::hard_link(system, beside, path) {
+        Err(error) if error.kind() != ErrorKind::AlreadyExists => replace_own(system, beside, path),
+        outcome => outcome,
     }
-    Ok(())
+}
+
+/// Gives a whole file a path where nothing is, in place of an empty file that is made there.
+fn replace_own<R: Files>(system: &R, beside: &str, path: &str) -> io::Result<()> {
+    let _ = File::create_new(system, path)?;
+    let outcome = fs::rename(system, beside, path);
+    if outcome.is_err() {
+        let _ = fs::remove_file(system, path);
+    }
+    outcome
 }
 
 /// Makes the folders in which a path is, where they aren't there.
@@ -155,6 +162,7 @@ fn make_folders_of<R: Files>(system: &R, path: &str) -> io::Result<()> {
 fn not_made(error: &io::Error) -> NewFileFault {
     match error.kind() {
         ErrorKind::OutOfMemory => Failure::Memory,
+        ErrorKind::AlreadyExists => Failure::Fault(CreateFault::AlreadyThere),
         _ => Failure::Fault(CreateFault::Failed),
     }
 }

@@ -188,7 +188,7 @@ const FORMS: [&str; 2] = [ASCII, UNICODE];
 const STATUSES: &str = "Exit status:
   0  the work was done; of two texts: they don't clash; of a certificate: it is accepted;
      of a search: it found a certificate; of rules: some text uses each
-  1  two texts clash; a certificate is refused; no text uses some rule
+  1  two texts clash; a certificate is refused; no text uses some rule; an opcode that is surveyed or cut isn't liblouis'
   2  the words, a file, the table, a text, the input or the output had a fault, which standard error names in one line
   3  there was not enough memory, a search decided nothing, or a table is too wide for a certificate of version 1
 
@@ -498,8 +498,10 @@ is named on standard error, the others are surveyed, and the exit status is 2.
 
 Characters that a rule or a list names and no line defines (B5 to B7) are looked
 for once no line has another fault. Of an opcode that isn't read the counts say
-whether liblouis has it. Faulty lines don't change the exit status. A survey
-gives no verdict on ambiguity.",
+whether liblouis has it: where it hasn't, or where no line defines a character,
+the exit status is 1. Standard error gets a notice for each line that defines a
+character again, in tables whose lines are all read. A survey gives no verdict on
+ambiguity.",
     example: "Example, a table in which one of four lines is read:
   printf '%s\\n' 'letter a 1' 'pass2 @1 @2' 'letter b 9' 'pass2 @2 @3' > far.ctb
   brl survey far.ctb
@@ -530,6 +532,9 @@ becomes a comment that says why. DIR is made where it isn't there. Files that ar
 there already are never overwritten: nothing is written then, and the exit status
 is 2. A file that was found in a folder of --path is written under the name in the
 line that includes it, so DIR has the whole table, and is read without --path.
+
+Where the opcode of a line that is left out isn't one of liblouis', as of one that
+is misspelt, the exit status is 1. The files are written all the same.
 
 With --rewrite two more forms of lines are read, and written as they are read: a
 line that defines a character after noback, and base uppercase U L, which is

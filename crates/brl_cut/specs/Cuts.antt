@@ -19,7 +19,7 @@ use Rattle.brl_cut.specs.Edits.{EditView, Texts, edited_files}
 use Rattle.brl_cut.specs.Files.{file_view}
 use Rattle.brl_cut.specs.Rewriting.{count_rewritten, rewriting_edits, rewritten_files}
 use Rattle.brl_cut.specs.Rounds.{IsUnsettled}
-use Rattle.brl_cut.specs.Settling.{IsSettled, bytes_at, comment}
+use Rattle.brl_cut.specs.Settling.{IsSettled, bytes_at, comment, fault_edit}
 use Rattle.brl_cut.specs.declared.cutting.Cut.{Cut}
 use Rattle.brl_cut.specs.declared.cutting.CutFault.{CutFault}
 use Rattle.brl_cut.specs.declared.cutting.CutFault.TheVariants.{Gather, Load, NotRead}
@@ -61,6 +61,11 @@ start_edits rewrite folders root gathered = rewriting_edits rewrite folders root
 abbrev pub start_files : Bool → List (List ℕ) → List ℕ → GatheredView → Texts
 start_files rewrite folders root gathered = rewritten_files rewrite folders root (without_includes gathered)
 
+-- the files as they are written: the lines that were found faulty are comments, each of the line as
+-- it was, and the others are rewritten by these edits
+abbrev pub finished : List EditView → List FaultyLineView → GatheredView → Texts
+finished edits found gathered = edited_files (edits ++ map fault_edit found) (without_includes gathered)
+
 -- ---- Where the files are written
 
 -- the path where the root that has a path is written into a folder: under the last part of its path
@@ -87,20 +92,20 @@ abbrev pub IsUnreadAs : Texts → List ℕ → NoTable → Type 0
 IsUnreadAs files root why = IsFaultAt (only [] files) root why
 
 -- The cut of files that were gathered, where they were looked for in these folders too, for a
--- folder: lines are rewritten where this is asked for; the files are settled and written into the
--- folder, where they define a table. `found` are the faulty lines, and `lines` those that are kept;
--- `cut.rewritten` is how many of these are rewritten.
+-- folder: lines are rewritten where this is asked for, the files are settled, and what is finished
+-- is written into the folder, where it defines a table. `found` are the faulty lines, and `lines`
+-- those that are kept; `cut.rewritten` is how many of these are rewritten.
 pub record IsCutOf (rewrite : Bool) (folders : List (List ℕ)) (gathered : GatheredView) (root dir : List ℕ) (cut : Cut) : Type 0 where
   pub settled : Texts
   pub found : List FaultyLineView
   pub lines : List LineView
   pub settles : IsSettled folders root (start_files rewrite folders root gathered) settled found lines
-  pub files_are : map file_view cut.files.items ≡ written_files dir gathered.names settled
+  pub files_are : map file_view cut.files.items ≡ written_files dir gathered.names (finished (start_edits rewrite folders root gathered) found gathered)
   pub paths_are : map string_bytes cut.paths.items ≡ map (λ file. file.0) gathered.files
   pub left_out_are : map faulty_line_view cut.left_out.items ≡ map include_fault gathered.left_out ++ found
   pub kept_are : map string_bytes cut.line_files.items ≡ map (λ line. line.file) lines
   pub rewritten_is : cut.rewritten ≡ count_rewritten (start_edits rewrite folders root gathered) lines
-  pub read : IsReadAs (written_files dir gathered.names settled) (written_root dir root)
+  pub read : IsReadAs (written_files dir gathered.names (finished (start_edits rewrite folders root gathered) found gathered)) (written_root dir root)
 
 -- the cut of the table whose root has a path, for answers of the source
 abbrev pub IsCut : Bool → FileAnswers → List ℕ → List ℕ → Cut → Type 0
@@ -115,7 +120,7 @@ IsUncut rewrite folders root dir gathered (Load why) = IsUnsettled folders root 
 IsUncut rewrite folders root dir gathered (NotRead why) =
     (settled : Texts) × (found : List FaultyLineView) × (lines : List LineView)
     × IsSettled folders root (start_files rewrite folders root gathered) settled found lines
-    × IsUnreadAs (written_files dir gathered.names settled) (written_root dir root) why
+    × IsUnreadAs (written_files dir gathered.names (finished (start_edits rewrite folders root gathered) found gathered)) (written_root dir root) why
 
 -- why a table isn't cut: its files can't be gathered; or they are, and this is why
 abbrev pub IsCutFault : Bool → FileAnswers → List ℕ → List ℕ → CutFault → Type 0

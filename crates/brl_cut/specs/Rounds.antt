@@ -6,7 +6,6 @@ use Rattle.brl_lines.specs.Views.{load_fault_view, location_view}
 use Rattle.brl_lines.specs.declared.fault.LoadFault.{LoadFault}
 use Rattle.brl_table.specs.Survey.{faulty_line_view, survey_of}
 use Rattle.brl_cut.specs.Edits.{Texts}
-use Rattle.brl_cut.specs.Files.{file_view}
 use Rattle.brl_cut.specs.Settling.{IsSettled, after_rounds, lines_among}
 use Rattle.brl_cut.specs.declared.rounds.Settled.{Settled}
 use Rattle.brl_cut.specs.declared.rounds.Surveyed.{Surveyed}
@@ -17,10 +16,10 @@ IsSurveyed folders root files found =
     (lines : List LineView) × (lines_among folders files root ≡ Ok lines) × (map faulty_line_view found.faulty.items ≡ (survey_of lines).faulty)
     × (map location_view found.places.items ≡ map location_of lines)
 
--- files were settled to these, with the lines whose places are these
+-- files were settled, with these faulty lines, and with the lines whose places are these
 abbrev pub SettlesTo : List (List ℕ) → List ℕ → Texts → Settled → Type 0
 SettlesTo folders root files settled =
-    (lines : List LineView) × IsSettled folders root files (map file_view settled.files.items) (map faulty_line_view settled.found.items) lines
+    (lines : List LineView) × (texts : Texts) × IsSettled folders root files texts (map faulty_line_view settled.found.items) lines
     × (map location_view settled.places.items ≡ map location_of lines)
 
 -- files can't be settled: after some rounds the table can't be loaded

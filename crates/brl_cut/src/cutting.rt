@@ -4,10 +4,11 @@ ghost use Rattle.brl_failure.specs.Failure.{IfFault};
 ghost use Rattle.brl_lines.specs.Answer.{Unchanged};
 ghost use Rattle.brl_lines.specs.GatherFaults.{gathered_view};
 ghost use Rattle.brl_lines.specs.Views.{location_view};
-ghost use Rattle.brl_cut.specs.Cuts.{IsCut, IsCutFault, IsCutOf, IsReadAs, IsUncut, IsUnreadAs, start_edits, start_files};
+ghost use Rattle.brl_cut.specs.Cuts.{IsCut, IsCutFault, IsCutOf, IsReadAs, IsUncut, IsUnreadAs, finished, start_edits, start_files};
+ghost use Rattle.brl_table.specs.Survey.{faulty_line_view};
 ghost use Rattle.brl_cut.specs.Files.{edit_view, file_view};
 
-use crate::files::{source_of, with_comments};
+use crate::files::{Edit, edit_files, edits_of, source_of, with_comments};
 use crate::includes::include_faults;
 use crate::placing::{place_files, written_root};
 use crate::rewriting::{Rewritten, count_rewritten, rewrite_files};
@@ -101,6 +102,25 @@ fn rewrite_gathered(
     rewrite_files(alloc, folders, files, root, rewrite)
 }
 
+/// Gathered files as they are written: the lines that were found faulty are comments, each of the
+/// line as it was, and the others are rewritten by these edits.
+fn finish_files(
+    alloc: Global,
+    gathered: &Gathered,
+    mut edits: Vec<Edit>,
+    found: &[FaultyLine],
+) -> Result<Vec<GatheredFile>, AllocError>
+    ensures { IfOk result (λ files. map file_view files.items ≡ finished (map edit_view edits.items) (map faulty_line_view found.now) (gathered_view gathered.now)) }
+{
+    let files = with_comments(
+        alloc,
+        gathered.files.as_slice(),
+        gathered.left_out.as_slice(),
+    )?;
+    edits.append(&mut edits_of(alloc, found)?)?;
+    edit_files(alloc, files.as_slice(), edits.as_slice())
+}
+
 /// The table whose root has a path, with the lines that aren't read as comments, for the folder
 /// `dir`. A file gets the name in the include line that first leads to it, wherever it was found,
 /// and the root the last part of its path; so the files there are found in no other folder. Each
@@ -114,7 +134,8 @@ fn rewrite_gathered(
 /// With `rewrite` lines are rewritten before faulty ones are left out. Before a line `noback OP C D
 /// ..` where `OP C D` by itself defines a character that is put, and ` # `, so that the line itself
 /// is a comment; and then before a line `base uppercase C D` in the same way `uplow CD` with the
-/// dots that the small letter D has by other lines.
+/// dots that the small letter D has by other lines. A line that
+/// is rewritten and then left out is written as it was.
 pub fn cut_table<S: Source>(
     alloc: Global,
     source: &mut S,
@@ -144,22 +165,19 @@ fn cut_gathered(
 {
     let new = rewrite_gathered(alloc, folders, gathered, root, rewrite)?;
     let settled = raise(settle(alloc, folders, new.files, root), CutFault::Load)?;
+    let rewritten = count_rewritten(new.edits.as_slice(), settled.places.as_slice());
     let names = gathered.names.as_slice();
-    let files = place_files(alloc, dir, names, settled.files.as_slice())?;
+    let texts = finish_files(alloc, gathered, new.edits, settled.found.as_slice())?;
+    let files = place_files(alloc, dir, names, texts.as_slice())?;
     let new_root = written_root(alloc, dir, root)?;
     raise(
         check_read(alloc, files.as_slice(), new_root.as_str()),
         CutFault::NotRead,
     )?;
     let mut left_out = include_faults(alloc, gathered.left_out.as_slice())?;
-    let Settled {
-        mut found,
-        places,
-        ..
-    } = settled;
+    let Settled { mut found, places } = settled;
     left_out.append(&mut found)?;
     let line_files = files_of_places(alloc, places.as_slice())?;
-    let rewritten = count_rewritten(new.edits.as_slice(), places.as_slice());
     let paths = paths_of(alloc, gathered.files.as_slice())?;
     Ok(Cut {
         files,

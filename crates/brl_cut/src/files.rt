@@ -45,7 +45,10 @@ pub(crate) trait BecomesComment {
 }
 
 /// The edits that make lines comments.
-fn edits_of<L: BecomesComment>(alloc: Global, lines: &[L]) -> Result<Vec<Edit>, AllocError>
+pub(crate) fn edits_of<L: BecomesComment>(
+    alloc: Global,
+    lines: &[L],
+) -> Result<Vec<Edit>, AllocError>
     ensures { IfOk result (λ edits. map edit_view edits.items ≡ map L.edit_of lines.now) }
 {
     let mut edits = Vec::with_capacity(alloc, lines.len())?;

@@ -21,11 +21,10 @@ pub(crate) struct Surveyed {
     pub places: Vec<Location>,
 }
 
-/// Files whose lines are all read, the faulty lines that became comments, and the place of each
-/// line.
+/// The faulty lines that became comments until all lines of the files were read, and the place of
+/// each of these.
 #[derive(Drop)]
 pub(crate) struct Settled {
-    pub files: Vec<GatheredFile>,
     pub found: Vec<FaultyLine>,
     pub places: Vec<Location>,
 }
@@ -98,7 +97,6 @@ pub(crate) fn settle(
         let mut surveyed = survey_files(alloc, folders, files.as_slice(), root)?;
         if surveyed.faulty.is_empty() {
             return Ok(Settled {
-                files,
                 found,
                 places: surveyed.places,
             });

@@ -1,5 +1,5 @@
 -- A word is looked for from word to word.
-use Rattle.std.proofs.Common.{◌≡◌, ◌∙◌, ◌+◌, ◌<◌, ◌≤◌, ℕ, Bor, Bool, List, [], ◌∷◌, None, Option, Some, ap, drop, false, get_or, length, map, refl, sym, true}
+use Rattle.std.proofs.Common.{◌≡◌, ◌∙◌, ◌+◌, ◌<◌, ◌≤◌, ℕ, Bor, Bool, List, ◌∷◌, None, Option, Some, ap, drop, false, get_or, length, map, refl, sym, true}
 use Rattle.std.specs.List.{find}
 use Rattle.std.proofs.lemmas.List.{at_drop_all, at_drop_more}
 

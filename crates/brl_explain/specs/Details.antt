@@ -1,13 +1,17 @@
 -- What can be seen in the line of a fault itself. The project's own choice.
-use Rattle.std.specs.Prelude.{ℕ, ◌/◌, ◌%◌, Bool, ◌&&◌, ◌||◌, not, if◌then◌else◌, List, [], ◌∷◌, ◌++◌, Option, Some, None, Result, Ok, Err, codes, flat_map, length, nat_eq, nat_le, nat_lt, option_map}
+use Rattle.std.specs.Prelude.{ℕ, ◌==◌, ◌/◌, ◌%◌, Bool, ◌&&◌, ◌||◌, not, if◌then◌else◌, List, [], ◌∷◌, ◌++◌, Option, Some, None, Result, Ok, Err, codes, flat_map, length, nat_eq, nat_le, nat_lt, option_map}
 use Rattle.std.specs.Char.{digit_char}
+use Rattle.std.specs.Fmt.{decimal}
 use Rattle.std.specs.List.{after_first, before_first, find, list_any}
+use Rattle.std.specs.Option.{option_or}
 use Rattle.std.specs.Str.{bytes_eq, chars, encode_utf8_all}
 use Rattle.brl_cells.specs.Dots.{is_among, reading}
 use Rattle.brl_cells.specs.declared.fault.DotsFault.{DotsFault}
 use Rattle.brl_cells.specs.declared.fault.DotsFault.TheVariants.{BadDot, EmptyCell, RepeatedDot, TooManyCells}
 use Rattle.brl_explain.specs.Explaining.{code_of, is_blank, text_of_fault}
 use Rattle.brl_explain.specs.Opcodes.{opcode_note}
+use Rattle.brl_lines.specs.Escapes.{characters_of}
+use Rattle.brl_lines.specs.declared.operand.CharsFault.{CharsFault}
 
 -- ---- Characters
 
@@ -45,13 +49,18 @@ characters_line line = titled (codes "Characters:") (flat_map unclear_spelling (
 abbrev pub operand_of : List ℕ → List ℕ
 operand_of line = before_first is_blank (after_first is_blank (after_first is_blank line))
 
--- the first character of dots that is neither a dot, nor the blank cell, nor joins cells
-abbrev pub odd_mark : List ℕ → Option ℕ
-odd_mark dots = find (λ c. not (is_among (codes "012345678-") c)) (chars dots)
-
 -- whether a character is a virtual dot of liblouis
 abbrev pub is_virtual : ℕ → Bool
 is_virtual c = is_among (codes "9abcdefABCDEF") c
+
+-- whether a character of dots is a dot, or the blank cell, or joins cells
+abbrev pub is_mark : ℕ → Bool
+is_mark c = is_among (codes "012345678-") c
+
+-- the first character of dots that is none of these, and no virtual dot; where none is, the first
+-- virtual dot
+abbrev pub odd_mark : List ℕ → Option ℕ
+odd_mark dots = option_or (find (λ c. not (is_mark c || is_virtual c)) (chars dots)) (find is_virtual (chars dots))
 
 -- the note on the first character of dots that is no dot
 abbrev pub mark_note : Option ℕ → List ℕ
@@ -96,6 +105,21 @@ note_line dots = titled (codes "Dots: ") (whole_note dots)
 abbrev pub dots_line : List ℕ → List ℕ
 dots_line line = if bytes_eq (code_of line) (codes "B4") && nat_lt 0 (length (operand_of line)) then note_line (operand_of line) else []
 
+-- ---- Characters that an operand spells
+
+-- how many characters are spelled where one is taken, or by `uplow` two; or that an escape is bad
+abbrev pub count_note : Result (List ℕ) CharsFault → List ℕ
+count_note (Err fault) = codes "a backslash there begins no escape"
+count_note (Ok characters) =
+    if length characters == 1 then codes "1 character, where uplow takes two different ones"
+    else decimal (length characters) ++ codes " characters, where exactly one is taken, or by uplow two different ones"
+
+-- what is wrong with the characters that a line names, if its fault is of them and it names some
+abbrev pub count_line : List ℕ → List ℕ
+count_line line =
+    if bytes_eq (code_of line) (codes "B3") && nat_lt 0 (length (operand_of line)) then titled (codes "Operand: ") (count_note (characters_of (operand_of line)))
+    else []
+
 -- ---- Opcodes
 
 -- the note on the opcode that a line names, where its fault is of an opcode
@@ -108,7 +132,7 @@ opcode_line line =
 
 -- what explains a line: the text for its fault, and what can be seen
 abbrev pub explanation : List ℕ → List ℕ → List ℕ
-explanation text line = text ++ opcode_line line ++ dots_line line ++ characters_line line
+explanation text line = text ++ opcode_line line ++ dots_line line ++ count_line line ++ characters_line line
 
 -- the same, if there is a text for its fault
 abbrev pub explanation_of : List ℕ → Option (List ℕ)

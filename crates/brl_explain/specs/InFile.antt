@@ -1,5 +1,5 @@
 -- What can be seen in the file that a fault's line names. The project's own choice.
-use Rattle.std.specs.Prelude.{ℕ, ◌≡◌, ◌+◌, ◌==◌, Bool, ◌&&◌, ◌||◌, if◌then◌else◌, List, [], ◌++◌, ◌⊎◌, MatchBool, Option, Some, None, codes, count_by, flat_map, length, nat_eq, option_map, slice_index, take}
+use Rattle.std.specs.Prelude.{ℕ, ◌≡◌, ◌+◌, ◌==◌, Bool, ◌&&◌, if◌then◌else◌, List, [], ◌++◌, ◌⊎◌, MatchBool, Option, Some, None, codes, count_by, flat_map, length, nat_eq, option_map, slice_index, take}
 use Rattle.std.specs.Fmt.{decimal}
 use Rattle.std.specs.List.{after_first, before_first, find, starts_with}
 use Rattle.std.specs.Option.{option_and_then, option_map_or}
@@ -8,6 +8,7 @@ use Rattle.std.specs.Str.Lossy.{utf8_valid_len}
 use Rattle.brl_cert.specs.Fields.{lenient_number}
 use Rattle.brl_explain.specs.Details.{byte_digits, operand_of, titled, unclear_spelling}
 use Rattle.brl_explain.specs.Explaining.{code_of, is_blank}
+use Rattle.brl_explain.specs.Operands.{is_prefix, missing_line, swapped_line, undefined_line}
 use Rattle.brl_explain.specs.declared.in_file.Place.{Place}
 use Rattle.brl_lines.specs.Answer.{FileAnswer, FileAnswers, Holds}
 use Rattle.brl_lines.specs.Lines.{LocationView, Refusal}
@@ -46,17 +47,20 @@ place_of line =
 -- the prefix with which a line begins, by its first word, where its fault is that its opcode isn't
 -- read
 abbrev pub prefix_line : List ℕ → List ℕ → List ℕ
-prefix_line fault word =
-    if bytes_eq (code_of fault) (codes "B1") && (bytes_eq word (codes "noback") || bytes_eq word (codes "nofor"))
-    then codes "Prefix: " ++ word ++ codes "\n" else []
+prefix_line fault word = if bytes_eq (code_of fault) (codes "B1") && is_prefix word then codes "Prefix: " ++ word ++ codes "\n" else []
 
 -- the unclear characters of a line, in order, by their numbers
 abbrev pub unclear_line : LineView → List ℕ
 unclear_line line = titled (codes "Characters of the line:") (flat_map unclear_spelling (chars (words_of line)))
 
--- a line that has a fault: as it is in its file, its prefix, and its unclear characters
+-- what is seen of the words of a line that has a fault: its prefix, and its operands
+abbrev pub words_line : List ℕ → LineView → List ℕ
+words_line fault line = prefix_line fault line.opcode.text ++ swapped_line fault line ++ missing_line fault line
+
+-- a line that has a fault: as it is in its file, what is seen of its words, and its unclear
+-- characters
 abbrev pub faulty_line : List ℕ → LineView → List ℕ
-faulty_line fault line = codes "Line:\n" ++ source_line line ++ prefix_line fault line.opcode.text ++ unclear_line line
+faulty_line fault line = codes "Line:\n" ++ source_line line ++ words_line fault line ++ unclear_line line
 
 -- ---- The line that defined an indicator first
 
@@ -70,9 +74,13 @@ first_definition fault place lines =
     if bytes_eq (code_of fault) (codes "B9")
     then option_map_or (earlier_line place) (option_and_then (λ sign. find (gives_sign sign) lines) (sign_given (opcode_of (operand_of fault)))) [] else []
 
+-- a line that has a fault, of a file with these lines, and which characters they don't define
+abbrev pub line_with : List ℕ → List LineView → LineView → List ℕ
+line_with fault lines line = faulty_line fault line ++ undefined_line fault line.file lines
+
 -- what is seen of a fault at a place among the lines of a table
 abbrev pub line_notes : List ℕ → LocationView → List LineView → List ℕ
-line_notes fault place lines = option_map_or (faulty_line fault) (find (is_at place.file place.line) lines) [] ++ first_definition fault place lines
+line_notes fault place lines = option_map_or (line_with fault lines) (find (is_at place.file place.line) lines) [] ++ first_definition fault place lines
 
 -- ---- A byte that isn't UTF-8
 

@@ -2,3 +2,4 @@ pub mod Explaining
 pub mod Details
 pub mod Opcodes
 pub mod InFile
+pub mod Operands

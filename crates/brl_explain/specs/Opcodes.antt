@@ -37,4 +37,7 @@ is_opcode word = list_any (λ opcode. bytes_eq opcode word) opcode_words
 
 -- the note on a word that is no opcode where it is
 abbrev pub opcode_note : List ℕ → List ℕ
-opcode_note word = if is_opcode word then word ++ codes " is read, but not after noback or nofor" else question_of (nearest_opcode word)
+opcode_note word =
+    if is_opcode word then word ++ codes " is read, but not after noback or nofor"
+    else if bytes_eq word (codes "base") then codes "brl cut --rewrite reads base uppercase, as uplow"
+    else question_of (nearest_opcode word)

@@ -1,14 +1,18 @@
 //! What can be seen in the line of a fault itself.
-ghost use Rattle.std.specs.Prelude.{◌≡◌, ◌++◌, ◌<◌, IfOk, OnOk, flat_map, option_map, string_bytes};
+ghost use Rattle.std.specs.Prelude.{◌≡◌, ◌++◌, ◌<◌, ◌||◌, not, find, IfOk, OnOk, flat_map, option_map, string_bytes};
 ghost use Rattle.std.specs.Str.{chars};
 ghost use Rattle.brl_cells.specs.Dots.{reading};
+ghost use Rattle.brl_lines.specs.Escapes.{characters_of};
 ghost use Rattle.brl_explain.specs.Details.{
   by_number,
   byte_digits,
   dots_line,
+  count_line,
+  count_note as note_on_count,
   dots_note as note_on_dots,
   explanation as explanation_with,
   explanation_of,
+  is_mark,
   is_unclear as is_unclear_mark,
   is_virtual as is_virtual_dot,
   mark_note as note_on_mark,
@@ -26,6 +30,7 @@ use crate::explaining::{after_first_word, code_of, first_word, text_of_fault};
 use crate::opcodes::opcode_note;
 use brl_cells::{DotsFault, read_dots};
 use brl_failure::Failure;
+use brl_lines::chars_of;
 use std::alloc::{AllocError, Global};
 
 /// The most cells of dots.
@@ -54,6 +59,7 @@ fn explanation(alloc: Global, fault: &str, line: &str) -> Result<String, AllocEr
     let mut text = String::from_str(alloc, fault)?;
     push_opcode_line(alloc, &mut text, line)?;
     push_dots_line(alloc, &mut text, line)?;
+    push_count_line(alloc, &mut text, line)?;
     push_titled(
         &mut text,
         "Characters:",
@@ -83,6 +89,41 @@ fn push_dots_line(alloc: Global, text: &mut String, line: &str) -> Result<(), Al
         return Ok(());
     }
     push_dots(alloc, text, dots)
+}
+
+/// Appends what is wrong with the characters that a line names, if its fault is of them and it
+/// names some.
+fn push_count_line(alloc: Global, text: &mut String, line: &str) -> Result<(), AllocError>
+    ensures { OnOk result (string_bytes text.new ≡ string_bytes text.old ++ count_line line.now) }
+{
+    let operand = operand_of(line);
+    if code_of(line) != "B3" || operand.is_empty() {
+        return Ok(());
+    }
+    push_titled(text, "Operand: ", count_note(alloc, operand)?.as_str())
+}
+
+/// The note on how many characters an operand spells, or that it has a bad escape.
+fn count_note(alloc: Global, operand: &str) -> Result<String, AllocError>
+    ensures { IfOk result (λ note. string_bytes note ≡ note_on_count (characters_of operand.now)) }
+{
+    match chars_of(alloc, operand) {
+        Ok(characters) => number_note(alloc, characters.as_slice()),
+        Err(Failure::Fault(_)) => String::from_str(alloc, "a backslash there begins no escape"),
+        Err(Failure::Memory) => Err(AllocError),
+    }
+}
+
+/// The note on the number of characters where one is taken, or by `uplow` two.
+fn number_note(alloc: Global, characters: &[char]) -> Result<String, AllocError>
+    ensures { IfOk result (λ note. string_bytes note ≡ note_on_count (Ok characters.now)) }
+{
+    if characters.len() == 1 {
+        return String::from_str(alloc, "1 character, where uplow takes two different ones");
+    }
+    let mut note = characters.len().to_string(alloc)?;
+    note.push_str(" characters, where exactly one is taken, or by uplow two different ones")?;
+    Ok(note)
 }
 
 /// The operand that a fault's line names: its third word.
@@ -210,11 +251,30 @@ fn dots_note(alloc: Global, dots: &str) -> Result<String, AllocError>
     }
 }
 
-/// The first character of dots that is neither a dot, nor the blank cell, nor joins cells.
+/// The first character of dots that is neither a dot, nor the blank cell, nor joins cells, and no
+/// virtual dot; where none is, the first virtual dot.
 fn odd_mark(dots: &str) -> Option<char>
     ensures { result ≡ odd_mark_of dots.now }
 {
-    dots.chars().find(|mark| !matches!(*mark, '0'..='8' | '-'))
+    match strange_mark(dots) {
+        Some(mark) => Some(mark),
+        None => virtual_mark(dots),
+    }
+}
+
+/// The first character of dots that is none of a cell's, and no virtual dot.
+fn strange_mark(dots: &str) -> Option<char>
+    ensures { result ≡ find (λ c. not (is_mark c || is_virtual_dot c)) (chars dots.now) }
+{
+    dots.chars().find(|mark| !matches!(*mark, '0'..='9' | '-' | 'a'..='f' | 'A'..='F'))
+}
+
+/// The first virtual dot of dots.
+fn virtual_mark(dots: &str) -> Option<char>
+    ensures { result ≡ find is_virtual_dot (chars dots.now) }
+{
+    dots.chars()
+        .find(|mark| matches!(*mark, '9' | 'a'..='f' | 'A'..='F'))
 }
 
 /// The note on the first odd character of dots.

@@ -20,15 +20,18 @@ ghost use Rattle.brl_explain.specs.InFile.{
   is_colon,
   is_feed,
   line_notes as notes_on_line,
+  line_with,
   place_in as place_spelled,
   place_of as place_of_line,
   place_view,
   prefix_line,
   unclear_line,
+  words_line,
 };
 
 use crate::details::{operand_of, push_byte, push_titled, unclear_characters};
 use crate::explaining::{after_first_word, code_of, first_word};
+use crate::operands::{is_prefix, push_missing, push_swapped, push_undefined};
 use brl_cert::read_number;
 use brl_failure::Failure;
 use brl_lines::{Line, Source, load};
@@ -128,13 +131,27 @@ fn line_notes(
 {
     let mut notes = String::new(alloc);
     if let Some(line) = first_line(lines, Wanted::At(place.file, place.line)) {
-        push_faulty_line(alloc, fault, line, &mut notes)?;
+        push_line_with(alloc, fault, line, lines, &mut notes)?;
     }
     push_first_definition(fault, place, lines, &mut notes)?;
     Ok(notes)
 }
 
-/// Appends a line that has a fault, its prefix, and its unclear characters.
+/// Appends a line that has a fault, and which characters the lines of its file don't define.
+fn push_line_with(
+    alloc: Global,
+    fault: &str,
+    line: &Line<'_>,
+    lines: &[Line<'_>],
+    notes: &mut String,
+) -> Result<(), AllocError>
+    ensures { OnOk result (string_bytes notes.new ≡ string_bytes notes.old ++ line_with fault.now (map line_view lines.now) (line_view line.now)) }
+{
+    push_faulty_line(alloc, fault, line, notes)?;
+    push_undefined(alloc, fault, line.file, lines, notes)
+}
+
+/// Appends a line that has a fault, what is seen of its words, and its unclear characters.
 fn push_faulty_line(
     alloc: Global,
     fault: &str,
@@ -145,7 +162,14 @@ fn push_faulty_line(
 {
     notes.push_str("Line:\n")?;
     push_source_line(line, notes)?;
-    push_prefix(fault, line.opcode.text, notes)?;
+    push_seen_words(alloc, fault, line, notes)?;
+    push_unclear_words(alloc, line, notes)
+}
+
+/// Appends the unclear characters of a line, in order, by their numbers.
+fn push_unclear_words(alloc: Global, line: &Line<'_>, notes: &mut String) -> Result<(), AllocError>
+    ensures { OnOk result (string_bytes notes.new ≡ string_bytes notes.old ++ unclear_line (line_view line.now)) }
+{
     let mut words = String::new(alloc);
     push_words(line, &mut words)?;
     push_titled(
@@ -155,11 +179,25 @@ fn push_faulty_line(
     )
 }
 
+/// Appends what is seen of the words of a line that has a fault: its prefix, and its operands.
+fn push_seen_words(
+    alloc: Global,
+    fault: &str,
+    line: &Line<'_>,
+    notes: &mut String,
+) -> Result<(), AllocError>
+    ensures { OnOk result (string_bytes notes.new ≡ string_bytes notes.old ++ words_line fault.now (line_view line.now)) }
+{
+    push_prefix(fault, line.opcode.text, notes)?;
+    push_swapped(alloc, fault, line, notes)?;
+    push_missing(fault, line, notes)
+}
+
 /// Appends the prefix with which a line begins whose opcode isn't read.
 fn push_prefix(fault: &str, opcode: &str, notes: &mut String) -> Result<(), AllocError>
     ensures { OnOk result (string_bytes notes.new ≡ string_bytes notes.old ++ prefix_line fault.now opcode.now) }
 {
-    if code_of(fault) != "B1" || (opcode != "noback" && opcode != "nofor") {
+    if code_of(fault) != "B1" || !is_prefix(opcode) {
         return Ok(());
     }
     notes.push_str("Prefix: ")?;

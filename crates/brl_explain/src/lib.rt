@@ -13,6 +13,7 @@ mod explaining;
 mod faults;
 mod in_file;
 mod opcodes;
+mod operands;
 
 pub use details::explain;
 pub use faults::FAULTS;

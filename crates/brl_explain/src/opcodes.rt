@@ -14,8 +14,8 @@ use brl_table::{OPCODES, opcodes_law};
 use std::alloc::{AllocError, Global};
 use strsim::osa_distance;
 
-/// The note on a word that is no opcode where it is: that it is one elsewhere, or which one may
-/// be meant; nothing where none is near.
+/// The note on a word that is no opcode where it is: that it is one elsewhere, or that a cut
+/// rewrites its lines, or which one may be meant; nothing where none is near.
 pub fn opcode_note(alloc: Global, word: &str) -> Result<String, AllocError>
     ensures { IfOk result (λ note. string_bytes note ≡ note_on_opcode word.now) }
 {
@@ -23,6 +23,10 @@ pub fn opcode_note(alloc: Global, word: &str) -> Result<String, AllocError>
     if is_opcode(word) {
         note.push_str(word)?;
         note.push_str(" is read, but not after noback or nofor")?;
+        return Ok(note);
+    }
+    if word == "base" {
+        note.push_str("brl cut --rewrite reads base uppercase, as uplow")?;
         return Ok(note);
     }
     let near = nearest_opcode(alloc, word)?;

@@ -1,5 +1,5 @@
 //! A source over a file system.
-ghost use Rattle.std.specs.Prelude.{◌≡◌, ◌≢◌, ◌<◌, ◌≤◌, length, IfOk, IfErr, IfSome, None};
+ghost use Rattle.std.specs.Prelude.{◌≡◌, ◌≢◌, ◌<◌, ◌≤◌, false, length, IfOk, IfErr, IfSome, None};
 ghost use Rattle.brl_failure.specs.Failure.{IfFault};
 ghost use Rattle.brl_lines.specs.Answer.{most_file_bytes};
 
@@ -7,8 +7,8 @@ use crate::map_source::slice_of;
 use crate::{MOST_FILE_BYTES, Source, SourceFault};
 use brl_failure::Failure;
 use std::alloc::{AllocError, Global};
-use std::fs::File;
-use std::io::{ErrorKind, Read};
+use std::fs::{self, File};
+use std::io::{self, ErrorKind, Read};
 use std::rt::Files;
 
 /// The files of a system, and the folders in which the files of tables are looked for too. Nothing
@@ -18,19 +18,24 @@ pub struct FileSource<R> {
     pub system: R,
     pub faults: u64,
     pub folders: Option<Vec<String>>,
+    /// Whether nothing but plain files is read, so that no read waits for a writer.
+    pub plain: bool,
 }
 
 impl<R: Files> FileSource<R> {
-    /// A source over the files of `system`, which has not failed yet, and looks in no folders.
+    /// A source over the files of `system`, which has not failed yet, looks in no folders, and
+    /// reads whatever is at a path.
     pub fn new(system: R) -> Self
         ensures none_yet { result.faults ≡ 0 }
         ensures system { result.system ≡ system }
         ensures folders { result.folders ≡ None }
+        ensures all { result.plain ≡ false }
     {
         FileSource {
             system,
             faults: 0,
             folders: None,
+            plain: false,
         }
     }
 }
@@ -78,6 +83,29 @@ fn read_file<R: Read>(alloc: Global, file: &mut R) -> Result<Vec<u8>, Failure<So
     read_whole(alloc, file, room.as_mut_slice())
 }
 
+/// Whether nothing is at a path, by an error there: a part of the path isn't there, or is a file
+/// where a folder would have to be.
+fn is_nothing_there(error: &io::Error) -> bool {
+    matches!(error.kind(), ErrorKind::NotFound | ErrorKind::NotADirectory)
+}
+
+/// Why a source gave no bytes, by an error of the system.
+fn fault_of(error: &io::Error) -> SourceFault {
+    if is_nothing_there(error) {
+        SourceFault::NotFound
+    } else {
+        SourceFault::Failed
+    }
+}
+
+/// Opens the file at a path; of plain files alone where this is asked for.
+fn open<R: Files>(system: &R, path: &str, plain: bool) -> Result<R::File, SourceFault> {
+    if plain && !fs::metadata(system, path).is_ok_and(|found| found.is_file()) {
+        return Err(SourceFault::Failed);
+    }
+    File::open(system, path).map_err(|error| fault_of(&error))
+}
+
 impl<R: Files> Source for FileSource<R> {
     ghost use Rattle.brl_lines.specs.InMemory.{folders_of};
 
@@ -86,12 +114,9 @@ impl<R: Files> Source for FileSource<R> {
     ghost faults = { λ s. s.faults };
 
     fn read(&mut self, alloc: Global, path: &str) -> Result<Vec<u8>, Failure<SourceFault>> {
-        let outcome = match File::open(&self.system, path) {
+        let outcome = match open(&self.system, path, self.plain) {
             Ok(mut file) => read_file(alloc, &mut file),
-            Err(error) if error.kind() == ErrorKind::NotFound => {
-                Err(Failure::Fault(SourceFault::NotFound))
-            }
-            Err(_) => Err(Failure::Fault(SourceFault::Failed)),
+            Err(fault) => Err(Failure::Fault(fault)),
         };
         if let Err(Failure::Fault(SourceFault::Failed)) = &outcome {
             self.faults = self.faults.saturating_add(1);

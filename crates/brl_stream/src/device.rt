@@ -1,5 +1,5 @@
 //! Readers and writers that count their failures.
-use std::io::{Read, Write};
+use std::io::{self, ErrorKind, Read, Write};
 
 /// The reader or the writer has failed.
 #[derive(Clone, Copy, PartialEq, Eq, Debug)]
@@ -44,6 +44,9 @@ pub trait Output {
             × Appends (contents self.old) (contents self.new) front) }
         ensures cause { OnErr result (failures self.new ≢ failures self.old) }
         ensures calm { OnOk result (failures self.new ≡ failures self.old) };
+
+    /// Whether the write that failed last did so because nobody reads any more.
+    fn is_closed(&self) -> bool;
 }
 
 /// A slice of bytes is a reader that never fails.
@@ -68,6 +71,8 @@ impl Input for &[u8] {
 pub struct Counting<D> {
     pub device: D,
     pub failures: u64,
+    /// Whether the write that failed last was into a pipe whose other end is closed.
+    pub closed: bool,
 }
 
 impl<D> Counting<D> {
@@ -81,6 +86,7 @@ impl<D> Counting<D> {
         Counting {
             device,
             failures: 0,
+            closed: false,
         }
     }
 }
@@ -110,13 +116,26 @@ impl<W: Write> Output for Counting<W> {
         let mut rest = bytes;
         while !rest.is_empty() {
             match self.device.write(rest) {
-                Ok(0) | Err(_) => {
+                Ok(count) if count > 0 => rest = &rest[count..],
+                outcome => {
                     self.failures = self.failures.wrapping_add(1);
+                    self.closed = is_of_closed_pipe(&outcome);
                     return Err(Failed);
                 }
-                Ok(count) => rest = &rest[count..],
             }
         }
         Ok(())
+    }
+
+    fn is_closed(&self) -> bool {
+        self.closed
+    }
+}
+
+/// Whether a write failed because the other end of a pipe is closed.
+fn is_of_closed_pipe(outcome: &io::Result<usize>) -> bool {
+    match outcome {
+        Ok(_) => false,
+        Err(error) => error.kind() == ErrorKind::BrokenPipe,
     }
 }

@@ -10,3 +10,4 @@ pub mod RunLemmas
 pub mod SearchLemmas
 pub mod UpToLemmas
 pub mod Answered
+pub mod ExplainLemmas

@@ -2,8 +2,8 @@
 use Rattle.std.proofs.Common.{◌≡◌, ◌≢◌, ◌∙◌, ℕ, suc, Bool, ap, true, false, cond, List, [], ◌∷◌, ◌++◌, All, arith, length, map, inl, inr, Option, None, Some, Result, Ok, Err, refl, subst, sym}
 use Rattle.std.specs.Option.{option_copied}
 use Rattle.std.proofs.lemmas.Bool.{eqb-true}
-use Rattle.std.specs.Prelude.{◌==◌, if◌then◌else◌, string_bytes}
-use Rattle.std.specs.List.{list_all}
+use Rattle.std.specs.Prelude.{◌==◌, ◌||◌, flat_map, if◌then◌else◌, is_some, nat_lt, string_bytes}
+use Rattle.std.specs.List.{list_all, list_any}
 use Rattle.std.specs.Str.Lines.{lines as rows_of_text}
 use Rattle.std.proofs.lemmas.List.{get_or_append_left, length-append}
 use Rattle.std.proofs.lemmas.List.Elements.{filter_passes}
@@ -52,7 +52,10 @@ use Rattle.brl_answers.specs.Answers.{BySpelled, ByText, IsBadLeftOut, IsBadText
 use Rattle.brl_answers.specs.Delivery.{Delivers, World, KeepsFiles, Prints, Writes}
 use Rattle.brl_answers.specs.Files.{GivesAlso, MayBeSame, OthersStay}
 use Rattle.brl_answers.specs.Making.{FilesAfter}
-use Rattle.brl_tool.specs.Running.{Answers, AreNamedBy, Asks, ClashAtAccepted, KeepsFilesBut, KeepsFilesRefuted, KeepsFilesUnlessWritten, MeansDone, MeansRefuted, WritesList, WritesPairs}
+use Rattle.brl_tool.specs.Running.{Answers, AreNamedBy, Asks, ClashAtAccepted, KeepsFilesBut, KeepsFilesRefuted, KeepsFilesUnlessWritten, MeansDone, MeansRefuted, WritesList, WritesPairs, WritesTable}
+use Rattle.brl_tool.specs.Surveying.{IsPart, IsReportIfLoaded, IsSuspectAt, Part, status_by, text_of_part}
+use Rattle.brl_tool.specs.Suspects.{has_unknown_opcode}
+use Rattle.brl_table.specs.Survey.{faulty_line_view}
 use Rattle.brl_answers.specs.Status.{status_of}
 use Rattle.brl_answers.specs.declared.answer.Answer.{Answer}
 use Rattle.brl_answers.specs.declared.new_files.NewFiles.{NewFiles}
@@ -79,6 +82,31 @@ never_refuted fault e = cc
 pub unrefuted : (loaded : Bool) → cond loaded Done Faulty ≡ Refuted → ⊥
 unrefuted true e = cc
 unrefuted false e = cc
+
+-- a cut says by its status whether an opcode is unknown
+unknown_left : (unknown : Bool) → cond unknown Refuted Done ≡ Refuted → unknown ≡ true
+unknown_left true e = refl
+unknown_left false e = absurd cc
+
+-- a survey is refuted only where a table is suspect
+suspect_status : (loaded suspect : Bool) → status_by loaded suspect ≡ Refuted → suspect ≡ true
+suspect_status true true e = refl
+suspect_status true false e = absurd cc
+suspect_status false suspect e = absurd cc
+
+suspect_report : (brief : Bool) (gives : FileAnswers) (path : List ℕ) (report : Option (List ℕ)) (suspect : Bool) → IsReportIfLoaded brief gives path report suspect → suspect ≡ true → IsSuspectAt gives path
+suspect_report brief gives path (Some text) suspect (skipped, paths, lines, without, of, same) e = (skipped, paths, lines, without, sym same ∙ e)
+suspect_report brief gives path None suspect (fault, unloaded, none) e = absurd cc
+
+first_suspect : (brief : Bool) (gives : FileAnswers) (part : Part) (others : Bool) → IsPart brief gives part → (others ≡ true → (path : List ℕ) × IsSuspectAt gives path) → (suspect : Bool) → part.suspect ≡ suspect
+    → (suspect || others) ≡ true → (path : List ℕ) × IsSuspectAt gives path
+first_suspect brief gives part others is later true same told = (part.path, suspect_report brief gives part.path part.report part.suspect is same)
+first_suspect brief gives part others is later false same told = later told
+
+any_suspect : (brief : Bool) (gives : FileAnswers) (parts : List Part) → All (IsPart brief gives) parts → list_any (λ part. part.suspect) parts ≡ true → (path : List ℕ) × IsSuspectAt gives path
+any_suspect brief gives [] are told = absurd cc
+any_suspect brief gives (part ∷ parts) are told =
+    first_suspect brief gives part (list_any (λ p. p.suspect) parts) (are 0 part (omega arith)) (any_suspect brief gives parts (λ k d within. are (suc k) d (omega arith))) part.suspect refl told
 
 -- a list of clashes has the status of its outcome
 no_pair : (o : Outcome) → status_of_outcome o ≡ Done → o ≡ Unambiguous
@@ -240,11 +268,24 @@ module _ (before after : World) (same_file : MayBeSame) where
         )
         | inr (left_is, right_is, none, says) ↦ ((λ done. tt), (λ refuted. let e = sym says.0 ∙ refuted in cc))
       ]
-  means (question.Survey paths brief) answer (parts, named, are, says) files prints = ((λ done. tt), (λ refuted. absurd (unrefuted _ (sym says.0 ∙ refuted))))
+  means (question.Survey paths brief) answer (parts, named, are, says) files prints = (
+    (λ done. tt),
+    (λ refuted.
+        let (path, is) = any_suspect brief before.gives parts are (suspect_status (list_all (λ part. is_some part.report) parts) (list_any (λ part. part.suspect) parts) (sym says.0 ∙ refuted)) in (
+          (path, is, (flat_map (text_of_part (nat_lt 1 (length (map (λ p. p.now) paths.items)))) parts, subst (Prints before after) says.1 prints)),
+          subst (FilesAfter before.gives after.gives) says.2 files,
+        )),
+  )
   means (question.Cut path dir rewrite) answer (cut, (answers, given, gathered, gathers, is), status, text, (made, are, same)) files prints =
       let written : FilesAfter before.gives after.gives (AllNew made) = subst (FilesAfter before.gives after.gives) are files in
       let read = subst (λ (fs : Texts). IsReadAs fs (written_root dir.now path.now)) (sym (same ∙ is.files_are)) is.read in
-      ((λ done. (made.items, written.0, written.1, read)), (λ refuted. let e = sym status ∙ refuted in cc))
+      let table : WritesTable before after path.now dir.now = (made.items, written.0, written.1, read) in (
+        (λ done. table),
+        (λ refuted. (
+          (table, (cut, (answers, given, gathered, gathers, is), unknown_left (has_unknown_opcode (map faulty_line_view cut.left_out.items)) (sym status ∙ refuted))),
+          table,
+        )),
+      )
   means (question.Trace path text options) answer traces files prints =
       let (chars, spelled, by_file) = spelled_in (text_of options.escapes text.now) (IsBadText options.escapes text.now) (TracesByFile options.lines before.gives path.now) answer traces in
       let (paths, lines, are, passes, (known, says)) = by_file in

@@ -1,16 +1,16 @@
 -- One more table of a survey.
-use Rattle.std.proofs.Common.{◌≡◌, ◌∙◌, ℕ, Bool, true, false, ◌&&◌, cond, List, [], ◌∷◌, ◌++◌, All, Option, None, Some, append-nil, ap, map, refl, sym}
+use Rattle.std.proofs.Common.{◌≡◌, ◌∙◌, ℕ, Bool, true, false, ◌&&◌, ◌||◌, List, [], ◌∷◌, ◌++◌, All, Option, None, Some, append-nil, ap, map, refl, sym}
 use Rattle.std.specs.Prelude.{flat_map, is_some}
-use Rattle.std.specs.List.{list_all}
+use Rattle.std.specs.List.{list_all, list_any}
 use Rattle.std.proofs.lemmas.Grind.{flat_map-append}
 use Rattle.std.proofs.lemmas.List.{map-append}
 use Rattle.std.proofs.lemmas.List.Elements.{All-nil, All-push}
-use Rattle.std.proofs.lemmas.List.Folds.{list_all-append}
+use Rattle.std.proofs.lemmas.List.Folds.{list_all-append, list_any-append}
 use Rattle.brl_lines.specs.Answer.{Unchanged, FileAnswer, FileAnswers}
 use Rattle.brl_lines.specs.declared.fault.LoadFault.{LoadFault}
 use Rattle.brl_cut.specs.Skipping.{IsUnloaded}
 use Rattle.brl_cut.proofs.SkipLemmas.{unloaded_moved, without_moved}
-use Rattle.brl_tool.specs.Surveying.{IsPart, IsReportAt, Part, part_text, survey_status, text_of_part}
+use Rattle.brl_tool.specs.Surveying.{IsPart, IsReportAt, Part, part_text, status_after_report, status_by, survey_status, text_of_part}
 use Rattle.brl_answers.specs.declared.status.Status.{Status}
 use Rattle.brl_answers.specs.declared.status.Status.TheVariants.{Done, Faulty}
 
@@ -36,34 +36,47 @@ so-far-moved brief gives several named is turned so_far = record {
   status_is = turned ∙ so_far.status_is;
 }
 
-status-step : (a b : Bool) → cond b (cond a Done Faulty) Faulty ≡ cond (a && (b && true)) Done Faulty
-status-step true true = refl
-status-step true false = refl
-status-step false true = refl
-status-step false false = refl
+-- the status with one more table that was loaded
+with-one : (loaded suspect one : Bool) → status_after_report (status_by loaded suspect) one ≡ status_by (loaded && (true && true)) (suspect || (one || false))
+with-one true true true = refl
+with-one true true false = refl
+with-one true false true = refl
+with-one true false false = refl
+with-one false suspect true = refl
+with-one false suspect false = refl
+
+-- and with one that can't be loaded
+without-one : (loaded suspect : Bool) → Faulty ≡ status_by (loaded && (false && true)) (suspect || (false || false))
+without-one true suspect = refl
+without-one false suspect = refl
 
 module _ (brief : Bool) (gives now : FileAnswers) (same : Unchanged gives now) (several : Bool) (paths : List (List ℕ)) (text : List ℕ) (status : Status) (so_far : IsSoFar brief gives several paths text status) (path : List ℕ) where
   back : (p : List ℕ) (a : FileAnswer) → now.may p a → gives.may p a
   back p a = (same.1 p a).0
 
-  one-more : (report : Option (List ℕ)) (after : List ℕ) (later : Status) → IsPart brief gives (record { path = path; report = report }) → after ≡ text ++ text_of_part several (record { path = path; report = report })
-      → later ≡ cond (is_some report) status Faulty → IsSoFar brief gives several (paths ++ path ∷ []) after later
-  one-more report after later is added turned =
-      let part : Part = record { path = path; report = report } in
-      record {
-        parts = so_far.parts ++ part ∷ [];
-        named = map-append (λ p. p.path) so_far.parts (part ∷ []) ∙ ap (λ ps. ps ++ path ∷ []) so_far.named;
-        are = All-push (IsPart brief gives) so_far.parts part so_far.are is;
-        text_is = added ∙ ap (λ t. t ++ text_of_part several part) so_far.text_is
-            ∙ sym (flat_map-append (text_of_part several) so_far.parts (part ∷ []) ∙ ap (λ t. flat_map (text_of_part several) so_far.parts ++ t) (append-nil (text_of_part several part)));
-        status_is = turned ∙ ap (λ s. cond (is_some report) s Faulty) so_far.status_is ∙ status-step (list_all (λ p. is_some p.report) so_far.parts) (is_some report)
-            ∙ ap (λ b. cond b Done Faulty) (sym (list_all-append (λ p. is_some p.report) so_far.parts (part ∷ [])));
-      }
+  one-more : (part : Part) (after : List ℕ) (later : Status) → part.path ≡ path → IsPart brief gives part → after ≡ text ++ text_of_part several part
+      → later ≡ status_by (list_all (λ p. is_some p.report) so_far.parts && (is_some part.report && true)) (list_any (λ p. p.suspect) so_far.parts || (part.suspect || false))
+      → IsSoFar brief gives several (paths ++ path ∷ []) after later
+  one-more part after later named is added turned = record {
+    parts = so_far.parts ++ part ∷ [];
+    named = map-append (λ p. p.path) so_far.parts (part ∷ []) ∙ ap (λ ps. ps ++ part.path ∷ []) so_far.named ∙ ap (λ p. paths ++ p ∷ []) named;
+    are = All-push (IsPart brief gives) so_far.parts part so_far.are is;
+    text_is = added ∙ ap (λ t. t ++ text_of_part several part) so_far.text_is
+        ∙ sym (flat_map-append (text_of_part several) so_far.parts (part ∷ []) ∙ ap (λ t. flat_map (text_of_part several) so_far.parts ++ t) (append-nil (text_of_part several part)));
+    status_is = turned
+        ∙ ap (λ loaded. status_by loaded (list_any (λ p. p.suspect) so_far.parts || (part.suspect || false))) (sym (list_all-append (λ p. is_some p.report) so_far.parts (part ∷ [])))
+        ∙ ap (λ suspect. status_by (list_all (λ p. is_some p.report) (so_far.parts ++ part ∷ [])) suspect) (sym (list_any-append (λ p. p.suspect) so_far.parts (part ∷ [])));
+  }
 
   -- a table that was loaded
-  pub with-report : (report after : List ℕ) → IsReportAt brief now path report → after ≡ text ++ part_text several path report → IsSoFar brief gives several (paths ++ path ∷ []) after status
-  with-report report after is added = one-more (Some report) after status (is.0, is.1, is.2, without_moved now gives (sym same.0) back path is.0 is.1 is.2 is.3, is.4) added refl
+  pub with-report : (report after : List ℕ) (suspect : Bool) (later : Status) → IsReportAt brief now path report suspect → after ≡ text ++ part_text several path report → later ≡ status_after_report status suspect
+      → IsSoFar brief gives several (paths ++ path ∷ []) after later
+  with-report report after suspect later is added turned =
+      one-more (record { path = path; report = Some report; suspect = suspect }) after later refl (is.0, is.1, is.2, without_moved now gives (sym same.0) back path is.0 is.1 is.2 is.3, is.4, is.5) added
+      (turned ∙ ap (λ s. status_after_report s suspect) so_far.status_is ∙ with-one (list_all (λ p. is_some p.report) so_far.parts) (list_any (λ p. p.suspect) so_far.parts) suspect)
 
   -- a table that can't be loaded
   pub without-report : (fault : LoadFault) (later : Status) → IsUnloaded now path fault → later ≡ Faulty → IsSoFar brief gives several (paths ++ path ∷ []) text later
-  without-report fault later is turned = one-more None text later (fault, unloaded_moved now gives (sym same.0) back path fault is) (sym (append-nil text)) turned
+  without-report fault later is turned =
+      one-more (record { path = path; report = None; suspect = false }) text later refl (fault, unloaded_moved now gives (sym same.0) back path fault is, refl) (sym (append-nil text))
+      (turned ∙ without-one (list_all (λ p. is_some p.report) so_far.parts) (list_any (λ p. p.suspect) so_far.parts))

@@ -5,6 +5,7 @@ pub mod Cutting
 pub mod Explaining
 pub mod Listing
 pub mod Streams
+pub mod Suspects
 pub mod Surveying
 pub mod Tracing
 pub mod Verdicts

@@ -1,6 +1,6 @@
 -- What a run of the program does. The project's own choice. `same` says which paths may name one
 -- file, `input` what is left of the input where that is known.
-use Rattle.std.specs.Prelude.{ℕ, ◌≡◌, ◌≢◌, ◌<◌, ◌==◌, ◌⊎◌, ◌↔◌, All, Bool, if◌then◌else◌, IsTrue, length, List, [], ◌++◌, false, map, Option, None, Some, Result, Ok, Err, String, codes, string_bytes}
+use Rattle.std.specs.Prelude.{ℕ, ◌≡◌, ◌≢◌, ◌<◌, ◌==◌, ◌⊎◌, ◌↔◌, All, Bool, if◌then◌else◌, IsTrue, length, List, [], ◌++◌, false, true, map, Option, None, Some, Result, Ok, Err, String, codes, string_bytes}
 use Rattle.std.specs.Global.{Global, Vec}
 use Rattle.std.specs.Option.{option_copied}
 use Rattle.std.specs.Str.Lines.{lines as rows_of_text}
@@ -31,18 +31,21 @@ use Rattle.brl_tool.specs.Baselines.{accepted_number, text_of_pairs}
 use Rattle.brl_tool.specs.ByLines.{shown_lines}
 use Rattle.brl_tool.specs.Comparing.{ComparesByWords}
 use Rattle.brl_tool.specs.Diagnosing.{DiagnosesByFile}
-use Rattle.brl_cut.specs.Cuts.{IsReadAs, written_root}
+use Rattle.brl_cut.specs.Cuts.{IsCut, IsReadAs, written_root}
 use Rattle.brl_tool.specs.Cutting.{CutsByFile, new_file_view}
 use Rattle.brl_tool.specs.Explaining.{Explains}
 use Rattle.brl_tool.specs.Listing.{ListsByFile}
 use Rattle.brl_answers.specs.Answers.{ByLeftOut, HasTextAndStatus, spelled_by, with_left_out_line}
 use Rattle.brl_tool.specs.Verdicts.{Judges, SearchesByFile, accepted_line, certified_line}
 use Rattle.brl_answers.specs.Delivery.{World, IsDelivered, KeepsFiles, Prints, PrintsNothing}
-use Rattle.brl_answers.specs.Files.{GivesAlso, MayBeSame, OthersStay}
-use Rattle.brl_answers.specs.Making.{AreNew, AreWritten}
+use Rattle.brl_answers.specs.Files.{GivesAlso, IsGivenBy, MayBeSame, OthersStay}
+use Rattle.brl_answers.specs.Making.{AreNew, AreWritten, IsNoneOf}
 use Rattle.brl_answers.specs.Status.{code_of, status_of}
 use Rattle.brl_tool.specs.Streams.{TranslatesByFile, TranslatesDefinedByFile}
-use Rattle.brl_tool.specs.Surveying.{SurveysByFiles}
+use Rattle.brl_tool.specs.Surveying.{IsSuspectAt, SurveysByFiles, no_verdict}
+use Rattle.brl_tool.specs.Suspects.{has_unknown_opcode}
+use Rattle.brl_table.specs.Survey.{faulty_line_view}
+use Rattle.brl_cut.specs.declared.cutting.Cut.{Cut}
 use Rattle.brl_tool.specs.Tracing.{TracesByWord}
 use Rattle.brl_tool.specs.Unused.{ListsUnusedByFile}
 use Rattle.brl_tool.specs.UpTo.{ChecksUpTo, IsExcusedAt, SearchesUpTo, lines_up_to}
@@ -220,6 +223,22 @@ WritesTable before after path dir =
     (files : List NewFile) × AreNew before.gives files × AreWritten files before.gives after.gives
     × IsReadAs (map new_file_view files) (written_root dir path)
 
+-- the text of a survey was written, which finds that the table at some path is suspect: it has a
+-- line whose opcode is none of liblouis', or no line that defines a character
+abbrev pub ReportsSuspect : World → World → Type 0
+ReportsSuspect before after = (path : List ℕ) × IsSuspectAt before.gives path × ((text : List ℕ) × Prints before after (text ++ no_verdict))
+
+-- the table at the path was cut, and written as a table; a line that is left out has an opcode that
+-- is none of liblouis'
+abbrev pub CutsUnknown : World → World → List ℕ → List ℕ → Bool → Type 0
+CutsUnknown before after path dir rewrite =
+    WritesTable before after path dir
+    × ((cut : Cut) × IsCut rewrite before.gives path dir cut × (has_unknown_opcode (map faulty_line_view cut.left_out.items) ≡ true))
+
+-- the same of the table at some path, for some folder
+abbrev pub ReportsUnknown : World → World → Type 0
+ReportsUnknown before after = (path dir : List ℕ) × (rewrite : Bool) × CutsUnknown before after path dir rewrite
+
 -- what it means that the work was done
 abbrev pub MeansDone : Question → World → World → Type 0
 MeansDone (question.Check path cert option) before after = ReportsAcceptance before after path.now (option_copied option)
@@ -232,7 +251,7 @@ MeansDone (question.Unused path limit) before after = ReportsNoUnused before aft
 MeansDone (question.Cut path dir rewrite) before after = WritesTable before after path.now dir.now
 MeansDone asked before after = Unit {0}
 
--- what it means that something was refuted; a survey, a trace, a list of rules and a cut never say
+-- what it means that something was refuted; a trace, a list of rules and an explanation never say
 -- so
 abbrev pub MeansRefuted : Question → World → World → Type 0
 MeansRefuted (question.Clash path left right options) before after = ReportsClash before after
@@ -243,6 +262,8 @@ MeansRefuted (question.SearchUpTo path out limit accept option) before after = R
 MeansRefuted (question.Clashes path limit first option pairs) before after =
     ReportsOther before after path.now (option_copied option) (option_copied pairs.accept) (option_copied pairs.write)
 MeansRefuted (question.Unused path limit) before after = ReportsUnused before after
+MeansRefuted (question.Survey paths brief) before after = ReportsSuspect before after
+MeansRefuted (question.Cut path dir rewrite) before after = CutsUnknown before after path.now dir.now rewrite
 MeansRefuted asked before after = ⊥
 
 -- no file changes, but one at a path that is asked for
@@ -258,8 +279,10 @@ KeepsFilesUnlessWritten (question.Cut path dir rewrite) before after = Unit {0}
 KeepsFilesUnlessWritten (question.Clashes path limit first option pairs) before after = KeepsFilesBut (option_copied pairs.write) before after
 KeepsFilesUnlessWritten asked before after = KeepsFiles before after
 
--- no file changes where something was refuted, but the one that gets the pairs of a list of clashes
+-- no file changes where something was refuted, but the one that gets the pairs of a list of
+-- clashes, and the new files of a cut
 abbrev pub KeepsFilesRefuted : Question → World → World → Type 0
+KeepsFilesRefuted (question.Cut path dir rewrite) before after = WritesTable before after path.now dir.now
 KeepsFilesRefuted (question.Clashes path limit first option pairs) before after = KeepsFilesBut (option_copied pairs.write) before after
 KeepsFilesRefuted asked before after = KeepsFiles before after
 
@@ -333,19 +356,28 @@ Runs asks same input looked before after code =
     × ((status : Status) × (code ≡ code_of status) × Does same input looked before after status asked)
 
 -- what it means that a run ended with status 1: for some folders in which the files of tables were
--- looked for, the report of a clash, a refusal, a list of clashes or one of unused rules was
--- written
+-- looked for, the report of a clash, a refusal, a list of clashes or one of unused rules, or a
+-- survey of a suspect table was written, or a table was cut of which a line that is left out has an
+-- opcode that is none of liblouis'
 abbrev pub ReportsOne : Looked → World → Type 0
 ReportsOne looked after =
     (folders : Vec (String Global)) × (ReportsClash (looked folders) after ⊎ ReportsRefusal (looked folders) after
-    ⊎ ReportsClashes (looked folders) after ⊎ ReportsUnused (looked folders) after)
+    ⊎ ReportsClashes (looked folders) after ⊎ ReportsUnused (looked folders) after
+    ⊎ ReportsSuspect (looked folders) after ⊎ ReportsUnknown (looked folders) after)
 
--- no file changed, or one alone did, which has the text of pairs of rules of a table
-abbrev pub MayGainPairs : FileAnswers → FileAnswers → Type 0
-MayGainPairs old new =
+-- these files were made where nothing was, and no other file changed
+abbrev pub AreGained : List NewFile → FileAnswers → FileAnswers → Type 0
+AreGained files old new =
+    AreNew old files × All (IsGivenBy new) files × ((p : List ℕ) (a : FileAnswer) → IsNoneOf files p → new.may p a ↔ old.may p a)
+
+-- no file changed; or one alone did, which has the text of pairs of rules of a table; or new files
+-- were made
+abbrev pub MayGainFiles : FileAnswers → FileAnswers → Type 0
+MayGainFiles old new =
     MayAnswerSame old new
     ⊎ ((path : List ℕ) × ((lines : List LineView) × (sections : List Section) × GivesAlso new path (text_of_pairs (table_of lines) lines sections))
     × ((p : List ℕ) (a : FileAnswer) → p ≢ path → new.may p a ↔ old.may p a))
+    ⊎ ((files : List NewFile) × AreGained files old new)
 
 -- 0, 1, 2 or 3
 abbrev pub IsStatus : ℕ → Type 0

@@ -40,7 +40,7 @@ pub fn refuse_file_that_is_read<F: Files>(
         return Ok(());
     };
     let paths = read_paths(alloc, loaded, pairs.accept)?;
-    match path_of_file(files, paths.as_slice(), out) {
+    match path_of_file(alloc, files, paths.as_slice(), out)? {
         Some(path) => {
             let path = String::from_str(alloc, path)?;
             Err(RunFault::PairsWouldOverwrite(path))

@@ -13,7 +13,7 @@ ghost use Rattle.brl_tool.specs.Diagnosing.{Diagnoses, DiagnosesByFile, IsDiagno
 use crate::baselines::{accepted_pairs, file_of_pairs, refuse_file_that_is_read};
 use crate::file_text::text_at;
 use crate::loaded_table::LoadedTable;
-use crate::notices::write_notices;
+use crate::notices::write_if_without_characters;
 use brl_accepted::Baseline;
 use brl_answers::{Answer, Files, RunFault, Status, left_out_of};
 use brl_clashes::{
@@ -133,7 +133,8 @@ fn list_clashes<F: Files, E: Write + Progress>(
     diagnosis(alloc, table, lines, wanted, Some(baseline), err)
 }
 
-/// Writes a table's notices, and lists its clashes beside the pairs that a file accepts.
+/// Lists a table's clashes beside the pairs that a file accepts. Standard error hears of it first
+/// where no line defines a character.
 fn diagnosis<E: Write + Progress>(
     alloc: Global,
     table: &Table,
@@ -147,7 +148,7 @@ fn diagnosis<E: Write + Progress>(
     ensures fault { IfErr result (IsFaultOfLine (λ fault. (sections : List SectionValue) × AreSections table.now wanted.entry.left_out.now wanted.entry.limit sections
         × IsBadLineOf table.now (map line_view lines.now) sections baseline.entry fault)) }
 {
-    write_notices(alloc, table, err)?;
+    write_if_without_characters(table, err);
     let scope = Scope {
         left_out: wanted.left_out,
         progress: err,

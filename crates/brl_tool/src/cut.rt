@@ -2,8 +2,9 @@
 ghost use Rattle.std.specs.Prelude.{◌≡◌, IfOk, map, string_bytes};
 ghost use Rattle.brl_lines.specs.Answer.{Unchanged};
 ghost use Rattle.brl_cut.specs.Files.{file_view};
-ghost use Rattle.brl_tool.specs.Cutting.{CutsByFile, IsTextOfCut, new_file_view};
+ghost use Rattle.brl_tool.specs.Cutting.{CutsByFile, IsTextOfCut, new_file_view, status_of_cut};
 
+use crate::suspects::has_unknown_opcode;
 use brl_answers::{Answer, Files, NewFile, NewFiles, RunFault, Status};
 use brl_cut::{Cut, cut_table};
 use brl_lines::GatheredFile;
@@ -12,7 +13,8 @@ use std::alloc::{AllocError, Global};
 
 /// Cuts the table whose file is at a path, with lines rewritten where that is asked for: the answer
 /// has the cut's files, which are new, for the folder `dir`; and its report, and a line that there
-/// is no verdict.
+/// is no verdict. The status is that of a refutation where the opcode of a line that is left out is
+/// none of liblouis'.
 pub fn cut_by_file<F: Files>(
     alloc: Global,
     files: &mut F,
@@ -25,11 +27,23 @@ pub fn cut_by_file<F: Files>(
 {
     let cut = cut_table(alloc, files, path, dir, rewrite)?;
     let text = text_of_cut(alloc, &cut, rewrite)?;
+    let status = status_of(&cut);
     Ok(Answer {
         text,
-        status: Status::Done,
+        status,
         files: NewFiles::AllNew(new_files(alloc, cut.files.as_slice())?),
     })
+}
+
+/// The status of a cut.
+fn status_of(cut: &Cut) -> Status
+    ensures { result ≡ status_of_cut cut.now }
+{
+    if has_unknown_opcode(cut.left_out.as_slice()) {
+        Status::Refuted
+    } else {
+        Status::Done
+    }
 }
 
 /// The report of a cut, and a line that there is no verdict.

@@ -2,24 +2,21 @@
 ghost use Rattle.brl_lines.specs.Answer.{Unchanged};
 ghost use Rattle.brl_tool.specs.Explaining.{Explains};
 
-use brl_answers::{Answer, RunFault, Status};
+use brl_answers::{Answer, Files, RunFault, Status};
 use brl_explain::{explain, file_notes};
-use brl_lines::Source;
 use std::alloc::Global;
 
 /// Explains the fault of a line, or of a code, and says what can be seen in the file that the line
-/// names. `NoSuchFault` where no fault has it.
-pub fn explain_line<S: Source>(
-    alloc: Global,
-    source: &mut S,
-    line: &str,
-) -> Result<Answer, RunFault>
-    ensures explains { Explains (S.gives source.old) line.now result }
-    ensures same { Unchanged (S.gives source.old) (S.gives source.new) }
+/// names. `NoSuchFault` where no fault has it. Nothing but plain files is read: the line may name
+/// any path, and reading a pipe would wait for a writer.
+pub fn explain_line<F: Files>(alloc: Global, files: &mut F, line: &str) -> Result<Answer, RunFault>
+    ensures explains { Explains (F.gives files.old) line.now result }
+    ensures same { Unchanged (F.gives files.old) (F.gives files.new) }
 {
     let Some(mut text) = explain(alloc, line)? else {
         return Err(RunFault::NoSuchFault(String::from_str(alloc, line)?));
     };
-    text.push_str(file_notes(alloc, source, line)?.as_str())?;
+    files.read_plain_files();
+    text.push_str(file_notes(alloc, files, line)?.as_str())?;
     Ok(Answer::new(Status::Done, text))
 }

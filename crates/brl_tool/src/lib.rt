@@ -3,7 +3,8 @@
 //! `program` has what each command's words lead to. `translate`, `clash`, `trace`, `rules`,
 //! `survey` and `cut` do the work of these commands by the files of a table, `search`, `clashes`,
 //! `unused` and `check` that of theirs, and `explain` has what a fault means. `loaded_table` has
-//! the table of a file with its lines, `notices` writes the notices of a table that is searched,
+//! the table of a file with its lines, `notices` writes the notices of a table that is searched or
+//! surveyed, `suspects` has what a survey or a cut finds that was hardly meant so,
 //! and `certificate` has the answer with a certificate that was found. `baselines` has the files of
 //! pairs of rules that `clashes` reads and writes. `check_up_to` and `search_up_to` have what
 //! `check` and `search` answer where a file excuses something, which `excusing` reads. What all but
@@ -31,6 +32,7 @@ mod search;
 mod search_up_to;
 mod shown;
 mod survey;
+mod suspects;
 mod trace;
 mod translate;
 mod unused;

@@ -1,6 +1,6 @@
-//! The notices of a table: lines that define a character again.
+//! The notices of a table: lines that define a character again; or that none defines one.
 ghost use Rattle.std.specs.Prelude.{◌≡◌, ◌<◌, IfOk, length, string_bytes};
-ghost use Rattle.brl_tool.specs.Notices.{notice_line, notice_lines};
+ghost use Rattle.brl_tool.specs.Notices.{no_character_line, notice_line, notice_lines};
 
 use brl_lines::spell_chars;
 use brl_rules::{Notice, Table};
@@ -39,4 +39,21 @@ pub fn write_notices<E: Write>(
     let text = notices_text(alloc, table)?;
     let _ = err.write_all(text.as_bytes());
     Ok(())
+}
+
+/// The line that no line of a table defines a character; nothing where one does.
+fn no_character_text(table: &Table) -> &'static str
+    ensures { result.now ≡ no_character_line table.now }
+{
+    if table.char_count() == 0 {
+        "no line defines a character\n"
+    } else {
+        ""
+    }
+}
+
+/// Writes to standard error that no line of a table defines a character, where none does. What
+/// can't be written there is dropped.
+pub fn write_if_without_characters<E: Write>(table: &Table, err: &mut E) {
+    let _ = err.write_all(no_character_text(table).as_bytes());
 }

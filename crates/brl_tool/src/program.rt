@@ -2,7 +2,7 @@
 ghost use Rattle.std.specs.Prelude.{◌≡◌};
 ghost use Rattle.brl_lines.specs.Answer.{MayAnswerSame, Unchanged};
 ghost use Rattle.brl_answers.specs.Delivery.{world};
-ghost use Rattle.brl_tool.specs.Running.{Answers, Asks, IsStatus, MayGainPairs, Performs, Replies, ReportsOne, Runs, TranslatesDefined};
+ghost use Rattle.brl_tool.specs.Running.{Answers, Asks, IsStatus, MayGainFiles, Performs, Replies, ReportsOne, Runs, TranslatesDefined};
 
 use crate::check::check_by_words;
 use crate::check_up_to::{CheckedFiles, check_up_to_by_words};
@@ -26,23 +26,24 @@ use std::alloc::Global;
 use std::io::Write;
 
 /// Does what the words ask for, and answers the exit status: 0 where the work was done, 1 where two
-/// texts clash, a certificate is refused or no text uses some rule, 2 where the words, a file, the
-/// table, a text, the input or the output had a fault, and 3 where memory ran out, a search decided
-/// nothing, or a table is too wide for a certificate of version 1. The first of the words is the
-/// program's name.
+/// texts clash, a certificate is refused, no text uses some rule, or a table that is surveyed or
+/// cut has an opcode that is none of liblouis' (one that is surveyed also where no line defines a
+/// character), 2 where the words, a file, the table, a text, the input or the output had a fault,
+/// and 3 where memory ran out, a search decided nothing, or a table is too wide for a certificate
+/// of version 1. The first of the words is the program's name.
 ///
 /// Standard output gets the translation, what was found of two texts, of a certificate, by a search
 /// or by a survey, the steps of a text, the rules of a table or those of them that no text uses,
 /// what a fault means, or help or the version where these are asked for. Standard error gets the
-/// notices of a table that is searched, the characters that are listed as lacking, one line for a
-/// fault (a survey has one for each table that can't be loaded, and goes on), or the text of a use
-/// fault; what can't be written there is dropped and changes no status. It also gets reports of how
-/// far a search or a check is, and of its end, before its answer is delivered. Faults come in the
-/// order of the work: the words, and what they spell, the certificate's file, the table's files, a
-/// file for a new certificate or for pairs of rules that is one that is read, the table's lines, a
-/// character that is left out and isn't defined, the file of accepted pairs of rules, the texts,
-/// the input, the certificate or the search, a line of accepted pairs, the file that gets a
-/// certificate or pairs of rules or the files of a table that is cut, the output.
+/// notices of a table that is searched or surveyed, the characters that are listed as lacking, one
+/// line for a fault (a survey has one for each table that can't be loaded, and goes on), or the
+/// text of a use fault; what can't be written there is dropped and changes no status. It also gets
+/// reports of how far a search or a check is, and of its end, before its answer is delivered.
+/// Faults come in the order of the work: the words, and what they spell, the certificate's file,
+/// the table's files, a file for a new certificate or for pairs of rules that is one that is read,
+/// the table's lines, a character that is left out and isn't defined, the file of accepted pairs of
+/// rules, the texts, the input, the certificate or the search, a line of accepted pairs, the file
+/// that gets a certificate or pairs of rules or the files of a table that is cut, the output.
 ///
 /// With `--path` the files of tables are looked for in folders, too; `files` stays with these
 /// folders. Files are written only where a search found a certificate or all pairs of rules were
@@ -62,7 +63,7 @@ pub fn run<'a, W: Words<'a>, F: Files, I: Input, O: Output, E: Write + Progress>
         (world (F.gives files.old) (O.failures out.old) (O.contents out.old)) (world (F.gives files.new) (O.failures out.new) (O.contents out.new)) result }
     ensures clash { result ≡ 1 → ReportsOne (λ folders. world (F.gives (F.looked folders files.old)) (O.failures out.old) (O.contents out.old))
         (world (F.gives files.new) (O.failures out.new) (O.contents out.new)) }
-    ensures same { result ≡ 1 → MayGainPairs (F.gives files.old) (F.gives files.new) }
+    ensures same { result ≡ 1 → MayGainFiles (F.gives files.old) (F.gives files.new) }
 {
     match words.work(alloc) {
         Ok(work) => do_work(alloc, work, files, input, out, err).code(),
@@ -150,8 +151,22 @@ fn ask<F: Files, O: Output, E: Write + Progress>(
     ensures { Asks question.entry F.same_file (world (F.gives files.old) (O.failures out.old) (O.contents out.old))
         (world (F.gives files.new) (O.failures out.new) (O.contents out.new)) result }
 {
+    let quiet = !decides(&question);
     let outcome = answer(alloc, question, files, err);
-    deliver(alloc, outcome, files, out, err)
+    deliver(alloc, outcome, quiet, files, out, err)
+}
+
+/// Whether the answer to a question is a verdict on texts or a certificate, whose loss is always
+/// reported; readers of other answers may stop at any line.
+fn decides(question: &Question<'_>) -> bool {
+    matches!(
+        question,
+        Question::Clash { .. }
+            | Question::Check { .. }
+            | Question::CheckUpTo { .. }
+            | Question::Search { .. }
+            | Question::SearchUpTo { .. }
+    )
 }
 
 /// The answer to a question. Standard error hears of the end of a check or a search.
@@ -269,7 +284,14 @@ fn answer_words<F: Files, O: Output, E: Write>(
 {
     match reply {
         Failure::Fault(NotATask::Help(text)) => {
-            deliver(alloc, Ok(Answer::new(Status::Done, text)), files, out, err)
+            deliver(
+                alloc,
+                Ok(Answer::new(Status::Done, text)),
+                true,
+                files,
+                out,
+                err,
+            )
         }
         Failure::Fault(NotATask::UseFault(text)) => {
             let _ = err.write_all(text.as_bytes());

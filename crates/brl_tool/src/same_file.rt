@@ -1,17 +1,23 @@
 //! Which of some paths names the file at another.
-ghost use Rattle.std.specs.Prelude.{◌≡◌, ◌≢◌, All, Any, MatchOption};
+ghost use Rattle.std.specs.Prelude.{◌≡◌, ◌≢◌, All, Any, IfOk, MatchOption};
 
 use brl_answers::Files;
+use std::alloc::{AllocError, Global};
 
 /// The first of these paths that may name the file at another path.
-pub fn path_of_file<'a, F: Files>(files: &F, paths: &[&'a str], out: &str) -> Option<&'a str>
-    ensures { MatchOption result (All (λ one. one.now ≢ out.now) paths.now)
-        (λ found. Any (λ one. (one.now ≡ found.now) × F.same_file one.now out.now) paths.now) }
+pub fn path_of_file<'a, F: Files>(
+    alloc: Global,
+    files: &F,
+    paths: &[&'a str],
+    out: &str,
+) -> Result<Option<&'a str>, AllocError>
+    ensures { IfOk result (λ found. MatchOption found (All (λ one. one.now ≢ out.now) paths.now)
+        (λ path. Any (λ one. (one.now ≡ path.now) × F.same_file one.now out.now) paths.now)) }
 {
     for path in paths {
-        if files.is_same_file(path, out) {
-            return Some(path);
+        if files.is_same_file(alloc, path, out)? {
+            return Ok(Some(path));
         }
     }
-    None
+    Ok(None)
 }

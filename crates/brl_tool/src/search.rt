@@ -83,7 +83,7 @@ pub(crate) fn refuse_file_that_is_read<F: Files>(
     ensures refused { IfErr result (IsOverwriting F.same_file (paths_of_read loaded.now.paths (option_copied accept.entry)) out.now) }
 {
     let paths = read_paths(alloc, loaded, accept)?;
-    match path_of_file(files, paths.as_slice(), out) {
+    match path_of_file(alloc, files, paths.as_slice(), out)? {
         Some(path) => Err(RunFault::WouldOverwrite(String::from_str(alloc, path)?)),
         None => Ok(()),
     }

@@ -6,23 +6,28 @@ ghost use Rattle.brl_lines.specs.Gathered.{left_view};
 ghost use Rattle.brl_cut.specs.Skipping.{IsUnloaded};
 ghost use Rattle.brl_table.specs.Survey.{survey_of};
 ghost use Rattle.brl_report.specs.Survey.{IsSurveyText};
-ghost use Rattle.brl_tool.specs.Surveying.{IsReportAt, IsReportOf, SurveysByFiles, part_text, skipped_part};
+ghost use Rattle.brl_tool.specs.Surveying.{IsReportAt, IsReportOf, SurveysByFiles, part_text, skipped_part, status_after_report};
+ghost use Rattle.brl_tool.specs.Suspects.{is_suspect as is_suspect_by};
 ghost use Rattle.brl_answers.specs.declared.status.Status.TheVariants as statuses;
 
+use crate::notices::write_notices;
+use crate::suspects::is_suspect;
 use brl_answers::{Answer, RunFault, Status};
 use brl_cut::{WithoutDictionaries, load_without_dictionaries};
 use brl_failure::Failure;
 use brl_lines::{LeftInclude, LoadFault, Loaded, Source};
 use brl_report::{skipped_report, survey_report};
-use brl_table::survey;
+use brl_table::{survey, table_of_loaded};
 use std::alloc::{AllocError, Global};
 use std::io::Write;
 
 /// Surveys the tables whose files are at these paths. The answer has the report of each table that
 /// can be loaded, after a line that names it where there are several paths, and then a line that
 /// there is no verdict. A report begins with the hyphenation dictionaries that were skipped; one
-/// that is to be brief has neither these nor the faults. Standard error gets a line for each table
-/// that can't be loaded; then the status is that of a fault.
+/// that is to be brief has neither these nor the faults. Standard error gets the notices of each
+/// table whose lines are all read, and a line for each that can't be loaded; then the status is
+/// that of a fault. Else it is that of a refutation where a table has a line whose opcode is none
+/// of liblouis', or no line that defines a character.
 pub fn survey_by_files<S: Source, E: Write>(
     alloc: Global,
     source: &mut S,
@@ -37,14 +42,34 @@ pub fn survey_by_files<S: Source, E: Write>(
     let mut text = String::new(alloc);
     let mut status = Status::Done;
     for path in paths {
-        match report_at(alloc, source, path, brief) {
-            Ok(report) => push_part(&mut text, several, path, report.as_str())?,
+        match report_at(alloc, source, path, brief, err) {
+            Ok(report) => {
+                push_part(&mut text, several, path, report.text.as_str())?;
+                status = after_report(status, report.suspect);
+            }
             Err(Failure::Fault(fault)) => status = refuse_table(fault, err),
             Err(Failure::Memory) => return Err(RunFault::Memory),
         }
     }
     text.push_str("no verdict: a survey doesn't decide whether two texts have the same cells\n")?;
     Ok(Answer::new(status, text))
+}
+
+/// The report of a table, and whether it is suspect.
+#[derive(Drop)]
+struct Report {
+    text: String,
+    suspect: bool,
+}
+
+/// The status after the report of one more table.
+fn after_report(status: Status, suspect: bool) -> Status
+    ensures { result ≡ status_after_report status suspect }
+{
+    match status {
+        Status::Done if suspect => Status::Refuted,
+        _ => status,
+    }
 }
 
 /// Writes the line of a table that can't be loaded to standard error. Answers the status.
@@ -66,29 +91,48 @@ fn push_part(text: &mut String, several: bool, path: &str, report: &str) -> Resu
     text.push_str(report)
 }
 
-/// The report of the table whose file is at a path.
-fn report_at<S: Source>(
+/// The report of the table whose file is at a path. Its notices are written where its lines are all
+/// read.
+fn report_at<S: Source, E: Write>(
     alloc: Global,
     source: &mut S,
     path: &str,
     brief: bool,
-) -> Result<String, Failure<LoadFault>>
-    ensures report { IfOk result (λ text. IsReportAt brief (S.gives source.old) path.now (string_bytes text)) }
+    err: &mut E,
+) -> Result<Report, Failure<LoadFault>>
+    ensures report { IfOk result (λ report. IsReportAt brief (S.gives source.old) path.now (string_bytes report.text) report.suspect) }
     ensures fault { IfErr result (IfFault (IsUnloaded (S.gives source.old) path.now)) }
     ensures same { Unchanged (S.gives source.old) (S.gives source.new) }
 {
     let table = load_without_dictionaries(alloc, source, path)?;
+    write_notices_if_read(alloc, &table.loaded, err)?;
     Ok(report_of(alloc, &table, brief)?)
 }
 
+/// Writes the notices of a table to standard error, where its lines are all read.
+fn write_notices_if_read<E: Write>(
+    alloc: Global,
+    loaded: &Loaded,
+    err: &mut E,
+) -> Result<(), AllocError> {
+    match table_of_loaded(alloc, loaded) {
+        Ok(table) => write_notices(alloc, &table, err),
+        Err(Failure::Fault(_)) => Ok(()),
+        Err(Failure::Memory) => Err(AllocError),
+    }
+}
+
 /// The report of a table that was loaded without its dictionaries.
-fn report_of(alloc: Global, table: &WithoutDictionaries, brief: bool) -> Result<String, AllocError>
-    ensures { let loaded = table.now.loaded in
-        IfOk result (λ text. IsReportOf brief (map left_view table.now.skipped.items) loaded.lines loaded.paths (string_bytes text)) }
+fn report_of(alloc: Global, table: &WithoutDictionaries, brief: bool) -> Result<Report, AllocError>
+    ensures text { let loaded = table.now.loaded in
+        IfOk result (λ report. IsReportOf brief (map left_view table.now.skipped.items) loaded.lines loaded.paths (string_bytes report.text)) }
+    ensures suspect { IfOk result (λ report. report.suspect ≡ is_suspect_by (survey_of table.now.loaded.lines)) }
 {
     let mut text = skipped_text(alloc, table.skipped.as_slice(), brief)?;
-    text.push_str(surveyed_text(alloc, &table.loaded, brief)?.as_str())?;
-    Ok(text)
+    let surveyed = surveyed(alloc, &table.loaded, brief)?;
+    text.push_str(surveyed.text.as_str())?;
+    let suspect = surveyed.suspect;
+    Ok(Report { text, suspect })
 }
 
 /// The lines of include lines that were skipped; none where the report is to be brief.
@@ -102,12 +146,15 @@ fn skipped_text(alloc: Global, skipped: &[LeftInclude], brief: bool) -> Result<S
 }
 
 /// The report of a survey of loaded files.
-fn surveyed_text(alloc: Global, loaded: &Loaded, brief: bool) -> Result<String, AllocError>
-    ensures { let lines = loaded.now.lines in
-        IfOk result (λ text. IsSurveyText brief (survey_of lines) lines loaded.now.paths (string_bytes text)) }
+fn surveyed(alloc: Global, loaded: &Loaded, brief: bool) -> Result<Report, AllocError>
+    ensures text { let lines = loaded.now.lines in
+        IfOk result (λ report. IsSurveyText brief (survey_of lines) lines loaded.now.paths (string_bytes report.text)) }
+    ensures suspect { IfOk result (λ report. report.suspect ≡ is_suspect_by (survey_of loaded.now.lines)) }
 {
     let lines = loaded.lines(alloc)?;
     let paths = loaded.paths(alloc)?;
     let found = survey(alloc, lines.as_slice())?;
-    survey_report(alloc, &found, lines.as_slice(), paths.as_slice(), brief)
+    let suspect = is_suspect(&found);
+    let text = survey_report(alloc, &found, lines.as_slice(), paths.as_slice(), brief)?;
+    Ok(Report { text, suspect })
 }

@@ -7,7 +7,7 @@ ghost use Rattle.brl_answers.specs.Answers.{HasTextAndStatus, load_outcome};
 ghost use Rattle.brl_tool.specs.Unused.{ListsUnused, ListsUnusedByFile, limit_line, status_of_list, status_of_unused, text_of_unused};
 
 use crate::loaded_table::{LoadedTable, table_at};
-use crate::notices::write_notices;
+use crate::notices::write_if_without_characters;
 use brl_answers::{Answer, RunFault, Status};
 use brl_lines::{Line, Source};
 use brl_progress::Progress;
@@ -18,7 +18,7 @@ use std::alloc::{AllocError, Global};
 use std::io::Write;
 
 /// Lists the rules of the table whose file is at a path that no text uses. Before the work standard
-/// error gets the table's notices, and then reports of its progress.
+/// error hears of it where no line defines a character, and then gets reports of its progress.
 pub fn list_unused_by_file<S: Source, E: Write + Progress>(
     alloc: Global,
     source: &mut S,
@@ -34,7 +34,7 @@ pub fn list_unused_by_file<S: Source, E: Write + Progress>(
     list_unused(alloc, &loaded, limit, err)
 }
 
-/// Writes a table's notices, and lists its unused rules.
+/// Lists a table's unused rules.
 fn list_unused<E: Write + Progress>(
     alloc: Global,
     loaded: &LoadedTable,
@@ -44,7 +44,7 @@ fn list_unused<E: Write + Progress>(
     ensures { ListsUnused loaded.now.table loaded.now.files.lines limit result }
 {
     let lines = loaded.files.lines(alloc)?;
-    write_notices(alloc, &loaded.table, err)?;
+    write_if_without_characters(&loaded.table, err);
     let found = unused_rules(alloc, &loaded.table, u64::from(limit), err)?;
     Ok(answer_of(alloc, &loaded.table, lines.as_slice(), &found)?)
 }

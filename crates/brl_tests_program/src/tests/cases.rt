@@ -200,6 +200,9 @@ t.ctb: letter a 1; letter a 1; letter b 12; letter b 1; letter x 19|brl,search,t
 /// Cuts, in the same form.
 pub const CUTS: &str = "\
 t.ctb: letter a 1|brl,cut,t.ctb,o||1 of 1 lines are kept; no verdict: a cut doesn't decide whether two texts have the same cells||0
+t.ctb: letter a 1; alway a 2|brl,cut,t.ctb,o||1 of 2 lines are kept; opcode alway: 1 (not in liblouis); file t.ctb: 1 of 2 lines are read; no verdict: a cut doesn't decide whether two texts have the same cells||1
+t.ctb: letter a 1; letter a 2; context a 2|brl,cut,t.ctb,o||2 of 3 lines are kept; opcode context: 1 (not in the profile); file t.ctb: 2 of 3 lines are read; no verdict: a cut doesn't decide whether two texts have the same cells||0
+t.ctb: #|brl,cut,t.ctb,o||0 of 0 lines are kept; no verdict: a cut doesn't decide whether two texts have the same cells||0
 t.ctb: letter a 1; pass2 @1 2; include u; include u; include v; include w.dic; always ab 12 & u: letter b 9|brl,cut,t.ctb,o||1 of 7 lines are kept; opcode include: 3; opcode always: 1; opcode letter: 1; opcode pass2: 1 (not in the profile); file t.ctb: 1 of 6 lines are read; file u: 0 of 1 lines are read; no verdict: a cut doesn't decide whether two texts have the same cells||0
 t.ctb: include ../u|brl,cut,t.ctb,o|||error: include ../u at t.ctb:1 leads out of the table's folder|2
 t.ctb: letter a 1 & o/t.ctb: #|brl,cut,t.ctb,o|||error: o/t.ctb is there already|2
@@ -212,19 +215,26 @@ one/t.ctb: include ../u & one/u: letter a 1|brl,cut,--path,one,t.ctb,o|||error: 
 /// Surveys, in the same form.
 pub const SURVEYS: &str = "\
 t.ctb: letter a 1|brl,survey,t.ctb||1 of 1 lines are read; no verdict: a survey doesn't decide whether two texts have the same cells||0
-t.ctb: #|brl,survey,t.ctb||no line defines a character; 0 of 0 lines are read; no verdict: a survey doesn't decide whether two texts have the same cells||0
+t.ctb: letter a 1; letter a 2|brl,survey,t.ctb||2 of 2 lines are read; no verdict: a survey doesn't decide whether two texts have the same cells|notice DefinedAgain a at t.ctb:2|0
+t.ctb: letter a 1; letter a 2 & u.ctb: letter b 1; letter a 2; letter a 3|brl,survey,--brief,u.ctb,t.ctb||table: u.ctb; 3 of 3 lines are read; table: t.ctb; 2 of 2 lines are read; no verdict: a survey doesn't decide whether two texts have the same cells|notice DefinedAgain a at u.ctb:3; notice DefinedAgain a at t.ctb:2|0
+t.ctb: letter a 1; letter a 2; letter b 9|brl,survey,--brief,t.ctb||opcode letter: 1; file t.ctb: 2 of 3 lines are read; undefined characters (B5 to B7) are looked for once no line has another fault; 2 of 3 lines are read; no verdict: a survey doesn't decide whether two texts have the same cells||0
+t.ctb: letter a 1; alway a 12|brl,survey,--brief,t.ctb||opcode alway: 1 (not in liblouis); file t.ctb: 1 of 2 lines are read; undefined characters (B5 to B7) are looked for once no line has another fault; 1 of 2 lines are read; no verdict: a survey doesn't decide whether two texts have the same cells||1
+t.ctb: letter a 1; noback alway a 12|brl,survey,--brief,t.ctb||opcode noback alway: 1 (not in liblouis); file t.ctb: 1 of 2 lines are read; undefined characters (B5 to B7) are looked for once no line has another fault; 1 of 2 lines are read; no verdict: a survey doesn't decide whether two texts have the same cells||1
+t.ctb: letter a 1; alway a 12 & u.ctb: letter a 1|brl,survey,--brief,t.ctb,u.ctb,v.ctb||table: t.ctb; opcode alway: 1 (not in liblouis); file t.ctb: 1 of 2 lines are read; undefined characters (B5 to B7) are looked for once no line has another fault; 1 of 2 lines are read; table: u.ctb; 1 of 1 lines are read; no verdict: a survey doesn't decide whether two texts have the same cells|L1 NotFound v.ctb|2
+t.ctb: letter a 1; alway a 12 & u.ctb: letter a 1|brl,survey,--brief,t.ctb,u.ctb||table: t.ctb; opcode alway: 1 (not in liblouis); file t.ctb: 1 of 2 lines are read; undefined characters (B5 to B7) are looked for once no line has another fault; 1 of 2 lines are read; table: u.ctb; 1 of 1 lines are read; no verdict: a survey doesn't decide whether two texts have the same cells||1
+t.ctb: #|brl,survey,t.ctb||no line defines a character; 0 of 0 lines are read; no verdict: a survey doesn't decide whether two texts have the same cells||1
 t.ctb: letter a 1; pass2 @1 @2; letter b 9; pass2 @2 @3|brl,survey,t.ctb||B1 OutsideProfile pass2 at t.ctb:2; B4 BadDots 9 at t.ctb:3; B1 OutsideProfile pass2 at t.ctb:4; opcode pass2: 2 (not in the profile); opcode letter: 1; file t.ctb: 1 of 4 lines are read; undefined characters (B5 to B7) are looked for once no line has another fault; 1 of 4 lines are read; no verdict: a survey doesn't decide whether two texts have the same cells||0
 t.ctb: letter a 1; pass2 @1 @2; letter b 9; pass2 @2 @3|brl,survey,--brief,t.ctb||opcode pass2: 2 (not in the profile); opcode letter: 1; file t.ctb: 1 of 4 lines are read; undefined characters (B5 to B7) are looked for once no line has another fault; 1 of 4 lines are read; no verdict: a survey doesn't decide whether two texts have the same cells||0
-t.ctb: letter \\x0020\\q 1|brl,survey,t.ctb||B3 BadCharacters \\x0020\\q at t.ctb:1; opcode letter: 1; file t.ctb: 0 of 1 lines are read; undefined characters (B5 to B7) are looked for once no line has another fault; no line defines a character; 0 of 1 lines are read; no verdict: a survey doesn't decide whether two texts have the same cells||0
+t.ctb: letter \\x0020\\q 1|brl,survey,t.ctb||B3 BadCharacters \\x0020\\q at t.ctb:1; opcode letter: 1; file t.ctb: 0 of 1 lines are read; undefined characters (B5 to B7) are looked for once no line has another fault; no line defines a character; 0 of 1 lines are read; no verdict: a survey doesn't decide whether two texts have the same cells||1
 t.ctb: include u; pass2 x & u: letter a 9; letter b 1|brl,survey,t.ctb||B4 BadDots 9 at u:1; B1 OutsideProfile pass2 at t.ctb:2; opcode letter: 1; opcode pass2: 1 (not in the profile); file t.ctb: 0 of 1 lines are read; file u: 1 of 2 lines are read; undefined characters (B5 to B7) are looked for once no line has another fault; 1 of 3 lines are read; no verdict: a survey doesn't decide whether two texts have the same cells||0
 t.ctb: include u; include v; always b 1 & u: letter a 1 & v: always aa 2; always ab 3|brl,survey,t.ctb||B5 UndefinedInRule ab at v:2; B5 UndefinedInRule b at t.ctb:3; opcode always: 2; file t.ctb: 0 of 1 lines are read; file v: 1 of 2 lines are read; 2 of 4 lines are read; no verdict: a survey doesn't decide whether two texts have the same cells||0
-t.ctb: letter a 1 & u.ctb: letter a 9|brl,survey,t.ctb,u.ctb||table: t.ctb; 1 of 1 lines are read; table: u.ctb; B4 BadDots 9 at u.ctb:1; opcode letter: 1; file u.ctb: 0 of 1 lines are read; undefined characters (B5 to B7) are looked for once no line has another fault; no line defines a character; 0 of 1 lines are read; no verdict: a survey doesn't decide whether two texts have the same cells||0
-t.ctb: #|brl,survey,t.ctb,t.ctb||table: t.ctb; no line defines a character; 0 of 0 lines are read; table: t.ctb; no line defines a character; 0 of 0 lines are read; no verdict: a survey doesn't decide whether two texts have the same cells||0
+t.ctb: letter a 1 & u.ctb: letter a 9|brl,survey,t.ctb,u.ctb||table: t.ctb; 1 of 1 lines are read; table: u.ctb; B4 BadDots 9 at u.ctb:1; opcode letter: 1; file u.ctb: 0 of 1 lines are read; undefined characters (B5 to B7) are looked for once no line has another fault; no line defines a character; 0 of 1 lines are read; no verdict: a survey doesn't decide whether two texts have the same cells||1
+t.ctb: #|brl,survey,t.ctb,t.ctb||table: t.ctb; no line defines a character; 0 of 0 lines are read; table: t.ctb; no line defines a character; 0 of 0 lines are read; no verdict: a survey doesn't decide whether two texts have the same cells||1
 t.ctb: letter a 9|brl,survey,v.ctb,t.ctb,w.ctb||table: t.ctb; B4 BadDots 9 at t.ctb:1; opcode letter: 1; file t.ctb: 0 of 1 lines are read; undefined characters (B5 to B7) are looked for once no line has another fault; no line defines a character; 0 of 1 lines are read; no verdict: a survey doesn't decide whether two texts have the same cells|L1 NotFound v.ctb; L1 NotFound w.ctb|2
 t.ctb: letter a 1; include u; include h.dic & u: include /x/h.dic; include u.dic/v & u.dic/v: letter b 9|brl,survey,t.ctb||skipped: /x/h.dic at u:1; skipped: h.dic at t.ctb:3; B4 BadDots 9 at u.dic/v:1; opcode letter: 1; file u.dic/v: 0 of 1 lines are read; undefined characters (B5 to B7) are looked for once no line has another fault; 1 of 2 lines are read; no verdict: a survey doesn't decide whether two texts have the same cells||0
 t.ctb: letter a 1; include h.dic & h.dic: UTF-8|brl,survey,--brief,t.ctb||1 of 1 lines are read; no verdict: a survey doesn't decide whether two texts have the same cells||0
-t.ctb: letter a 1; include d//u; include h.dic & h.dic: UTF-8 & d//u: letter b 2|brl,survey,--brief,t.ctb||opcode UTF-8: 1 (not in liblouis); file h.dic: 0 of 1 lines are read; undefined characters (B5 to B7) are looked for once no line has another fault; 2 of 3 lines are read; no verdict: a survey doesn't decide whether two texts have the same cells||0
-t.ctb: letter a 1; include u; include u & u: letter b 2|brl,survey,t.ctb||3 of 3 lines are read; no verdict: a survey doesn't decide whether two texts have the same cells||0
+t.ctb: letter a 1; include d//u; include h.dic & h.dic: UTF-8 & d//u: letter b 2|brl,survey,--brief,t.ctb||opcode UTF-8: 1 (not in liblouis); file h.dic: 0 of 1 lines are read; undefined characters (B5 to B7) are looked for once no line has another fault; 2 of 3 lines are read; no verdict: a survey doesn't decide whether two texts have the same cells||1
+t.ctb: letter a 1; include u; include u & u: letter b 2|brl,survey,t.ctb||3 of 3 lines are read; no verdict: a survey doesn't decide whether two texts have the same cells|notice DefinedAgain b at u:1|0
 t.ctb: letter a 1; include h.dic; include u|brl,survey,t.ctb||no verdict: a survey doesn't decide whether two texts have the same cells|L1 NotFound u at t.ctb:3|2
 t.ctb: letter a 9; include t.ctb|brl,survey,t.ctb||no verdict: a survey doesn't decide whether two texts have the same cells|L4 Cycle t.ctb at t.ctb:2|2
 |brl,survey,t.ctb||no verdict: a survey doesn't decide whether two texts have the same cells|L1 NotFound t.ctb|2
@@ -234,7 +244,7 @@ one/t.ctb: include u; include v & one/u: letter a 1 & v: letter b 1 & one/v: let
 t.ctb: include u|brl,survey,--path,one,t.ctb||no verdict: a survey doesn't decide whether two texts have the same cells|L1 NotFound u at t.ctb:1|2
 t.ctb: include u & one/u: include u|brl,survey,--path,one,t.ctb||no verdict: a survey doesn't decide whether two texts have the same cells|L4 Cycle one/u at one/u:1|2
 |brl,survey,--path,one,--path,two,t.ctb||no verdict: a survey doesn't decide whether two texts have the same cells|L1 NotFound t.ctb|2
-d/t.ctb: include ../u; include v; include h.dic & one/../u: letter a 1 & one/v: letter b 9 & h.dic: x & one/h.dic: y|brl,survey,--brief,--path,one,d/t.ctb||opcode letter: 1; opcode y: 1 (not in liblouis); file one/v: 0 of 1 lines are read; file one/h.dic: 0 of 1 lines are read; undefined characters (B5 to B7) are looked for once no line has another fault; 1 of 3 lines are read; no verdict: a survey doesn't decide whether two texts have the same cells||0
+d/t.ctb: include ../u; include v; include h.dic & one/../u: letter a 1 & one/v: letter b 9 & h.dic: x & one/h.dic: y|brl,survey,--brief,--path,one,d/t.ctb||opcode letter: 1; opcode y: 1 (not in liblouis); file one/v: 0 of 1 lines are read; file one/h.dic: 0 of 1 lines are read; undefined characters (B5 to B7) are looked for once no line has another fault; 1 of 3 lines are read; no verdict: a survey doesn't decide whether two texts have the same cells||1
 ";
 
 /// Traces, in the same form.
@@ -286,7 +296,8 @@ t.ctb: letter a 1; midnum a 3|brl,unused,t.ctb||0  midnum  a  3  t.ctb:2  in its
 t.ctb: letter a 1; letter b 12; word ab 14; word ab 15; always ab 16|brl,unused,t.ctb||1  word  ab  15  t.ctb:4  in its place:  t.ctb:3 word ab; 1 of 5 rules are used by no text||1
 t.ctb: uplow Aa 1|brl,unused,t.ctb||each of 2 rules is used by some text||0
 t.ctb: letter a 1; word a 12; begword a 2|brl,unused,t.ctb||each of 3 rules is used by some text||0
-t.ctb: letter a 1; letter a 2|brl,unused,t.ctb||each of 1 rules is used by some text|notice DefinedAgain a at t.ctb:2|0
+t.ctb: letter a 1; letter a 2|brl,unused,t.ctb||each of 1 rules is used by some text||0
+t.ctb: #|brl,unused,t.ctb||each of 0 rules is used by some text|no line defines a character|0
 t.ctb: letter a 1|brl,unused,t.ctb,--limit,1||limit: 2 states||3
 t.ctb: letter a 1|brl,unused,t.ctb,--limit,2||each of 1 rules is used by some text||0
 t.ctb: letter a 19|brl,unused,t.ctb|||B4 BadDots 19 at t.ctb:1|2
@@ -296,6 +307,8 @@ t.ctb: letter a 19|brl,unused,t.ctb|||B4 BadDots 19 at t.ctb:1|2
 /// Lists of clashes, in the same form.
 pub const CLASHES: &str = "\
 t.ctb: letter a 1; letter b 12|brl,clashes,t.ctb||small letters: 0 pairs of rules diverge, and no others; unambiguous: 2 states, 0 pairs||0
+t.ctb: letter a 1; letter a 2|brl,clashes,t.ctb||small letters: 0 pairs of rules diverge, and no others; unambiguous: 2 states, 0 pairs||0
+t.ctb: #|brl,clashes,t.ctb||small letters: 0 pairs of rules diverge, and no others; unambiguous: 1 states, 0 pairs|no line defines a character|0
 t.ctb: letter a 1; letter b 12; letter x 1-12|brl,clashes,t.ctb||small letters: 1 pair of rules diverges, and no others;   x / ab  1-12  t.ctb:3 letter x  t.ctb:1 letter a; 1 pair of rules diverges, and no others||1
 t.ctb: letter a 1; punctuation . 1|brl,clashes,t.ctb||small letters: 0 pairs of rules diverge, and no others; with marks: 1 pair of rules diverges, and no others;   a / .  1  t.ctb:1 letter a  t.ctb:2 punctuation .; 1 pair of rules diverges, and no others||1
 t.ctb: letter a 1; punctuation . 1|brl,clashes,t.ctb,--without,.||small letters: 0 pairs of rules diverge, and no others; unambiguous: 2 states, 0 pairs; without: .||0
@@ -458,6 +471,7 @@ brl,explain||<FAULT>|2
 brl,explain,B1,B2||unexpected argument 'B2'|2
 brl,explain,B4|B4 BadDots||0
 brl,explain,B4 BadDots 1596 at t.ctb:1|Dots: 9 is a virtual dot||0
+brl,explain,B1 OutsideProfile base at t.ctb:1|Opcode: brl cut --rewrite reads base uppercase, as uplow||0
 brl,explain,B4 BadDots 156# at t.ctb:1|Dots: # is no dot||0
 brl,explain,B4 BadDots 12-156F at t.ctb:1|Dots: F is a virtual dot||0
 brl,explain,B4 BadDots 01 at t.ctb:1|Dots: 0 is a cell by itself||0

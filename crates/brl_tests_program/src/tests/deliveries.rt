@@ -50,7 +50,7 @@ fn delivered<F: Files>(
 ) -> Result<String, Fail> {
     let mut out = Counting::new(Vec::new(alloc));
     let mut err = Vec::new(alloc);
-    let status = deliver(alloc, outcome, files, &mut out, &mut err).code();
+    let status = deliver(alloc, outcome, false, files, &mut out, &mut err).code();
     let out = line_of(out.device.as_slice())?;
     let err = line_of(err.as_slice())?;
     Ok(format!(in alloc; "{out}|{err}|{status}")?)
@@ -122,6 +122,7 @@ fn new_files_stay_where_the_output_fails(rt: HostRuntime) -> Result<(), Fail> {
     let status = deliver(
         alloc,
         Ok(answer),
+        false,
         &mut files,
         &mut Counting::new(Closed),
         &mut err,

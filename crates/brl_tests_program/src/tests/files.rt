@@ -3,7 +3,7 @@ use brl_failure::Failure;
 use brl_lines::{Source, SourceFault};
 use brl_testing::Refusing;
 use brl_tool::{CreateFault, Failed, Files};
-use std::alloc::Global;
+use std::alloc::{AllocError, Global};
 
 /// Files in which no file can be replaced, and only a given number of new files can be made.
 #[derive(Drop)]
@@ -43,8 +43,12 @@ impl<F: Files> Files for Sealed<F> {
         self.files.look_in(folders);
     }
 
-    fn is_same_file(&self, one: &str, other: &str) -> bool {
-        one == other
+    fn read_plain_files(&mut self) {
+        self.files.read_plain_files();
+    }
+
+    fn is_same_file(&self, _alloc: Global, one: &str, other: &str) -> Result<bool, AllocError> {
+        Ok(one == other)
     }
 
     fn write(&mut self, _alloc: Global, _path: &str, _bytes: &[u8]) -> Result<(), Failure<Failed>> {
@@ -113,8 +117,10 @@ impl Files for Unreadable {
         self.folders = Some(folders);
     }
 
-    fn is_same_file(&self, one: &str, other: &str) -> bool {
-        one == other
+    fn read_plain_files(&mut self) {}
+
+    fn is_same_file(&self, _alloc: Global, one: &str, other: &str) -> Result<bool, AllocError> {
+        Ok(one == other)
     }
 
     fn write(&mut self, _alloc: Global, _path: &str, _bytes: &[u8]) -> Result<(), Failure<Failed>> {

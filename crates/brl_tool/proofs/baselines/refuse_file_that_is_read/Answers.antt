@@ -10,5 +10,5 @@ returns-clause-apart g c =
     let paths = read_paths c.args.loaded.now.paths (option_copied c.args.pairs.accept) in
     let apart =
     subst (All (λ one. one ≢ c.in-Some.out.now)) (ap (map (λ one. one.now)) c.as_slice.ensures.value ∙ c.in_ok-paths.ensures)
-    (All-map (λ one. one ≢ c.in-Some.out.now) (λ one. one.now) c.as_slice.result.now c.in-None.ensures) in
+    (All-map (λ one. one ≢ c.in-Some.out.now) (λ one. one.now) c.as_slice.result.now (rw c.in-None.is at c.in_ok-path.ensures)) in
     subst (λ write. IsApart (option_copied write) paths) (sym c.in-Some.is) apart

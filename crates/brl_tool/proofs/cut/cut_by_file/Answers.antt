@@ -13,7 +13,7 @@ pub returns-clause-cuts : goal.returns-clause-cuts
 returns-clause-cuts g c = (
   c.in_ok-cut.cut,
   c.in_ok-cut.ensures.cut,
-  refl,
+  c.status_of-status.ensures,
   c.in_ok-text.ensures,
   (c.in_ok-new_files.field-0, refl, c.in_ok-new_files.ensures ∙ ap (map file_view) c.as_slice.ensures.value),
 )

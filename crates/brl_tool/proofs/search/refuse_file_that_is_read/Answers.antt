@@ -6,4 +6,4 @@ use Rattle.brl_tool.proofs.search.refuse_file_that_is_read.Goals as goal
 pub returns-clause-apart : goal.returns-clause-apart
 returns-clause-apart g c =
     subst (All (λ one. one ≢ c.args.out.now)) (ap (map (λ one. one.now)) c.as_slice.ensures.value ∙ c.in_ok-paths.ensures)
-    (All-map (λ one. one ≢ c.args.out.now) (λ one. one.now) c.as_slice.result.now c.in-None.ensures)
+    (All-map (λ one. one ≢ c.args.out.now) (λ one. one.now) c.as_slice.result.now (rw c.in-None.is at c.in_ok-path.ensures))

@@ -24,8 +24,9 @@ loop-path-preserved g c =
       so_far = elim c.match-report_at.branch [
         | in-Ok+in_ok-push_part-in-Ok w ↦
             so-far-moved c.args.brief gives several more (ap string_bytes w.text-is) w.status-is
-            (with-report c.args.brief gives now before.same several (map name (take i paths)) (string_bytes c.loop-path.text) c.loop-path.status before.so_far path (string_bytes w.in-Ok.report) (string_bytes w.push_part.new.text)
-            w.in-Ok.ensures.report (w.in_ok-push_part-in-Ok.ensures ∙ ap (λ report. string_bytes c.loop-path.text ++ part_text several path report) w.as_str.ensures.value))
+            (with-report c.args.brief gives now before.same several (map name (take i paths)) (string_bytes c.loop-path.text) c.loop-path.status before.so_far path (string_bytes w.in-Ok.report.text) (string_bytes w.push_part.new.text)
+            w.in-Ok.report.suspect w.after_report-status.result w.in-Ok.ensures.report (w.in_ok-push_part-in-Ok.ensures ∙ ap (λ report. string_bytes c.loop-path.text ++ part_text several path report) w.as_str.ensures.value)
+            w.after_report-status.ensures)
         | in-Err-Fault w ↦
             so-far-moved c.args.brief gives several more (ap string_bytes w.text-is) w.status-is
             (without-report c.args.brief gives now before.same several (map name (take i paths)) (string_bytes c.loop-path.text) c.loop-path.status before.so_far path w.in-Err-Fault.fault w.refuse_table-status.result
