@@ -54,7 +54,7 @@ _brl() {
         clash | trace) options='--escapes --lines --path --help' ;;
         rules | explain) options='--path --help' ;;
         search) options='--limit --without --accept --path --help' ;;
-        clashes) options='--first --limit --without --accept --write --path --help' ;;
+        clashes) options='--first --limit --without --accept --prune --write --path --help' ;;
         unused) options='--limit --path --help' ;;
         check) options='--without --accept --path --help' ;;
         survey) options='--brief --path --help' ;;

@@ -59,6 +59,7 @@ complete -c brl -n '__brl_is cut' -l rewrite -d 'Also read lines that define a c
 complete -c brl -n '__brl_is clashes' -l first -x -d 'How many lines of each section are shown'
 complete -c brl -n '__brl_is clashes' -l accept -r -F -d 'Leave the pairs of rules out that this file names'
 complete -c brl -n '__brl_is search check' -l accept -r -F -d 'Find no clash in what this file names'
+complete -c brl -n '__brl_is clashes' -l prune -d 'Take the stale lines out of the file of accepted pairs'
 complete -c brl -n '__brl_is clashes' -l write -r -F -d 'Write the pairs of rules that are listed to this file'
 complete -c brl -n '__brl_is search clashes check' -l without -x -d 'Characters that the texts do not use'
 complete -c brl -n '__brl_is translate clash trace rules unused explain search clashes check survey cut' -l path -x -a '(__fish_complete_directories)' -d 'Look for files of tables in this folder, too'

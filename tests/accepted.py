@@ -10,11 +10,12 @@ each table
 - `--write` writes a line for each set of which two characters aren't left out, and others for just as many pairs
   of rules as the list has besides, each of two rules of the table, and among them all those at which short
   texts diverge;
-- `--accept` with some of these lines, turned at random and with notes between them, and with some characters of
-  sets, lists just the other pairs, gives the number of these and the status, and with `--write` writes the others;
-- a line of rules that aren't listed is `P2`, and passes where a limit is passed, and then no file is written;
-- a line that isn't of two rules is `P1`, one that isn't of characters of one set `P3`; in each case the first such
-  line is named;
+- `--accept` with some of these lines, turned at random, with notes between them, with some characters of sets, and
+  with stale lines, lists just the other pairs, prints each stale line, gives their number, those of pairs and sets,
+  and the status, and with `--write` writes the others; with `--prune` the file is left without its stale lines;
+- a line of rules that aren't listed is `P2`, and passes where a limit is passed, and then no file is written; one
+  that isn't of two rules is `P1`, one that isn't of characters of one set `P3`;
+- `search --accept` and `check --accept` with such lines print each, and no verdict;
 - `search --accept` with all lines certifies the table, and says how many pairs and sets it accepts; `check` accepts
   the certificate with the same file, and refuses it without one of its lines. Any two short texts with the same
   cells are then the same but for what the file says. With some lines alone the search reports a clash at another
@@ -65,11 +66,7 @@ class Told(NamedTuple):
         """How many pairs of rules the last line names; 0 where the table is unambiguous."""
         if re.search("^unambiguous: ", self.out, re.MULTILINE):
             return 0
-        return self.number("(?:pair of rules diverges|pairs of rules diverge), and no others")
-
-    def accepted(self) -> int:
-        found = re.findall("^accepted: ([0-9]+) pairs? of rules$", self.out, re.MULTILINE)
-        return int(found[0]) if len(found) == 1 else -1
+        return self.number("(?:pair of rules diverges|pairs of rules diverge), and no others(?: but for the accepted ones)?")
 
     def clash(self) -> tuple[str, str]:
         """The two texts of its report; empty where it has none."""
@@ -84,6 +81,10 @@ def sets_of(table: Table) -> list[str]:
         if char not in used and table.fold(char) == char:
             found[tuple(it.cells), it.classes, it.is_literary, it.is_mode, it.is_nocont].append(char)
     return ["".join(some) for some in found.values() if len(some) > 1]
+
+
+def many(count: int, one: str) -> str:
+    return f"{count} {one}{'s' * (count != 1)}"
 
 
 def spelled(chars: str) -> str:
@@ -203,14 +204,50 @@ class Case:
         some = characters(line.removeprefix(EXCHANGE))
         return EXCHANGE + spelled("".join(self.chance.sample(some, self.chance.randint(2, len(some)))))
 
-    def accepting_fault(self, plain_list: Told, lines: list[str]) -> str:
-        """What is wrong with the list beside some of these lines."""
-        some = [self.part(it) for it in lines if self.chance.random() < 0.5]
-        named, listed = set().union(*map(self.words.named, some)), self.listed(lines)
+    def fault_of(self, line: str, listed: set[Rules] | None) -> str:
+        """The fault of a line, if it has one, where these pairs are listed and no others; without them no line lacks its pair."""
+        if not line.strip(" \t") or line.lstrip(" \t").startswith("#"):
+            return ""
+        if line.startswith(EXCHANGE):
+            some = line.removeprefix(EXCHANGE)
+            is_set = re.fullmatch(r"(\\s|[^\\\s]){2,}", some) and any(set(characters(some)) <= set(it) for it in self.words.sets)
+            return "" if is_set else "P3 NoSuchSet"
+        if line not in self.words.lines:
+            return "P1 NoSuchRules"
+        return "" if listed is None or self.words.named(line) & listed else "P2 NotListed"
+
+    def stale(self, lines: list[str], listed: set[Rules] | None) -> list[str]:
+        """What is printed of the stale lines among these."""
+        numbered = [(self.fault_of(it, listed), it, number) for number, it in enumerate(lines, 1)]
+        return [f"{fault} {it} at {self.chosen}:{number}\n" for fault, it, number in numbered if fault]
+
+    def counted(self, lines: list[str], listed: set[Rules] | None) -> str:
+        """The line that says how many pairs, of those that are listed, and sets these lines name."""
+        own = set().union(*(self.words.named(it) for it in lines if not it.startswith(EXCHANGE)))
+        shown = [set(characters(it.removeprefix(EXCHANGE))) for it in lines if it.startswith(EXCHANGE)]
+        sets = sum(any(some <= set(it) for some in shown) for it in self.words.sets)
+        pairs = own if listed is None else own & listed
+        return f"but for: {many(len(pairs), 'pair')} of rules, {many(sets, 'set')} of characters\n"
+
+    def tail(self, left: int, taken: int, stale: str, counted: str) -> str:
+        """The last lines of a list."""
+        verdict = f"{left} {'pair of rules diverges' if left == 1 else 'pairs of rules diverge'}, and no others"
+        names = f"without: {spelled(self.without)}\n" if self.without else ""
+        return f"{verdict}{' but for the accepted ones' * (taken > 0)}\n{stale}{counted}{names}"
+
+    def accepting_fault(self, plain_list: Told, lines: list[str], some: list[str]) -> str:
+        """What is wrong with the list beside these lines, some of which may be stale."""
+        listed = self.listed(lines)
+        stale = self.stale(some, set(listed))
+        good = [it for it in some if not self.fault_of(it, set(listed))]
+        named = set().union(*map(self.words.named, good))
         left = [it for it in listed if it not in named]
-        told = self.accept(self.with_notes(some), "--write", self.pairs)
-        if (told.status, told.listed(), told.accepted()) != (1 if left else 0, len(left), len(listed) - len(left)):
-            return f"beside {some}: status {told.status}, {told.err}\n{told.out}"
+        counted, taken = self.counted(good, set(listed)), len(listed) - len(left)
+        told = self.accept(some, "--write", self.pairs)
+        tail = self.tail(len(left), taken, f"stale: {many(len(stale), 'line')}\n" * bool(stale), counted)
+        is_whole = told.out.endswith(tail) if listed else re.search("^unambiguous: ", told.out, re.MULTILINE)
+        if (told.status, told.listed(), told.err) != (1 if left else 2 if stale else 0, len(left), "".join(stale)) or not is_whole:
+            return f"beside {some}: status {told.status}, {told.err}\n{told.out}\nand not {stale} {tail}"
         shown = told.shown(self.plain)
         if not set(shown) <= set(left) or len(set(shown)) != len(shown):
             return f"beside {some}: others are shown\n{told.out}"
@@ -218,34 +255,47 @@ class Case:
             return f"beside {some}: some that were shown aren't any more, or in another order\n{told.out}"
         if wanted := self.words.written(left) if self.written() != self.words.written(left) else []:
             return f"beside {some}: {self.written()} is written, and not {wanted}"
-        return self.clash_fault(some, named, set(left))
+        return self.pruning_fault(some, good, stale, told)
 
-    def faulty_line_fault(self, lines: list[str]) -> str:
-        """What is wrong where a line isn't good."""
+    def pruning_fault(self, some: list[str], good: list[str], stale: list[str], told: Told) -> str:
+        """What is wrong where the stale lines are taken out of the file, beside which this was told before."""
+        self.choose(some)
+        before = self.chosen.read_bytes()
+        pruned = self.ask("--accept", self.chosen, "--prune")
+        old, new = ("stale: ", "pruned: ") if stale else ("but for: ", "pruned: 0 lines\nbut for: ")
+        wanted = Told(0 if told.status == 2 else told.status, told.out.replace(f"\n{old}", f"\n{new}"), told.err)
+        if pruned != wanted or self.pairs.exists():
+            return f"beside {some}: {pruned} is told, and not {wanted}"
+        kept = "".join(f"{it}\n" for it in good).encode() if stale else before
+        return "" if self.chosen.read_bytes() == kept else f"of {some} {self.chosen.read_bytes()} is left, and not {kept}"
+
+    def some_fault(self, plain_list: Told, lines: list[str]) -> str:
+        """What is wrong with the list and the search beside some of these lines."""
+        some = [self.part(it) for it in lines if self.chance.random() < 0.5]
+        named, listed = set().union(*map(self.words.named, some)), self.listed(lines)
+        wrong = self.accepting_fault(plain_list, lines, self.with_notes(some))
+        return wrong or self.clash_fault(some, named, {it for it in listed if it not in named})
+
+    def faulty_line_fault(self, plain_list: Told, lines: list[str]) -> str:
+        """What is wrong where lines are stale."""
         listed = set(self.listed(lines))
         stale = self.chance.choice(sorted(it for it in self.words.lines if not self.words.named(it) & listed) or [""])
         bad = self.chance.choice([f"{it}{end}" for it in self.words.rules for end in ("", " / ", " / nothing", f" / {it} ")])
         known = list(self.plain.table.chars)
         apart = [one + other for one, other in combinations(known, 2) if not any({one, other} <= set(it) for it in self.words.sets)]
         no_set = EXCHANGE + spelled(self.chance.choice([*apart, "", known[0]])) + self.chance.choice(["", "", " ", "\\q"])
-        some = self.with_notes([it for it in lines if self.chance.random() < 0.3])
+        some = [self.chance.choice([it, turned(it)]) for it in lines if self.chance.random() < 0.3] + [stale, bad, no_set]
+        self.chance.shuffle(some)
+        if wrong := self.accepting_fault(plain_list, lines, some):
+            return wrong
         self.cert.write_text("")
-        for line, name in ((stale, "P2 NotListed"), (bad, "P1 NoSuchRules"), (no_set, "P3 NoSuchSet")):
-            told = self.accept([*some, line, bad, stale], "--write", self.pairs)
-            wanted = f"{name} {line} at {self.chosen}:{len(some) + 1}\n"
-            if line and (told.status, told.out, told.err, self.written()) != (2, "", wanted, ["no file"]):
-                return f"after {some} the line '{line}' gives {told}"
-            if line != stale and self.decide(self.chance.choice(["search", "check"]), [*some, line, bad]) != Told(2, "", wanted):
-                return f"after {some} the line '{line}' passes a search or a check"
-        told = self.accept([*some, stale], "--write", self.pairs, "--limit", LOW)
-        if told.status == 3 and self.written() != ["no file"]:
-            return f"a file is written of a list that may lack pairs: {told}"
-        return "" if told.status == 3 or not stale else self.whole_fault(told, stale)
-
-    def whole_fault(self, told: Told, stale: str) -> str:
-        """What is wrong where a low limit wasn't passed."""
-        is_named = told.err.startswith(f"P2 NotListed {stale} at ")
-        return "" if told.status == 2 and is_named else f"the line '{stale}' passes: {told}"
+        command, wanted = self.chance.choice(["search", "check"]), Told(2, "", "".join(self.stale(some, None)))
+        if (told := self.decide(command, some)) != wanted:
+            return f"beside {some} {command} ends with {told}, and not with {wanted}"
+        told = self.accept([*lines, stale], "--write", self.pairs, "--limit", LOW)
+        if told.status == 3:
+            return "" if self.written() == ["no file"] and not told.err else f"a line is stale, or a file written, of a list that may lack pairs: {told}"
+        return "" if not stale or told.err == f"P2 NotListed {stale} at {self.chosen}:{len(lines) + 1}\n" else f"the line '{stale}' passes: {told}"
 
     # ---- Searches and checks
 
@@ -290,9 +340,7 @@ class Case:
         some = self.with_notes(lines)
         self.cert.unlink(missing_ok=True)
         found, told = self.decide("search", some), self.decide("check", some)
-        pairs = sum(len(self.words.pairs.get(it, ())) for it in some)
-        sets = sum(it.startswith(EXCHANGE) for it in some)
-        but_for = f"but for: {pairs} pair{'s' * (pairs != 1)} of rules, {sets} set{'s' * (sets != 1)} of characters\n"
+        but_for = self.counted(some, None)
         names = f"without: {spelled(self.without)}\n" if self.without else ""
         form = r"certified: \d+ states, \d+ pairs\n" + re.escape(but_for + names)
         if found.status or not re.fullmatch(form, found.out):
@@ -309,7 +357,7 @@ class Case:
         if self.ask("--write", self.pairs) != plain_list:
             return 0, "with --write something else is printed"
         lines = self.written()
-        wrong = self.written_fault(plain_list, lines) or self.accepting_fault(plain_list, lines) or self.faulty_line_fault(lines)
+        wrong = self.written_fault(plain_list, lines) or self.some_fault(plain_list, lines) or self.faulty_line_fault(plain_list, lines)
         return len(lines), wrong or self.certificate_fault(lines)
 
 

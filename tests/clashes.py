@@ -195,7 +195,7 @@ def example_fault(plain: Plain, it: Example, without: str) -> str:
 def set_rows(told: str) -> Iterator[str]:
     """The lines of sets of characters, which come first: the cells, and each character spelled."""
     rows = told.splitlines()
-    if rows and " sets of characters " in rows[0]:
+    if rows and re.match("[0-9]+ sets? of characters ", rows[0]):
         yield from takewhile(lambda row: row.startswith("  "), rows[1:])
 
 

@@ -290,8 +290,9 @@ WRITTEN = Run("", ["clashes", "--write", "o", "t.ctb"], {"t.ctb": ALIKE},
               "small letters: 1 pair of rules diverges, and no others\n  x / ab  1-12  t.ctb:3 letter x  t.ctb:1 letter a\n"
               "1 pair of rules diverges, and no others\n", 1, written=PAIRS)
 ACCEPTED = Run("", ["clashes", "--accept", "p", "--write", "o", "t.ctb"], {"t.ctb": ALIKE, "p": "# meant\n" + PAIRS},
-               "small letters: 0 pairs of rules diverge, and no others\n0 pairs of rules diverge, and no others\n"
-               "accepted: 1 pair of rules\n", written="")
+               "small letters: 0 pairs of rules diverge, and no others but for the accepted ones\n"
+               "0 pairs of rules diverge, and no others but for the accepted ones\n"
+               "but for: 1 pair of rules, 0 sets of characters\n", written="")
 
 RUNS = [
     translate("a text is translated", FIRST, "abc a\n", "ABC A\n"),
@@ -314,8 +315,8 @@ RUNS = [
         "small letters: 1 pair of rules diverges, and no others\n  x / ab  1-12  t.ctb:3 letter x  t.ctb:1 letter a\n"
         "1 pair of rules diverges, and no others\n", 1),
     Run("a set of characters is listed", ["clashes", "t.ctb"], {"t.ctb": SPACES},
-        "1 sets of characters have the same cells, classes and flags, and are in no rule; "
-        "below, the first of each represents its set:\n  0  \\s \\t\n"
+        "1 set of characters has the same cells, classes and flags, and is in no rule; "
+        "below, its first represents it:\n  0  \\s \\t\n"
         "small letters: 1 pair of rules diverges, and no others\n"
         "  1 of other characters of the sets\n1 pair of rules diverges, and no others\n", 1),
     Run("no clash is listed", ["clashes", "t.ctb"], {"t.ctb": TWO},
@@ -325,10 +326,13 @@ RUNS = [
         "0 pairs of rules diverge, and maybe others\n", 3),
     Run("pairs of rules are written", WRITTEN.words, WRITTEN.files, WRITTEN.out, 1, written=PAIRS),
     Run("pairs of rules are accepted", ACCEPTED.words, ACCEPTED.files, ACCEPTED.out, written=""),
-    Run("a line of accepted pairs is stale", ["clashes", "--accept", "p", "t.ctb"], {"t.ctb": ALIKE, "p": PAIRS + STALE}, status=2,
-        err=f"P2 NotListed {STALE.strip()} at p:2\n"),
-    Run("a line of accepted pairs names no rules", ["clashes", "--accept", "p", "t.ctb"], {"t.ctb": TWO, "p": PAIRS}, status=2,
-        err=f"P1 NoSuchRules {PAIRS.strip()} at p:1\n"),
+    Run("a line of accepted pairs is stale", ["clashes", "--accept", "p", "t.ctb"], {"t.ctb": ALIKE, "p": PAIRS + STALE},
+        ACCEPTED.out.replace("but for:", "stale: 1 line\nbut for:"), 2, err=f"P2 NotListed {STALE.strip()} at p:2\n"),
+    Run("a line of accepted pairs names no rules", ["clashes", "--accept", "p", "t.ctb"], {"t.ctb": TWO, "p": PAIRS},
+        "small letters: 0 pairs of rules diverge, and no others\nunambiguous: 2 states, 0 pairs\nstale: 1 line\n"
+        "but for: 0 pairs of rules, 0 sets of characters\n", 2, err=f"P1 NoSuchRules {PAIRS.strip()} at p:1\n"),
+    Run("a stale line is taken out", ["clashes", "--accept", "p", "--prune", "t.ctb"], {"t.ctb": ALIKE, "p": STALE + PAIRS},
+        ACCEPTED.out.replace("but for:", "pruned: 1 line\nbut for:"), err=f"P2 NotListed {STALE.strip()} at p:1\n"),
     Run("pairs would overwrite those that are accepted", ["clashes", "--accept", "p", "--write", "p", "t.ctb"],
         {"t.ctb": ALIKE, "p": PAIRS}, status=2, err="error: the pairs of rules would overwrite p, a file that is read\n"),
     Run("a table is searched but for accepted pairs", ["search", "--accept", "p", "t.ctb", "o"], {"t.ctb": ALIKE, "p": PAIRS},
@@ -369,7 +373,7 @@ RUNS = [
     Run("a rule is listed", ["rules", "t.ctb", "0"], {"t.ctb": TWO + "noback always ab 14\n"}, "0  always  ab  14  t.ctb:3\n"),
     Run("no rule has a number", ["rules", "t.ctb", "0", "9"], {"t.ctb": TWO}, status=2, err="error: the table has no rule 9\n"),
     Run("rules that no text uses are listed", ["unused", "t.ctb"], {"t.ctb": TWO + "always ab 14\nalways ab 3\n"},
-        "1  always  ab  3  t.ctb:4  in its place:  t.ctb:3 always ab\n1 of 4 rules are used by no text\n", 1),
+        "1  always  ab  3  t.ctb:4  in its place:  t.ctb:3 always ab\n1 of 4 rules is used by no text\n", 1),
     Run("some text uses each rule", ["unused", "t.ctb"], {"t.ctb": TWO}, "each of 2 rules is used by some text\n"),
     Run("a list of unused rules passes a limit", ["unused", "--limit", "1", "t.ctb"], {"t.ctb": TWO}, "limit: 2 states\n", 3),
     Run("a fault is explained", ["explain", "B2 MissingOperand letter at t.ctb:1"], {}, EXPLANATION),
@@ -404,6 +408,8 @@ CHECKED = Run("", ["check", "t.ctb", "c"], NESTED, "accepted: 3 states, 1 pairs\
 TWICE = translate("", FIRST, "abc a\nabc a\n", "ABC A\nABC A\n")
 FOUND = search("", TWO, "certified: 2 states, 0 pairs\n", written=TWO_CERT)
 KEEPING = Run("", ["search", "t.ctb", "o"], {"t.ctb": TWO, "o": "kept\n"}, FOUND.out, written=TWO_CERT)
+PRUNING = Run("", ["clashes", "--accept", "o", "--prune", "t.ctb"], {"t.ctb": ALIKE, "o": STALE + PAIRS},
+              ACCEPTED.out.replace("but for:", "pruned: 1 line\nbut for:"), err=f"P2 NotListed {STALE.strip()} at o:1\n", written=PAIRS)
 CLASHES = Run("", ["clash", "t.ctb", "ab", "x"], {"t.ctb": ALIKE}, REPORT, 1)
 CUTTING = Run("", ["cut", "t.ctb", "d", "--rewrite"], WHOLE, CUT_ANSWER, tree=CUT)
 CUTTING_INTO = Run("", CUTTING.words, {**WHOLE, "d/w": "kept\n"}, CUT_ANSWER, tree={**CUT, "w": "kept\n"})
@@ -436,6 +442,8 @@ FAILING = [
     failing("pairs of rules can't be written", WRITTEN, {"FAIL_FILE": 0}, "U7 CannotWrite o\n"),
     failing("a part of the pairs can't be written", WRITTEN, {"FAIL_FILE": 20}, "U7 CannotWrite o\n"),
     failing("pairs of rules can't be put in their place", WRITTEN, {"FAIL_RENAME": 1}, "U7 CannotWrite o\n"),
+    failing("stale lines can't be taken out", PRUNING, {"FAIL_FILE": 20}, PRUNING.err + "U7 CannotWrite o\n", written=STALE + PAIRS),
+    failing("a list beside accepted pairs can't be written", PRUNING, {"FAIL_OUTPUT": 0}, PRUNING.err + "U4 OutputFailed\n", written=PAIRS),
     failing("a list of clashes can't be written", WRITTEN, {"FAIL_OUTPUT": 0}, "U4 OutputFailed\n", written=PAIRS),
     failing("a table that is cut can't be read", CUTTING, {"FAIL_READ": 1}, "L2 ReadFailed t.ctb\n"),
     failing("an included file of it can't be read", CUTTING, {"FAIL_READS": 2}, "L2 ReadFailed p/u.cti at t.ctb:1\n"),

@@ -95,7 +95,8 @@ def wanted_row(rows: list[list[str]], plain: Plain, number: int) -> str:
 def wanted_text(program: str, path: Path, plain: Plain, unused: list[int]) -> str:
     rows = rule_rows(program, path)
     lines = [wanted_row(rows, plain, it) for it in unused]
-    last = f"{len(unused)} of {len(rows)} rules are used by no text" if unused else f"each of {len(rows)} rules is used by some text"
+    whole = "the one rule" if len(rows) == 1 else f"each of {len(rows)} rules"
+    last = f"{len(unused)} of {len(rows)} rules {'is' if len(unused) == 1 else 'are'} used by no text" if unused else f"{whole} is used by some text"
     return "\n".join([*lines, last]) + "\n"
 
 

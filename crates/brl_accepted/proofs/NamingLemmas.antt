@@ -1,11 +1,12 @@
 -- The pairs of rules that a line names.
 use Rattle.std.proofs.Common.{◌≡◌, ◌≢◌, ◌∙◌, ◌<◌, ◌+◌, ◌++◌, ℕ, Bool, false, List, [], ◌∷◌, ap, append-nil, append_assoc, get_or, length, map, refl, sym, take}
 use Rattle.std.specs.List.{filter, flat_map}
-use Rattle.std.proofs.lemmas.List.{take_more}
+use Rattle.std.proofs.lemmas.List.{map-append, take_more}
+use Rattle.std.proofs.lemmas.List.Sums.{fold-append}
 use Rattle.std.proofs.lemmas.List.Concat.{flat_map-append}
 use Rattle.std.proofs.lemmas.List.Elements.{filter-append}
 use Rattle.std.specs.Str.{bytes_eq}
-use Rattle.brl_accepted.specs.Naming.{pairs_of_line, pairs_saying}
+use Rattle.brl_accepted.specs.Naming.{each_once, lesser_first, pairs_of_line, pairs_saying, with_pair}
 use Rattle.brl_accepted.specs.Pairs.{between, said}
 use Rattle.brl_accepted.proofs.LineTests.{same_front, same_order, unequal}
 
@@ -52,3 +53,12 @@ module _ (words : List (List ℕ)) (numbers : List ℕ) (r : ℕ) (line : List �
   -- another line names none
   pub no_pairs : ((rest : List ℕ) → line ≢ said words r ++ (between ++ rest)) → pairs_of_line words numbers r line ≡ []
   no_pairs none = ap (map (λ s. (r, s))) (none_passes _ (λ s. unequal line (said words r ++ (between ++ said words s)) (none (said words s))) numbers)
+
+-- one more pair, each once
+pub one_more_pair : (pairs : List (ℕ × ℕ)) (i : ℕ) (d : ℕ × ℕ) (old new : List (ℕ × ℕ)) → i < length pairs → old ≡ each_once (map lesser_first (take i pairs))
+    → new ≡ with_pair old (lesser_first (get_or pairs i d)) → new ≡ each_once (map lesser_first (take (i + 1) pairs))
+one_more_pair pairs i d old new within old_is new_is =
+    let pair = lesser_first (get_or pairs i d) in
+    let front = map lesser_first (take i pairs) in
+    let more : map lesser_first (take (i + 1) pairs) ≡ front ++ pair ∷ [] = ap (map lesser_first) (take_more pairs i d within) ∙ map-append lesser_first (take i pairs) (get_or pairs i d ∷ []) in
+    new_is ∙ ap (λ (seen : List (ℕ × ℕ)). with_pair seen pair) old_is ∙ sym (fold-append with_pair [] front (pair ∷ [])) ∙ ap each_once (sym more)

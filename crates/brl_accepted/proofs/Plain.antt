@@ -1,6 +1,8 @@
 -- What a rule says, and the line of a set of characters, has no control character in it.
-use Rattle.std.proofs.Common.{◌≡◌, ◌<◌, ◌++◌, ◌/◌, ◌%◌, ◌||◌, ℕ, zero, suc, All, Bool, true, false, cond, ltb, List, [], ◌∷◌, Option, None, Some, append-nil, arith, codes, encode_utf8, encode_utf8_all, find, get_or, inl, inr, map, refl, subst, sym}
-use Rattle.std.specs.Char.{digit_char, is_ascii_control}
+use Rattle.std.proofs.Common.{◌≡◌, ◌<◌, ◌++◌, ◌/◌, ◌%◌, ◌&&◌, ◌||◌, ℕ, zero, suc, All, Bool, true, false, cond, ltb, List, [], ◌∷◌, Option, None, Some, append-nil, arith, codes, encode_utf8, encode_utf8_all, find, flat_map, get_or, inl, inr, map, nat_eq, refl, subst, sym}
+use Rattle.std.specs.Char.{digit_char}
+use Rattle.std.specs.Prelude.{nat_le, nat_lt}
+use Rattle.std.proofs.lemmas.Bool.{or_parts}
 use Rattle.std.specs.Cmp.{first_so, second_so}
 use Rattle.std.specs.List.{list_all, list_any}
 use Rattle.std.specs.Option.{option_map_or}
@@ -14,7 +16,10 @@ use Rattle.std.proofs.lemmas.Slice.Eq.{bytes_eq-Decides}
 use Rattle.std.proofs.lemmas.Str.{inside_one}
 use Rattle.brl_cells.specs.Dots.{spelling}
 use Rattle.brl_cert.proofs.FieldLaws.{IsAbove, above_append, above_joined, above_true, cells_above, lower}
-use Rattle.brl_lines.specs.Spelling.{character_spelling, escape_marks, means, spelled_by_mark, spelled_by_number, text_spelling}
+use Rattle.brl_lines.specs.Spelling.{escape_marks, means}
+use Rattle.brl_lines.specs.Visible.{by_mark, by_number, is_hidden, is_mark, is_unseen, is_unseen_category, number_prefix, two_digits, visible_character, visible_text}
+use Rattle.ucd_category.specs.GeneralCategory.{general_category}
+use Rattle.ucd_derived.specs.Binary.{is_default_ignorable_code_point}
 use Rattle.brl_accepted.specs.Pairs.{said, wording}
 use Rattle.brl_accepted.specs.Sets.{exchange, set_line}
 use Rattle.brl_lines.specs.Tokens.{LineView}
@@ -53,24 +58,48 @@ found p (m ∷ marks) mark h e = cases (p m) (found p marks mark h.1) e
 digit_above : (d : ℕ) → 31 < digit_char d
 digit_above d = grind (arith, nat_tests)
 
-by_number : (c : ℕ) → IsAbove 31 (spelled_by_number c)
-by_number c = cases (is_ascii_control c) refl
+two_above : (n : ℕ) → IsAbove 31 (two_digits n)
+two_above n = (digit_above (n / 16), (digit_above (n % 16), tt))
+
+prefix_above : (c : ℕ) (short middle : Bool)
+    → IsAbove 31 (if short then codes "\\x" else if middle then codes "\\y" ++ (digit_char (c / 0x10000) ∷ []) else codes "\\z00" ++ two_digits (c / 0x10000))
+prefix_above c true middle = above_true 31 (codes "\\x") refl
+prefix_above c false true = above_append 31 (codes "\\y") (digit_char (c / 0x10000) ∷ []) (above_true 31 (codes "\\y") refl) (digit_above (c / 0x10000), tt)
+prefix_above c false false = above_append 31 (codes "\\z00") (two_digits (c / 0x10000)) (above_true 31 (codes "\\z00") refl) (two_above (c / 0x10000))
+
+number_above : (c : ℕ) → IsAbove 31 (by_number c)
+number_above c =
+    above_append 31 (number_prefix c) (two_digits (c / 256 % 256) ++ two_digits (c % 256)) (prefix_above c (nat_lt c 0x10000) (nat_lt c 0x100000))
+    (above_append 31 (two_digits (c / 256 % 256)) (two_digits (c % 256)) (two_above (c / 256 % 256)) (two_above (c % 256)))
+
+-- a character that can be seen is no control character
+seen_above : (first : Bool) (c : ℕ) → is_hidden first c ≡ false → 31 < c
+seen_above first c h = cases (nat_lt c 127) refl (or_parts (is_unseen c) (first && is_mark c) h).0
   where
-    cases : (b : Bool) → is_ascii_control c ≡ b → IsAbove 31 (if b then codes "\\x00" ++ digit_char (c / 16) ∷ digit_char (c % 16) ∷ [] else c ∷ [])
-    cases true is = above_append 31 (codes "\\x00") (digit_char (c / 16) ∷ digit_char (c % 16) ∷ []) (above_true 31 (codes "\\x00") refl) (digit_above (c / 16), (digit_above (c % 16), tt))
-    cases false is = (grind (arith, nat_tests), tt)
+    cases : (low : Bool) → nat_lt c 127 ≡ low
+        → (if low then nat_le c 32 else is_unseen_category (general_category c) || is_default_ignorable_code_point c || nat_eq c 0x2800) ≡ false → 31 < c
+    cases true is seen = grind (arith, nat_tests)
+    cases false is seen = grind (arith, nat_tests)
 
-by_mark : (c : ℕ) (mark : Option ℕ) → find (means c) escape_marks ≡ mark → IsAbove 31 (spelled_by_mark mark c)
-by_mark c None is = by_number c
-by_mark c (Some mark) is = (omega arith, (found (means c) escape_marks mark (above_true 31 escape_marks refl) is, tt))
+unmarked : (first : Bool) (c : ℕ) (hidden : Bool) → is_hidden first c ≡ hidden → IsAbove 31 (if hidden then by_number c else c ∷ [])
+unmarked first c true is = number_above c
+unmarked first c false is = (seen_above first c is, tt)
 
-spelled : (text : List ℕ) → IsAbove 31 (text_spelling text)
+marked : (first : Bool) (c : ℕ) (mark : Option ℕ) → find (means c) escape_marks ≡ mark → IsAbove 31 (by_mark mark first c)
+marked first c None is = unmarked first c (is_hidden first c) refl
+marked first c (Some mark) is = (omega arith, (found (means c) escape_marks mark (above_true 31 escape_marks refl) is, tt))
+
+rest_above : (text : List ℕ) → IsAbove 31 (flat_map (visible_character false) text)
+rest_above [] = tt
+rest_above (c ∷ text) = above_append 31 (visible_character false c) (flat_map (visible_character false) text) (marked false c (find (means c) escape_marks) refl) (rest_above text)
+
+spelled : (text : List ℕ) → IsAbove 31 (visible_text text)
 spelled [] = tt
-spelled (c ∷ text) = above_append 31 (character_spelling c) (text_spelling text) (by_mark c (find (means c) escape_marks) refl) (spelled text)
+spelled (c ∷ text) = above_append 31 (visible_character true c) (flat_map (visible_character false) text) (marked true c (find (means c) escape_marks) refl) (rest_above text)
 
 -- the line of a set
 pub set_above : (set : List ℕ) → IsAbove 31 (set_line set)
-set_above set = above_append 31 exchange (encode_utf8_all (text_spelling set)) (above_true 31 exchange refl) (all_encoded (text_spelling set) (spelled set))
+set_above set = above_append 31 exchange (encode_utf8_all (visible_text set)) (above_true 31 exchange refl) (all_encoded (visible_text set) (spelled set))
 
 -- ---- Opcodes
 
@@ -100,13 +129,13 @@ cells_spelled cells = lower 31 44 (omega arith) (spelling cells) (above_joined 4
 
 -- an opcode, characters and cells
 pub said_above : (word characters cells : List ℕ)
-    → IsAbove 31 (known_opcode word ++ (codes " " ++ (encode_utf8_all (text_spelling characters) ++ (codes " " ++ spelling cells))))
+    → IsAbove 31 (known_opcode word ++ (codes " " ++ (encode_utf8_all (visible_text characters) ++ (codes " " ++ spelling cells))))
 said_above word characters cells =
     let blank : IsAbove 31 (codes " ") = above_true 31 (codes " ") refl in
     let last = above_append 31 (codes " ") (spelling cells) blank (cells_spelled cells) in
-    let end = above_append 31 (encode_utf8_all (text_spelling characters)) (codes " " ++ spelling cells) (all_encoded (text_spelling characters) (spelled characters)) last in
-    above_append 31 (known_opcode word) (codes " " ++ (encode_utf8_all (text_spelling characters) ++ (codes " " ++ spelling cells))) (opcode word)
-    (above_append 31 (codes " ") (encode_utf8_all (text_spelling characters) ++ (codes " " ++ spelling cells)) blank end)
+    let end = above_append 31 (encode_utf8_all (visible_text characters)) (codes " " ++ spelling cells) (all_encoded (visible_text characters) (spelled characters)) last in
+    above_append 31 (known_opcode word) (codes " " ++ (encode_utf8_all (visible_text characters) ++ (codes " " ++ spelling cells))) (opcode word)
+    (above_append 31 (codes " ") (encode_utf8_all (visible_text characters) ++ (codes " " ++ spelling cells)) blank end)
 
 looked_up : (f : ListedView → List ℕ) → ((x : ListedView) → IsAbove 31 (f x)) → (rule : Option ListedView) → IsAbove 31 (option_map_or f rule [])
 looked_up f h None = tt

@@ -1,24 +1,28 @@
 -- What is written for pairs of rules and sets of characters is read back.
-use Rattle.std.proofs.Common.{◌≡◌, ◌∙◌, ◌<◌, ◌-◌, ◌++◌, ◌&&◌, ◌||◌, ◌==◌, ℕ, zero, suc, All, Bool, true, false, cond, List, [], ◌∷◌, None, Some, ap, append_assoc, arith, codes, filter, get_or, if◌then◌else◌, length, map, nat_eq, nat_lt, not, refl, subst, sym}
-use Rattle.std.specs.List.{list_any, slice_split}
+use Rattle.std.proofs.Common.{◌≡◌, ◌∙◌, ◌<◌, ◌-◌, ◌++◌, ◌&&◌, ◌||◌, ◌==◌, ℕ, zero, suc, All, Bool, true, false, cond, List, [], ◌∷◌, None, Some, ap, append_assoc, arith, codes, encode_utf8_all, filter, get_or, is_none, is_some, if◌then◌else◌, length, map, nat_eq, nat_lt, not, refl, sym}
+use Rattle.std.specs.List.{count_by, list_any, slice_split}
 use Rattle.std.specs.Str.{all_scalars, bytes_eq}
 use Rattle.std.specs.Str.Lines.{lines, lines_of_parts, strip_carriage_return}
-use Rattle.std.proofs.lemmas.Bool.{and_from, not_from_false, or_left, or_right}
+use Rattle.std.proofs.lemmas.Bool.{and_from, ne_eqb, not_from_false, or_left, or_right}
 use Rattle.std.proofs.lemmas.Bool.Decides.{nat_tests}
 use Rattle.std.proofs.lemmas.List.Concat.{flat_map-append}
 use Rattle.std.proofs.lemmas.List.Elements.{All-append, All-filter, All-from_recursion, All-map, filter_passes, recursion_from_All}
 use Rattle.std.proofs.lemmas.List.Folds.{list_any-append, list_any_at}
 use Rattle.std.proofs.lemmas.List.Splits.{slice_split_at}
+use Rattle.std.proofs.lemmas.List.Sums.{sum_by-cons}
 use Rattle.std.proofs.lemmas.Slice.Eq.{bytes_eq-Decides}
 use Rattle.brl_accepted.specs.Pairs.{between, names, pair_line, pairs_text, said, turned}
-use Rattle.brl_accepted.specs.Reading.{Accepts, fault_of, fault_of_set, is_accepted, is_excused, is_note, names_listed, names_rules}
-use Rattle.brl_accepted.specs.Sets.{exchanged_pairs, is_exchange, is_within, named_set, names_set, set_line, set_pairs}
+use Rattle.brl_accepted.specs.Reading.{IsReadBack, fault_of, fault_of_seen, fault_of_set, good_rows, is_accepted, is_excused, is_note, names_listed, names_rules, rows as rows_of_file}
+use Rattle.brl_accepted.specs.Sets.{exchange, exchanged_pairs, is_exchange, is_within, named_set, names_set, set_line, set_pairs}
 use Rattle.brl_accepted.specs.Writing.{accepted_text, is_listed_set, listed_sets, pairs_beside, pairs_of_sets, sets_text, whole_set_line}
 use Rattle.brl_accepted.specs.declared.fault.AcceptFaultKind.TheVariants.{NoSuchRules, NoSuchSet, NotListed}
 use Rattle.brl_accepted.proofs.Plain.{set_above}
+use Rattle.brl_accepted.proofs.Seen.{IsSeen, StartsLow, low_before, seen_append, seen_codes, seen_same, seen_text}
 use Rattle.brl_accepted.proofs.SetLemmas.{of_two, set_back, sets_again, within_itself}
 use Rattle.brl_cert.proofs.Again.{first_part}
 use Rattle.brl_cert.proofs.FieldLaws.{IsAbove, above_append, above_true, apart, lower}
+use Rattle.brl_lines.specs.Rows.{without_mark}
+use Rattle.brl_lines.specs.Visible.{visible_line, visible_text}
 use Rattle.brl_pairs.specs.Divergence.{are_rules, has_rules}
 use Rattle.brl_report.proofs.Mapped.{any_of_map}
 use Rattle.brl_rules.specs.TableView.{TableView}
@@ -27,6 +31,12 @@ use Rattle.brl_rules.specs.TableView.{TableView}
 kept : {A : Type 0} (p : A → Bool) (xs : List A) → All (λ x. p x ≡ true) xs → filter p xs ≡ xs
 kept p [] all = refl
 kept p (x ∷ xs) all = rw (all 0 x (omega arith)) (ap (λ rest. x ∷ rest) (kept p xs (λ k d within. all (suc k) d (omega (arith, within)))))
+
+-- where no element passes, none is counted
+none_counted : {A : Type 0} (p : A → Bool) (xs : List A) → All (λ x. p x ≡ false) xs → count_by p xs ≡ 0
+none_counted p [] all = refl
+none_counted {A} p (x ∷ xs) all =
+    sum_by-cons (λ (y : A). cond (p y) 1 0) x xs ∙ rw (all 0 x (omega arith), none_counted p xs (λ k d within. all (suc k) d (omega (arith, within)))) refl
 
 -- what passes two tests is among what passes the first
 any_kept : {A : Type 0} (p q : A → Bool) (xs : List A) (k : ℕ) (d : A) → k < length xs → p (get_or xs k d) ≡ true → q (get_or xs k d) ≡ true → list_any q (filter p xs) ≡ true
@@ -65,9 +75,24 @@ sets_before (set ∷ sets) rest =
     ∙ line_before (set_line set) (sets_text sets ++ rest) (set_above set)
     ∙ ap (λ (ls : List (List ℕ)). set_line set ∷ ls) (sets_before sets rest)
 
-module _ (words : List (List ℕ)) (plain : (number : ℕ) → IsAbove 31 (said words number)) where
+-- a map that leaves each element as it is
+same_mapped : (f : List ℕ → List ℕ) (xs : List (List ℕ)) → All (λ x. f x ≡ x) xs → map f xs ≡ xs
+same_mapped f [] all = refl
+same_mapped f (x ∷ xs) all = λ i. all 0 x (omega arith) i ∷ same_mapped f xs (λ k d within. all (suc k) d (omega (arith, within))) i
+
+-- a text that begins with a mark of ASCII, or is empty, begins with no byte order mark
+unmarked : (text : List ℕ) → StartsLow text → without_mark text ≡ text
+unmarked [] low = refl
+unmarked (b ∷ text) low =
+    let other : nat_eq b 239 ≡ false = ne_eqb b 239 (λ e. omega (arith, low, e)) in
+    rw other refl
+
+module _ (words : List (List ℕ)) (plain : (number : ℕ) → IsAbove 31 (said words number)) (said_seen : (number : ℕ) → IsSeen (said words number)) (low : (number : ℕ) → StartsLow (said words number)) where
   pair_plain : (pair : ℕ × ℕ) → IsAbove 31 (pair_line words pair)
   pair_plain pair = above_append 31 (said words pair.0) (between ++ said words pair.1) (plain pair.0) (above_append 31 between (said words pair.1) (above_true 31 between refl) (plain pair.1))
+
+  pair_seen : (pair : ℕ × ℕ) → IsSeen (pair_line words pair)
+  pair_seen pair = seen_append (said words pair.0) (between ++ said words pair.1) (said_seen pair.0) (seen_append between (said words pair.1) (seen_codes between refl) (said_seen pair.1))
 
   -- the lines of what is written for pairs are the lines of the pairs
   written : (pairs : List (ℕ × ℕ)) → lines (pairs_text words pairs) ≡ map (pair_line words) pairs
@@ -94,8 +119,19 @@ module _ (words : List (List ℕ)) (plain : (number : ℕ) → IsAbove 31 (said 
     abbrev rows : List (List ℕ)
     rows = map set_line shown ++ map (pair_line words) beside
 
-    lines_are : lines (accepted_text t words sets listed) ≡ rows
-    lines_are = sets_before shown (pairs_text words beside) ∙ ap (λ (ls : List (List ℕ)). map set_line shown ++ ls) (written beside)
+    begins_low : StartsLow (accepted_text t words sets listed)
+    begins_low = low_text shown beside
+      where
+        low_text : (some : List (List ℕ)) (pairs : List (ℕ × ℕ)) → StartsLow (sets_text some ++ pairs_text words pairs)
+        low_text [] [] = tt
+        low_text [] (pair ∷ pairs) =
+            low_before (pair_line words pair ++ codes "\n") (pairs_text words pairs) (low_before (pair_line words pair) (codes "\n") (low_before (said words pair.0) (between ++ said words pair.1) (low pair.0) (omega arith)) (omega arith)) (low_text [] pairs)
+        low_text (set ∷ some) pairs = omega arith
+
+    lines_are : rows_of_file (accepted_text t words sets listed) ≡ rows
+    lines_are =
+        ap lines (unmarked (accepted_text t words sets listed) begins_low)
+        ∙ sets_before shown (pairs_text words beside) ∙ ap (λ (ls : List (List ℕ)). map set_line shown ++ ls) (written beside)
 
     -- ---- No line has a fault
 
@@ -108,8 +144,15 @@ module _ (words : List (List ℕ)) (plain : (number : ℕ) → IsAbove 31 (said 
         ap (λ (characters : List ℕ). nat_lt 1 (length characters) && list_any (λ one. is_within one characters) sets) (set_back set spelled)
         ∙ and_from (nat_lt 1 (length set)) (list_any (λ one. is_within one set) sets) (of_two t set (λ pair. has_rules listed pair.0 pair.1) pair) there
 
-    set_good : (set : List ℕ) → names_set sets (set_line set) ≡ true → IsGood (set_line set)
-    set_good set is = ap (λ (names : Bool). if names then None else Some NoSuchSet) is
+    set_seen : (set : List ℕ) → all_scalars set ≡ true → IsSeen (set_line set)
+    set_seen set s = seen_append exchange (encode_utf8_all (visible_text set)) (seen_codes exchange refl) (seen_text set s)
+
+    -- the fault of a line that can be seen
+    fault_seen : (line : List ℕ) → IsSeen line → fault_of words sets listed whole line ≡ (if is_note line then None else fault_of_seen words sets listed whole line)
+    fault_seen line h = ap (λ (seen : List ℕ). if is_note line then None else fault_of_seen words sets listed whole seen) (seen_same line h)
+
+    set_good : (set : List ℕ) → all_scalars set ≡ true → names_set sets (set_line set) ≡ true → IsGood (set_line set)
+    set_good set s is = fault_seen (set_line set) (set_seen set s) ∙ ap (λ (names : Bool). if names then None else Some NoSuchSet) is
 
     sets_there : All (λ set. list_any (λ one. is_within one set) sets ≡ true) sets
     sets_there k d within = list_any_at (λ one. is_within one (get_or sets k d)) sets k d within (within_itself (get_or sets k d))
@@ -119,7 +162,7 @@ module _ (words : List (List ℕ)) (plain : (number : ℕ) → IsAbove 31 (said 
       where
         each : All (λ set. IsGood (set_line set)) shown
         each k d within =
-            set_good (get_or shown k d)
+            set_good (get_or shown k d) (All-filter (is_listed_set t listed) (λ set. all_scalars set ≡ true) sets scalars k d within)
             (set_named (get_or shown k d) (All-filter (is_listed_set t listed) (λ set. all_scalars set ≡ true) sets scalars k d within)
             (All-filter (is_listed_set t listed) (λ set. list_any (λ one. is_within one set) sets ≡ true) sets sets_there k d within) (filter_passes (is_listed_set t listed) sets k d within))
 
@@ -128,7 +171,9 @@ module _ (words : List (List ℕ)) (plain : (number : ℕ) → IsAbove 31 (said 
     at_place k d within = list_any_at (names words (pair_line words (get_or listed k d))) listed k d within (named (get_or listed k d))
 
     pair_good : (pair : ℕ × ℕ) → names_listed words listed (pair_line words pair) ≡ true → IsGood (pair_line words pair)
-    pair_good pair is = cases (is_note (pair_line words pair)) (is_exchange (pair_line words pair)) (names_listed words listed (pair_line words pair)) (stand_apart pair) is
+    pair_good pair is =
+        fault_seen (pair_line words pair) (pair_seen pair)
+        ∙ cases (is_note (pair_line words pair)) (is_exchange (pair_line words pair)) (names_listed words listed (pair_line words pair)) (stand_apart pair) is
       where
         cases : (note of_set listed_one : Bool) → of_set ≡ false → listed_one ≡ true
             → (if note then None else if of_set then fault_of_set sets (pair_line words pair) else if listed_one then None else if not (names_rules words (pair_line words pair)) then Some NoSuchRules else if whole then Some NotListed else None) ≡ None
@@ -179,8 +224,25 @@ module _ (words : List (List ℕ)) (plain : (number : ℕ) → IsAbove 31 (said 
         cases true of_set = or_right (is_accepted words rows (get_or listed k d)) (has_rules (exchanged_pairs t rows) (get_or listed k d).0 (get_or listed k d).1) (by_set (get_or listed k d) of_set)
         cases false none = or_left (is_accepted words rows (get_or listed k d)) (has_rules (exchanged_pairs t rows) (get_or listed k d).0 (get_or listed k d).1) (by_line k d within none)
 
-    pub read_back : Accepts t words sets listed whole (accepted_text t words sets listed) listed
+    all_good : All IsGood rows
+    all_good = All-append IsGood (map set_line shown) (map (pair_line words) beside) sets_good pairs_good
+
+    -- and each can be seen
+    rows_seen : map visible_line rows ≡ rows
+    rows_seen =
+        same_mapped visible_line rows
+        (All-append (λ line. visible_line line ≡ line) (map set_line shown) (map (pair_line words) beside)
+        (All-map (λ line. visible_line line ≡ line) set_line shown (λ k d within. seen_same (set_line (get_or shown k d)) (set_seen (get_or shown k d) (All-filter (is_listed_set t listed) (λ set. all_scalars set ≡ true) sets scalars k d within))))
+        (All-map (λ line. visible_line line ≡ line) (pair_line words) beside (λ k d within. seen_same (pair_line words (get_or beside k d)) (pair_seen (get_or beside k d)))))
+
+    -- so no line is left out
+    good_are : good_rows words sets listed whole rows ≡ rows
+    good_are = kept (λ line. is_none (fault_of words sets listed whole line)) rows (λ k d within. ap is_none (all_good k d within))
+
+    pub read_back : IsReadBack t words sets listed whole (accepted_text t words sets listed)
     read_back = record {
-      good = subst (All IsGood) (sym lines_are) (All-append IsGood (map set_line shown) (map (pair_line words) beside) sets_good pairs_good);
-      named = sym (ap (λ (ls : List (List ℕ)). filter (is_excused t words ls) listed) lines_are ∙ kept (is_excused t words rows) listed at_line);
+      none_stale = ap (count_by (λ line. is_some (fault_of words sets listed whole line))) lines_are
+          ∙ none_counted (λ line. is_some (fault_of words sets listed whole line)) rows (λ k d within. ap is_some (all_good k d within));
+      all = ap (λ (ls : List (List ℕ)). filter (is_excused t words (map visible_line (good_rows words sets listed whole ls))) listed) lines_are
+          ∙ ap (λ (ls : List (List ℕ)). filter (is_excused t words ls) listed) (ap (map visible_line) good_are ∙ rows_seen) ∙ kept (is_excused t words rows) listed at_line;
     }

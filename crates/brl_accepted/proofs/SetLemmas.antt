@@ -8,14 +8,14 @@ use Rattle.std.proofs.lemmas.List.Elements.{recursion_from_All}
 use Rattle.std.proofs.lemmas.List.Folds.{list_any_at}
 use Rattle.brl_accepted.specs.Sets.{exchanged_pairs, is_within, named_set, or_none, set_line, set_pairs}
 use Rattle.brl_accepted.specs.Writing.{pairs_of_sets}
-use Rattle.brl_lines.proofs.SpellingLemmas.{spelling_back}
-use Rattle.brl_lines.specs.Spelling.{text_spelling}
+use Rattle.brl_lines.proofs.VisibleLemmas.{visibly_back}
+use Rattle.brl_lines.specs.Visible.{visible_text}
 use Rattle.brl_report.specs.Rules.{own_number}
 use Rattle.brl_rules.specs.TableView.{TableView}
 
 -- the line of a set names it
 pub set_back : (set : List ℕ) → all_scalars set ≡ true → named_set (set_line set) ≡ set
-set_back set scalars = ap or_none (spelling_back set (encode_utf8_all (text_spelling set)) scalars refl)
+set_back set scalars = ap or_none (visibly_back set (encode_utf8_all (visible_text set)) scalars refl)
 
 -- a set is within itself
 all_found : (set cs : List ℕ) → AllByRecursion (λ c. list_any (nat_eq c) set ≡ true) cs → is_within set cs ≡ true

@@ -8,10 +8,10 @@ use Rattle.std.specs.Str.{bytes_eq}
 use Rattle.std.proofs.lemmas.Bool.{not-true}
 use Rattle.std.proofs.lemmas.Slice.Eq.{bytes_eq-Decides}
 use Rattle.brl_cells.specs.Dots.{spelling}
-use Rattle.brl_lines.specs.Spelling.{text_spelling}
 use Rattle.brl_accepted.specs.Pairs.{between, pair_line, said, wording}
 use Rattle.brl_accepted.specs.Sets.{is_exchange}
 use Rattle.brl_lines.specs.Tokens.{LineView}
+use Rattle.brl_lines.specs.Visible.{visible_text}
 use Rattle.brl_report.specs.Place.{file_name}
 use Rattle.brl_report.specs.Rules.{ListedView, known_opcode, opcode_at, rule_numbers, rule_with_number, rule_words, said_rule}
 use Rattle.brl_rules.specs.TableView.{TableView}
@@ -47,7 +47,7 @@ StandsApart one = (rest : List ℕ) → is_exchange (one ++ (between ++ rest)) �
 rule_apart : (t : TableView) (lines : List LineView) (x : ListedView) → StandsApart (said_rule t lines x)
 rule_apart t lines x rest =
     let word = opcode_at (file_name t x.file) x.line lines in
-    let more = encode_utf8_all (text_spelling x.characters) ++ (codes " " ++ spelling x.cells) in
+    let more = encode_utf8_all (visible_text x.characters) ++ (codes " " ++ spelling x.cells) in
     ap is_exchange (append_assoc (known_opcode word) (codes " " ++ more) (between ++ rest)) ∙ not-true _ (opcode (more ++ (between ++ rest)) word)
 
 looked_up : (f : ListedView → List ℕ) → ((x : ListedView) → StandsApart (f x)) → (rule : Option ListedView) → StandsApart (option_map_or f rule [])

@@ -15,3 +15,13 @@ kind_text NoSuchSet = codes "P3 NoSuchSet"
 abbrev pub fault_text : AcceptFault → List ℕ
 fault_text found =
     kind_text found.kind ++ (codes " " ++ (string_bytes found.subject ++ (codes " at " ++ (string_bytes found.file ++ (codes ":" ++ decimal found.line)))))
+
+-- a stale line as a contract sees it: its fault, the line, the path of its file, and its number
+pub record FaultView : Type 0 where
+  pub kind : AcceptFaultKind
+  pub subject : List ℕ
+  pub file : List ℕ
+  pub line : ℕ
+
+abbrev pub fault_view : AcceptFault → FaultView
+fault_view found = record { kind = found.kind; subject = string_bytes found.subject; file = string_bytes found.file; line = found.line }

@@ -1,6 +1,7 @@
 pub mod Pairs
 pub mod Sets
+pub mod Counting
+pub mod FaultText
 pub mod Reading
 pub mod Naming
 pub mod Writing
-pub mod FaultText

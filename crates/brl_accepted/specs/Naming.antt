@@ -1,12 +1,10 @@
 -- What a file excuses by its lines, where no list of pairs is given. The project's own choice.
-use Rattle.std.specs.Prelude.{ℕ, ◌≡◌, All, false, List, [], None, flat_map, map}
-use Rattle.std.specs.List.{count_by, filter}
+use Rattle.std.specs.Prelude.{ℕ, ◌≡◌, if◌then◌else◌, List, [], ◌∷◌, ◌++◌, flat_map, length, map, nat_le}
+use Rattle.std.specs.List.{filter, fold}
 use Rattle.std.specs.Str.{bytes_eq}
-use Rattle.std.specs.Str.Lines.{lines as lines_of_text}
-use Rattle.brl_accepted.specs.Pairs.{pair_line, said, wording}
-use Rattle.brl_accepted.specs.Reading.{fault_of}
-use Rattle.brl_accepted.specs.Sets.{exchanged_pairs, is_exchange}
-use Rattle.brl_lines.specs.Tokens.{LineView}
+use Rattle.brl_accepted.specs.Pairs.{pair_line, said}
+use Rattle.brl_accepted.specs.Sets.{exchanged_pairs}
+use Rattle.brl_pairs.specs.Excused.{has_pair}
 use Rattle.brl_pairs.specs.declared.excused.Excused.{Excused}
 use Rattle.brl_report.specs.Rules.{rule_numbers}
 use Rattle.brl_rules.specs.TableView.{TableView}
@@ -27,14 +25,24 @@ pairs_of_rule words numbers rows r = flat_map (pairs_of_line words numbers r) ro
 abbrev pub named_pairs : List (List ℕ) → List ℕ → List (List ℕ) → List (ℕ × ℕ)
 named_pairs words numbers rows = flat_map (pairs_of_rule words numbers rows) numbers
 
--- a text is read: each line is a note, or names one of these sets of characters or two rules of the
--- table. It excuses this: the pairs of rules that its lines name are accepted, and the steps of own
--- definitions of the characters of a set may be exchanged
-pub record Excuses (t : TableView) (lines : List LineView) (sets : List (List ℕ)) (text : List ℕ) (excused : Excused) : Type 0 where
-  pub good : All (λ line. fault_of (wording t lines) sets [] false line ≡ None) (lines_of_text text)
-  pub accepted : excused.accepted ≡ named_pairs (wording t lines) (rule_numbers t) (lines_of_text text)
-  pub exchanged : excused.exchanged ≡ exchanged_pairs t (lines_of_text text)
+-- a pair of rules, the lesser number first
+abbrev pub lesser_first : ℕ × ℕ → ℕ × ℕ
+lesser_first pair = if nat_le pair.0 pair.1 then pair else (pair.1, pair.0)
 
--- how many lines of a text name sets of characters
-abbrev pub set_count : List ℕ → ℕ
-set_count text = count_by is_exchange (lines_of_text text)
+-- these pairs and another, which is added where it is none of them
+abbrev pub with_pair : List (ℕ × ℕ) → ℕ × ℕ → List (ℕ × ℕ)
+with_pair pairs pair = if has_pair pairs pair then pairs else pairs ++ pair ∷ []
+
+-- these pairs, each once
+abbrev pub each_once : List (ℕ × ℕ) → List (ℕ × ℕ)
+each_once pairs = fold with_pair [] pairs
+
+-- how many pairs of rules these are, whatever the order of the two
+abbrev pub pair_count : List (ℕ × ℕ) → ℕ
+pair_count pairs = length (each_once (map lesser_first pairs))
+
+-- The lines of a file excuse this of a table: the pairs of rules that they name are accepted, and
+-- the steps of own definitions of the characters of a set may be exchanged.
+pub record Excuses (t : TableView) (words all : List (List ℕ)) (excused : Excused) : Type 0 where
+  pub accepted : excused.accepted ≡ named_pairs words (rule_numbers t) all
+  pub exchanged : excused.exchanged ≡ exchanged_pairs t all

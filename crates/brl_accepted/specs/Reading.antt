@@ -1,16 +1,20 @@
 -- How a file of accepted pairs of rules is read: each of its lines is a note, or names a set of
 -- characters or pairs that are listed. The project's own choice.
-use Rattle.std.specs.Prelude.{ℕ, ◌≡◌, ◌+◌, ◌&&◌, ◌||◌, ◌==◌, All, Bool, true, if◌then◌else◌, List, ◌++◌, Option, None, Some, not, slice_get, string_bytes, take}
-use Rattle.std.specs.List.{filter, find, list_any}
+use Rattle.std.specs.Prelude.{ℕ, ◌≡◌, ◌+◌, ◌&&◌, ◌||◌, ◌==◌, Bool, true, if◌then◌else◌, List, [], ◌∷◌, ◌++◌, Option, None, Some, codes, flat_map, is_none, is_some, map, not, take, length, nat_lt}
+use Rattle.std.specs.List.{count_by, enumerate_from, filter, find, list_any}
 use Rattle.std.specs.Option.{option_map_or}
-use Rattle.std.specs.Str.{bytes_eq}
+use Rattle.std.specs.Str.{bytes_eq, chars, encode_utf8_all}
 use Rattle.std.specs.Str.Lines.{lines}
+use Rattle.brl_accepted.specs.FaultText.{FaultView, fault_view}
 use Rattle.brl_accepted.specs.Pairs.{between, names}
-use Rattle.brl_accepted.specs.Sets.{exchanged_pairs, is_exchange, names_set}
+use Rattle.brl_accepted.specs.Sets.{exchanged_pairs, is_exchange, names_set, set_count}
 use Rattle.brl_accepted.specs.declared.fault.AcceptFault.{AcceptFault}
 use Rattle.brl_accepted.specs.declared.fault.AcceptFaultKind.{AcceptFaultKind}
 use Rattle.brl_accepted.specs.declared.fault.AcceptFaultKind.TheVariants.{NoSuchRules, NoSuchSet, NotListed}
+use Rattle.brl_accepted.specs.declared.counts.Counts.{Counts}
+use Rattle.brl_lines.specs.Rows.{without_mark}
 use Rattle.brl_lines.specs.Tokens.{is_gap}
+use Rattle.brl_lines.specs.Visible.{visible_line}
 use Rattle.brl_pairs.specs.Divergence.{has_rules}
 use Rattle.brl_rules.specs.TableView.{TableView}
 
@@ -51,41 +55,97 @@ fault_of_pair words listed whole line =
     else if whole then Some NotListed
     else None
 
+-- the fault of a line that is no note, in which what can't be seen is spelled, if it has one
+abbrev pub fault_of_seen : List (List ℕ) → List (List ℕ) → List (ℕ × ℕ) → Bool → List ℕ → Option AcceptFaultKind
+fault_of_seen words sets listed whole line = if is_exchange line then fault_of_set sets line else fault_of_pair words listed whole line
+
 -- the fault of a line, if it has one
 abbrev pub fault_of : List (List ℕ) → List (List ℕ) → List (ℕ × ℕ) → Bool → List ℕ → Option AcceptFaultKind
-fault_of words sets listed whole line =
-    if is_note line then None
-    else if is_exchange line then fault_of_set sets line
-    else fault_of_pair words listed whole line
+fault_of words sets listed whole line = if is_note line then None else fault_of_seen words sets listed whole (visible_line line)
 
 -- ---- A file
 
+-- the lines of a file; a byte order mark at its front is none of their marks
+abbrev pub rows : List ℕ → List (List ℕ)
+rows text = lines (without_mark text)
+
+-- how many characters a fault repeats
+abbrev pub most_repeated : ℕ
+most_repeated = 200
+
+-- a character of a line that a fault repeats: a tab is spelled too
+abbrev pub repeated_character : ℕ → List ℕ
+repeated_character c = if c == 9 then codes "\\t" else c ∷ []
+
+-- what a fault repeats of a line: what can't be seen is spelled, and after its first characters it
+-- is cut
+abbrev pub repeated : List ℕ → List ℕ
+repeated line =
+    let seen = chars (visible_line line) in
+    encode_utf8_all (flat_map repeated_character (take most_repeated seen)) ++ (if nat_lt most_repeated (length seen) then codes ".." else [])
+
+-- the lines that have no fault
+abbrev pub good_rows : List (List ℕ) → List (List ℕ) → List (ℕ × ℕ) → Bool → List (List ℕ) → List (List ℕ)
+good_rows words sets listed whole all = filter (λ line. is_none (fault_of words sets listed whole line)) all
+
+-- the line at a place, from 0, of the file at a path, which has this fault, if any: among the stale
+-- lines
+abbrev pub stale_by : Option AcceptFaultKind → List ℕ → ℕ × List ℕ → List FaultView
+stale_by fault path row = option_map_or (λ kind. record { kind = kind; subject = repeated row.1; file = path; line = row.0 + 1 } ∷ []) fault []
+
+-- and among the good ones
+abbrev pub good_by : Option AcceptFaultKind → List ℕ → List (List ℕ)
+good_by fault line = if is_none fault then line ∷ [] else []
+
+-- what the line at a place is among the stale ones
+abbrev pub stale_at : List (List ℕ) → List (List ℕ) → List (ℕ × ℕ) → Bool → List ℕ → ℕ × List ℕ → List FaultView
+stale_at words sets listed whole path row = stale_by (fault_of words sets listed whole row.1) path row
+
+-- the stale lines of a file at this path with these lines: those with a fault, in order
+abbrev pub stale_rows : List (List ℕ) → List (List ℕ) → List (ℕ × ℕ) → Bool → List ℕ → List (List ℕ) → List FaultView
+stale_rows words sets listed whole path all = flat_map (stale_at words sets listed whole path) (enumerate_from 0 all)
+
+-- how many lines of a file are stale
+abbrev pub stale_count : List (List ℕ) → List (List ℕ) → List (ℕ × ℕ) → Bool → List ℕ → ℕ
+stale_count words sets listed whole text = count_by (λ line. is_some (fault_of words sets listed whole line)) (rows text)
+
 -- whether one of these lines names a pair of rules
 abbrev pub is_accepted : List (List ℕ) → List (List ℕ) → ℕ × ℕ → Bool
-is_accepted words rows pair = list_any (λ line. names words line pair) rows
+is_accepted words all pair = list_any (λ line. names words line pair) all
 
 -- whether one of these lines names a pair of rules, or a set with this pair of own definitions
 abbrev pub is_excused : TableView → List (List ℕ) → List (List ℕ) → ℕ × ℕ → Bool
-is_excused t words rows pair = is_accepted words rows pair || has_rules (exchanged_pairs t rows) pair.0 pair.1
+is_excused t words all pair = is_accepted words all pair || has_rules (exchanged_pairs t all) pair.0 pair.1
 
--- those of the listed pairs that lines of a text name so
-abbrev pub accepted : TableView → List (List ℕ) → List (ℕ × ℕ) → List ℕ → List (ℕ × ℕ)
-accepted t words listed text = filter (is_excused t words (lines text)) listed
+-- the lines of a file that name something: those without a fault, in which what can't be seen is
+-- spelled
+abbrev pub naming_rows : List (List ℕ) → List (List ℕ) → List (ℕ × ℕ) → Bool → List ℕ → List (List ℕ)
+naming_rows words sets listed whole text = map visible_line (good_rows words sets listed whole (rows text))
 
--- a text is read: no line has a fault, and these are the listed pairs that its lines name
-pub record Accepts (t : TableView) (words sets : List (List ℕ)) (listed : List (ℕ × ℕ)) (whole : Bool) (text : List ℕ) (pairs : List (ℕ × ℕ)) : Type 0 where
-  pub good : All (λ line. fault_of words sets listed whole line ≡ None) (lines text)
-  pub named : pairs ≡ accepted t words listed text
+-- what a file accepts of the pairs that are listed: those that such lines name
+abbrev pub accepted : TableView → List (List ℕ) → List (List ℕ) → List (ℕ × ℕ) → Bool → List ℕ → List (ℕ × ℕ)
+accepted t words sets listed whole text = filter (is_excused t words (naming_rows words sets listed whole text)) listed
 
--- a fault is that of the first line of a text that has one, at this place, from 0; it names the
--- file, the line and its number
-pub record IsFirstFault (words sets : List (List ℕ)) (listed : List (ℕ × ℕ)) (whole : Bool) (path text : List ℕ) (place : ℕ) (fault : AcceptFault) : Type 0 where
-  pub there : slice_get (lines text) place ≡ Some (string_bytes fault.subject)
-  pub kind : fault_of words sets listed whole (string_bytes fault.subject) ≡ Some fault.kind
-  pub earlier : All (λ line. fault_of words sets listed whole line ≡ None) (take place (lines text))
-  pub file : string_bytes fault.file ≡ path
-  pub line : fault.line ≡ place + 1
+-- These pairs are accepted of those that are listed. The counts are that of the listed pairs that a
+-- line of their own names, and that of the sets of which a line names characters.
+pub record Accepts (t : TableView) (words sets : List (List ℕ)) (listed : List (ℕ × ℕ)) (whole : Bool) (text : List ℕ) (pairs : List (ℕ × ℕ)) (counts : Counts) : Type 0 where
+  pub named : pairs ≡ accepted t words sets listed whole text
+  pub pairs_count : counts.pairs ≡ count_by (is_accepted words (naming_rows words sets listed whole text)) listed
+  pub sets_count : counts.sets ≡ set_count sets (naming_rows words sets listed whole text)
 
--- a text isn't read, and this is its first fault
-abbrev pub IsRefused : List (List ℕ) → List (List ℕ) → List (ℕ × ℕ) → Bool → List ℕ → List ℕ → AcceptFault → Type 0
-IsRefused words sets listed whole path text fault = (place : ℕ) × IsFirstFault words sets listed whole path text place fault
+-- the stale lines of a file
+abbrev pub AreStale : List (List ℕ) → List (List ℕ) → List (ℕ × ℕ) → Bool → List ℕ → List ℕ → List AcceptFault → Type 0
+AreStale words sets listed whole path text stale = map fault_view stale ≡ stale_rows words sets listed whole path (rows text)
+
+-- a line with its end
+abbrev pub ended : List ℕ → List ℕ
+ended line = line ++ codes "\n"
+
+-- the text of a file without its stale lines
+abbrev pub pruned : List (List ℕ) → List (List ℕ) → List (ℕ × ℕ) → Bool → List ℕ → List ℕ
+pruned words sets listed whole text = flat_map ended (good_rows words sets listed whole (rows text))
+
+-- the listed pairs are read back from a file: it has no stale line, and accepts each of them
+pub record IsReadBack (t : TableView) (words sets : List (List ℕ)) (listed : List (ℕ × ℕ)) (whole : Bool) (text : List ℕ) : Type 0 where
+  pub none_stale : stale_count words sets listed whole text ≡ 0
+  pub all : accepted t words sets listed whole text ≡ listed

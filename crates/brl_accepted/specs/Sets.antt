@@ -1,10 +1,10 @@
 -- How a file of accepted pairs of rules names sets of characters whose steps may be exchanged. The
 -- project's own choice.
 use Rattle.std.specs.Prelude.{ℕ, Bool, ◌&&◌, if◌then◌else◌, List, [], ◌++◌, codes, drop, flat_map, length, map, nat_eq, nat_lt, Result, Ok, Err}
-use Rattle.std.specs.List.{filter, list_all, list_any, starts_with}
+use Rattle.std.specs.List.{count_by, filter, list_all, list_any, starts_with}
 use Rattle.std.specs.Str.{encode_utf8_all}
 use Rattle.brl_lines.specs.Escapes.{characters_of}
-use Rattle.brl_lines.specs.Spelling.{text_spelling}
+use Rattle.brl_lines.specs.Visible.{visible_text}
 use Rattle.brl_lines.specs.declared.operand.CharsFault.{CharsFault}
 use Rattle.brl_report.specs.Rules.{own_number}
 use Rattle.brl_rules.specs.TableView.{TableView}
@@ -21,7 +21,7 @@ is_exchange line = starts_with nat_eq line exchange
 
 -- the line of a set of characters, which are spelled as in an operand of a table
 abbrev pub set_line : List ℕ → List ℕ
-set_line set = exchange ++ encode_utf8_all (text_spelling set)
+set_line set = exchange ++ encode_utf8_all (visible_text set)
 
 -- the characters that are spelled, or none where this spells no characters
 abbrev pub or_none : Result (List ℕ) CharsFault → List ℕ
@@ -37,9 +37,21 @@ named_set line = if is_exchange line then or_none (characters_of (drop (length e
 abbrev pub is_within : List ℕ → List ℕ → Bool
 is_within set characters = list_all (λ c. list_any (nat_eq c) set) characters
 
+-- whether these are two characters or more of a set
+abbrev pub are_characters_of : List ℕ → List ℕ → Bool
+are_characters_of set characters = nat_lt 1 (length characters) && is_within set characters
+
+-- whether a line names such
+abbrev pub names_characters_of : List ℕ → List ℕ → Bool
+names_characters_of set line = are_characters_of set (named_set line)
+
 -- whether a line names two characters or more that are in one of these sets
 abbrev pub names_set : List (List ℕ) → List ℕ → Bool
 names_set sets line = nat_lt 1 (length (named_set line)) && list_any (λ set. is_within set (named_set line)) sets
+
+-- how many of these sets some line names characters of
+abbrev pub set_count : List (List ℕ) → List (List ℕ) → ℕ
+set_count sets rows = count_by (λ set. list_any (names_characters_of set) rows) sets
 
 -- ---- Pairs of own definitions
 

@@ -66,3 +66,20 @@ impl fmt::Display for AcceptFault {
 }
 
 impl Error for AcceptFault {}
+
+/// The stale lines of a file, in order: those with a fault. They are shown one after another.
+#[derive(Debug, Drop)]
+pub struct StaleLines(pub Vec<AcceptFault>);
+
+impl fmt::Display for StaleLines {
+    fn fmt<W: fmt::Write>(&self, f: &mut fmt::Formatter<W>) -> fmt::Result {
+        let mut before = "";
+        for fault in &self.0 {
+            write!(f, "{before}{fault}")?;
+            before = "\n";
+        }
+        Ok(())
+    }
+}
+
+impl Error for StaleLines {}

@@ -4,21 +4,48 @@
 ghost use Rattle.std.specs.Prelude.{◌≡◌, ℕ, All, Bool, List, map, true};
 ghost use Rattle.std.specs.Str.{all_scalars};
 ghost use Rattle.brl_accepted.specs.Pairs.{wording};
-ghost use Rattle.brl_accepted.specs.Reading.{Accepts};
+ghost use Rattle.brl_accepted.specs.Reading.{IsReadBack};
 ghost use Rattle.brl_accepted.specs.Writing.{accepted_text};
 ghost use Rattle.brl_lines.specs.Views.{line_view};
 
 use brl_lines::Line;
-use brl_rules::Table;
+use brl_rules::{Rule, Table};
 
-/// Of the file that is written for some listed pairs of rules of a table every line is good, and
-/// what it accepts are just these pairs, where these are the table's sets of characters.
+/// Of the file that is written for some listed pairs of rules of a table no line is stale, and it
+/// accepts just these pairs, where these are the table's sets of characters.
 pub fn read_back_law(table: &Table, lines: &[Line<'_>], sets: &[Vec<char>])
     ensures { (listed : List (ℕ × ℕ)) (whole : Bool) →
-        Accepts table.now (wording table.now (map line_view lines.now)) (map (λ set. set.items) sets.now) listed whole
-        (accepted_text table.now (wording table.now (map line_view lines.now)) (map (λ set. set.items) sets.now) listed) listed }
+        IsReadBack table.now (wording table.now (map line_view lines.now)) (map (λ set. set.items) sets.now) listed whole
+        (accepted_text table.now (wording table.now (map line_view lines.now)) (map (λ set. set.items) sets.now) listed) }
 {
     sets_law(sets);
+    rules_law(table);
+    own_law(table);
+}
+
+/// The characters of a table's rules are scalar values of Unicode.
+fn rules_law(table: &Table)
+    ensures { All (λ rule. all_scalars rule.chars ≡ true) table.now.rules }
+{
+    rule_characters_law(table.rules_in_rank());
+}
+
+/// Those of each of these rules are.
+fn rule_characters_law(rules: &[Rule])
+    ensures { All (λ rule. all_scalars rule.chars ≡ true) rules.now }
+{
+    for rule in rules {
+        characters_law(rule.chars.as_slice());
+    }
+}
+
+/// So are the characters that a table defines.
+fn own_law(table: &Table)
+    ensures { all_scalars (map (λ entry. entry.0) table.now.characters) ≡ true }
+{
+    for place in 0..table.char_count() as u32 {
+        let _read = table.char_at(place);
+    }
 }
 
 /// The items of sets of characters are scalar values of Unicode.

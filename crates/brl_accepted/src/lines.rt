@@ -1,16 +1,18 @@
 //! Lines of a file of accepted pairs.
-ghost use Rattle.std.specs.Prelude.{◌≡◌, ◌≤◌, ◌++◌, IfOk, find, length, map, not, string_bytes};
+ghost use Rattle.std.specs.Prelude.{◌≡◌, ◌≤◌, ◌++◌, [], IfOk, OnOk, codes, find, flat_map, if◌then◌else◌, length, map, nat_lt, not, string_bytes, take};
 ghost use Rattle.std.specs.List.{list_any};
-ghost use Rattle.std.specs.Str.{bytes_eq};
+ghost use Rattle.std.specs.Str.{bytes_eq, encode_utf8_all};
 ghost use Rattle.std.specs.Str.Lines.{lines};
 ghost use Rattle.brl_accepted.specs.Pairs.{between, pair_line as line_of_pair, turned};
-ghost use Rattle.brl_accepted.specs.Reading.{fault_of as fault_of_line, fault_of_pair as fault_of_pair_line, fault_of_set as fault_of_set_line, is_note as is_note_line, is_parted as is_parted_at, names_listed, names_rules as are_named};
+ghost use Rattle.brl_accepted.specs.Reading.{fault_of as fault_of_line, fault_of_seen as fault_of_seen_line, most_repeated, repeated as repeated_of, repeated_character as character_repeated, rows as rows_of_file, fault_of_pair as fault_of_pair_line, fault_of_set as fault_of_set_line, is_note as is_note_line, is_parted as is_parted_at, names_listed, names_rules as are_named};
 ghost use Rattle.brl_lines.specs.Tokens.{is_gap as is_gap_mark};
+ghost use Rattle.brl_lines.specs.Visible.{visible_line as line_as_seen};
 
 use crate::fault::AcceptFaultKind;
 use crate::sets::{is_exchange, names_set};
 use crate::texts::{Texts, texts_of};
 use crate::words::pair_line;
+use brl_lines::{characters, visible_line, without_mark};
 use std::alloc::{AllocError, Global};
 
 /// Pairs of rules that are listed.
@@ -66,11 +68,82 @@ pub(crate) fn pair_texts<'a>(
     Ok(PairTexts { forth, back })
 }
 
-/// The lines of a text.
+/// The lines of a file with this text.
 pub(crate) fn rows_of(alloc: Global, text: &str) -> Result<Vec<&str>, AllocError>
+    ensures { IfOk result (λ rows. map (λ row. row.now) rows.items ≡ rows_of_file text.now) }
+{
+    lines_of(alloc, without_mark(text))
+}
+
+/// The lines of a text.
+fn lines_of(alloc: Global, text: &str) -> Result<Vec<&str>, AllocError>
     ensures { IfOk result (λ rows. map (λ row. row.now) rows.items ≡ lines text.now) }
 {
     text.lines().collect(alloc)
+}
+
+/// Lines in which what can't be seen is spelled.
+pub(crate) fn seen_rows(alloc: Global, rows: &[&str]) -> Result<Vec<String>, AllocError>
+    ensures { IfOk result (λ seen. map string_bytes seen.items ≡ map line_as_seen (map (λ row. row.now) rows.now)) }
+{
+    let mut seen = Vec::new(alloc);
+    for row in rows {
+        seen.push(visible_line(alloc, row)?)?;
+    }
+    Ok(seen)
+}
+
+/// How many characters of a line a fault repeats.
+const MOST_REPEATED: usize = 200;
+
+/// What a fault repeats of a line: what can't be seen is spelled, and after its first characters it
+/// is cut.
+pub(crate) fn repeated(alloc: Global, row: &str) -> Result<String, AllocError>
+    ensures { IfOk result (λ text. string_bytes text ≡ repeated_of row.now) }
+{
+    let seen = visible_line(alloc, row)?;
+    let characters = characters(alloc, seen.as_str())?;
+    repeated_start(alloc, characters.as_slice())
+}
+
+/// The first of some characters, and whether there are more.
+fn repeated_start(alloc: Global, characters: &[char]) -> Result<String, AllocError>
+    ensures { IfOk result (λ text. string_bytes text ≡ encode_utf8_all (flat_map character_repeated (take most_repeated characters.now))
+        ++ (if nat_lt most_repeated (length characters.now) then codes ".." else [])) }
+{
+    let mut text = String::new(alloc);
+    push_repeated(&mut text, first_of(characters, MOST_REPEATED))?;
+    if characters.len() > MOST_REPEATED {
+        text.push_str("..")?;
+    }
+    Ok(text)
+}
+
+/// The first of some characters.
+fn first_of(characters: &[char], most: usize) -> &[char]
+    ensures { result.now ≡ take most characters.now }
+{
+    characters.get(..most).unwrap_or(characters)
+}
+
+/// Appends characters that a fault repeats.
+fn push_repeated(text: &mut String, characters: &[char]) -> Result<(), AllocError>
+    ensures { OnOk result (string_bytes text.new ≡ string_bytes text.old ++ encode_utf8_all (flat_map character_repeated characters.now)) }
+{
+    for character in characters {
+        push_character(text, *character)?;
+    }
+    Ok(())
+}
+
+/// Appends a character that a fault repeats.
+fn push_character(text: &mut String, character: char) -> Result<(), AllocError>
+    ensures { OnOk result (string_bytes text.new ≡ string_bytes text.old ++ encode_utf8_all (character_repeated character)) }
+{
+    if character == '\t' {
+        return text.push_str("\\t");
+    }
+    text.push(character)
 }
 
 /// Whether a mark is a blank or a tab.
@@ -193,6 +266,23 @@ pub(crate) fn fault_of(
     if is_note(row) {
         return Ok(None);
     }
+    let seen = visible_line(alloc, row)?;
+    fault_of_seen(alloc, words, sets, listed, lines, seen.as_str())
+}
+
+/// The fault of a line that is no note, in which what can't be seen is spelled.
+fn fault_of_seen(
+    alloc: Global,
+    words: &Texts<'_>,
+    sets: &[Vec<char>],
+    listed: Listed<'_>,
+    lines: &PairTexts<'_>,
+    row: &str,
+) -> Result<Option<AcceptFaultKind>, AllocError>
+    requires forth { lines.now.forth ≡ map (line_of_pair words.now) listed.pairs.now }
+    requires back { lines.now.back ≡ map (λ pair. line_of_pair words.now (turned pair)) listed.pairs.now }
+    ensures { IfOk result (λ fault. fault ≡ fault_of_seen_line words.now (map (λ set. set.items) sets.now) listed.entry.pairs.now listed.entry.whole row.now) }
+{
     if is_exchange(row) {
         return fault_of_set(alloc, sets, row);
     }

@@ -2,6 +2,7 @@
 ghost use Rattle.std.specs.Prelude.{◌≡◌, ◌++◌, IfOk, OnOk, count_by, map, string_bytes};
 ghost use Rattle.std.specs.List.{list_any};
 ghost use Rattle.brl_accepted.specs.Sets.{
+  are_characters_of,
   exchanged_pairs as pairs_of_rows,
   greater_pairs,
   is_exchange as is_exchange_line,
@@ -9,13 +10,14 @@ ghost use Rattle.brl_accepted.specs.Sets.{
   named_set as set_of_line,
   names_set as names_one_of,
   ordered_pairs as pairs_in_order,
+  set_count,
   set_line as line_of_set,
   set_pairs as pairs_of_set,
 };
 ghost use Rattle.brl_report.specs.Rules.{own_number as number_of_own};
 
 use brl_failure::Failure;
-use brl_lines::{chars_of, spell_chars};
+use brl_lines::{chars_of, spell_visibly};
 use brl_report::own_number;
 use brl_rules::Table;
 use std::alloc::{AllocError, Global};
@@ -113,29 +115,70 @@ pub(crate) fn push_set_pairs(
 pub(crate) fn exchanged_pairs(
     alloc: Global,
     table: &Table,
-    rows: &[&str],
+    rows: &[String],
 ) -> Result<Vec<(u32, u32)>, AllocError>
-    ensures { IfOk result (λ pairs. pairs.items ≡ pairs_of_rows table.now (map (λ row. row.now) rows.now)) }
+    ensures { IfOk result (λ pairs. pairs.items ≡ pairs_of_rows table.now (map string_bytes rows.now)) }
 {
     let mut pairs = Vec::new(alloc);
     for row in rows {
-        let set = named_set(alloc, row)?;
+        let set = named_set(alloc, row.as_str())?;
         push_set_pairs(alloc, table, set.as_slice(), &mut pairs)?;
     }
     Ok(pairs)
 }
 
-/// How many of these lines are of sets.
-pub(crate) fn count_sets(rows: &[&str]) -> usize
-    ensures { result ≡ count_by is_exchange_line (map (λ row. row.now) rows.now) }
+/// The characters that each of these lines names.
+fn named_sets(alloc: Global, rows: &[String]) -> Result<Vec<Vec<char>>, AllocError>
+    ensures { IfOk result (λ named. map (λ set. set.items) named.items ≡ map set_of_line (map string_bytes rows.now)) }
 {
-    rows.iter().filter(|row| is_exchange(row)).count()
+    let mut named = Vec::new(alloc);
+    for row in rows {
+        named.push(named_set(alloc, row.as_str())?)?;
+    }
+    Ok(named)
+}
+
+/// Whether these are two characters or more of a set.
+fn are_some_of(set: &[char], characters: &[char]) -> bool
+    ensures { result ≡ are_characters_of set.now characters.now }
+{
+    characters.len() > 1 && is_within(set, characters)
+}
+
+/// Whether two characters or more of a set are one of these lists of characters.
+fn is_named(set: &[char], named: &[Vec<char>]) -> bool
+    ensures { result ≡ list_any (are_characters_of set.now) (map (λ characters. characters.items) named.now) }
+{
+    named
+        .iter()
+        .any(|characters| are_some_of(set, characters.as_slice()))
+}
+
+/// Of how many of these sets one of these lists has two characters or more.
+fn count_named(sets: &[Vec<char>], named: &[Vec<char>]) -> usize
+    ensures { result ≡ count_by (λ set. list_any (are_characters_of set) (map (λ characters. characters.items) named.now)) (map (λ set. set.items) sets.now) }
+{
+    sets.iter()
+        .filter(|set| is_named(set.as_slice(), named))
+        .count()
+}
+
+/// How many of these sets some line names characters of.
+pub(crate) fn count_sets(
+    alloc: Global,
+    sets: &[Vec<char>],
+    rows: &[String],
+) -> Result<usize, AllocError>
+    ensures { IfOk result (λ count. count ≡ set_count (map (λ set. set.items) sets.now) (map string_bytes rows.now)) }
+{
+    let named = named_sets(alloc, rows)?;
+    Ok(count_named(sets, named.as_slice()))
 }
 
 /// The line of a set of characters, without its end.
 pub(crate) fn set_line(alloc: Global, set: &[char]) -> Result<String, AllocError>
     ensures { IfOk result (λ text. string_bytes text ≡ line_of_set set.now) }
 {
-    let spelled = spell_chars(alloc, set)?;
+    let spelled = spell_visibly(alloc, set)?;
     format!(in alloc; "exchange {spelled}")
 }

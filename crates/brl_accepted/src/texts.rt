@@ -3,6 +3,7 @@ ghost use Rattle.std.specs.Prelude.{◌≡◌, ◌≤◌, ◌++◌, ◌∷◌, [
 ghost use Rattle.std.specs.List.{AllByRecursion, list_any};
 ghost use Rattle.std.specs.Str.{bytes_eq};
 
+use brl_pairs::Seed;
 use indexmap::IndexSet;
 use std::alloc::{AllocError, Global};
 use std::marker::Model;
@@ -11,7 +12,7 @@ use std::marker::Model;
 #[derive(Drop)]
 pub(crate) struct Texts<'a> {
     texts: Vec<&'a [u8]>,
-    set: IndexSet<&'a [u8]>,
+    set: IndexSet<&'a [u8], Seed>,
     longest: usize,
 }
 
@@ -29,13 +30,13 @@ impl<'a> Model for Texts<'a> {
 }
 
 impl<'a> Texts<'a> {
-    /// No texts. No memory is allocated.
-    fn new(alloc: Global) -> Texts<'a>
+    /// No texts, which will be found by hashes of this seed. No memory is allocated.
+    fn new(alloc: Global, seed: Seed) -> Texts<'a>
         ensures { result ≡ [] }
     {
         Texts {
             texts: Vec::new(alloc),
-            set: IndexSet::new(alloc),
+            set: IndexSet::with_hasher(alloc, seed),
             longest: 0,
         }
     }
@@ -73,20 +74,18 @@ impl<'a> Texts<'a> {
 pub(crate) fn texts_of<'a>(alloc: Global, strings: &'a [String]) -> Result<Texts<'a>, AllocError>
     ensures { IfOk result (λ texts. texts ≡ map string_bytes strings.now) }
 {
-    let mut texts = Texts::new(alloc);
+    let mut texts = Texts::new(alloc, seed_of(alloc, strings)?);
     for string in strings {
         texts.push(string.as_bytes())?;
     }
     Ok(texts)
 }
 
-/// The texts of these rows.
-pub(crate) fn texts_of_rows<'a>(alloc: Global, rows: &[&'a str]) -> Result<Texts<'a>, AllocError>
-    ensures { IfOk result (λ texts. texts ≡ map (λ row. row.now) rows.now) }
-{
-    let mut texts = Texts::new(alloc);
-    for row in rows {
-        texts.push(row.as_bytes())?;
+/// The seed that is drawn from these strings, so that who writes them can't choose their hashes.
+fn seed_of(alloc: Global, strings: &[String]) -> Result<Seed, AllocError> {
+    let mut bytes = Vec::new(alloc);
+    for string in strings {
+        bytes.extend_from_slice(string.as_bytes())?;
     }
-    Ok(texts)
+    Ok(Seed::of(bytes.as_slice()))
 }

@@ -6,7 +6,7 @@ use Rattle.brl_failure.specs.declared.failure.Failure.{Failure}
 use Rattle.brl_failure.specs.declared.failure.Failure.TheVariants as failures
 use Rattle.brl_lines.specs.Answer.{FileAnswers}
 use Rattle.brl_lines.specs.Escapes.{characters_of}
-use Rattle.brl_lines.specs.Spelling.{text_spelling}
+use Rattle.brl_lines.specs.Visible.{visible_text}
 use Rattle.brl_lines.specs.declared.fault.LoadFault.{LoadFault}
 use Rattle.brl_lines.specs.declared.operand.CharsFault.{CharsFault}
 use Rattle.brl_table.specs.Files.{IsFaultAt, IsTableOf}
@@ -99,7 +99,7 @@ ByLeftOut option answers outcome = BySpelled (spelled_by option) (IsBadLeftOut o
 
 -- a character, spelled after a blank
 abbrev pub spelled_after_blank : ℕ → List ℕ
-spelled_after_blank c = codes " " ++ encode_utf8_all (text_spelling (c ∷ []))
+spelled_after_blank c = codes " " ++ encode_utf8_all (visible_text (c ∷ []))
 
 -- characters, each spelled after a blank
 abbrev pub spelled_one_by_one : List ℕ → List ℕ

@@ -5,7 +5,7 @@ ghost use Rattle.brl_answers.specs.Answers.{IsBadLeftOut, spelled_after_blank, s
 
 use crate::run_fault::RunFault;
 use brl_failure::Failure;
-use brl_lines::{chars_of, spell_chars};
+use brl_lines::{chars_of, spell_visibly};
 use brl_without::LeftOut;
 use std::alloc::{AllocError, Global};
 
@@ -29,7 +29,7 @@ pub fn left_out_of(alloc: Global, option: Option<&str>) -> Result<LeftOut, RunFa
 fn spell_after_blank(alloc: Global, character: char) -> Result<String, AllocError>
     ensures { IfOk result (λ text. string_bytes text ≡ spelled_after_blank character) }
 {
-    let spelled = spell_chars(alloc, &[character])?;
+    let spelled = spell_visibly(alloc, &[character])?;
     format!(in alloc; " {spelled}")
 }
 

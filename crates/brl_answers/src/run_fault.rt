@@ -1,7 +1,7 @@
 //! Why the program stopped before its work was done.
 use crate::new_files::NewFile;
 use crate::status::Status;
-use brl_accepted::AcceptFault;
+use brl_accepted::StaleLines;
 use brl_cut::CutFault;
 use brl_failure::Failure;
 use brl_forward::{ConfirmFault, ForwardFault};
@@ -73,9 +73,9 @@ pub enum RunFault {
     /// The file for the pairs of a list is this one of the files that are read.
     #[error("error: the pairs of rules would overwrite {0}, a file that is read")]
     PairsWouldOverwrite(String),
-    /// A line of a file of accepted pairs was refused.
+    /// These lines of a file of accepted pairs are stale.
     #[error("{0}")]
-    Accept(AcceptFault),
+    Accept(StaleLines),
     /// Something is at the path of a file that is to be made, or an earlier one has this path.
     #[error("error: {0} is there already")]
     AlreadyThere(String),
@@ -214,16 +214,6 @@ impl EndsRun for UndefinedLeftOut {
 
     fn into_run_fault(self) -> RunFault {
         RunFault::NotDefined(self)
-    }
-}
-
-impl EndsRun for AcceptFault {
-    ghost use Rattle.brl_answers.specs.declared.run_fault.RunFault.TheVariants.{Accept};
-
-    ghost run_fault = { λ fault. Accept fault };
-
-    fn into_run_fault(self) -> RunFault {
-        RunFault::Accept(self)
     }
 }
 

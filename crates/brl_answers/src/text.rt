@@ -1,12 +1,11 @@
 //! The text that a word gives.
 ghost use Rattle.std.specs.Prelude.{◌≡◌, IfErr, IfOk, Ok};
-ghost use Rattle.std.specs.Str.{chars};
 ghost use Rattle.brl_answers.specs.Answers.{IsBadText, text_of};
 
 use crate::run_fault::RunFault;
 use brl_failure::Failure;
-use brl_lines::chars_of;
-use std::alloc::{AllocError, Global};
+use brl_lines::{characters, chars_of};
+use std::alloc::Global;
 
 /// The text of a word: with `escapes` the characters that it spells as an operand of a table, else
 /// its own. `BadText` where it has a bad escape.
@@ -22,11 +21,4 @@ pub fn text_of_word(alloc: Global, word: &str, escapes: bool) -> Result<Vec<char
         Err(Failure::Fault(_)) => Err(RunFault::BadText(String::from_str(alloc, word)?)),
         Err(Failure::Memory) => Err(RunFault::Memory),
     }
-}
-
-/// The characters of a word.
-fn characters(alloc: Global, word: &str) -> Result<Vec<char>, AllocError>
-    ensures { IfOk result (λ found. found.items ≡ chars word.now) }
-{
-    word.chars().collect(alloc)
 }

@@ -1,5 +1,5 @@
 -- The lines of one more element, and of one more section.
-use Rattle.std.proofs.Common.{◌≡◌, ◌∙◌, ◌<◌, ◌+◌, ◌++◌, ℕ, List, [], ◌∷◌, ap, append-nil, append_assoc, get_or, length, refl, sym, take}
+use Rattle.std.proofs.Common.{◌≡◌, ◌∙◌, ◌<◌, ◌+◌, ◌++◌, ℕ, Bool, List, [], ◌∷◌, ap, append-nil, append_assoc, get_or, length, refl, sym, take}
 use Rattle.std.specs.List.{flat_map, fold}
 use Rattle.std.proofs.lemmas.List.{take_more}
 use Rattle.std.proofs.lemmas.List.Concat.{flat_map-append}
@@ -22,14 +22,14 @@ one_more {X} f xs i x front text after within is so_far added =
 -- ---- Sections
 
 -- one more section, after those that are written
-pub one_more_section : (t : TableView) (lines : List LineView) (characters : List ℕ) (first : ℕ) (before : List (ℕ × ℕ)) (sections : List Section) (s : Section) (text part : List ℕ)
-    → AreSectionTexts t lines characters first before sections text → IsSectionText t lines characters first (fold listed_after before sections) s part
-    → AreSectionTexts t lines characters first before (sections ++ s ∷ []) (text ++ part)
-one_more_section t lines characters first before [] s text part are is = (part, [], is, refl, ap (λ (front : List ℕ). front ++ part) are ∙ sym (append-nil part))
-one_more_section t lines characters first before (other ∷ sections) s text part (front, rest, front_is, rest_are, joined) is = (
+pub one_more_section : (t : TableView) (lines : List LineView) (characters : List ℕ) (taken : Bool) (first : ℕ) (before : List (ℕ × ℕ)) (sections : List Section) (s : Section) (text part : List ℕ)
+    → AreSectionTexts t lines characters taken first before sections text → IsSectionText t lines characters taken first (fold listed_after before sections) s part
+    → AreSectionTexts t lines characters taken first before (sections ++ s ∷ []) (text ++ part)
+one_more_section t lines characters taken first before [] s text part are is = (part, [], is, refl, ap (λ (front : List ℕ). front ++ part) are ∙ sym (append-nil part))
+one_more_section t lines characters taken first before (other ∷ sections) s text part (front, rest, front_is, rest_are, joined) is = (
   front,
   rest ++ part,
   front_is,
-  one_more_section t lines characters first (listed_after before other) sections s rest part rest_are is,
+  one_more_section t lines characters taken first (listed_after before other) sections s rest part rest_are is,
   ap (λ (all : List ℕ). all ++ part) joined ∙ append_assoc front rest part,
 )

@@ -1,6 +1,5 @@
 -- One more section of a table.
-use Rattle.std.proofs.Common.{◌≡◌, ◌∙◌, ◌++◌, ◌&&◌, ℕ, zero, suc, Bool, true, false, List, [], ◌∷◌, Some, length, refl, slice_get, subst, sym}
-use Rattle.std.specs.List.{list_all}
+use Rattle.std.proofs.Common.{◌≡◌, ◌∙◌, ◌++◌, ◌&&◌, ℕ, zero, suc, Bool, true, false, List, [], ◌∷◌, Some, length, refl, slice_get, subst}
 use Rattle.std.proofs.lemmas.List.Folds.{list_all-append}
 use Rattle.brl_clashes.specs.Sections.{are_whole, is_whole}
 use Rattle.brl_clashes.specs.declared.section.Section.{Section}

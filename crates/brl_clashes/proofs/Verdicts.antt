@@ -1,7 +1,7 @@
 -- What the sections of a list of clashes mean for their table.
-use Rattle.std.proofs.Common.{◌≡◌, ◌∙◌, ◌<◌, ◌≤◌, ◌+◌, ◌-◌, ◌++◌, ◌&&◌, ◌⊎◌, ℕ, zero, suc, All, Bool, true, false, List, [], ◌∷◌, Some, ap, arith, drop, filter, get_or, inl, inr, length, not, refl, slice_get, subst, sym}
-use Rattle.std.specs.Prelude.{◌==◌, ◌||◌, if◌then◌else◌, IsTrue, nat_eq}
-use Rattle.std.specs.List.{list_all, list_any}
+use Rattle.std.proofs.Common.{◌≡◌, ◌∙◌, ◌<◌, ◌+◌, ◌++◌, ◌&&◌, ℕ, zero, suc, All, Bool, true, false, List, [], ◌∷◌, Some, ap, arith, drop, filter, get_or, inl, inr, length, not, refl, slice_get, subst, sym}
+use Rattle.std.specs.Prelude.{◌==◌, ◌||◌, if◌then◌else◌, nat_eq}
+use Rattle.std.specs.List.{list_all}
 use Rattle.std.proofs.lemmas.Bool.{and_parts, eqb-true}
 use Rattle.std.proofs.lemmas.Bool.Decides.{nat_tests}
 use Rattle.std.proofs.lemmas.List.{append-nil, drop_all}
@@ -15,10 +15,8 @@ use Rattle.brl_clashes.specs.ListedPairs.{has_pair, is_pair}
 use Rattle.brl_clashes.specs.Sections.{AreClashesOf, AreSections, are_whole, clashes_beside, clashes_of, is_whole, lists_none, outcome_of}
 use Rattle.brl_clashes.specs.declared.kind.Kind.{Kind}
 use Rattle.brl_clashes.specs.declared.section.Section.{Section}
-use Rattle.brl_clashes.specs.declared.verdict.Outcome.{Outcome}
 use Rattle.brl_clashes.specs.declared.verdict.Outcome.TheVariants.{Unambiguous, Clashing, Unfinished}
 use Rattle.brl_rules.specs.TableView.{TableView}
-use Rattle.brl_rules.specs.Text.{is_text}
 use Rattle.brl_pairs.specs.Divergence.{are_rules, has_rules}
 use Rattle.brl_rules.specs.Translation.{IsClash}
 use Rattle.brl_search.proofs.UpTo.{not_back}

@@ -1,7 +1,9 @@
 -- Sections without the clashes at accepted pairs of rules. The project's own choice.
-use Rattle.std.specs.Prelude.{ℕ, ◌≡◌, ◌==◌, if◌then◌else◌, List, [], ◌∷◌, ◌++◌, Option, None, Some, codes}
+use Rattle.std.specs.Prelude.{ℕ, ◌≡◌, ◌==◌, Bool, true, false, if◌then◌else◌, List, [], ◌∷◌, ◌++◌, Option, None, Some, codes, nat_lt}
 use Rattle.std.specs.Fmt.{decimal}
+use Rattle.brl_accepted.specs.Counting.{but_for_line}
 use Rattle.brl_clashes.specs.Sections.{clashes_beside}
+use Rattle.brl_clashes.specs.declared.accepted.Taken.{Taken}
 use Rattle.brl_clashes.specs.declared.section.Section.{Section}
 use Rattle.brl_clashes.specs.declared.verdict.Outcome.{Outcome}
 use Rattle.brl_clashes.specs.declared.verdict.Outcome.TheVariants.{Unambiguous, Clashing}
@@ -36,16 +38,26 @@ abbrev pub outcome_beside : ℕ → Outcome → Outcome
 outcome_beside accepted Unambiguous = if accepted == 0 then Unambiguous else Clashing
 outcome_beside accepted outcome = outcome
 
--- how many pairs are accepted, where pairs are read from a file
-abbrev pub accepted_count : Option ℕ → ℕ
+-- how many listed pairs are accepted, where pairs are read from a file
+abbrev pub accepted_count : Option Taken → ℕ
 accepted_count None = 0
-accepted_count (Some count) = count
+accepted_count (Some taken) = taken.listed
 
--- the words after this number of accepted pairs
-abbrev pub accepted_words : ℕ → List ℕ
-accepted_words count = if count == 1 then codes " pair of rules" else codes " pairs of rules"
+-- whether pairs were left out of the sections
+abbrev pub are_taken : Option Taken → Bool
+are_taken accepted = nat_lt 0 (accepted_count accepted)
 
--- the line that says it
-abbrev pub accepted_line : Option ℕ → List ℕ
-accepted_line None = []
-accepted_line (Some count) = codes "accepted: " ++ (decimal count ++ (accepted_words count ++ codes "\n"))
+-- the words after this number of lines
+abbrev pub lines_words : ℕ → List ℕ
+lines_words count = if count == 1 then codes " line\n" else codes " lines\n"
+
+-- the line that says how many lines are stale, and whether they were taken out of the file; none
+-- where no line is stale and none was to be taken out
+abbrev pub stale_line : Bool → ℕ → List ℕ
+stale_line true count = codes "pruned: " ++ (decimal count ++ lines_words count)
+stale_line false count = if count == 0 then [] else codes "stale: " ++ (decimal count ++ lines_words count)
+
+-- the lines on a file of accepted pairs: how many of its lines are stale, and how much it excuses
+abbrev pub accepted_lines : Option Taken → List ℕ
+accepted_lines None = []
+accepted_lines (Some taken) = stale_line taken.pruned taken.stale ++ but_for_line taken.counts

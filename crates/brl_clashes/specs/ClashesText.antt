@@ -5,10 +5,11 @@ use Rattle.std.specs.Fmt.{decimal}
 use Rattle.std.specs.Option.{option_map_or}
 use Rattle.brl_answers.specs.Answers.{counts_line, spelled_one_by_one, with_left_out_line}
 use Rattle.brl_cells.specs.Dots.{spelling}
-use Rattle.brl_clashes.specs.Accepted.{accepted_count, accepted_line, outcome_beside}
+use Rattle.brl_clashes.specs.Accepted.{accepted_count, accepted_lines, are_taken, outcome_beside}
 use Rattle.brl_clashes.specs.SectionText.{IsSectionText, others_note, pairs_words}
 use Rattle.brl_clashes.specs.Sections.{listed_after, listed_pairs, outcome_of}
 use Rattle.brl_clashes.specs.Sets.{openers, plain, set_among}
+use Rattle.brl_clashes.specs.declared.accepted.Taken.{Taken}
 use Rattle.brl_clashes.specs.declared.section.Section.{Section}
 use Rattle.brl_clashes.specs.declared.verdict.Outcome.{Outcome}
 use Rattle.brl_clashes.specs.declared.verdict.Outcome.TheVariants.{Unambiguous, Clashing, Unfinished}
@@ -27,12 +28,19 @@ dots_of t c = option_map_or (λ info. spelling info.cells) (info_of t c) []
 abbrev pub set_line : TableView → List ℕ → ℕ → List ℕ
 set_line t characters c = codes "  " ++ dots_of t c ++ codes " " ++ spelled_one_by_one (set_among t characters c) ++ codes "\n"
 
+-- the line before the lines of several sets
+abbrev pub many_sets : ℕ → List ℕ
+many_sets count =
+    decimal count
+    ++ codes " sets of characters have the same cells, classes and flags, and are in no rule; below, the first of each represents its set:\n"
+
 -- the line before the lines of this many sets; empty where there are none
 abbrev pub sets_heading : ℕ → List ℕ
 sets_heading count =
     if count == 0 then []
-    else decimal count
-    ++ codes " sets of characters have the same cells, classes and flags, and are in no rule; below, the first of each represents its set:\n"
+    else if count == 1
+    then codes "1 set of characters has the same cells, classes and flags, and is in no rule; below, its first represents it:\n"
+    else many_sets count
 
 -- the lines of all sets, after how many there are
 abbrev pub sets_text : TableView → List ℕ → List ℕ
@@ -50,8 +58,8 @@ abbrev pub last_counts : List ℕ → List Section → List ℕ
 last_counts word sections = option_map_or (λ s. counts_of word s.found) (slice_get sections (length sections - 1)) []
 
 -- how many pairs of rules there are, and whether there may be others
-abbrev pub pairs_line : ℕ → Bool → List ℕ
-pairs_line count whole = decimal count ++ (pairs_words count ++ (others_note whole ++ codes "\n"))
+abbrev pub pairs_line : Bool → ℕ → Bool → List ℕ
+pairs_line taken count whole = decimal count ++ (pairs_words count ++ (others_note taken whole ++ codes "\n"))
 
 -- the counts that are reported: of a table that is unambiguous, and those at which a limit was
 -- passed
@@ -61,31 +69,33 @@ verdict_counts Clashing sections = []
 verdict_counts Unfinished sections = last_counts (codes "limit") sections
 
 -- how many pairs of rules diverge, where some are listed
-abbrev pub verdict_pairs : Outcome → ℕ → List ℕ
-verdict_pairs Unambiguous count = []
-verdict_pairs Clashing count = pairs_line count true
-verdict_pairs Unfinished count = pairs_line count false
+abbrev pub verdict_pairs : Bool → Outcome → ℕ → List ℕ
+verdict_pairs taken Unambiguous count = []
+verdict_pairs taken Clashing count = pairs_line taken count true
+verdict_pairs taken Unfinished count = pairs_line taken count false
 
 -- the last lines for this outcome: the table is unambiguous, or this many pairs of rules diverge
-abbrev pub outcome_text : Outcome → List Section → List ℕ
-outcome_text outcome sections = verdict_counts outcome sections ++ verdict_pairs outcome (length (listed_pairs sections))
+abbrev pub outcome_text : Bool → Outcome → List Section → List ℕ
+outcome_text taken outcome sections = verdict_counts outcome sections ++ verdict_pairs taken outcome (length (listed_pairs sections))
 
--- the same of sections from which accepted pairs may be left out, and how many were
-abbrev pub verdict_text : Option ℕ → List Section → List ℕ
-verdict_text accepted sections = outcome_text (outcome_beside (accepted_count accepted) (outcome_of sections)) sections ++ accepted_line accepted
+-- the same of sections from which accepted pairs may be left out, and how much was
+abbrev pub verdict_text : Option Taken → List Section → List ℕ
+verdict_text accepted sections =
+    outcome_text (are_taken accepted) (outcome_beside (accepted_count accepted) (outcome_of sections)) sections ++ accepted_lines accepted
 
 -- ---- The whole text
 
 -- the texts of sections, one after another, after sections with these pairs of rules
-abbrev pub AreSectionTexts : TableView → List LineView → List ℕ → ℕ → List (ℕ × ℕ) → List Section → List ℕ → Type 0
-AreSectionTexts t lines characters first before [] text = text ≡ []
-AreSectionTexts t lines characters first before (s ∷ sections) text =
-    (front rest : List ℕ) × IsSectionText t lines characters first before s front
-    × AreSectionTexts t lines characters first (listed_after before s) sections rest × (text ≡ front ++ rest)
+abbrev pub AreSectionTexts : TableView → List LineView → List ℕ → Bool → ℕ → List (ℕ × ℕ) → List Section → List ℕ → Type 0
+AreSectionTexts t lines characters taken first before [] text = text ≡ []
+AreSectionTexts t lines characters taken first before (s ∷ sections) text =
+    (front rest : List ℕ) × IsSectionText t lines characters taken first before s front
+    × AreSectionTexts t lines characters taken first (listed_after before s) sections rest × (text ≡ front ++ rest)
 
 -- The text of a list of clashes: the sets of characters, the sections, and the verdict, with the
--- line of what is left out. Where accepted pairs are left out of the sections, it says how many.
-abbrev pub IsClashesText : TableView → List LineView → List ℕ → ℕ → Option ℕ → List Section → List ℕ → Type 0
+-- line of what is left out. Where a file accepts pairs, they are left out of the sections, and it
+-- says how much the file excuses.
+abbrev pub IsClashesText : TableView → List LineView → List ℕ → ℕ → Option Taken → List Section → List ℕ → Type 0
 IsClashesText t lines left_out first accepted sections text =
-    (parts : List ℕ) × AreSectionTexts t lines (plain t left_out) first [] sections parts
+    (parts : List ℕ) × AreSectionTexts t lines (plain t left_out) (are_taken accepted) first [] sections parts
     × (text ≡ sets_text t (plain t left_out) ++ parts ++ with_left_out_line left_out (verdict_text accepted sections))

@@ -26,9 +26,12 @@ kind_name Other = codes "all characters"
 abbrev pub pairs_words : ℕ → List ℕ
 pairs_words count = if count == 1 then codes " pair of rules diverges" else codes " pairs of rules diverge"
 
--- the note after these: no others diverge, or others may
-abbrev pub others_note : Bool → List ℕ
-others_note whole = if whole then codes ", and no others" else codes ", and maybe others"
+-- the note after these: no others diverge, or others may; where pairs are accepted, none but these
+abbrev pub others_note : Bool → Bool → List ℕ
+others_note taken whole =
+    if not whole then codes ", and maybe others"
+    else if taken then codes ", and no others but for the accepted ones"
+    else codes ", and no others"
 
 -- after sections that list pairs of rules, those of a later section are more
 abbrev pub more_note : Bool → List ℕ
@@ -36,8 +39,9 @@ more_note more = if more then codes " more" else []
 
 -- the first line of a section: its texts, and how many pairs of rules it lists that no earlier
 -- section does
-abbrev pub heading : Kind → ℕ → Bool → Bool → List ℕ
-heading kind count more whole = kind_name kind ++ (codes ": " ++ (decimal count ++ (more_note more ++ (pairs_words count ++ (others_note whole ++ codes "\n")))))
+abbrev pub heading : Bool → Kind → ℕ → Bool → Bool → List ℕ
+heading taken kind count more whole =
+    kind_name kind ++ (codes ": " ++ (decimal count ++ (more_note more ++ (pairs_words count ++ (others_note taken whole ++ codes "\n")))))
 
 -- a line with a number after two blanks and words after it; empty for 0
 abbrev pub number_line : ℕ → List ℕ → List ℕ
@@ -63,8 +67,8 @@ clash_lines t lines first count shown =
     ++ number_line (count - length shown) (codes " of other characters of the sets")
 
 -- The text of a section after sections with these pairs of rules, the most suspicious clashes
--- first. These are the characters that have sets.
-abbrev pub IsSectionText : TableView → List LineView → List ℕ → ℕ → List (ℕ × ℕ) → Section → List ℕ → Type 0
-IsSectionText t lines characters first before s text =
+-- first, where accepted pairs were left out or not. These are the characters that have sets.
+abbrev pub IsSectionText : TableView → List LineView → List ℕ → Bool → ℕ → List (ℕ × ℕ) → Section → List ℕ → Type 0
+IsSectionText t lines characters taken first before s text =
     (shown : List RuleClash) × IsPermutation (shown_in t characters before s) shown × IsSorted suspicion_cmp shown
-    × (text ≡ heading s.kind (length (new_in before s)) (nat_lt 0 (length before)) (is_whole s.found) ++ clash_lines t lines first (length (new_in before s)) shown)
+    × (text ≡ heading taken s.kind (length (new_in before s)) (nat_lt 0 (length before)) (is_whole s.found) ++ clash_lines t lines first (length (new_in before s)) shown)

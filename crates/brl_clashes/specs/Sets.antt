@@ -1,6 +1,6 @@
 -- Sets of characters that a table treats as one: with the same cells, classes and flags, and in no
 -- rule. In a list of clashes the first of a set represents the others. The project's own choice.
-use Rattle.std.specs.Prelude.{ℕ, ◌+◌, ◌-◌, Bool, false, ◌&&◌, ◌||◌, ◌==◌, if◌then◌else◌, List, [], flat_map, length, map, nat_eq, nat_le, nat_lt, not, slice_get}
+use Rattle.std.specs.Prelude.{ℕ, ◌-◌, Bool, false, ◌&&◌, ◌||◌, ◌==◌, if◌then◌else◌, List, [], flat_map, length, map, nat_eq, nat_le, nat_lt, not, slice_get}
 use Rattle.std.specs.Bool.{beq}
 use Rattle.std.specs.Cmp.Lexicographic.{pointwise}
 use Rattle.std.specs.List.{count_by, filter, find, list_any}

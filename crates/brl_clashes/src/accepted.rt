@@ -8,8 +8,22 @@ use crate::Section;
 use crate::listed_pairs::ListedPairs;
 use crate::section::clashes_of;
 use crate::section_text::new_clashes;
+use brl_accepted::Counts;
 use brl_search::{ClashList, RuleClash};
 use std::alloc::{AllocError, Global};
+
+/// What a file of accepted pairs takes out of a list.
+#[derive(Clone, Copy)]
+pub struct Taken {
+    /// How many of the listed pairs of rules are accepted.
+    pub listed: usize,
+    /// How much the file excuses.
+    pub counts: Counts,
+    /// How many of its lines are stale.
+    pub stale: usize,
+    /// Whether these are taken out of the file.
+    pub pruned: bool,
+}
 
 /// The pairs of rules that these sections list, each once.
 pub fn pairs_of_sections(alloc: Global, sections: &[Section]) -> Result<Vec<(u32, u32)>, AllocError>

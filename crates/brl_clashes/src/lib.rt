@@ -27,10 +27,10 @@ mod sections;
 mod sets;
 mod verdict;
 
-pub use accepted::{pairs_of_sections, without_accepted};
+pub use accepted::{Taken, pairs_of_sections, without_accepted};
 pub use clashes_text::{Extent, sections_text};
 pub use kind::Kind;
 pub use section::Section;
 pub use sections::list_sections;
 pub use sets::character_sets;
-pub use verdict::{Outcome, accepted_words, are_whole, outcome_of};
+pub use verdict::{Outcome, are_whole, outcome_of};

@@ -29,6 +29,15 @@ use brl_rules::Table;
 use brl_search::RuleClash;
 use std::alloc::{AllocError, Global};
 
+/// How much of each section is shown.
+#[derive(Clone, Copy)]
+pub struct Shown {
+    /// How many clashes; 0 for all.
+    pub first: usize,
+    /// Whether accepted pairs were left out of the sections.
+    pub taken: bool,
+}
+
 /// The text of a section after sections that list these pairs of rules, to which its own are added:
 /// how many new ones it lists, the lines of the first of them, and how many have none. The most
 /// suspicious come first. Those that another line represents have none of their own.
@@ -37,14 +46,14 @@ pub fn section_text(
     table: &Table,
     lines: &[Line<'_>],
     firsts: &[u32],
-    first: usize,
+    shown: Shown,
     listed: &mut ListedPairs,
     section: Section,
 ) -> Result<String, AllocError>
     requires firsts { (characters : List ℕ) × (firsts.now ≡ map (number_of_first table.now characters) (table_characters table.now)) }
     requires clashes { AreClashesOf table.now (clashes_of section.found) }
     ensures text { (characters : List ℕ) → firsts.now ≡ map (number_of_first table.now characters) (table_characters table.now)
-        → IfOk result (λ text. IsSectionText table.now (map line_view lines.now) characters first listed.old section (string_bytes text)) }
+        → IfOk result (λ text. IsSectionText table.now (map line_view lines.now) characters shown.taken shown.first listed.old section (string_bytes text)) }
     ensures listed { OnOk result (listed.new ≡ listed_after listed.old section) }
 {
     let Section { kind, found } = section;
@@ -53,15 +62,15 @@ pub fn section_text(
     let new = new_clashes(listed, into_clashes(found));
     let count = new.len();
     push_rules(listed, new.as_slice())?;
-    let shown = in_order(own_clashes(table, firsts, listed, new));
-    let mut text = heading(alloc, kind, count, more, whole)?;
+    let own = in_order(own_clashes(table, firsts, listed, new));
+    let mut text = heading(alloc, shown.taken, kind, count, more, whole)?;
     push_clashes(
         alloc,
         table,
         lines,
-        first,
+        shown.first,
         count,
-        shown.as_slice(),
+        own.as_slice(),
         &mut text,
     )?;
     Ok(text)
@@ -114,17 +123,18 @@ fn in_order(clashes: Vec<RuleClash>) -> Vec<RuleClash>
 /// The first line of a section.
 fn heading(
     alloc: Global,
+    taken: bool,
     kind: Kind,
     count: usize,
     more: bool,
     whole: bool,
 ) -> Result<String, AllocError>
-    ensures { IfOk result (λ text. string_bytes text ≡ heading_of kind count more whole) }
+    ensures { IfOk result (λ text. string_bytes text ≡ heading_of taken kind count more whole) }
 {
     let name = kind.name();
     let more = more_note(more);
     let pairs = pairs_words(count);
-    let others = others_note(whole);
+    let others = others_note(taken, whole);
     format!(in alloc; "{name}: {count}{more}{pairs}{others}\n")
 }
 

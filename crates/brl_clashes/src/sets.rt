@@ -1,6 +1,6 @@
 //! Sets of characters that a table treats as one.
 ghost use Rattle.std.specs.Prelude.{◌≡◌, ◌++◌, IfOk, OnOk, filter, find, flat_map, map, string_bytes};
-ghost use Rattle.brl_clashes.specs.ClashesText.{dots_of as dots, set_line, sets_heading as heading_of_sets, sets_text as text_of_sets};
+ghost use Rattle.brl_clashes.specs.ClashesText.{dots_of as dots, set_line, many_sets as many_sets_line, sets_heading as heading_of_sets, sets_text as text_of_sets};
 ghost use Rattle.brl_clashes.specs.Sets.{
   are_equal as are_equal_in,
   first_among as first_of_characters,
@@ -169,6 +169,10 @@ fn openers(alloc: Global, table: &Table, characters: &[char]) -> Result<Vec<char
     Ok(openers)
 }
 
+/// The line before that of one set.
+const ONE_SET: &str =
+    "1 set of characters has the same cells, classes and flags, and is in no rule; below, its first represents it:\n";
+
 /// What follows the number of sets.
 const SETS: &str =
     " sets of characters have the same cells, classes and flags, and are in no rule; below, the first of each represents its set:\n";
@@ -177,10 +181,20 @@ const SETS: &str =
 fn sets_heading(alloc: Global, count: usize) -> Result<String, AllocError>
     ensures { IfOk result (λ text. string_bytes text ≡ heading_of_sets count) }
 {
-    let mut text = String::new(alloc);
     if count == 0 {
-        return Ok(text);
+        return Ok(String::new(alloc));
     }
+    if count == 1 {
+        return String::from_str(alloc, ONE_SET);
+    }
+    many_sets(alloc, count)
+}
+
+/// The line before the lines of several sets.
+fn many_sets(alloc: Global, count: usize) -> Result<String, AllocError>
+    ensures { IfOk result (λ text. string_bytes text ≡ many_sets_line count) }
+{
+    let mut text = String::new(alloc);
     write!(text, "{count}")?;
     text.push_str(SETS)?;
     Ok(text)

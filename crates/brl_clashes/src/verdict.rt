@@ -1,6 +1,6 @@
 //! The outcome of the sections of a list.
 ghost use Rattle.std.specs.Prelude.{◌≡◌, ◌==◌, if◌then◌else◌, IfOk, string_bytes};
-ghost use Rattle.brl_clashes.specs.Accepted.{accepted_line as line_of_accepted, accepted_words as words_of_accepted, outcome_beside as said_outcome};
+ghost use Rattle.brl_clashes.specs.Accepted.{accepted_lines as lines_of_accepted, outcome_beside as said_outcome, stale_line as line_of_stale};
 ghost use Rattle.brl_clashes.specs.ClashesText.{
   counts_of as counts_after,
   last_counts as last_counts_of,
@@ -12,7 +12,9 @@ ghost use Rattle.brl_clashes.specs.SectionText.{others_note as note_of_others, p
 ghost use Rattle.brl_clashes.specs.Sections.{are_whole as all_whole, list_none as none_listed, outcome_of as outcome_of_sections};
 
 use crate::Section;
+use crate::accepted::Taken;
 use crate::section::{is_whole, lists_none};
+use brl_accepted::but_for_line;
 use brl_answers::counts_text;
 use brl_search::ClashList;
 use std::alloc::{AllocError, Global};
@@ -52,24 +54,32 @@ pub fn outcome_beside(accepted: usize, outcome: Outcome) -> Outcome
     }
 }
 
-/// The line that says how many pairs of rules are accepted; empty where none are read from a file.
-pub fn accepted_line(alloc: Global, accepted: Option<usize>) -> Result<String, AllocError>
-    ensures { IfOk result (λ text. string_bytes text ≡ line_of_accepted accepted) }
+/// The lines on a file of accepted pairs: how many of its lines are stale, and how much it excuses.
+/// Empty where no file is read.
+pub fn accepted_lines(alloc: Global, accepted: Option<Taken>) -> Result<String, AllocError>
+    ensures { IfOk result (λ text. string_bytes text ≡ lines_of_accepted accepted) }
 {
-    match accepted {
-        None => Ok(String::new(alloc)),
-        Some(count) => {
-            let pairs = accepted_words(count);
-            format!(in alloc; "accepted: {count}{pairs}\n")
-        }
-    }
+    let Some(taken) = accepted else {
+        return Ok(String::new(alloc));
+    };
+    let mut text = stale_line(alloc, taken.pruned, taken.stale)?;
+    text.push_str(but_for_line(alloc, taken.counts)?.as_str())?;
+    Ok(text)
 }
 
-/// The words after a number of accepted pairs of rules.
-pub fn accepted_words(count: usize) -> &'static str
-    ensures { result.now ≡ words_of_accepted count }
+/// The line that says how many lines are stale, and whether they were taken out of the file. Empty
+/// where no line is stale and none was to be taken out.
+fn stale_line(alloc: Global, pruned: bool, count: usize) -> Result<String, AllocError>
+    ensures { IfOk result (λ text. string_bytes text ≡ line_of_stale pruned count) }
 {
-    words_for(count, " pair of rules", " pairs of rules")
+    let lines = words_for(count, " line\n", " lines\n");
+    if pruned {
+        return format!(in alloc; "pruned: {count}{lines}");
+    }
+    if count == 0 {
+        return Ok(String::new(alloc));
+    }
+    format!(in alloc; "stale: {count}{lines}")
 }
 
 /// The words for a count of one, and other words for any other count.
@@ -133,22 +143,27 @@ fn counts_of(alloc: Global, word: &str, found: &ClashList) -> Result<String, All
 }
 
 /// How many pairs of rules diverge, and whether others may; empty where none are listed.
-pub fn verdict_pairs(alloc: Global, outcome: Outcome, count: usize) -> Result<String, AllocError>
-    ensures { IfOk result (λ text. string_bytes text ≡ pairs_of_verdict outcome count) }
+pub fn verdict_pairs(
+    alloc: Global,
+    taken: bool,
+    outcome: Outcome,
+    count: usize,
+) -> Result<String, AllocError>
+    ensures { IfOk result (λ text. string_bytes text ≡ pairs_of_verdict taken outcome count) }
 {
     match outcome {
         Outcome::Unambiguous => Ok(String::new(alloc)),
-        Outcome::Clashing => pairs_line(alloc, count, true),
-        Outcome::Unfinished => pairs_line(alloc, count, false),
+        Outcome::Clashing => pairs_line(alloc, taken, count, true),
+        Outcome::Unfinished => pairs_line(alloc, taken, count, false),
     }
 }
 
 /// How many pairs of rules diverge, and whether others may.
-fn pairs_line(alloc: Global, count: usize, whole: bool) -> Result<String, AllocError>
-    ensures { IfOk result (λ text. string_bytes text ≡ line_of_pairs count whole) }
+fn pairs_line(alloc: Global, taken: bool, count: usize, whole: bool) -> Result<String, AllocError>
+    ensures { IfOk result (λ text. string_bytes text ≡ line_of_pairs taken count whole) }
 {
     let pairs = pairs_words(count);
-    let others = others_note(whole);
+    let others = others_note(taken, whole);
     format!(in alloc; "{count}{pairs}{others}\n")
 }
 
@@ -159,13 +174,16 @@ pub fn pairs_words(count: usize) -> &'static str
     words_for(count, " pair of rules diverges", " pairs of rules diverge")
 }
 
-/// The words after these: that no others diverge, or that others may.
-pub fn others_note(whole: bool) -> &'static str
-    ensures { result.now ≡ note_of_others whole }
+/// The words after these: that no others diverge, but for accepted ones where some were left out;
+/// or that others may.
+pub fn others_note(taken: bool, whole: bool) -> &'static str
+    ensures { result.now ≡ note_of_others taken whole }
 {
-    if whole {
-        ", and no others"
-    } else {
+    if !whole {
         ", and maybe others"
+    } else if taken {
+        ", and no others but for the accepted ones"
+    } else {
+        ", and no others"
     }
 }

@@ -134,6 +134,8 @@ pub struct PairFiles<'a> {
     pub accept: Option<&'a str>,
     /// The file that gets the pairs of the list.
     pub write: Option<&'a str>,
+    /// Whether the stale lines of the file of accepted pairs are taken out of it.
+    pub prune: bool,
 }
 
 /// Why the words ask for no work, with the text of `clap` that answers them.
@@ -439,11 +441,12 @@ const CLASHES: CommandHelp = CommandHelp {
     long_about: "Lists every pair of rules by which texts look alike
 
 Where two texts have the same cells, their translations go the same way up to a
-place, and there use two different rules. Standard output gets every pair of
-rules at which such texts diverge, however long they are, and no others: first
-for texts of small letters and blanks, then with digits, with capitals, with
-marks, and for all characters. A pair is listed once, in the first section that
-it diverges in. Its line has two texts, their cells, and of each rule the file
+place, and there use two different rules, or one that takes other characters or
+begins a run of capitals in one of them alone. Standard output gets every pair
+of rules at which such texts diverge, however long they are, and no others:
+first for texts of small letters and blanks, then with digits, with capitals,
+with marks, and for all characters. A pair is listed once, in the first section
+that it diverges in. Its line has two texts, their cells, and of each rule the file
 and line, the opcode and the characters. The most suspicious come first: texts of
 the same length by how few characters differ, then short texts. N lines of a
 section are shown, or all for --first 0, and how many more there are.
@@ -460,9 +463,13 @@ With --write the pairs that are listed go to FILE, a line for each: what its two
 rules say, with ' / ' between them. A line 'exchange' with the characters of a
 set stands for the pairs of their own definitions. Where there may be others,
 FILE stays as it was. With --accept the pairs that FILE names so are left out,
-and the last line says how many these are. Where no other is left, the status is
-0. A line of FILE whose pair isn't listed is a fault, and the status is 2, unless
-there may be others. With both options the pairs that are left are written.
+and the last line says how many pairs and sets FILE names. Where no other is
+left, the status is 0. With both options the pairs that are left are written.
+
+A line of FILE whose pair isn't listed, unless there may be others, or that names
+no two rules and no set of the table, is stale: it accepts nothing, standard
+error names it, and where no other pair is left, the status is 2. With --prune
+such lines are taken out of FILE; nothing is added.
 
 With --without only texts that use none of CHARS are looked at, and a line after
 the last one names these. CHARS are spelled as in a table.",
@@ -651,7 +658,7 @@ no rule is listed, and the status is 3.",
 
 It prints:
   1  always  ab  4  twice.ctb:4  in its place:  twice.ctb:3 always ab
-  1 of 4 rules are used by no text",
+  1 of 4 rules is used by no text",
     choice: Some(Options::States),
     operands: &[TABLE],
 };
@@ -801,6 +808,16 @@ fn write_option<'a>(alloc: Global) -> Arg<'a> {
         .help("Write the pairs of rules that are listed to this file")
 }
 
+/// The option of whether stale lines are taken out of the file of accepted pairs.
+fn prune_option<'a>(alloc: Global) -> Result<Arg<'a>, AllocError> {
+    Arg::new(alloc, "prune")
+        .long("prune")
+        .help("Take the stale lines out of the file of --accept")
+        .action(ArgAction::SetTrue)
+        .requires_arg("accept")?
+        .conflicts_with("write")
+}
+
 /// The option of whether faults are listed.
 fn brief_option<'a>(alloc: Global) -> Arg<'a> {
     Arg::new(alloc, "brief")
@@ -866,6 +883,7 @@ fn arguments<'a>(alloc: Global, page: &CommandHelp) -> Result<Vec<Arg<'a>>, Allo
             arguments.push(without_option(alloc))?;
             arguments.push(accept_option(alloc))?;
             arguments.push(write_option(alloc))?;
+            arguments.push(prune_option(alloc)?)?;
         }
         Some(Options::Brief) => arguments.push(brief_option(alloc))?,
         Some(Options::Rewrite) => arguments.push(rewrite_option(alloc))?,
@@ -1125,6 +1143,7 @@ fn pair_files<'a>(found: &ArgMatches<'a>) -> PairFiles<'a> {
     PairFiles {
         accept: found.get_str("accept"),
         write: found.get_str("write"),
+        prune: found.get_flag("prune"),
     }
 }
 

@@ -8,6 +8,10 @@ use Rattle.brl_explain.specs.declared.faults.TheConstants.{FAULTS}
 abbrev pub is_blank : ℕ → Bool
 is_blank byte = nat_eq byte 32
 
+-- the end of a line
+abbrev pub is_line_end : ℕ → Bool
+is_line_end byte = nat_eq byte 10
+
 -- the code of a line: its first word, and where that is `refused:` the next
 abbrev pub code_of : List ℕ → List ℕ
 code_of line =
@@ -16,7 +20,7 @@ code_of line =
 
 -- whether a text explains a code: its first word is the code
 abbrev pub explains : List ℕ → List ℕ → Bool
-explains code text = bytes_eq (before_first is_blank text) code
+explains code text = bytes_eq (before_first is_blank (before_first is_line_end text)) code
 
 -- the text that explains the fault of a line: the first that explains its code
 unfoldable pub text_of_fault : List ℕ → Option (List ℕ)

@@ -9,7 +9,7 @@ use Rattle.brl_cells.specs.declared.fault.DotsFault.{DotsFault}
 use Rattle.brl_explain.specs.Details.{operand_of, titled}
 use Rattle.brl_explain.specs.Explaining.{code_of}
 use Rattle.brl_lines.specs.Escapes.{characters_of}
-use Rattle.brl_lines.specs.Spelling.{text_spelling}
+use Rattle.brl_lines.specs.Visible.{visible_text}
 use Rattle.brl_lines.specs.Tokens.{LineView, TokenView}
 use Rattle.brl_lines.specs.declared.operand.CharsFault.{CharsFault}
 use Rattle.brl_rules.specs.declared.rule.Info.{Info}
@@ -79,7 +79,7 @@ missing_line fault line =
 
 -- a character, spelled after a blank, unless it is one of these
 abbrev pub spelled_unless : List (ℕ × Info) → ℕ → List ℕ
-spelled_unless known c = if is_some (lookup (nat_eq c) known) then [] else codes " " ++ encode_utf8_all (text_spelling (c ∷ []))
+spelled_unless known c = if is_some (lookup (nat_eq c) known) then [] else codes " " ++ encode_utf8_all (visible_text (c ∷ []))
 
 -- the characters that an operand spells; none where it spells none
 abbrev pub characters_or_none : Result (List ℕ) CharsFault → List ℕ

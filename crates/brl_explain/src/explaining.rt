@@ -5,6 +5,7 @@ ghost use Rattle.brl_explain.specs.Explaining.{
   code_of as code_of_line,
   explains,
   is_blank,
+  is_line_end,
   text_of_fault,
 };
 
@@ -42,11 +43,24 @@ pub(crate) fn code_of(line: &str) -> &str
     }
 }
 
+/// The first line of a text, without its end; all of it where it has one line.
+fn first_line(text: &str) -> &str
+    ensures { result.now ≡ before_first is_line_end text.now }
+{
+    match text.split_once('\n') {
+        Some((line, _)) => line,
+        None => text,
+    }
+}
+
 /// The first of these texts that explains a code: its first word is the code.
 fn find_code<'a>(texts: &[&'a str], code: &str) -> Option<&'a str>
     ensures { result ≡ find (λ text. explains code.now text.now) texts.now }
 {
-    texts.iter().copied().find(|text| first_word(text) == code)
+    texts
+        .iter()
+        .copied()
+        .find(|text| first_word(first_line(text)) == code)
 }
 
 /// What explains the fault of a line: the text for the code that is the line's first word or, where

@@ -1,10 +1,21 @@
-//! The texts of all faults with a code. tools/faults-list makes the tables of docs/guide/FAULTS.md
-//! of them.
+//! The texts of all faults with a code, of notices and of remarks. tools/faults-list makes the
+//! tables of docs/guide/FAULTS.md of them.
 
 /// What explains each fault: a line with its own form, or with several, which commas part; when it
 /// comes; for a line of a table what the fault's line names; and what to do about it. Words in
 /// capitals are for what differs.
-pub const FAULTS: [&str; 46] = [
+pub const FAULTS: [&str; 49] = [
+    "Memory\n\
+     When: an allocation failed, which says nothing of the table, the text or the certificate\n\
+     What to do: Give the program more memory, or search with a smaller `--limit`.\n",
+    "notice DefinedAgain CHARACTER\n\
+     When: a line defines a character again, which is no fault: the first line gives its cells, as in liblouis\n\
+     Named: the character\n\
+     What to do: Nothing, if the first line is meant. If not, take it out.\n",
+    "remark RuleAgain RULE / RULE\n\
+     When: a rule is for the characters of another, at the same places, with other dots, which is no fault: the other is used\n\
+     Named: the rule, and the one that is used\n\
+     What to do: Take the one out that isn't meant.\n",
     "L8 TooManyIncludes\n\
      When: 1,024 include lines were followed before\n\
      What to do: Join files.\n",
@@ -101,15 +112,15 @@ pub const FAULTS: [&str; 46] = [
     "P1 NoSuchRules\n\
      When: the line isn't what two rules of the table say, with ` / ` between them\n\
      Named: the line\n\
-     What to do: Write the pairs anew by `brl clashes --write`: a rule may have changed, or the line by hand.\n",
+     What to do: Read what `brl clashes --accept` lists: the rule may have changed. Then take the line out by `--prune`.\n",
     "P2 NotListed\n\
      When: the line's pair of rules isn't listed, and the list has all\n\
      Named: the line\n\
-     What to do: Take the line out; or it was accepted with another `--without`: give that one.\n",
+     What to do: Take the line out by `brl clashes --prune`; or it was accepted with another `--without`: give that one.\n",
     "P3 NoSuchSet\n\
      When: the line begins with `exchange`, and what follows isn't two characters or more of one set of the table\n\
      Named: the line\n\
-     What to do: `brl clashes` lists the sets. Take out what is in no set any more, by its cells, classes or flags, or by a rule.\n",
+     What to do: `brl clashes` lists the sets, by cells, classes and flags, but for what is in a rule. `--prune` takes the line out.\n",
     "K8 Truncated\n\
      When: the line has no line feed, or there is no `end` line\n\
      What to do: The file was cut: copy it again.\n",

@@ -26,7 +26,7 @@ use crate::details::{operand_of, push_titled};
 use crate::explaining::code_of;
 use brl_cells::read_dots;
 use brl_failure::Failure;
-use brl_lines::{Line, Token, chars_of, spell_chars};
+use brl_lines::{Line, Token, chars_of, spell_visibly};
 use brl_rules::Info;
 use brl_table::{good_characters, indicator_named};
 use indexmap::IndexMap;
@@ -227,5 +227,5 @@ fn push_unless_known(
         return Ok(());
     }
     text.push(' ')?;
-    text.push_str(spell_chars(alloc, &[character])?.as_str())
+    text.push_str(spell_visibly(alloc, &[character])?.as_str())
 }

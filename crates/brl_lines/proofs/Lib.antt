@@ -20,5 +20,6 @@ pub mod SpanLemmas
 pub mod SpellingLemmas
 pub mod TextLemmas
 pub mod TokenLemmas
+pub mod VisibleLemmas
 pub mod WayLemmas
 pub mod Ordered

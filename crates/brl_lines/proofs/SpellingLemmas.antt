@@ -45,7 +45,7 @@ means_named c None e = cc
 means_named c (Some d) e = ap Some (eqb-true d c e)
 
 -- the escape that is found means the character, and its mark is a character
-find_means : (c : ℕ) (marks : List ℕ) (mark : ℕ) → all_scalars marks ≡ true → find (means c) marks ≡ Some mark → (named mark ≡ Some c) × (scalar mark ≡ true)
+pub find_means : (c : ℕ) (marks : List ℕ) (mark : ℕ) → all_scalars marks ≡ true → find (means c) marks ≡ Some mark → (named mark ≡ Some c) × (scalar mark ≡ true)
 find_means c [] mark s e = cc
 find_means c (m ∷ ms) mark s e =
     let both = and_parts (scalar m) (all_scalars ms) s in
@@ -55,14 +55,14 @@ find_means c (m ∷ ms) mark s e =
     ]
 
 -- a backslash is written by its escape
-none_plain : (c : ℕ) → find (means c) escape_marks ≡ None → nat_eq c 92 ≡ false
+pub none_plain : (c : ℕ) → find (means c) escape_marks ≡ None → nat_eq c 92 ≡ false
 none_plain c none = not_equal c 92 (λ e. backslash (subst (λ k. find (means k) escape_marks ≡ None) e none))
   where
     backslash : find (means 92) escape_marks ≡ None → ⊥
     backslash e = cc
 
 -- one hexadecimal digit more
-hexadecimal-more : (count value d : ℕ) (rest : List ℕ) → d < 16 → hexadecimal (suc count) value (digit_char d ∷ rest) ≡ hexadecimal count (value * 16 + d) rest
+pub hexadecimal-more : (count value d : ℕ) (rest : List ℕ) → d < 16 → hexadecimal (suc count) value (digit_char d ∷ rest) ≡ hexadecimal count (value * 16 + d) rest
 unfolding hexadecimal
 hexadecimal-more count value d rest small =
     let is : nat_lt d 16 ≡ true = lt-ltb d 16 small in
@@ -90,7 +90,7 @@ plain_back c rest true s e plain =
     spelled-escape 92 (120 ∷ marks) c 5 refl (escape-numbered 120 4 c marks refl refl (four_digits c rest (control_small c e)) s)
 plain_back c rest false s e plain = spelled-plain c rest plain
 
-character_back : (c : ℕ) (rest : List ℕ) (found : Option ℕ) → IsScalar c → find (means c) escape_marks ≡ found
+pub character_back : (c : ℕ) (rest : List ℕ) (found : Option ℕ) → IsScalar c → find (means c) escape_marks ≡ found
     → spelled 0 (spelled_by_mark found c ++ rest) ≡ option_map (λ cs. c ∷ cs) (spelled 0 rest)
 character_back c rest None s e = plain_back c rest (is_ascii_control c) s refl (none_plain c e)
 character_back c rest (Some mark) s e =
@@ -106,7 +106,7 @@ text_back (c ∷ text) s =
 
 -- ---- a spelling is a text
 
-scalars-append : (xs ys : List ℕ) → all_scalars xs ≡ true → all_scalars ys ≡ true → all_scalars (xs ++ ys) ≡ true
+pub scalars-append : (xs ys : List ℕ) → all_scalars xs ≡ true → all_scalars ys ≡ true → all_scalars (xs ++ ys) ≡ true
 scalars-append [] ys s t = t
 scalars-append (x ∷ xs) ys s t = let both = and_parts (scalar x) (all_scalars xs) s in and_from (scalar x) (all_scalars (xs ++ ys)) both.0 (scalars-append xs ys both.1 t)
 
@@ -120,7 +120,7 @@ plain_scalars c true s e =
     (and_from (scalar (digit_char (c % 16))) true (low_scalar (digit_char (c % 16)) (omega (arith, low))) refl)
 plain_scalars c false s e = and_from (scalar c) true s refl
 
-character_scalars : (c : ℕ) (found : Option ℕ) → IsScalar c → find (means c) escape_marks ≡ found → all_scalars (spelled_by_mark found c) ≡ true
+pub character_scalars : (c : ℕ) (found : Option ℕ) → IsScalar c → find (means c) escape_marks ≡ found → all_scalars (spelled_by_mark found c) ≡ true
 character_scalars c None s e = plain_scalars c (is_ascii_control c) s refl
 character_scalars c (Some mark) s e = and_from (scalar mark) true (find_means c escape_marks mark refl e).1 refl
 

@@ -9,6 +9,7 @@ pub mod Slices
 pub mod InMemory
 pub mod Escapes
 pub mod Spelling
+pub mod Visible
 pub mod Views
 pub mod Examples
 pub mod Files

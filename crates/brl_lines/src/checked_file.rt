@@ -44,7 +44,7 @@ impl CheckedFile {
 }
 
 /// The text after a byte order mark.
-fn without_mark(text: &str) -> &str
+pub fn without_mark(text: &str) -> &str
     ensures { result.now ≡ text_after_mark text.now }
 {
     match text.strip_prefix("\u{feff}") {

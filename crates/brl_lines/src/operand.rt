@@ -1,5 +1,5 @@
 //! The characters that an operand spells.
-ghost use Rattle.std.specs.Prelude.{◌≡◌, ◌<◌, ◌≤◌, ℕ, ◌∷◌, [], drop, length, None, Some, MatchOption, option_map};
+ghost use Rattle.std.specs.Prelude.{◌≡◌, ◌<◌, ◌≤◌, ℕ, ◌∷◌, [], IfOk, drop, length, None, Some, MatchOption, option_map};
 ghost use Rattle.std.specs.Str.{chars};
 ghost use Rattle.brl_failure.specs.Failure.{GivesAs};
 ghost use Rattle.brl_lines.specs.Escapes.{
@@ -12,7 +12,7 @@ ghost use Rattle.brl_lines.specs.Escapes.{
 };
 
 use brl_failure::Failure;
-use std::alloc::Global;
+use std::alloc::{AllocError, Global};
 use thiserror::Error;
 
 /// Why an operand spells no characters.
@@ -121,4 +121,11 @@ pub fn chars_of(alloc: Global, operand: &str) -> Result<Vec<char>, Failure<Chars
         rest = left;
     }
     Ok(found)
+}
+
+/// The characters of a text, each as itself. `AllocError` if memory runs out.
+pub fn characters(alloc: Global, text: &str) -> Result<Vec<char>, AllocError>
+    ensures { IfOk result (λ found. found.items ≡ chars text.now) }
+{
+    text.chars().collect(alloc)
 }

@@ -7,7 +7,7 @@ ghost use Rattle.brl_lines.specs.Spelling.{character_spelling, escape_marks, mea
 use std::alloc::{AllocError, Global};
 
 /// The mark of the escape of one mark that means a character.
-fn escape_mark(character: char) -> Option<char>
+pub(crate) fn escape_mark(character: char) -> Option<char>
     ensures { result ≡ find (means character) escape_marks }
 {
     match character {

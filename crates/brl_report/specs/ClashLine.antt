@@ -4,8 +4,8 @@ use Rattle.std.specs.Option.{option_map_or}
 use Rattle.std.specs.Str.{encode_utf8_all}
 use Rattle.brl_cells.specs.Dots.{spelling}
 use Rattle.brl_forward.specs.ClashView.{ClashView}
-use Rattle.brl_lines.specs.Spelling.{text_spelling}
 use Rattle.brl_lines.specs.Tokens.{LineView}
+use Rattle.brl_lines.specs.Visible.{visible_text}
 use Rattle.brl_report.specs.Rules.{after_blanks, rule_note}
 use Rattle.brl_report.specs.Steps.{common_prefix, report_steps}
 use Rattle.brl_rules.specs.TableView.{TableView}
@@ -21,15 +21,15 @@ abbrev pub rules_note : TableView → List LineView → ClashView → ℕ → �
 rules_note t lines clash rule other =
     if diverges_by t clash rule then rule_note t lines rule ++ rule_note t lines other else rule_note t lines other ++ rule_note t lines rule
 
--- a text as it is spelled, after a mark
+-- a text after a mark, in which what can't be seen is spelled
 abbrev pub spelled_after : List ℕ → List ℕ → List ℕ
-spelled_after mark text = mark ++ encode_utf8_all (text_spelling text)
+spelled_after mark text = mark ++ encode_utf8_all (visible_text text)
 
 -- the texts of a clash
 abbrev pub texts_note : ClashView → List ℕ
 texts_note clash = spelled_after (codes "  ") clash.left ++ spelled_after (codes " / ") clash.right
 
--- the line of a clash whose texts diverge at two rules: the texts as they are spelled, their cells
+-- the line of a clash whose texts diverge at two rules: the texts, their cells
 -- in dots, and the rules
 abbrev pub clash_line : TableView → List LineView → ClashView → ℕ → ℕ → List ℕ
 clash_line t lines clash rule other =

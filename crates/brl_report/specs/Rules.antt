@@ -7,9 +7,9 @@ use Rattle.std.specs.List.{find, list_any, range_with_len}
 use Rattle.std.specs.Option.{option_and_then, option_map_or, option_or}
 use Rattle.std.specs.Str.{bytes_eq, encode_utf8_all}
 use Rattle.brl_cells.specs.Dots.{spelling}
-use Rattle.brl_lines.specs.Spelling.{text_spelling}
 use Rattle.brl_lines.specs.Tokens.{LineView}
 use Rattle.brl_lines.specs.Views.{line_view}
+use Rattle.brl_lines.specs.Visible.{visible_text}
 use Rattle.brl_lines.specs.declared.line.Line.{Line}
 use Rattle.brl_report.specs.Place.{file_name, place_text}
 use Rattle.brl_report.specs.declared.rules.Listed.{Listed}
@@ -131,7 +131,7 @@ number_and_opcode t lines number x = decimal number ++ after_blanks (opcode_at (
 -- its cells in dots, and the file and line
 abbrev pub listed_entry : TableView → List LineView → ℕ → ListedView → List ℕ
 listed_entry t lines number x =
-    number_and_opcode t lines number x ++ after_blanks (encode_utf8_all (text_spelling x.characters)) ++ after_blanks (spelling x.cells)
+    number_and_opcode t lines number x ++ after_blanks (encode_utf8_all (visible_text x.characters)) ++ after_blanks (spelling x.cells)
     ++ after_blanks (place_text t x.file x.line)
 
 -- the line of a rule with a number: its entry alone
@@ -142,7 +142,7 @@ listed_line t lines number x = listed_entry t lines number x ++ codes "\n"
 abbrev pub noted_rule : TableView → List LineView → ListedView → List ℕ
 noted_rule t lines x =
     after_blanks (place_text t x.file x.line) ++ codes " " ++ opcode_at (file_name t x.file) x.line lines ++ codes " "
-    ++ encode_utf8_all (text_spelling x.characters)
+    ++ encode_utf8_all (visible_text x.characters)
 
 -- a word that is an opcode of the profile, and `rule` for any other; a line that defines a rule
 -- begins with one, or has it after `noback`
@@ -154,7 +154,7 @@ known_opcode word = if list_any (bytes_eq word) opcode_words then word else code
 abbrev pub said_rule : TableView → List LineView → ListedView → List ℕ
 said_rule t lines x =
     known_opcode (opcode_at (file_name t x.file) x.line lines)
-    ++ (codes " " ++ (encode_utf8_all (text_spelling x.characters) ++ (codes " " ++ spelling x.cells)))
+    ++ (codes " " ++ (encode_utf8_all (visible_text x.characters) ++ (codes " " ++ spelling x.cells)))
 
 -- a rule with a number in a form
 abbrev pub listed_text : RuleForm → TableView → List LineView → ℕ → ListedView → List ℕ

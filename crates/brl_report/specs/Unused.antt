@@ -25,11 +25,21 @@ in_place_note t lines number = option_map_or (λ other. codes "  in its place:" 
 abbrev pub unused_line : TableView → List LineView → ℕ → List ℕ
 unused_line t lines number = rule_entry t lines number ++ in_place_note t lines number ++ codes "\n"
 
+-- each of these rules is used
+abbrev pub all_used : ℕ → List ℕ
+all_used rules =
+    if rules == 1 then codes "the one rule is used by some text\n"
+    else codes "each of " ++ decimal rules ++ codes " rules is used by some text\n"
+
+-- this number of these rules are unused
+abbrev pub some_unused : ℕ → ℕ → List ℕ
+some_unused unused rules =
+    if unused == 1 then decimal unused ++ codes " of " ++ decimal rules ++ codes " rules is used by no text\n"
+    else decimal unused ++ codes " of " ++ decimal rules ++ codes " rules are used by no text\n"
+
 -- how many of all rules are unused
 abbrev pub unused_count : ℕ → ℕ → List ℕ
-unused_count unused rules =
-    if unused == 0 then codes "each of " ++ decimal rules ++ codes " rules is used by some text\n"
-    else decimal unused ++ codes " of " ++ decimal rules ++ codes " rules are used by no text\n"
+unused_count unused rules = if unused == 0 then all_used rules else some_unused unused rules
 
 -- the list of the rules with these numbers, as those that no text uses
 abbrev pub unused_text : TableView → List LineView → List ℕ → List ℕ

@@ -8,7 +8,7 @@ use crate::rules::{Lined, RuleForm, push_after_blanks};
 use crate::steps::{common_prefix, report_steps};
 use brl_cells::write_dots;
 use brl_forward::Clash;
-use brl_lines::{Line, spell_chars};
+use brl_lines::{Line, spell_visibly};
 use brl_rules::Table;
 use std::alloc::{AllocError, Global};
 
@@ -42,7 +42,7 @@ fn push_texts(alloc: Global, clash: &Clash, text: &mut String) -> Result<(), All
     push_spelled(alloc, " / ", clash.right(), text)
 }
 
-/// Appends characters as they are spelled, after a mark.
+/// Appends characters as they are written, after a mark.
 fn push_spelled(
     alloc: Global,
     mark: &str,
@@ -52,7 +52,7 @@ fn push_spelled(
     ensures { OnOk result (string_bytes text.new ≡ string_bytes text.old ++ spelled_after mark.now characters.now) }
 {
     text.push_str(mark)?;
-    text.push_str(spell_chars(alloc, characters)?.as_str())
+    text.push_str(spell_visibly(alloc, characters)?.as_str())
 }
 
 /// Appends two rules, that of the left text of a clash first.

@@ -34,7 +34,7 @@ ghost use Rattle.std.specs.Option.{option_map_or};
 
 use crate::row::place_text;
 use brl_cells::{Cell, write_dots};
-use brl_lines::{Line, spell_chars};
+use brl_lines::{Line, spell_visibly};
 use brl_rules::{Sign, Table};
 use brl_table::{OPCODES, indicator_named, opcodes_law};
 use std::alloc::{AllocError, Global};
@@ -246,7 +246,7 @@ impl<'a> Lined<'a> {
         write!(text, "{number}")?;
         let opcode = opcode_at(self.table.file_name(listed.file), listed.line, self.lines);
         push_after_blanks(text, opcode)?;
-        push_after_blanks(text, spell_chars(self.alloc, listed.characters)?.as_str())?;
+        push_after_blanks(text, spell_visibly(self.alloc, listed.characters)?.as_str())?;
         push_after_blanks(text, write_dots(self.alloc, listed.cells)?.as_str())?;
         let place = place_text(self.alloc, self.table, listed.file, listed.line)?;
         push_after_blanks(text, place.as_str())
@@ -262,7 +262,7 @@ impl<'a> Lined<'a> {
         text.push(' ')?;
         text.push_str(opcode_at(self.table.file_name(listed.file), listed.line, self.lines))?;
         text.push(' ')?;
-        text.push_str(spell_chars(self.alloc, listed.characters)?.as_str())
+        text.push_str(spell_visibly(self.alloc, listed.characters)?.as_str())
     }
 
     /// Appends what a rule says.
@@ -271,7 +271,7 @@ impl<'a> Lined<'a> {
         ensures { OnOk result (string_bytes text.new ≡ string_bytes text.old ++ said_rule self.now.table.now (map line_view self.now.lines.now) (listed_view listed.entry)) }
     {
         let opcode = self.opcode_of(listed);
-        let characters = spell_chars(self.alloc, listed.characters)?;
+        let characters = spell_visibly(self.alloc, listed.characters)?;
         let cells = write_dots(self.alloc, listed.cells)?;
         write!(text, "{opcode} {characters} {cells}")
     }

@@ -2,7 +2,7 @@
 ghost use Rattle.std.specs.Prelude.{◌≡◌, ◌++◌, IfOk, OnOk, flat_map, length, map, string_bytes};
 ghost use Rattle.std.specs.Option.{option_map_or};
 ghost use Rattle.brl_lines.specs.Views.{line_view};
-ghost use Rattle.brl_report.specs.Unused.{first_rule as rule_of_first_step, in_place_note, rule_in_place as rule_chosen_in_place, unused_count, unused_line, unused_text};
+ghost use Rattle.brl_report.specs.Unused.{first_rule as rule_of_first_step, in_place_note, rule_in_place as rule_chosen_in_place, all_used, some_unused, unused_count, unused_line, unused_text};
 
 use crate::rules::{Lined, RuleForm, rule_count};
 use brl_failure::Failure;
@@ -90,7 +90,29 @@ fn push_count(unused: usize, rules: u32, text: &mut String) -> Result<(), AllocE
     ensures { OnOk result (string_bytes text.new ≡ string_bytes text.old ++ unused_count unused rules) }
 {
     if unused == 0 {
-        writeln!(text, "each of {rules} rules is used by some text")?;
+        return push_all_used(rules, text);
+    }
+    push_some_unused(unused, rules, text)
+}
+
+/// Appends that each of these rules is used.
+fn push_all_used(rules: u32, text: &mut String) -> Result<(), AllocError>
+    ensures { OnOk result (string_bytes text.new ≡ string_bytes text.old ++ all_used rules) }
+{
+    if rules == 1 {
+        writeln!(text, "the one rule is used by some text")?;
+        return Ok(());
+    }
+    writeln!(text, "each of {rules} rules is used by some text")?;
+    Ok(())
+}
+
+/// Appends that this number of these rules are unused.
+fn push_some_unused(unused: usize, rules: u32, text: &mut String) -> Result<(), AllocError>
+    ensures { OnOk result (string_bytes text.new ≡ string_bytes text.old ++ some_unused unused rules) }
+{
+    if unused == 1 {
+        writeln!(text, "{unused} of {rules} rules is used by no text")?;
         return Ok(());
     }
     writeln!(text, "{unused} of {rules} rules are used by no text")?;

@@ -1,9 +1,11 @@
 -- What is answered of a list of clashes.
 use Rattle.std.proofs.Common.{◌≡◌, ℕ, List, inl, inr, Option, None, Some, Result, Ok, Err, subst}
+use Rattle.std.specs.Option.{option_copied}
 use Rattle.brl_answers.specs.Files.{MayBeSame}
 use Rattle.brl_answers.specs.declared.answer.Answer.{Answer}
 use Rattle.brl_answers.specs.declared.run_fault.RunFault.{RunFault}
-use Rattle.brl_answers.specs.declared.run_fault.RunFault.TheVariants.{Accept, Load, Memory, NotDefined, PairsWouldOverwrite, Table}
+use Rattle.brl_answers.specs.declared.run_fault.RunFault.TheVariants.{Load, Memory, NotDefined, PairsWouldOverwrite, Table}
+use Rattle.brl_cli.specs.declared.command.PairFiles.{PairFiles}
 use Rattle.brl_lines.specs.Answer.{FileAnswer, FileAnswers, Holds, Large, Missing, Unchanged, Unreadable}
 use Rattle.brl_lines.specs.Outcome.{AreLinesOfFiles}
 use Rattle.brl_lines.specs.Tokens.{LineView}
@@ -11,7 +13,7 @@ use Rattle.brl_lines.specs.declared.fault.LoadFaultKind.{LoadFaultKind}
 use Rattle.brl_lines.specs.declared.fault.LoadFaultKind.TheVariants as kinds
 use Rattle.brl_rules.specs.TableView.{TableView}
 use Rattle.brl_table.specs.Reading.{PassesAll, table_of}
-use Rattle.brl_tool.specs.Baselines.{IsApart, IsBaseline, IsFaultOfText, IsOverwritingRead, LacksText, read_paths}
+use Rattle.brl_tool.specs.Baselines.{IsApart, IsBaseline, IsFaultOfText, IsOverwritingRead, LacksText, only_read, written_path}
 use Rattle.brl_tool.specs.Diagnosing.{Diagnoses, DiagnosesByFile}
 
 -- ---- By files as they were before a read
@@ -39,27 +41,26 @@ module _ (before after : FileAnswers) (same : Unchanged before after) where
   baseline_before None baseline none = none
   baseline_before (Some path) baseline (text, some, holds) = (text, some, given_before path (Holds text) holds)
 
-  pub diagnoses_before : (left_out : List ℕ) (t : TableView) (lines : List LineView) (limit first : ℕ) (accept write : Option (List ℕ)) (result : Result Answer RunFault)
-      → Diagnoses left_out after t lines limit first accept write result → Diagnoses left_out before t lines limit first accept write result
-  diagnoses_before left_out t lines limit first accept write (Ok answer) (defined, (baseline, read, is)) = (defined, (baseline, baseline_before accept baseline read, is))
-  diagnoses_before left_out t lines limit first accept write (Err (NotDefined fault)) h = h
-  diagnoses_before left_out t lines limit first accept write (Err (Load fault)) (defined, (path, some, lacks)) = (defined, (path, some, text_fault_before path (Load fault) lacks))
-  diagnoses_before left_out t lines limit first accept write (Err (Accept fault)) (defined, (path, some, (text, holds, bad))) = (defined, (path, some, (text, given_before path (Holds text) holds, bad)))
-  diagnoses_before left_out t lines limit first accept write (Err Memory) h = tt
-  diagnoses_before left_out t lines limit first accept write (Err fault) h = absurd h
+  pub diagnoses_before : (left_out : List ℕ) (t : TableView) (lines : List LineView) (limit first : ℕ) (pairs : PairFiles) (result : Result Answer RunFault)
+      → Diagnoses left_out after t lines limit first pairs result → Diagnoses left_out before t lines limit first pairs result
+  diagnoses_before left_out t lines limit first pairs (Ok answer) (defined, (baseline, read, is)) = (defined, (baseline, baseline_before (option_copied pairs.accept) baseline read, is))
+  diagnoses_before left_out t lines limit first pairs (Err (NotDefined fault)) h = h
+  diagnoses_before left_out t lines limit first pairs (Err (Load fault)) (defined, (path, some, lacks)) = (defined, (path, some, text_fault_before path (Load fault) lacks))
+  diagnoses_before left_out t lines limit first pairs (Err Memory) h = tt
+  diagnoses_before left_out t lines limit first pairs (Err fault) h = absurd h
 
 -- ---- The table of a file
 
-module _ (left_out : List ℕ) (gives : FileAnswers) (same : MayBeSame) (path : List ℕ) (limit first : ℕ) (accept write : Option (List ℕ)) where
-  -- the work ends where the pairs would overwrite a file that is read
-  pub overwriting : (paths : List (List ℕ)) (lines : List LineView) (fault : RunFault) → AreLinesOfFiles gives path paths lines → IsOverwritingRead same (read_paths paths accept) write fault
-      → DiagnosesByFile left_out gives same path limit first accept write (Err fault)
+module _ (left_out : List ℕ) (gives : FileAnswers) (same : MayBeSame) (path : List ℕ) (limit first : ℕ) (pairs : PairFiles) where
+  -- the work ends where a file would be overwritten that is only read
+  pub overwriting : (paths : List (List ℕ)) (lines : List LineView) (fault : RunFault) → AreLinesOfFiles gives path paths lines → IsOverwritingRead same (only_read paths pairs) (written_path pairs) fault
+      → DiagnosesByFile left_out gives same path limit first pairs (Err fault)
   overwriting paths lines (PairsWouldOverwrite file) are h = (paths, lines, are, h)
   overwriting paths lines Memory are h = tt
   overwriting paths lines fault are h = absurd h
 
-  module _ (paths : List (List ℕ)) (lines : List LineView) (are : AreLinesOfFiles gives path paths lines) (passes : PassesAll lines) (apart : IsApart write (read_paths paths accept)) where
-    by_own : (result : Result Answer RunFault) → Diagnoses left_out gives (table_of lines) lines limit first accept write result → DiagnosesByFile left_out gives same path limit first accept write result
+  module _ (paths : List (List ℕ)) (lines : List LineView) (are : AreLinesOfFiles gives path paths lines) (passes : PassesAll lines) (apart : IsApart (written_path pairs) (only_read paths pairs)) where
+    by_own : (result : Result Answer RunFault) → Diagnoses left_out gives (table_of lines) lines limit first pairs result → DiagnosesByFile left_out gives same path limit first pairs result
     by_own (Ok answer) is = (paths, lines, are, passes, apart, is)
     by_own (Err (Load fault)) is = inr (paths, lines, are, passes, apart, is)
     by_own (Err (Table fault)) is = absurd is
@@ -68,6 +69,6 @@ module _ (left_out : List ℕ) (gives : FileAnswers) (same : MayBeSame) (path : 
     by_own (Err fault) is = (paths, lines, are, passes, apart, is)
 
     -- the clashes of the table of these lines were listed
-    pub listed : (t : TableView) → t ≡ table_of lines → (result : Result Answer RunFault) → Diagnoses left_out gives t lines limit first accept write result
-        → DiagnosesByFile left_out gives same path limit first accept write result
-    listed t is result h = by_own result (subst (λ (u : TableView). Diagnoses left_out gives u lines limit first accept write result) is h)
+    pub listed : (t : TableView) → t ≡ table_of lines → (result : Result Answer RunFault) → Diagnoses left_out gives t lines limit first pairs result
+        → DiagnosesByFile left_out gives same path limit first pairs result
+    listed t is result h = by_own result (subst (λ (u : TableView). Diagnoses left_out gives u lines limit first pairs result) is h)

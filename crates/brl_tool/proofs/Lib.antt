@@ -1,5 +1,6 @@
 pub mod ClashesLemmas
 pub mod CutFaults
+pub mod GoodRows
 pub mod StatusLemmas
 pub mod StreamLemmas
 pub mod SurveyLemmas

@@ -1,5 +1,5 @@
 -- What a run that ends with status 1 did.
-use Rattle.std.proofs.Common.{◌≡◌, ◌∙◌, ◌⊎◌, ℕ, List, arith, get_or, length, inl, inr, Option, None, Some, Result, Ok, Err, refl, sym}
+use Rattle.std.proofs.Common.{◌≡◌, ◌∙◌, ◌⊎◌, ℕ, Bool, true, false, if◌then◌else◌, List, ap, arith, get_or, length, inl, inr, Option, None, Some, Result, Ok, Err, refl, subst, sym}
 use Rattle.std.specs.Global.{Global}
 use Rattle.std.specs.Option.{option_copied}
 use Rattle.std.specs.Prelude.{◌==◌, String, string_bytes}
@@ -15,11 +15,12 @@ use Rattle.brl_cli.specs.declared.command.Task.{Task}
 use Rattle.brl_cli.specs.declared.command.Task.TheVariants as task
 use Rattle.brl_tool.proofs.StatusLemmas.{never_refuted, unrefuted}
 use Rattle.brl_clashes.specs.declared.section.Section.{Section}
-use Rattle.brl_lines.specs.Answer.{FileAnswers, MayAnswerSame, Missing}
+use Rattle.brl_cli.specs.declared.command.PairFiles.{PairFiles}
+use Rattle.brl_lines.specs.Answer.{FileAnswers, Holds, MayAnswerSame, Missing}
 use Rattle.brl_lines.specs.Tokens.{LineView}
 use Rattle.brl_table.specs.Reading.{table_of}
-use Rattle.brl_tool.specs.Baselines.{text_of_pairs}
-use Rattle.brl_tool.specs.Running.{KeepsFilesRefuted, MayGainFiles, MeansRefuted, Performs, ReportsClash, ReportsClashes, ReportsRefusal, ReportsSuspect, ReportsUnknown, ReportsUnused, WritesPairs, defined_status, stream_status}
+use Rattle.brl_tool.specs.Baselines.{IsBaseline, is_written, pruned_text, written_path, written_text}
+use Rattle.brl_tool.specs.Running.{IsPairsText, KeepsFilesRefuted, MayGainFiles, MeansRefuted, Performs, ReportsClash, ReportsClashes, ReportsRefusal, ReportsSuspect, ReportsUnknown, ReportsUnused, WritesFile, defined_status, stream_status}
 
 -- the status with this number
 refuted_by : (status : Status) → code_of status ≡ 1 → status ≡ Refuted
@@ -51,19 +52,35 @@ module _ (before after : World) (same_file : MayBeSame) (input : Option (List �
   report_of (question.CheckUpTo path cert accept option) means = inr (inl means)
   report_of (question.Search path out limit option) means = inl means
   report_of (question.SearchUpTo path out limit accept option) means = inl means
-  report_of (question.Clashes path limit first option pairs) means = inr (inr (inl (path.now, option_copied option, option_copied pairs.accept, option_copied pairs.write, means)))
+  report_of (question.Clashes path limit first option pairs) means = inr (inr (inl (path.now, option_copied option, pairs, means)))
   report_of (question.Unused path limit) means = inr (inr (inr (inl means)))
   report_of (question.Survey paths brief) means = inr (inr (inr (inr (inl means))))
   report_of (question.Cut path dir rewrite) means = inr (inr (inr (inr (inr (path.now, dir.now, rewrite, means)))))
   report_of asked means = absurd means
 
-  -- which file changed: none, or that of the pairs of rules of a list, or new ones of a cut
-  gained : (write : Option (List ℕ)) (lines : List LineView) (sections : List Section) → WritesPairs before after write (text_of_pairs (table_of lines) lines sections) → MayGainFiles before.gives after.gives
-  gained None lines sections stay = inl stay.1
-  gained (Some path) lines sections (gives, others) = inr (inl (path, (lines, sections, gives), others.1))
+  -- what is written is the text of pairs of rules, or of the file that is read without some lines
+  content_of : (prune : Bool) (accept out baseline : Option (List ℕ)) (path : List ℕ) (lines : List LineView) (found left : List Section) → (prune ≡ true → out ≡ accept) → IsBaseline before.gives accept baseline
+      → out ≡ Some path → IsPairsText before.gives path (written_text prune baseline (table_of lines) lines found left)
+  content_of false accept out baseline path lines found left of read is = (lines, left, inl refl)
+  content_of true None out baseline path lines found left of read is = (let e = sym (of refl) ∙ is in cc)
+  content_of true (Some file) out baseline path lines found left of (text, some, holds) is =
+      let same : file ≡ path = (let e = sym (of refl) ∙ is in cc) in
+      (lines, found, inr (text, subst (λ (p : List ℕ). before.gives.may p (Holds text)) same holds, ap (λ (b : Option (List ℕ)). pruned_text b (table_of lines) lines found) some))
+
+  -- which file changed: none, or the one that is written with a list, or new ones of a cut
+  gained : (out : Option (List ℕ)) (is : Bool) (content : List ℕ) → ((path : List ℕ) → out ≡ Some path → IsPairsText before.gives path content) → WritesFile before after out is content
+      → MayGainFiles before.gives after.gives
+  gained None is content of stay = inl stay.1
+  gained (Some path) false content of stay = inl stay.1
+  gained (Some path) true content of (gives, others) = inr (inl (path, content, of path refl, gives, others.1))
+
+  pruned_path : (pairs : PairFiles) → pairs.prune ≡ true → written_path pairs ≡ option_copied pairs.accept
+  pruned_path pairs is = ap (λ (b : Bool). if b then option_copied pairs.accept else option_copied pairs.write) is
 
   gains : (asked : Question) → MeansRefuted asked before after → KeepsFilesRefuted asked before after → MayGainFiles before.gives after.gives
-  gains (question.Clashes path limit first option pairs) (left_out, spelled, (lines, accepted, list, other)) keeps = gained (option_copied pairs.write) lines list.sections list.pairs
+  gains (question.Clashes path limit first option pairs) (left_out, spelled, (lines, accepted, list, other)) keeps =
+      gained (written_path pairs) (is_written pairs.prune list.is.taken list.is.left) (written_text pairs.prune list.baseline (table_of lines) lines list.is.found list.is.left)
+      (λ path is. content_of pairs.prune (option_copied pairs.accept) (written_path pairs) list.baseline path lines list.is.found list.is.left (pruned_path pairs) list.read is) list.written
   gains (question.Clash path left right options) means keeps = inl keeps.1
   gains (question.Check path cert option) means keeps = inl keeps.1
   gains (question.CheckUpTo path cert accept option) means keeps = inl keeps.1
@@ -82,10 +99,18 @@ module _ (before after : World) (same_file : MayBeSame) (input : Option (List �
   performed_one (task.Ask asked) status is one = let (means, keeps) = is.refuted (refuted_by status one) in (report_of asked means, gains asked means keeps)
 
 -- the same since before the folders were set
+text_since : (first before : FileAnswers) → MayAnswerSame first before → (path content : List ℕ) → IsPairsText before path content → IsPairsText first path content
+text_since first before kept path content (lines, sections, is) = (
+  lines,
+  sections,
+  (elim is [ inl pairs ↦ inl pairs | inr (text, holds, without) ↦ inr (text, (kept path (Holds text)).0 holds, without) ]),
+)
+
 pub gained_since : (first before after : FileAnswers) → MayAnswerSame first before → MayGainFiles before after → MayGainFiles first after
 gained_since first before after kept gains = elim gains [
   | inl same ↦ inl (λ p a. ((λ h. (kept p a).0 ((same p a).0 h)), (λ h. (same p a).1 ((kept p a).1 h))))
-  | inr (inl (path, has, others)) ↦ inr (inl (path, has, λ p a other. ((λ h. (kept p a).0 ((others p a other).0 h)), (λ h. (others p a other).1 ((kept p a).1 h)))))
+  | inr (inl (path, content, is, has, others)) ↦
+      inr (inl (path, content, text_since first before kept path content is, has, λ p a other. ((λ h. (kept p a).0 ((others p a other).0 h)), (λ h. (others p a other).1 ((kept p a).1 h)))))
   | inr (inr (files, (new, given, others))) ↦
       inr (inr (
         files,

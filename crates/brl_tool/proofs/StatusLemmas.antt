@@ -6,9 +6,6 @@ use Rattle.std.specs.Prelude.{◌==◌, ◌||◌, flat_map, if◌then◌else◌,
 use Rattle.std.specs.List.{list_all, list_any}
 use Rattle.std.specs.Str.Lines.{lines as rows_of_text}
 use Rattle.std.proofs.lemmas.List.{get_or_append_left, length-append}
-use Rattle.std.proofs.lemmas.List.Elements.{filter_passes}
-use Rattle.brl_accepted.specs.Pairs.{wording}
-use Rattle.brl_accepted.specs.Reading.{Accepts, is_excused}
 use Rattle.brl_cert.specs.Reading.{spelling}
 use Rattle.brl_lines.specs.Answer.{FileAnswers}
 use Rattle.brl_lines.specs.Lines.{Answers as Given}
@@ -30,16 +27,15 @@ use Rattle.brl_rules.specs.Translation.{IsClash}
 use Rattle.brl_report.specs.Report.{report_text}
 use Rattle.brl_answers.proofs.DeliveryLemmas.{none_changes, one_changes}
 use Rattle.brl_clashes.proofs.Verdicts.{none_clash, only_accepted, other_clash}
-use Rattle.brl_clashes.specs.ClashesText.{IsClashesText}
-use Rattle.brl_clashes.specs.Sections.{are_whole, listed_pairs, lists_none, outcome_of}
-use Rattle.brl_clashes.specs.Sets.{sets_of_table}
+use Rattle.brl_clashes.specs.Sections.{are_whole, lists_none, outcome_of}
+use Rattle.brl_clashes.specs.declared.accepted.Taken.{Taken}
 use Rattle.brl_clashes.specs.declared.section.Section.{Section}
 use Rattle.brl_clashes.specs.declared.verdict.Outcome.{Outcome}
 use Rattle.brl_clashes.specs.declared.verdict.Outcome.TheVariants.{Unambiguous, Clashing, Unfinished}
 use Rattle.brl_table.specs.Reading.{PassesAll, table_of}
-use Rattle.brl_tool.specs.Baselines.{AreAccepted, AreFilesWith, IsBaseline, accepted_number, text_of_pairs}
+use Rattle.brl_tool.specs.Baselines.{AreAccepted, AreFilesWith, IsBaseline, is_written, leaves_stale, written_path, written_text}
 use Rattle.brl_traces.specs.Traces.{ClashesDivergeAtWithout}
-use Rattle.brl_tool.specs.Diagnosing.{DiagnosesByFile, IsDiagnosis, status_of_outcome}
+use Rattle.brl_tool.specs.Diagnosing.{DiagnosesByFile, IsDiagnosis, status_of_sections}
 use Rattle.brl_cut.specs.Cuts.{IsReadAs, written_root}
 use Rattle.brl_cut.specs.Edits.{Texts}
 use Rattle.brl_tool.specs.Comparing.{ComparesByFile, ComparesByWords, IsComparison}
@@ -52,7 +48,7 @@ use Rattle.brl_answers.specs.Answers.{BySpelled, ByText, IsBadLeftOut, IsBadText
 use Rattle.brl_answers.specs.Delivery.{Delivers, World, KeepsFiles, Prints, Writes}
 use Rattle.brl_answers.specs.Files.{GivesAlso, MayBeSame, OthersStay}
 use Rattle.brl_answers.specs.Making.{FilesAfter}
-use Rattle.brl_tool.specs.Running.{Answers, AreNamedBy, Asks, ClashAtAccepted, KeepsFilesBut, KeepsFilesRefuted, KeepsFilesUnlessWritten, MeansDone, MeansRefuted, WritesList, WritesPairs, WritesTable}
+use Rattle.brl_tool.specs.Running.{Answers, Asks, ClashAtAccepted, KeepsFilesBut, KeepsFilesRefuted, KeepsFilesUnlessWritten, MeansDone, MeansRefuted, WritesFile, WritesList, WritesTable}
 use Rattle.brl_tool.specs.Surveying.{IsPart, IsReportIfLoaded, IsSuspectAt, Part, status_by, text_of_part}
 use Rattle.brl_tool.specs.Suspects.{has_unknown_opcode}
 use Rattle.brl_table.specs.Survey.{faulty_line_view}
@@ -64,6 +60,7 @@ use Rattle.brl_answers.specs.declared.run_fault.RunFault.{RunFault}
 use Rattle.brl_answers.specs.declared.run_fault.RunFault.TheVariants.{Wide, Memory}
 use Rattle.brl_answers.specs.declared.status.Status.{Status}
 use Rattle.brl_answers.specs.declared.status.Status.TheVariants.{Done, Faulty, Refuted}
+use Rattle.brl_cli.specs.declared.command.PairFiles.{PairFiles}
 use Rattle.brl_cli.specs.declared.command.Question.{Question}
 use Rattle.brl_cli.specs.declared.command.Question.TheVariants as question
 
@@ -108,16 +105,20 @@ any_suspect brief gives [] are told = absurd cc
 any_suspect brief gives (part ∷ parts) are told =
     first_suspect brief gives part (list_any (λ p. p.suspect) parts) (are 0 part (omega arith)) (any_suspect brief gives parts (λ k d within. are (suc k) d (omega arith))) part.suspect refl told
 
--- a list of clashes has the status of its outcome
-no_pair : (o : Outcome) → status_of_outcome o ≡ Done → o ≡ Unambiguous
-no_pair Unambiguous e = refl
-no_pair Clashing e = absurd cc
-no_pair Unfinished e = absurd cc
+-- a list of clashes has the status of its outcome, beside what a file takes out
+done_none : (stale : Bool) → (if stale then Faulty else Done) ≡ Refuted → ⊥
+done_none true e = cc
+done_none false e = cc
 
-some_pair : (o : Outcome) → status_of_outcome o ≡ Refuted → o ≡ Clashing
-some_pair Unambiguous e = absurd cc
-some_pair Clashing e = refl
-some_pair Unfinished e = absurd cc
+no_pair : (taken : Option Taken) (o : Outcome) → status_of_sections taken o ≡ Done → o ≡ Unambiguous
+no_pair taken Unambiguous e = refl
+no_pair taken Clashing e = absurd cc
+no_pair taken Unfinished e = absurd cc
+
+some_pair : (taken : Option Taken) (o : Outcome) → status_of_sections taken o ≡ Refuted → o ≡ Clashing
+some_pair taken Unambiguous e = absurd (done_none (leaves_stale taken) e)
+some_pair taken Clashing e = refl
+some_pair taken Unfinished e = absurd cc
 
 -- what has a verdict is whole
 is_decided : (is_whole none : Bool) → ((if is_whole then (if none then Unambiguous else Clashing) else Unfinished) ≡ Unfinished → ⊥) → is_whole ≡ true
@@ -180,16 +181,19 @@ module _ (before after : World) (same_file : MayBeSame) where
   file_written content out (InPlace file) (path, bytes) (gives, others) =
       (subst (λ (p : List ℕ). GivesAlso after.gives p content) path (subst (GivesAlso after.gives (string_bytes file.path)) bytes gives), subst (OthersStay before.gives after.gives) path others)
 
-  -- the pairs of a whole list are written, where a path for them is asked for
-  pairs_written : (write : Option (List ℕ)) (is_whole : Bool) (content : List ℕ) (files : NewFiles) → is_whole ≡ true → AreFilesWith write is_whole content files → FilesAfter before.gives after.gives files
-      → WritesPairs before after write content
-  pairs_written None is_whole content files e are written = subst (FilesAfter before.gives after.gives) are written
-  pairs_written (Some path) false content files e are written = absurd cc
-  pairs_written (Some path) true content files e are written = file_written content path files are written
+  -- a file is written, where a path for it is asked for and it is to be
+  list_file : (out : Option (List ℕ)) (is : Bool) (content : List ℕ) (files : NewFiles) → AreFilesWith out is content files → FilesAfter before.gives after.gives files → WritesFile before after out is content
+  list_file None is content files are written = subst (FilesAfter before.gives after.gives) are written
+  list_file (Some path) false content files are written = subst (FilesAfter before.gives after.gives) are written
+  list_file (Some path) true content files are written = file_written content path files are written
 
-  keeps_others : (write : Option (List ℕ)) (content : List ℕ) → WritesPairs before after write content → KeepsFilesBut write before after
-  keeps_others None content written = written
-  keeps_others (Some path) content written = written.1
+  stays_but : (path : List ℕ) → KeepsFiles before after → OthersStay before.gives after.gives path
+  stays_but path stay = (stay.0, λ p a other. stay.1 p a)
+
+  keeps_others : (out : Option (List ℕ)) (is : Bool) (content : List ℕ) → WritesFile before after out is content → KeepsFilesBut out before after
+  keeps_others None is content written = written
+  keeps_others (Some path) false content written = stays_but path written
+  keeps_others (Some path) true content written = written.1
 
   -- answers for other files are given after a file is written
   answers_stay : (out : List ℕ) → OthersStay before.gives after.gives out → (answers : Given) → All (λ one. one ≢ out) (map (λ entry. entry.0) answers) → AreGiven before.gives answers → AreGiven after.gives answers
@@ -218,43 +222,40 @@ module _ (before after : World) (same_file : MayBeSame) where
 
   -- ---- A list of clashes beside accepted pairs
 
-  -- the accepted pairs are named by lines of the file
-  named_by : (accept baseline : Option (List ℕ)) (lines : List LineView) (found : List Section) (accepted : List (ℕ × ℕ)) → IsBaseline before.gives accept baseline
-      → AreAccepted baseline (table_of lines) lines found accepted → AreNamedBy before.gives accept lines accepted
-  named_by None baseline lines found accepted none accepts = subst (λ (b : Option (List ℕ)). AreAccepted b (table_of lines) lines found accepted) none accepts
-  named_by (Some path) baseline lines found accepted (text, some, gives) accepts =
-      let t = table_of lines in
-      let words = wording t lines in
-      let is : Accepts t words (sets_of_table t) (listed_pairs found) (are_whole found) text accepted = subst (λ (b : Option (List ℕ)). AreAccepted b t lines found accepted) some accepts in
-      (text, gives, subst (All (λ pair. is_excused t words (rows_of_text text) pair ≡ true)) (sym is.named) (filter_passes (is_excused t words (rows_of_text text)) (listed_pairs found)))
-
-  same_number : (accept baseline : Option (List ℕ)) (accepted : List (ℕ × ℕ)) → IsBaseline before.gives accept baseline → accepted_number baseline accepted ≡ accepted_number accept accepted
-  same_number None baseline accepted none = ap (λ b. accepted_number b accepted) none
-  same_number (Some path) baseline accepted (text, some, gives) = ap (λ b. accepted_number b accepted) some
+  -- where no file is read, none are accepted
+  none_accepted : (baseline : Option (List ℕ)) (prune : Bool) (t : TableView) (lines : List LineView) (found : List Section) (accepted : List (ℕ × ℕ)) (taken : Option Taken) → IsBaseline before.gives None baseline
+      → AreAccepted baseline prune t lines found accepted taken → accepted ≡ []
+  none_accepted baseline prune t lines found accepted taken none accepts = (subst (λ (b : Option (List ℕ)). AreAccepted b prune t lines found accepted taken) none accepts).0
 
   -- where no other clash is left, no texts clash but at accepted pairs
-  at_accepted : (accept : Option (List ℕ)) (left_out : List ℕ) (lines : List LineView) (accepted : List (ℕ × ℕ)) → AreNamedBy before.gives accept lines accepted
-      → ClashesDivergeAtWithout left_out accepted (table_of lines) → ClashAtAccepted accept left_out accepted (table_of lines)
-  at_accepted None left_out lines accepted none only = none_clash (table_of lines) left_out (subst (λ (pairs : List (ℕ × ℕ)). ClashesDivergeAtWithout left_out pairs (table_of lines)) none only)
-  at_accepted (Some path) left_out lines accepted named only = only
+  at_accepted : (accept baseline : Option (List ℕ)) (prune : Bool) (left_out : List ℕ) (lines : List LineView) (found : List Section) (accepted : List (ℕ × ℕ)) (taken : Option Taken) → IsBaseline before.gives accept baseline
+      → AreAccepted baseline prune (table_of lines) lines found accepted taken → ClashesDivergeAtWithout left_out accepted (table_of lines) → ClashAtAccepted accept left_out accepted (table_of lines)
+  at_accepted None baseline prune left_out lines found accepted taken none accepts only =
+      none_clash (table_of lines) left_out
+      (subst (λ (pairs : List (ℕ × ℕ)). ClashesDivergeAtWithout left_out pairs (table_of lines)) (none_accepted baseline prune (table_of lines) lines found accepted taken none accepts) only)
+  at_accepted (Some path) baseline prune left_out lines found accepted taken read accepts only = only
 
-  -- a list that is whole was written, and its pairs
-  list_written : (path left_out : List ℕ) (accept write baseline : Option (List ℕ)) (paths : List (List ℕ)) (lines : List LineView) (limit first : ℕ) (answer : Answer) → AreLinesOfFiles before.gives path paths lines
-      → PassesAll lines → IsBaseline before.gives accept baseline → (d : IsDiagnosis left_out (table_of lines) lines limit first baseline write answer) → (outcome_of d.left ≡ Unfinished → ⊥)
-      → FilesAfter before.gives after.gives answer.files → Prints before after (string_bytes answer.text) → WritesList before after path left_out accept write lines d.accepted
-  list_written path left_out accept write baseline paths lines limit first answer are passes read d decided files prints = record {
+  -- a list that is whole was written, and its file
+  list_written : (path left_out : List ℕ) (pairs : PairFiles) (baseline : Option (List ℕ)) (paths : List (List ℕ)) (lines : List LineView) (limit first : ℕ) (answer : Answer) → AreLinesOfFiles before.gives path paths lines
+      → PassesAll lines → IsBaseline before.gives (option_copied pairs.accept) baseline → (d : IsDiagnosis left_out (table_of lines) lines limit first baseline pairs answer) → (outcome_of d.left ≡ Unfinished → ⊥)
+      → FilesAfter before.gives after.gives answer.files → Prints before after (string_bytes answer.text) → WritesList before after path left_out pairs lines d.accepted
+  list_written path left_out pairs baseline paths lines limit first answer are passes read d decided files prints = record {
     lines_are = lines_of before.gives path paths lines are;
     passes = passes;
-    named = named_by accept baseline lines d.found d.accepted read d.accepts;
+    limit = limit;
     first = first;
-    sections = d.left;
-    text = string_bytes answer.text;
-    shows = subst (λ (n : Option ℕ). IsClashesText (table_of lines) lines left_out first n d.left (string_bytes answer.text)) (same_number accept baseline d.accepted read) d.shows;
+    baseline = baseline;
+    read = read;
+    answer = answer;
+    is = d;
+    accepted_are = refl;
+    whole = is_decided (are_whole d.left) (list_all (λ s. lists_none s.found) d.left) decided;
     prints = prints;
-    pairs = pairs_written write (are_whole d.left) (text_of_pairs (table_of lines) lines d.left) answer.files (is_decided (are_whole d.left) (list_all (λ s. lists_none s.found) d.left) decided) d.files files;
+    written = list_file (written_path pairs) (is_written pairs.prune d.taken d.left) (written_text pairs.prune baseline (table_of lines) lines d.found d.left) answer.files d.files files;
   }
 
   means : (asked : Question) (answer : Answer) → IsAnswerTo asked answer → Means asked answer
+  unfolding list_written spelled_in
   means (question.Clash path left right options) answer compares files prints =
       let (l, r, by_file) = texts_compared options before.gives path.now left.now right.now answer compares in
       let (paths, lines, are, passes, is) = by_file in
@@ -381,20 +382,19 @@ module _ (before after : World) (same_file : MayBeSame) where
       ]
   means (question.Clashes path limit first option pairs) answer is files prints =
       let accept = option_copied pairs.accept in
-      let write = option_copied pairs.write in
-      let (left_out, spelled, listed) = spelled_in (spelled_by (option_copied option)) (IsBadLeftOut (option_copied option)) (λ left_out. DiagnosesByFile left_out before.gives same_file path.now limit first accept write) answer is in
+      let (left_out, spelled, listed) = spelled_in (spelled_by (option_copied option)) (IsBadLeftOut (option_copied option)) (λ left_out. DiagnosesByFile left_out before.gives same_file path.now limit first pairs) answer is in
       let (paths, lines, are, passes, apart, (defined, (baseline, read, d))) = listed in
       let t = table_of lines in
-      let list = list_written path.now left_out accept write baseline paths lines limit first answer are passes read d in (
+      let list = list_written path.now left_out pairs baseline paths lines limit first answer are passes read d in (
         (λ done.
-            let none = no_pair (outcome_of d.left) (sym d.status ∙ done) in
+            let none = no_pair d.taken (outcome_of d.left) (sym d.status ∙ done) in
             let written = list (λ e. let u = sym none ∙ e in cc) files prints in
-            (left_out, spelled, (lines, d.accepted, written, at_accepted accept left_out lines d.accepted written.named (only_accepted t left_out limit d.accepted d.found d.left d.are d.beside none)))),
+            (left_out, spelled, (lines, d.accepted, written, at_accepted accept baseline pairs.prune left_out lines d.found d.accepted d.taken read d.accepts (only_accepted t left_out limit d.accepted d.found d.left d.are d.beside none)))),
         (λ refuted.
-            let some = some_pair (outcome_of d.left) (sym d.status ∙ refuted) in
+            let some = some_pair d.taken (outcome_of d.left) (sym d.status ∙ refuted) in
             let written = list (λ e. let u = sym some ∙ e in cc) files prints in (
               (left_out, spelled, (lines, d.accepted, written, other_clash t left_out limit d.accepted d.found d.left d.are d.beside some)),
-              keeps_others write (text_of_pairs t lines written.sections) written.pairs,
+              keeps_others (written_path pairs) (is_written pairs.prune d.taken d.left) (written_text pairs.prune baseline t lines d.found d.left) written.written,
             )),
       )
 
@@ -420,7 +420,7 @@ module _ (before after : World) (same_file : MayBeSame) where
 
   keeps_all_but : (write : Option (List ℕ)) → KeepsFiles before after → KeepsFilesBut write before after
   keeps_all_but None stay = stay
-  keeps_all_but (Some path) stay = (stay.0, λ p a other. stay.1 p a)
+  keeps_all_but (Some path) stay = stays_but path stay
 
   -- a file with pairs alone changes
   one_alone : (answer : Answer) (path content : List ℕ) (files : NewFiles) → answer.files ≡ files → IsFileWith path content files → (written : Result Status RunFault) → Writes answer before after written
@@ -459,12 +459,10 @@ module _ (before after : World) (same_file : MayBeSame) where
       (λ left_out. ChecksUpTo left_out before.gives path.now cert.now accept.now) answer is in
       none_changes before after answer written (judged_has_none left_out excused sets (table_of lines) bytes answer judged) writes
   keeps (question.Clashes path limit first option pairs) (Ok answer) status is (written, writes, e) =
-      let accept = option_copied pairs.accept in
-      let write = option_copied pairs.write in
-      let (left_out, spelled, listed) = spelled_in (spelled_by (option_copied option)) (IsBadLeftOut (option_copied option)) (λ left_out. DiagnosesByFile left_out before.gives same_file path.now limit first accept write) answer is in
+      let (left_out, spelled, listed) = spelled_in (spelled_by (option_copied option)) (IsBadLeftOut (option_copied option)) (λ left_out. DiagnosesByFile left_out before.gives same_file path.now limit first pairs) answer is in
       let (paths, lines, are, passes, apart, (defined, (baseline, read, d))) = listed in
-      pairs_alone answer write (are_whole d.left) (text_of_pairs (table_of lines) lines d.left) d.files written writes
-  keeps (question.Clashes path limit first option pairs) (Err fault) status is (stay, still, e) = keeps_all_but (option_copied pairs.write) stay
+      pairs_alone answer (written_path pairs) (is_written pairs.prune d.taken d.left) (written_text pairs.prune baseline (table_of lines) lines d.found d.left) d.files written writes
+  keeps (question.Clashes path limit first option pairs) (Err fault) status is (stay, still, e) = keeps_all_but (written_path pairs) stay
   keeps asked (Err fault) status is (stay, still, e) = stay
 
   -- the answer to a question was delivered

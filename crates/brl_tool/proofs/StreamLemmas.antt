@@ -2,7 +2,7 @@
 use Rattle.std.proofs.Common.{◌≡◌, ◌∙◌, append_assoc, ℕ, List, [], ◌∷◌, ◌++◌, Option, Some, Err, codes, inl, inr, refl, subst, sym}
 use Rattle.std.specs.Fmt.{decimal}
 use Rattle.std.specs.Str.{encode_utf8_all}
-use Rattle.brl_lines.specs.Spelling.{text_spelling}
+use Rattle.brl_lines.specs.Visible.{visible_text}
 use Rattle.brl_stream.specs.declared.lacking.Lacking.{Lacking}
 use Rattle.brl_lines.specs.Answer.{FileAnswers}
 use Rattle.brl_lines.specs.Outcome.{CountsFailure}
@@ -38,7 +38,7 @@ count_at_stream T before now fault error same stays = subst (λ (f : RunFault). 
     by_fault (failures.Fault fault) = stays
 
 -- the line of a character is printed piece by piece
-pub lacking_pieces : (lacking : Lacking) (spelled code count line : List ℕ) → spelled ≡ encode_utf8_all (text_spelling (lacking.character ∷ [])) → code ≡ code_point lacking.character → count ≡ decimal lacking.count → line ≡ decimal lacking.line
+pub lacking_pieces : (lacking : Lacking) (spelled code count line : List ℕ) → spelled ≡ encode_utf8_all (visible_text (lacking.character ∷ [])) → code ≡ code_point lacking.character → count ≡ decimal lacking.count → line ≡ decimal lacking.line
     → codes "lacking " ++ (spelled ++ (codes " " ++ (code ++ (codes ": count " ++ (count ++ (codes ", first line " ++ (line ++ codes "\n"))))))) ≡ lacking_line lacking
 lacking_pieces lacking spelled code count line s o n l =
     sym (joined (codes "lacking ") spelled (codes " ") code (codes ": count ") count (codes ", first line ") line (codes "\n")) ∙ rw (s, o, n, l) refl

@@ -5,7 +5,6 @@ use Rattle.brl_accept.specs.Judging.{IsRefusedFor}
 use Rattle.brl_accept.specs.declared.judge_fault.JudgeFault.{JudgeFault}
 use Rattle.brl_accept.specs.declared.judge_fault.JudgeFault.TheVariants as judge
 use Rattle.brl_answers.proofs.Moved.{fault_moved}
-use Rattle.brl_accepted.specs.declared.fault.AcceptFault.{AcceptFault as AcceptedFault}
 use Rattle.brl_answers.specs.Answers.{HasNoTable, HasTextAndStatus, UnlessMemory, counts_line, load_outcome}
 use Rattle.brl_answers.specs.Status.{of_failure}
 use Rattle.brl_answers.specs.Files.{MayBeSame}
@@ -35,7 +34,7 @@ use Rattle.brl_table.specs.Reading.{IsFaultOf, PassesAll, table_of}
 use Rattle.brl_table.specs.declared.table_fault.TableFault.{TableFault}
 use Rattle.brl_table.specs.declared.no_table.NoTable.TheVariants as no_table
 use Rattle.brl_tool.proofs.ClashesLemmas.{given_before, text_fault_before}
-use Rattle.brl_tool.specs.Baselines.{IsFaultOfLine, read_paths}
+use Rattle.brl_tool.specs.Baselines.{read_paths}
 use Rattle.brl_tool.specs.UpTo.{ByExcusal, ChecksUpTo, FindsUpTo, IsAcceptanceUpTo, IsCertificateUpTo, IsExcusedAt, IsFaultBeforeExcusal, IsFaultOfExcusal, IsUnexchanged, IsVerdictUpTo, JudgesFileUpTo, JudgesUpTo, SearchesUpTo}
 use Rattle.brl_tool.specs.Verdicts.{IsOverwriting, IsRefusal, RendersFailure}
 use Rattle.brl_without.specs.Tables.{AreDefined}
@@ -44,7 +43,7 @@ use Rattle.brl_without.specs.Tables.{AreDefined}
 
 module _ (before after : FileAnswers) (same : Unchanged before after) where
   excused_before : (path : List ℕ) (t : TableView) (lines : List LineView) (excused : Excused) (sets : ℕ) → IsExcusedAt after path t lines excused sets → IsExcusedAt before path t lines excused sets
-  excused_before path t lines excused sets h = record { text = h.text; there = given_before before after same path (Holds h.text) h.there; excuses = h.excuses; count = h.count }
+  excused_before path t lines excused sets h = record { text = h.text; there = given_before before after same path (Holds h.text) h.there; good = h.good; excuses = h.excuses; count = h.count }
 
   pub excusal_fault_before : (path : List ℕ) (t : TableView) (lines : List LineView) (fault : RunFault) → IsFaultOfExcusal after path t lines fault → IsFaultOfExcusal before path t lines fault
   excusal_fault_before path t lines (Load fault) h = text_fault_before before after same path (Load fault) h
@@ -156,13 +155,6 @@ judged_count before now same left_out t bytes excused sets (Err Memory) h = inl 
 judged_count before now same left_out t bytes excused sets (Err fault) h = absurd h
 
 -- ---- Faults that are handed on
-
-pub line_fault : (is : AcceptedFault → Type 0) (failure : Failure AcceptedFault) (fault : RunFault) → fault ≡ of_failure Accept failure → IfFault is failure → IsFaultOfLine is fault
-line_fault is failure fault e h = subst (IsFaultOfLine is) (sym e) (by failure h)
-  where
-    by : (f : Failure AcceptedFault) → IfFault is f → IsFaultOfLine is (of_failure Accept f)
-    by (failures.Fault found) k = k
-    by failures.Memory k = tt
 
 pub table_fault : (gives : FileAnswers) (path : List ℕ) (lines : List LineView) → AreLinesOf gives path lines → (failure : Failure TableFault) (fault : RunFault) → fault ≡ of_failure Table failure → IfFault (IsFaultOf lines) failure
     → HasNoTable gives path fault

@@ -1,19 +1,21 @@
 -- The files of pairs of rules that `brl clashes` reads and writes. The project's own choice.
-use Rattle.std.specs.Prelude.{ℕ, ◌≡◌, ◌≢◌, All, Any, Bool, true, false, List, [], ◌∷◌, ◌++◌, Option, None, Some, length, option_map, string_bytes}
+use Rattle.std.specs.Prelude.{ℕ, ◌≡◌, ◌≢◌, ◌&&◌, All, Any, Bool, true, false, if◌then◌else◌, List, [], ◌∷◌, ◌++◌, Option, None, Some, length, nat_lt, not, string_bytes}
+use Rattle.std.specs.Option.{option_copied, option_map_or}
 use Rattle.std.specs.Str.{is_utf8}
 use Rattle.brl_accepted.specs.Pairs.{wording}
-use Rattle.brl_accepted.specs.Reading.{Accepts, IsRefused}
+use Rattle.brl_accepted.specs.Reading.{Accepts, pruned, stale_count}
 use Rattle.brl_accepted.specs.Writing.{accepted_text}
-use Rattle.brl_accepted.specs.declared.fault.AcceptFault.{AcceptFault}
-use Rattle.brl_accepted.specs.declared.reading.Baseline.{Baseline}
+use Rattle.brl_accepted.specs.declared.counts.Counts.{Counts}
 use Rattle.brl_answers.specs.Files.{MayBeSame}
 use Rattle.brl_answers.specs.declared.new_files.NewFiles.{NewFiles}
 use Rattle.brl_answers.specs.declared.new_files.NewFiles.TheVariants.{Nothing}
 use Rattle.brl_answers.specs.declared.run_fault.RunFault.{RunFault}
-use Rattle.brl_answers.specs.declared.run_fault.RunFault.TheVariants.{Accept, Load, Memory, PairsWouldOverwrite}
+use Rattle.brl_answers.specs.declared.run_fault.RunFault.TheVariants.{Load, Memory, PairsWouldOverwrite}
 use Rattle.brl_clashes.specs.Sections.{are_whole, listed_pairs}
 use Rattle.brl_clashes.specs.Sets.{sets_of_table}
+use Rattle.brl_clashes.specs.declared.accepted.Taken.{Taken}
 use Rattle.brl_clashes.specs.declared.section.Section.{Section}
+use Rattle.brl_cli.specs.declared.command.PairFiles.{PairFiles}
 use Rattle.brl_lines.specs.Answer.{FileAnswer, FileAnswers, Holds}
 use Rattle.brl_lines.specs.Tokens.{LineView}
 use Rattle.brl_lines.specs.declared.fault.LoadFaultKind.{LoadFaultKind}
@@ -41,33 +43,24 @@ abbrev pub IsBaseline : FileAnswers → Option (List ℕ) → Option (List ℕ) 
 IsBaseline gives None baseline = baseline ≡ None
 IsBaseline gives (Some path) baseline = (text : List ℕ) × (baseline ≡ Some text) × gives.may path (Holds text)
 
--- the pairs that are accepted of those that sections list: those that the text of a file names,
--- where each line of it is good; none without such a text
-abbrev pub AreAccepted : Option (List ℕ) → TableView → List LineView → List Section → List (ℕ × ℕ) → Type 0
-AreAccepted None t lines sections accepted = accepted ≡ []
-AreAccepted (Some text) t lines sections accepted = Accepts t (wording t lines) (sets_of_table t) (listed_pairs sections) (are_whole sections) text accepted
+-- What the text of a file accepts of the pairs that are listed, and how much: the number of these,
+-- those of the pairs and sets that its lines name, and that of its stale lines.
+abbrev pub IsTakenOut : TableView → List (List ℕ) → List (List ℕ) → List (ℕ × ℕ) → Bool → List ℕ → Bool → List (ℕ × ℕ) → Option Taken → Type 0
+IsTakenOut t words sets listed whole text prune accepted taken =
+    (counts : Counts) × Accepts t words sets listed whole text accepted counts
+    × (taken ≡ Some (record { listed = length accepted; counts = counts; stale = stale_count words sets listed whole text; pruned = prune }))
 
--- how many pairs are accepted, where pairs are read
-abbrev pub accepted_number : Option (List ℕ) → List (ℕ × ℕ) → Option ℕ
-accepted_number baseline accepted = option_map (λ text. length accepted) baseline
+-- the same of the pairs that sections list, where a file is read; nothing without one
+abbrev pub AreAccepted : Option (List ℕ) → Bool → TableView → List LineView → List Section → List (ℕ × ℕ) → Option Taken → Type 0
+AreAccepted None prune t lines sections accepted taken = (accepted ≡ []) × (taken ≡ None)
+AreAccepted (Some text) prune t lines sections accepted taken =
+    IsTakenOut t (wording t lines) (sets_of_table t) (listed_pairs sections) (are_whole sections) text prune accepted taken
 
--- the first bad line of a file of accepted pairs, by its path and its text, is refused beside what
--- these sections list
-abbrev pub IsBadLine : TableView → List LineView → List Section → List ℕ → List ℕ → AcceptFault → Type 0
-IsBadLine t lines sections path text fault = IsRefused (wording t lines) (sets_of_table t) (listed_pairs sections) (are_whole sections) path text fault
+-- whether stale lines stay in the file
+abbrev pub leaves_stale : Option Taken → Bool
+leaves_stale taken = option_map_or (λ own. not own.pruned && nat_lt 0 own.stale) taken false
 
--- the same of a file that may be asked for
-abbrev pub IsBadLineOf : TableView → List LineView → List Section → Option Baseline → AcceptFault → Type 0
-IsBadLineOf t lines sections None fault = ⊥
-IsBadLineOf t lines sections (Some file) fault = IsBadLine t lines sections file.path.now file.text.now fault
-
--- the fault is that of a line, which is refused so; or memory ran out
-abbrev pub IsFaultOfLine : (AcceptFault → Type 0) → RunFault → Type 0
-IsFaultOfLine is_bad (Accept fault) = is_bad fault
-IsFaultOfLine is_bad Memory = Unit {0}
-IsFaultOfLine is_bad fault = ⊥
-
--- ---- The file that gets the pairs
+-- ---- The file that is written
 
 -- the pairs of rules that sections list, as the text of a file
 abbrev pub text_of_pairs : TableView → List LineView → List Section → List ℕ
@@ -79,17 +72,44 @@ AreFilesWith None whole text files = files ≡ Nothing
 AreFilesWith (Some path) false text files = files ≡ Nothing
 AreFilesWith (Some path) true text files = IsFileWith path text files
 
+-- the text of the file of accepted pairs without its stale lines
+abbrev pub pruned_text : Option (List ℕ) → TableView → List LineView → List Section → List ℕ
+pruned_text baseline t lines sections =
+    option_map_or (pruned (wording t lines) (sets_of_table t) (listed_pairs sections) (are_whole sections)) baseline []
+
+-- where its stale lines are to be taken out of it, this is that text
+abbrev pub IsKept : Option (List ℕ) → Bool → TableView → List LineView → List Section → List ℕ → Type 0
+IsKept baseline prune t lines sections kept = prune ≡ true → kept ≡ pruned_text baseline t lines sections
+
+-- the path of the file that is written: that of the accepted pairs, where its stale lines are taken
+-- out, else that which gets the pairs
+abbrev pub written_path : PairFiles → Option (List ℕ)
+written_path pairs = if pairs.prune then option_copied pairs.accept else option_copied pairs.write
+
+-- whether it is written: where lines are stale, or where the list is whole
+abbrev pub is_written : Bool → Option Taken → List Section → Bool
+is_written prune taken left = if prune then option_map_or (λ own. nat_lt 0 own.stale) taken false else are_whole left
+
+-- what is written
+abbrev pub written_text : Bool → Option (List ℕ) → TableView → List LineView → List Section → List Section → List ℕ
+written_text prune baseline t lines found left = if prune then pruned_text baseline t lines found else text_of_pairs t lines left
+
 -- the paths of the files that are read: those of a table, and that of the accepted pairs
 abbrev pub read_paths : List (List ℕ) → Option (List ℕ) → List (List ℕ)
 read_paths paths None = paths
 read_paths paths (Some path) = paths ++ path ∷ []
 
--- the file that gets the pairs is at none of these paths
+-- the paths of the files that are only read: that of the accepted pairs isn't one of them where
+-- stale lines are taken out of it
+abbrev pub only_read : List (List ℕ) → PairFiles → List (List ℕ)
+only_read paths pairs = read_paths paths (if pairs.prune then None else option_copied pairs.accept)
+
+-- the file that is written is at none of these paths
 abbrev pub IsApart : Option (List ℕ) → List (List ℕ) → Type 0
 IsApart None paths = Unit {0}
 IsApart (Some out) paths = All (λ one. one ≢ out) paths
 
--- the fault names one of these paths, which may be the file that gets the pairs; or memory ran out
+-- the fault names one of these paths, which may be the file that is written; or memory ran out
 abbrev pub IsOverwritingRead : MayBeSame → List (List ℕ) → Option (List ℕ) → RunFault → Type 0
 IsOverwritingRead same paths write (PairsWouldOverwrite file) =
     (out : List ℕ) × (write ≡ Some out) × Any (λ one. (one ≡ string_bytes file) × same one out) paths

@@ -10,6 +10,7 @@ pub mod Surveying
 pub mod Tracing
 pub mod Verdicts
 pub mod Notices
+pub mod Remarks
 pub mod Baselines
 pub mod Diagnosing
 pub mod UpTo

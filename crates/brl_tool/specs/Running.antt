@@ -1,13 +1,10 @@
 -- What a run of the program does. The project's own choice. `same` says which paths may name one
 -- file, `input` what is left of the input where that is known.
-use Rattle.std.specs.Prelude.{ℕ, ◌≡◌, ◌≢◌, ◌<◌, ◌==◌, ◌⊎◌, ◌↔◌, All, Bool, if◌then◌else◌, IsTrue, length, List, [], ◌++◌, false, true, map, Option, None, Some, Result, Ok, Err, String, codes, string_bytes}
+use Rattle.std.specs.Prelude.{ℕ, ◌≡◌, ◌≢◌, ◌<◌, ◌==◌, ◌⊎◌, ◌↔◌, All, Bool, true, false, if◌then◌else◌, IsTrue, length, List, [], ◌++◌, map, Option, None, Some, Result, Ok, Err, String, codes, string_bytes}
 use Rattle.std.specs.Global.{Global, Vec}
 use Rattle.std.specs.Option.{option_copied}
-use Rattle.std.specs.Str.Lines.{lines as rows_of_text}
 use Rattle.brl_accept.specs.Excusing.{IsAcceptedUpTo, IsShown}
 use Rattle.brl_accept.specs.Judging.{IsAcceptedWithout, counted}
-use Rattle.brl_accepted.specs.Pairs.{wording}
-use Rattle.brl_accepted.specs.Reading.{is_excused}
 use Rattle.brl_cert.specs.Reading.{spelling}
 use Rattle.brl_pairs.specs.Body.{BodyView}
 use Rattle.brl_pairs.specs.declared.excused.Excused.{Excused}
@@ -23,14 +20,14 @@ use Rattle.brl_search.specs.Used.{AreUnused, IsRule, IsUsed}
 use Rattle.brl_cells.specs.declared.form.Form.{Form}
 use Rattle.brl_rules.specs.TableView.{TableView}
 use Rattle.brl_rules.specs.Translation.{IsClash}
-use Rattle.brl_clashes.specs.ClashesText.{IsClashesText}
+use Rattle.brl_clashes.specs.Sections.{are_whole}
 use Rattle.brl_clashes.specs.ListedPairs.{has_pair}
 use Rattle.brl_clashes.specs.declared.section.Section.{Section}
 use Rattle.brl_lines.specs.Tokens.{LineView}
-use Rattle.brl_tool.specs.Baselines.{accepted_number, text_of_pairs}
+use Rattle.brl_tool.specs.Baselines.{IsBaseline, is_written, pruned_text, text_of_pairs, written_path, written_text}
 use Rattle.brl_tool.specs.ByLines.{shown_lines}
 use Rattle.brl_tool.specs.Comparing.{ComparesByWords}
-use Rattle.brl_tool.specs.Diagnosing.{DiagnosesByFile}
+use Rattle.brl_tool.specs.Diagnosing.{DiagnosesByFile, IsDiagnosis}
 use Rattle.brl_cut.specs.Cuts.{IsCut, IsReadAs, written_root}
 use Rattle.brl_tool.specs.Cutting.{CutsByFile, new_file_view}
 use Rattle.brl_tool.specs.Explaining.{Explains}
@@ -58,6 +55,7 @@ use Rattle.brl_failure.specs.declared.failure.Failure.{Failure}
 use Rattle.brl_failure.specs.declared.failure.Failure.TheVariants as failures
 use Rattle.brl_cli.specs.declared.command.NotATask.{NotATask}
 use Rattle.brl_cli.specs.declared.command.NotATask.TheVariants as not_a_task
+use Rattle.brl_cli.specs.declared.command.PairFiles.{PairFiles}
 use Rattle.brl_cli.specs.declared.command.Question.{Question}
 use Rattle.brl_cli.specs.declared.command.Question.TheVariants as question
 use Rattle.brl_cli.specs.declared.command.Task.{Task}
@@ -87,7 +85,7 @@ Answers (question.SearchUpTo path out limit accept option) gives same outcome =
 Answers (question.Search path out limit option) gives same outcome =
     ByLeftOut (option_copied option) (λ left_out. SearchesByFile left_out gives same path.now out.now limit) outcome
 Answers (question.Clashes path limit first option pairs) gives same outcome =
-    ByLeftOut (option_copied option) (λ left_out. DiagnosesByFile left_out gives same path.now limit first (option_copied pairs.accept) (option_copied pairs.write)) outcome
+    ByLeftOut (option_copied option) (λ left_out. DiagnosesByFile left_out gives same path.now limit first pairs) outcome
 
 -- ---- What the status says of a question
 
@@ -126,44 +124,41 @@ ReportsClash before after =
     × IsClash (table_of lines) left right cells
     × ((with_lines : Bool) × Prints before after (report_text_with (table_of lines) (shown_lines with_lines lines) left right cells))
 
--- each of these pairs of rules is named by a line of the file of accepted pairs, or is of a set of
--- characters that one names; none are, where no such file is asked for
-abbrev pub AreNamedBy : FileAnswers → Option (List ℕ) → List LineView → List (ℕ × ℕ) → Type 0
-AreNamedBy gives None lines accepted = accepted ≡ []
-AreNamedBy gives (Some path) lines accepted =
-    (text : List ℕ) × gives.may path (Holds text) × All (λ pair. IsTrue (is_excused (table_of lines) (wording (table_of lines) lines) (rows_of_text text) pair)) accepted
-
--- pairs of rules were written as the text of a file, where a path for it is asked for; no other
--- file changed
-abbrev pub WritesPairs : World → World → Option (List ℕ) → List ℕ → Type 0
-WritesPairs before after None text = KeepsFiles before after
-WritesPairs before after (Some path) text = GivesAlso after.gives path text × OthersStay before.gives after.gives path
+-- a file was written with this content, where a path for it is asked for and it is to be written;
+-- no other file changed
+abbrev pub WritesFile : World → World → Option (List ℕ) → Bool → List ℕ → Type 0
+WritesFile before after None is content = KeepsFiles before after
+WritesFile before after (Some path) false content = KeepsFiles before after
+WritesFile before after (Some path) true content = GivesAlso after.gives path content × OthersStay before.gives after.gives path
 
 -- The text of a list of clashes of the table of these lines, which are those of the file at a path,
--- was written, beside the accepted pairs; the pairs of rules of the list were written where that is
--- asked for.
-pub record WritesList (before after : World) (path left_out : List ℕ) (accept write : Option (List ℕ)) (lines : List LineView) (accepted : List (ℕ × ℕ)) : Type 0 where
+-- was written, beside the pairs that a file accepts; the list is whole. The pairs of rules of the
+-- list were written, or stale lines taken out of that file, where that is asked for.
+pub record WritesList (before after : World) (path left_out : List ℕ) (pairs : PairFiles) (lines : List LineView) (accepted : List (ℕ × ℕ)) : Type 0 where
   pub lines_are : AreLinesOf before.gives path lines
   pub passes : PassesAll lines
-  pub named : AreNamedBy before.gives accept lines accepted
+  pub limit : ℕ
   pub first : ℕ
-  pub sections : List Section
-  pub text : List ℕ
-  pub shows : IsClashesText (table_of lines) lines left_out first (accepted_number accept accepted) sections text
-  pub prints : Prints before after text
-  pub pairs : WritesPairs before after write (text_of_pairs (table_of lines) lines sections)
+  pub baseline : Option (List ℕ)
+  pub read : IsBaseline before.gives (option_copied pairs.accept) baseline
+  pub answer : Answer
+  pub is : IsDiagnosis left_out (table_of lines) lines limit first baseline pairs answer
+  pub accepted_are : accepted ≡ is.accepted
+  pub whole : IsTrue (are_whole is.left)
+  pub prints : Prints before after (string_bytes answer.text)
+  pub written : WritesFile before after (written_path pairs) (is_written pairs.prune is.taken is.left) (written_text pairs.prune baseline (table_of lines) lines is.found is.left)
 
 -- a list of clashes was written of the table of the file at the path, by which two texts clash that
 -- use none of what the option leaves out; they diverge at a pair of rules that isn't accepted
-abbrev pub ReportsOther : World → World → List ℕ → Option (List ℕ) → Option (List ℕ) → Option (List ℕ) → Type 0
-ReportsOther before after path option accept write =
+abbrev pub ReportsOther : World → World → List ℕ → Option (List ℕ) → PairFiles → Type 0
+ReportsOther before after path option pairs =
     (left_out : List ℕ) × (spelled_by option ≡ Ok left_out)
-    × ((lines : List LineView) × (accepted : List (ℕ × ℕ)) × WritesList before after path left_out accept write lines accepted
+    × ((lines : List LineView) × (accepted : List (ℕ × ℕ)) × WritesList before after path left_out pairs lines accepted
     × ((r s : ℕ) × ClashesDiverge left_out (table_of lines) r s × (has_pair accepted (r, s) ≡ false)))
 
 -- the same of the table of the file at some path, with some options
 abbrev pub ReportsClashes : World → World → Type 0
-ReportsClashes before after = (path : List ℕ) × (option accept write : Option (List ℕ)) × ReportsOther before after path option accept write
+ReportsClashes before after = (path : List ℕ) × (option : Option (List ℕ)) × (pairs : PairFiles) × ReportsOther before after path option pairs
 
 -- what no other clashes mean: no texts clash; or, where pairs are accepted, texts that clash
 -- diverge at these
@@ -174,11 +169,11 @@ ClashAtAccepted (Some path) left_out accepted t = ClashesDivergeAtWithout left_o
 -- a list of no clashes was written, and by the table of the file at the path no texts clash that
 -- use none of what the option leaves out, but at pairs of rules that the file of accepted pairs
 -- names
-abbrev pub ReportsNoOther : World → World → List ℕ → Option (List ℕ) → Option (List ℕ) → Option (List ℕ) → Type 0
-ReportsNoOther before after path option accept write =
+abbrev pub ReportsNoOther : World → World → List ℕ → Option (List ℕ) → PairFiles → Type 0
+ReportsNoOther before after path option pairs =
     (left_out : List ℕ) × (spelled_by option ≡ Ok left_out)
-    × ((lines : List LineView) × (accepted : List (ℕ × ℕ)) × WritesList before after path left_out accept write lines accepted
-    × ClashAtAccepted accept left_out accepted (table_of lines))
+    × ((lines : List LineView) × (accepted : List (ℕ × ℕ)) × WritesList before after path left_out pairs lines accepted
+    × ClashAtAccepted (option_copied pairs.accept) left_out accepted (table_of lines))
 
 -- the list of the rules that no text uses was written, of the table of the file at some path
 abbrev pub ReportsUnused : World → World → Type 0
@@ -246,7 +241,7 @@ MeansDone (question.CheckUpTo path cert accept option) before after = ReportsAcc
 MeansDone (question.SearchUpTo path out limit accept option) before after = ReportsCertificateUpTo before after path.now out.now accept.now (option_copied option)
 MeansDone (question.Search path out limit option) before after = ReportsCertificate before after path.now out.now (option_copied option)
 MeansDone (question.Clashes path limit first option pairs) before after =
-    ReportsNoOther before after path.now (option_copied option) (option_copied pairs.accept) (option_copied pairs.write)
+    ReportsNoOther before after path.now (option_copied option) pairs
 MeansDone (question.Unused path limit) before after = ReportsNoUnused before after path.now
 MeansDone (question.Cut path dir rewrite) before after = WritesTable before after path.now dir.now
 MeansDone asked before after = Unit {0}
@@ -260,7 +255,7 @@ MeansRefuted (question.CheckUpTo path cert accept option) before after = Reports
 MeansRefuted (question.Search path out limit option) before after = ReportsClash before after
 MeansRefuted (question.SearchUpTo path out limit accept option) before after = ReportsClash before after
 MeansRefuted (question.Clashes path limit first option pairs) before after =
-    ReportsOther before after path.now (option_copied option) (option_copied pairs.accept) (option_copied pairs.write)
+    ReportsOther before after path.now (option_copied option) pairs
 MeansRefuted (question.Unused path limit) before after = ReportsUnused before after
 MeansRefuted (question.Survey paths brief) before after = ReportsSuspect before after
 MeansRefuted (question.Cut path dir rewrite) before after = CutsUnknown before after path.now dir.now rewrite
@@ -276,14 +271,14 @@ abbrev pub KeepsFilesUnlessWritten : Question → World → World → Type 0
 KeepsFilesUnlessWritten (question.Search path out limit option) before after = Unit {0}
 KeepsFilesUnlessWritten (question.SearchUpTo path out limit accept option) before after = Unit {0}
 KeepsFilesUnlessWritten (question.Cut path dir rewrite) before after = Unit {0}
-KeepsFilesUnlessWritten (question.Clashes path limit first option pairs) before after = KeepsFilesBut (option_copied pairs.write) before after
+KeepsFilesUnlessWritten (question.Clashes path limit first option pairs) before after = KeepsFilesBut (written_path pairs) before after
 KeepsFilesUnlessWritten asked before after = KeepsFiles before after
 
--- no file changes where something was refuted, but the one that gets the pairs of a list of
--- clashes, and the new files of a cut
+-- no file changes where something was refuted, but the one that is written with a list of clashes,
+-- and the new files of a cut
 abbrev pub KeepsFilesRefuted : Question → World → World → Type 0
 KeepsFilesRefuted (question.Cut path dir rewrite) before after = WritesTable before after path.now dir.now
-KeepsFilesRefuted (question.Clashes path limit first option pairs) before after = KeepsFilesBut (option_copied pairs.write) before after
+KeepsFilesRefuted (question.Clashes path limit first option pairs) before after = KeepsFilesBut (written_path pairs) before after
 KeepsFilesRefuted asked before after = KeepsFiles before after
 
 -- a question was asked: its answer was delivered, and the status means what it says
@@ -365,18 +360,24 @@ ReportsOne looked after =
     ⊎ ReportsClashes (looked folders) after ⊎ ReportsUnused (looked folders) after
     ⊎ ReportsSuspect (looked folders) after ⊎ ReportsUnknown (looked folders) after)
 
+-- what a file at a path may get: the pairs of rules of a table; or its own text, of which lines
+-- were taken out that are stale beside some sections
+abbrev pub IsPairsText : FileAnswers → List ℕ → List ℕ → Type 0
+IsPairsText old path content =
+    (lines : List LineView) × (sections : List Section)
+    × ((content ≡ text_of_pairs (table_of lines) lines sections)
+    ⊎ ((text : List ℕ) × old.may path (Holds text) × (content ≡ pruned_text (Some text) (table_of lines) lines sections)))
+
 -- these files were made where nothing was, and no other file changed
 abbrev pub AreGained : List NewFile → FileAnswers → FileAnswers → Type 0
 AreGained files old new =
     AreNew old files × All (IsGivenBy new) files × ((p : List ℕ) (a : FileAnswer) → IsNoneOf files p → new.may p a ↔ old.may p a)
 
--- no file changed; or one alone did, which has the text of pairs of rules of a table; or new files
--- were made
+-- no file changed; or one alone did, which has such a text; or new files were made
 abbrev pub MayGainFiles : FileAnswers → FileAnswers → Type 0
 MayGainFiles old new =
     MayAnswerSame old new
-    ⊎ ((path : List ℕ) × ((lines : List LineView) × (sections : List Section) × GivesAlso new path (text_of_pairs (table_of lines) lines sections))
-    × ((p : List ℕ) (a : FileAnswer) → p ≢ path → new.may p a ↔ old.may p a))
+    ⊎ ((path content : List ℕ) × IsPairsText old path content × GivesAlso new path content × ((p : List ℕ) (a : FileAnswer) → p ≢ path → new.may p a ↔ old.may p a))
     ⊎ ((files : List NewFile) × AreGained files old new)
 
 -- 0, 1, 2 or 3

@@ -3,7 +3,7 @@ use Rattle.std.specs.Fmt.{decimal, digits, format_spec, padded_integral}
 use Rattle.std.specs.Prelude.{ℕ, ◌≡◌, ◌⊎◌, ◌-◌, ◌^◌, ◌++◌, ◌∷◌, [], false, true, codes, flat_map, List, Option, Some, Result, Ok, Err, String, string_bytes}
 use Rattle.std.specs.Global.{Global}
 use Rattle.std.specs.Str.{encode_utf8_all}
-use Rattle.brl_lines.specs.Spelling.{text_spelling}
+use Rattle.brl_lines.specs.Visible.{visible_text}
 use Rattle.brl_failure.specs.declared.failure.Failure.{Failure}
 use Rattle.brl_failure.specs.declared.failure.Failure.TheVariants as failures
 use Rattle.brl_lines.specs.Answer.{FileAnswers}
@@ -50,7 +50,7 @@ code_point c = codes "U+" ++ padded_integral (format_spec 32 0 4 4 (2 ^ 64 - 1))
 -- the line of a character that the table doesn't define
 abbrev pub lacking_line : Lacking → List ℕ
 lacking_line lacking =
-    codes "lacking " ++ encode_utf8_all (text_spelling (lacking.character ∷ [])) ++ codes " " ++ code_point lacking.character ++ codes ": count " ++ decimal lacking.count
+    codes "lacking " ++ encode_utf8_all (visible_text (lacking.character ∷ [])) ++ codes " " ++ code_point lacking.character ++ codes ": count " ++ decimal lacking.count
     ++ codes ", first line " ++ decimal lacking.line ++ codes "\n"
 
 -- the lines of these characters

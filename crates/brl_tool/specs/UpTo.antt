@@ -1,14 +1,17 @@
 -- What `brl check` and `brl search` answer where a file says which pairs of rules are accepted, and
 -- which characters may be exchanged. The project's own choice.
-use Rattle.std.specs.Prelude.{ℕ, ◌≡◌, ◌≢◌, ◌⊎◌, All, false, if◌then◌else◌, ◌==◌, List, [], ◌++◌, length, Some, Result, Ok, Err, codes, string_bytes}
-use Rattle.std.specs.Fmt.{decimal}
+use Rattle.std.specs.Prelude.{ℕ, ◌≡◌, ◌≢◌, ◌⊎◌, All, false, List, [], ◌++◌, Some, Result, Ok, Err, codes, map, string_bytes}
 use Rattle.brl_accept.specs.Excusing.{IsAcceptedUpTo, IsShown, closed_up_to}
 use Rattle.brl_accept.specs.Judging.{IsRefusedFor, counted}
 use Rattle.brl_accept.specs.declared.judge_fault.JudgeFault.{JudgeFault}
 use Rattle.brl_accept.specs.declared.judge_fault.JudgeFault.TheVariants as judge
-use Rattle.brl_accepted.specs.Naming.{Excuses, set_count}
+use Rattle.brl_accepted.specs.Counting.{but_for_line}
+use Rattle.brl_accepted.specs.FaultText.{FaultView, fault_view}
+use Rattle.brl_accepted.specs.Naming.{Excuses, pair_count}
 use Rattle.brl_accepted.specs.Pairs.{wording}
-use Rattle.brl_accepted.specs.Reading.{IsRefused}
+use Rattle.brl_accepted.specs.Reading.{rows, stale_rows}
+use Rattle.brl_lines.specs.Visible.{visible_line}
+use Rattle.brl_accepted.specs.Sets.{set_count}
 use Rattle.brl_answers.specs.Answers.{HasNoTable, HasTextAndStatus, counts_line, with_left_out_line}
 use Rattle.brl_answers.specs.Files.{MayBeSame}
 use Rattle.brl_answers.specs.declared.answer.Answer.{Answer}
@@ -16,7 +19,6 @@ use Rattle.brl_answers.specs.declared.run_fault.RunFault.{RunFault}
 use Rattle.brl_answers.specs.declared.run_fault.RunFault.TheVariants.{Accept, Load, Memory, NotDefined, Table, Wide, WouldOverwrite}
 use Rattle.brl_answers.specs.declared.status.Status.TheVariants.{Done, Refuted, Undecided}
 use Rattle.brl_cert.specs.Reading.{reading, spelling}
-use Rattle.brl_clashes.specs.Accepted.{accepted_words}
 use Rattle.brl_clashes.specs.Sets.{sets_of_table}
 use Rattle.brl_closure.specs.declared.check.checker.Accepted.{Accepted}
 use Rattle.brl_closure.specs.declared.check.fault.AcceptFault.{AcceptFault}
@@ -39,19 +41,35 @@ use Rattle.brl_without.specs.Tables.{AreDefined, IsUndefined}
 
 -- ---- What a file excuses
 
--- the file at a path excuses this of the table of these lines, and this number of its lines name
--- sets of characters
+-- the stale lines of a file at this path with this text, beside a table of these lines
+abbrev pub stale_of : TableView → List LineView → List ℕ → List ℕ → List FaultView
+stale_of t lines path text = stale_rows (wording t lines) (sets_of_table t) [] false path (rows text)
+
+-- the lines of a file, in which what can't be seen is spelled
+abbrev pub seen_rows : List ℕ → List (List ℕ)
+seen_rows text = map visible_line (rows text)
+
+-- the file at a path excuses this of the table of these lines: it has no stale line, and its lines
+-- name this number of sets of characters
 pub record IsExcusedAt (gives : FileAnswers) (path : List ℕ) (t : TableView) (lines : List LineView) (excused : Excused) (sets : ℕ) : Type 0 where
   pub text : List ℕ
   pub there : gives.may path (Holds text)
-  pub excuses : Excuses t lines (sets_of_table t) text excused
-  pub count : sets ≡ set_count text
+  pub good : stale_of t lines path text ≡ []
+  pub excuses : Excuses t (wording t lines) (seen_rows text) excused
+  pub count : sets ≡ set_count (sets_of_table t) (seen_rows text)
 
--- why it excuses nothing: it has no text, or a bad line; or memory ran out
+-- the fault has the stale lines of a file at this path with this text, and there are some; or
+-- memory ran out
+abbrev pub IsFaultOfLines : TableView → List LineView → List ℕ → List ℕ → RunFault → Type 0
+IsFaultOfLines t lines path text (Accept stale) = (stale_of t lines path text ≢ []) × (map fault_view stale.0.items ≡ stale_of t lines path text)
+IsFaultOfLines t lines path text Memory = Unit {0}
+IsFaultOfLines t lines path text fault = ⊥
+
+-- why it excuses nothing: it has no text, or it has stale lines; or memory ran out
 abbrev pub IsFaultOfExcusal : FileAnswers → List ℕ → TableView → List LineView → RunFault → Type 0
 IsFaultOfExcusal gives path t lines (Load fault) = IsFaultOfText gives path (Load fault)
-IsFaultOfExcusal gives path t lines (Accept fault) =
-    (text : List ℕ) × gives.may path (Holds text) × IsRefused (wording t lines) (sets_of_table t) [] false path text fault
+IsFaultOfExcusal gives path t lines (Accept stale) =
+    (text : List ℕ) × gives.may path (Holds text) × IsFaultOfLines t lines path text (Accept stale)
 IsFaultOfExcusal gives path t lines Memory = Unit {0}
 IsFaultOfExcusal gives path t lines fault = ⊥
 
@@ -74,18 +92,10 @@ ByExcusal left_out gives path t lines answers outcome =
 
 -- ---- What an answer says of it
 
--- the words after this number of sets of characters
-abbrev pub sets_words : ℕ → List ℕ
-sets_words count = if count == 1 then codes " set of characters" else codes " sets of characters"
-
--- the line that says how many pairs of rules and how many sets of characters a file excuses
-abbrev pub but_for_line : ℕ → ℕ → List ℕ
-but_for_line pairs sets =
-    codes "but for: " ++ (decimal pairs ++ (accepted_words pairs ++ (codes ", " ++ (decimal sets ++ (sets_words sets ++ codes "\n")))))
-
 -- a line of an answer, the line of what is excused, and that of what is left out
 abbrev pub lines_up_to : List ℕ → Excused → ℕ → List ℕ → List ℕ
-lines_up_to left_out excused sets line = with_left_out_line left_out (line ++ but_for_line (length excused.accepted) sets)
+lines_up_to left_out excused sets line =
+    with_left_out_line left_out (line ++ but_for_line (record { pairs = pair_count excused.accepted; sets = sets }))
 
 -- ---- `brl check --accept`
 

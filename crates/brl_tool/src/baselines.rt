@@ -1,7 +1,8 @@
-//! The files of pairs of rules of `brl clashes`: what one accepts, and what goes to another.
-ghost use Rattle.std.specs.Prelude.{◌≡◌, IfErr, IfOk, OnOk, map, option_map, string_bytes};
+//! The files of pairs of rules of `brl clashes`: what one accepts, and what is written.
+ghost use Rattle.std.specs.Prelude.{◌≡◌, IfErr, IfOk, OnOk, if◌then◌else◌, map, option_map, string_bytes, true};
 ghost use Rattle.std.specs.Option.{option_copied};
 ghost use Rattle.brl_accepted.specs.Pairs.{wording as words_of_rules};
+ghost use Rattle.brl_accepted.specs.Reading.{pruned};
 ghost use Rattle.brl_accepted.specs.Writing.{accepted_text};
 ghost use Rattle.brl_clashes.specs.Sections.{are_whole as all_whole, listed_pairs};
 ghost use Rattle.brl_clashes.specs.Sets.{sets_of_table};
@@ -10,36 +11,43 @@ ghost use Rattle.brl_tool.specs.Baselines.{
   AreAccepted,
   AreFilesWith,
   IsApart,
-  IsBadLineOf,
-  IsFaultOfLine,
+  IsKept,
   IsOverwritingRead,
+  IsTakenOut,
+  is_written as is_to_be_written,
+  only_read as paths_only_read,
   read_paths as paths_of_read,
   text_of_pairs,
+  written_path as path_to_write,
 };
 
 use crate::same_file::path_of_file;
-use brl_accepted::{Baseline, Listed, Nameable, read_accepted, wording, write_accepted};
+use brl_accepted::{
+    Acceptance, Baseline, Listed, Nameable, StaleLines, read_accepted, without_stale, wording,
+    write_accepted,
+};
 use brl_answers::{Files, NewFile, NewFiles, RunFault};
-use brl_clashes::{Section, are_whole, character_sets, pairs_of_sections};
+use brl_clashes::{Section, Taken, are_whole, character_sets, pairs_of_sections};
 use brl_cli::PairFiles;
 use brl_lines::{Line, Loaded};
 use brl_rules::Table;
 use std::alloc::{AllocError, Global};
 
-/// Refuses a file for pairs of rules that is one of a table's files, or that of the accepted pairs.
+/// Refuses a file that is to be written where it is one of a table's files, or that of the accepted
+/// pairs, unless its stale lines are to be taken out.
 pub fn refuse_file_that_is_read<F: Files>(
     alloc: Global,
     files: &F,
     loaded: &Loaded,
     pairs: PairFiles<'_>,
 ) -> Result<(), RunFault>
-    ensures apart { OnOk result (IsApart (option_copied pairs.entry.write) (paths_of_read loaded.now.paths (option_copied pairs.entry.accept))) }
-    ensures refused { IfErr result (IsOverwritingRead F.same_file (paths_of_read loaded.now.paths (option_copied pairs.entry.accept)) (option_copied pairs.entry.write)) }
+    ensures apart { OnOk result (IsApart (path_to_write pairs.entry) (paths_only_read loaded.now.paths pairs.entry)) }
+    ensures refused { IfErr result (IsOverwritingRead F.same_file (paths_only_read loaded.now.paths pairs.entry) (path_to_write pairs.entry)) }
 {
-    let Some(out) = pairs.write else {
+    let Some(out) = written_path(pairs) else {
         return Ok(());
     };
-    let paths = read_paths(alloc, loaded, pairs.accept)?;
+    let paths = only_read(alloc, loaded, pairs)?;
     match path_of_file(alloc, files, paths.as_slice(), out)? {
         Some(path) => {
             let path = String::from_str(alloc, path)?;
@@ -47,6 +55,32 @@ pub fn refuse_file_that_is_read<F: Files>(
         }
         None => Ok(()),
     }
+}
+
+/// The path of the file that is written: that of the accepted pairs, where its stale lines are
+/// taken out, else that which gets the pairs.
+fn written_path<'a>(pairs: PairFiles<'a>) -> Option<&'a str>
+    ensures { option_copied result ≡ path_to_write pairs.entry }
+{
+    if pairs.prune {
+        pairs.accept
+    } else {
+        pairs.write
+    }
+}
+
+/// The paths of the files that are only read.
+fn only_read<'a>(
+    alloc: Global,
+    loaded: &'a Loaded,
+    pairs: PairFiles<'a>,
+) -> Result<Vec<&'a str>, AllocError>
+    ensures { IfOk result (λ paths. map (λ one. one.now) paths.items ≡ paths_only_read loaded.now.paths pairs.entry) }
+{
+    if pairs.prune {
+        return read_paths(alloc, loaded, None);
+    }
+    read_paths(alloc, loaded, pairs.accept)
 }
 
 /// The paths of the files that are read: those of a table, and that of the accepted pairs.
@@ -64,20 +98,38 @@ pub(crate) fn read_paths<'a>(
     Ok(paths)
 }
 
-/// The pairs of rules that a file accepts of those that the sections of a table of these lines
-/// list; none without a file. The first line that isn't good is a fault.
+/// What a file takes out of the sections of a table, and its stale lines.
+#[derive(Drop)]
+pub struct Exempt {
+    /// The pairs of rules that are accepted of those that the sections list.
+    pub pairs: Vec<(u32, u32)>,
+    /// How much is taken out, where a file is read.
+    pub taken: Option<Taken>,
+    pub stale: StaleLines,
+    /// The text of the file without its stale lines, where these are to be taken out.
+    pub kept: String,
+}
+
+/// What a file accepts of the pairs that the sections of a table of these lines list; nothing
+/// without a file.
 pub fn accepted_pairs(
     alloc: Global,
     table: &Table,
     lines: &[Line<'_>],
     sections: &[Section],
     baseline: Option<Baseline<'_>>,
-) -> Result<Vec<(u32, u32)>, RunFault>
-    ensures accepts { IfOk result (λ pairs. AreAccepted (option_map (λ file. file.text.now) baseline.entry) table.now (map line_view lines.now) sections.now pairs.items) }
-    ensures fault { IfErr result (IsFaultOfLine (IsBadLineOf table.now (map line_view lines.now) sections.now baseline.entry)) }
+    prune: bool,
+) -> Result<Exempt, AllocError>
+    ensures accepts { IfOk result (λ exempt. AreAccepted (option_map (λ file. file.text.now) baseline.entry) prune table.now (map line_view lines.now) sections.now exempt.pairs.items exempt.taken) }
+    ensures kept { IfOk result (λ exempt. IsKept (option_map (λ file. file.text.now) baseline.entry) prune table.now (map line_view lines.now) sections.now (string_bytes exempt.kept)) }
 {
     let Some(file) = baseline else {
-        return Ok(Vec::new(alloc));
+        return Ok(Exempt {
+            pairs: Vec::new(alloc),
+            taken: None,
+            stale: StaleLines(Vec::new(alloc)),
+            kept: String::new(alloc),
+        });
     };
     let names = Names::of(alloc, table, lines)?;
     let pairs = pairs_of_sections(alloc, sections)?;
@@ -85,31 +137,103 @@ pub fn accepted_pairs(
         pairs: pairs.as_slice(),
         whole: are_whole(sections),
     };
-    Ok(read_accepted(alloc, table, names.nameable(), listed, file)?)
+    exempt_by(alloc, table, names.nameable(), listed, file, prune)
 }
 
-/// The file with the pairs of rules that the sections of a table of these lines list, where a path
-/// is given and the list is whole.
+/// What a file accepts of the pairs that are listed.
+fn exempt_by(
+    alloc: Global,
+    table: &Table,
+    known: Nameable<'_>,
+    listed: Listed<'_>,
+    file: Baseline<'_>,
+    prune: bool,
+) -> Result<Exempt, AllocError>
+    ensures accepts { IfOk result (λ exempt. IsTakenOut table.now (map string_bytes known.entry.words.now) (map (λ set. set.items) known.entry.sets.now)
+        listed.entry.pairs.now listed.entry.whole file.entry.text.now prune exempt.pairs.items exempt.taken) }
+    ensures kept { prune ≡ true → IfOk result (λ exempt. string_bytes exempt.kept ≡ pruned (map string_bytes known.entry.words.now) (map (λ set. set.items) known.entry.sets.now)
+        listed.entry.pairs.now listed.entry.whole file.entry.text.now) }
+{
+    let Acceptance {
+        pairs,
+        counts,
+        stale,
+    } = read_accepted(alloc, table, known, listed, file)?;
+    let taken = Taken {
+        listed: pairs.len(),
+        counts,
+        stale: stale.len(),
+        pruned: prune,
+    };
+    let kept = if prune {
+        without_stale(alloc, known, listed, file)?
+    } else {
+        String::new(alloc)
+    };
+    Ok(Exempt {
+        pairs,
+        taken: Some(taken),
+        stale: StaleLines(stale),
+        kept,
+    })
+}
+
+/// The file that is written: the file of accepted pairs without its stale lines, where it has some
+/// and these are to be taken out; else the file with the pairs of rules that are left, where a path
+/// is given for it and the list is whole.
 pub fn file_of_pairs(
     alloc: Global,
     table: &Table,
     lines: &[Line<'_>],
-    sections: &[Section],
-    path: Option<&str>,
+    exempt: &Exempt,
+    left: &[Section],
+    pairs: PairFiles<'_>,
 ) -> Result<NewFiles, AllocError>
-    ensures { IfOk result (AreFilesWith (option_copied path.entry) (all_whole sections.now) (text_of_pairs table.now (map line_view lines.now) sections.now)) }
+    ensures { IfOk result (AreFilesWith (path_to_write pairs.entry) (is_to_be_written pairs.entry.prune exempt.now.taken left.now)
+        (if pairs.entry.prune then string_bytes exempt.now.kept else text_of_pairs table.now (map line_view lines.now) left.now)) }
 {
-    let Some(path) = path else {
+    let Some(path) = written_path(pairs) else {
         return Ok(NewFiles::Nothing);
     };
-    if !are_whole(sections) {
+    if !is_written(pairs.prune, exempt.taken, left) {
         return Ok(NewFiles::Nothing);
     }
-    let names = Names::of(alloc, table, lines)?;
-    let text = names.pairs_text(alloc, table, sections)?;
     let path = String::from_str(alloc, path)?;
-    let bytes = text.into_bytes();
+    let bytes = content(alloc, table, lines, exempt, left, pairs.prune)?;
     Ok(NewFiles::InPlace(NewFile { path, bytes }))
+}
+
+/// What is written.
+fn content(
+    alloc: Global,
+    table: &Table,
+    lines: &[Line<'_>],
+    exempt: &Exempt,
+    left: &[Section],
+    prune: bool,
+) -> Result<Vec<u8>, AllocError>
+    ensures { IfOk result (λ bytes. bytes.items ≡ (if prune then string_bytes exempt.now.kept else text_of_pairs table.now (map line_view lines.now) left.now)) }
+{
+    if prune {
+        return Vec::from_slice(alloc, exempt.kept.as_bytes());
+    }
+    let names = Names::of(alloc, table, lines)?;
+    let text = names.pairs_text(alloc, table, left)?;
+    Ok(text.into_bytes())
+}
+
+/// Whether a file is written: where lines are stale that are to be taken out, or where the list is
+/// whole.
+fn is_written(prune: bool, taken: Option<Taken>, left: &[Section]) -> bool
+    ensures { result ≡ is_to_be_written prune taken left.now }
+{
+    if !prune {
+        return are_whole(left);
+    }
+    match taken {
+        Some(taken) => taken.stale > 0,
+        None => false,
+    }
 }
 
 /// What a file of pairs may name: the rules of a table, by what each says, and its sets of

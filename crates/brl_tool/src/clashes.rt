@@ -1,23 +1,22 @@
 //! `brl clashes`: every pair of rules of a table at which clashing texts diverge.
-ghost use Rattle.std.specs.Prelude.{◌≡◌, ℕ, IfErr, IfOk, List, map, option_map};
+ghost use Rattle.std.specs.Prelude.{◌≡◌, IfOk, map, option_map, string_bytes};
 ghost use Rattle.std.specs.Option.{option_copied};
 ghost use Rattle.brl_lines.specs.Answer.{Unchanged};
 ghost use Rattle.brl_lines.specs.Outcome.{CountsFailure};
 ghost use Rattle.brl_lines.specs.Views.{line_view};
 ghost use Rattle.brl_answers.specs.Answers.{ByLeftOut, load_outcome};
 ghost use Rattle.brl_clashes.specs.Sections.{AreSections};
-ghost use Rattle.brl_clashes.specs.declared.section.Section.{Section as SectionValue};
-ghost use Rattle.brl_tool.specs.Baselines.{IsBadLineOf, IsFaultOfLine};
-ghost use Rattle.brl_tool.specs.Diagnosing.{Diagnoses, DiagnosesByFile, IsDiagnosis, status_of_outcome};
+ghost use Rattle.brl_tool.specs.Baselines.{AreAccepted, IsKept, leaves_stale as stale_stay};
+ghost use Rattle.brl_tool.specs.Diagnosing.{Diagnoses, DiagnosesByFile, IsDiagnosis, status_of_sections};
 
-use crate::baselines::{accepted_pairs, file_of_pairs, refuse_file_that_is_read};
+use crate::baselines::{Exempt, accepted_pairs, file_of_pairs, refuse_file_that_is_read};
 use crate::file_text::text_at;
 use crate::loaded_table::LoadedTable;
 use crate::notices::write_if_without_characters;
-use brl_accepted::Baseline;
+use brl_accepted::{Baseline, StaleLines};
 use brl_answers::{Answer, Files, RunFault, Status, left_out_of};
 use brl_clashes::{
-    Extent, Outcome, Section, list_sections, outcome_of, sections_text, without_accepted,
+    Extent, Outcome, Section, Taken, list_sections, outcome_of, sections_text, without_accepted,
 };
 use brl_cli::PairFiles;
 use brl_lines::{Line, load};
@@ -42,7 +41,8 @@ struct Wanted<'a> {
 /// Lists the pairs of rules of the table whose file is at a path at which clashing texts diverge,
 /// without the characters that the option leaves out. What it spells is read first. The pairs that
 /// the file at `pairs.accept` names are left out, and those that are left go to the file at
-/// `pairs.write`, unless there may be others. Standard error gets reports of progress.
+/// `pairs.write`, unless there may be others. Its stale lines name none; with `pairs.prune` they
+/// are taken out of it. Standard error gets these lines, and reports of progress.
 pub fn list_clashes_by_words<F: Files, E: Write + Progress>(
     alloc: Global,
     files: &mut F,
@@ -54,7 +54,7 @@ pub fn list_clashes_by_words<F: Files, E: Write + Progress>(
     err: &mut E,
 ) -> Result<Answer, RunFault>
     ensures diagnoses { ByLeftOut (option_copied option.entry)
-        (λ left_out. DiagnosesByFile left_out (F.gives files.old) F.same_file path.now limit first (option_copied pairs.entry.accept) (option_copied pairs.entry.write)) result }
+        (λ left_out. DiagnosesByFile left_out (F.gives files.old) F.same_file path.now limit first pairs.entry) result }
     ensures count { CountsFailure (F.faults files.old) (F.faults files.new) (load_outcome result) }
     ensures same { Unchanged (F.gives files.old) (F.gives files.new) }
 {
@@ -70,7 +70,7 @@ pub fn list_clashes_by_words<F: Files, E: Write + Progress>(
 }
 
 /// Lists them without the characters that are left out. `PairsWouldOverwrite` where the file that
-/// gets pairs is one of the table's, or that of the accepted pairs.
+/// is written is one of the table's, or that of the accepted pairs and not its own.
 fn list_clashes_by_file<F: Files, E: Write + Progress>(
     alloc: Global,
     files: &mut F,
@@ -78,7 +78,7 @@ fn list_clashes_by_file<F: Files, E: Write + Progress>(
     err: &mut E,
 ) -> Result<Answer, RunFault>
     ensures diagnoses { DiagnosesByFile wanted.entry.left_out.now (F.gives files.old) F.same_file wanted.entry.table.now wanted.entry.limit wanted.entry.first
-        (option_copied wanted.entry.pairs.accept) (option_copied wanted.entry.pairs.write) result }
+        wanted.entry.pairs result }
     ensures count { CountsFailure (F.faults files.old) (F.faults files.new) (load_outcome result) }
     ensures same { Unchanged (F.gives files.old) (F.gives files.new) }
 {
@@ -97,7 +97,7 @@ fn clashes_of_loaded<F: Files, E: Write + Progress>(
     err: &mut E,
 ) -> Result<Answer, RunFault>
     ensures diagnoses { Diagnoses wanted.entry.left_out.now (F.gives files.old) loaded.now.table loaded.now.files.lines wanted.entry.limit wanted.entry.first
-        (option_copied wanted.entry.pairs.accept) (option_copied wanted.entry.pairs.write) result }
+        wanted.entry.pairs result }
     ensures count { CountsFailure (F.faults files.old) (F.faults files.new) (load_outcome result) }
     ensures same { Unchanged (F.gives files.old) (F.gives files.new) }
 {
@@ -117,20 +117,20 @@ fn list_clashes<F: Files, E: Write + Progress>(
     err: &mut E,
 ) -> Result<Answer, RunFault>
     ensures diagnoses { Diagnoses wanted.entry.left_out.now (F.gives files.old) table.now (map line_view lines.now) wanted.entry.limit wanted.entry.first
-        (option_copied wanted.entry.pairs.accept) (option_copied wanted.entry.pairs.write) result }
+        wanted.entry.pairs result }
     ensures count { CountsFailure (F.faults files.old) (F.faults files.new) (load_outcome result) }
     ensures same { Unchanged (F.gives files.old) (F.gives files.new) }
 {
     check_defined(alloc, table, wanted.left_out)?;
     let Some(path) = wanted.pairs.accept else {
-        return diagnosis(alloc, table, lines, wanted, None, err);
+        return Ok(diagnosis(alloc, table, lines, wanted, None, err)?);
     };
     let text = text_at(alloc, files, path)?;
     let baseline = Baseline {
         path,
         text: text.as_str(),
     };
-    diagnosis(alloc, table, lines, wanted, Some(baseline), err)
+    Ok(diagnosis(alloc, table, lines, wanted, Some(baseline), err)?)
 }
 
 /// Lists a table's clashes beside the pairs that a file accepts. Standard error hears of it first
@@ -142,11 +142,9 @@ fn diagnosis<E: Write + Progress>(
     wanted: Wanted<'_>,
     baseline: Option<Baseline<'_>>,
     err: &mut E,
-) -> Result<Answer, RunFault>
-    ensures diagnosis { IfOk result (IsDiagnosis wanted.entry.left_out.now table.now (map line_view lines.now) wanted.entry.limit wanted.entry.first
-        (option_map (λ file. file.text.now) baseline.entry) (option_copied wanted.entry.pairs.write)) }
-    ensures fault { IfErr result (IsFaultOfLine (λ fault. (sections : List SectionValue) × AreSections table.now wanted.entry.left_out.now wanted.entry.limit sections
-        × IsBadLineOf table.now (map line_view lines.now) sections baseline.entry fault)) }
+) -> Result<Answer, AllocError>
+    ensures { IfOk result (IsDiagnosis wanted.entry.left_out.now table.now (map line_view lines.now) wanted.entry.limit wanted.entry.first
+        (option_map (λ file. file.text.now) baseline.entry) wanted.entry.pairs) }
 {
     write_if_without_characters(table, err);
     let scope = Scope {
@@ -154,7 +152,17 @@ fn diagnosis<E: Write + Progress>(
         progress: err,
     };
     let sections = list_sections(alloc, table, u64::from(wanted.limit), scope)?;
-    answer_beside(alloc, table, lines, wanted, baseline, sections)
+    let prune = wanted.pairs.prune;
+    let exempt = accepted_pairs(alloc, table, lines, sections.as_slice(), baseline, prune)?;
+    write_stale(&exempt.stale, err);
+    answer_beside(alloc, table, lines, wanted, baseline, &exempt, sections)
+}
+
+/// Writes the stale lines of a file to standard error. What can't be written there is dropped.
+fn write_stale<E: Write>(stale: &StaleLines, err: &mut E) {
+    for fault in &stale.0 {
+        let _ = writeln!(err, "{fault}");
+    }
 }
 
 /// The answer with the sections of a table, beside the pairs that a file accepts.
@@ -164,21 +172,22 @@ fn answer_beside(
     lines: &[Line<'_>],
     wanted: Wanted<'_>,
     baseline: Option<Baseline<'_>>,
+    exempt: &Exempt,
     sections: Vec<Section>,
-) -> Result<Answer, RunFault>
-    requires { AreSections table.now wanted.left_out.now wanted.limit sections.items }
-    ensures diagnosis { IfOk result (IsDiagnosis wanted.entry.left_out.now table.now (map line_view lines.now) wanted.entry.limit wanted.entry.first
-        (option_map (λ file. file.text.now) baseline.entry) (option_copied wanted.entry.pairs.write)) }
-    ensures fault { IfErr result (IsFaultOfLine (IsBadLineOf table.now (map line_view lines.now) sections.items baseline.entry)) }
+) -> Result<Answer, AllocError>
+    requires sections { AreSections table.now wanted.left_out.now wanted.limit sections.items }
+    requires accepted { AreAccepted (option_map (λ file. file.text.now) baseline) wanted.pairs.prune table.now (map line_view lines.now) sections.items exempt.now.pairs.items exempt.now.taken }
+    requires kept { IsKept (option_map (λ file. file.text.now) baseline) wanted.pairs.prune table.now (map line_view lines.now) sections.items (string_bytes exempt.now.kept) }
+    ensures { IfOk result (IsDiagnosis wanted.entry.left_out.now table.now (map line_view lines.now) wanted.entry.limit wanted.entry.first
+        (option_map (λ file. file.text.now) baseline.entry) wanted.entry.pairs) }
 {
-    let accepted = accepted_pairs(alloc, table, lines, sections.as_slice(), baseline)?;
-    let left = without_accepted(alloc, accepted.as_slice(), sections)?;
-    let status = status_of(outcome_of(left.as_slice()));
-    let files = file_of_pairs(alloc, table, lines, left.as_slice(), wanted.pairs.write)?;
+    let left = without_accepted(alloc, exempt.pairs.as_slice(), sections)?;
+    let status = status_of(exempt.taken, outcome_of(left.as_slice()));
+    let files = file_of_pairs(alloc, table, lines, exempt, left.as_slice(), wanted.pairs)?;
     let shown = Extent {
         left_out: wanted.left_out,
         first: wanted.first as usize,
-        accepted: baseline.is_some().then_some(accepted.len()),
+        accepted: exempt.taken,
     };
     let text = sections_text(alloc, table, lines, shown, left)?;
     Ok(Answer {
@@ -188,13 +197,24 @@ fn answer_beside(
     })
 }
 
-/// The status for the outcome of a list.
-fn status_of(outcome: Outcome) -> Status
-    ensures { result ≡ status_of_outcome outcome }
+/// The status for the outcome of a list, beside what a file takes out of it.
+fn status_of(taken: Option<Taken>, outcome: Outcome) -> Status
+    ensures { result ≡ status_of_sections taken outcome }
 {
     match outcome {
+        Outcome::Unambiguous if leaves_stale(taken) => Status::Faulty,
         Outcome::Unambiguous => Status::Done,
         Outcome::Clashing => Status::Refuted,
         Outcome::Unfinished => Status::Undecided,
+    }
+}
+
+/// Whether stale lines stay in the file of accepted pairs.
+fn leaves_stale(taken: Option<Taken>) -> bool
+    ensures { result ≡ stale_stay taken }
+{
+    match taken {
+        Some(taken) => !taken.pruned && taken.stale > 0,
+        None => false,
     }
 }

@@ -1,22 +1,21 @@
 //! What a file excuses of a table, and the line of an answer that says so.
-ghost use Rattle.std.specs.Prelude.{◌≡◌, [], IfErr, IfOk, false, map, string_bytes};
-ghost use Rattle.brl_accepted.specs.Naming.{Excuses, set_count};
+ghost use Rattle.std.specs.Prelude.{◌≡◌, [], IfErr, IfOk, map, string_bytes};
+ghost use Rattle.brl_accepted.specs.Naming.{Excuses};
 ghost use Rattle.brl_accepted.specs.Pairs.{wording};
-ghost use Rattle.brl_accepted.specs.Reading.{IsRefused};
+ghost use Rattle.brl_accepted.specs.Sets.{set_count};
 ghost use Rattle.brl_answers.specs.Answers.{load_outcome};
 ghost use Rattle.brl_clashes.specs.Sets.{sets_of_table};
 ghost use Rattle.brl_lines.specs.Answer.{Unchanged};
 ghost use Rattle.brl_lines.specs.Outcome.{CountsFailure};
 ghost use Rattle.brl_lines.specs.Views.{line_view};
-ghost use Rattle.brl_tool.specs.Baselines.{IsFaultOfLine};
 ghost use Rattle.brl_without.specs.Tables.{AreDefined};
-ghost use Rattle.brl_tool.specs.UpTo.{IsExcusedAt, IsFaultBeforeExcusal, IsFaultOfExcusal, but_for_line as line_of_excused, lines_up_to as whole_lines, sets_words as words_of_sets};
+ghost use Rattle.brl_tool.specs.UpTo.{IsExcusedAt, IsFaultBeforeExcusal, IsFaultOfExcusal, IsFaultOfLines, lines_up_to as whole_lines, seen_rows, stale_of};
 
 use crate::file_text::text_at;
 use crate::loaded_table::LoadedTable;
-use brl_accepted::{Baseline, Excusal, read_excusal};
+use brl_accepted::{Baseline, Counts, Excusal, StaleLines, but_for_line, pair_count, read_excusal};
 use brl_answers::{RunFault, with_left_out_line};
-use brl_clashes::{accepted_words, character_sets};
+use brl_clashes::character_sets;
 use brl_lines::{Line, Source};
 use brl_rules::Table;
 use brl_without::{LeftOut, check_defined};
@@ -48,8 +47,7 @@ pub fn excusal_without<S: Source>(
     excusal_at(alloc, source, &loaded.table, lines.as_slice(), path)
 }
 
-/// What the file at a path excuses of a table of these lines. The first line that isn't good is a
-/// fault.
+/// What the file at a path excuses of a table of these lines. `Accept` where it has stale lines.
 fn excusal_at<S: Source>(
     alloc: Global,
     source: &mut S,
@@ -66,7 +64,8 @@ fn excusal_at<S: Source>(
     excusal_of(alloc, table, lines, path, text.as_str())
 }
 
-/// What a text excuses of a table of these lines; it is that of the file at a path.
+/// What a text excuses of a table of these lines; it is that of the file at a path. `Accept` where
+/// it has stale lines.
 fn excusal_of(
     alloc: Global,
     table: &Table,
@@ -74,33 +73,18 @@ fn excusal_of(
     path: &str,
     text: &str,
 ) -> Result<Excusal, RunFault>
-    ensures excuses { IfOk result (λ excusal. Excuses table.now (map line_view lines.now) (sets_of_table table.now) text.now excusal.excused) }
-    ensures sets { IfOk result (λ excusal. excusal.sets ≡ set_count text.now) }
-    ensures fault { IfErr result (IsFaultOfLine (IsRefused (wording table.now (map line_view lines.now)) (sets_of_table table.now) [] false path.now text.now)) }
+    ensures good { IfOk result (λ _. stale_of table.now (map line_view lines.now) path.now text.now ≡ []) }
+    ensures excuses { IfOk result (λ excusal. Excuses table.now (wording table.now (map line_view lines.now)) (seen_rows text.now) excusal.excused) }
+    ensures sets { IfOk result (λ excusal. excusal.sets ≡ set_count (sets_of_table table.now) (seen_rows text.now)) }
+    ensures fault { IfErr result (IsFaultOfLines table.now (map line_view lines.now) path.now text.now) }
 {
     let sets = character_sets(alloc, table)?;
     let file = Baseline { path, text };
-    Ok(read_excusal(alloc, table, lines, sets.as_slice(), file)?)
-}
-
-/// The words after this number of sets of characters.
-fn sets_words(count: usize) -> &'static str
-    ensures { result.now ≡ words_of_sets count }
-{
-    if count == 1 {
-        " set of characters"
-    } else {
-        " sets of characters"
+    let excusal = read_excusal(alloc, table, lines, sets.as_slice(), file)?;
+    if !excusal.stale.is_empty() {
+        return Err(RunFault::Accept(StaleLines(excusal.stale)));
     }
-}
-
-/// The line that says how many pairs of rules and how many sets of characters are excused.
-fn but_for_line(alloc: Global, pairs: usize, sets: usize) -> Result<String, AllocError>
-    ensures { IfOk result (λ text. string_bytes text ≡ line_of_excused pairs sets) }
-{
-    let accepted = accepted_words(pairs);
-    let exchanged = sets_words(sets);
-    format!(in alloc; "but for: {pairs}{accepted}, {sets}{exchanged}\n")
+    Ok(excusal)
 }
 
 /// A line of an answer, the line of what is excused, and that of what is left out.
@@ -109,8 +93,11 @@ pub fn lines_up_to(alloc: Global, line: String, but_for: ButFor<'_>) -> Result<S
         ≡ whole_lines but_for.entry.left_out.now but_for.entry.excusal.now.excused but_for.entry.excusal.now.sets (string_bytes line)) }
 {
     let excusal = but_for.excusal;
-    let pairs = excusal.excused.accepted.as_slice().len();
-    let excused = but_for_line(alloc, pairs, excusal.sets)?;
+    let counts = Counts {
+        pairs: pair_count(alloc, excusal.excused.accepted.as_slice())?,
+        sets: excusal.sets,
+    };
+    let excused = but_for_line(alloc, counts)?;
     let mut text = line;
     text.push_str(excused.as_str())?;
     with_left_out_line(alloc, text, but_for.left_out)

@@ -4,11 +4,11 @@
 //! `survey` and `cut` do the work of these commands by the files of a table, `search`, `clashes`,
 //! `unused` and `check` that of theirs, and `explain` has what a fault means. `loaded_table` has
 //! the table of a file with its lines, `notices` writes the notices of a table that is searched or
-//! surveyed, `suspects` has what a survey or a cut finds that was hardly meant so,
-//! and `certificate` has the answer with a certificate that was found. `baselines` has the files of
-//! pairs of rules that `clashes` reads and writes. `check_up_to` and `search_up_to` have what
-//! `check` and `search` answer where a file excuses something, which `excusing` reads. What all but
-//! `translate` give is an answer (brl_answers).
+//! surveyed, `remarks` the rules that are there again, `suspects` has what a survey or a cut finds
+//! that was hardly meant so, and `certificate` has the answer with a certificate that was found.
+//! `baselines` has the files of pairs of rules that `clashes` reads and writes. `check_up_to` and
+//! `search_up_to` have what `check` and `search` answer where a file excuses something, which
+//! `excusing` reads. What all but `translate` give is an answer (brl_answers).
 //!
 //! Room 5, the program (docs/dev/ARCHITECTURE.md). The definitions begin in `specs/Running.antt`.
 #![tactic(auto)]
@@ -26,6 +26,7 @@ mod file_text;
 mod loaded_table;
 mod notices;
 mod program;
+mod remarks;
 mod rules;
 mod same_file;
 mod search;

@@ -11,12 +11,14 @@ ghost use Rattle.brl_tool.specs.Suspects.{is_suspect as is_suspect_by};
 ghost use Rattle.brl_answers.specs.declared.status.Status.TheVariants as statuses;
 
 use crate::notices::write_notices;
+use crate::remarks::write_remarks;
 use crate::suspects::is_suspect;
 use brl_answers::{Answer, RunFault, Status};
 use brl_cut::{WithoutDictionaries, load_without_dictionaries};
 use brl_failure::Failure;
 use brl_lines::{LeftInclude, LoadFault, Loaded, Source};
 use brl_report::{skipped_report, survey_report};
+use brl_rules::Table;
 use brl_table::{survey, table_of_loaded};
 use std::alloc::{AllocError, Global};
 use std::io::Write;
@@ -24,10 +26,10 @@ use std::io::Write;
 /// Surveys the tables whose files are at these paths. The answer has the report of each table that
 /// can be loaded, after a line that names it where there are several paths, and then a line that
 /// there is no verdict. A report begins with the hyphenation dictionaries that were skipped; one
-/// that is to be brief has neither these nor the faults. Standard error gets the notices of each
-/// table whose lines are all read, and a line for each that can't be loaded; then the status is
-/// that of a fault. Else it is that of a refutation where a table has a line whose opcode is none
-/// of liblouis', or no line that defines a character.
+/// that is to be brief has neither these nor the faults. Standard error gets the notices and
+/// remarks of each table whose lines are all read, and a line for each that can't be loaded; then
+/// the status is that of a fault. Else it is that of a refutation where a table has a line whose
+/// opcode is none of liblouis', or no line that defines a character.
 pub fn survey_by_files<S: Source, E: Write>(
     alloc: Global,
     source: &mut S,
@@ -91,8 +93,8 @@ fn push_part(text: &mut String, several: bool, path: &str, report: &str) -> Resu
     text.push_str(report)
 }
 
-/// The report of the table whose file is at a path. Its notices are written where its lines are all
-/// read.
+/// The report of the table whose file is at a path. Its notices and remarks are written where its
+/// lines are all read.
 fn report_at<S: Source, E: Write>(
     alloc: Global,
     source: &mut S,
@@ -105,21 +107,34 @@ fn report_at<S: Source, E: Write>(
     ensures same { Unchanged (S.gives source.old) (S.gives source.new) }
 {
     let table = load_without_dictionaries(alloc, source, path)?;
-    write_notices_if_read(alloc, &table.loaded, err)?;
+    write_notes_if_read(alloc, &table.loaded, err)?;
     Ok(report_of(alloc, &table, brief)?)
 }
 
-/// Writes the notices of a table to standard error, where its lines are all read.
-fn write_notices_if_read<E: Write>(
+/// Writes the notices of a table and the remarks on it to standard error, where its lines are all
+/// read.
+fn write_notes_if_read<E: Write>(
     alloc: Global,
     loaded: &Loaded,
     err: &mut E,
 ) -> Result<(), AllocError> {
     match table_of_loaded(alloc, loaded) {
-        Ok(table) => write_notices(alloc, &table, err),
+        Ok(table) => write_notes(alloc, &table, loaded, err),
         Err(Failure::Fault(_)) => Ok(()),
         Err(Failure::Memory) => Err(AllocError),
     }
+}
+
+/// Writes the notices of a table, and the remarks on it, to standard error.
+fn write_notes<E: Write>(
+    alloc: Global,
+    table: &Table,
+    loaded: &Loaded,
+    err: &mut E,
+) -> Result<(), AllocError> {
+    write_notices(alloc, table, err)?;
+    let lines = loaded.lines(alloc)?;
+    write_remarks(alloc, table, lines.as_slice(), err)
 }
 
 /// The report of a table that was loaded without its dictionaries.

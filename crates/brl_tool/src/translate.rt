@@ -6,7 +6,7 @@ ghost use Rattle.brl_answers.specs.Answers.{load_outcome};
 ghost use Rattle.brl_tool.specs.Streams.{TranslatesByFile, TranslatesDefinedByFile, code_point, lacking_line, lacking_lines};
 
 use brl_answers::RunFault;
-use brl_lines::{Source, spell_chars};
+use brl_lines::{Source, spell_visibly};
 use brl_stream::{Form, Input, Lacking, Output, translate_defined_lines, translate_lines};
 use brl_table::load_table;
 use std::alloc::{AllocError, Global};
@@ -45,7 +45,7 @@ fn lacking_text(alloc: Global, lacking: Lacking) -> Result<String, AllocError>
     ensures { IfOk result (λ text. string_bytes text ≡ lacking_line lacking) }
 {
     let character = lacking.character;
-    let spelled = spell_chars(alloc, &[character])?;
+    let spelled = spell_visibly(alloc, &[character])?;
     let code = code_point_text(alloc, character)?;
     let count = lacking.count.to_string(alloc)?;
     let line = lacking.line.to_string(alloc)?;

@@ -1,7 +1,7 @@
 -- A table without some of its characters. The project's own choice.
 use Rattle.std.specs.Prelude.{◌≡◌, ℕ, IsTrue, List, [], ◌∷◌, Option, None, Some, find, not, string_bytes}
 use Rattle.std.specs.Str.{encode_utf8_all}
-use Rattle.brl_lines.specs.Spelling.{text_spelling}
+use Rattle.brl_lines.specs.Visible.{visible_text}
 use Rattle.brl_rules.specs.TableView.{TableView}
 use Rattle.brl_rules.specs.Text.{is_defined, is_text}
 use Rattle.brl_rules.specs.Translation.{IsClash, translation}
@@ -33,4 +33,4 @@ AreDefined t left_out = first_undefined t left_out ≡ None
 -- operand
 abbrev pub IsUndefined : TableView → List ℕ → UndefinedLeftOut → Type 0
 IsUndefined t left_out fault =
-    (c : ℕ) × (first_undefined t left_out ≡ Some c) × (string_bytes fault.0 ≡ encode_utf8_all (text_spelling (c ∷ [])))
+    (c : ℕ) × (first_undefined t left_out ≡ Some c) × (string_bytes fault.0 ≡ encode_utf8_all (visible_text (c ∷ [])))

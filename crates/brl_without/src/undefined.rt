@@ -5,12 +5,12 @@ ghost use Rattle.brl_without.specs.Tables.{AreDefined, IsUndefined, first_undefi
 
 use crate::LeftOut;
 use brl_failure::Failure;
-use brl_lines::spell_chars;
+use brl_lines::spell_visibly;
 use brl_rules::Table;
 use std::alloc::Global;
 use thiserror::Error;
 
-/// A character that is left out isn't one of the table's. It is named as `spell_chars` spells it.
+/// A character that is left out isn't one of the table's. It is named as `spell_visibly` spells it.
 #[derive(Debug, Drop, Error)]
 #[error("U8 UndefinedLeftOut {0}")]
 pub struct UndefinedLeftOut(pub String);
@@ -26,7 +26,7 @@ pub fn check_defined(
     ensures fault { IfErr result (IfFault (IsUndefined table.now left_out.now)) }
 {
     match first_undefined(table, left_out) {
-        Some(c) => Err(Failure::Fault(UndefinedLeftOut(spell_chars(alloc, &[c])?))),
+        Some(c) => Err(Failure::Fault(UndefinedLeftOut(spell_visibly(alloc, &[c])?))),
         None => Ok(()),
     }
 }

@@ -1,9 +1,8 @@
 //! Files of accepted pairs of rules.
 use brl_accepted::{
-    AcceptFault, AcceptFaultKind, Baseline, Excusal, Listed, Nameable, read_accepted,
-    read_back_law, read_excusal, wording, write_accepted,
+    AcceptFaultKind, Acceptance, Baseline, Excusal, Listed, Nameable, read_accepted, read_back_law,
+    read_excusal, without_stale, wording, write_accepted,
 };
-use brl_failure::Failure;
 use brl_table::Table;
 use brl_testing::table_of;
 use std::alloc::{AllocError, Global};
@@ -21,28 +20,38 @@ fn read(
     table: &Table,
     known: Nameable<'_>,
     text: &str,
-) -> Result<Vec<(u32, u32)>, Failure<AcceptFault>> {
+) -> Result<Acceptance, AllocError> {
     read_accepted(alloc, table, known, ONE, Baseline { path: "p", text })
 }
 
-/// Whether just the one pair is accepted of a text.
+/// Whether just the one pair is accepted of a text, and no line of it is stale.
 fn accepts_one(alloc: Global, table: &Table, known: Nameable<'_>, text: &str) -> bool {
     match read(alloc, table, known, text) {
-        Ok(pairs) => pairs.as_slice() == ONE.pairs,
+        Ok(accepted) => accepted.pairs.as_slice() == ONE.pairs && accepted.stale.is_empty(),
         Err(_) => false,
     }
 }
 
-/// Whether a text is refused at this line for this.
-fn is_refused(
+/// Whether just this line of a text is stale, for this, and the text without it is this.
+fn has_stale(
     alloc: Global,
     table: &Table,
     known: Nameable<'_>,
     text: &str,
-    (kind, line): (AcceptFaultKind, usize),
+    (kind, line, kept): (AcceptFaultKind, usize, &str),
 ) -> bool {
-    match read(alloc, table, known, text) {
-        Err(Failure::Fault(fault)) => fault.kind == kind && fault.line == line,
+    let file = Baseline { path: "p", text };
+    match (
+        read(alloc, table, known, text),
+        without_stale(alloc, known, ONE, file),
+    ) {
+        (Ok(accepted), Ok(left)) => {
+            let stale = accepted.stale.as_slice();
+            stale.len() == 1
+                && stale[0].kind == kind
+                && stale[0].line == line
+                && left.as_str() == kept
+        }
         _ => false,
     }
 }
@@ -56,11 +65,13 @@ fn sets_of(alloc: Global, texts: &[&str]) -> Result<Vec<Vec<char>>, AllocError> 
     Ok(sets)
 }
 
-/// Whether a file excuses just these pairs of a table's rules, where `a` and `x` are a set.
+/// Whether a file has this number of stale lines, and excuses just these pairs of a table's rules,
+/// where `a` and `x` are a set.
 fn excuses(
     alloc: Global,
     table: &Table,
     text: &str,
+    stale_lines: usize,
     accepted: &[(u32, u32)],
     exchanged: &[(u32, u32)],
 ) -> bool {
@@ -74,10 +85,17 @@ fn excuses(
         sets.as_slice(),
         Baseline { path: "p", text },
     ) {
-        Ok(Excusal { excused, sets }) => {
+        Ok(
+            Excusal {
+                excused,
+                sets,
+                stale,
+            },
+        ) => {
             excused.accepted.as_slice() == accepted
                 && excused.exchanged.as_slice() == exchanged
                 && sets == exchanged.len()
+                && stale.len() == stale_lines
         }
         Err(_) => false,
     }
@@ -85,21 +103,28 @@ fn excuses(
 
 /// Whether the pairs that lines name are found by their numbers, in the order of the line.
 fn names(alloc: Global, table: &Table) -> bool {
-    excuses(alloc, table, "# none\n", &[], &[])
-        && excuses(alloc, table, "rule x 1-12 / rule a 1\n", &[(2, 0)], &[])
+    excuses(alloc, table, "# none\n", 0, &[], &[])
+        && excuses(alloc, table, "rule x 1-12 / rule a 1\n", 0, &[(2, 0)], &[])
         && excuses(
             alloc,
             table,
-            "rule a 1 / rule b 12\nrule a 1 / rule a 1",
+            "rule a 1 / rule b 12\nrule a 1 / rule y 12\nrule a 1 / rule a 1",
+            1,
             &[(0, 1), (0, 0)],
             &[],
         )
-        && excuses(alloc, table, "exchange xa\n", &[], &[(0, 2)])
-        && !excuses(alloc, table, "exchange ab\n", &[], &[(0, 1)])
-        && !excuses(alloc, table, "rule a 1 / rule y 12\n", &[], &[])
+        && excuses(alloc, table, "exchange xa\n", 0, &[], &[(0, 2)])
+        && excuses(
+            alloc,
+            table,
+            "exchange ab\nrule a 1 / rule y 12\n",
+            2,
+            &[],
+            &[],
+        )
 }
 
-/// Whether the line of a pair is written and read, and another is refused.
+/// Whether the line of a pair is written and read, and another is stale.
 fn reads(alloc: Global, table: &Table) -> Result<bool, Fail> {
     let words = wording(alloc, table, &[])?;
     let sets = sets_of(alloc, &[])?;
@@ -114,20 +139,30 @@ fn reads(alloc: Global, table: &Table) -> Result<bool, Fail> {
         text.as_str() == "rule a 1 / rule x 1-12\n"
             && accepts_one(alloc, table, known, text.as_str())
             && accepts_one(alloc, table, known, turned)
-            && is_refused(
+            && has_stale(
                 alloc,
                 table,
                 known,
-                "#\nrule a 1\n",
-                (AcceptFaultKind::NoSuchRules, 2),
+                "#\nrule a 1\n\nrule a 1 / rule x 1-12",
+                (
+                    AcceptFaultKind::NoSuchRules,
+                    2,
+                    "#\n\nrule a 1 / rule x 1-12\n",
+                ),
             )
-            && is_refused(alloc, table, known, stale, (AcceptFaultKind::NotListed, 1))
-            && is_refused(
+            && has_stale(
+                alloc,
+                table,
+                known,
+                stale,
+                (AcceptFaultKind::NotListed, 1, ""),
+            )
+            && has_stale(
                 alloc,
                 table,
                 known,
                 "exchange ax",
-                (AcceptFaultKind::NoSuchSet, 1),
+                (AcceptFaultKind::NoSuchSet, 1, ""),
             ),
     )
 }
@@ -146,19 +181,19 @@ fn reads_sets(alloc: Global, table: &Table) -> Result<bool, Fail> {
         text.as_str() == "exchange ax\n"
             && accepts_one(alloc, table, known, text.as_str())
             && accepts_one(alloc, table, known, "#\nexchange xa\r\n")
-            && is_refused(
+            && has_stale(
                 alloc,
                 table,
                 known,
                 "exchange ab\n",
-                (AcceptFaultKind::NoSuchSet, 1),
+                (AcceptFaultKind::NoSuchSet, 1, ""),
             )
-            && is_refused(
+            && has_stale(
                 alloc,
                 table,
                 known,
                 "exchange ax\nexchange a\n",
-                (AcceptFaultKind::NoSuchSet, 2),
+                (AcceptFaultKind::NoSuchSet, 2, "exchange ax\n"),
             ),
     )
 }

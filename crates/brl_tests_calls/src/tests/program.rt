@@ -1,6 +1,7 @@
 //! The program.
+use brl_accepted::Counts;
 use brl_clashes::{
-    Extent, Kind, Outcome, Section, are_whole, list_sections, outcome_of, pairs_of_sections,
+    Extent, Kind, Outcome, Section, Taken, are_whole, list_sections, outcome_of, pairs_of_sections,
     sections_text, without_accepted,
 };
 use brl_failure::Failure;
@@ -125,7 +126,12 @@ fn clashes_text(alloc: Global, table: &Table, accepts: bool) -> Result<String, A
     let shown = Extent {
         left_out: &left_out,
         first: 0,
-        accepted: accepts.then_some(1),
+        accepted: accepts.then_some(Taken {
+            listed: 1,
+            counts: Counts { pairs: 1, sets: 0 },
+            stale: 0,
+            pruned: false,
+        }),
     };
     let left = without_accepted(alloc, pairs.as_slice(), sections)?;
     sections_text(alloc, table, &[], shown, left)
@@ -135,7 +141,8 @@ fn lists_clashes(alloc: Global) -> Result<bool, Fail> {
     let table = table_of(alloc, "letter a 1; letter b 12; letter x 1-12")?;
     let all = clashes_text(alloc, &table, false)?;
     let none = clashes_text(alloc, &table, true)?;
-    let none_left = "\n0 pairs of rules diverge, and no others\naccepted: 1 pair of rules\n";
+    let none_left =
+        "\n0 pairs of rules diverge, and no others but for the accepted ones\nbut for: 1 pair of rules, 0 sets of characters\n";
     Ok(
         all.as_str()
             .ends_with("\n1 pair of rules diverges, and no others\n")

@@ -26,8 +26,8 @@ t.ctb: letter a 1; letter b 12; always ab 14|brl,rules,t.ctb||0  always  ab  14 
 t.ctb: uplow Aa 1; capsletter 6|brl,trace,t.ctb,Aa||text: Aa; cells: 6-1-1;   A  6  1  t.ctb:1;   a  -  1  t.ctb:1||0
 t.ctb: #|brl,search,t.ctb,o||certified: 1 states, 0 pairs||0
 t.ctb: letter a 1; letter b 12|brl,search,t.ctb,o||certified: 2 states, 0 pairs||0
-t.ctb: letter a 1; letter b 12; letter x 1-12 & p: letter a 1 / letter x 1-12|brl,clashes,t.ctb,--accept,p,--write,o||small letters: 0 pairs of rules diverge, and no others; 0 pairs of rules diverge, and no others; accepted: 1 pair of rules||0
-t.ctb: letter a 1; letter b 12; letter x 1-12 & p: letter x 1-12 / letter b 12|brl,clashes,t.ctb,--accept,p|||P2 NotListed letter x 1-12 / letter b 12 at p:1|2
+t.ctb: letter a 1; letter b 12; letter x 1-12 & p: letter a 1 / letter x 1-12|brl,clashes,t.ctb,--accept,p,--write,o||small letters: 0 pairs of rules diverge, and no others but for the accepted ones; 0 pairs of rules diverge, and no others but for the accepted ones; but for: 1 pair of rules, 0 sets of characters||0
+t.ctb: letter a 1; letter b 12; letter x 1-12 & p: letter x 1-12 / letter b 12|brl,clashes,t.ctb,--accept,p||small letters: 1 pair of rules diverges, and no others;   x / ab  1-12  t.ctb:3 letter x  t.ctb:1 letter a; 1 pair of rules diverges, and no others; stale: 1 line; but for: 0 pairs of rules, 0 sets of characters|P2 NotListed letter x 1-12 / letter b 12 at p:1|1
 t.ctb: letter a 1; letter b 12; letter x 1-12 & p: letter x 1-12 / letter a 1|brl,search,t.ctb,o,--accept,p||certified: 2 states, 0 pairs; but for: 1 pair of rules, 0 sets of characters||0
 t.ctb: letter a 1; letter b 12; letter x 1-12 & p: letter x 1-12 / letter a 1 & c: BRLCERT 3; state 1 0 0; state 8 0 0; end 2 0|brl,check,t.ctb,c,--accept,p||accepted: 2 states, 0 pairs; but for: 1 pair of rules, 0 sets of characters||0
 t.ctb: letter a 1; letter b 12; letter x 1-12|brl,clashes,t.ctb,--write,o||small letters: 1 pair of rules diverges, and no others;   x / ab  1-12  t.ctb:3 letter x  t.ctb:1 letter a; 1 pair of rules diverges, and no others||1

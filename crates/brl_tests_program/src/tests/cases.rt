@@ -214,6 +214,10 @@ one/t.ctb: include ../u & one/u: letter a 1|brl,cut,--path,one,t.ctb,o|||error: 
 
 /// Surveys, in the same form.
 pub const SURVEYS: &str = "\
+t.ctb: letter a 1; letter b 12; always ab 3; always ab 4; word ab 4|brl,survey,t.ctb||5 of 5 lines are read; no verdict: a survey doesn't decide whether two texts have the same cells|remark RuleAgain always ab 4 / always ab 3|0
+t.ctb: letter a 1; letter b 12; always ab 3; always ab 3; word ab 4; always ba 4|brl,survey,t.ctb||6 of 6 lines are read; no verdict: a survey doesn't decide whether two texts have the same cells||0
+t.ctb: letter a 1; letter b 12; word ab 3; always ba 3; word ab 4; word ab 3; word ab 5|brl,survey,--brief,t.ctb||7 of 7 lines are read; no verdict: a survey doesn't decide whether two texts have the same cells|remark RuleAgain word ab 4 / word ab 3; remark RuleAgain word ab 5 / word ab 3|0
+t.ctb: letter a 1; letter b 12; letter a 2; always ab 3; always ab 4 & u.ctb: #; letter a 1; always a 12; always a 14|brl,survey,--brief,t.ctb,u.ctb||table: t.ctb; 5 of 5 lines are read; table: u.ctb; 3 of 3 lines are read; no verdict: a survey doesn't decide whether two texts have the same cells|notice DefinedAgain a at t.ctb:3; remark RuleAgain always ab 4 / always ab 3; remark RuleAgain always a 14 / always a 12|0
 t.ctb: letter a 1|brl,survey,t.ctb||1 of 1 lines are read; no verdict: a survey doesn't decide whether two texts have the same cells||0
 t.ctb: letter a 1; letter a 2|brl,survey,t.ctb||2 of 2 lines are read; no verdict: a survey doesn't decide whether two texts have the same cells|notice DefinedAgain a at t.ctb:2|0
 t.ctb: letter a 1; letter a 2 & u.ctb: letter b 1; letter a 2; letter a 3|brl,survey,--brief,u.ctb,t.ctb||table: u.ctb; 3 of 3 lines are read; table: t.ctb; 2 of 2 lines are read; no verdict: a survey doesn't decide whether two texts have the same cells|notice DefinedAgain a at u.ctb:3; notice DefinedAgain a at t.ctb:2|0
@@ -280,7 +284,10 @@ pub const EXPLANATIONS: &str = "\
 |brl,explain,B2 MissingOperand letter at t.ctb:1||B2 MissingOperand; When: the opcode needs another operand; Named: the opcode, or a prefix that ends its line; What to do: Add it.||0
 |brl,explain,refused: K1 Version line 1||K1 Version; When: the header names no version from 1 to 3; What to do: Search again.||0
 t.ctb: letter a 1; noback sign x 1|brl,explain,B1 OutsideProfile sign at t.ctb:2||B1 OutsideProfile; When: the opcode isn't read, or isn't a rule's after `noback` or `nofor`; Named: the opcode, the prefix left out; What to do: TUTORIAL.md, \"A table of liblouis\".; Opcode: sign is read, but not after noback or nofor; Line:;     t.ctb:2: noback sign x 1; Prefix: noback||0
-|brl,explain,P1 NoSuchRules letter a 1 / letter b 1 at p:2||P1 NoSuchRules; When: the line isn't what two rules of the table say, with ` / ` between them; Named: the line; What to do: Write the pairs anew by `brl clashes --write`: a rule may have changed, or the line by hand.||0
+|brl,explain,Memory||Memory; When: an allocation failed, which says nothing of the table, the text or the certificate; What to do: Give the program more memory, or search with a smaller `--limit`.||0
+|brl,explain,notice DefinedAgain a at t.ctb:2||notice DefinedAgain CHARACTER; When: a line defines a character again, which is no fault: the first line gives its cells, as in liblouis; Named: the character; What to do: Nothing, if the first line is meant. If not, take it out.||0
+|brl,explain,remark RuleAgain always ab 4 / always ab 3||remark RuleAgain RULE / RULE; When: a rule is for the characters of another, at the same places, with other dots, which is no fault: the other is used; Named: the rule, and the one that is used; What to do: Take the one out that isn't meant.||0
+|brl,explain,P1 NoSuchRules letter a 1 / letter b 1 at p:2||P1 NoSuchRules; When: the line isn't what two rules of the table say, with ` / ` between them; Named: the line; What to do: Read what `brl clashes --accept` lists: the rule may have changed. Then take the line out by `--prune`.||0
 |brl,explain,U10|||error: no fault is written as U10|2
 |brl,explain,|||error: no fault is written as |2
 |brl,explain,refused:|||error: no fault is written as refused:|2
@@ -290,16 +297,16 @@ t.ctb: letter a 1; noback sign x 1|brl,explain,B1 OutsideProfile sign at t.ctb:2
 /// Lists of rules that no text uses, in the same form.
 pub const UNUSED: &str = "\
 t.ctb: letter a 1; letter b 12|brl,unused,t.ctb||each of 2 rules is used by some text||0
-t.ctb: letter a 1; letter b 12; always ab 3; always ab 4|brl,unused,t.ctb||1  always  ab  4  t.ctb:4  in its place:  t.ctb:3 always ab; 1 of 4 rules are used by no text||1
-t.ctb: letter a 1; always a 12|brl,unused,t.ctb||1  letter  a  1  t.ctb:1  in its place:  t.ctb:2 always a; 1 of 2 rules are used by no text||1
-t.ctb: letter a 1; midnum a 3|brl,unused,t.ctb||0  midnum  a  3  t.ctb:2  in its place:  t.ctb:1 letter a; 1 of 2 rules are used by no text||1
-t.ctb: letter a 1; letter b 12; word ab 14; word ab 15; always ab 16|brl,unused,t.ctb||1  word  ab  15  t.ctb:4  in its place:  t.ctb:3 word ab; 1 of 5 rules are used by no text||1
+t.ctb: letter a 1; letter b 12; always ab 3; always ab 4|brl,unused,t.ctb||1  always  ab  4  t.ctb:4  in its place:  t.ctb:3 always ab; 1 of 4 rules is used by no text||1
+t.ctb: letter a 1; always a 12|brl,unused,t.ctb||1  letter  a  1  t.ctb:1  in its place:  t.ctb:2 always a; 1 of 2 rules is used by no text||1
+t.ctb: letter a 1; midnum a 3|brl,unused,t.ctb||0  midnum  a  3  t.ctb:2  in its place:  t.ctb:1 letter a; 1 of 2 rules is used by no text||1
+t.ctb: letter a 1; letter b 12; word ab 14; word ab 15; always ab 16|brl,unused,t.ctb||1  word  ab  15  t.ctb:4  in its place:  t.ctb:3 word ab; 1 of 5 rules is used by no text||1
 t.ctb: uplow Aa 1|brl,unused,t.ctb||each of 2 rules is used by some text||0
 t.ctb: letter a 1; word a 12; begword a 2|brl,unused,t.ctb||each of 3 rules is used by some text||0
-t.ctb: letter a 1; letter a 2|brl,unused,t.ctb||each of 1 rules is used by some text||0
+t.ctb: letter a 1; letter a 2|brl,unused,t.ctb||the one rule is used by some text||0
 t.ctb: #|brl,unused,t.ctb||each of 0 rules is used by some text|no line defines a character|0
 t.ctb: letter a 1|brl,unused,t.ctb,--limit,1||limit: 2 states||3
-t.ctb: letter a 1|brl,unused,t.ctb,--limit,2||each of 1 rules is used by some text||0
+t.ctb: letter a 1|brl,unused,t.ctb,--limit,2||the one rule is used by some text||0
 t.ctb: letter a 19|brl,unused,t.ctb|||B4 BadDots 19 at t.ctb:1|2
 |brl,unused,t.ctb|||L1 NotFound t.ctb|2
 ";
@@ -321,25 +328,31 @@ t.ctb: letter a 19|brl,clashes,t.ctb|||B4 BadDots 19 at t.ctb:1|2
 t.ctb: letter a 1|brl,clashes,t.ctb,--without,b|||U8 UndefinedLeftOut b|2
 |brl,clashes,t.ctb,--without,a\\q|||U9 BadLeftOut a\\q|2
 |brl,clashes,t.ctb|||L1 NotFound t.ctb|2
-t.ctb: letter a 1; letter b 12; letter x 1-12 & p: letter a 1 / letter x 1-12|brl,clashes,t.ctb,--accept,p||small letters: 0 pairs of rules diverge, and no others; 0 pairs of rules diverge, and no others; accepted: 1 pair of rules||0
-t.ctb: letter a 1; letter b 12; letter x 1-12 & p: # meant; ; letter x 1-12 / letter a 1; letter a 1 / letter x 1-12|brl,clashes,t.ctb,--accept,p||small letters: 0 pairs of rules diverge, and no others; 0 pairs of rules diverge, and no others; accepted: 1 pair of rules||0
-t.ctb: letter a 1; letter b 12; letter x 1-12 & p: #|brl,clashes,t.ctb,--accept,p||small letters: 1 pair of rules diverges, and no others;   x / ab  1-12  t.ctb:3 letter x  t.ctb:1 letter a; 1 pair of rules diverges, and no others; accepted: 0 pairs of rules||1
-t.ctb: letter a 1; letter b 12; letter x 1-12; always aa 14; letter c 14 & p: letter x 1-12 / letter a 1|brl,clashes,t.ctb,--accept,p||small letters: 1 pair of rules diverges, and no others;   aa / c  14  t.ctb:4 always aa  t.ctb:5 letter c; 1 pair of rules diverges, and no others; accepted: 1 pair of rules||1
-t.ctb: letter a 1; letter b 12; letter x 1-12 & p: letter a 1 / letter x 1-12; letter a 1 / letter b 12|brl,clashes,t.ctb,--accept,p|||P2 NotListed letter a 1 / letter b 12 at p:2|2
-t.ctb: letter a 1; letter b 12; letter x 1-12 & p: letter a 1 / letter x 12; letter a 1 / letter b 12|brl,clashes,t.ctb,--accept,p|||P1 NoSuchRules letter a 1 / letter x 12 at p:1|2
-t.ctb: letter a 1; letter b 12; letter x 1-12 & p: letter a 1 / letter x 1-12|brl,clashes,t.ctb,--without,x,--accept,p|||P2 NotListed letter a 1 / letter x 1-12 at p:1|2
-t.ctb: letter a 1; letter b 12; letter x 1-12 & p: letter a 1 / letter b 12|brl,clashes,t.ctb,--limit,0,--accept,p||small letters: 0 pairs of rules diverge, and maybe others; limit: 1 states, 0 pairs; 0 pairs of rules diverge, and maybe others; accepted: 0 pairs of rules||3
-t.ctb: letter a 1; letter b 12; letter x 1-12 & p: letter a 1|brl,clashes,t.ctb,--limit,0,--accept,p|||P1 NoSuchRules letter a 1 at p:1|2
+t.ctb: letter a 1; letter b 12; letter x 1-12 & p: letter a 1 / letter x 1-12|brl,clashes,t.ctb,--accept,p||small letters: 0 pairs of rules diverge, and no others but for the accepted ones; 0 pairs of rules diverge, and no others but for the accepted ones; but for: 1 pair of rules, 0 sets of characters||0
+t.ctb: letter a 1; letter b 12; letter x 1-12 & p: # meant; ; letter x 1-12 / letter a 1; letter a 1 / letter x 1-12|brl,clashes,t.ctb,--accept,p||small letters: 0 pairs of rules diverge, and no others but for the accepted ones; 0 pairs of rules diverge, and no others but for the accepted ones; but for: 1 pair of rules, 0 sets of characters||0
+t.ctb: letter a 1; letter b 12; letter x 1-12 & p: #|brl,clashes,t.ctb,--accept,p||small letters: 1 pair of rules diverges, and no others;   x / ab  1-12  t.ctb:3 letter x  t.ctb:1 letter a; 1 pair of rules diverges, and no others; but for: 0 pairs of rules, 0 sets of characters||1
+t.ctb: letter a 1; letter b 12; letter x 1-12; always aa 14; letter c 14 & p: letter x 1-12 / letter a 1|brl,clashes,t.ctb,--accept,p||small letters: 1 pair of rules diverges, and no others but for the accepted ones;   aa / c  14  t.ctb:4 always aa  t.ctb:5 letter c; 1 pair of rules diverges, and no others but for the accepted ones; but for: 1 pair of rules, 0 sets of characters||1
+t.ctb: letter a 1; letter b 12; letter x 1-12 & p: letter a 1 / letter x 1-12; letter a 1 / letter b 12|brl,clashes,t.ctb,--accept,p||small letters: 0 pairs of rules diverge, and no others but for the accepted ones; 0 pairs of rules diverge, and no others but for the accepted ones; stale: 1 line; but for: 1 pair of rules, 0 sets of characters|P2 NotListed letter a 1 / letter b 12 at p:2|2
+t.ctb: letter a 1; letter b 12; letter x 1-12 & p: letter a 1 / letter x 12; letter a 1 / letter b 12|brl,clashes,t.ctb,--accept,p||small letters: 1 pair of rules diverges, and no others;   x / ab  1-12  t.ctb:3 letter x  t.ctb:1 letter a; 1 pair of rules diverges, and no others; stale: 2 lines; but for: 0 pairs of rules, 0 sets of characters|P1 NoSuchRules letter a 1 / letter x 12 at p:1; P2 NotListed letter a 1 / letter b 12 at p:2|1
+t.ctb: letter a 1; letter b 12; letter x 1-12 & p: letter a 1 / letter x 1-12|brl,clashes,t.ctb,--without,x,--accept,p||small letters: 0 pairs of rules diverge, and no others; unambiguous: 2 states, 0 pairs; stale: 1 line; but for: 0 pairs of rules, 0 sets of characters; without: x|P2 NotListed letter a 1 / letter x 1-12 at p:1|2
+t.ctb: letter a 1; letter b 12; letter x 1-12 & p: letter a 1 / letter b 12|brl,clashes,t.ctb,--limit,0,--accept,p||small letters: 0 pairs of rules diverge, and maybe others; limit: 1 states, 0 pairs; 0 pairs of rules diverge, and maybe others; but for: 0 pairs of rules, 0 sets of characters||3
+t.ctb: letter a 1; letter b 12; letter x 1-12 & p: letter a 1|brl,clashes,t.ctb,--limit,0,--accept,p||small letters: 0 pairs of rules diverge, and maybe others; limit: 1 states, 0 pairs; 0 pairs of rules diverge, and maybe others; stale: 1 line; but for: 0 pairs of rules, 0 sets of characters|P1 NoSuchRules letter a 1 at p:1|3
 t.ctb: letter a 1; letter b 12; letter x 1-12|brl,clashes,t.ctb,--accept,p|||L1 NotFound p|2
 t.ctb: letter a 19|brl,clashes,t.ctb,--accept,p|||B4 BadDots 19 at t.ctb:1|2
 t.ctb: letter a 1; letter b 12; letter x 1-12|brl,clashes,t.ctb,--accept,p,--without,z|||U8 UndefinedLeftOut z|2
-t.ctb: letter a 1; letter b 12; letter x 1-12 & p: letter a 1 / letter x 1-12|brl,clashes,t.ctb,--accept,p,--write,o||small letters: 0 pairs of rules diverge, and no others; 0 pairs of rules diverge, and no others; accepted: 1 pair of rules||0
+t.ctb: letter a 1; letter b 12; letter x 1-12 & p: letter a 1 / letter x 1-12|brl,clashes,t.ctb,--accept,p,--write,o||small letters: 0 pairs of rules diverge, and no others but for the accepted ones; 0 pairs of rules diverge, and no others but for the accepted ones; but for: 1 pair of rules, 0 sets of characters||0
 t.ctb: letter a 1; letter b 12; letter x 1-12|brl,clashes,t.ctb,--write,o||small letters: 1 pair of rules diverges, and no others;   x / ab  1-12  t.ctb:3 letter x  t.ctb:1 letter a; 1 pair of rules diverges, and no others||1
 t.ctb: letter a 1; letter b 12; letter x 1-12|brl,clashes,t.ctb,--write,t.ctb|||error: the pairs of rules would overwrite t.ctb, a file that is read|2
 t.ctb: include u; letter a 19 & u: #|brl,clashes,t.ctb,--write,u|||error: the pairs of rules would overwrite u, a file that is read|2
 t.ctb: letter a 1; letter b 12; letter x 1-12|brl,clashes,t.ctb,--accept,p,--write,p|||error: the pairs of rules would overwrite p, a file that is read|2
 |brl,clashes,t.ctb,--write,t.ctb|||L1 NotFound t.ctb|2
-t.ctb: space \\s 0; space \\t 0; letter a 1 & p: exchange \\sa|brl,clashes,t.ctb,--accept,p|||P3 NoSuchSet exchange \\sa at p:1|2
+t.ctb: letter a 1; letter b 12 & p: exchange ab|brl,clashes,t.ctb,--accept,p||small letters: 0 pairs of rules diverge, and no others; unambiguous: 2 states, 0 pairs; stale: 1 line; but for: 0 pairs of rules, 0 sets of characters|P3 NoSuchSet exchange ab at p:1|2
+t.ctb: letter a 1; letter b 12; letter x 1-12 & p: letter a 1 / letter x 1-12; letter a 1 / letter b 12|brl,clashes,t.ctb,--accept,p,--prune||small letters: 0 pairs of rules diverge, and no others but for the accepted ones; 0 pairs of rules diverge, and no others but for the accepted ones; pruned: 1 line; but for: 1 pair of rules, 0 sets of characters|P2 NotListed letter a 1 / letter b 12 at p:2|0
+t.ctb: letter a 1; letter b 12; letter x 1-12 & p: letter a 1; letter b 1|brl,clashes,t.ctb,--accept,p,--prune||small letters: 1 pair of rules diverges, and no others;   x / ab  1-12  t.ctb:3 letter x  t.ctb:1 letter a; 1 pair of rules diverges, and no others; pruned: 2 lines; but for: 0 pairs of rules, 0 sets of characters|P1 NoSuchRules letter a 1 at p:1; P1 NoSuchRules letter b 1 at p:2|1
+t.ctb: letter a 1; letter b 12; letter x 1-12 & p: letter a 1 / letter x 1-12|brl,clashes,t.ctb,--accept,p,--prune||small letters: 0 pairs of rules diverge, and no others but for the accepted ones; 0 pairs of rules diverge, and no others but for the accepted ones; pruned: 0 lines; but for: 1 pair of rules, 0 sets of characters||0
+t.ctb: include p; letter b 12 & p: letter a 1|brl,clashes,t.ctb,--accept,p,--prune|||error: the pairs of rules would overwrite p, a file that is read|2
+t.ctb: letter a 1; letter b 12; letter x 1-12 & p: letter a 1 / letter x 1-12; letter x 1-12 / letter a 1; letter a 1 / letter a 1|brl,search,t.ctb,o,--accept,p||certified: 2 states, 0 pairs; but for: 2 pairs of rules, 0 sets of characters||0
+t.ctb: letter a 1; letter b 12; letter x 1-12 & p: letter a 1; letter b 12 / letter x 12|brl,search,t.ctb,o,--accept,p|||P1 NoSuchRules letter a 1 at p:1; P1 NoSuchRules letter b 12 / letter x 12 at p:2|2
 t.ctb: letter a 1; letter b 12; letter x 1-12 & p: letter x 1-12 / letter a 1|brl,search,t.ctb,o,--accept,p||certified: 2 states, 0 pairs; but for: 1 pair of rules, 0 sets of characters||0
 t.ctb: space \\s 0; space \\t 0; letter a 1 & p: exchange \\t\\s|brl,search,t.ctb,o,--accept,p||certified: 2 states, 0 pairs; but for: 0 pairs of rules, 1 set of characters||0
 t.ctb: space \\s 0; space \\t 0; letter a 1 & p: exchange \\t\\s|brl,search,t.ctb,o,--accept,p,--without,a||certified: 1 states, 0 pairs; but for: 0 pairs of rules, 1 set of characters; without: a||0
@@ -362,10 +375,10 @@ t.ctb: letter a 19 & p: #|brl,check,t.ctb,c,--accept,p|||L1 NotFound c|2
 
 /// Searches and checks without some characters, in the same form.
 pub const WITHOUT: &str = "\
-t.ctb: space \\s 0; space \\x00a0 0; letter a 1; letter b 12|brl,search,t.ctb,o,--without,\\x00a0||certified: 2 states, 0 pairs; without: \u{a0}||0
+t.ctb: space \\s 0; space \\x00a0 0; letter a 1; letter b 12|brl,search,t.ctb,o,--without,\\x00a0||certified: 2 states, 0 pairs; without: \\x00a0||0
 t.ctb: space \\s 0; space \\x00a0 0; letter a 1; letter b 12|brl,search,t.ctb,o,--without,\\s||certified: 2 states, 0 pairs; without: \\s||0
 t.ctb: space \\s 0; space \\x00a0 0; letter a 1; letter b 12; letter x 1-12|brl,search,t.ctb,o,--without,\\x00a0||left: x; right: ab; cells: 1-12; left from 0:;   x  1-12  t.ctb:5; right from 0:;   a  1   t.ctb:3;   b  12  t.ctb:4||1
-t.ctb: space \\s 0; space \\x00a0 0; letter a 1; letter b 12; letter x 1-12|brl,search,t.ctb,o,--without,x\\x00a0||certified: 2 states, 0 pairs; without: x \u{a0}||0
+t.ctb: space \\s 0; space \\x00a0 0; letter a 1; letter b 12; letter x 1-12|brl,search,t.ctb,o,--without,x\\x00a0||certified: 2 states, 0 pairs; without: x \\x00a0||0
 t.ctb: letter a 1; letter b 12; letter c 14; letter d 145; always abc 145|brl,search,t.ctb,o,--without,b||certified: 3 states, 0 pairs; without: b||0
 t.ctb: letter a 1|brl,search,t.ctb,o,--without,a||certified: 1 states, 0 pairs; without: a||0
 t.ctb: letter a 1; letter b 12|brl,search,t.ctb,o,--without,ba||certified: 1 states, 0 pairs; without: b a||0

@@ -5,6 +5,7 @@ use Rattle.brl_lines.specs.Views.{line_view}
 use Rattle.brl_accepted.specs.Pairs.{wording}
 use Rattle.brl_accepted.proofs.Plain.{wording_above}
 use Rattle.brl_accepted.proofs.ReadBack.{read_back}
+use Rattle.brl_accepted.proofs.Seen.{HasScalars, wording_low, wording_seen}
 use Rattle.brl_accepted.proofs.WrittenLines.{pair_apart}
 use Rattle.brl_accepted.proofs.laws.read_back_law.Goals as goal
 
@@ -13,4 +14,5 @@ returns c listed whole =
     let t = c.args.table.now in
     let lines = map line_view c.args.lines.now in
     let sets = map (λ set. set.items) c.args.sets.now in
-    read_back (wording t lines) (wording_above t lines) t sets listed whole (pair_apart t lines) (All-map (λ cs. all_scalars cs ≡ true) (λ set. set.items) c.args.sets.now c.sets_law.ensures)
+    let has : HasScalars t = record { rules = c.rules_law.ensures; own = c.own_law.ensures } in
+    read_back (wording t lines) (wording_above t lines) (wording_seen t lines has) (wording_low t lines) t sets listed whole (pair_apart t lines) (All-map (λ cs. all_scalars cs ≡ true) (λ set. set.items) c.args.sets.now c.sets_law.ensures)

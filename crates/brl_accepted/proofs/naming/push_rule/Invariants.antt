@@ -4,4 +4,4 @@ use Rattle.brl_accepted.proofs.naming.push_rule.Given as goal
 
 -- the pairs of the lines so far
 abbrev pub invariant-loop-row : goal.invariant-loop-row
-invariant-loop-row l = l.pairs.items ≡ l.fn.pairs.items ++ flat_map (pairs_of_line (map string_bytes l.words) l.numbers l.number) (take l.row-index (map (λ row. row.now) l.rows))
+invariant-loop-row l = l.pairs.items ≡ l.fn.pairs.items ++ flat_map (pairs_of_line (map string_bytes l.words) l.numbers l.number) (take l.row-index (map string_bytes l.rows))

@@ -7,7 +7,7 @@ use Rattle.brl_accepted.proofs.reading.accepted.Goals as goal
 pub returns : goal.returns
 returns c =
     let words = map string_bytes c.args.words.now in
-    let rows = map (λ row. row.now) c.args.rows.now in
+    let rows = map string_bytes c.args.rows.now in
     let pairs = c.args.pairs.now in
     let found = c.accepted_by.result in
     let exchanged_is : c.in_ok-exchanged.exchanged ≡ exchanged_pairs c.args.table.now rows = c.in_ok-exchanged.ensures ∙ c.in_ok-exchanged_pairs.ensures in

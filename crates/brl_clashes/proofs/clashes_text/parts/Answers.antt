@@ -1,11 +1,10 @@
-use Rattle.std.proofs.Common.{◌≡◌, ◌∙◌, ◌<◌, ◌++◌, ℕ, List, [], ◌∷◌, ap, fold, get_or, length, map, string_bytes, subst, sym}
+use Rattle.std.proofs.Common.{◌∙◌, ◌++◌, ℕ, List, [], ◌∷◌, ap, fold, length, map, string_bytes, subst, sym}
 use Rattle.std.proofs.lemmas.Iterator.Adapters.{YieldsList-from_vec}
-use Rattle.std.proofs.lemmas.Iterator.Consumers.{YieldsList-end, YieldsList-turn}
-use Rattle.std.proofs.lemmas.List.{map-id}
+use Rattle.std.proofs.lemmas.Iterator.Consumers.{YieldsList-turn}
 use Rattle.std.proofs.lemmas.List.Sums.{fold-append}
 use Rattle.brl_clashes.specs.ClashesText.{AreSectionTexts}
 use Rattle.brl_clashes.specs.SectionText.{IsSectionText}
-use Rattle.brl_clashes.specs.Sections.{AreClashesOf, clashes_of, listed_after, listed_pairs}
+use Rattle.brl_clashes.specs.Sections.{AreClashesOf, clashes_of, listed_after}
 use Rattle.brl_clashes.specs.declared.section.Section.{Section}
 use Rattle.brl_clashes.proofs.Lines.{one_more_section}
 use Rattle.brl_lines.specs.Views.{line_view}
@@ -31,8 +30,8 @@ loop-section-preserved c =
     let written = c.in_ok-push_str.ensures.bytes ∙ ap (λ (part : List ℕ). string_bytes c.loop-section.text ++ part) c.as_str.ensures.value in (
       c.in_ok-part.ensures.listed ∙ ap (λ (ls : List (ℕ × ℕ)). listed_after ls s) before ∙ sym (fold-append listed_after [] yielded (s ∷ [])),
       (λ characters are.
-          let part : IsSectionText t lines characters c.args.first (fold listed_after [] yielded) s (string_bytes c.in_ok-part.part) =
-          subst (λ (ls : List (ℕ × ℕ)). IsSectionText t lines characters c.args.first ls s (string_bytes c.in_ok-part.part)) before (c.in_ok-part.ensures.text characters are) in
-          subst (AreSectionTexts t lines characters c.args.first [] (yielded ++ s ∷ [])) (sym written)
-          (one_more_section t lines characters c.args.first [] yielded s (string_bytes c.loop-section.text) (string_bytes c.in_ok-part.part) (c.loop-section.invariant.1 characters are) part)),
+          let part : IsSectionText t lines characters c.args.shown.taken c.args.shown.first (fold listed_after [] yielded) s (string_bytes c.in_ok-part.part) =
+          subst (λ (ls : List (ℕ × ℕ)). IsSectionText t lines characters c.args.shown.taken c.args.shown.first ls s (string_bytes c.in_ok-part.part)) before (c.in_ok-part.ensures.text characters are) in
+          subst (AreSectionTexts t lines characters c.args.shown.taken c.args.shown.first [] (yielded ++ s ∷ [])) (sym written)
+          (one_more_section t lines characters c.args.shown.taken c.args.shown.first [] yielded s (string_bytes c.loop-section.text) (string_bytes c.in_ok-part.part) (c.loop-section.invariant.1 characters are) part)),
     )

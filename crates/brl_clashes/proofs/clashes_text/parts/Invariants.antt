@@ -11,4 +11,4 @@ abbrev pub invariant-loop-section : goal.invariant-loop-section
 invariant-loop-section l =
     (l.listed ≡ fold listed_after [] l.yielded)
     × ((characters : List ℕ) → l.firsts ≡ map (first_number l.table characters) (table_characters l.table)
-    → AreSectionTexts l.table (map line_view l.lines) characters l.first [] l.yielded (string_bytes l.text))
+    → AreSectionTexts l.table (map line_view l.lines) characters l.shown.taken l.shown.first [] l.yielded (string_bytes l.text))
