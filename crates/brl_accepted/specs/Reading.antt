@@ -65,7 +65,7 @@ fault_of words sets listed whole line = if is_note line then None else fault_of_
 
 -- ---- A file
 
--- the lines of a file; a byte order mark at its front is none of their marks
+-- the lines of a file, but for a byte order mark at its beginning
 abbrev pub rows : List ℕ → List (List ℕ)
 rows text = lines (without_mark text)
 
@@ -126,8 +126,8 @@ naming_rows words sets listed whole text = map visible_line (good_rows words set
 abbrev pub accepted : TableView → List (List ℕ) → List (List ℕ) → List (ℕ × ℕ) → Bool → List ℕ → List (ℕ × ℕ)
 accepted t words sets listed whole text = filter (is_excused t words (naming_rows words sets listed whole text)) listed
 
--- These pairs are accepted of those that are listed. The counts are that of the listed pairs that a
--- line of their own names, and that of the sets of which a line names characters.
+-- These of the listed pairs are accepted. The first count is of the listed pairs that the line of a
+-- pair names, the second of the sets of characters that the line of a set names.
 pub record Accepts (t : TableView) (words sets : List (List ℕ)) (listed : List (ℕ × ℕ)) (whole : Bool) (text : List ℕ) (pairs : List (ℕ × ℕ)) (counts : Counts) : Type 0 where
   pub named : pairs ≡ accepted t words sets listed whole text
   pub pairs_count : counts.pairs ≡ count_by (is_accepted words (naming_rows words sets listed whole text)) listed

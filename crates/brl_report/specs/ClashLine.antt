@@ -29,8 +29,8 @@ spelled_after mark text = mark ++ encode_utf8_all (visible_text text)
 abbrev pub texts_note : ClashView → List ℕ
 texts_note clash = spelled_after (codes "  ") clash.left ++ spelled_after (codes " / ") clash.right
 
--- the line of a clash whose texts diverge at two rules: the texts, their cells
--- in dots, and the rules
+-- the line of a clash whose texts diverge at two rules: the texts, their cells in dots, and the
+-- rules
 abbrev pub clash_line : TableView → List LineView → ClashView → ℕ → ℕ → List ℕ
 clash_line t lines clash rule other =
     texts_note clash ++ after_blanks (spelling clash.cells) ++ rules_note t lines clash rule other ++ codes "\n"

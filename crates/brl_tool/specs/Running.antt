@@ -350,18 +350,18 @@ Runs asks same input looked before after code =
     (asked : Result Work (Failure NotATask)) × asks asked
     × ((status : Status) × (code ≡ code_of status) × Does same input looked before after status asked)
 
--- what it means that a run ended with status 1: for some folders in which the files of tables were
--- looked for, the report of a clash, a refusal, a list of clashes or one of unused rules, or a
--- survey of a suspect table was written, or a table was cut of which a line that is left out has an
--- opcode that is none of liblouis'
+-- What it means that a run ended with status 1, for some folders in which the files of tables were
+-- looked for. One of these was written: the report of a clash, a refusal, a list of clashes, a list
+-- of unused rules, or the survey of a suspect table. Or a table was cut, and a line with an unknown
+-- opcode was left out.
 abbrev pub ReportsOne : Looked → World → Type 0
 ReportsOne looked after =
     (folders : Vec (String Global)) × (ReportsClash (looked folders) after ⊎ ReportsRefusal (looked folders) after
     ⊎ ReportsClashes (looked folders) after ⊎ ReportsUnused (looked folders) after
     ⊎ ReportsSuspect (looked folders) after ⊎ ReportsUnknown (looked folders) after)
 
--- what a file at a path may get: the pairs of rules of a table; or its own text, of which lines
--- were taken out that are stale beside some sections
+-- what is written to the file at a path: pairs of rules of a table; or the text that the file had,
+-- without its stale lines
 abbrev pub IsPairsText : FileAnswers → List ℕ → List ℕ → Type 0
 IsPairsText old path content =
     (lines : List LineView) × (sections : List Section)

@@ -1,5 +1,5 @@
-//! What `explain` says of the dots of a fault's line, of which some have a comma, at which the
-//! words of other rows are cut; and of how many characters its operand spells.
+//! What `explain` says of dots that are wrong, and of operands with too many characters. Some dots
+//! have a comma, and a comma ends a word in the rows of `cases`, so these rows stand apart.
 use brl_explain::explain;
 use brl_testing::for_rows_of_2;
 use std::alloc::Global;
