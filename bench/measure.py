@@ -25,7 +25,8 @@ def program() -> Path:
     """The program, which is made first where a source has changed. Standard error says whether it is the proved one."""
     subprocess.run([TOP / "build", "--quick"], check=True)
     subprocess.run([TOP / "brl", "--version"], stdout=subprocess.DEVNULL, check=True)
-    return TOP / "out" / "brl"
+    found = ["sh", "-c", 'top=$1; . "$top/tools/made"; find_made && echo "$way"', "sh", TOP]
+    return TOP / "out" / subprocess.run(found, check=True, capture_output=True, text=True).stdout.strip() / "brl"
 
 
 def tables(given: list[str], folder: str) -> list[tuple[str, str]]:

@@ -24,7 +24,7 @@ _brl_folders() {
 
 _brl() {
     # help takes one of the other commands
-    local commands='translate clash trace rules unused explain search clashes check survey cut'
+    local commands='translate clash trace rules unused slips explain search clashes check survey cut'
     local word=${COMP_WORDS[COMP_CWORD]} command='' option='' at operands=0
     [[ $word == '=' ]] && word=''
 
@@ -56,6 +56,7 @@ _brl() {
         search) options='--limit --without --accept --path --help' ;;
         clashes) options='--first --limit --without --accept --prune --write --path --help' ;;
         unused) options='--limit --path --help' ;;
+        slips) options='--tsv --path --help' ;;
         check) options='--without --accept --path --help' ;;
         survey) options='--brief --path --help' ;;
         cut) options='--rewrite --path --help' ;;
@@ -77,7 +78,7 @@ _brl() {
         _brl_reply < <(compgen -W "$commands help" -- "$word")
     else
         case $command:$operands in
-            translate:0 | clash:0 | trace:0 | rules:0 | unused:0 | clashes:0 | search:[01] | check:[01] | survey:* | cut:0) _brl_files "$word" ;;
+            translate:0 | clash:0 | trace:0 | rules:0 | unused:0 | slips:0 | clashes:0 | search:[01] | check:[01] | survey:* | cut:0) _brl_files "$word" ;;
             cut:1) _brl_folders "$word" ;;
             help:0) _brl_reply < <(compgen -W "$commands" -- "$word") ;;
         esac

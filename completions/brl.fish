@@ -38,6 +38,7 @@ complete -c brl -n __brl_is_first -a clash -d 'Say whether two texts look alike 
 complete -c brl -n __brl_is_first -a trace -d 'Show the steps of the translation of a text'
 complete -c brl -n __brl_is_first -a rules -d 'List the rules of a table by their numbers'
 complete -c brl -n __brl_is_first -a unused -d 'List the rules of a table that no text uses'
+complete -c brl -n __brl_is_first -a slips -d 'List rules that look like typing errors'
 complete -c brl -n __brl_is_first -a explain -d 'Say what a fault means'
 complete -c brl -n __brl_is_first -a search -d 'Decide whether any two texts look alike by a table'
 complete -c brl -n __brl_is_first -a clashes -d 'List every pair of rules by which texts look alike'
@@ -52,6 +53,7 @@ complete -c brl -n '__brl_is translate' -l form -x -a 'ascii unicode' -d 'How ce
 complete -c brl -n '__brl_is translate' -l lacking -d 'Pass over lines with undefined characters, and list these'
 complete -c brl -n '__brl_is search clashes' -l limit -x -d 'How many states and pairs may be found'
 complete -c brl -n '__brl_is unused' -l limit -x -d 'How many states may be found'
+complete -c brl -n '__brl_is slips' -l tsv -d 'Write named columns with tabs between them'
 complete -c brl -n '__brl_is clash trace' -l escapes -d 'Read texts as they are spelled in tables and reports'
 complete -c brl -n '__brl_is clash trace' -l lines -d 'Show the lines of the table by which each step is made'
 complete -c brl -n '__brl_is survey' -l brief -d 'Leave the list of faults out'
@@ -62,17 +64,18 @@ complete -c brl -n '__brl_is search check' -l accept -r -F -d 'Find no clash in 
 complete -c brl -n '__brl_is clashes' -l prune -d 'Take the stale lines out of the file of accepted pairs'
 complete -c brl -n '__brl_is clashes' -l write -r -F -d 'Write the pairs of rules that are listed to this file'
 complete -c brl -n '__brl_is search clashes check' -l without -x -d 'Characters that the texts do not use'
-complete -c brl -n '__brl_is translate clash trace rules unused explain search clashes check survey cut' -l path -x -a '(__fish_complete_directories)' -d 'Look for files of tables in this folder, too'
+complete -c brl -n '__brl_is translate clash trace rules unused slips explain search clashes check survey cut' -l path -x -a '(__fish_complete_directories)' -d 'Look for files of tables in this folder, too'
 
 complete -c brl -n '__brl_at translate 0' -F
 complete -c brl -n '__brl_at clash 0' -F
 complete -c brl -n '__brl_at trace 0' -F
 complete -c brl -n '__brl_at rules 0' -F
 complete -c brl -n '__brl_at unused 0' -F
+complete -c brl -n '__brl_at slips 0' -F
 complete -c brl -n '__brl_at search 0 1' -F
 complete -c brl -n '__brl_at clashes 0' -F
 complete -c brl -n '__brl_at check 0 1' -F
 complete -c brl -n '__brl_is survey' -F
 complete -c brl -n '__brl_at cut 0' -F
 complete -c brl -n '__brl_at cut 1' -x -a '(__fish_complete_directories)'
-complete -c brl -n '__brl_at help 0' -a 'translate clash trace rules unused explain search clashes check survey cut'
+complete -c brl -n '__brl_at help 0' -a 'translate clash trace rules unused slips explain search clashes check survey cut'

@@ -80,14 +80,13 @@ offers() {
     # a folder's slash and the option before an equals sign are a matter of each shell
     sed -i 's|/$||; s|^--form=||; s|=$||; /^$/d' "$work/got"
     if ! sort -u "$work/got" | diff "$work/want" - >"$work/diff"; then
-        echo "FAILED: $shell, '$line': < must be offered, > is offered"
-        cat "$work/diff"
-        exit 1
+        fail "completions of $shell: '$line': < must be offered, > is offered" "$work/diff"
     fi
     count=$((count + 1))
 }
 
-[ -n "$(commands)" ] && [ -n "$(options)" ] || { echo "FAILED: the help of $program has no commands or no options"; exit 1; }
+"$program" help >"$work/help"
+[ -n "$(commands)" ] && [ -n "$(options)" ] || fail 'the help has commands and options' "$work/help"
 
 for shell in bash zsh fish; do
     if ! command -v "$shell" >/dev/null; then
@@ -119,14 +118,14 @@ for shell in bash zsh fish; do
     for words in \
         'translate table.ctb' 'clash table.ctb' 'clash table.ctb text' 'trace table.ctb' \
         'clash --escapes table.ctb text' 'clash --lines table.ctb text' 'rules table.ctb' \
-            'unused table.ctb' 'unused --limit' 'explain' 'search table.ctb table.cert' \
+            'unused table.ctb' 'slips table.ctb' 'unused --limit' 'explain' 'search table.ctb table.cert' \
         'search --limit' 'search --without' 'search --limit=5 table.ctb table.cert' \
         'clashes table.ctb' 'clashes --accept other.txt table.ctb' 'clashes --first' 'check table.ctb table.cert' 'cut table.ctb tables'; do
         offers "brl $words t"
     done
     # operands that are paths
     for words in \
-        'translate --form ascii' 'trace --escapes' 'trace --escapes --lines' 'unused --limit 5' \
+        'translate --form ascii' 'trace --escapes' 'trace --escapes --lines' 'unused --limit 5' 'slips --tsv' \
             'search table.ctb' 'search --limit 5' \
         'search --without ab table.ctb' 'clashes --first 5' 'clashes --accept' 'clashes --write' \
         'clashes --accept other.txt' 'clashes --write other.txt' 'check table.ctb' \
@@ -134,10 +133,11 @@ for shell in bash zsh fish; do
         offers "brl $words t" table.ctb table.cert tables
     done
     offers 'brl cut table.ctb t' tables
-    for command in translate clash trace rules unused search clashes check survey cut; do
+    for command in translate clash trace rules unused slips search clashes check survey cut; do
         offers "brl $command --path t" tables
         offers "brl $command --path tables t" table.ctb table.cert tables
     done
     offers 'brl cut --rewrite table.ctb t' tables
-    echo "ok: completions of $shell, $count lines"
+    echo "$shell: $count lines"
+    ok "completions of $shell"
 done

@@ -1,6 +1,6 @@
 #!/bin/sh
 # Runs the built program on real files, streams and devices. Usage: tests/devices.sh PROGRAM
-# It prints one line a case, and ends with status 1 at the first that fails.
+# It prints one line a case, and goes on where one fails.
 set -u
 
 . "$(dirname "$0")/begin.sh"
@@ -15,34 +15,44 @@ printf 'letter a 1\n' >closed.ctb
 chmod a-r closed.ctb
 mkdir folder
 
-fail() {
-    echo "FAILED: $1"
-    echo "  $2"
-    exit 1
+# A case fails, for this reason: wrong CASE REASON.
+wrong() {
+    echo "$2" >"$work/reason"
+    fail "$1" "$work/reason"
 }
 
 # The case that ran last left `out`, `err` and `status`. What standard output, standard error and the status must be.
 expect() {
-    [ "$status" = "$2" ] || fail "$1" "status $status, wanted $2; standard error: $(head -c 300 err)"
+    [ "$status" = "$2" ] || wrong "$1" "status $status, wanted $2; standard error: $(head -c 300 err)"
     printf "$3" >want
-    cmp -s out want || fail "$1" "standard output: $(head -c 300 out), wanted: $(cat want)"
+    cmp -s out want || wrong "$1" "standard output: $(head -c 300 out), wanted: $(cat want)"
     printf "$4" >want
-    cmp -s err want || fail "$1" "standard error: $(head -c 300 err), wanted: $(cat want)"
-    echo "ok: $1"
+    cmp -s err want || wrong "$1" "standard error: $(head -c 300 err), wanted: $(cat want)"
+    ok "$1"
 }
 
 # As `expect`, but of standard error nothing is asked, and of standard output only that this text stands in it.
 expect_text() {
-    [ "$status" = 0 ] || fail "$1" "status $status, wanted 0"
-    grep -qF -- "$2" out || fail "$1" "standard output: $(head -c 300 out)"
-    [ ! -s err ] || fail "$1" "standard error: $(head -c 300 err)"
-    echo "ok: $1"
+    [ "$status" = 0 ] || wrong "$1" "status $status, wanted 0"
+    grep -qF -- "$2" out || wrong "$1" "standard output: $(head -c 300 out)"
+    [ ! -s err ] || wrong "$1" "standard error: $(head -c 300 err)"
+    ok "$1"
+}
+
+# Runs the program with these words, or with an input before them.
+call() {
+    "$program" "$@" >out 2>err
+    status=$?
+}
+given() {
+    printf "$1" >given
+    shift
+    call "$@" <given
 }
 
 # Translates an input by a table.
 translate() {
-    printf "$2" | "$program" translate "$1" >out 2>err
-    status=$?
+    given "$2" translate "$1"
 }
 
 translate t.ctb 'abc a\n'
@@ -76,8 +86,7 @@ expect 'a table that is not UTF-8' 2 '' 'L3 NotUtf8 bytes.ctb\n'
 translate long.ctb 'a\n'
 expect 'a table line of 2,049 bytes' 2 '' 'L6 LineTooLong long.ctb at long.ctb:2\n'
 
-"$program" translate /dev/zero </dev/null >out 2>err
-status=$?
+given '' translate /dev/zero
 expect 'a table without end' 2 '' 'L9 TooLarge /dev/zero\n'
 
 # A table of four files in two folders, all named from the folder of its root.
@@ -139,8 +148,7 @@ printf 'letter a 1\n' >one/there.ctb
 printf 'letter a 12\n' >two/there.ctb
 printf 'include there.ctb\nletter c 14\n' >one/only.ctb
 looked_for() {
-    printf 'a\n' | "$program" translate "$@" >out 2>err
-    status=$?
+    given 'a\n' translate "$@"
 }
 
 looked_for here.ctb
@@ -160,8 +168,7 @@ expect 'a table by its whole path is looked for there alone' 2 '' "L1 NotFound $
 
 printf 'include there.ctb\ninclude far.ctb\n' >near.ctb
 printf 'pass2 x y\n' >one/far.ctb
-"$program" survey --path two --path one near.ctb only.ctb >out 2>err
-status=$?
+call survey --path two --path one near.ctb only.ctb
 expect 'a survey of tables whose files are in folders' 0 "table: near.ctb
 B1 OutsideProfile pass2 at one/far.ctb:1
 opcode pass2: 1 (not in the profile)
@@ -173,15 +180,13 @@ table: only.ctb
 no verdict: a survey doesn't decide whether two texts have the same cells
 " ''
 
-"$program" cut --path two --path one near.ctb whole >out 2>err
-status=$?
+call cut --path two --path one near.ctb whole
 expect 'a cut of a table whose files are in folders' 0 "1 of 2 lines are kept
 opcode pass2: 1 (not in the profile)
 file one/far.ctb: 0 of 1 lines are read
 no verdict: a cut doesn't decide whether two texts have the same cells
 " ''
-"$program" rules whole/near.ctb >out 2>err
-status=$?
+call rules whole/near.ctb
 expect 'a cut is read without the folders' 0 '0  letter  a  12  whole/there.ctb:1\n' ''
 
 # A path below a file is one where nothing is.
@@ -203,37 +208,32 @@ looked_for --path one here.ctb
 expect 'a folder where an include is looked for first' 2 '' 'L2 ReadFailed there.ctb at here.ctb:1\n'
 rmdir there.ctb
 
-"$program" rules --path one here.ctb >out 2>err
-status=$?
+call rules --path one here.ctb
 expect 'a rule of a file that was found in a folder' 0 '0  letter  a  1  one/there.ctb:1\n' ''
 
 for out in there.ctb ./there.ctb one/../there.ctb; do
-    "$program" search --path one here.ctb "$out" >out 2>err
-    status=$?
+    call search --path one here.ctb "$out"
     expect "a certificate for $out, where an include is looked for" 2 '' 'error: the certificate would overwrite there.ctb, a file that is read\n'
 done
-[ ! -e there.ctb ] || fail 'a certificate where an include is looked for' 'it was written'
+[ ! -e there.ctb ] || wrong 'a certificate where an include is looked for' 'it was written'
 
 # Links that lead there are no way around it, nor a link there that leads nowhere.
 ln -s there.ctb to.there
 ln -s to.there to.link
 ln -s "$work/./there.ctb" to.whole
 for out in to.there to.link to.whole; do
-    "$program" search --path one here.ctb "$out" >out 2>err
-    status=$?
+    call search --path one here.ctb "$out"
     expect "a certificate through $out, where an include is looked for" 2 '' 'error: the certificate would overwrite there.ctb, a file that is read\n'
-    [ -L "$out" ] && [ ! -e there.ctb ] || fail "a certificate through $out" 'it was written'
+    [ -L "$out" ] && [ ! -e there.ctb ] || wrong "a certificate through $out" 'it was written'
 done
 ln -s far.cert there.ctb
-"$program" search --path one here.ctb far.cert >out 2>err
-status=$?
+call search --path one here.ctb far.cert
 expect 'a certificate where a link leads at which an include is looked for' 2 '' 'error: the certificate would overwrite there.ctb, a file that is read\n'
 rm there.ctb to.there to.link to.whole
 
 # Two texts by a table.
 clash() {
-    "$program" clash "$1" "$2" "$3" >out 2>err
-    status=$?
+    call clash "$1" "$2" "$3"
 }
 
 # Rules by place.
@@ -298,8 +298,7 @@ expect 'a rule behind digits' 0 '#A?\nTH\n' ''
 printf 'letter q 17\n' >dots.ctb
 translate dots.ctb 'q\n'
 expect 'a cell without an ascii mark' 2 '' 'U1 NoAscii at line 1\n'
-printf 'q\n' | "$program" translate --form unicode dots.ctb >out 2>err
-status=$?
+given 'q\n' translate --form unicode dots.ctb
 expect 'its mark in Unicode braille' 0 '\342\241\201\n' ''
 
 # A table of these lines has this fault in this line.
@@ -379,7 +378,7 @@ printf 'c\n' >&3
 exec 3>&-
 wait "$child"
 status=$?
-printf 'AB\n' | cmp -s - early || fail 'a line is written before the next is read' "standard output: $(cat early)"
+printf 'AB\n' | cmp -s - early || wrong 'a line is written before the next is read' "standard output: $(cat early)"
 expect 'a line is written before the next is read' 0 'AB\nC\n' ''
 
 yes | { "$program" translate yes.ctb; echo $? >status; } 2>err | wc -l | tr -d ' ' >out
@@ -390,14 +389,12 @@ expect 'an input without end' 2 '8388608\n' 'U6 InputTooLong at line 8388609\n'
 status=$?
 expect 'a line without end' 2 '' 'U5 InputLineTooLong at line 1\n'
 
-"$program" --help >out 2>err
-status=$?
+call --help
 expect_text 'help' 'Usage: brl'
 
 # Runs the example in the help of a command, which names this table: it is one that a reader can paste.
 run_example() {
-    "$program" "$1" --help >out 2>err
-    status=$?
+    call "$1" --help
     expect_text "help on $1" "$2"
     grep -E '^  (printf|echo|brl) ' out | sed 's/brl /"$program" /' >example
     (. ./example) >out 2>err
@@ -419,8 +416,7 @@ expect 'the example of the help on search' 0 'certified: 2 states, 0 pairs\nacce
 
 # Searches a table for a certificate.
 search() {
-    "$program" search "$@" >out 2>err
-    status=$?
+    call search "$@"
 }
 
 search ab.ctb none/ab.cert
@@ -442,8 +438,8 @@ search ab.ctb two.cert --limit 2
 expect 'as many states as the limit' 0 'certified: 2 states, 0 pairs\n' ''
 search ab.ctb one.cert --limit 1
 expect 'one state more than the limit' 3 'limit: 2 states, 0 pairs\n' ''
-[ ! -e one.cert ] || fail 'a search that passes its limit' 'it wrote a file'
-echo 'ok: a search that passes its limit writes no file'
+[ ! -e one.cert ] || wrong 'a search that passes its limit' 'it wrote a file'
+ok 'a search that passes its limit writes no file'
 
 printf 'letter a 1\nletter b 12\nletter x 1-12\nalways ab 14\n' >rule.ctb
 search rule.ctb rule.cert --limit 3
@@ -451,25 +447,24 @@ expect 'as many states and pairs as the limit' 0 'certified: 3 states, 1 pairs\n
 search rule.ctb rule.cert --limit 2
 case $status:$(cat out) in
     '3:limit: 3 states, '*) echo 'ok: one state more than the limit, beside pairs' ;;
-    *) fail 'one state more than the limit, beside pairs' "status $status: $(head -c 300 out)" ;;
+    *) wrong 'one state more than the limit, beside pairs' "status $status: $(head -c 300 out)" ;;
 esac
 search alike.ctb kept.cert
-[ "$status" = 1 ] && [ ! -s err ] || fail 'a search that finds a clash' "status $status"
-echo 'ok: a search that finds a clash'
-printf 'kept\n' | cmp -s - kept.cert || fail 'a file where texts clash' 'it was written'
-echo 'ok: a file where texts clash stays'
+[ "$status" = 1 ] && [ ! -s err ] || wrong 'a search that finds a clash' "status $status"
+ok 'a search that finds a clash'
+printf 'kept\n' | cmp -s - kept.cert || wrong 'a file where texts clash' 'it was written'
+ok 'a file where texts clash stays'
 
 printf 'a longer text than the certificate of two letters has, which is written over it\n%1000s\n' x >kept.cert
 search ab.ctb kept.cert
 expect 'a certificate is written over a longer file' 0 'certified: 2 states, 0 pairs\n' ''
-"$program" check ab.ctb kept.cert >out 2>err
-status=$?
+call check ab.ctb kept.cert
 expect 'it is accepted' 0 'accepted: 2 states, 0 pairs\n' ''
 
 # The file at this path has just this text.
 holds() {
-    printf "$2" | cmp -s - "$1" || fail "$3" "$1: $(head -c 300 "$1")"
-    echo "ok: $3"
+    printf "$2" | cmp -s - "$1" || wrong "$3" "$1: $(head -c 300 "$1")"
+    ok "$3"
 }
 two='BRLCERT 3\nstate 1 0 0\nstate 8 0 0\nend 2 0\n'
 found='certified: 2 states, 0 pairs\n'
@@ -495,8 +490,7 @@ expect 'an included file without lines as the certificate' 2 '' 'error: the cert
 
 # So are they, and a file of accepted pairs, for the pairs of rules of a list.
 clashes() {
-    "$program" clashes "$@" >out 2>err
-    status=$?
+    call clashes "$@"
 }
 printf '#\n' >own.pairs
 ln -s own.pairs link.pairs
@@ -530,13 +524,13 @@ if [ -c /dev/full ]; then
 fi
 echo kept >kept.pairs
 clashes alike.ctb --write kept.pairs --limit 0
-[ "$status" = 3 ] || fail 'a list that passes its limit' "status $status"
+[ "$status" = 3 ] || wrong 'a list that passes its limit' "status $status"
 holds kept.pairs 'kept\n' 'a file of pairs where there may be others stays'
 clashes alike.ctb --write kept.pairs
-[ "$status" = 1 ] || fail 'pairs of rules are written' "status $status"
+[ "$status" = 1 ] || wrong 'pairs of rules are written' "status $status"
 holds kept.pairs 'letter a 1 / letter x 1-12\n' 'pairs of rules are written over another file'
 clashes alike.ctb --accept kept.pairs --write rest.pairs
-[ "$status" = 0 ] || fail 'pairs of rules are accepted' "status $status"
+[ "$status" = 0 ] || wrong 'pairs of rules are accepted' "status $status"
 holds rest.pairs '' 'no others are written'
 
 # A certificate replaces a plain file, with its permissions, and through a link.
@@ -545,24 +539,24 @@ chmod 640 kept.cert
 ln -s kept.cert link.cert
 search ab.ctb link.cert
 expect 'a certificate through a link' 0 "$found" ''
-[ -L link.cert ] && [ ! -L kept.cert ] || fail 'a certificate through a link' 'the link was replaced'
+[ -L link.cert ] && [ ! -L kept.cert ] || wrong 'a certificate through a link' 'the link was replaced'
 holds kept.cert "$two" 'the file that the link names has it'
-[ "$(ls -l kept.cert | cut -c 1-10)" = -rw-r----- ] || fail 'the permissions of a certificate' "$(ls -l kept.cert)"
-echo 'ok: it has the permissions that the file had'
+[ "$(ls -l kept.cert | cut -c 1-10)" = -rw-r----- ] || wrong 'the permissions of a certificate' "$(ls -l kept.cert)"
+ok 'it has the permissions that the file had'
 ln -s new.cert lost.cert
 search ab.ctb lost.cert
 expect 'a certificate through a link to a missing file' 0 "$found" ''
 holds new.cert "$two" 'the missing file has it'
-[ -L lost.cert ] || fail 'a certificate through a link to a missing file' 'the link was replaced'
+[ -L lost.cert ] || wrong 'a certificate through a link to a missing file' 'the link was replaced'
 ln -s round.cert loop.cert
 ln -s loop.cert round.cert
 search ab.ctb loop.cert
 expect 'a certificate through links without end' 2 '' 'U7 CannotWrite loop.cert\n'
-[ -L loop.cert ] && [ -L round.cert ] || fail 'a certificate through links without end' 'a link was replaced'
+[ -L loop.cert ] && [ -L round.cert ] || wrong 'a certificate through links without end' 'a link was replaced'
 ln -s link.cert links.cert
 search ab.ctb links.cert
 expect 'a certificate through two links' 0 "$found" ''
-[ -L links.cert ] && [ -L link.cert ] || fail 'a certificate through two links' 'a link was replaced'
+[ -L links.cert ] && [ -L link.cert ] || wrong 'a certificate through two links' 'a link was replaced'
 echo kept >closed.cert
 chmod a-w closed.cert
 if [ "$(id -u)" = 0 ]; then
@@ -577,15 +571,14 @@ search ab.ctb kept.cert
 expect 'a certificate beside a file with the name of a part' 0 "$found" ''
 holds kept.cert.part1 'somebody else\n' 'that file stays'
 rm kept.cert.part1
-[ -z "$(find . -name '*.part*')" ] || fail 'a certificate' "it left $(find . -name '*.part*')"
-echo 'ok: no part of a certificate is left'
+[ -z "$(find . -name '*.part*')" ] || wrong 'a certificate' "it left $(find . -name '*.part*')"
+ok 'no part of a certificate is left'
 
 # A pipe as the table, as the certificate that is checked and as the one that is written.
 mkfifo table.pipe cert.pipe
 cat ab.ctb >table.pipe &
 cat new.cert >cert.pipe &
-"$program" check table.pipe cert.pipe >out 2>err
-status=$?
+call check table.pipe cert.pipe
 wait
 expect 'a table and a certificate from pipes' 0 'accepted: 2 states, 0 pairs\n' ''
 cat cert.pipe >piped.cert &
@@ -599,11 +592,9 @@ expect 'a certificate on standard output' 0 "$two$found" ''
 "$program" check ab.ctb /dev/stdin >out 2>err <new.cert
 status=$?
 expect 'a certificate on standard input' 0 'accepted: 2 states, 0 pairs\n' ''
-"$program" check ab.ctb folder >out 2>err
-status=$?
+call check ab.ctb folder
 expect 'a folder as the certificate that is checked' 2 '' 'L2 ReadFailed folder\n'
-"$program" check ab.ctb /dev/zero >out 2>err
-status=$?
+call check ab.ctb /dev/zero
 expect 'a certificate without end' 2 '' 'L9 TooLarge /dev/zero\n'
 
 # A reader that goes away.
@@ -626,7 +617,7 @@ for words in 'clashes alike.ctb' 'rules alike.ctb' 'trace alike.ctb a' 'survey a
 done
 unread cut alike.ctb unread.cut
 expect 'a closed pipe after a cut' 2 '' ''
-cmp -s alike.ctb unread.cut/alike.ctb || fail 'a closed pipe after a cut' 'the cut differs'
+cmp -s alike.ctb unread.cut/alike.ctb || wrong 'a closed pipe after a cut' 'the cut differs'
 for words in 'clash alike.ctb ab x' 'check ab.ctb new.cert' 'search alike.ctb /dev/null'; do
     # shellcheck disable=SC2086
     unread $words
@@ -656,28 +647,23 @@ expect 'a word that is not UTF-8' 2 '' "error: word 2 of the command line isn't 
 
 printf 'letter a 1\nletter a 12\n' >again.ctb
 search again.ctb again.cert
-printf 'notice DefinedAgain a at again.ctb:2\n' | cmp -s - err || fail 'a notice' "standard error: $(cat err)"
-[ "$status" = 0 ] && [ -s again.cert ] || fail 'a notice' "status $status"
-echo 'ok: a character that is defined again'
+printf 'notice DefinedAgain a at again.ctb:2\n' | cmp -s - err || wrong 'a notice' "standard error: $(cat err)"
+[ "$status" = 0 ] && [ -s again.cert ] || wrong 'a notice' "status $status"
+ok 'a character that is defined again'
 
-"$program" check missing.ctb missing.cert >out 2>err
-status=$?
+call check missing.ctb missing.cert
 expect 'a missing certificate comes before the table' 2 '' 'L1 NotFound missing.cert\n'
 
-"$program" check first.ctb first.ctb >out 2>err
-status=$?
+call check first.ctb first.ctb
 expect 'a file that is no certificate' 1 'refused: K2 Syntax line 1\n' ''
 
-"$program" clash t.ctb abc cba >out 2>err
-status=$?
+call clash t.ctb abc cba
 expect 'texts that do not clash' 0 'no clash\n' ''
 
-"$program" clash t.ctb ab 'a z' >out 2>err
-status=$?
+call clash t.ctb ab 'a z'
 expect 'a text with an unknown character' 2 '' 'F1 UnknownChar 2 at right\n'
 
-"$program" clash missing.ctb z z >out 2>err
-status=$?
+call clash missing.ctb z z
 expect 'a missing table comes before the texts' 2 '' 'L1 NotFound missing.ctb\n'
 
 "$program" clash t.ctb ab ab 2>err >/dev/full
@@ -685,16 +671,15 @@ status=$?
 : >out
 expect 'a finding on a full standard output' 2 '' 'U4 OutputFailed\n'
 
-"$program" --version >out 2>err
-status=$?
+call --version
 expect_text 'the version' 'brl '
 
 "$program" >out 2>err
 status=$?
-[ "$status" = 2 ] && [ ! -s out ] && [ -s err ] || fail 'no words' "status $status"
-echo 'ok: no words are a use fault'
+[ "$status" = 2 ] && [ ! -s out ] && [ -s err ] || wrong 'no words' "status $status"
+ok 'no words are a use fault'
 
 "$program" translate --nothing t.ctb >out 2>err </dev/null
 status=$?
-[ "$status" = 2 ] && [ ! -s out ] && [ -s err ] || fail 'an unknown option' "status $status"
-echo 'ok: an unknown option is a use fault'
+[ "$status" = 2 ] && [ ! -s out ] && [ -s err ] || wrong 'an unknown option' "status $status"
+ok 'an unknown option is a use fault'

@@ -9,28 +9,26 @@
 # what `survey examples/NAME.ctb` writes, and examples/NAME.trace what `trace examples/NAME.ctb` writes of the line of examples/NAME.text.
 set -u
 
-if [ $# -ne 1 ]; then
-    echo "usage: $0 PROGRAM" >&2
-    exit 2
-fi
-program=$(cd "$(dirname "$1")" && pwd)/$(basename "$1")
-cd "$(dirname "$0")/../examples" || exit 2
+. "$(dirname "$0")/begin.sh"
+cd "$top/examples" || exit 2
 
 # Compares what a command writes with the expected output of an example, and its status with another: same WANT STATUS WORDS..
 same() {
     want=$1
     ends=$2
     shift 2
-    got=$(mktemp)
-    "$program" "$@" >"$got"
+    "$program" "$@" >"$work/out"
     status=$?
-    if [ "$status" != "$ends" ] || ! cmp "$got" "$want"; then
-        echo "FAILED: examples/$want, status $status"
-        rm -f "$got"
-        exit 1
-    fi
-    rm -f "$got"
-    echo "ok: examples/$want"
+    [ "$status" = "$ends" ] && cmp "$work/out" "$want" || fail "examples/$want" "$work/out"
+    ok "examples/$want"
+}
+
+# A check with these words accepts the certificate that was written, with the numbers that this file says were certified.
+accepted() {
+    certified=$1
+    shift
+    "$program" check "$@" "$work/cert" | sed 's/^accepted/certified/' | cmp - "$certified" || fail "the certificate of examples/$certified" "$work/cert"
+    ok "the certificate of examples/$certified"
 }
 
 for want in *.brf; do
@@ -40,7 +38,7 @@ done
 
 for want in *.report; do
     name=${want%.report}
-    { IFS= read -r left && IFS= read -r right; } <"$name.texts" || exit 1
+    { IFS= read -r left && IFS= read -r right; } <"$name.texts" || fail "examples/$name.texts" "$name.texts"
     same "$want" 1 clash "$name.ctb" "$left" "$right"
 done
 
@@ -51,43 +49,25 @@ done
 
 for want in *.found; do
     name=${want%.found}
-    work=$(mktemp -d)
-    "$program" search "$name.ctb" "$work/cert" >"$work/found"
-    status=$?
-    case $status in
-        0) "$program" check "$name.ctb" "$work/cert" | sed 's/^accepted/certified/' | cmp - "$want" ;;
-        1) [ ! -e "$work/cert" ] ;;
-        *) false ;;
-    esac
-    kept=$?
-    if [ "$kept" != 0 ] || ! cmp "$work/found" "$want"; then
-        echo "FAILED: examples/$name, status $status"
-        rm -rf "$work"
-        exit 1
+    rm -f "$work/cert"
+    if grep -q '^certified: ' "$want"; then
+        same "$want" 0 search "$name.ctb" "$work/cert"
+        accepted "$want" "$name.ctb"
+    else
+        same "$want" 1 search "$name.ctb" "$work/cert"
+        [ ! -e "$work/cert" ] || fail "examples/$want: it wrote a certificate" "$work/cert"
     fi
-    rm -rf "$work"
-    echo "ok: examples/$name"
 done
 
-for want in *.pairs; do
-    name=${want%.pairs}
-    work=$(mktemp -d)
-    "$program" clashes "$name.ctb" --write "$work/pairs" >"$work/list"
+for pairs in *.pairs; do
+    name=${pairs%.pairs}
+    "$program" clashes "$name.ctb" --write "$work/pairs" >"$work/out"
     status=$?
-    if [ "$status" != 1 ] || ! grep -v '^#' "$want" | cmp - "$work/pairs"; then
-        echo "FAILED: examples/$want, status $status"
-        rm -rf "$work"
-        exit 1
-    fi
-    echo "ok: examples/$want"
-    same "$name.accepted" 0 clashes --accept "$want" "$name.ctb"
-    same "$name.certified" 0 search --accept "$name.pairs" "$name.ctb" "$work/cert"
-    if ! "$program" check --accept "$name.pairs" "$name.ctb" "$work/cert" | sed 's/^accepted/certified/' | cmp - "$name.certified"; then
-        echo "FAILED: the certificate of examples/$name.certified"
-        rm -rf "$work"
-        exit 1
-    fi
-    rm -rf "$work"
+    [ "$status" = 1 ] && grep -v '^#' "$pairs" | cmp - "$work/pairs" || fail "examples/$pairs" "$work/out" "$work/pairs"
+    ok "examples/$pairs"
+    same "$name.accepted" 0 clashes --accept "$pairs" "$name.ctb"
+    same "$name.certified" 0 search --accept "$pairs" "$name.ctb" "$work/cert"
+    accepted "$name.certified" --accept "$pairs" "$name.ctb"
 done
 
 for want in *.survey; do
@@ -96,15 +76,18 @@ done
 
 for want in *.trace; do
     name=${want%.trace}
-    IFS= read -r text <"$name.text" || exit 1
+    IFS= read -r text <"$name.text" || fail "examples/$name.text" "$name.text"
     same "$want" 0 trace "$name.ctb" "$text"
 done
 
-cd .. && tests/shown.py "$program" README.md docs/guide/TUTORIAL.md docs/guide/ACCEPTED.md || exit 1
-for tool in git make; do
-    if ! command -v "$tool" >/dev/null; then
-        echo "skipped: docs/guide/RECIPES.md, since there is no $tool"
-        exit
-    fi
-done
-exec tests/shown.py "$program" docs/guide/RECIPES.md
+# Runs the commands that these documents show.
+shown() {
+    (cd "$top" && tests/shown.py "$program" "$@") >"$work/out" || fail "the commands of $*" "$work/out"
+    ok "the commands of $*"
+}
+shown README.md docs/guide/TUTORIAL.md docs/guide/ACCEPTED.md
+if command -v git >/dev/null && command -v make >/dev/null; then
+    shown docs/guide/RECIPES.md
+else
+    echo 'skipped: docs/guide/RECIPES.md, since there is no git or no make'
+fi

@@ -107,10 +107,3 @@ def functions_of(path: str, text: str, homes: dict[str, tuple[str, ...]]) -> lis
             places = (begin_of(text, it.start()), it.start(), it.start(2), it.end(2), body.end(), end.start())
             found.append(Function(path, names, it[1], *places))
     return found
-
-
-def stated(path: str, text: str, homes: dict[str, tuple[str, ...]]) -> str:
-    """A file without the bodies of its functions: what the prover knows of it where another crate is proved."""
-    for it in reversed(functions_of(path, text, homes)):
-        text = text[: it.body] + text[it.end :]
-    return text

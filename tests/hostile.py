@@ -109,6 +109,31 @@ file p/u.cti: 1 of 2 lines are read
 file v.cti: 1 of 3 lines are read
 no verdict: a cut doesn't decide whether two texts have the same cells
 """
+# A rule of each kind, rules that are none, and lines that aren't read.
+FOUR = "letter a 1\nletter b 12\nletter c 14\nletter d 145\n"
+SLIPS = FOUR + (
+    "always dad 3\nlargesign bad 5\nbase uppercase A a\nword cabba 14-1-12-14-1\nword bacca 12-14-1-14-1\nnofor word accca 2\n"
+    "word abcba 1-12-14-6-12-1\nword acbcac 1-14-12-14-14\nword abcabca 1-12-14-2-12-14-2\nword Abab 1-12-1-12\nalways bdc 46-3\n"
+    "noback always bdb 46-3\nword baad 12-1-4-145\n"
+)
+SLIPS_TEXT = """likely slips: 7 lines
+  t.ctb
+    8 word cabba           cell 4 is 14 c for 12 b
+    9 word bacca           cells 2 and 3 are exchanged: 14 c, 1 a
+    11 word abcba          cell 4, 6, is too many
+    12 word acbcac         no 1 a before cell 5
+    15 always bdc, 16 bdb  same cells; c 14, b 12
+    17 word baad           cell 3 is 4 for 1 a
+    13 word abcabca        cell 4 is 2 accca for 1 a; cell 7 is 2 accca for 1 a
+"""
+SLIP = FOUR + "word cabba 14-1-12-14-1\n"
+SLIP_COLUMNS = (
+    "kind\tfile\tline\topcode\ttext\tcells\tsaid\tspelling\tspelled\tfile2\tline2\topcode2\ttext2\tcells2\n"
+    "replaced\tu.ctb\t5\tword\tcabba\t14-1-12-14-1\tcell 4 is 14 c for 12 b\tc a b b a\t14-1-12-12-1\t\t\t\t\t\n"
+)
+HABITS = FOUR + "word abcda 1-12-6-145-1\nword bacdb 12-1-6-145-12\nword dbcab 145-12-6-1-12\nword bbcdd 12-12-6-145-145\n"
+HABITS_TEXT = "no likely slips\n    4 lines alike, perhaps meant: 6 for 14 c, as t.ctb:5 abcda\n"
+
 RULES = """\
 0  always  ab  14  t.ctb:2
 1  letter  a  1  u.ctb:1
@@ -376,6 +401,11 @@ RUNS = [
         "1  always  ab  3  t.ctb:4  in its place:  t.ctb:3 always ab\n1 of 4 rules is used by no text\n", 1),
     Run("some text uses each rule", ["unused", "t.ctb"], {"t.ctb": TWO}, "each of 2 rules is used by some text\n"),
     Run("a list of unused rules passes a limit", ["unused", "--limit", "1", "t.ctb"], {"t.ctb": TWO}, "limit: 2 states\n", 3),
+    Run("slips are listed", ["slips", "t.ctb"], {"t.ctb": SLIPS}, SLIPS_TEXT, 1),
+    Run("slips are listed in columns", ["slips", "--tsv", "t.ctb"], {"t.ctb": "include u.ctb\n", "u.ctb": SLIP}, SLIP_COLUMNS, 1),
+    Run("rules with the same difference are listed", ["slips", "t.ctb"], {"t.ctb": HABITS}, HABITS_TEXT),
+    Run("no slip is listed", ["slips", "--path", "e", "t.ctb"], {"t.ctb": "include u\n", "e/u": TWO}, "no likely slips\n"),
+    Run("slips of a table that can't be loaded", ["slips", "t.ctb"], {"t.ctb": "include u.ctb\n"}, status=2, err="L1 NotFound u.ctb at t.ctb:1\n"),
     Run("a fault is explained", ["explain", "B2 MissingOperand letter at t.ctb:1"], {}, EXPLANATION),
     Run(
         "a fault is explained with the line of its file",
@@ -550,7 +580,7 @@ def made_again(machine: Machine, tests: Path, name: str) -> Result:
 def tests_of(program: Path) -> list[str]:
     """The names of a test program's tests that make a call again."""
     listed = subprocess.run([program, "--list"], capture_output=True, text=True, check=True).stdout.splitlines()
-    names = [it.removesuffix(": test") for it in listed if it.startswith("tests::again::")]
+    names = [it.removesuffix(": test") for it in listed if "::again::" in it]
     if not names:
         sys.exit(f"hostile.py: {program} has no test that makes a call again")
     return names

@@ -7,17 +7,21 @@ set -u
 unset DESTDIR
 mkdir "$work/clone" && cd "$work" || exit 2
 mkdir clone/docs && cp -R "$top/install" "$top/man" "$top/completions" clone/ && cp -R "$top/docs/guide" clone/docs/ || exit 2
+mkdir -p clone/tools clone/crates/brl/src && cp "$top/tools/made" clone/tools/ && cp "$top/HANDLES" "$top/crates.txt" clone/ || exit 2
+cp "$top/crates/brl/src/main.rt" clone/crates/brl/src/ || exit 2
 cat >clone/build <<END
 #!/bin/sh
+set -eu
+top=$work/clone
+. "$top/tools/made"
 case \$* in
-    '') how='proved here' ;;
-    --quick) how='compiled here without proofs' ;;
-    --how) exec cat "$work/how" ;;
+    '') way=proved ;;
+    --quick) way=compiled ;;
     *) exit 2 ;;
 esac
-echo "\$how" >"$work/how"
 echo built >>"$work/builds"
-mkdir -p "$work/clone/out" && cp "$program" "$work/clone/out/brl"
+: >"$work/seen"
+keep "\$way" "$program" "\$(sum_of "\$top")" "$work/seen"
 END
 chmod +x clone/build
 
@@ -66,9 +70,10 @@ exec 3<&-
 [ ! -L place/share/man/man1/brl.1 ] && cmp -s place/share/zsh/site-functions/_brl "$top/completions/_brl" || fail 'what was there is replaced'
 ok 'a second time'
 
+rm -r clone/out
 install --compiled compiled
 [ "$status" = 0 ] && has_files compiled "$files" || fail 'without proofs'
-[ "$(cat err)" = 'install: the program is compiled here without proofs' ] || fail 'a compiled program is installed'
+[ "$(cat err)" = 'install: the program is compiled here without proofs; ./build proves it' ] || fail 'a compiled program is installed'
 ok 'without proofs'
 
 DESTDIR=$work/package
@@ -113,13 +118,14 @@ mkdir empty
 install empty
 refused 'a program that can not be built' "the program isn't built, so nothing was installed"
 has_files empty '' || fail 'a program that can not be built: something was installed'
-printf '#!/bin/sh\n[ "$*" != --how ]\n' >clone/build
+printf '#!/bin/sh\n' >clone/build
+rm clone/out/proved/sources
 install empty
-refused 'a program of which nothing is known' "how the program was made isn't known, so nothing was installed"
+refused 'a program of which nothing is known' './build left no program of the sources as they are'
 has_files empty '' || fail 'a program of which nothing is known: it was installed'
 
 # No file may have more than one block: so the copy of the program ends early.
-printf '#!/bin/sh\n' >clone/build
+(top=$work/clone && . "$top/tools/made" && : >seen && keep proved "$program" "$(sum_of "$top")" seen)
 (ulimit -f 1 && exec clone/install place) >out 2>err
 status=$?
 refused 'a file that can not be written whole' '.*/place/bin/brl can.t be written'

@@ -14,13 +14,13 @@ page=man/brl.1
 if command -v man >/dev/null && man --help 2>/dev/null | grep -q -- --warnings; then
     LC_ALL=C.UTF-8 man --warnings -l "$page" >"$work/text" 2>"$work/warnings" && [ -s "$work/text" ] || fail 'man' "$work/warnings"
     [ ! -s "$work/warnings" ] || fail 'man warns' "$work/warnings"
-    echo 'ok: man has no warning'
+    ok 'man has no warning'
 else
     echo 'skipped: no man that warns'
 fi
 if command -v mandoc >/dev/null; then
     mandoc -T lint -W warning "$page" >"$work/lint" 2>&1 && [ ! -s "$work/lint" ] || fail 'mandoc warns' "$work/lint"
-    echo 'ok: mandoc has no warning'
+    ok 'mandoc has no warning'
 else
     echo 'skipped: no mandoc'
 fi
@@ -71,7 +71,7 @@ awk '
     /^\.It Fl/ { options = options options_of($0) }
 ' "$page" | tr -s ' ' | sort >"$work/described"
 sort "$work/help" | diff - "$work/described" >"$work/diff" || fail 'the description: < is in the help, > in the page' "$work/diff"
-echo "ok: the page has the commands, operands and options of the help"
+ok "the page has the commands, operands and options of the help"
 
 # The page has the faults of FAULTS.md, and no others; and FAULTS.md has those that any document names.
 faults() {
@@ -83,6 +83,7 @@ faults "$listed" >"$work/faults"
 faults "$page" | diff "$work/faults" - >"$work/diff" || fail "the faults: < is in $listed, > in the page" "$work/diff"
 faults -r --include='*.md' . | comm -13 "$work/faults" - >"$work/diff"
 [ ! -s "$work/diff" ] || fail "$listed lacks faults that other documents name" "$work/diff"
-echo "ok: the page has the $(wc -l <"$work/faults") faults of $listed"
+ok "the page has the $(wc -l <"$work/faults") faults of $listed"
 
-tests/shown.py "$program" "$page"
+tests/shown.py "$program" "$page" >"$work/shown" || fail 'the examples of the page' "$work/shown"
+ok 'the examples of the page'

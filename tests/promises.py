@@ -8,7 +8,7 @@ dash is a clause without a name. Its rows of types name a ghost fact of each, an
 functions one of their clauses. DEFINITIONS.md names each file of specs/ once, but for those that
 begin with "Internal." and the lists of modules. In all documents, what is written `crate::name` or
 `crate::Type::name` is exported by that crate. The example at the head of each of six crates is the
-body of a function that a test of brl_tests_calls calls. A failed comparison ends with status 1.
+body of a function that a test of `calls` in brl_tests calls. A failed comparison ends with status 1.
 """
 
 import re
@@ -25,7 +25,7 @@ PROMISES, DEFINITIONS = (TOP / "docs" / "proof" / it for it in ("PROMISES.md", "
 
 # The crates that a caller of the library names first, and the functions that their examples are the bodies of.
 OUTWARD = ("brl_table", "brl_forward", "brl_cert", "brl_accept", "brl_search", "brl_stream")
-EXAMPLES = CRATES / "brl_tests_calls" / "src" / "tests" / "examples.rt"
+EXAMPLES = CRATES / "brl_tests" / "src" / "tests" / "calls" / "examples.rt"
 
 # The crates whose calls are promised to nobody: the program's `main`, and tests.
 OTHERS = re.compile(r"brl|brl_test.*")

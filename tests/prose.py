@@ -8,6 +8,7 @@ sources, where no document is named.
 - A link leads to a file, and to a heading of it; a path of the repository, or the name of a document, is there.
 - What is written `crate::item` is an item that the crate exports, and `crate::Type::item` one of such a type.
 - The words that the house doesn't use aren't used, outside of code.
+- README.md alone names the kit, and it is the one on the path.
 
 Comments are held to the columns and the words.
 
@@ -17,6 +18,7 @@ status is 1 where there is a fault.
 
 import functools
 import re
+import shutil
 import subprocess
 import sys
 from bisect import bisect
@@ -31,8 +33,7 @@ MOST_COLUMNS, MOST_CELL = 100, 120
 # Between lines that begin so, a script writes the document.
 BELOW, ABOVE = "<!-- Below this line ", "<!-- Above this line "
 
-# What a repository has only once something was run in it, and what a name of a path may be instead.
-MADE = {"tests/refused": "tests/wrong_bodies.py writes it"}
+# What a name of a path may be instead.
 ANY_NAME = re.compile(r"\b(?:NAME|CRATE|WHAT_IT_GETS_WRONG)\b")
 
 LINK = re.compile(r"\]\(\s*([^()\s]+)\s*\)")
@@ -41,6 +42,8 @@ PATH = re.compile(r"(?<![\w/.~$-])(?:docs|crates|tests|bench|tools|examples|comp
 PAGE = re.compile(r"(?<![\w/.-])[A-Z][A-Z_]+\.md\b")
 # Code in a line, or over the end of one, a link's target, and a comment.
 NO_PROSE = (r"(`+)(?:(?!\1)[^\n]|\n(?!\n))+?\1", r"\]\([^)\n]*\)", r"<!--(?:.|\n)*?-->")
+KIT = re.compile(r"rattle-kit-\w+(?: logic \w+)?")
+README = TOP / "README.md"
 ITEM = re.compile(r"\b(brl(?:_\w+)?)::(\w+)((?:::\w+)*)")
 
 # Words that the house doesn't use, and what it uses.
@@ -143,7 +146,7 @@ def is_there(path: str) -> bool:
     """Whether the repository has a path; one that begins within a crate, in some crate."""
     pattern = ANY_NAME.sub("*", path)
     pattern = f"crates/*/{pattern}" if re.match(r"(?:specs|src|proofs)/", pattern) else pattern
-    return path in MADE or next(TOP.glob(pattern), None) is not None
+    return next(TOP.glob(pattern), None) is not None
 
 
 def dead_links(it: Document) -> Faults:
@@ -222,6 +225,17 @@ def other_words(it: Document) -> Faults:
                 yield bisect(starts, found.start()) - 1, f"'{used}', for which the house has: {instead}"
 
 
+def other_kits(it: Document) -> Faults:
+    """A kit that isn't the one on the path, and each that another document than README.md names."""
+    here = shutil.which("rt") and subprocess.run(["rt", "version"], capture_output=True, text=True).stdout.strip()
+    for number, line in it.prose():
+        for kit in KIT.findall(line):
+            if it.path != README:
+                yield number, "the kit is named in README.md alone"
+            elif here and kit != here:
+                yield number, f"the kit is '{here}'"
+
+
 CHECKS: dict[str, Callable[[Document], Faults]] = {
     f"no line has more than {MOST_COLUMNS} columns": long_lines,
     f"no cell of a table has more than {MOST_CELL} characters": long_cells,
@@ -229,6 +243,7 @@ CHECKS: dict[str, Callable[[Document], Faults]] = {
     "each path and each document that is named is there": dead_paths,
     "each item that is named is exported": unknown_items,
     "no word is used that the house doesn't use": other_words,
+    "README.md alone names the kit, and it is that of `rt version`": other_kits,
 }
 
 OF_COMMENTS: dict[str, Callable[[Document], Faults]] = {

@@ -1,8 +1,7 @@
 """Small tables that are made at random, and the kinds of capitals that a table has.
 
 The tests of this folder and bench/foma decide such tables. Each of them prints how many of its
-tables have capitals of each kind, and fails where none has: of any number of tables if they are the
-same on each run, else of ENOUGH or more.
+tables have capitals of each kind, and fails where none has, of ENOUGH tables or more.
 """
 
 import argparse
@@ -25,8 +24,8 @@ ALL_PLACES = [*PLACES[1:], "sufword", "prfword", "begnum", "midnum", "endnum"]
 # The opcodes that define characters here.
 DEFINING = ["space", "punctuation", "litdigit", "letter", "lowercase", "uppercase", "uplow"]
 
-# Of this many tables or more some have capitals of each kind.
-ENOUGH = 300
+# Of this many tables or more some have capitals of each kind, whatever the seed.
+ENOUGH = 1000
 
 # A capital whose fold is itself; one that an `uplow` line has in place of the small letter; one
 # with a `litdigit` line; several whose fold is one letter; one in a rule once that is folded.
@@ -161,7 +160,7 @@ def asked(doc: str, words: list[str]) -> argparse.Namespace:
     """The program that is compared, and of how many tables of which seed."""
     reader = argparse.ArgumentParser(description=doc.split("\n", 1)[0])
     reader.add_argument("program")
-    reader.add_argument("--seed", type=int, default=1)
+    reader.add_argument("--seed", default="1")
     reader.add_argument("--count", type=int, default=300)
     return reader.parse_args(words)
 
@@ -184,5 +183,5 @@ def compare(asked: argparse.Namespace, wanted: str, difference: Difference) -> t
         if wrong:
             print(f"{wrong}\nwithout '{without}':\n{table}", flush=True)
     lacks = lacking(has) if asked.count >= ENOUGH else ""
-    print("\n".join(filter(None, [f"{wanted} {shown(has)}", lacks])))
+    print("\n".join(filter(None, [f"seed {asked.seed}: {wanted} {shown(has)}", lacks])))
     return counts, lacks

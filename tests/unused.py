@@ -17,7 +17,6 @@ It also says how many of the rules that aren't listed are used by a short text. 
 same tables. The exit status is 1 where something differs, which is printed.
 """
 
-import argparse
 import random
 import re
 import subprocess
@@ -131,11 +130,7 @@ def with_extra(table: str, extra: str) -> str:
 
 
 def main(words: list[str]) -> int:
-    reader = argparse.ArgumentParser(description=__doc__.split("\n", 1)[0])
-    reader.add_argument("program")
-    reader.add_argument("--seed", type=int, default=1)
-    reader.add_argument("--count", type=int, default=300)
-    asked = reader.parse_args(words)
+    asked = random_tables.asked(__doc__, words)
     counts: Counter[str] = Counter()
     kinds: Counter[str] = Counter()
     with tempfile.TemporaryDirectory() as room:
@@ -148,7 +143,7 @@ def main(words: list[str]) -> int:
                 counts["failed"] += 1
                 print(f"{wrong}\n{table}", flush=True)
     lacking = random_tables.lacking(kinds) if asked.count >= random_tables.ENOUGH else ""
-    print("\n".join(filter(None, [f"compared {random_tables.shown(kinds)}", lacking])))
+    print("\n".join(filter(None, [f"seed {asked.seed}: compared {random_tables.shown(kinds)}", lacking])))
     print(f"used: {counts['used']} rules, {counts['short']} of them by a short text; unused: {counts['unused']}, {counts['own']} of them own")
     print(f"unused: {asked.count} tables, {counts['some']} with such rules, {counts['none']} without, {counts['failed']} failed")
     return 1 if counts["failed"] or lacking else 0

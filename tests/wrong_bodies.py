@@ -27,16 +27,11 @@ values at which all that is known there holds and a goal fails, no proof file he
 goal. It isn't printed of a function with a loop: after a loop only its invariant is known, so a right body whose
 loop needs another invariant fails at some values too.
 
-tests/refused keeps of which crates all this came out as it should, with a sum of what decides it (records.py); only
-this script writes it. A run tries the crates whose sum is another, and in turn, by the day, a fifth of the others. Of
-the rest it counts what is kept; of crates that are gone it keeps nothing.
+  tests/wrong_bodies.py [--after-ci ROOT] [NAME..]
 
-  tests/wrong_bodies.py [--after-ci ROOT] [--all | NAME..]
-
-With --all it tries the bodies of all crates, and with names those of these. The libraries that they stand on are built
-first, or with --after-ci taken from a copy of the sources in which `rt ci` has built them.
-
-The last lines say how many were tried, and 'wrong bodies: N refused, M not'.
+It tries the bodies of all crates, or of those with these names. The libraries that they stand on are built first, or with
+--after-ci taken from a copy of the sources in which `rt ci` has built them. The last lines say how many were tried, and
+'wrong bodies: N refused, M not'.
 """
 
 import os
@@ -45,7 +40,6 @@ import shutil
 import subprocess
 import sys
 import tempfile
-import time
 from concurrent.futures import ThreadPoolExecutor, as_completed
 from dataclasses import dataclass, replace
 from pathlib import Path
@@ -57,14 +51,9 @@ sys.dont_write_bytecode = True
 sys.path.insert(0, str(TOP))
 from functions import Function, function_at, function_of_line, functions_of, homes_of, modules_of, text_of
 from kit import kit
-from made import Kit
-from records import Seen, forget_others, keep_refused, read_refused, sum_of_bodies
 
 # The memory that the check of one crate may take.
 CHECK_BYTES = 4_000_000_000
-
-# Into how many parts the crates are cut, of which each run tries one though nothing has changed there.
-TURNS = 5
 
 # The function whose goals aren't proved, or whose proof rests on a hole alone; a goal that a proof file doesn't prove; one that nothing proves.
 TOLD = re.compile(r"fn (?P<name>\S+): (?:not proved|no proof)(?P<why>.*)")
@@ -218,7 +207,6 @@ class Trial:
         own = TOP / "crates" / crate.name
         good, bad = rt.edits_of(SimpleNamespace(folder=str(own)))
         self.failed = [f"{it}: an edit stands right in must-fail/, and its name ends in .edit" for it in bad]
-        self.total = sum_of_bodies(crate, own, Kit.of(rt))
         self.bodies = [it for it in self.read([*map(Path, good)]) if not self.is_misplaced(it, False)]
         self.rewritten = [it for it in self.read(sorted(Path(own, "must-pass").glob("*.edit"))) if not self.is_misplaced(it, True)]
 
@@ -403,28 +391,6 @@ class Trial:
         self.try_in_place(self.try_copies())
         return self
 
-    def seen(self) -> Seen | None:
-        """What is to be kept of this trial, where all came out as it should."""
-        if self.failed:
-            return None
-        today = time.strftime("%Y-%m-%d", time.gmtime())
-        return Seen(self.total, len(self.refused), self.shown_false, len(self.accepted), today)
-
-
-def in_turn(trials: list[Trial], day: int) -> set[str]:
-    """The crates whose turn it is on a day: one of some parts, which have as many bodies each as they can."""
-    parts: list[list[Trial]] = [[] for _ in range(TURNS)]
-    for it in sorted(trials, key=lambda it: (-len(it.bodies), it.crate.name)):
-        min(parts, key=lambda part: sum(len(it.bodies) for it in part)).append(it)
-    # whoever runs this every fifth day meets each part, too
-    return {it.crate.name for it in parts[(day + day // TURNS) % TURNS]}
-
-
-def to_try(trials: list[Trial], kept: dict[str, Seen]) -> list[Trial]:
-    """Those of which nothing is kept as they are now, and those whose turn it is."""
-    turn = in_turn(trials, int(time.time()) // 86_400)
-    return [it for it in trials if it.crate.name in turn or it.crate.name not in kept or kept[it.crate.name].total != it.total]
-
 
 def free_memory() -> int:
     rows = dict(row.split(":") for row in Path("/proc/meminfo").read_text().splitlines())
@@ -432,72 +398,47 @@ def free_memory() -> int:
 
 
 def try_all(trials: list[Trial]) -> None:
-    """Tries these side by side, as processors and memory allow, and keeps of each what was seen."""
+    """Tries these side by side, as processors and memory allow, and prints what came of each."""
     lanes = max(1, min(len(os.sched_getaffinity(0)), free_memory() // CHECK_BYTES))
     with ThreadPoolExecutor(lanes) as pool:
         for ended in as_completed(pool.submit(it.run) for it in sorted(trials, key=Trial.work, reverse=True)):
-            trial = ended.result()
-            print(*trial.accepted, *trial.refused, *trial.failed, sep="\n", flush=True)
-            keep_refused(trial.crate.name, trial.seen())
+            it = ended.result()
+            print(*it.accepted, *it.refused, *it.failed, sep="\n", flush=True)
 
 
-def report(tried: list[Trial], kept: list[Seen]) -> int:
+def report(trials: list[Trial]) -> int:
     """Prints the last lines, and gives how many bodies aren't as they should be."""
-    found = [Seen("", len(it.refused), it.shown_false, len(it.accepted), "") for it in tried]
-    refused, false, accepted = (sum(it) for it in zip((0, 0, 0), *((it.refused, it.false, it.accepted) for it in found + kept)))
-    missing, failed = sum(len(it.rewritten) - len(it.accepted) for it in tried), sum(len(it.failed) for it in tried)
-    by_record = sum(it.refused for it in kept)
-    print(f"right bodies: {accepted} accepted, {missing} not")
-    print(f"false at some values: {false} of {refused} refused")
-    print(f"tried: {refused - by_record + failed} bodies of {len(tried)} crates; by the record: {by_record} of {len(kept)} crates")
+    refused, failed = sum(len(it.refused) for it in trials), sum(len(it.failed) for it in trials)
+    accepted = sum(len(it.accepted) for it in trials)
+    print(f"right bodies: {accepted} accepted, {sum(len(it.rewritten) for it in trials) - accepted} not")
+    print(f"false at some values: {sum(it.shown_false for it in trials)} of {refused} refused")
     print(f"wrong bodies: {refused} refused, {failed} not")
     return failed
 
 
-@dataclass(frozen=True)
-class Words:
-    """What this script is asked for."""
-
-    # The copy of the sources in which `rt ci` has built the libraries.
-    built: Path | None
-    is_all: bool
-    names: frozenset[str]
-
-    @staticmethod
-    def read(words: list[str]) -> "Words | None":
-        built = None
-        if words[:1] == ["--after-ci"] and len(words) > 1:
-            built, words = Path(words[1]).resolve(), words[2:]
-        is_all, names = words[:1] == ["--all"], frozenset(words)
-        wrong = len(names) > 1 if is_all else any(it.startswith("-") for it in names)
-        return None if wrong else Words(built, is_all, frozenset() if is_all else names)
-
-
 def main(words: list[str]) -> int:
-    asked = Words.read(words)
-    if not asked:
+    built = None
+    if words[:1] == ["--after-ci"] and len(words) > 1:
+        built, words = Path(words[1]).resolve(), words[2:]
+    if any(it.startswith("-") for it in words):
         print(__doc__, file=sys.stderr)
         return 2
     rt = kit()
     if not rt:
         sys.exit("wrong_bodies.py: this needs the command rt of the Rattle kit")
     rt.rtlib.guarded()
-    crates = rt.rtlib.crates_below(str(asked.built or TOP))
-    if unknown := asked.names - {it.name for it in crates}:
+    crates = rt.rtlib.crates_below(str(built or TOP))
+    if unknown := set(words) - {it.name for it in crates}:
         sys.exit(f"wrong_bodies.py: there is no crate {min(unknown)}")
-    chosen = [it for it in crates if it.name in asked.names] or crates
+    chosen = [it for it in crates if not words or it.name in words]
     trials = [it for it in (Trial(rt, it) for it in chosen) if it.bodies or it.rewritten or it.failed]
-    if not asked.names:
-        forget_others(it.crate.name for it in trials)
-    kept = read_refused()
-    tried = trials if asked.is_all or asked.names else to_try(trials, kept)
-    held = rt.rtlib.lock([it.crate for it in tried])
-    if not asked.built and any(dep.build_rlib(["--jobs", "1"], anew=False) for it in tried for dep in it.crate.below()):
+    held = rt.rtlib.lock([it.crate for it in trials])
+    if not built and any(dep.build_rlib(["--jobs", "1"], anew=False) for it in trials for dep in it.crate.below()):
         return 1
-    try_all(tried)
+    try_all(trials)
     for it in held:
         os.close(it)
-    return 1 if report(tried, [kept[it.crate.name] for it in trials if it not in tried]) else 0
+    return 1 if report(trials) else 0
 
 
 if __name__ == "__main__":

@@ -174,8 +174,29 @@ pub fn judge<S: Source>(
     ensures count { CountsFailure (S.faults source.old) (S.faults source.new) (load_outcome result) }
     ensures same { Unchanged (S.gives source.old) (S.gives source.new) }
 {
+    let left_out = LeftOut::none(alloc);
+    judge_silently(alloc, source, root, cert, &left_out)
+}
+
+/// Judges a certificate as `judge_with` does, and reports no progress.
+fn judge_silently<S: Source>(
+    alloc: Global,
+    source: &mut S,
+    root: &str,
+    cert: &[u8],
+    left_out: &LeftOut,
+) -> Result<Accepted, Failure<JudgeFault>>
+    ensures accepted { IfOk result (λ accepted. (t : TableView) × IsTableOf (S.gives source.old) root.now t
+        × IsUnambiguousWithout left_out.now t × IsAcceptedWithout left_out.now t cert.now accepted) }
+    ensures refused { IfErr result (IfFault (IsRefusedByWithout left_out.now (S.gives source.old) root.now cert.now)) }
+    ensures decides { IsDeterministic (S.gives source.old) → (t : TableView) → IsTableOf (S.gives source.old) root.now t
+        → (accepted : AcceptedValue) → IsAcceptedWithout left_out.now t cert.now accepted
+        → (result ≡ Ok accepted) ⊎ (result ≡ Err failures.Memory) }
+    ensures count { CountsFailure (S.faults source.old) (S.faults source.new) (load_outcome result) }
+    ensures same { Unchanged (S.gives source.old) (S.gives source.new) }
+{
     let scope = Scope {
-        left_out: &LeftOut::none(alloc),
+        left_out,
         progress: &mut NoProgress,
     };
     judge_with(alloc, source, root, cert, scope)
@@ -214,7 +235,8 @@ pub fn judge_with<S: Source, W: Progress>(
     ensures count { CountsFailure (S.faults source.old) (S.faults source.new) (load_outcome result) }
     ensures same { Unchanged (S.gives source.old) (S.gives source.new) }
 {
-    judge_up_to(alloc, source, root, cert, &Excused::nothing(alloc), scope)
+    let excused = Excused::nothing(alloc);
+    judge_up_to(alloc, source, root, cert, &excused, scope)
 }
 
 /// Judges a certificate as `judge_with` does, but for splits that are excused. An acceptance says

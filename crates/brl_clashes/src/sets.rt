@@ -1,5 +1,5 @@
 //! Sets of characters that a table treats as one.
-ghost use Rattle.std.specs.Prelude.{◌≡◌, ◌++◌, IfOk, OnOk, filter, find, flat_map, map, string_bytes};
+ghost use Rattle.std.specs.Prelude.{◌≡◌, ◌++◌, [], IfOk, OnOk, filter, find, flat_map, map, string_bytes};
 ghost use Rattle.brl_clashes.specs.ClashesText.{dots_of as dots, set_line, many_sets as many_sets_line, sets_heading as heading_of_sets, sets_text as text_of_sets};
 ghost use Rattle.brl_clashes.specs.Sets.{
   are_equal as are_equal_in,
@@ -8,6 +8,7 @@ ghost use Rattle.brl_clashes.specs.Sets.{
   is_plain as is_plain_in,
   openers as openers_among,
   opens_set as opens_set_among,
+  plain,
   rule_characters as characters_of_rules,
   set_among,
   sets_of_table,
@@ -122,13 +123,21 @@ fn opens_set(table: &Table, characters: &[char], character: char) -> bool
     count > 1 && first_among(table, characters, character) == character
 }
 
+/// The characters of a table that no rule has and that are their own folds.
+fn all_plain(alloc: Global, table: &Table) -> Result<Vec<char>, AllocError>
+    ensures { IfOk result (λ characters. characters.items ≡ plain table.now []) }
+{
+    let left_out = LeftOut::none(alloc);
+    let kept = kept_characters(alloc, table, &left_out)?;
+    plain_characters(alloc, table, kept)
+}
+
 /// The sets of two or more characters of a table that it treats as one: they have the same cells,
 /// classes and flags, and are in no rule.
 pub fn character_sets(alloc: Global, table: &Table) -> Result<Vec<Vec<char>>, AllocError>
     ensures { IfOk result (λ sets. map (λ set. set.items) sets.items ≡ sets_of_table table.now) }
 {
-    let kept = kept_characters(alloc, table, &LeftOut::none(alloc))?;
-    let plain = plain_characters(alloc, table, kept)?;
+    let plain = all_plain(alloc, table)?;
     let openers = openers(alloc, table, plain.as_slice())?;
     sets_opened(alloc, table, plain.as_slice(), openers.as_slice())
 }

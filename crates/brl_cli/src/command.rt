@@ -116,6 +116,12 @@ pub enum Question<'a> {
         text: &'a str,
         options: TextOptions,
     },
+    /// Which rules of the table whose file is at this path have the cells of their own characters
+    /// but for one or two. An answer in columns is for programs.
+    Slips {
+        table: &'a str,
+        columns: bool,
+    },
 }
 
 /// How texts are read, and what is shown of their steps.
@@ -189,8 +195,9 @@ const FORMS: [&str; 2] = [ASCII, UNICODE];
 /// What follows the options in `brl --help`.
 const STATUSES: &str = "Exit status:
   0  the work was done; of two texts: they don't clash; of a certificate: it is accepted;
-     of a search: it found a certificate; of rules: some text uses each
-  1  two texts clash; a certificate is refused; no text uses some rule; an opcode that is surveyed or cut isn't liblouis'
+     of a search: it found a certificate; of rules: some text uses each, none looks like a typing error
+  1  two texts clash; a certificate is refused; no text uses some rule; one looks like a typing error;
+     an opcode that is surveyed or cut isn't liblouis'
   2  the words, a file, the table, a text, the input or the output had a fault, which standard error names in one line
   3  there was not enough memory, a search decided nothing, or a table is too wide for a certificate of version 1
 
@@ -252,6 +259,8 @@ enum Options {
     Rewrite,
     /// Whether texts have escapes, and whether the lines of steps are shown.
     Texts,
+    /// Whether the answer is for programs.
+    Columns,
 }
 
 /// A command, as its help shows it.
@@ -663,6 +672,41 @@ It prints:
     operands: &[TABLE],
 };
 
+/// `brl slips`.
+const SLIPS: CommandHelp = CommandHelp {
+    name: "slips",
+    about: "Lists rules that look like typing errors",
+    long_about: "Lists rules that look like typing errors
+
+Reads TABLE with the files that it includes; lines that aren't read are passed
+over. A rule of four letters or more, and of four cells or more, is listed where
+its cells are those of its own characters, spelled by shorter rules and single
+characters, but for one or two: a cell that stands for another, two that are
+exchanged, one too many, one that is missing, or of seven cells or more two that
+stand for others. Its line has the number of its line, its opcode, its characters,
+and which cell it is. So do two rules with the same cells of which one letter
+differs. Those that are wrong most often come first.
+
+A difference in four rules or more is an author's habit, or one fault that was
+copied, and is one line with their number. Nothing is decided: a rule that is
+listed may be meant, and one that isn't may be wrong. Where rules are listed, the
+exit status is 1, else 0.
+
+With --tsv the first line names columns, and each rule, habit or pair of rules
+has a line of them, with tabs between.",
+    example: "Example, a table in which the cells of a word are misspelt:
+  printf '%s\\n' 'letter a 1' 'letter b 12' 'letter c 14' > cab.ctb
+  printf '%s\\n' 'word cabba 14-1-12-14-1' >> cab.ctb
+  brl slips cab.ctb
+
+It prints:
+  likely slips: 1 line
+    cab.ctb
+      4 word cabba  cell 4 is 14 c for 12 b",
+    choice: Some(Options::Columns),
+    operands: &[TABLE],
+};
+
 /// `brl explain`.
 const EXPLAIN: CommandHelp = CommandHelp {
     name: "explain",
@@ -700,7 +744,7 @@ static TEXT_HELPS: [CommandHelp; 5] = [TRANSLATE, CLASH, CHECK, SEARCH, CLASHES]
 static LINE_HELPS: [CommandHelp; 3] = [SURVEY, CUT, TRACE];
 
 /// Its commands on rules and faults.
-static RULE_HELPS: [CommandHelp; 3] = [RULES, UNUSED, EXPLAIN];
+static RULE_HELPS: [CommandHelp; 4] = [RULES, UNUSED, SLIPS, EXPLAIN];
 
 /// How many states, and how many pairs, a search may find where the words give no limit.
 const USUAL_LIMIT: &str = "1000000";
@@ -726,6 +770,39 @@ fn operand_argument<'a>(alloc: Global, operand: Operand) -> Arg<'a> {
     }
 }
 
+/// An option that is there or not.
+fn flag_option<'a>(alloc: Global, name: &'static str, help: &'static str) -> Arg<'a> {
+    Arg::new(alloc, name)
+        .long(name)
+        .help(help)
+        .action(ArgAction::SetTrue)
+}
+
+/// An option that takes a word.
+fn word_option<'a>(
+    alloc: Global,
+    name: &'static str,
+    value: &'static str,
+    help: &'static str,
+) -> Arg<'a> {
+    Arg::new(alloc, name)
+        .long(name)
+        .value_name(value)
+        .help(help)
+}
+
+/// An option that takes a number, with the one that it has where the words don't say.
+fn number_option<'a>(
+    alloc: Global,
+    name: &'static str,
+    help: &'static str,
+    usual: &'static str,
+) -> Arg<'a> {
+    word_option(alloc, name, "N", help)
+        .value_parser(value_parser!(u32))
+        .default_value(usual)
+}
+
 /// The option of how cells are written.
 fn form_option<'a>(alloc: Global) -> Arg<'a> {
     Arg::new(alloc, "form")
@@ -738,74 +815,76 @@ fn form_option<'a>(alloc: Global) -> Arg<'a> {
 
 /// The option of whether undefined characters are listed.
 fn lacking_option<'a>(alloc: Global) -> Arg<'a> {
-    Arg::new(alloc, "lacking")
-        .long("lacking")
-        .help("Pass over lines with characters that the table doesn't define, and list these")
-        .action(ArgAction::SetTrue)
+    flag_option(
+        alloc,
+        "lacking",
+        "Pass over lines with characters that the table doesn't define, and list these",
+    )
 }
 
 /// The option of how much a search may find.
 fn limit_option<'a>(alloc: Global) -> Arg<'a> {
-    Arg::new(alloc, "limit")
-        .long("limit")
-        .value_name("N")
-        .help("How many states, and how many pairs, may be found")
-        .value_parser(value_parser!(u32))
-        .default_value(USUAL_LIMIT)
+    number_option(
+        alloc,
+        "limit",
+        "How many states, and how many pairs, may be found",
+        USUAL_LIMIT,
+    )
 }
 
 /// The option of how many states may be found.
 fn states_option<'a>(alloc: Global) -> Arg<'a> {
-    Arg::new(alloc, "limit")
-        .long("limit")
-        .value_name("N")
-        .help("How many states may be found")
-        .value_parser(value_parser!(u32))
-        .default_value(USUAL_LIMIT)
+    number_option(alloc, "limit", "How many states may be found", USUAL_LIMIT)
 }
 
 /// The option of how many clashes of a section are shown.
 fn first_option<'a>(alloc: Global) -> Arg<'a> {
-    Arg::new(alloc, "first")
-        .long("first")
-        .value_name("N")
-        .help("How many lines of each section are shown; 0 for all")
-        .value_parser(value_parser!(u32))
-        .default_value(USUAL_FIRST)
+    number_option(
+        alloc,
+        "first",
+        "How many lines of each section are shown; 0 for all",
+        USUAL_FIRST,
+    )
 }
 
 /// The option of which characters are left out.
 fn without_option<'a>(alloc: Global) -> Arg<'a> {
-    Arg::new(alloc, "without")
-        .long("without")
-        .value_name("CHARS")
-        .help("Look only at texts that use none of these characters")
+    word_option(
+        alloc,
+        "without",
+        "CHARS",
+        "Look only at texts that use none of these characters",
+    )
 }
 
 /// The option of what a certificate need not show.
 fn excusal_option<'a>(alloc: Global) -> Arg<'a> {
-    Arg::new(alloc, "accept")
-        .long("accept")
-        .value_name("FILE")
-        .help(
-            "Accept the pairs of rules that this file names, and exchange the characters of its sets",
-        )
+    word_option(
+        alloc,
+        "accept",
+        "FILE",
+        "Accept the pairs of rules that this file names, and exchange the characters of its sets",
+    )
 }
 
 /// The option of which pairs of rules are left out of a list.
 fn accept_option<'a>(alloc: Global) -> Arg<'a> {
-    Arg::new(alloc, "accept")
-        .long("accept")
-        .value_name("FILE")
-        .help("Leave the pairs of rules out that this file names")
+    word_option(
+        alloc,
+        "accept",
+        "FILE",
+        "Leave the pairs of rules out that this file names",
+    )
 }
 
 /// The option of which file gets the pairs of rules of a list.
 fn write_option<'a>(alloc: Global) -> Arg<'a> {
-    Arg::new(alloc, "write")
-        .long("write")
-        .value_name("FILE")
-        .help("Write the pairs of rules that are listed to this file")
+    word_option(
+        alloc,
+        "write",
+        "FILE",
+        "Write the pairs of rules that are listed to this file",
+    )
 }
 
 /// The option of whether stale lines are taken out of the file of accepted pairs.
@@ -820,83 +899,138 @@ fn prune_option<'a>(alloc: Global) -> Result<Arg<'a>, AllocError> {
 
 /// The option of whether faults are listed.
 fn brief_option<'a>(alloc: Global) -> Arg<'a> {
-    Arg::new(alloc, "brief")
-        .long("brief")
-        .help("Leave the lists of faults and dictionaries out")
-        .action(ArgAction::SetTrue)
+    flag_option(
+        alloc,
+        "brief",
+        "Leave the lists of faults and dictionaries out",
+    )
 }
 
 /// The option of whether lines are rewritten.
 fn rewrite_option<'a>(alloc: Global) -> Arg<'a> {
-    Arg::new(alloc, "rewrite")
-        .long("rewrite")
-        .help("Also read definitions after noback, and base uppercase")
-        .action(ArgAction::SetTrue)
+    flag_option(
+        alloc,
+        "rewrite",
+        "Also read definitions after noback, and base uppercase",
+    )
 }
 
 /// The option of whether texts have escapes.
 fn escapes_option<'a>(alloc: Global) -> Arg<'a> {
-    Arg::new(alloc, "escapes")
-        .long("escapes")
-        .help("Read texts as they are spelled in tables and reports")
-        .action(ArgAction::SetTrue)
+    flag_option(
+        alloc,
+        "escapes",
+        "Read texts as they are spelled in tables and reports",
+    )
 }
 
 /// The option of whether the lines of steps are shown.
 fn lines_option<'a>(alloc: Global) -> Arg<'a> {
-    Arg::new(alloc, "lines")
-        .long("lines")
-        .help("Show the lines of the table by which each step is made")
-        .action(ArgAction::SetTrue)
+    flag_option(
+        alloc,
+        "lines",
+        "Show the lines of the table by which each step is made",
+    )
+}
+
+/// The option of whether the answer is for programs.
+fn columns_option<'a>(alloc: Global) -> Arg<'a> {
+    flag_option(alloc, "tsv", "Write named columns with tabs between them")
 }
 
 /// The option of where the files of tables are looked for.
 fn path_option<'a>(alloc: Global) -> Arg<'a> {
-    Arg::new(alloc, "path")
-        .long("path")
-        .value_name("DIR")
-        .help("Look for files of tables in this folder, too; may be given again")
-        .action(ArgAction::Append)
+    word_option(
+        alloc,
+        "path",
+        "DIR",
+        "Look for files of tables in this folder, too; may be given again",
+    )
+    .action(ArgAction::Append)
+}
+
+/// Appends the options of how cells are written.
+fn push_translate<'a>(arguments: &mut Vec<Arg<'a>>, alloc: Global) -> Result<(), AllocError> {
+    arguments.push(form_option(alloc))?;
+    arguments.push(lacking_option(alloc))?;
+    Ok(())
+}
+
+/// Appends the options of which characters are left out, and what is excused.
+fn push_without<'a>(arguments: &mut Vec<Arg<'a>>, alloc: Global) -> Result<(), AllocError> {
+    arguments.push(without_option(alloc))?;
+    arguments.push(excusal_option(alloc))?;
+    Ok(())
+}
+
+/// Appends the options of a search.
+fn push_search<'a>(arguments: &mut Vec<Arg<'a>>, alloc: Global) -> Result<(), AllocError> {
+    arguments.push(limit_option(alloc))?;
+    push_without(arguments, alloc)
+}
+
+/// Appends the options of the files of a list of clashes.
+fn push_pair_files<'a>(arguments: &mut Vec<Arg<'a>>, alloc: Global) -> Result<(), AllocError> {
+    arguments.push(accept_option(alloc))?;
+    arguments.push(write_option(alloc))?;
+    arguments.push(prune_option(alloc)?)?;
+    Ok(())
+}
+
+/// Appends the options of a list of clashes.
+fn push_clashes<'a>(arguments: &mut Vec<Arg<'a>>, alloc: Global) -> Result<(), AllocError> {
+    arguments.push(first_option(alloc))?;
+    arguments.push(limit_option(alloc))?;
+    arguments.push(without_option(alloc))?;
+    push_pair_files(arguments, alloc)
+}
+
+/// Appends the options of how texts are read.
+fn push_texts<'a>(arguments: &mut Vec<Arg<'a>>, alloc: Global) -> Result<(), AllocError> {
+    arguments.push(escapes_option(alloc))?;
+    arguments.push(lines_option(alloc))?;
+    Ok(())
+}
+
+/// Appends options.
+fn push_options<'a>(
+    arguments: &mut Vec<Arg<'a>>,
+    alloc: Global,
+    options: Options,
+) -> Result<(), AllocError> {
+    match options {
+        Options::Translate => push_translate(arguments, alloc),
+        Options::Without => push_without(arguments, alloc),
+        Options::Search => push_search(arguments, alloc),
+        Options::States => Ok(arguments.push(states_option(alloc))?),
+        Options::Clashes => push_clashes(arguments, alloc),
+        Options::Brief => Ok(arguments.push(brief_option(alloc))?),
+        Options::Rewrite => Ok(arguments.push(rewrite_option(alloc))?),
+        Options::Texts => push_texts(arguments, alloc),
+        Options::Columns => Ok(arguments.push(columns_option(alloc))?),
+    }
+}
+
+/// Appends operands.
+fn push_operands<'a>(
+    arguments: &mut Vec<Arg<'a>>,
+    alloc: Global,
+    operands: &[Operand],
+) -> Result<(), AllocError> {
+    for operand in operands {
+        arguments.push(operand_argument(alloc, *operand))?;
+    }
+    Ok(())
 }
 
 /// The arguments of a command: its options and its operands.
 fn arguments<'a>(alloc: Global, page: &CommandHelp) -> Result<Vec<Arg<'a>>, AllocError> {
     let mut arguments = Vec::new(alloc);
-    match page.choice {
-        Some(Options::Translate) => {
-            arguments.push(form_option(alloc))?;
-            arguments.push(lacking_option(alloc))?;
-        }
-        Some(Options::Without) => {
-            arguments.push(without_option(alloc))?;
-            arguments.push(excusal_option(alloc))?;
-        }
-        Some(Options::Search) => {
-            arguments.push(limit_option(alloc))?;
-            arguments.push(without_option(alloc))?;
-            arguments.push(excusal_option(alloc))?;
-        }
-        Some(Options::States) => arguments.push(states_option(alloc))?,
-        Some(Options::Clashes) => {
-            arguments.push(first_option(alloc))?;
-            arguments.push(limit_option(alloc))?;
-            arguments.push(without_option(alloc))?;
-            arguments.push(accept_option(alloc))?;
-            arguments.push(write_option(alloc))?;
-            arguments.push(prune_option(alloc)?)?;
-        }
-        Some(Options::Brief) => arguments.push(brief_option(alloc))?,
-        Some(Options::Rewrite) => arguments.push(rewrite_option(alloc))?,
-        Some(Options::Texts) => {
-            arguments.push(escapes_option(alloc))?;
-            arguments.push(lines_option(alloc))?;
-        }
-        None => {}
+    if let Some(options) = page.choice {
+        push_options(&mut arguments, alloc, options)?;
     }
     arguments.push(path_option(alloc))?;
-    for operand in page.operands {
-        arguments.push(operand_argument(alloc, *operand))?;
-    }
+    push_operands(&mut arguments, alloc, page.operands)?;
     Ok(arguments)
 }
 
@@ -1067,6 +1201,7 @@ fn question_of_one_table<'a>(name: &str, found: &ArgMatches<'a>) -> Option<Quest
         "cut" => cut_question(table, found),
         "trace" => trace_question(table, found),
         "unused" => unused_question(table, found),
+        "slips" => Some(slips_question(table, found)),
         _ => None,
     }
 }
@@ -1170,6 +1305,13 @@ fn unused_question<'a>(table: &'a str, found: &ArgMatches<'a>) -> Option<Questio
         table,
         limit: found.get_one("limit")?,
     })
+}
+
+fn slips_question<'a>(table: &'a str, found: &ArgMatches<'a>) -> Question<'a> {
+    Question::Slips {
+        table,
+        columns: found.get_flag("tsv"),
+    }
 }
 
 /// The form of this name.

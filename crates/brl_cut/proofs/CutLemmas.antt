@@ -15,7 +15,7 @@ use Rattle.brl_table.specs.declared.no_table.NoTable.{NoTable}
 use Rattle.brl_cut.specs.Cuts.{include_edit, IsCut, IsCutFault, IsCutOf, IsReadAs, IsUncut, IsUnreadAs, without_include_lines}
 use Rattle.brl_cut.specs.Edits.{EditView, Texts, edited_files}
 use Rattle.brl_cut.specs.Rounds.{SettlesTo}
-use Rattle.brl_cut.specs.declared.cutting.Cut.{Cut}
+use Rattle.brl_table.specs.declared.readable.Cut.{Cut}
 use Rattle.brl_cut.specs.declared.cutting.CutFault.{CutFault}
 use Rattle.brl_cut.specs.declared.cutting.CutFault.TheVariants.{Gather, Load, NotRead}
 use Rattle.brl_cut.specs.declared.rounds.Settled.{Settled}

@@ -20,7 +20,7 @@ use Rattle.brl_cut.specs.Files.{file_view}
 use Rattle.brl_cut.specs.Rewriting.{count_rewritten, rewriting_edits, rewritten_files}
 use Rattle.brl_cut.specs.Rounds.{IsUnsettled}
 use Rattle.brl_cut.specs.Settling.{IsSettled, bytes_at, comment, fault_edit}
-use Rattle.brl_cut.specs.declared.cutting.Cut.{Cut}
+use Rattle.brl_table.specs.declared.readable.Cut.{Cut}
 use Rattle.brl_cut.specs.declared.cutting.CutFault.{CutFault}
 use Rattle.brl_cut.specs.declared.cutting.CutFault.TheVariants.{Gather, Load, NotRead}
 

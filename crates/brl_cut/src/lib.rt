@@ -23,5 +23,6 @@ mod rounds;
 mod skipping;
 mod text;
 
-pub use cutting::{Cut, CutFault, cut_table};
+pub use brl_table::Cut;
+pub use cutting::{CutFault, cut_table};
 pub use skipping::{WithoutDictionaries, load_without_dictionaries};

@@ -6,8 +6,7 @@ ghost use Rattle.brl_report.specs.Survey.{IsCutText, cut_file_line, kept_in, kep
 
 use crate::counts::counts_of;
 use crate::survey::{count_faulty, push_counts, push_file_read};
-use brl_cut::Cut;
-use brl_table::FaultyLine;
+use brl_table::{Cut, FaultyLine};
 use std::alloc::{AllocError, Global};
 
 /// The report of a cut: how many lines are kept and, where lines might be rewritten, how many of

@@ -45,8 +45,23 @@ pub fn search(alloc: Global, table: &Table, limit: u64) -> Result<Found, SearchF
     ensures unambiguous { IfOk result (IfCertified (λ _. IsUnambiguous table.now)) }
     ensures small { IfOk result (IfClashing (IsSmallClash table.now)) }
 {
+    let left_out = LeftOut::none(alloc);
+    search_silently(alloc, table, limit, &left_out)
+}
+
+/// The same of texts that use none of some characters. Nothing is reported.
+fn search_silently(
+    alloc: Global,
+    table: &Table,
+    limit: u64,
+    left_out: &LeftOut,
+) -> Result<Found, AllocError>
+    requires { limit ≤ 4294967295 }
+    ensures found { IfOk result (IsFoundWithout left_out.now table.now limit) }
+    ensures small { IfOk result (IfClashing (IsSmallClash table.now)) }
+{
     let scope = Scope {
-        left_out: &LeftOut::none(alloc),
+        left_out,
         progress: &mut NoProgress,
     };
     search_with(alloc, table, limit, scope)

@@ -2,8 +2,10 @@
 ghost use Rattle.std.specs.Prelude.{◌≡◌, ◌≤◌, ℕ, IfOk, List};
 ghost use Rattle.brl_closure.specs.Answers.{IsWithin};
 ghost use Rattle.brl_pairs.specs.Divergence.{IsClosedBut, has_rules};
-ghost use Rattle.brl_search.specs.Clashes.{IsWholeList, rules_of_clashes};
+ghost use Rattle.brl_rules.specs.TableView.{TableView};
+ghost use Rattle.brl_search.specs.Clashes.{AreClashes, IsWholeList, rules_of_clashes};
 ghost use Rattle.brl_search.specs.FoundUpTo.{AreAllExcused, IsFoundUpTo, first_unexcused, is_excused as is_excused_clash};
+ghost use Rattle.brl_search.specs.declared.table_clashes.ClashList.TheVariants.{Partial};
 ghost use Rattle.brl_search.specs.declared.table_clashes.RuleClash.{RuleClash as ClashValue};
 
 use crate::{ClashList, RuleClash, accepted_list_law, clashes};
@@ -69,10 +71,7 @@ pub fn search_up_to<P: Progress>(
             list,
             states,
             pairs,
-        } => match first_beside(excused, list) {
-            Some(clash) => Ok(FoundUpTo::Clashing(clash)),
-            None => Ok(FoundUpTo::Limit { states, pairs }),
-        },
+        } => Ok(found_so_far(excused, list, states, pairs)),
     }
 }
 
@@ -89,6 +88,18 @@ fn first_beside(excused: &Excused, list: Vec<RuleClash>) -> Option<RuleClash>
     ensures { result ≡ first_unexcused excused.now list.items }
 {
     list.into_iter().find(|clash| !is_excused(excused, clash))
+}
+
+/// What is found by a list that may lack pairs of rules: its first clash that isn't excused, or
+/// else the limit.
+fn found_so_far(excused: &Excused, list: Vec<RuleClash>, states: u64, pairs: u64) -> FoundUpTo
+    ensures { (left_out : List ℕ) → (t : TableView) → (limit : ℕ) → AreClashes left_out t limit (Partial list states pairs) →
+        IsFoundUpTo left_out excused.now t limit result }
+{
+    match first_beside(excused, list) {
+        Some(clash) => FoundUpTo::Clashing(clash),
+        None => FoundUpTo::Limit { states, pairs },
+    }
 }
 
 /// Checks the states and pairs of a whole list of which each pair of rules is excused.

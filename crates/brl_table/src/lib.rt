@@ -5,7 +5,7 @@
 //! fault of the first pass or, where none has one, of the second. `TableFault` is why lines define
 //! no table, `NoTable` why files define none. A table with its rules, classes and indicators is
 //! defined in `brl_rules`, and all of that crate is reached from here: `Table`, `Rule`, `Info`,
-//! `Class`.
+//! `Class`. `Cut` is the readable part of a table, which `brl_cut` makes.
 //!
 //! From files whose `t.ctb` has the lines `letter a 1` and `letter b 12`:
 //!
@@ -29,6 +29,7 @@ mod line;
 mod no_table;
 mod opcode;
 mod operand;
+mod readable;
 mod table_fault;
 
 pub use brl_rules::{
@@ -40,5 +41,6 @@ pub use faulty::{FaultyLine, Findings, good_characters, survey, survey_laws};
 pub use files::{load_table, one_table_law, table_of_loaded};
 pub use liblouis::{OpcodeOrigin, origin_of};
 pub use no_table::NoTable;
-pub use opcode::{OPCODES, indicator_named, opcodes_law};
+pub use opcode::{OPCODES, indicator_named, is_place_opcode, opcodes_law};
+pub use readable::Cut;
 pub use table_fault::{TableFault, TableFaultKind};

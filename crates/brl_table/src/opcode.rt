@@ -1,6 +1,6 @@
 //! The opcodes of the profile. specs/Opcodes.antt has the table of them, in three parts; this code
 //! is proved to follow it.
-ghost use Rattle.std.specs.Prelude.{◌≡◌, map};
+ghost use Rattle.std.specs.Prelude.{◌≡◌, is_some, map};
 ghost use Rattle.brl_table.specs.Opcodes.{character_opcodes, entry_of, opcode_of, other_opcodes, place_opcodes};
 ghost use Rattle.brl_table.specs.Words.{opcode_words, sign_given};
 ghost use Rattle.brl_table.specs.declared.opcode.TheConstants.{OPCODES};
@@ -131,6 +131,13 @@ pub(crate) fn place_opcode(word: &str) -> Option<Opcode>
         "endnum" => Some(Opcode::Placed(Place::Endnum)),
         _ => None,
     }
+}
+
+/// Whether a word is a place opcode, so that a line of it gives a rule.
+pub fn is_place_opcode(word: &str) -> bool
+    ensures { result ≡ is_some (entry_of place_opcodes word.now) }
+{
+    place_opcode(word).is_some()
 }
 
 /// The opcode of a word, if it is one of the others.

@@ -49,6 +49,8 @@ use Rattle.brl_answers.specs.Delivery.{Delivers, World, KeepsFiles, Prints, Writ
 use Rattle.brl_answers.specs.Files.{GivesAlso, MayBeSame, OthersStay}
 use Rattle.brl_answers.specs.Making.{FilesAfter}
 use Rattle.brl_tool.specs.Running.{Answers, Asks, ClashAtAccepted, KeepsFilesBut, KeepsFilesRefuted, KeepsFilesUnlessWritten, MeansDone, MeansRefuted, WritesFile, WritesList, WritesTable}
+use Rattle.brl_slips.specs.declared.findings.Findings.{Findings}
+use Rattle.brl_tool.specs.Slipping.{IsSlipsAnswer, shows_none, status_of_slips}
 use Rattle.brl_tool.specs.Surveying.{IsPart, IsReportIfLoaded, IsSuspectAt, Part, status_by, text_of_part}
 use Rattle.brl_tool.specs.Suspects.{has_unknown_opcode}
 use Rattle.brl_table.specs.Survey.{faulty_line_view}
@@ -84,6 +86,14 @@ unrefuted false e = cc
 unknown_left : (unknown : Bool) → cond unknown Refuted Done ≡ Refuted → unknown ≡ true
 unknown_left true e = refl
 unknown_left false e = absurd cc
+
+-- a list of slips is refuted only where something is shown
+unless_none : (none : Bool) → (if none then Done else Refuted) ≡ Refuted → none ≡ false
+unless_none true e = absurd cc
+unless_none false e = refl
+
+some_shown : (found : Findings) → status_of_slips found ≡ Refuted → shows_none found ≡ false
+some_shown found e = unless_none (shows_none found) e
 
 -- a survey is refuted only where a table is suspect
 suspect_status : (loaded suspect : Bool) → status_by loaded suspect ≡ Refuted → suspect ≡ true
@@ -277,6 +287,10 @@ module _ (before after : World) (same_file : MayBeSame) where
           subst (FilesAfter before.gives after.gives) says.2 files,
         )),
   )
+  means (question.Slips path columns) answer (has, is) files prints = (
+    (λ done. tt),
+    (λ refuted. ((path.now, (has, (is.lexicon, is.found, is.slips, some_shown is.found (sym is.status ∙ refuted))), (string_bytes answer.text, prints)), subst (FilesAfter before.gives after.gives) is.files files)),
+  )
   means (question.Cut path dir rewrite) answer (cut, (answers, given, gathered, gathers, is), status, text, (made, are, same)) files prints =
       let written : FilesAfter before.gives after.gives (AllNew made) = subst (FilesAfter before.gives after.gives) are files in
       let read = subst (λ (fs : Texts). IsReadAs fs (written_root dir.now path.now)) (sym (same ∙ is.files_are)) is.read in
@@ -444,6 +458,7 @@ module _ (before after : World) (same_file : MayBeSame) where
       let (paths, lines, are, passes, is) = by_file in
       none_changes before after answer written (comparison_has_none (table_of lines) (shown_lines options.lines lines) l r answer is) writes
   keeps (question.Survey paths brief) (Ok answer) status (parts, named, are, says) (written, writes, e) = none_changes before after answer written says.2 writes
+  keeps (question.Slips path columns) (Ok answer) status (has, is) (written, writes, e) = none_changes before after answer written is.files writes
   keeps (question.Trace path text options) (Ok answer) status traces (written, writes, e) =
       let (chars, spelled, by_file) = spelled_in (text_of options.escapes text.now) (IsBadText options.escapes text.now) (TracesByFile options.lines before.gives path.now) answer traces in
       let (paths, lines, are, passes, (known, says)) = by_file in

@@ -154,6 +154,13 @@ judged_count before now same left_out t bytes excused sets (Err (Wide fault)) h 
 judged_count before now same left_out t bytes excused sets (Err Memory) h = inl same
 judged_count before now same left_out t bytes excused sets (Err fault) h = absurd h
 
+-- an answer of a search counts no failure
+pub found_count : (before now : ℕ) → now ≡ before → (left_out : List ℕ) (t : TableView) (out : List ℕ) (limit : ℕ) (excused : Excused) (sets : ℕ) (result : Result Answer RunFault) → FindsUpTo left_out t out limit excused sets result
+    → CountsFailure before now (load_outcome result)
+found_count before now same left_out t out limit excused sets (Ok answer) h = same
+found_count before now same left_out t out limit excused sets (Err Memory) h = inl same
+found_count before now same left_out t out limit excused sets (Err fault) h = absurd h
+
 -- ---- Faults that are handed on
 
 pub table_fault : (gives : FileAnswers) (path : List ℕ) (lines : List LineView) → AreLinesOf gives path lines → (failure : Failure TableFault) (fault : RunFault) → fault ≡ of_failure Table failure → IfFault (IsFaultOf lines) failure

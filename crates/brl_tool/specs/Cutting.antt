@@ -6,7 +6,7 @@ use Rattle.brl_table.specs.Survey.{faulty_line_view}
 use Rattle.brl_report.specs.Survey.{IsCutText}
 use Rattle.brl_cut.specs.Cuts.{IsCut, IsCutFault}
 use Rattle.brl_cut.specs.Files.{file_view}
-use Rattle.brl_cut.specs.declared.cutting.Cut.{Cut}
+use Rattle.brl_table.specs.declared.readable.Cut.{Cut}
 use Rattle.brl_cut.specs.declared.cutting.CutFault.{CutFault}
 use Rattle.brl_answers.specs.Status.{of_cut_fault}
 use Rattle.brl_answers.specs.declared.answer.Answer.{Answer}

@@ -6,6 +6,7 @@ pub mod Explaining
 pub mod Listing
 pub mod Streams
 pub mod Suspects
+pub mod Slipping
 pub mod Surveying
 pub mod Tracing
 pub mod Verdicts

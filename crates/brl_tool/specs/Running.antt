@@ -38,11 +38,12 @@ use Rattle.brl_answers.specs.Delivery.{World, IsDelivered, KeepsFiles, Prints, P
 use Rattle.brl_answers.specs.Files.{GivesAlso, IsGivenBy, MayBeSame, OthersStay}
 use Rattle.brl_answers.specs.Making.{AreNew, AreWritten, IsNoneOf}
 use Rattle.brl_answers.specs.Status.{code_of, status_of}
+use Rattle.brl_tool.specs.Slipping.{HasSlips, ListsSlips}
 use Rattle.brl_tool.specs.Streams.{TranslatesByFile, TranslatesDefinedByFile}
 use Rattle.brl_tool.specs.Surveying.{IsSuspectAt, SurveysByFiles, no_verdict}
 use Rattle.brl_tool.specs.Suspects.{has_unknown_opcode}
 use Rattle.brl_table.specs.Survey.{faulty_line_view}
-use Rattle.brl_cut.specs.declared.cutting.Cut.{Cut}
+use Rattle.brl_table.specs.declared.readable.Cut.{Cut}
 use Rattle.brl_tool.specs.Tracing.{TracesByWord}
 use Rattle.brl_tool.specs.Unused.{ListsUnusedByFile}
 use Rattle.brl_tool.specs.UpTo.{ChecksUpTo, IsExcusedAt, SearchesUpTo, lines_up_to}
@@ -74,6 +75,7 @@ Answers (question.Survey paths brief) gives same outcome = SurveysByFiles brief 
 Answers (question.Trace path text options) gives same outcome = TracesByWord options gives path.now text.now outcome
 Answers (question.Rules path numbers) gives same outcome = ListsByFile gives path.now numbers.items outcome
 Answers (question.Unused path limit) gives same outcome = ListsUnusedByFile gives path.now limit outcome
+Answers (question.Slips path columns) gives same outcome = ListsSlips gives path.now outcome
 Answers (question.Explain line) gives same outcome = Explains gives line.now outcome
 Answers (question.Cut path dir rewrite) gives same outcome = CutsByFile rewrite gives path.now dir.now outcome
 Answers (question.Check path cert option) gives same outcome =
@@ -234,6 +236,10 @@ CutsUnknown before after path dir rewrite =
 abbrev pub ReportsUnknown : World → World → Type 0
 ReportsUnknown before after = (path dir : List ℕ) × (rewrite : Bool) × CutsUnknown before after path dir rewrite
 
+-- the slips and twins of the table at some path were written
+abbrev pub ReportsSlips : World → World → Type 0
+ReportsSlips before after = (path : List ℕ) × HasSlips before.gives path × ((text : List ℕ) × Prints before after text)
+
 -- what it means that the work was done
 abbrev pub MeansDone : Question → World → World → Type 0
 MeansDone (question.Check path cert option) before after = ReportsAcceptance before after path.now (option_copied option)
@@ -258,6 +264,7 @@ MeansRefuted (question.Clashes path limit first option pairs) before after =
     ReportsOther before after path.now (option_copied option) pairs
 MeansRefuted (question.Unused path limit) before after = ReportsUnused before after
 MeansRefuted (question.Survey paths brief) before after = ReportsSuspect before after
+MeansRefuted (question.Slips path columns) before after = ReportsSlips before after
 MeansRefuted (question.Cut path dir rewrite) before after = CutsUnknown before after path.now dir.now rewrite
 MeansRefuted asked before after = ⊥
 
@@ -352,13 +359,13 @@ Runs asks same input looked before after code =
 
 -- What it means that a run ended with status 1, for some folders in which the files of tables were
 -- looked for. One of these was written: the report of a clash, a refusal, a list of clashes, a list
--- of unused rules, or the survey of a suspect table. Or a table was cut, and a line with an unknown
--- opcode was left out.
+-- of unused rules, the survey of a suspect table, or a list of slips. Or a table was cut, and a
+-- line with an unknown opcode was left out.
 abbrev pub ReportsOne : Looked → World → Type 0
 ReportsOne looked after =
     (folders : Vec (String Global)) × (ReportsClash (looked folders) after ⊎ ReportsRefusal (looked folders) after
     ⊎ ReportsClashes (looked folders) after ⊎ ReportsUnused (looked folders) after
-    ⊎ ReportsSuspect (looked folders) after ⊎ ReportsUnknown (looked folders) after)
+    ⊎ ReportsSuspect (looked folders) after ⊎ ReportsUnknown (looked folders) after ⊎ ReportsSlips (looked folders) after)
 
 -- what is written to the file at a path: pairs of rules of a table; or the text that the file had,
 -- without its stale lines

@@ -4,13 +4,13 @@ ghost use Rattle.std.specs.Option.{option_copied};
 ghost use Rattle.brl_lines.specs.Answer.{Unchanged};
 ghost use Rattle.brl_lines.specs.Outcome.{CountsFailure};
 ghost use Rattle.brl_answers.specs.Answers.{ByLeftOut, UnlessMemory, load_outcome};
-ghost use Rattle.brl_tool.specs.UpTo.{ChecksUpTo, IsAcceptanceUpTo, JudgesFileUpTo, JudgesUpTo};
+ghost use Rattle.brl_tool.specs.UpTo.{ByExcusal, ChecksUpTo, IsAcceptanceUpTo, JudgesFileUpTo, JudgesUpTo};
 ghost use Rattle.brl_without.specs.Tables.{AreDefined};
 
 use crate::check::answer_failure;
 use crate::excusing::{ButFor, excusal_without, lines_up_to};
 use crate::file_text::bytes_at;
-use crate::loaded_table::table_at;
+use crate::loaded_table::{LoadedTable, table_at};
 use brl_accept::judge_table;
 use brl_accepted::Excusal;
 use brl_answers::{Answer, RunFault, Status, counts_text, left_out_of};
@@ -80,7 +80,33 @@ fn check_bytes<S: Source, W: Progress>(
     ensures same { Unchanged (S.gives source.old) (S.gives source.new) }
 {
     let loaded = table_at(alloc, source, paths.table)?;
-    let excusal = excusal_without(alloc, source, &loaded, left_out, paths.accept)?;
+    check_loaded(
+        alloc,
+        source,
+        &loaded,
+        paths.accept,
+        bytes,
+        left_out,
+        progress,
+    )
+}
+
+/// Judges it for a table, but for what the file at a path excuses.
+fn check_loaded<S: Source, W: Progress>(
+    alloc: Global,
+    source: &mut S,
+    loaded: &LoadedTable,
+    accept: &str,
+    bytes: &[u8],
+    left_out: &LeftOut,
+    progress: &mut W,
+) -> Result<Answer, RunFault>
+    ensures judges { ByExcusal left_out.now (S.gives source.old) accept.now loaded.now.table loaded.now.files.lines
+        (JudgesUpTo left_out.now loaded.now.table bytes.now) result }
+    ensures count { CountsFailure (S.faults source.old) (S.faults source.new) (load_outcome result) }
+    ensures same { Unchanged (S.gives source.old) (S.gives source.new) }
+{
+    let excusal = excusal_without(alloc, source, loaded, left_out, accept)?;
     let scope = Scope { left_out, progress };
     judgement_up_to(alloc, &loaded.table, bytes, &excusal, scope)
 }

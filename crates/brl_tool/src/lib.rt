@@ -2,7 +2,8 @@
 //!
 //! `program` has what each command's words lead to. `translate`, `clash`, `trace`, `rules`,
 //! `survey` and `cut` do the work of these commands by the files of a table, `search`, `clashes`,
-//! `unused` and `check` that of theirs, and `explain` has what a fault means. `loaded_table` has
+//! `unused` and `check` that of theirs, `slips` lists rules that look like typing errors, and
+//! `explain` has what a fault means. `loaded_table` has
 //! the table of a file with its lines, `notices` writes the notices of a table that is searched or
 //! surveyed, `remarks` the rules that are there again, `suspects` has what a survey or a cut finds
 //! that was hardly meant so, and `certificate` has the answer with a certificate that was found.
@@ -32,6 +33,7 @@ mod same_file;
 mod search;
 mod search_up_to;
 mod shown;
+mod slips;
 mod survey;
 mod suspects;
 mod trace;
@@ -53,6 +55,7 @@ pub use program::run;
 pub use rules::list_rules_by_file;
 pub use search::search_by_words;
 pub use search_up_to::{SearchedFiles, search_up_to_by_words};
+pub use slips::list_slips_by_file;
 pub use survey::survey_by_files;
 pub use trace::trace_by_word;
 pub use translate::{translate_by_file, translate_defined_by_file};

@@ -13,6 +13,7 @@ use crate::explain::explain_line;
 use crate::rules::list_rules_by_file;
 use crate::search::search_by_words;
 use crate::search_up_to::{SearchedFiles, search_up_to_by_words};
+use crate::slips::list_slips_by_file;
 use crate::survey::survey_by_files;
 use crate::trace::trace_by_word;
 use crate::translate::{translate_by_file, translate_defined_by_file};
@@ -208,6 +209,7 @@ fn answer<F: Files, E: Write + Progress>(
             dir,
             rewrite,
         } => cut_by_file(alloc, files, table, dir, rewrite),
+        Question::Slips { table, columns } => list_slips_by_file(alloc, files, table, columns),
         Question::Check {
             table,
             cert,

@@ -89,8 +89,7 @@ pub(crate) fn refuse_file_that_is_read<F: Files>(
     }
 }
 
-/// Writes a table's notices, and searches it without the characters that are left out, once it
-/// defines these.
+/// Searches a table without the characters that are left out, once it defines these.
 fn search_table<E: Write + Progress>(
     alloc: Global,
     table: &Table,
@@ -103,13 +102,38 @@ fn search_table<E: Write + Progress>(
     ensures fault { IfErr result (IsUndefinedFault table.now left_out.now) }
 {
     check_defined(alloc, table, left_out)?;
+    Ok(search_defined(alloc, table, out, limit, left_out, err)?)
+}
+
+/// Writes a table's notices, and searches it without the characters that are left out.
+fn search_defined<E: Write + Progress>(
+    alloc: Global,
+    table: &Table,
+    out: &str,
+    limit: u32,
+    left_out: &LeftOut,
+    err: &mut E,
+) -> Result<Answer, AllocError>
+    requires { AreDefined table.now left_out.now }
+    ensures { IfOk result (IsVerdict left_out.now table.now out.now limit) }
+{
     write_notices(alloc, table, err)?;
-    let scope = Scope {
-        left_out,
-        progress: err,
-    };
-    let found = search_with(alloc, table, u64::from(limit), scope)?;
-    Ok(answer_found(alloc, table, out, left_out, &found)?)
+    let found = found_without(alloc, table, limit, left_out, err)?;
+    answer_found(alloc, table, out, left_out, &found)
+}
+
+/// What a search of a table finds without the characters that are left out.
+fn found_without<P: Progress>(
+    alloc: Global,
+    table: &Table,
+    limit: u32,
+    left_out: &LeftOut,
+    progress: &mut P,
+) -> Result<Found, AllocError>
+    ensures { IfOk result (IsFoundWithout left_out.now table.now limit) }
+{
+    let scope = Scope { left_out, progress };
+    search_with(alloc, table, u64::from(limit), scope)
 }
 
 /// The answer with what was found of a table without the characters that are left out.

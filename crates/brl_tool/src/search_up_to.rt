@@ -97,7 +97,22 @@ fn search_loaded<F: Files, E: Write + Progress>(
         excusal: &excusal,
         left_out,
     };
-    Ok(search_excused(alloc, &loaded.table, but_for, paths.out, limit, err)?)
+    search_but_for(alloc, &loaded.table, but_for, paths.out, limit, err)
+}
+
+/// The answer to what a search of a table finds, but for what is excused.
+fn search_but_for<E: Write + Progress>(
+    alloc: Global,
+    table: &Table,
+    but_for: ButFor<'_>,
+    out: &str,
+    limit: u32,
+    err: &mut E,
+) -> Result<Answer, RunFault>
+    requires { AreDefined table.now but_for.left_out.now }
+    ensures { FindsUpTo but_for.entry.left_out.now table.now out.now limit but_for.entry.excusal.now.excused but_for.entry.excusal.now.sets result }
+{
+    Ok(search_excused(alloc, table, but_for, out, limit, err)?)
 }
 
 /// Writes a table's notices, and searches it but for what is excused.
@@ -113,13 +128,31 @@ fn search_excused<E: Write + Progress>(
     ensures { IfOk result (IsVerdictUpTo but_for.entry.left_out.now but_for.entry.excusal.now.excused but_for.entry.excusal.now.sets table.now out.now limit) }
 {
     write_notices(alloc, table, err)?;
+    let found = found_but_for(alloc, table, limit, but_for, err)?;
+    answer_found(alloc, table, but_for, out, &found)
+}
+
+/// What a search of a table finds, but for what is excused.
+fn found_but_for<P: Progress>(
+    alloc: Global,
+    table: &Table,
+    limit: u32,
+    but_for: ButFor<'_>,
+    progress: &mut P,
+) -> Result<FoundUpTo, AllocError>
+    ensures { IfOk result (IsFoundUpTo but_for.entry.left_out.now but_for.entry.excusal.now.excused table.now limit) }
+{
     let scope = Scope {
         left_out: but_for.left_out,
-        progress: err,
+        progress,
     };
-    let excused = &but_for.excusal.excused;
-    let found = search_up_to(alloc, table, excused, u64::from(limit), scope)?;
-    answer_found(alloc, table, but_for, out, &found)
+    search_up_to(
+        alloc,
+        table,
+        &but_for.excusal.excused,
+        u64::from(limit),
+        scope,
+    )
 }
 
 /// The answer with what was found of a table without the characters that are left out.

@@ -138,7 +138,8 @@ pub fn accept_with<M: Parted, W: Progress>(
     ensures not_closed { IfErr result (IfFault (λ _. IsClosed (M.behaviour machine.now) (sets_of body.now) → ⊥)) }
 {
     numbered_sets_law(machine);
-    accept_up_to(alloc, machine, &Excused::nothing(alloc), body, watch)
+    let excused = Excused::nothing(alloc);
+    accept_up_to(alloc, machine, &excused, body, watch)
 }
 
 /// Accepts states and pairs for a machine exactly where they are closed but for splits that are

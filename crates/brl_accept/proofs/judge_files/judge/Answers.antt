@@ -22,16 +22,16 @@ accepted_all gives root bytes (Err failure) h = tt
 pub returns-clause-accepted : goal.returns-clause-accepted
 returns-clause-accepted g c =
     let gives = g.S.Source.gives c.args.source.now in
-    accepted_all gives c.args.root.now c.args.cert.now c.judge_with.result
-    (subst (λ (left_out : List ℕ). IfOk c.judge_with.result (λ accepted. (t : TableView) × IsTableOf gives c.args.root.now t × IsUnambiguousWithout left_out t × IsAcceptedWithout left_out t c.args.cert.now accepted))
-    c.none.ensures c.judge_with.ensures.accepted)
+    accepted_all gives c.args.root.now c.args.cert.now c.judge_silently.result
+    (subst (λ (left_out : List ℕ). IfOk c.judge_silently.result (λ accepted. (t : TableView) × IsTableOf gives c.args.root.now t × IsUnambiguousWithout left_out t × IsAcceptedWithout left_out t c.args.cert.now accepted))
+    c.none-left_out.ensures c.judge_silently.ensures.accepted)
 
 pub returns-clause-refused : goal.returns-clause-refused
 returns-clause-refused g c =
     let gives = g.S.Source.gives c.args.source.now in
-    subst (λ (left_out : List ℕ). IfErr c.judge_with.result (IfFault (IsRefusedByWithout left_out gives c.args.root.now c.args.cert.now))) c.none.ensures c.judge_with.ensures.refused
+    subst (λ (left_out : List ℕ). IfErr c.judge_silently.result (IfFault (IsRefusedByWithout left_out gives c.args.root.now c.args.cert.now))) c.none-left_out.ensures c.judge_silently.ensures.refused
 
 pub returns-clause-decides : goal.returns-clause-decides
 returns-clause-decides g c one t is accepted deserved =
-    c.judge_with.ensures.decides one t is accepted
-    (subst (λ (left_out : List ℕ). IsAcceptedWithout left_out t c.args.cert.now accepted) (sym c.none.ensures) deserved)
+    c.judge_silently.ensures.decides one t is accepted
+    (subst (λ (left_out : List ℕ). IsAcceptedWithout left_out t c.args.cert.now accepted) (sym c.none-left_out.ensures) deserved)

@@ -23,14 +23,14 @@ accepted_plainly left_out excused nothing gives root bytes (Err failure) h = tt
 
 pub returns-clause-accepted : goal.returns-clause-accepted
 returns-clause-accepted g c =
-    accepted_plainly c.args.scope.left_out.now c.nothing.result (c.nothing.ensures.accepted, c.nothing.ensures.exchanged) (g.S.Source.gives c.args.source.now) c.args.root.now c.args.cert.now c.judge_up_to.result c.judge_up_to.ensures.accepted
+    accepted_plainly c.args.scope.left_out.now c.nothing-excused.result (c.nothing-excused.ensures.accepted, c.nothing-excused.ensures.exchanged) (g.S.Source.gives c.args.source.now) c.args.root.now c.args.cert.now c.judge_up_to.result c.judge_up_to.ensures.accepted
 
 pub returns-clause-refused : goal.returns-clause-refused
 returns-clause-refused g c =
     IfErr-weaker c.judge_up_to.result _ _
-    (λ failure h. if_fault-weaker _ _ failure (plainly_refused c.args.scope.left_out.now c.nothing.result (c.nothing.ensures.accepted, c.nothing.ensures.exchanged) (g.S.Source.gives c.args.source.now) c.args.root.now c.args.cert.now) h)
+    (λ failure h. if_fault-weaker _ _ failure (plainly_refused c.args.scope.left_out.now c.nothing-excused.result (c.nothing-excused.ensures.accepted, c.nothing-excused.ensures.exchanged) (g.S.Source.gives c.args.source.now) c.args.root.now c.args.cert.now) h)
     c.judge_up_to.ensures.refused
 
 pub returns-clause-decides : goal.returns-clause-decides
 returns-clause-decides g c one t is accepted deserved =
-    c.judge_up_to.ensures.decides one t is accepted (excused_accepted c.args.scope.left_out.now c.nothing.result (c.nothing.ensures.accepted, c.nothing.ensures.exchanged) t c.args.cert.now accepted deserved)
+    c.judge_up_to.ensures.decides one t is accepted (excused_accepted c.args.scope.left_out.now c.nothing-excused.result (c.nothing-excused.ensures.accepted, c.nothing-excused.ensures.exchanged) t c.args.cert.now accepted deserved)

@@ -1,9 +1,9 @@
-use Rattle.std.proofs.Common.{◌∙◌, ℕ, IfOk, Result, inl, inr, subst, sym}
+use Rattle.std.proofs.Common.{◌∙◌, ℕ, IfOk, Result, inl, subst, sym}
 use Rattle.std.specs.declared.alloc.AllocError.{AllocError}
 use Rattle.brl_search.specs.FoundUpTo.{IsFoundUpTo}
 use Rattle.brl_search.specs.declared.up_to.FoundUpTo.{FoundUpTo}
 use Rattle.brl_search.proofs.UpTo.{first_clash, whole_excused}
-use Rattle.brl_search.proofs.up_to.search_up_to.Goals.{in-Complete+in-Some, in-Complete+in-None, in-Partial+in-Some-first_beside, in-Partial+in-None-first_beside}
+use Rattle.brl_search.proofs.up_to.search_up_to.Goals.{in-Complete+in-Some, in-Complete+in-None, in-Partial}
 use Rattle.brl_search.proofs.up_to.search_up_to.Goals as goal
 
 pub check_body-requires : goal.check_body-requires
@@ -33,15 +33,7 @@ returns g c =
           rw w.result-is (w.check_body.ensures limit
           (whole_excused excused left_out t limit list (λ exchanged accepted body whole has. w.accepted_list_law.ensures left_out t limit list body exchanged accepted whole has)
           (sym w.first_beside.ensures ∙ w.in-None.is) w.in-Complete.body are.1)))
-      | in-Partial+in-Some-first_beside w ↦ (
+      | in-Partial w ↦ (
           let are = rw w.in-Partial.is at c.in_ok-list.ensures in
-          rw w.result-is (first_clash excused left_out t limit w.in-Partial.list.items are.0 (inr (w.in-Partial.states, w.in-Partial.pairs, are.1)) w.in-Some-first_beside.clash (sym w.first_beside-in-Partial.ensures ∙ w.in-Some-first_beside.is)))
-      | in-Partial+in-None-first_beside w ↦ (
-          let are = rw w.in-Partial.is at c.in_ok-list.ensures in
-          rw w.result-is (record {
-            list = w.in-Partial.list.items;
-            are = are.0;
-            all_excused = sym w.first_beside-in-Partial.ensures ∙ w.in-None-first_beside.is;
-            over = are.1;
-          }))
+          rw w.result-is (w.found_so_far.ensures left_out t limit are))
     ]

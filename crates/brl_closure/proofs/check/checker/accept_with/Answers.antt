@@ -15,7 +15,7 @@ returns-clause-closed g c =
     let m = g.M.Machine.behaviour c.args.machine.now in
     let sets = sets_of c.args.body.now in
     on_ok_weaker c.accept_up_to.result
-    (λ closed. closed_from_up_to m sets (subst₂ (λ (exchanged accepted : List (ℕ × ℕ)). IsClosedUpTo m exchanged accepted sets) c.nothing.ensures.exchanged c.nothing.ensures.accepted closed))
+    (λ closed. closed_from_up_to m sets (subst₂ (λ (exchanged accepted : List (ℕ × ℕ)). IsClosedUpTo m exchanged accepted sets) c.nothing-excused.ensures.exchanged c.nothing-excused.ensures.accepted closed))
     c.accept_up_to.ensures.closed
 
 pub returns-clause-unambiguous : goal.returns-clause-unambiguous
@@ -28,7 +28,7 @@ returns-clause-refused g c =
     let m = g.M.Machine.behaviour c.args.machine.now in
     let body = c.args.body.now in
     IfErr-weaker c.accept_up_to.result _ _
-    (λ failure h. if_fault-weaker _ _ failure (refused_plainly m body c.nothing.result c.nothing.ensures.accepted c.nothing.ensures.exchanged) h)
+    (λ failure h. if_fault-weaker _ _ failure (refused_plainly m body c.nothing-excused.result c.nothing-excused.ensures.accepted c.nothing-excused.ensures.exchanged) h)
     c.accept_up_to.ensures.refused
 
 pub returns-clause-not_closed : goal.returns-clause-not_closed
@@ -37,6 +37,6 @@ returns-clause-not_closed g c =
     let sets = sets_of c.args.body.now in
     IfErr-weaker c.accept_up_to.result _ _
     (λ failure h. if_fault-weaker
-    (λ (fault : AcceptFault). IsClosedUpTo m c.nothing.result.exchanged c.nothing.result.accepted sets → ⊥) (λ (fault : AcceptFault). IsClosed m sets → ⊥) failure
-    (λ fault not_closed closed. not_closed (subst₂ (λ (exchanged accepted : List (ℕ × ℕ)). IsClosedUpTo m exchanged accepted sets) (sym c.nothing.ensures.exchanged) (sym c.nothing.ensures.accepted) (up_to_from_closed m sets closed))) h)
+    (λ (fault : AcceptFault). IsClosedUpTo m c.nothing-excused.result.exchanged c.nothing-excused.result.accepted sets → ⊥) (λ (fault : AcceptFault). IsClosed m sets → ⊥) failure
+    (λ fault not_closed closed. not_closed (subst₂ (λ (exchanged accepted : List (ℕ × ℕ)). IsClosedUpTo m exchanged accepted sets) (sym c.nothing-excused.ensures.exchanged) (sym c.nothing-excused.ensures.accepted) (up_to_from_closed m sets closed))) h)
     c.accept_up_to.ensures.not_closed

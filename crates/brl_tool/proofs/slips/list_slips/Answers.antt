@@ -1,0 +1,11 @@
+use Rattle.std.proofs.Common.{◌∙◌}
+use Rattle.brl_tool.proofs.slips.list_slips.Goals as goal
+
+pub returns : goal.returns
+returns c = record {
+  lexicon = c.in_ok-lexicon.lexicon;
+  found = c.in_ok-findings.findings;
+  slips = c.in_ok-findings.ensures.slips;
+  status = c.new.ensures.0 ∙ c.status_of.ensures;
+  files = c.new.ensures.2;
+}

@@ -1,0 +1,58 @@
+//! `brl slips`: the rules of a table that look like typing errors.
+ghost use Rattle.std.specs.Prelude.{◌≡◌, IfOk};
+ghost use Rattle.brl_lines.specs.Answer.{Unchanged};
+ghost use Rattle.brl_tool.specs.Slipping.{IsSlipsAnswer, ListsSlips, status_of_slips};
+
+use brl_answers::{Answer, RunFault, Status};
+use brl_cut::load_without_dictionaries;
+use brl_failure::Failure;
+use brl_lines::{Line, Source};
+use brl_slips::{Findings, find_slips, read_lexicon, slips_columns, slips_text};
+use std::alloc::{AllocError, Global};
+
+/// Lists the rules that look like typing errors of the table whose file is at a path, in columns
+/// where that is asked for. Lines that aren't read are passed over. The status is that of a
+/// refutation where some are listed.
+pub fn list_slips_by_file<S: Source>(
+    alloc: Global,
+    source: &mut S,
+    path: &str,
+    columns: bool,
+) -> Result<Answer, RunFault>
+    ensures lists { ListsSlips (S.gives source.old) path.now result }
+    ensures same { Unchanged (S.gives source.old) (S.gives source.new) }
+{
+    match load_without_dictionaries(alloc, source, path) {
+        Ok(table) => {
+            let lines = table.loaded.lines(alloc)?;
+            Ok(list_slips(alloc, lines.as_slice(), columns)?)
+        }
+        Err(Failure::Fault(fault)) => Err(RunFault::Load(fault)),
+        Err(Failure::Memory) => Err(RunFault::Memory),
+    }
+}
+
+/// Lists the rules of lines that look like typing errors.
+fn list_slips(alloc: Global, lines: &[Line<'_>], columns: bool) -> Result<Answer, AllocError>
+    ensures { IfOk result IsSlipsAnswer }
+{
+    let lexicon = read_lexicon(alloc, lines)?;
+    let findings = find_slips(alloc, &lexicon)?;
+    let text = if columns {
+        slips_columns(alloc, &lexicon, lines, &findings)?
+    } else {
+        slips_text(alloc, &lexicon, lines, &findings)?
+    };
+    Ok(Answer::new(status_of(&findings), text))
+}
+
+/// The status of what is found.
+fn status_of(findings: &Findings) -> Status
+    ensures { result ≡ status_of_slips findings.now }
+{
+    if findings.shown.is_empty() && findings.twins.is_empty() {
+        Status::Done
+    } else {
+        Status::Refuted
+    }
+}

@@ -1,0 +1,34 @@
+"""Writes what a script makes of a page of docs/, or compares it with the page."""
+
+import difflib
+from collections.abc import Callable
+from pathlib import Path
+
+TOP = Path(__file__).resolve().parent.parent
+
+
+class Wrong(Exception):
+    """Why nothing can be made of a page."""
+
+
+def keep(words: list[str], doc: str, page: Path, made: Callable[[str], str], what: str) -> int:
+    """Writes the page that is made of its text, or with --check says where it is another; gives the exit status."""
+    name = page.relative_to(TOP)
+    if words not in ([], ["--check"]):
+        print(doc)
+        return 2
+    try:
+        old = page.read_text()
+        new = made(old)
+        if not words:
+            page.write_text(new)
+        elif old != new:
+            print(*difflib.unified_diff(old.splitlines(), new.splitlines(), str(name), what, lineterm="", n=0), sep="\n")
+            print(f"FAILED: {name} hasn't {what}, as they are")
+            return 1
+        else:
+            print(f"ok: {name} has {what}, as they are")
+    except (Wrong, OSError, UnicodeError) as why:
+        print(f"FAILED: {why}")
+        return 2
+    return 0
