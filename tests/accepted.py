@@ -170,10 +170,13 @@ class Case:
         return self.run(command, *self.options, "--accept", self.chosen, self.path, self.cert)
 
     def listed(self, lines: list[str]) -> list[Rules]:
-        """The pairs of rules that are listed, where these lines are written of them."""
+        """The pairs of rules that are listed, where these lines are written of them.
+
+        A line may name several, but of rules that say the same only the first is ever chosen.
+        """
         own = [self.plain.numbers[it] for it in self.plain.table.chars if it not in self.without]
         of_sets = [it for line in lines if line.startswith(EXCHANGE) for it in self.words.named(line) if set(it) <= set(own)]
-        return [*of_sets, *(it for line in lines if not line.startswith(EXCHANGE) for it in sorted(self.words.named(line)))]
+        return [*of_sets, *(it for line in lines if not line.startswith(EXCHANGE) for it in sorted(self.words.named(line))[:1])]
 
     # ---- What is wrong, if anything
 
