@@ -4,3 +4,13 @@ pub mod Missing
 pub mod Found
 pub mod Ordering
 pub mod Judging
+pub mod Reading
+pub mod Counted
+pub mod Differing
+pub mod Tallying
+pub mod CasesOfSlips
+pub mod HabitsOfTallies
+pub mod Once
+pub mod Pairing
+pub mod Counting
+pub mod Ranking

@@ -1,13 +1,15 @@
--- Internal. What the search for a rule's kind keeps.
+-- Internal. What the search for a rule's kind keeps, and what it finds.
 use Rattle.std.specs.Prelude.{ℕ, ◌≡◌, ◌≤◌, ◌<◌, List, length, MatchOption, Option}
 use Rattle.std.specs.Global.{Vec}
 use Rattle.brl_slips.specs.Pieces.{IsSpelling, cells_of}
 use Rattle.brl_slips.specs.Searching.{AreStarts}
-use Rattle.brl_slips.specs.Slips.{IsLike, rank}
+use Rattle.brl_slips.specs.Slips.{IsLike, IsShownSlip, IsSlipOf, rank}
 use Rattle.brl_slips.specs.declared.fault.Fault.{Fault}
+use Rattle.brl_slips.specs.declared.lexicon.Lexicon.{Lexicon}
 use Rattle.brl_slips.specs.declared.lexicon.Piece.{Piece}
 use Rattle.brl_slips.specs.declared.slip.Likeness.{Likeness}
 use Rattle.brl_slips.specs.declared.slip.Question.{Question}
+use Rattle.brl_slips.specs.declared.slip.Slip.{Slip}
 
 -- a question has the pieces at each place of its text, 32 characters at most, and 4 to 16 cells
 pub record IsQuestion (question : Question) : Type 0 where
@@ -46,3 +48,9 @@ IsFoundFrom question kind found = MatchOption found
     ((fault : Fault) (row : List ℕ) → kind ≤ rank fault → IsLikeBy question fault row → ⊥)
     (λ likeness. (kind ≤ rank likeness.fault) × IsLikeBy question likeness.fault likeness.spelling.items
     × ((other : Fault) (row : List ℕ) → kind ≤ rank other → rank other < rank likeness.fault → IsLikeBy question other row → ⊥))
+
+-- the slip that a rule is was found, or it is none
+abbrev pub IsSlipFound : Lexicon → ℕ → Option Slip → Type 0
+IsSlipFound lexicon entry found = MatchOption found
+    ((fault : Fault) (row : List ℕ) → IsSlipOf lexicon entry fault row → ⊥)
+    (λ slip. (slip.entry ≡ entry) × IsShownSlip lexicon slip)

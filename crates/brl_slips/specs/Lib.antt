@@ -4,5 +4,10 @@ pub mod Slips
 pub mod Letters
 pub mod Finding
 pub mod Order
+pub mod Habits
+pub mod Counting
 pub mod Shown
 pub mod Twins
+pub mod Pairing
+pub mod Words
+pub mod Lines

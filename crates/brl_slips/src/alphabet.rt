@@ -1,7 +1,10 @@
 //! The characters of a table, as slips see them.
-ghost use Rattle.std.specs.Prelude.{◌≡◌};
+ghost use Rattle.std.specs.Prelude.{◌≡◌, IfOk, OnOk, flat_map, map, nat_eq};
 ghost use Rattle.std.specs.List.{list_all};
+ghost use Rattle.indexmap.specs.IndexMap.{insert_all};
+ghost use Rattle.brl_lines.specs.Views.{line_view};
 ghost use Rattle.brl_slips.specs.Letters.{is_letter};
+ghost use Rattle.brl_slips.specs.Lines.{IsAlphabet, defines, fold_of, one_character as character_spelled, small_letter, small_letters as letters_of_capitals};
 ghost use Rattle.brl_slips.specs.Twins.{own_cells};
 
 use crate::words::{capital_words, words_of};
@@ -24,14 +27,18 @@ pub struct Alphabet {
 
 impl Alphabet {
     /// The characters of these lines.
-    pub(crate) fn of_lines(alloc: Global, lines: &[Line<'_>]) -> Result<Alphabet, AllocError> {
+    pub(crate) fn of_lines(alloc: Global, lines: &[Line<'_>]) -> Result<Alphabet, AllocError>
+        ensures { IfOk result (IsAlphabet (map line_view lines.now)) }
+    {
         let infos = good_characters(alloc, lines)?;
         let small = small_letters(alloc, lines)?;
         Ok(Alphabet { infos, small })
     }
 
     /// The small letter of a capital, and another character itself.
-    pub(crate) fn fold(&self, character: char) -> char {
+    pub(crate) fn fold(&self, character: char) -> char
+        ensures { result ≡ fold_of self.now character }
+    {
         match self.infos.get(&character) {
             Some(info) if info.fold != character => info.fold,
             _ => self.small.get(&character).copied().unwrap_or(character),
@@ -58,7 +65,9 @@ impl Alphabet {
     }
 
     /// Whether all these characters are defined.
-    pub(crate) fn defines_all(&self, characters: &[char]) -> bool {
+    pub(crate) fn defines_all(&self, characters: &[char]) -> bool
+        ensures { result ≡ list_all (defines self.now) characters.now }
+    {
         characters
             .iter()
             .all(|character| self.infos.contains_key(character))
@@ -76,7 +85,9 @@ impl Alphabet {
 }
 
 /// The one character that a word spells.
-fn one_character(alloc: Global, word: &str) -> Result<Option<char>, AllocError> {
+fn one_character(alloc: Global, word: &str) -> Result<Option<char>, AllocError>
+    ensures { IfOk result (λ found. found ≡ character_spelled word.now) }
+{
     match chars_of(alloc, word) {
         Ok(characters) => match characters.as_slice() {
             [character] => Ok(Some(*character)),
@@ -88,7 +99,9 @@ fn one_character(alloc: Global, word: &str) -> Result<Option<char>, AllocError> 
 }
 
 /// The small letters that lines give capitals, the last line of each.
-fn small_letters(alloc: Global, lines: &[Line<'_>]) -> Result<IndexMap<char, char>, AllocError> {
+fn small_letters(alloc: Global, lines: &[Line<'_>]) -> Result<IndexMap<char, char>, AllocError>
+    ensures { IfOk result (λ small. small.entries ≡ letters_of_capitals (map line_view lines.now)) }
+{
     let mut small = IndexMap::new(alloc);
     for line in lines {
         insert_small(alloc, &mut small, line)?;
@@ -101,7 +114,9 @@ fn insert_small(
     alloc: Global,
     small: &mut IndexMap<char, char>,
     line: &Line<'_>,
-) -> Result<(), AllocError> {
+) -> Result<(), AllocError>
+    ensures { OnOk result (small.new.entries ≡ insert_all nat_eq small.old.entries (small_letter (line_view line.now))) }
+{
     if line.opcode.text != "base" {
         return Ok(());
     }

@@ -1,11 +1,13 @@
 //! The slips, habits and twins of a table.
-ghost use Rattle.std.specs.Prelude.{◌≤◌, All, IfOk, length, vec_len};
-ghost use Rattle.std.specs.List.Sorted.{IsSorted};
+ghost use Rattle.std.specs.Prelude.{◌≤◌, IfOk, vec_len};
+ghost use Rattle.std.specs.List.Sorted.{IsPermutation, IsSorted};
+ghost use Rattle.brl_slips.specs.Finding.{IsSlipFound};
+ghost use Rattle.brl_slips.specs.Habits.{AreHabits};
 ghost use Rattle.brl_slips.specs.Order.{slip_cmp};
 ghost use Rattle.brl_slips.specs.Searching.{IsIndex};
-ghost use Rattle.brl_slips.specs.Shown.{AreSomeOf, IsSlipFound};
+ghost use Rattle.brl_slips.specs.Shown.{kept_of};
 ghost use Rattle.brl_slips.specs.Slips.{AreSlips};
-ghost use Rattle.brl_slips.specs.Twins.{IsTwins};
+ghost use Rattle.brl_slips.specs.Twins.{AreTwins};
 
 use crate::habit::{Habit, Parted, part_habits};
 use crate::lexicon::Lexicon;
@@ -27,6 +29,7 @@ pub struct Findings {
     /// The numbers of the slips that are shown: those of no habit, the most suspicious first.
     pub shown: Vec<usize>,
     pub habits: Vec<Habit>,
+    /// The twins that are shown: those of letters that are no habit, the longest first.
     pub twins: Vec<Twins>,
     /// How many rules were tested.
     pub judged: usize,
@@ -35,9 +38,10 @@ pub struct Findings {
 /// The slips, habits and twins of a table.
 pub fn find_slips(alloc: Global, lexicon: &Lexicon) -> Result<Findings, AllocError>
     ensures slips { IfOk result (λ found. AreSlips lexicon.now found.judged found.slips.items) }
-    ensures some { IfOk result (λ found. AreSomeOf (length found.slips.items) found.shown.items) }
+    ensures habits { IfOk result (λ found. AreHabits lexicon.now found.slips.items found.habits.items) }
+    ensures shown { IfOk result (λ found. IsPermutation (kept_of lexicon.now found.slips.items) found.shown.items) }
     ensures sorted { IfOk result (λ found. IsSorted (slip_cmp found.slips.items) found.shown.items) }
-    ensures twins { IfOk result (λ found. All (IsTwins lexicon.now) found.twins.items) }
+    ensures twins { IfOk result (λ found. AreTwins lexicon.now found.twins.items) }
     ensures judged { IfOk result (λ found. found.judged ≤ vec_len lexicon.now.entries) }
 {
     let index = Index::of_pieces(alloc, lexicon.pieces.as_slice())?;

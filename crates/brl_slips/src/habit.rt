@@ -1,6 +1,10 @@
 //! The differences of slips, and those that are in too many of them.
-ghost use Rattle.std.specs.Prelude.{IfOk, length};
-ghost use Rattle.brl_slips.specs.Shown.{AreAscending};
+ghost use Rattle.std.specs.Prelude.{◌≡◌, ◌<◌, ◌++◌, All, IfOk, OnOk, filter, flat_map, length, map};
+ghost use Rattle.std.specs.List.{list_any, position};
+ghost use Rattle.brl_slips.specs.Counting.{AreTallies, IsCounted, case_of, cases_of, habit_of, is_among, is_often};
+ghost use Rattle.brl_slips.specs.Habits.{AreHabits, both, differences_by, differences_of, replaced_at, same};
+ghost use Rattle.brl_slips.specs.Shown.{kept_of};
+ghost use Rattle.brl_slips.specs.Slips.{IsFault, IsShownSlip};
 
 use crate::fault::Fault;
 use crate::lexicon::Lexicon;
@@ -32,105 +36,19 @@ pub struct Habit {
     pub entry: usize,
 }
 
-/// The differences of a slip: one, or two where two cells stand for others in different ways.
-fn differences_of(
-    alloc: Global,
-    lexicon: &Lexicon,
-    slip: &Slip,
-) -> Result<Vec<Difference>, AllocError> {
-    let mut found = Vec::new(alloc);
-    let Some(piece) = lexicon.piece_of(slip.entry) else {
-        return Ok(found);
-    };
-    let spelled = cells_of_row(alloc, lexicon.pieces.as_slice(), slip.spelling.as_slice())?;
-    let cells = piece.cells.as_slice();
-    push_new(&mut found, first_of(slip.fault, cells, spelled.as_slice()))?;
-    push_new(&mut found, second_of(slip.fault, cells, spelled.as_slice()))?;
-    Ok(found)
+/// A difference of a slip, and the number of the slip's rule.
+#[derive(Clone, Copy)]
+struct Case {
+    difference: Difference,
+    entry: usize,
 }
 
-/// Adds a difference, if there is one, that isn't there yet.
-fn push_new(found: &mut Vec<Difference>, difference: Option<Difference>) -> Result<(), AllocError> {
-    let Some(difference) = difference else {
-        return Ok(());
-    };
-    if !found.contains(&difference) {
-        found.push(difference)?;
-    }
-    Ok(())
-}
-
-/// The first difference of a fault of these cells from those of a spelling.
-fn first_of(fault: Fault, cells: &[Cell], spelled: &[Cell]) -> Option<Difference> {
-    match fault {
-        Fault::Replaced(place) | Fault::TwoReplaced(place, _) => replaced(cells, spelled, place),
-        Fault::Exchanged(_) => Some(Difference::Exchanged),
-        Fault::TooMany(place) => Some(Difference::TooMany(*cells.get(place)?)),
-        Fault::Missing(place) => Some(Difference::Missing(*spelled.get(place)?)),
-    }
-}
-
-/// The second one, if there may be one.
-fn second_of(fault: Fault, cells: &[Cell], spelled: &[Cell]) -> Option<Difference> {
-    match fault {
-        Fault::TwoReplaced(_, place) => replaced(cells, spelled, place),
-        _ => None,
-    }
-}
-
-/// The difference of a replaced cell.
-fn replaced(cells: &[Cell], spelled: &[Cell], place: usize) -> Option<Difference> {
-    let is = *cells.get(place)?;
-    let meant = *spelled.get(place)?;
-    Some(Difference::Replaced { is, meant })
-}
-
-/// How often a difference is in slips, and the number of the first rule that has it.
+/// How many cases of a difference there are, and the number of the first one's rule.
 #[derive(Clone, Copy)]
 struct Tally {
     difference: Difference,
     count: usize,
     entry: usize,
-}
-
-/// Counts a difference of a slip of this rule.
-fn count(tallies: &mut Vec<Tally>, difference: Difference, entry: usize) -> Result<(), AllocError> {
-    for tally in tallies.iter_mut() {
-        if tally.difference == difference {
-            tally.count = tally.count.saturating_add(1);
-            return Ok(());
-        }
-    }
-    tallies.push(Tally {
-        difference,
-        count: 1,
-        entry,
-    })?;
-    Ok(())
-}
-
-/// Counts the differences of a slip.
-fn count_all(
-    tallies: &mut Vec<Tally>,
-    differences: &[Difference],
-    entry: usize,
-) -> Result<(), AllocError> {
-    for difference in differences {
-        count(tallies, *difference, entry)?;
-    }
-    Ok(())
-}
-
-/// Whether a difference is in four slips or more.
-fn is_habit(tallies: &[Tally], difference: Difference) -> bool {
-    tallies.iter().any(|tally| tally.count >= HABIT && tally.difference == difference)
-}
-
-/// Whether one of the differences is in four slips or more.
-fn has_habit(tallies: &[Tally], differences: &[Difference]) -> bool {
-    differences
-        .iter()
-        .any(|difference| is_habit(tallies, *difference))
 }
 
 /// The numbers of slips that are shown, and the habits of the others.
@@ -141,61 +59,214 @@ pub(crate) struct Parted {
 }
 
 /// Parts slips from habits: the numbers of those of which no difference is in four or more, in
-/// their order; the habits are in the order of how often they are, the most frequent first.
+/// their order; the habits are in the order of how often they are, the most frequent first, and of
+/// those that are as frequent the one that is met first.
 pub(crate) fn part_habits(
     alloc: Global,
     lexicon: &Lexicon,
     slips: &[Slip],
 ) -> Result<Parted, AllocError>
-    ensures { IfOk result (λ parted. AreAscending (length slips.now) parted.kept.items) }
+    requires { All (IsShownSlip lexicon.now) slips.now }
+    ensures kept { IfOk result (λ parted. parted.kept.items ≡ kept_of lexicon.now slips.now) }
+    ensures habits { IfOk result (λ parted. AreHabits lexicon.now slips.now parted.habits.items) }
 {
-    let tallies = tallies_of(alloc, lexicon, slips)?;
-    let habits = habits_of(alloc, tallies.as_slice())?;
-    let kept = without_habits(alloc, lexicon, tallies.as_slice(), slips)?;
+    let habits = habits_of(alloc, lexicon, slips)?;
+    let kept = without_habits(alloc, lexicon, habits.as_slice(), slips)?;
     Ok(Parted { kept, habits })
 }
 
-/// How often each difference is in slips.
-fn tallies_of(alloc: Global, lexicon: &Lexicon, slips: &[Slip]) -> Result<Vec<Tally>, AllocError> {
-    let mut tallies = Vec::new(alloc);
-    for slip in slips {
-        let differences = differences_of(alloc, lexicon, slip)?;
-        count_all(&mut tallies, differences.as_slice(), slip.entry)?;
-    }
-    Ok(tallies)
+/// The habits of slips, the most frequent first.
+fn habits_of(alloc: Global, lexicon: &Lexicon, slips: &[Slip]) -> Result<Vec<Habit>, AllocError>
+    requires { All (IsShownSlip lexicon.now) slips.now }
+    ensures { IfOk result (λ habits. AreHabits lexicon.now slips.now habits.items) }
+{
+    let cases = cases_of(alloc, lexicon, slips)?;
+    let tallies = tallies_of(alloc, cases.as_slice())?;
+    let mut habits = often(alloc, tallies.as_slice())?;
+    habits.sort_by_key(|habit| Reverse(habit.count))?;
+    Ok(habits)
 }
 
 /// The numbers of the slips none of whose differences is a habit.
 fn without_habits(
     alloc: Global,
     lexicon: &Lexicon,
-    tallies: &[Tally],
+    habits: &[Habit],
     slips: &[Slip],
 ) -> Result<Vec<usize>, AllocError>
-    ensures { IfOk result (λ kept. AreAscending (length slips.now) kept.items) }
+    requires slips { All (IsShownSlip lexicon.now) slips.now }
+    requires habits { AreHabits lexicon.now slips.now habits.now }
+    ensures { IfOk result (λ kept. kept.items ≡ kept_of lexicon.now slips.now) }
 {
     let mut kept = Vec::new(alloc);
     for (number, slip) in slips.iter().enumerate() {
         let differences = differences_of(alloc, lexicon, slip)?;
-        if !has_habit(tallies, differences.as_slice()) {
+        if !has_habit(habits, differences.as_slice()) {
             kept.push(number)?;
         }
     }
     Ok(kept)
 }
 
-/// The differences that are habits, the most frequent first.
-fn habits_of(alloc: Global, tallies: &[Tally]) -> Result<Vec<Habit>, AllocError> {
-    let mut habits = Vec::new(alloc);
-    for tally in tallies {
-        if tally.count >= HABIT {
-            habits.push(Habit {
-                difference: tally.difference,
-                count: tally.count,
-                entry: tally.entry,
-            })?;
-        }
+/// Whether one of the differences is a habit's.
+fn has_habit(habits: &[Habit], differences: &[Difference]) -> bool
+    ensures { result ≡ list_any (is_among habits.now) differences.now }
+{
+    differences
+        .iter()
+        .any(|difference| is_habit(habits, *difference))
+}
+
+/// Whether a difference is a habit's.
+fn is_habit(habits: &[Habit], difference: Difference) -> bool
+    ensures { result ≡ is_among habits.now difference }
+{
+    habits.iter().any(|habit| difference == habit.difference)
+}
+
+/// The cases of slips, in the order of the slips.
+fn cases_of(alloc: Global, lexicon: &Lexicon, slips: &[Slip]) -> Result<Vec<Case>, AllocError>
+    requires { All (IsShownSlip lexicon.now) slips.now }
+    ensures { IfOk result (λ cases. cases.items ≡ flat_map (cases_of lexicon.now) slips.now) }
+{
+    let mut cases = Vec::new(alloc);
+    for slip in slips {
+        let differences = differences_of(alloc, lexicon, slip)?;
+        push_cases(&mut cases, differences.as_slice(), slip.entry)?;
     }
-    habits.sort_by_key(|habit| Reverse(habit.count))?;
-    Ok(habits)
+    Ok(cases)
+}
+
+/// Adds a case for each difference of a slip of this rule.
+fn push_cases(
+    cases: &mut Vec<Case>,
+    differences: &[Difference],
+    entry: usize,
+) -> Result<(), AllocError>
+    ensures { OnOk result (cases.new.items ≡ cases.old.items ++ map (case_of entry) differences.now) }
+{
+    for difference in differences {
+        cases.push(Case {
+            difference: *difference,
+            entry,
+        })?;
+    }
+    Ok(())
+}
+
+/// The differences of a slip: one, or two where two cells stand for others in different ways.
+fn differences_of(
+    alloc: Global,
+    lexicon: &Lexicon,
+    slip: &Slip,
+) -> Result<Vec<Difference>, AllocError>
+    requires { IsShownSlip lexicon.now slip.now }
+    ensures { IfOk result (λ found. found.items ≡ differences_of lexicon.now slip.now) }
+{
+    let Some(piece) = lexicon.piece_of(slip.entry) else {
+        return Ok(Vec::new(alloc));
+    };
+    let spelled = cells_of_row(alloc, lexicon.pieces.as_slice(), slip.spelling.as_slice())?;
+    differences_by(
+        alloc,
+        slip.fault,
+        piece.cells.as_slice(),
+        spelled.as_slice(),
+    )
+}
+
+/// The differences of cells from those of a spelling, by the fault.
+fn differences_by(
+    alloc: Global,
+    fault: Fault,
+    cells: &[Cell],
+    spelled: &[Cell],
+) -> Result<Vec<Difference>, AllocError>
+    requires { IsFault fault cells.now spelled.now }
+    ensures { IfOk result (λ found. found.items ≡ differences_by fault cells.now spelled.now) }
+{
+    match fault {
+        Fault::Replaced(place) => Vec::from_slice(alloc, &[replaced_at(cells, spelled, place)]),
+        Fault::Exchanged(_) => Vec::from_slice(alloc, &[Difference::Exchanged]),
+        Fault::TooMany(place) => Vec::from_slice(alloc, &[Difference::TooMany(cells[place])]),
+        Fault::Missing(place) => Vec::from_slice(alloc, &[Difference::Missing(spelled[place])]),
+        Fault::TwoReplaced(first, second) => both(
+            alloc,
+            replaced_at(cells, spelled, first),
+            replaced_at(cells, spelled, second),
+        ),
+    }
+}
+
+/// The difference of a cell that is replaced at a place.
+fn replaced_at(cells: &[Cell], spelled: &[Cell], place: usize) -> Difference
+    requires is { place < length cells.now }
+    requires meant { place < length spelled.now }
+    ensures { result ≡ replaced_at cells.now spelled.now place }
+{
+    Difference::Replaced {
+        is: cells[place],
+        meant: spelled[place],
+    }
+}
+
+/// Two differences: one, where they are the same.
+fn both(alloc: Global, one: Difference, other: Difference) -> Result<Vec<Difference>, AllocError>
+    ensures { IfOk result (λ found. found.items ≡ both one other) }
+{
+    if one == other {
+        return Vec::from_slice(alloc, &[one]);
+    }
+    Vec::from_slice(alloc, &[one, other])
+}
+
+/// How many cases there are of each difference.
+fn tallies_of(alloc: Global, cases: &[Case]) -> Result<Vec<Tally>, AllocError>
+    ensures { IfOk result (λ tallies. AreTallies cases.now tallies.items) }
+{
+    let mut tallies = Vec::new(alloc);
+    for case in cases {
+        count(&mut tallies, case)?;
+    }
+    Ok(tallies)
+}
+
+/// Counts a case.
+fn count(tallies: &mut Vec<Tally>, case: &Case) -> Result<(), AllocError>
+    ensures { OnOk result (IsCounted case.now tallies.old.items tallies.new.items) }
+{
+    if let Some(place) = place_of_tally(tallies.as_slice(), case) {
+        tallies[place].count = tallies[place].count.saturating_add(1);
+        return Ok(());
+    }
+    tallies.push(Tally {
+        difference: case.difference,
+        count: 1,
+        entry: case.entry,
+    })?;
+    Ok(())
+}
+
+/// The place of the tally of a case's difference.
+fn place_of_tally(tallies: &[Tally], case: &Case) -> Option<usize>
+    ensures { result ≡ position (λ tally. same case.now.difference tally.difference) tallies.now }
+{
+    tallies
+        .iter()
+        .position(|tally| case.difference == tally.difference)
+}
+
+/// Those differences that are in four slips or more, in the order of their tallies.
+fn often(alloc: Global, tallies: &[Tally]) -> Result<Vec<Habit>, AllocError>
+    ensures { IfOk result (λ habits. habits.items ≡ map habit_of (filter is_often tallies.now)) }
+{
+    tallies
+        .iter()
+        .filter(|tally| tally.count >= HABIT)
+        .map(|tally| Habit {
+            difference: tally.difference,
+            count: tally.count,
+            entry: tally.entry,
+        })
+        .collect(alloc)
 }

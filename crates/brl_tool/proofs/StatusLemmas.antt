@@ -287,9 +287,9 @@ module _ (before after : World) (same_file : MayBeSame) where
           subst (FilesAfter before.gives after.gives) says.2 files,
         )),
   )
-  means (question.Slips path columns) answer (has, is) files prints = (
+  means (question.Slips path columns) answer (lines, at, is) files prints = (
     (λ done. tt),
-    (λ refuted. ((path.now, (has, (is.lexicon, is.found, is.slips, some_shown is.found (sym is.status ∙ refuted))), (string_bytes answer.text, prints)), subst (FilesAfter before.gives after.gives) is.files files)),
+    (λ refuted. ((path.now, (lines, at, (is.lexicon, is.found, is.are, some_shown is.found (sym is.status ∙ refuted))), (string_bytes answer.text, prints)), subst (FilesAfter before.gives after.gives) is.files files)),
   )
   means (question.Cut path dir rewrite) answer (cut, (answers, given, gathered, gathers, is), status, text, (made, are, same)) files prints =
       let written : FilesAfter before.gives after.gives (AllNew made) = subst (FilesAfter before.gives after.gives) are files in
@@ -458,7 +458,7 @@ module _ (before after : World) (same_file : MayBeSame) where
       let (paths, lines, are, passes, is) = by_file in
       none_changes before after answer written (comparison_has_none (table_of lines) (shown_lines options.lines lines) l r answer is) writes
   keeps (question.Survey paths brief) (Ok answer) status (parts, named, are, says) (written, writes, e) = none_changes before after answer written says.2 writes
-  keeps (question.Slips path columns) (Ok answer) status (has, is) (written, writes, e) = none_changes before after answer written is.files writes
+  keeps (question.Slips path columns) (Ok answer) status (lines, at, is) (written, writes, e) = none_changes before after answer written is.files writes
   keeps (question.Trace path text options) (Ok answer) status traces (written, writes, e) =
       let (chars, spelled, by_file) = spelled_in (text_of options.escapes text.now) (IsBadText options.escapes text.now) (TracesByFile options.lines before.gives path.now) answer traces in
       let (paths, lines, are, passes, (known, says)) = by_file in

@@ -1,10 +1,16 @@
 -- What `brl slips` answers. The project's own choice.
 use Rattle.std.specs.Prelude.{ℕ, ◌≡◌, ◌==◌, ◌&&◌, Bool, false, if◌then◌else◌, List, length, Result, Ok, Err}
+use Rattle.std.specs.List.Sorted.{IsPermutation, IsSorted}
 use Rattle.brl_lines.specs.Answer.{FileAnswers}
 use Rattle.brl_lines.specs.Gathering.{LeftView}
 use Rattle.brl_lines.specs.Tokens.{LineView}
 use Rattle.brl_cut.specs.Skipping.{AreLinesWithout, IsUnloaded}
+use Rattle.brl_slips.specs.Habits.{AreHabits}
+use Rattle.brl_slips.specs.Lines.{IsLexicon}
+use Rattle.brl_slips.specs.Order.{slip_cmp}
+use Rattle.brl_slips.specs.Shown.{kept_of}
 use Rattle.brl_slips.specs.Slips.{AreSlips}
+use Rattle.brl_slips.specs.Twins.{AreTwins}
 use Rattle.brl_slips.specs.declared.findings.Findings.{Findings}
 use Rattle.brl_slips.specs.declared.lexicon.Lexicon.{Lexicon}
 use Rattle.brl_answers.specs.declared.answer.Answer.{Answer}
@@ -22,28 +28,37 @@ shows_none found = length found.shown.items == 0 && length found.twins.items == 
 abbrev pub status_of_slips : Findings → Status
 status_of_slips found = if shows_none found then Done else Refuted
 
--- the answer has the slips that are found among what the lines of a table give, no files, and this
--- status
-pub record IsSlipsAnswer (answer : Answer) : Type 0 where
+-- this is what is found among the lines of a table: the slips, the habits, the slips that are shown
+-- and their order, and the twins
+pub record AreFindings (lines : List LineView) (lexicon : Lexicon) (found : Findings) : Type 0 where
+  pub read : IsLexicon lines lexicon
+  pub slips : AreSlips lexicon found.judged found.slips.items
+  pub habits : AreHabits lexicon found.slips.items found.habits.items
+  pub shown : IsPermutation (kept_of lexicon found.slips.items) found.shown.items
+  pub sorted : IsSorted (slip_cmp found.slips.items) found.shown.items
+  pub twins : AreTwins lexicon found.twins.items
+
+-- the answer has what is found among these lines, no files, and this status
+pub record IsSlipsAnswer (lines : List LineView) (answer : Answer) : Type 0 where
   pub lexicon : Lexicon
   pub found : Findings
-  pub slips : AreSlips lexicon found.judged found.slips.items
+  pub are : AreFindings lines lexicon found
   pub status : answer.status ≡ status_of_slips found
   pub files : answer.files ≡ Nothing
 
--- a table was loaded without its hyphenation dictionaries
-abbrev pub HasLines : FileAnswers → List ℕ → Type 0
-HasLines gives path = (skipped : List LeftView) × (paths : List (List ℕ)) × (lines : List LineView) × AreLinesWithout gives path skipped paths lines
+-- these are the lines of a table that is loaded without its hyphenation dictionaries
+abbrev pub AreLinesOf : FileAnswers → List ℕ → List LineView → Type 0
+AreLinesOf gives path lines = (skipped : List LeftView) × (paths : List (List ℕ)) × AreLinesWithout gives path skipped paths lines
 
 -- the slips of the table at a path were listed, whatever lines aren't read; or it can't be loaded;
 -- or memory ran out
 abbrev pub ListsSlips : FileAnswers → List ℕ → Result Answer RunFault → Type 0
-ListsSlips gives path (Ok answer) = HasLines gives path × IsSlipsAnswer answer
+ListsSlips gives path (Ok answer) = (lines : List LineView) × AreLinesOf gives path lines × IsSlipsAnswer lines answer
 ListsSlips gives path (Err (Load fault)) = IsUnloaded gives path fault
 ListsSlips gives path (Err Memory) = Unit {0}
 ListsSlips gives path (Err fault) = ⊥
 
 -- the table at a path has slips or twins that are shown
 abbrev pub HasSlips : FileAnswers → List ℕ → Type 0
-HasSlips gives path =
-    HasLines gives path × ((lexicon : Lexicon) × (found : Findings) × AreSlips lexicon found.judged found.slips.items × (shows_none found ≡ false))
+HasSlips gives path = (lines : List LineView) × AreLinesOf gives path lines
+    × ((lexicon : Lexicon) × (found : Findings) × AreFindings lines lexicon found × (shows_none found ≡ false))

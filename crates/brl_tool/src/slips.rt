@@ -1,6 +1,7 @@
 //! `brl slips`: the rules of a table that look like typing errors.
-ghost use Rattle.std.specs.Prelude.{◌≡◌, IfOk};
+ghost use Rattle.std.specs.Prelude.{◌≡◌, IfOk, map};
 ghost use Rattle.brl_lines.specs.Answer.{Unchanged};
+ghost use Rattle.brl_lines.specs.Views.{line_view};
 ghost use Rattle.brl_tool.specs.Slipping.{IsSlipsAnswer, ListsSlips, status_of_slips};
 
 use brl_answers::{Answer, RunFault, Status};
@@ -34,7 +35,7 @@ pub fn list_slips_by_file<S: Source>(
 
 /// Lists the rules of lines that look like typing errors.
 fn list_slips(alloc: Global, lines: &[Line<'_>], columns: bool) -> Result<Answer, AllocError>
-    ensures { IfOk result IsSlipsAnswer }
+    ensures { IfOk result (IsSlipsAnswer (map line_view lines.now)) }
 {
     let lexicon = read_lexicon(alloc, lines)?;
     let findings = find_slips(alloc, &lexicon)?;

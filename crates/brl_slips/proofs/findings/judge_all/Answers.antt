@@ -1,5 +1,5 @@
 use Rattle.std.proofs.Common.{◌+◌, ◌∙◌, List, ap, subst, sym}
-use Rattle.brl_slips.specs.Shown.{IsSlipFound}
+use Rattle.brl_slips.specs.Finding.{IsSlipFound}
 use Rattle.brl_slips.specs.Slips.{AreSlips}
 use Rattle.brl_slips.proofs.Judging.{slips-more, slips-push}
 use Rattle.brl_slips.proofs.findings.judge_all.Goals as goal

@@ -5,7 +5,14 @@ pub returns : goal.returns
 returns c = record {
   lexicon = c.in_ok-lexicon.lexicon;
   found = c.in_ok-findings.findings;
-  slips = c.in_ok-findings.ensures.slips;
+  are = record {
+    read = c.in_ok-lexicon.ensures;
+    slips = c.in_ok-findings.ensures.slips;
+    habits = c.in_ok-findings.ensures.habits;
+    shown = c.in_ok-findings.ensures.shown;
+    sorted = c.in_ok-findings.ensures.sorted;
+    twins = c.in_ok-findings.ensures.twins;
+  };
   status = c.new.ensures.0 ∙ c.status_of.ensures;
   files = c.new.ensures.2;
 }
