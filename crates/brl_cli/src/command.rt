@@ -956,7 +956,7 @@ fn push_translate<'a>(arguments: &mut Vec<Arg<'a>>, alloc: Global) -> Result<(),
     Ok(())
 }
 
-/// Appends the options of which characters are left out, and what is excused.
+/// Appends the options `--without` and `--accept`.
 fn push_without<'a>(arguments: &mut Vec<Arg<'a>>, alloc: Global) -> Result<(), AllocError> {
     arguments.push(without_option(alloc))?;
     arguments.push(excusal_option(alloc))?;

@@ -119,7 +119,7 @@ few false = omega arith
 pub any-tallied : (cases : List Case) (tallies : List Tally) → AreTallies cases tallies → (difference : Difference) → list_any (same difference) (tallied tallies) ≡ list_any (is_of difference) cases
 any-tallied cases tallies are difference = list_any_once (same difference) (tallied tallies) (list_any (is_of difference) cases) (are.once difference)
 
--- the tallies after a case of which one had the difference
+-- the tallies after a case, where one of them has its difference
 pub tallies-counted : (cases : List Case) (case : Case) (tallies : List Tally) (place : ℕ) (old new : Tally) → AreTallies cases tallies
     → place < length tallies → get_or tallies place old ≡ old → same case.difference old.difference ≡ true
     → new.difference ≡ old.difference → new.count ≡ old.count + 1 → new.entry ≡ old.entry → AreTallies (cases ++ case ∷ []) (set tallies place new)

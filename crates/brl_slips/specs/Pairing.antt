@@ -75,7 +75,7 @@ AreFound lexicon one other found = MatchOption found
     ((twins : Twins) → twins.one ≡ one → twins.other ≡ other → IsTwins lexicon twins → ⊥)
     (λ twins. (twins.one ≡ one) × (twins.other ≡ other) × IsTwins lexicon twins)
 
--- twins, of which the later is one of the first rules
+-- twins that may be shown, whose later rule has a number below an end
 abbrev pub IsPairBelow : Lexicon → ℕ → Twins → Type 0
 IsPairBelow lexicon end twins = IsCandidate lexicon twins × (twins.other < end)
 

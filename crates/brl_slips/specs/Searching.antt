@@ -86,7 +86,7 @@ pub record AreNumbered {S : Type 0} (pieces : List Piece) (end : ℕ) (numbers :
   pub sound : (chars : List ℕ) → All (IsNumberOf pieces end chars) (numbers_of numbers chars)
   pub whole : (number : ℕ) → number < end → Contains (numbers_of numbers (chars_at pieces number)) number
 
--- an index has the numbers of all pieces, none of which has more characters than it says
+-- an index has the numbers of all pieces, and no piece has more characters than its `longest`
 pub record IsIndex (pieces : List Piece) (index : Index) : Type 0 where
   pub numbered : AreNumbered pieces (length pieces) index.numbers
   pub longest : (number : ℕ) → length (chars_at pieces number) ≤ index.longest

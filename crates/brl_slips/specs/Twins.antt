@@ -1,4 +1,4 @@
--- Twins: two rules with the same cells, of which one letter differs. The project's own.
+-- Twins: two rules with the same cells whose characters differ in one letter. The project's own.
 use Rattle.std.specs.Prelude.{ℕ, ◌≡◌, ◌≢◌, ◌≤◌, ◌<◌, true, All, List, [], if◌then◌else◌, length, nat_eq, nat_le, slice_get, slice_index, Option, Some}
 use Rattle.std.specs.List.{AllPairs, Contains}
 use Rattle.std.specs.Option.{option_and_then, option_map, option_map_or}
@@ -33,8 +33,8 @@ pub record IsOneDifference (left right : List ℕ) (place : ℕ) : Type 0 where
   pub differ : slice_index left place ≢ slice_index right place
   pub same : (k : ℕ) → k ≢ place → slice_index left k ≡ slice_index right k
 
--- two rules are twins, the earlier first: they have the same cells, and characters of which one
--- letter differs, whose own cells are others; two or more of each
+-- two rules are twins, the earlier first: they have the same cells, two or more, and as many
+-- characters, two or more, which differ in one letter; the two letters have different own cells
 pub record IsTwins (lexicon : Lexicon) (twins : Twins) : Type 0 where
   pub left : Piece
   pub right : Piece

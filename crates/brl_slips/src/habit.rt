@@ -58,9 +58,9 @@ pub(crate) struct Parted {
     pub habits: Vec<Habit>,
 }
 
-/// Parts slips from habits: the numbers of those of which no difference is in four or more, in
-/// their order; the habits are in the order of how often they are, the most frequent first, and of
-/// those that are as frequent the one that is met first.
+/// Parts slips from habits: the numbers of the slips without a habit, in ascending order, and the
+/// habits, the most frequent first. Of habits that are as frequent the one that is met first comes
+/// first.
 pub(crate) fn part_habits(
     alloc: Global,
     lexicon: &Lexicon,

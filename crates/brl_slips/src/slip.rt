@@ -35,7 +35,7 @@ pub(crate) struct Likeness {
     pub spelling: Vec<usize>,
 }
 
-/// The rule of which it is asked whether it is a slip: its cells, and its characters as a text.
+/// A rule that may be a slip: its cells, and its characters as a text.
 #[derive(Clone, Copy)]
 pub(crate) struct Question<'a> {
     pub cells: &'a [Cell],

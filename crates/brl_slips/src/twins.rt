@@ -1,4 +1,4 @@
-//! Twins: two rules with the same cells, and as many characters, of which one differs.
+//! Twins: two rules with the same cells whose characters differ in one letter.
 ghost use Rattle.std.specs.Prelude.{◌≡◌, ◌≢◌, ◌≤◌, ◌<◌, ◌+◌, ◌^◌, ℕ, Decides, IfOk, OnOk, length, slice_index};
 ghost use Rattle.std.specs.List.{list_any};
 ghost use Rattle.std.specs.List.Sorted.{IsPermutation, IsSorted};
@@ -18,7 +18,7 @@ const FAMILY: usize = 4;
 /// In how many pairs the same two letters differ so that none of these are twins.
 const HABIT: usize = 4;
 
-/// Two rules with the same cells and as many characters, of which the one at this place differs.
+/// Two rules with the same cells and as many characters, which differ at this place alone.
 #[derive(Clone, Copy, Debug)]
 pub struct Twins {
     /// The number of the earlier rule.
@@ -175,7 +175,7 @@ fn insert(
     Ok(())
 }
 
-/// Adds the twins of which the later is this rule.
+/// Adds the twins whose later rule is this one.
 fn push_pairs(
     lexicon: &Lexicon,
     families: &IndexMap<Family, Vec<usize>>,
