@@ -1,9 +1,9 @@
 -- Edges, where states are added and where an edge is added.
-use Rattle.std.proofs.Common.{◌≡◌, ◌≢◌, ℕ, ◌+◌, ◌<◌, ◌≤◌, List, [], ◌∷◌, ◌++◌, inl, inr, length, set, Some, slice_get, sym, ◌∙◌, ap, subst, arith}
+use Rattle.std.proofs.Common.{◌≡◌, ◌≢◌, ℕ, ◌+◌, ◌<◌, ◌≤◌, List, [], ◌++◌, inl, inr, length, set, Some, slice_get, sym, ◌∙◌, ap, subst, arith}
 use Rattle.std.proofs.lemmas.Option.{slice_get_within}
 use Rattle.brl_pairs.specs.Body.{NumberPair}
 use Rattle.brl_pairs.specs.declared.step.Step.{Step}
-use Rattle.brl_pairs.specs.Runs.{Behaviour, IsListedAt, KeepsLaws}
+use Rattle.brl_pairs.specs.Runs.{Behaviour, KeepsLaws}
 use Rattle.brl_pairs.specs.declared.edge.Edge.{Edge}
 use Rattle.brl_closure.specs.declared.search.trail.PairOrigin.TheVariants.{Split, Still, Swapped}
 use Rattle.brl_pairs.specs.Edges.{IsEdge, AreFirstEdges, AreEdges}
@@ -16,7 +16,7 @@ use Rattle.std.specs.Global.{Vec}
 use Rattle.brl_closure.specs.SearchView.{Stays}
 use Rattle.brl_closure.specs.Trail.{IsSplitOf, TakesStep}
 use Rattle.brl_closure.proofs.There.{followed_more}
-use Rattle.brl_pairs.proofs.Lists.{push_cases, length_push, same_place, inside, set_cases}
+use Rattle.brl_pairs.proofs.Lists.{same_place, inside, set_cases}
 
 module _ {S : Type 0} where
   pub first_edges_more : (xs ys : List S) → Stays xs ys → (listed : List (Step S)) (n : ℕ) (edges : List Edge) → AreFirstEdges xs listed n edges → AreFirstEdges ys listed n edges
@@ -24,23 +24,6 @@ module _ {S : Type 0} where
     count = h.count;
     each = λ place x e x_at e_at. (let before = h.each place x e x_at e_at in record { rule = before.rule; cells = before.cells; next = stays e.next x.next before.next });
   }
-
-  pub first_edges_push : (xs : List S) (listed : List (Step S)) (n : ℕ) (edges : List Edge) (x : Step S) (e : Edge) → AreFirstEdges xs listed n edges → IsListedAt listed n x → IsEdge xs x e → AreFirstEdges xs listed (n + 1) (edges ++ e ∷ [])
-  first_edges_push xs listed n edges x e h at is = record {
-    count = omega (arith, length_push edges e, h.count);
-    each = λ place y f y_at f_at. elim (push_cases edges e place f f_at) [
-      | inl before ↦ h.each place y f y_at before
-      | inr last ↦ (
-          let here : place ≡ n = last.0 ∙ h.count in
-          let same_step : x ≡ y = same_place listed n x y at (ap (slice_get listed) (sym here) ∙ y_at) in
-          subst (λ (g : Edge). IsEdge xs y g) last.1 (subst (λ (z : Step S). IsEdge xs z e) same_step is))
-    ];
-  }
-
-  -- an iteration of a loop: one more step has an edge
-  pub edge_added : (xs ys : List S) → Stays xs ys → (listed : List (Step S)) (n k : ℕ) (edges : List Edge) (x : Step S) (e : Edge) → AreFirstEdges xs listed n edges → IsListedAt listed n x → k ≡ n + 1 → IsEdge ys x e → AreFirstEdges ys listed k (edges ++ e ∷ [])
-  edge_added xs ys stays listed n k edges x e h at more is =
-      subst (λ (j : ℕ). AreFirstEdges ys listed j (edges ++ e ∷ [])) (sym more) (first_edges_push ys listed n edges x e (first_edges_more xs ys stays listed n edges h) at is)
 
   pub edges_more : (m : Behaviour S) (xs ys : List S) → Stays xs ys → (number : ℕ) (edges : List Edge) → AreEdges m xs number edges → AreEdges m ys number edges
   edges_more m xs ys stays number edges h = record {
@@ -204,13 +187,6 @@ pub one_put : {S : Type 0} (m : Behaviour S) (states : List S) (cells : List (Li
 one_put m states cells kept number sorted h are k other at = elim (set_cases kept number sorted k other at) [
   | inl here ↦ inr (subst (λ (v : Vec SortedEdge). AreSortedEdges m states k cells v.items) here.1 (subst (λ (n : ℕ). AreSortedEdges m states n cells sorted.items) (sym here.0) are))
   | inr there ↦ h k other there.1
-]
-
--- where those of one state are dropped
-pub one_dropped : (kept : List (Vec SortedEdge)) (number : ℕ) (none : Vec SortedEdge) → none.items ≡ [] → AreSomeOf kept (set kept number none)
-one_dropped kept number none is k other at = elim (set_cases kept number none k other at) [
-  | inl here ↦ inl (ap (λ (v : Vec SortedEdge). v.items) (sym here.1) ∙ is)
-  | inr there ↦ inr there.1
 ]
 
 pub some_of_some : (one two three : List (Vec SortedEdge)) → AreSomeOf one two → AreSomeOf two three → AreSomeOf one three

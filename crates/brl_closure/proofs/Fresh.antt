@@ -1,5 +1,5 @@
 -- Parts that aren't kept yet: the next step of one, the parts that are kept, and their numbers.
-use Rattle.std.proofs.Common.{◌≡◌, ◌⊎◌, ◌↔◌, ℕ, zero, suc, ◌+◌, ◌-◌, ◌<◌, ◌≤◌, Bool, true, false, cond, nat_eq, List, [], ◌∷◌, ◌++◌, All, length, map, take, reverse, Option, Some, None, slice_get, get_or, set, inl, inr, refl, sym, ◌∙◌, ap, subst, append_assoc, append-nil, arith}
+use Rattle.std.proofs.Common.{◌≡◌, ◌⊎◌, ◌↔◌, ℕ, zero, suc, ◌+◌, ◌-◌, ◌<◌, ◌≤◌, Bool, true, false, cond, nat_eq, List, [], ◌∷◌, ◌++◌, All, length, map, take, reverse, Option, Some, None, slice_get, get_or, set, inl, inr, refl, sym, ◌∙◌, ap, subst, append_assoc, arith}
 use Rattle.std.specs.Prelude.{IfNone, IfSome, IsSome, MatchOption}
 use Rattle.std.specs.Global.{Vec}
 use Rattle.std.specs.List.{AllZip, flat_map, sum_by}
@@ -98,10 +98,6 @@ module _ {S P : Type 0} (m : Behaviour S) (steps_of : P → List (Step S)) (numb
               let a = h.from y (subst (λ (l : List (Step S)). IsListed l y) same listed) in
               (a.0, taken_more m old new stays number a.0 y a.1));
         }
-
-  pub partly_whole : (states : List S) (cells : List (List ℕ)) (f : Fresh S P) → IsPartly m steps_of states cells number f → f.left.items ≡ [] → IsWhole steps_of states cells f
-  partly_whole states cells f h none =
-      subst (λ (l : List (Step S)). AreListedEdges states cells l f.edges.items) (sym (append-nil h.done) ∙ ap (λ l. h.done ++ l) (sym (ap reverse none)) ∙ sym h.split) h.edges
 
   pub begun_partly : (states : List S) (cells : List (List ℕ)) (f : Fresh S P) → IsBegun steps_of f.part f → ((x : Step S) → IsListed (steps_of f.part) x → LeadsFrom m states number x) → IsPartly m steps_of states cells number f
   begun_partly states cells f h from = record {

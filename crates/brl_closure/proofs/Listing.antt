@@ -5,7 +5,7 @@ use Rattle.std.specs.Global.{Vec}
 use Rattle.std.specs.List.{AllZip}
 use Rattle.std.proofs.lemmas.List.{get_or-take}
 use Rattle.std.proofs.lemmas.Option.{get_or_from_slice_get, slice_get-get_or, slice_get_within}
-use Rattle.brl_pairs.specs.Listed.{AreListedEdges, HaveCells}
+use Rattle.brl_pairs.specs.Listed.{AreListedEdges}
 use Rattle.brl_pairs.specs.Members.{IsMember}
 use Rattle.brl_pairs.specs.declared.edge.ListedEdge.{ListedEdge}
 use Rattle.brl_pairs.specs.declared.step.Step.{Step}
@@ -91,6 +91,3 @@ numbers_are steps_of states cells kept listed numbers have are all =
     along-each (IsNumberOf steps_of states cells kept) listed numbers have.count (λ k p n p_at n_at. number_is steps_of states cells kept are all p n (have.each k p n p_at n_at))
 
 -- ---- Some of the edges
-
-pub have_those : (cells : List (List ℕ)) (edges kept : List ListedEdge) → HaveCells cells edges → ((place : ℕ) (e : ListedEdge) → slice_get kept place ≡ Some e → IsMember edges e) → HaveCells cells kept
-have_those cells edges kept h only place e there = (let m = only place e there in h m.0 e m.1)

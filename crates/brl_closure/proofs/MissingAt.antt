@@ -15,7 +15,7 @@ use Rattle.brl_pairs.specs.Divergence.{has_rules}
 use Rattle.brl_pairs.specs.Edges.{AreEdges, AreInOrder, IsEdge}
 use Rattle.brl_pairs.specs.Excused.{AreExcusedEdges}
 use Rattle.brl_pairs.specs.Exchanges.{AreExcused}
-use Rattle.brl_pairs.specs.NumberPairs.{IsFollowed, IsMissing, IsThere}
+use Rattle.brl_pairs.specs.NumberPairs.{IsMissing, IsThere}
 use Rattle.brl_pairs.specs.declared.edge.Edge.{Edge}
 use Rattle.brl_pairs.specs.declared.excused.Excused.{Excused}
 use Rattle.brl_pairs.specs.Runs.{Behaviour, IsInOrder, IsListedAt}
@@ -31,11 +31,6 @@ in_order_of a b le = (grind arith, grind arith)
 
 exchanged : (a b : ℕ) → (min a b ≡ min b a) × (max a b ≡ max b a)
 exchanged a b = (grind arith, grind arith)
-
--- an edge that leads to no pair, or to a listed one, misses nothing
-pub followed_not_missing : (pairs : List NumberPair) (ahead : ℕ) (lead : List ℕ) (e : Edge) → IsFollowed pairs ahead lead e → IsMissing pairs ahead lead e → ⊥
-followed_not_missing pairs ahead lead e h (inl gap) = gap.missing (h.still gap.rest gap.longer)
-followed_not_missing pairs ahead lead e h (inr gap) = gap.missing (h.swapped gap.rest gap.some gap.shorter)
 
 module _ {S : Type 0} where
   module _ (m : Behaviour S) (body : BodyView S) where

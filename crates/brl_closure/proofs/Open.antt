@@ -1,13 +1,12 @@
 -- States and pairs that are refused aren't closed, but for what is excused.
 use Rattle.std.proofs.Common.{ℕ, inl, inr}
 use Rattle.brl_closure.specs.Excusing.{IsClosedBody, IsRefusedUpTo, MissesUnexcused}
-use Rattle.brl_closure.specs.Refusals.{IsFirstRefusal, IsRefused, MissesSplit}
+use Rattle.brl_closure.specs.Refusals.{IsFirstRefusal}
 use Rattle.brl_closure.specs.declared.check.fault.AcceptFault.{AcceptFault}
 use Rattle.brl_closure.specs.declared.check.fault.AcceptFault.TheVariants.{NoStart, StateMissing, SplitMissing, PairMissing, BothEnd}
 use Rattle.brl_pairs.specs.Body.{BodyView}
 use Rattle.brl_pairs.specs.Divergence.{IsClosedExcept}
 use Rattle.brl_pairs.specs.Sets.{sets_of}
-use Rattle.brl_pairs.specs.Pairs.{IsClosed}
 use Rattle.brl_pairs.specs.Runs.{Behaviour}
 use Rattle.brl_pairs.specs.declared.excused.Excused.{Excused}
 use Rattle.brl_pairs.specs.declared.step.Step.{Step}
@@ -37,12 +36,3 @@ module _ {S : Type 0} (m : Behaviour S) (body : BodyView S) where
         | inl excused_too ↦ gap.unexcused excused_too
         | inr there ↦ gap.misses.missing there
       ]
-
-  pub open_where_refused : (fault : AcceptFault) → IsRefused m body fault → IsClosed m (sets_of body) → ⊥
-  open_where_refused fault h closed = open_where_first (MissesSplit m body) (λ x y. ⊥) (record {
-    start = closed.start;
-    steps = closed.steps;
-    splits = λ s p has split. inr (closed.splits s p has split);
-    moves = closed.moves;
-    ends = closed.ends;
-  }) (λ number lesser greater gap. gap.missing (closed.splits gap.state gap.pair (number, gap.is_state) gap.split)) fault h

@@ -51,11 +51,6 @@ module _ (P : ℕ → ℕ → ℕ → Type 0) where
 -- ---- The edges at two places
 
 module _ (Has : Edge → Edge → Type 0) (edges : List Edge) where
-  pub none_of_one : (place first second : ℕ) → HasOfPlaces Has edges place place first second → ⊥
-  none_of_one place first second h =
-      let less : h.both.i < h.both.j = h.both.in_order in
-      elim h.places [ inl at ↦ absurd (omega (arith, less, at.0, at.1)) | inr at ↦ absurd (omega (arith, less, at.0, at.1)) ]
-
   swapped_places : (i j first second : ℕ) → HasOfPlaces Has edges i j first second → HasOfPlaces Has edges j i first second
   swapped_places i j first second h = record { both = h.both; places = elim h.places [ inl at ↦ inr at | inr at ↦ inl at ] }
 
@@ -157,9 +152,6 @@ module _ (excused : Excused) (pairs : List NumberPair) where
 -- ---- The edges that aren't shared
 
 module _ (Has : Edge → Edge → Type 0) (edges : SortedView) (shared : List Bool) (position : ℕ) where
-  pub none_if_shared : slice_get shared position ≡ Some true → (first second : ℕ) → HasOfUnshared Has edges shared position first second → ⊥
-  none_if_shared marked first second h = absurd (let wrong : Some true ≡ Some false = sym marked ∙ h.unshared in cc)
-
   pub least_if_unshared : slice_get shared position ≡ Some false → (x : SortedEdge) → slice_get edges.sorted position ≡ Some x → (option : Option (ℕ × ℕ)) → IsLeastPairFound (HasOfPlace Has edges.edges x.place) option
       → IsLeastPairFound (HasOfUnshared Has edges shared position) option
   least_if_unshared unshared x at option least =

@@ -10,10 +10,9 @@ mod check;
 mod last_origins;
 mod search;
 
-pub use check::{AcceptFault, Accepted, accept, accept_up_to, accept_with};
+pub use check::{AcceptFault, Accepted, accept, accept_up_to};
 pub use search::{
     Finder, KnownSteps, Origins, Outcome, PairOrigin, Search, StateOrigin, Stop, Texts, Trail,
     clash_law, just_reached_law, lead_law, no_limit_law, reached_closed_law, reached_listed_law,
-    same_cells_law, search_machine, search_machine_with, short_lead_law, two_ends_law,
-    two_runs_law,
+    same_cells_law, search_machine, short_lead_law, two_ends_law, two_runs_law,
 };

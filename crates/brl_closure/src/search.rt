@@ -22,7 +22,7 @@ mod texts;
 mod trail;
 mod worklist;
 
-pub use explore::{Search, search_machine, search_machine_with};
+pub use explore::{Search, search_machine};
 pub use finder::{Finder, Stop};
 pub use known_steps::KnownSteps;
 pub use laws::{

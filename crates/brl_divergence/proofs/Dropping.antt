@@ -4,11 +4,9 @@ use Rattle.std.specs.Prelude.{Contains}
 use Rattle.brl_pairs.specs.Runs.{Behaviour}
 use Rattle.brl_pairs.specs.declared.sorted.SortedEdge.{SortedEdge}
 use Rattle.brl_closure.specs.Diverging.{AreTextsOf, AreTwoPathsAt}
-use Rattle.brl_closure.specs.SearchView.{Stays}
 use Rattle.brl_closure.specs.Trail.{AddsPairs, HasTwoEndsAt}
 use Rattle.brl_closure.specs.declared.search.finder.Finder.{Finder}
 use Rattle.brl_closure.specs.declared.search.trail.Trail.{Trail}
-use Rattle.brl_closure.proofs.Growing.{stays_refl}
 use Rattle.brl_divergence.specs.Expanded.{AreExpanded, AreTwoEdges}
 use Rattle.brl_divergence.specs.Found.{AreSettledAt, IsExplored, IsOfSplit}
 use Rattle.brl_divergence.specs.Listed.{rules_of}
@@ -53,9 +51,6 @@ module _ {M S : Type 0} (behaviour : M → Behaviour S) (f : Finder M S) (e : Ex
               walked_same t v dropped_states so dropped_pairs dropped_origins (behaviour f.machine.now) n
               (explored.walked n (let same = ap length dropped_pairs in omega (arith, less, same)));
         }
-
-    pub dropped_stay : Stays t.pairs v.pairs
-    dropped_stay = subst (Stays t.pairs) (sym dropped_pairs) (stays_refl t.pairs)
 
 -- the texts of two ends that were met diverge at the rules of the split
 pub texts_diverge : {M S : Type 0} (behaviour : M → Behaviour S) (f : Finder M S) (e : Expanded) (t u : Trail S) (cells : List (List ℕ)) (number : ℕ) (x y : SortedEdge) (rules : ℕ × ℕ)

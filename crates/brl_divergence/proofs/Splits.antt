@@ -18,7 +18,7 @@ use Rattle.brl_closure.specs.Trail.{AddsPairs, IsMoveOf, IsOneOf, TakesStep}
 use Rattle.brl_closure.specs.declared.search.trail.PairOrigin.{PairOrigin}
 use Rattle.brl_closure.specs.declared.search.trail.PairOrigin.TheVariants.{Split, Still, Swapped}
 use Rattle.brl_closure.specs.declared.search.trail.Trail.{Trail}
-use Rattle.brl_closure.proofs.Edges.{edges_more, explains_split, fits_splitting}
+use Rattle.brl_closure.proofs.Edges.{explains_split, fits_splitting}
 use Rattle.brl_closure.proofs.There.{followed_more}
 use Rattle.brl_divergence.specs.Expanded.{AreTwoEdges}
 use Rattle.brl_divergence.specs.Found.{AreFollowed, IsOfSplit}
@@ -105,18 +105,6 @@ module _ {S : Type 0} (m : Behaviour S) (states : List S) (cells : List (List �
 pub split_origin : (number i j from : ℕ) (o : PairOrigin) → IsOneOf (record { still = Split number i j; swapped = Split number j i }) o → IsOfSplit number i j from o
 split_origin number i j from o (inl is) = subst (IsOfSplit number i j from) (sym is) (refl, inl (refl, refl))
 split_origin number i j from o (inr is) = subst (IsOfSplit number i j from) (sym is) (refl, inr (refl, refl))
-
--- two edges stay two edges
-pub two_edges_more : {S : Type 0} (m : Behaviour S) (xs ys : List S) → Stays xs ys → (cells : List (List ℕ)) (number : ℕ) (x y : SortedEdge) (rules : ℕ × ℕ) → AreTwoEdges m xs cells number x y rules → AreTwoEdges m ys cells number x y rules
-two_edges_more m xs ys stays cells number x y rules h = record {
-  edges = h.edges;
-  are_edges = edges_more m xs ys stays number h.edges h.are_edges;
-  first = h.first;
-  second = h.second;
-  in_order = h.in_order;
-  first_rule = h.first_rule;
-  second_rule = h.second_rule;
-}
 
 -- a step of a pair from this number on
 pub move_of_split : (number i j from next : ℕ) → from ≤ next → (o : PairOrigin) → IsMoveOf next o → IsOfSplit number i j from o

@@ -7,13 +7,9 @@ use Rattle.brl_pairs.specs.Runs.{Behaviour}
 use Rattle.brl_pairs.proofs.Lists.{inside, same_place}
 use Rattle.brl_closure.specs.Edges.{IsWalked}
 use Rattle.brl_closure.specs.SearchView.{Stays}
-use Rattle.brl_closure.specs.Trail.{AddsPairs, HasPassed, HasTwoEnds, HasTwoEndsAt, IsActive, IsFoundPair, IsFoundState, IsStopped, IsTraced}
+use Rattle.brl_closure.specs.Trail.{AddsPairs, HasTwoEnds, HasTwoEndsAt, IsActive, IsFoundPair, IsFoundState, IsTraced}
 use Rattle.brl_closure.specs.declared.search.finder.Finder.{Finder}
-use Rattle.brl_closure.specs.declared.search.finder.Stop.{Stop}
 use Rattle.brl_closure.specs.declared.search.finder.Stop.TheVariants as stop
-use Rattle.brl_failure.specs.Failure.{IfFault}
-use Rattle.brl_failure.specs.declared.failure.Failure.{Failure}
-use Rattle.brl_failure.specs.declared.failure.Failure.TheVariants.{Fault, Memory}
 use Rattle.brl_closure.specs.declared.search.trail.PairOrigin.{PairOrigin}
 use Rattle.brl_closure.specs.declared.search.trail.StateOrigin.{StateOrigin}
 use Rattle.brl_closure.specs.declared.search.trail.Trail.{Trail}
@@ -108,8 +104,3 @@ module _ {S : Type 0} (Kind : PairOrigin → Type 0) (t u : Trail S) (h : AddsPa
 -- ---- Where the search stops
 
 module _ {M S : Type 0} (behaviour : M → Behaviour S) (f : Finder M S) (t : Trail S) where
-  -- where there are no pairs, it stops at the limit alone
-  pub stopped_passed : t.pairs ≡ [] → (failure : Failure Stop) → IfFault (IsStopped behaviour f t) failure → IfFault (λ _. IsTraced (behaviour f.machine.now) t × HasPassed f.limit t) failure
-  stopped_passed none (Fault stop.Limit) h = h
-  stopped_passed none (Fault (stop.BothEnd n)) h = absurd (let at : slice_get [] n ≡ Some h.1.pair = ap (λ (ps : List NumberPair). slice_get ps n) (sym none) ∙ h.1.at in cc)
-  stopped_passed none Memory h = tt

@@ -23,4 +23,4 @@ mod listing;
 
 pub use divergences::{Divergences, RuleTexts};
 pub use laws::complete_list_law;
-pub use listing::{Listing, list_divergences, list_divergences_with};
+pub use listing::{Listing, list_divergences};

@@ -15,9 +15,9 @@ use crate::explorer::Explorer;
 use crate::found::Found;
 use brl_closure::{Finder, KnownSteps, Stop, Trail};
 use brl_failure::Failure;
-use brl_pairs::{Body, Machine, Parted, Seed};
-use brl_parts::{Parts, Whole};
-use brl_progress::{NoProgress, Progress, Slice, Sliced, Work, run_to_end};
+use brl_pairs::{Body, Parted, Seed};
+use brl_parts::Parts;
+use brl_progress::{Progress, Slice, Sliced, Work, run_to_end};
 use std::alloc::{AllocError, Global};
 use std::collections::BTreeMap;
 use std::marker::Model;
@@ -153,22 +153,9 @@ impl<'m, M: Parted> Sliced for Listing<'m, M> {
     ghost fewer = { λ steps old new after. after.fewer };
 }
 
-/// Lists the divergences of a machine, with a seed as for `Listing::start`.
-pub fn list_divergences<M: Machine>(
-    alloc: Global,
-    machine: &M,
-    limit: u64,
-    seed: Seed,
-) -> Result<Divergences<M::State>, AllocError>
-    requires { limit ≤ 4294967295 }
-    ensures { IfOk result (AreDivergencesOf (M.behaviour machine.now) limit) }
-{
-    list_divergences_with(alloc, &Whole::new(machine), limit, seed, &mut NoProgress)
-}
-
-/// Lists the divergences of a machine as `list_divergences` does, and reports its progress to
-/// `watch` before each slice of steps.
-pub fn list_divergences_with<M: Parted, W: Progress>(
+/// Lists the divergences of a machine, with a seed as for `Listing::start`. `watch` hears of the
+/// progress before each slice of steps.
+pub fn list_divergences<M: Parted, W: Progress>(
     alloc: Global,
     machine: &M,
     limit: u64,

@@ -69,9 +69,6 @@ text-without t text given from to le is known = part-text t text given (part-is 
 pub remove_range-one : (text : List ℕ) (i : ℕ) → remove_range text i (i + 1) ≡ remove text i
 remove_range-one text i = (let one : i + 1 ≡ suc i = omega arith in ap (λ n. take i text ++ drop n text) one)
 
-pub part-remove : (text : List ℕ) (i : ℕ) → IsPartOf (remove text i) text
-part-remove text i = part-remove_range text i (suc i) (omega arith)
-
 -- where there is no character at the place, the text stays
 pub remove-past : (text : List ℕ) (i : ℕ) → length text ≤ i → remove text i ≡ text
 remove-past text i past =

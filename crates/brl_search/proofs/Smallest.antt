@@ -1,5 +1,5 @@
 -- When no character can be left out of the texts of a clash.
-use Rattle.std.proofs.Common.{◌≡◌, ℕ, ◌≤◌, inl, inr, IsTrue, List, Option, length, sym, ap, subst, arith}
+use Rattle.std.proofs.Common.{◌≡◌, ℕ, ◌≤◌, inl, inr, IsTrue, List, Option, length, sym, subst, arith}
 use Rattle.std.specs.Prelude.{Result, Ok, Err, IfErr}
 use Rattle.std.specs.List.{remove, remove_range}
 use Rattle.brl_failure.specs.Failure.{IfFault}
@@ -14,9 +14,8 @@ use Rattle.brl_forward.specs.declared.fault.Side.TheVariants.{Left, Right}
 use Rattle.brl_forward.proofs.UnknownChars.{first_unknown-of_text}
 use Rattle.brl_rules.specs.TableView.{TableView}
 use Rattle.brl_rules.specs.Text.{is_text}
-use Rattle.brl_rules.specs.Translation.{translation}
 use Rattle.brl_search.specs.Small.{ClashAt, IsSmall}
-use Rattle.brl_search.specs.Smaller.{IsNone, Keeps, key_of}
+use Rattle.brl_search.specs.Smaller.{IsNone, Keeps}
 use Rattle.brl_search.specs.declared.texts.Texts.{Texts}
 use Rattle.brl_search.proofs.Parts.{part-is, part-part, part-self, remove-past}
 
@@ -62,10 +61,6 @@ module _ (t : TableView) (rules : Option (ℕ × ℕ)) where
     left_part = part-is next.left.items given.left.items i k h left;
     right_part = part-is next.right.items given.right.items j l g right;
   }
-
-  -- their translations have one key
-  pub same-key : (left right : List ℕ) → ClashAt t rules left right → key_of (translation t left) ≡ key_of (translation t right)
-  same-key left right clash = ap key_of (sym clash.clash.right_cells)
 
   -- ---- No character can be left out
 

@@ -2,9 +2,8 @@
 //!
 //! - `search` searches a table and returns what it `Found`. `search_with` has options: the
 //!   characters that the texts don't use, and who hears how far the search is.
-//! - `found_without` makes what is found from the outcome of the machine's search.
 //! - `clashes` lists every pair of rules at which clashing texts diverge, each with a clash, or as
-//!   many as the limit lets it find. `clashes_without` makes the list from that of the machine.
+//!   many as the limit lets it find.
 //! - `search_up_to` searches a table where pairs of rules are accepted, and others may be
 //!   exchanged.
 //! - `small_clash_of` leaves characters out of two `Texts` while they clash, and where a pair of
@@ -44,8 +43,8 @@ pub use dues_laws::{dues_certificate_law, dues_closed_law, dues_reached_law};
 pub use list_laws::{accepted_list_law, whole_list_law};
 pub use seed::seed_of;
 pub use small::small_clash_of;
-pub use table_clashes::{ClashList, RuleClash, clashes, clashes_without};
-pub use table_search::{Found, SearchFault, found_without, search, search_with};
+pub use table_clashes::{ClashList, RuleClash, clashes};
+pub use table_search::{Found, SearchFault, search, search_with};
 pub use texts::{Texts, clash_at};
 pub use unused::{UnusedRules, unused_rules};
 pub use up_to::{FoundUpTo, search_up_to};

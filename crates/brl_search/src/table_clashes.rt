@@ -7,7 +7,7 @@ ghost use Rattle.brl_search.specs.Searched.{machine_of};
 ghost use Rattle.brl_without.specs.Without.{without};
 
 use crate::{Texts, seed_of, small_clash_of};
-use brl_divergence::{Divergences, RuleTexts, complete_list_law, list_divergences_with};
+use brl_divergence::{Divergences, RuleTexts, complete_list_law, list_divergences};
 use brl_dues::{Dues, exact_law};
 use brl_forward::Clash;
 use brl_pairs::Body;
@@ -63,13 +63,12 @@ pub fn clashes<P: Progress>(
     let dues = Dues::new(alloc, table);
     let machine = Without::new(&dues, left_out);
     let seed = seed_of(alloc, table)?;
-    let divergences = list_divergences_with(alloc, &machine, limit, seed, progress)?;
-    clashes_without(alloc, table, left_out, divergences)
+    let divergences = list_divergences(alloc, &machine, limit, seed, progress)?;
+    clashes_of(alloc, table, left_out, divergences)
 }
 
-/// The clashes of a table, from the divergences of its dues machine without some characters: for a
-/// caller that runs that listing in slices.
-pub fn clashes_without(
+/// The clashes of a table, from the divergences of its dues machine without some characters.
+fn clashes_of(
     alloc: Global,
     table: &Table,
     left_out: &LeftOut,

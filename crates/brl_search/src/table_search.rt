@@ -9,7 +9,7 @@ ghost use Rattle.brl_without.specs.Tables.{IsUnambiguousWithout};
 ghost use Rattle.brl_without.specs.Without.{without};
 
 use crate::{Texts, seed_of, small_clash_of};
-use brl_closure::{Outcome, same_cells_law, search_machine_with};
+use brl_closure::{Outcome, same_cells_law, search_machine};
 use brl_dues::{Dues, exact_law};
 use brl_forward::Clash;
 use brl_pairs::numbered_sets_law;
@@ -85,13 +85,13 @@ pub fn search_with<P: Progress>(
     let dues = Dues::new(alloc, table);
     let machine = Without::new(&dues, left_out);
     let seed = seed_of(alloc, table)?;
-    let outcome = search_machine_with(alloc, &machine, limit, seed, progress)?;
-    found_without(alloc, table, left_out, outcome)
+    let outcome = search_machine(alloc, &machine, limit, seed, progress)?;
+    found_of(alloc, table, left_out, outcome)
 }
 
 /// What a table's search finds, from the outcome of the search of its dues machine without some
-/// characters: for a caller that runs that search in slices.
-pub fn found_without(
+/// characters.
+fn found_of(
     alloc: Global,
     table: &Table,
     left_out: &LeftOut,

@@ -1,15 +1,15 @@
 -- Rows of pieces that complete a text: by their first piece and the others.
-use Rattle.std.proofs.Common.{◌≡◌, ◌≢◌, ◌≤◌, ◌<◌, ◌+◌, ◌*◌, ℕ, Bool, true, false, cond, List, [], ◌∷◌, ◌++◌, All, Option, Some, None, refl, sym, ap, subst, ◌∙◌, arith, length, take, drop, get_or, set, length-append, length-drop, length-take, eq-eqb, append-nil, nat_eq, ◌⊎◌, inl, inr}
+use Rattle.std.proofs.Common.{◌≡◌, ◌≢◌, ◌≤◌, ◌<◌, ◌+◌, ℕ, Bool, true, false, cond, List, [], ◌∷◌, ◌++◌, All, Option, Some, None, refl, sym, ap, subst, ◌∙◌, arith, length, take, drop, get_or, length-append, length-drop, length-take, eq-eqb, append-nil, nat_eq, ◌⊎◌, inl, inr}
 use Rattle.std.specs.List.{Contains, zip, count_by}
-use Rattle.std.proofs.lemmas.List.{drop_at, take_at, get_or_default, take-append-drop, drop-drop, append_cancel_left, get_or-set_same, get_or-set_other, get_or_past, set_past, length-set, drop_all}
-use Rattle.std.proofs.lemmas.Bool.{cases_eq, cases_lt, ne_eqb}
+use Rattle.std.proofs.lemmas.List.{drop_at, take_at, get_or_default, take-append-drop, drop-drop, append_cancel_left, set_past, drop_all}
+use Rattle.std.proofs.lemmas.Bool.{cases_eq, ne_eqb}
 use Rattle.std.proofs.lemmas.Option.{slice_get-get_or}
 use Rattle.std.specs.Option.{option_map_or}
 use Rattle.std.proofs.lemmas.List.Elements.{All-nil, All-cons, All-head, All-tail}
 use Rattle.std.proofs.lemmas.List.Sums.{sum_by-cons}
 use Rattle.std.specs.Global.{Vec}
 use Rattle.brl_slips.specs.Pieces.{IsPieceOf, cells_at, cells_of, chars_at, chars_of}
-use Rattle.brl_slips.specs.Searching.{AreStarts, Completes, Fits, IsAfter, IsCompleted, IsDead, IsKnown, IsPieceAt, is_miss, misses_in, numbers_at}
+use Rattle.brl_slips.specs.Searching.{AreStarts, Completes, Fits, IsAfter, IsCompleted, IsDead, IsPieceAt, is_miss, misses_in, numbers_at}
 use Rattle.brl_slips.specs.declared.lexicon.Piece.{Piece}
 use Rattle.brl_slips.specs.declared.spelling.State.{State}
 
@@ -183,30 +183,3 @@ dead_end pieces text wanted starts character cell misses are within none [] by =
 dead_end pieces text wanted starts character cell misses are within none (number ∷ more) by =
     let found = are.whole character number within (completes-at pieces text wanted character cell misses number more by) in
     none found.0 found.1 more (subst (λ n. Completes pieces text wanted character cell misses (n ∷ more)) (sym (get_or_default (numbers_at starts character) found.0 0 number found.1 ∙ found.2)) by)
-
--- fewer misses are harder
-pub dead-fewer : (pieces : List Piece) (text : List ℕ) (wanted : List (Option ℕ)) (character cell misses fewer : ℕ)
-    → fewer ≤ misses → IsDead pieces text wanted character cell misses → IsDead pieces text wanted character cell fewer
-dead-fewer pieces text wanted character cell misses fewer less dead row by =
-    dead row (record { each = by.each; rest = by.rest; fit = record { as_many = by.fit.as_many; few = omega (arith, by.fit.few, less) } })
-
--- what is known after one more note
-pub known-mark : (pieces : List Piece) (text : List ℕ) (wanted : List (Option ℕ)) (dead : List ℕ) (character cell misses : ℕ)
-    → cell < 32 → IsKnown pieces text wanted dead → IsDead pieces text wanted character cell misses
-    → IsKnown pieces text wanted (set dead (character * 32 + cell) (misses + 1))
-known-mark pieces text wanted dead character cell misses narrow known ends i j m lt noted =
-    let key = character * 32 + cell in
-    elim (cases_eq (i * 32 + j) key) [
-      | inl same ↦
-          let row : i ≡ character = omega (arith, same, lt, narrow) in
-          let column : j ≡ cell = omega (arith, same, lt, narrow) in
-          elim (cases_lt key (length dead)) [
-            | inl within ↦
-                let less : m < misses + 1 = subst (λ n. m < n) (ap (λ k. get_or (set dead key (misses + 1)) k 0) same ∙ get_or-set_same dead key (misses + 1) 0 within) noted in
-                subst (λ k. IsDead pieces text wanted k j m) (sym row) (subst (λ k. IsDead pieces text wanted character k m) (sym column) (dead-fewer pieces text wanted character cell misses m (omega (arith, less)) ends))
-            | inr past ↦
-                let none : m < 0 = subst (λ n. m < n) (ap (λ k. get_or (set dead key (misses + 1)) k 0) same ∙ get_or_past (set dead key (misses + 1)) key 0 (omega (arith, past, length-set dead key (misses + 1)))) noted in
-                omega (arith, none)
-          ]
-      | inr other ↦ known i j m lt (subst (λ n. m < n) (get_or-set_other dead key (i * 32 + j) (misses + 1) 0 other) noted)
-    ]

@@ -5,7 +5,7 @@ use Rattle.std.specs.Prelude.{IfOk, MatchOption}
 use Rattle.std.specs.declared.alloc.AllocError.{AllocError}
 use Rattle.brl_slips.specs.Pieces.{IsSpelling, cells_of}
 use Rattle.brl_slips.specs.Searching.{Fits, exactly}
-use Rattle.brl_slips.specs.Slips.{IsSlipBy, IsUnspelled, rank}
+use Rattle.brl_slips.specs.Slips.{rank}
 use Rattle.brl_slips.specs.Finding.{HasNone, IsFoundFrom, IsLikeBy, IsSpelledAs}
 use Rattle.brl_slips.specs.declared.fault.Fault.{Fault}
 use Rattle.brl_slips.specs.declared.fault.Fault.TheVariants.{Exchanged, Missing, Replaced, TooMany, TwoReplaced}
@@ -30,11 +30,6 @@ spelled_as pieces text cells wanted (Ok None) same none = λ row spelling is.
 spelled_as pieces text cells wanted (Ok (Some row)) same found =
     (found.0, fits-exact cells (cells_of pieces row.items) (subst (λ w. Fits w 0 (cells_of pieces row.items)) same found.1))
 spelled_as pieces text cells wanted (Err e) same found = tt
-
--- a fault of a kind is the first from that kind on
-pub from_found : (question : Question) (kind : ℕ) (likeness : Likeness) → rank likeness.fault ≡ kind → IsLikeBy question likeness.fault likeness.spelling.items
-    → IsFoundFrom question kind (Some likeness)
-from_found question kind likeness is like = (omega (arith, is), like, λ other row from earlier. absurd (omega (arith, is, from, earlier)))
 
 -- where there is none of a kind, what is found from the next one on is so from it on
 pub from_next : (question : Question) (kind : ℕ) (result : Result (Option Likeness) AllocError) → HasNone question kind
@@ -61,13 +56,6 @@ none_exchanged question none (Exchanged p) row is like = none p like.differs.0 r
 none_exchanged question none (TooMany p) row is like = omega (arith, is)
 none_exchanged question none (Missing p) row is like = omega (arith, is)
 none_exchanged question none (TwoReplaced p q) row is like = omega (arith, is)
-
-pub none_too_many : (question : Question) → ((p : ℕ) → 1 ≤ p → p < length question.cells.now → (row : List ℕ) → IsLikeBy question (TooMany p) row → ⊥) → HasNone question 2
-none_too_many question none (Replaced p) row is like = omega (arith, is)
-none_too_many question none (Exchanged p) row is like = omega (arith, is)
-none_too_many question none (TooMany p) row is like = none p like.differs.0 like.differs.1 row like
-none_too_many question none (Missing p) row is like = omega (arith, is)
-none_too_many question none (TwoReplaced p q) row is like = omega (arith, is)
 
 pub none_missing : (question : Question) → ((p : ℕ) → p ≤ length question.cells.now → (row : List ℕ) → IsLikeBy question (Missing p) row → ⊥) → HasNone question 3
 none_missing question none (Replaced p) row is like = omega (arith, is)
@@ -99,26 +87,3 @@ last_kind question none (Exchanged p) row is like = omega (arith, is)
 last_kind question none (TooMany p) row is like = omega (arith, is)
 last_kind question none (Missing p) row is like = omega (arith, is)
 last_kind question none (TwoReplaced p q) row is like = none p q row like
-
--- no kind is after the last one
-pub at_last : (fault : Fault) → rank fault ≤ 4
-at_last (Replaced p) = omega arith
-at_last (Exchanged p) = omega arith
-at_last (TooMany p) = omega arith
-at_last (Missing p) = omega arith
-at_last (TwoReplaced p q) = omega arith
-
--- what is found from the first kind on makes a slip of a rule whose cells no spelling has
-pub slip_found : (question : Question) (result : Result (Option Likeness) AllocError)
-    → IsUnspelled question.text.pieces.now question.text.chars.now question.cells.now
-    → IfOk result (IsFoundFrom question 0)
-    → IfOk result (λ found. MatchOption found
-    ((fault : Fault) (row : List ℕ) → IsSlipBy question.text.pieces.now question.text.chars.now question.cells.now fault row → ⊥)
-    (λ found. IsSlipBy question.text.pieces.now question.text.chars.now question.cells.now found.fault found.spelling.items))
-slip_found question (Ok None) unspelled found = λ fault row slip. found fault row (omega arith) slip.like
-slip_found question (Ok (Some likeness)) unspelled found = record {
-  like = found.1;
-  unspelled = unspelled;
-  first = λ other row earlier like. found.2 other row (omega arith) earlier like;
-}
-slip_found question (Err e) unspelled found = tt

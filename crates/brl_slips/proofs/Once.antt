@@ -1,11 +1,11 @@
 -- Lists that have all with a property, each once.
-use Rattle.std.proofs.Common.{◌≡◌, ◌≢◌, ◌≤◌, ◌<◌, ◌+◌, ◌-◌, ◌++◌, ◌∷◌, ◌⊎◌, ℕ, suc, All, List, [], ap, subst, sym, refl, ◌∙◌, arith, get_or, get_or-take, inl, inr, length, length-take, ltb, take}
+use Rattle.std.proofs.Common.{◌≡◌, ◌≢◌, ◌≤◌, ◌<◌, ◌+◌, ◌-◌, ◌++◌, ◌∷◌, ◌⊎◌, ℕ, suc, All, List, [], ap, subst, sym, ◌∙◌, arith, get_or, get_or-take, inl, inr, length, length-take, ltb, take}
 use Rattle.std.specs.Prelude.{Decides}
 use Rattle.std.specs.List.{AllPairs, Contains, remove}
 use Rattle.std.proofs.lemmas.Bool.{cases_eq, cases_lt, lt-ltb, ltb-true}
 use Rattle.std.proofs.lemmas.List.{get_or_default, length_push, take_all, take_more}
 use Rattle.std.proofs.lemmas.List.Edits.{get_or-remove_above, get_or-remove_below, length-remove}
-use Rattle.std.proofs.lemmas.List.Elements.{All-get_or, All-head, All-nil, All-push, All-tail, All-weaker, Contains-append_left, Contains-push, Contains-push_cases}
+use Rattle.std.proofs.lemmas.List.Elements.{All-get_or, All-head, All-push, All-tail, All-weaker, Contains-append_left, Contains-push, Contains-push_cases}
 use Rattle.std.proofs.lemmas.List.Quantifiers.{all_pairs_push}
 use Rattle.brl_slips.specs.Pairing.{AreAll, AreAsMany}
 use Rattle.brl_slips.specs.Twins.{AreFew}
@@ -42,22 +42,11 @@ module _ {X : Type 0} where
   pub few-from_all : (Has : X → Type 0) (xs : List X) → AreAll Has xs → length xs < 4 → AreFew Has
   few-from_all Has xs are lt some once each = omega (arith, lt, few_in some xs once (All-weaker Has (Contains xs) are.whole some each))
 
-  pub few-same : (Has Other : X → Type 0) → ((x : X) → Other x → Has x) → AreFew Has → AreFew Other
-  few-same Has Other to few some once each = few some once (All-weaker Other Has to some each)
-
   pub few-decided : (Has : X → Type 0) (n : ℕ) → AreAsMany Has n → Decides (ltb n 4) (AreFew Has)
   few-decided Has n many = (
     λ holds. few-from_all Has many.0 many.1 (omega (arith, many.2, ltb-true n 4 holds)),
     λ few. lt-ltb n 4 (omega (arith, many.2, few many.0 many.1.once many.1.each)),
   )
-
-  -- none
-  pub all-none : (Has : X → Type 0) → ((x : X) → Has x → ⊥) → AreAll Has []
-  all-none Has none = record {
-    each = All-nil Has;
-    once = λ i j d lt within. absurd (omega (arith, within));
-    whole = λ x has. absurd (none x has);
-  }
 
   -- the same property in other words
   pub all-same : (Has Other : X → Type 0) (xs : List X) → ((x : X) → Has x → Other x) → ((x : X) → Other x → Has x) → AreAll Has xs → AreAll Other xs
@@ -78,9 +67,6 @@ module _ {X : Type 0} where
       | inr same ↦ subst (Contains (xs ++ x ∷ [])) same (Contains-push xs x)
     ];
   }
-
-  pub many-none : (Has : X → Type 0) → ((x : X) → Has x → ⊥) → AreAsMany Has 0
-  many-none Has none = ([], all-none Has none, refl)
 
   pub many-same : (Has Other : X → Type 0) (n : ℕ) → ((x : X) → Has x → Other x) → ((x : X) → Other x → Has x) → AreAsMany Has n → AreAsMany Other n
   many-same Has Other n to back many = (many.0, all-same Has Other many.0 to back many.1, many.2)
@@ -110,9 +96,6 @@ module _ {X : Type 0} where
 
     pub taken_cases : (y : X) → Contains (take (i + 1) xs) y → Contains (take i xs) y ⊎ (x ≡ y)
     taken_cases y has = Contains-push_cases (take i xs) x y (subst (λ l. Contains l y) next has)
-
-  pub none_taken : (xs : List X) (x : X) → Contains (take 0 xs) x → ⊥
-  none_taken xs x has = omega (arith, has.1, length-take 0 xs)
 
   pub all_taken : (xs : List X) (i : ℕ) → length xs ≤ i → take i xs ≡ xs
   all_taken xs i past = take_all i xs past

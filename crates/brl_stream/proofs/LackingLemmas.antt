@@ -359,18 +359,6 @@ lacking_of-is t lines = refl
 abbrev in_line : ℕ → ℕ → Use
 in_line number c = (c, number)
 
-pub uses_in-more : (t : TableView) (number : ℕ) (text : List ℕ) (i c : ℕ) → i < length text → c ≡ get_or text i c
-    → uses_in t number (take (i + 1) text) ≡ uses_in t number (take i text) ++ cond (not (is_defined t c)) ((c, number) ∷ []) []
-uses_in-more t number text i c within is =
-    ap (uses_in t number) (take_more text i c within ∙ ap (λ x. take i text ++ x ∷ []) (sym is))
-    ∙ ap (map (in_line number)) (filter-append (λ c. not (is_defined t c)) (take i text) (c ∷ []))
-    ∙ map-append (in_line number) (filter (λ c. not (is_defined t c)) (take i text)) (filter (λ c. not (is_defined t c)) (c ∷ []))
-    ∙ ap (λ us. uses_in t number (take i text) ++ us) (cases (is_defined t c))
-  where
-    cases : (b : Bool) → map (in_line number) (cond (not b) (c ∷ []) []) ≡ cond (not b) ((c, number) ∷ []) []
-    cases true = refl
-    cases false = refl
-
 pub uses_in-few : (t : TableView) (number : ℕ) (text : List ℕ) → length (uses_in t number text) ≤ length text
 uses_in-few t number [] = omega arith
 uses_in-few t number (c ∷ cs) = cases (is_defined t c) (uses_in-few t number cs)

@@ -152,17 +152,6 @@ module _ (t : TableView) (form : Form) (line buffer : List ℕ) (number : ℕ) w
       let one : found ≡ at_line number faults.OutputFailed = cc in
       (output_of-own t form line).1 (made ∙ ap Err (ap (λ f. f.fault) (sym told.0 ∙ one)))
 
-  -- a line that was passed over has an unknown character
-  pub unknown_is : (passes : Bool) (failure : Failure LineFault) (done : Unit {0}) → IsMade (output_of t form line) buffer (Err failure) → IsPassedOver passes number failure (Ok done)
-      → (position : ℕ) × (failure ≡ failures.Fault (faults.UnknownChar position))
-  unknown_is passes failures.Memory done made h = absurd h
-  unknown_is passes (failures.Fault fault) done made h = let passed = (passed_is passes fault done h made).1 in (passed.0, ap failures.Fault passed.1)
-
--- the output of a line that has one is the same where lines are passed over
-pub output_by-made : (passes : Bool) (t : TableView) (form : Form) (line bytes : List ℕ) → output_of t form line ≡ Ok bytes → output_by passes t form line ≡ Ok bytes
-output_by-made true t form line bytes made = ap passing_over made
-output_by-made false t form line bytes made = made
-
 pub output_by-long : (passes : Bool) (t : TableView) (form : Form) → RefusesLong (output_by passes t form)
 output_by-long true t form line h = ap passing_over (output_of-long t form line h)
 output_by-long false t form line h = output_of-long t form line h

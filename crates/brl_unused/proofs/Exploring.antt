@@ -254,12 +254,6 @@ module _ {S : Type 0} (m : Behaviour S) where
 
 -- ---- Marks
 
-pub takes_none : (live_ones : List Bool) (rule : ℕ) → Takes [] live_ones rule → ⊥
-takes_none live_ones rule h = no_member_of h.transition h.one
-  where
-    no_member_of : (t : Transition) → Contains [] t → ⊥
-    no_member_of t h = omega (arith, h.1)
-
 module _ (ts : List Transition) (live_ones : List Bool) (t : Transition) where
   takes_more : (rule : ℕ) → Takes ts live_ones rule → Takes (ts ++ t ∷ []) live_ones rule
   takes_more rule h = record { transition = h.transition; one = Contains-append_left ts (t ∷ []) h.transition h.one; of_rule = h.of_rule; is_live = h.is_live }

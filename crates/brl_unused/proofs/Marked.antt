@@ -1,5 +1,5 @@
 -- Live states are marked one by one.
-use Rattle.std.proofs.Common.{◌≡◌, ℕ, zero, suc, ◌+◌, ◌<◌, ◌≤◌, Bool, true, false, not, cond, List, [], ◌∷◌, ◌++◌, length, take, set, refl, ap, sym, subst, ◌∙◌, arith, Some, Contains, slice_get, ◌⊎◌, ◌↔◌, inl, inr, append-nil, append_assoc, length-append, get_or}
+use Rattle.std.proofs.Common.{◌≡◌, ℕ, zero, suc, ◌+◌, ◌<◌, ◌≤◌, Bool, true, false, not, cond, List, [], ◌∷◌, ◌++◌, length, take, set, refl, ap, sym, subst, ◌∙◌, arith, Some, Contains, slice_get, ◌⊎◌, ◌↔◌, inl, inr, append_assoc, length-append, get_or}
 use Rattle.std.specs.Global.{Vec}
 use Rattle.std.proofs.Math.ListN.{length-set}
 use Rattle.std.proofs.lemmas.List.Elements.{Contains-append_left, Contains-append_right, Contains-append_cases, Contains-push, Contains-push_cases}
@@ -44,18 +44,6 @@ mark-fewer (b ∷ bs) (suc i) h =
 
 pub no_member : (x : ℕ) → Contains [] x → ⊥
 no_member x h = omega (arith, h.1)
-
-pub marks-none : (live : List Bool) (queue : List ℕ) → Marks [] live queue live queue
-marks-none live queue = record {
-  many = refl;
-  more = [];
-  queue_is = sym (append-nil queue);
-  kept = λ s h. h;
-  all = λ s h. absurd (no_member s h);
-  only = λ s h. inl h;
-  marked = λ s h. absurd (no_member s h);
-  fewer = refl;
-}
 
 module _ (states : List ℕ) (live : List Bool) (queue : List ℕ) (live' : List Bool) (queue' : List ℕ) (m : Marks states live queue live' queue') (state : ℕ) where
   -- the state was marked before
@@ -178,13 +166,6 @@ taken-none before live to from states one at of = absurd (no_member to one)
 
 -- ---- The states before each state
 
-pub before-none : (count : ℕ) (lists : List (Vec ℕ)) → length lists ≡ count → ((k : ℕ) (v : Vec ℕ) → slice_get lists k ≡ Some v → v.items ≡ []) → AreBefore count [] lists
-before-none count lists many none = record {
-  many = many;
-  all = λ t v one at. absurd (omega (arith, one.1));
-  others = λ to from v at one. absurd (no_member from (subst (λ xs. Contains xs from) (none to v at) one));
-}
-
 pub before-more : (count : ℕ) (transitions : List Transition) (before : List (Vec ℕ)) (t : Transition) (old new : Vec ℕ) → AreBefore count transitions before → slice_get before t.to ≡ Some old → new.items ≡ old.items ++ t.from ∷ []
     → AreBefore count (transitions ++ t ∷ []) (set before t.to new)
 before-more count transitions before t old new are at is = record {
@@ -255,9 +236,6 @@ module _ (marks : List Bool) (mark : Bool) (places : List ℕ) (next : ℕ) (are
       | inr end ↦ absurd (let place = end.0 in let other = late.0 in omega (arith, less, place, other))
     ]
   ]
-
-pub ascending-none : AreAscending []
-ascending-none i j a b less a_at b_at = absurd (let within = slice_get_within [] i a a_at in omega (arith, within))
 
 -- all places were read
 pub places-all : (marks : List Bool) (mark : Bool) (places : List ℕ) (next : ℕ) → length marks ≤ next → ((place : ℕ) → Contains places place ↔ ((place < next) × (slice_get marks place ≡ Some mark)))

@@ -4,11 +4,11 @@ use Rattle.std.specs.Cmp.{first_so, second_so}
 use Rattle.std.proofs.lemmas.List.Folds.{list_all-append}
 use Rattle.std.proofs.lemmas.Bool.{and_from}
 use Rattle.brl_pairs.specs.Pairs.{IsClosed, Sets, Splits}
-use Rattle.brl_pairs.specs.Runs.{Accepts, Behaviour, IsExact, IsGoodStep, IsInOrder, IsListed, IsPath, IsUnambiguous, KeepsLaws, reads_of}
+use Rattle.brl_pairs.specs.Runs.{Accepts, Behaviour, IsExact, IsGoodStep, IsInOrder, IsListed, IsPath, KeepsLaws, reads_of}
 use Rattle.brl_pairs.specs.declared.step.Pair.{Pair}
 use Rattle.brl_pairs.specs.declared.step.Step.{Step}
 use Rattle.brl_without.specs.LeftOut.{uses_none}
-use Rattle.brl_without.specs.Without.{IsUnambiguousFor, without}
+use Rattle.brl_without.specs.Without.{without}
 use Rattle.brl_without.proofs.Steps.{kept_in_turn, kept_passes, passes_kept}
 
 either_order : (i j : ℕ) → i ≢ j → (i < j) ⊎ (j < i)
@@ -92,11 +92,3 @@ module _ (left_out : List ℕ) where
       moves = λ p q has moved. closed.moves p q has (record { step = moved.step; listed = (listed_within p.behind moved.step moved.listed).0; moved = moved.moved });
       ends = closed.ends;
     }
-
-    pub unambiguous_for : IsUnambiguous (without left_out m) → IsUnambiguousFor left_out m
-    unambiguous_for single left right left_is right_is left_none right_none same =
-        single left right (and_from _ _ left_is left_none) (and_from _ _ right_is right_none) same
-
-    pub unambiguous_from : IsUnambiguousFor left_out m → IsUnambiguous (without left_out m)
-    unambiguous_from single left right left_is right_is same =
-        single left right (first_so _ _ left_is) (first_so _ _ right_is) (second_so (m.is_text left) _ left_is) (second_so (m.is_text right) _ right_is) same

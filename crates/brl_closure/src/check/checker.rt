@@ -118,28 +118,10 @@ pub fn accept<M: Machine>(
     // States and pairs that are refused are not closed.
     ensures not_closed { IfErr result (IfFault (λ _. IsClosed (M.behaviour machine.now) (sets_of body.now) → ⊥)) }
 {
-    accept_with(alloc, &Whole::new(machine), body, &mut NoProgress)
-}
-
-/// Checks states and pairs as `accept` does, and reports its progress to `watch` after each state.
-/// The parts of the machine's steps are listed once each. They and their cells are found by hashes
-/// of the seed of the body's pairs.
-pub fn accept_with<M: Parted, W: Progress>(
-    alloc: Global,
-    machine: &M,
-    body: &Body<M::State>,
-    watch: &mut W,
-) -> Result<Accepted, Failure<AcceptFault>>
-    ensures closed { OnOk result (IsClosed (M.behaviour machine.now) (sets_of body.now)) }
-    ensures unambiguous { OnOk result (IsUnambiguous (M.behaviour machine.now)) }
-    ensures states { IfOk result (λ accepted. accepted.states ≡ length body.now.states) }
-    ensures pairs { IfOk result (λ accepted. accepted.pairs ≡ length body.now.pairs) }
-    ensures refused { IfErr result (IfFault (IsRefused (M.behaviour machine.now) body.now)) }
-    ensures not_closed { IfErr result (IfFault (λ _. IsClosed (M.behaviour machine.now) (sets_of body.now) → ⊥)) }
-{
-    numbered_sets_law(machine);
+    let whole = Whole::new(machine);
+    numbered_sets_law(&whole);
     let excused = Excused::nothing(alloc);
-    accept_up_to(alloc, machine, &excused, body, watch)
+    accept_up_to(alloc, &whole, &excused, body, &mut NoProgress)
 }
 
 /// Accepts states and pairs for a machine exactly where they are closed but for splits that are
@@ -148,7 +130,9 @@ pub fn accept_with<M: Parted, W: Progress>(
 /// a place where they go on with two steps of an accepted pair of rules.
 ///
 /// Otherwise the fault is the first one that applies, as for `accept`; `SplitMissing` names the
-/// least split that is neither listed nor excused. Progress is reported as by `accept_with`.
+/// least split that is neither listed nor excused. `watch` hears of the progress after each state.
+/// The parts of the machine's steps are listed once each. They and their cells are found by hashes
+/// of the seed of the body's pairs.
 pub fn accept_up_to<M: Parted, W: Progress>(
     alloc: Global,
     machine: &M,

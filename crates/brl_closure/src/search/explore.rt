@@ -14,9 +14,8 @@ use crate::search::outcome::Outcome;
 use crate::search::trail::Trail;
 use crate::search::worklist::Worklist;
 use brl_failure::Failure;
-use brl_pairs::{Machine, Parted, Seed};
-use brl_parts::Whole;
-use brl_progress::{NoProgress, Progress, Slice, Sliced, Work, run_to_end};
+use brl_pairs::{Parted, Seed};
+use brl_progress::{Progress, Slice, Sliced, Work, run_to_end};
 use std::alloc::{AllocError, Global};
 use std::marker::Model;
 
@@ -155,22 +154,9 @@ impl<'m, M: Parted> Sliced for Search<'m, M> {
     ghost fewer = { λ steps old new after. after.fewer };
 }
 
-/// Searches a machine to the end, with a seed as for `Search::start`.
-pub fn search_machine<M: Machine>(
-    alloc: Global,
-    machine: &M,
-    limit: u64,
-    seed: Seed,
-) -> Result<Outcome<M::State>, AllocError>
-    requires { limit ≤ 4294967295 }
-    ensures { IfOk result (IsOutcome (M.behaviour machine.now) limit) }
-{
-    search_machine_with(alloc, &Whole::new(machine), limit, seed, &mut NoProgress)
-}
-
-/// Searches a machine as `search_machine` does, and reports its progress to `watch` before each
-/// slice of steps.
-pub fn search_machine_with<M: Parted, W: Progress>(
+/// Searches a machine to the end, with a seed as for `Search::start`. `watch` hears of the progress
+/// before each slice of steps.
+pub fn search_machine<M: Parted, W: Progress>(
     alloc: Global,
     machine: &M,
     limit: u64,

@@ -155,7 +155,11 @@ fn machine_lists_both(alloc: Global, table: &Table) -> Result<bool, Fail> {
     let dues = Dues::new(alloc, table);
     let seed = seed_of(alloc, table)?;
     let found: Result<Divergences<DuesState>, AllocError> = list_divergences(
-        alloc, &dues, 1000, seed,
+        alloc,
+        &dues,
+        1000,
+        seed,
+        &mut NoProgress,
     );
     match &found {
         Ok(Divergences::Complete { list, .. }) => Ok(list.len() == 1 && list.contains_key(&(0, 1))),

@@ -1,7 +1,7 @@
 use Rattle.brl_progress.proofs.SliceLemmas.{ends_for}
 use Rattle.brl_closure.specs.Answers.{IsOutcome}
 use Rattle.brl_closure.specs.SearchView.{IsOf}
-use Rattle.brl_closure.proofs.search.explore.search_machine_with.Goals as goal
+use Rattle.brl_closure.proofs.search.explore.search_machine.Goals as goal
 
 pub returns : goal.returns
 returns g c =

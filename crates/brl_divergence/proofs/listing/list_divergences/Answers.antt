@@ -1,7 +1,7 @@
 use Rattle.brl_progress.proofs.SliceLemmas.{ends_for}
 use Rattle.brl_divergence.specs.Answers.{AreDivergencesOf}
 use Rattle.brl_divergence.specs.ListingView.{IsOf}
-use Rattle.brl_divergence.proofs.listing.list_divergences_with.Goals as goal
+use Rattle.brl_divergence.proofs.listing.list_divergences.Goals as goal
 
 pub returns : goal.returns
 returns g c =

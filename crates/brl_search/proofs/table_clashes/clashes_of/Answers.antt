@@ -11,7 +11,7 @@ use Rattle.brl_states.specs.declared.dues_state.DuesState.{DuesState}
 use Rattle.brl_without.specs.Without.{without}
 use Rattle.brl_traces.specs.Traces.{ClashesDivergeAtWithout}
 use Rattle.brl_search.proofs.RuleClashes.{as_many_rules, over_limit}
-use Rattle.brl_search.proofs.table_clashes.clashes_without.Goals as goal
+use Rattle.brl_search.proofs.table_clashes.clashes_of.Goals as goal
 
 pub rule_clashes-requires : goal.rule_clashes-requires
 rule_clashes-requires c = (rw c.in-Complete.is at c.requires.1).0

@@ -12,7 +12,7 @@ use Rattle.brl_search.proofs.TableSearch.{clash_of_machine, clash_without, found
 use Rattle.brl_closure.proofs.TwoRuns.{no_limit}
 use Rattle.brl_search.specs.declared.table_search.Found.TheVariants.{Certified, Clashing, Limit}
 use Rattle.brl_states.specs.declared.cert.Cert.TheVariants.{Word}
-use Rattle.brl_search.proofs.table_search.found_without.Goals as goal
+use Rattle.brl_search.proofs.table_search.found_of.Goals as goal
 
 -- two paths with the same cells show a clash of the machine without some characters
 shows : (cs left_out : List ℕ) (u v t : TableView) (left right : List ℕ) → cs ≡ left_out → u ≡ v → v ≡ t → IsExact (dues_machine t)
