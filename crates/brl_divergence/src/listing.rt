@@ -15,7 +15,7 @@ use crate::explorer::Explorer;
 use crate::found::Found;
 use brl_closure::{Finder, KnownSteps, Stop, Trail};
 use brl_failure::Failure;
-use brl_pairs::{Body, Parted, Seed};
+use brl_pairs::{Body, Machine, Parted, Seed};
 use brl_parts::Parts;
 use brl_progress::{Progress, Slice, Sliced, Work, run_to_end};
 use std::alloc::{AllocError, Global};
