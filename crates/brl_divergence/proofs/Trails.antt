@@ -1,5 +1,5 @@
 -- Trails that have the same parts, and pairs that are taken back.
-use Rattle.std.proofs.Common.{◌≡◌, ℕ, zero, suc, ◌<◌, ◌≤◌, All, List, [], ◌∷◌, ◌++◌, ◌⊎◌, inl, inr, length, take, Some, slice_get, refl, sym, ◌∙◌, ap, subst, subst₂, arith}
+use Rattle.std.proofs.Common.{◌≡◌, ℕ, zero, suc, ◌<◌, ◌≤◌, All, List, ◌∷◌, ◌++◌, ◌⊎◌, inl, inr, length, take, Some, slice_get, refl, sym, ◌∙◌, ap, subst, subst₂, arith}
 use Rattle.std.proofs.lemmas.List.{take-append-le, take_all}
 use Rattle.std.proofs.lemmas.Option.{get_or_from_slice_get, slice_get_within}
 use Rattle.brl_pairs.specs.Body.{IsPairOf, NumberPair}
@@ -9,7 +9,6 @@ use Rattle.brl_closure.specs.Edges.{IsWalked}
 use Rattle.brl_closure.specs.SearchView.{Stays}
 use Rattle.brl_closure.specs.Trail.{AddsPairs, HasTwoEnds, HasTwoEndsAt, IsActive, IsFoundPair, IsFoundState, IsTraced}
 use Rattle.brl_closure.specs.declared.search.finder.Finder.{Finder}
-use Rattle.brl_closure.specs.declared.search.finder.Stop.TheVariants as stop
 use Rattle.brl_closure.specs.declared.search.trail.PairOrigin.{PairOrigin}
 use Rattle.brl_closure.specs.declared.search.trail.StateOrigin.{StateOrigin}
 use Rattle.brl_closure.specs.declared.search.trail.Trail.{Trail}
@@ -100,7 +99,3 @@ module _ {S : Type 0} (Kind : PairOrigin → Type 0) (t u : Trail S) (h : AddsPa
 
   pub taken_origins : (v : Trail S) → length t.pair_origins.items ≡ length t.pairs → v.pair_origins.items ≡ take (length t.pairs) u.pair_origins.items → v.pair_origins.items ≡ t.pair_origins.items
   taken_origins v many is = is ∙ ap (take (length t.pairs)) h.pair_origins ∙ front t.pair_origins.items h.origins (length t.pairs) (sym many)
-
--- ---- Where the search stops
-
-module _ {M S : Type 0} (behaviour : M → Behaviour S) (f : Finder M S) (t : Trail S) where
