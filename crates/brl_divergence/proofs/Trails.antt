@@ -1,5 +1,5 @@
 -- Trails that have the same parts, and pairs that are taken back.
-use Rattle.std.proofs.Common.{◌≡◌, ℕ, zero, suc, ◌<◌, ◌≤◌, All, List, ◌∷◌, ◌++◌, ◌⊎◌, inl, inr, length, take, Some, slice_get, refl, sym, ◌∙◌, ap, subst, subst₂, arith}
+use Rattle.std.proofs.Common.{◌≡◌, ℕ, zero, suc, ◌<◌, ◌≤◌, All, List, [], ◌∷◌, ◌++◌, ◌⊎◌, inl, inr, length, take, Some, slice_get, refl, sym, ◌∙◌, ap, subst, subst₂, arith}
 use Rattle.std.proofs.lemmas.List.{take-append-le, take_all}
 use Rattle.std.proofs.lemmas.Option.{get_or_from_slice_get, slice_get_within}
 use Rattle.brl_pairs.specs.Body.{IsPairOf, NumberPair}
