@@ -8,7 +8,7 @@ ghost use Rattle.brl_closure.specs.declared.check.fault.AcceptFault.{AcceptFault
 ghost use Rattle.brl_failure.specs.Failure.{IfFault};
 ghost use Rattle.brl_failure.specs.declared.failure.Failure.TheVariants as failures;
 ghost use Rattle.brl_accept.specs.Kinds.{HasVersion};
-ghost use Rattle.brl_lines.specs.Answer.{Unchanged, IsDeterministic};
+ghost use Rattle.brl_lines.specs.Answer.{IsDeterministic};
 ghost use Rattle.brl_lines.specs.Outcome.{CountsFailure};
 ghost use Rattle.brl_table.specs.Files.{IsTableOf};
 ghost use Rattle.brl_rules.specs.TableView.{TableView};
@@ -172,7 +172,7 @@ pub fn judge<S: Source>(
     ensures decides { IsDeterministic (S.gives source.old) → (t : TableView) → IsTableOf (S.gives source.old) root.now t
         → (accepted : AcceptedValue) → IsAccepted t cert.now accepted → (result ≡ Ok accepted) ⊎ (result ≡ Err failures.Memory) }
     ensures count { CountsFailure (S.faults source.old) (S.faults source.new) (load_outcome result) }
-    ensures same { Unchanged (S.gives source.old) (S.gives source.new) }
+    ensures same { S.gives source.new ≡ S.gives source.old }
 {
     let left_out = LeftOut::none(alloc);
     judge_silently(alloc, source, root, cert, &left_out)
@@ -193,7 +193,7 @@ fn judge_silently<S: Source>(
         → (accepted : AcceptedValue) → IsAcceptedWithout left_out.now t cert.now accepted
         → (result ≡ Ok accepted) ⊎ (result ≡ Err failures.Memory) }
     ensures count { CountsFailure (S.faults source.old) (S.faults source.new) (load_outcome result) }
-    ensures same { Unchanged (S.gives source.old) (S.gives source.new) }
+    ensures same { S.gives source.new ≡ S.gives source.old }
 {
     let scope = Scope {
         left_out,
@@ -233,7 +233,7 @@ pub fn judge_with<S: Source, W: Progress>(
         → (accepted : AcceptedValue) → IsAcceptedWithout scope.entry.left_out.now t cert.now accepted
         → (result ≡ Ok accepted) ⊎ (result ≡ Err failures.Memory) }
     ensures count { CountsFailure (S.faults source.old) (S.faults source.new) (load_outcome result) }
-    ensures same { Unchanged (S.gives source.old) (S.gives source.new) }
+    ensures same { S.gives source.new ≡ S.gives source.old }
 {
     let excused = Excused::nothing(alloc);
     judge_up_to(alloc, source, root, cert, &excused, scope)
@@ -270,7 +270,7 @@ pub fn judge_up_to<S: Source, W: Progress>(
         → (accepted : AcceptedValue) → IsAcceptedUpTo scope.entry.left_out.now excused.now t cert.now accepted
         → (result ≡ Ok accepted) ⊎ (result ≡ Err failures.Memory) }
     ensures count { CountsFailure (S.faults source.old) (S.faults source.new) (load_outcome result) }
-    ensures same { Unchanged (S.gives source.old) (S.gives source.new) }
+    ensures same { S.gives source.new ≡ S.gives source.old }
 {
     let Scope { left_out, progress } = scope;
     one_table_law(&*source);

@@ -1,4 +1,3 @@
 pub mod DeliveryLemmas
 pub mod FilesLemmas
 pub mod MakingLemmas
-pub mod Moved

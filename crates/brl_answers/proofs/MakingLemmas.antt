@@ -46,15 +46,12 @@ module _ (files : List NewFile) (i : ℕ) (file : NewFile) (within : i < length 
         let lt : k < i = omega (arith, length-take i files) in
         let differ : path_of (get_or (take i files) k d) ≢ path_of file =
         λ same. apart k i d lt within (ap path_of (sym (get_or-take i files k d lt)) ∙ (same ∙ ap path_of (get_or_read files i file within is d))) in
-        (others.1 _ _ differ).1 (written.0 k d l)
+        others.1 _ _ differ ∙ written.0 k d l
 
     only_more : OnlyTheseChange start new (take (i + 1) files)
     only_more = (
       others.0 ∙ written.1.0,
-      λ p a none.
-          (let before = written.1.1 p a (none_before p none) in
-          let here = others.1 p a (λ same. not_here p none (sym same)) in
-          ((λ h. before.0 (here.0 h)), (λ h. here.1 (before.1 h)))),
+      λ p a none. others.1 p a (λ same. not_here p none (sym same)) ∙ written.1.1 p a (none_before p none),
     )
 
     -- this file wasn't made

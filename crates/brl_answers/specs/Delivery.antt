@@ -1,7 +1,7 @@
 -- How an answer is delivered: its files first, and then its text. The project's own choice.
 use Rattle.std.specs.Prelude.{ℕ, ◌≡◌, ◌≢◌, List, ◌++◌, Option, Result, Ok, Err, string_bytes}
 use Rattle.std.specs.Io.KnownBytes.{Appends}
-use Rattle.brl_lines.specs.Answer.{Unchanged, FileAnswers}
+use Rattle.brl_lines.specs.Answer.{FileAnswers}
 use Rattle.brl_answers.specs.Making.{ArePutInto, FilesAfter}
 use Rattle.brl_answers.specs.Status.{status_of}
 use Rattle.brl_answers.specs.declared.answer.Answer.{Answer}
@@ -10,7 +10,7 @@ use Rattle.brl_answers.specs.declared.run_fault.RunFault.TheVariants.{OutputFail
 use Rattle.brl_answers.specs.declared.status.Status.{Status}
 
 -- the files and the output at one time
-pub record World : Type 1 where
+pub record World : Type 0 where
   -- what the files may give
   pub gives : FileAnswers
   -- how often the output failed so far
@@ -24,7 +24,7 @@ world gives failures contents = record { gives = gives; failures = failures; con
 
 -- no file changes
 abbrev pub KeepsFiles : World → World → Type 0
-KeepsFiles before after = Unchanged before.gives after.gives
+KeepsFiles before after = after.gives ≡ before.gives
 
 -- this text is written
 abbrev pub Prints : World → World → List ℕ → Type 0

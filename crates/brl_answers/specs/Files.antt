@@ -1,9 +1,9 @@
 -- What files give after one of them is written or made. The manual leaves open where files come
 -- from: this is the project's own choice.
-use Rattle.std.specs.Prelude.{ℕ, ◌≡◌, ◌≢◌, ◌↔◌, List, [], Some, Result, Ok, Err, string_bytes}
+use Rattle.std.specs.Prelude.{ℕ, ◌≡◌, ◌≢◌, Bool, List, [], Some, Result, Ok, Err, string_bytes}
 use Rattle.brl_failure.specs.declared.failure.Failure.{Failure}
 use Rattle.brl_failure.specs.declared.failure.Failure.TheVariants as failures
-use Rattle.brl_lines.specs.Answer.{Unchanged, FileAnswer, FileAnswers, Missing, answer_of}
+use Rattle.brl_lines.specs.Answer.{FileAnswer, FileAnswers, MayAnswer, Missing, answer_of}
 use Rattle.brl_lines.specs.InMemory.{bytes_in}
 use Rattle.brl_lines.specs.declared.map_source.MapSource.{MapSource}
 use Rattle.brl_answers.specs.declared.files.CreateFault.{CreateFault}
@@ -14,27 +14,27 @@ use Rattle.brl_answers.specs.declared.run_fault.RunFault.TheVariants.{CannotWrit
 
 -- a source looks in the same folders as before, and may answer the same for each path but this one
 abbrev pub OthersStay : FileAnswers → FileAnswers → List ℕ → Type 0
-OthersStay old new path = (new.folders ≡ old.folders) × ((p : List ℕ) (a : FileAnswer) → p ≢ path → new.may p a ↔ old.may p a)
+OthersStay old new path = (new.folders ≡ old.folders) × ((p : List ℕ) (a : FileAnswer) → p ≢ path → new.may p a ≡ old.may p a)
 
 -- it may answer what a file with these bytes gives
 abbrev pub GivesAlso : FileAnswers → List ℕ → List ℕ → Type 0
-GivesAlso gives path bytes = gives.may path (answer_of (Some bytes))
+GivesAlso gives path bytes = MayAnswer gives path (answer_of (Some bytes))
 
 -- nothing may be at a path
 abbrev pub MayBeAbsent : FileAnswers → List ℕ → Type 0
-MayBeAbsent gives path = gives.may path Missing
+MayBeAbsent gives path = MayAnswer gives path Missing
 
 -- something may be at a path
 abbrev pub MayBeThere : FileAnswers → List ℕ → Type 0
-MayBeThere gives path = (answer : FileAnswer) × (answer ≢ Missing) × gives.may path answer
+MayBeThere gives path = (answer : FileAnswer) × (answer ≢ Missing) × MayAnswer gives path answer
 
 -- whether two paths may name one file
-abbrev pub MayBeSame : Type 1
-MayBeSame = List ℕ → List ℕ → Type 0
+abbrev pub MayBeSame : Type 0
+MayBeSame = List ℕ → List ℕ → Bool
 
 -- where something is at the path of a file to be made, no file changes
 abbrev pub StaysWhereThere : FileAnswers → FileAnswers → List ℕ → Failure CreateFault → Type 0
-StaysWhereThere before after path (failures.Fault creation.AlreadyThere) = MayBeThere before path × Unchanged before after
+StaysWhereThere before after path (failures.Fault creation.AlreadyThere) = MayBeThere before path × (after ≡ before)
 StaysWhereThere before after path failure = Unit {0}
 
 -- the path of a file

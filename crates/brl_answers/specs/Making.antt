@@ -1,8 +1,8 @@
 -- What files give after those of an answer are written. The project's own choice.
-use Rattle.std.specs.Prelude.{ℕ, ◌≡◌, ◌≢◌, ◌+◌, ◌<◌, ◌⊎◌, ◌↔◌, All, AllPairs, Any, List, length, option_map, slice_get, take, Some, Result, Ok, Err, string_bytes}
+use Rattle.std.specs.Prelude.{ℕ, ◌≡◌, ◌≢◌, ◌+◌, ◌<◌, ◌⊎◌, All, AllPairs, Any, List, length, option_map, slice_get, take, Some, Result, Ok, Err, string_bytes}
 use Rattle.brl_failure.specs.declared.failure.Failure.{Failure}
 use Rattle.brl_failure.specs.declared.failure.Failure.TheVariants as failures
-use Rattle.brl_lines.specs.Answer.{Unchanged, FileAnswer, FileAnswers}
+use Rattle.brl_lines.specs.Answer.{FileAnswer, FileAnswers}
 use Rattle.brl_answers.specs.Files.{IsGivenBy, IsPutInto, IsWritten, MayBeAbsent, MayBeThere, path_of}
 use Rattle.brl_answers.specs.declared.new_files.NewFile.{NewFile}
 use Rattle.brl_answers.specs.declared.new_files.NewFiles.{NewFiles}
@@ -52,7 +52,7 @@ IsThereAlready gives files fault = ⊥
 -- a source looks in the same folders as before, and may answer the same for each path but those of
 -- these files
 abbrev pub OnlyTheseChange : FileAnswers → FileAnswers → List NewFile → Type 0
-OnlyTheseChange old new files = (new.folders ≡ old.folders) × ((p : List ℕ) (a : FileAnswer) → IsNoneOf files p → new.may p a ↔ old.may p a)
+OnlyTheseChange old new files = (new.folders ≡ old.folders) × ((p : List ℕ) (a : FileAnswer) → IsNoneOf files p → new.may p a ≡ old.may p a)
 
 -- files were written, and no other file changed
 abbrev pub AreWritten : List NewFile → FileAnswers → FileAnswers → Type 0
@@ -76,7 +76,7 @@ IsNamed files place fault = ⊥
 -- one that couldn't be written, and those before it were; or memory ran out at one of them.
 abbrev pub AreMade : List NewFile → FileAnswers → FileAnswers → Result (Unit {0}) RunFault → Type 0
 AreMade files before after (Ok done) = AreNew before files × AreWritten files before after
-AreMade files before after (Err (AlreadyThere path)) = IsThereAlready before files (AlreadyThere path) × Unchanged before after
+AreMade files before after (Err (AlreadyThere path)) = IsThereAlready before files (AlreadyThere path) × (after ≡ before)
 AreMade files before after (Err (CannotWrite path made)) =
     AreNew before files × ((place : ℕ) × IsNamed files place (CannotWrite path made) × AreWrittenBefore place files before after)
 AreMade files before after (Err Memory) = (place : ℕ) × AreWrittenBefore place files before after
@@ -86,7 +86,7 @@ AreMade files before after (Err fault) = ⊥
 
 -- the files after those of an answer were written
 abbrev pub FilesAfter : FileAnswers → FileAnswers → NewFiles → Type 0
-FilesAfter before after Nothing = Unchanged before after
+FilesAfter before after Nothing = after ≡ before
 FilesAfter before after (InPlace file) = IsWritten file before after
 FilesAfter before after (AllNew files) = AreNew before files.items × AreWritten files.items before after
 

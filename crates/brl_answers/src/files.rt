@@ -31,7 +31,7 @@ pub type NewFileFault = Failure<CreateFault>;
 pub trait Files: Source {
     ghost use Rattle.std.specs.Prelude.{◌≡◌, IfErr, IfOk, IsTrue, MatchBool, OnOk, String, map, string_bytes};
     ghost use Rattle.std.specs.Global.{Global, Vec};
-    ghost use Rattle.brl_lines.specs.Answer.{Unchanged, looking};
+    ghost use Rattle.brl_lines.specs.Answer.{looking};
     ghost use Rattle.brl_answers.specs.Files.{GivesAlso, MayBeAbsent, MayBeSame, MayBeThere, OthersStay, StaysWhereThere};
 
     // the same files, where those of tables are looked for in these folders
@@ -44,18 +44,18 @@ pub trait Files: Source {
     /// paths.
     fn look_in(&mut self, folders: Vec<String>)
         ensures looked { self.new ≡ looked folders self.old }
-        ensures looks { Unchanged (looking (map string_bytes folders.items) (Self.gives self.old)) (Self.gives self.new) }
+        ensures looks { Self.gives self.new ≡ looking (map string_bytes folders.items) (Self.gives self.old) }
         ensures count { Self.faults self.new ≡ Self.faults self.old };
 
     /// Reads nothing but plain files from now on: what is at another path is seen as a file that
     /// can't be read.
     fn read_plain_files(&mut self)
-        ensures same { Unchanged (Self.gives self.old) (Self.gives self.new) }
+        ensures same { Self.gives self.new ≡ Self.gives self.old }
         ensures count { Self.faults self.new ≡ Self.faults self.old };
 
     /// Whether two paths name one file. Equal paths do.
     fn is_same_file(&self, alloc: Global, one: &str, other: &str) -> Result<bool, AllocError>
-        ensures may { IfOk result (λ is. IsTrue is → same_file one.now other.now) }
+        ensures may { IfOk result (λ is. IsTrue is → IsTrue (same_file one.now other.now)) }
         ensures equal { one.now ≡ other.now → IfOk result (λ is. IsTrue is) };
 
     /// Writes a file with these bytes at `path`, in place of the one that was there. `Failed` where
@@ -83,13 +83,14 @@ pub trait Files: Source {
 
 impl Files for MapSource {
     ghost use Rattle.std.specs.Prelude.{◌≡◌, None, Some, is_some, IfErr, IsErrOf, IsTrue, OnErr, OnOk};
+    ghost use Rattle.std.specs.Str.{bytes_eq};
     ghost use Rattle.brl_failure.specs.declared.failure.Failure.TheVariants.{Fault};
     ghost use Rattle.brl_lines.specs.InMemory.{bytes_in, folders_of};
     ghost use Rattle.brl_answers.specs.Files.{AllAre, OthersAre};
 
     ghost looked = { λ folders files. record files { folders = Some folders } };
 
-    ghost same_file = { λ one other. one ≡ other };
+    ghost same_file = { bytes_eq };
 
     fn look_in(&mut self, folders: Vec<String>) {
         self.folders = Some(folders);
@@ -153,11 +154,11 @@ fn put(alloc: Global, source: &mut MapSource, path: &str, bytes: &[u8]) -> Resul
 }
 
 impl<R: rt::Files> Files for FileSource<R> {
-    ghost use Rattle.std.specs.Prelude.{Some};
+    ghost use Rattle.std.specs.Prelude.{Some, true};
 
     ghost looked = { λ folders files. record files { folders = Some folders } };
 
-    ghost same_file = { λ _ _. Unit {0} };
+    ghost same_file = { λ _ _. true };
 
     fn look_in(&mut self, folders: Vec<String>) {
         self.folders = Some(folders);

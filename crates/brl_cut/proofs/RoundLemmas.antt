@@ -3,7 +3,7 @@ use Rattle.std.proofs.Common.{◌≡◌, ◌∙◌, ℕ, List, IfErr, IfOk, ap, 
 use Rattle.brl_failure.specs.Failure.{GivesAs}
 use Rattle.brl_failure.specs.declared.failure.Failure.{Failure}
 use Rattle.brl_failure.specs.declared.failure.Failure.TheVariants as failures
-use Rattle.brl_lines.specs.Answer.{FileAnswers, answer_of}
+use Rattle.brl_lines.specs.Answer.{FileAnswers, answer_of, same_answer}
 use Rattle.brl_lines.specs.InMemory.{answer_in, folders_of, given_in}
 use Rattle.brl_lines.specs.Lines.{lines_over}
 use Rattle.brl_lines.specs.Loaded.{LoadedView}
@@ -39,4 +39,4 @@ faulty-found folders root files lines e = ap faulty_among e
 
 -- it answers what these files do, where there are no others
 pub only-held : (folders : List (List ℕ)) (files : Texts) (source : MapSource) → HoldsFiles folders files source → given_in source ≡ only folders files
-only-held folders files source held = λ j. record { folders = held.1 j; may = λ path answer. answer ≡ answer_of (held.0 path j) }
+only-held folders files source held = λ j. record { folders = held.1 j; may = λ path answer. same_answer answer (answer_of (held.0 path j)) }

@@ -1,6 +1,6 @@
 -- The readable part of a table as files of their own. The project's own choice.
 use Rattle.std.specs.Prelude.{ℕ, Bool, ◌≡◌, List, [], ◌++◌, codes, map, string_bytes, zip, Ok}
-use Rattle.brl_lines.specs.Answer.{FileAnswers, answer_of}
+use Rattle.brl_lines.specs.Answer.{FileAnswers, answer_of, same_answer}
 use Rattle.brl_lines.specs.GatherFaults.{IsGatherFault}
 use Rattle.brl_lines.specs.Gathering.{GatheredView, LeftView, gathered_from}
 use Rattle.brl_lines.specs.Includes.{last_part, path_in}
@@ -80,7 +80,7 @@ written_files dir names files = map (λ entry. (path_in dir entry.0, entry.1.1))
 
 -- what these files give, where there are no others, and where they are looked for in these folders
 abbrev pub only : List (List ℕ) → Texts → FileAnswers
-only folders files = record { folders = folders; may = λ path answer. answer ≡ answer_of (bytes_at files path) }
+only folders files = record { folders = folders; may = λ path answer. same_answer answer (answer_of (bytes_at files path)) }
 
 -- these files, and no others, define a table with its root at a path, and are looked for in no
 -- folders

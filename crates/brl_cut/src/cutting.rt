@@ -1,7 +1,6 @@
 //! The readable part of a table.
 ghost use Rattle.std.specs.Prelude.{◌≡◌, IfErr, IfOk, OnOk, map, string_bytes};
 ghost use Rattle.brl_failure.specs.Failure.{IfFault};
-ghost use Rattle.brl_lines.specs.Answer.{Unchanged};
 ghost use Rattle.brl_lines.specs.GatherFaults.{gathered_view};
 ghost use Rattle.brl_lines.specs.Views.{location_view};
 ghost use Rattle.brl_cut.specs.Cuts.{IsCut, IsCutFault, IsCutOf, IsReadAs, IsUncut, IsUnreadAs, finished, start_edits, start_files};
@@ -129,7 +128,7 @@ pub fn cut_table<S: Source>(
 ) -> Result<Cut, Failure<CutFault>>
     ensures cut { IfOk result (IsCut rewrite (S.gives source.old) root.now dir.now) }
     ensures fault { IfErr result (IfFault (IsCutFault rewrite (S.gives source.old) root.now dir.now)) }
-    ensures same { Unchanged (S.gives source.old) (S.gives source.new) }
+    ensures same { S.gives source.new ≡ S.gives source.old }
 {
     let gathered = raise(gather(alloc, source, root), CutFault::Gather)?;
     cut_gathered(alloc, source.folders(), &gathered, root, dir, rewrite)

@@ -1,7 +1,6 @@
 //! Loads a table without the hyphenation dictionaries that it includes.
 ghost use Rattle.std.specs.Prelude.{◌≡◌, [], IfErr, IfOk, map, string_bytes};
 ghost use Rattle.brl_failure.specs.Failure.{IfFault};
-ghost use Rattle.brl_lines.specs.Answer.{Unchanged};
 ghost use Rattle.brl_lines.specs.GatherFaults.{gathered_view};
 ghost use Rattle.brl_lines.specs.Gathered.{left_view};
 ghost use Rattle.brl_lines.specs.Outcome.{AreLinesOfFiles, IsLoadFault};
@@ -36,7 +35,7 @@ pub fn load_without_dictionaries<S: Source>(
     ensures lines { IfOk result (λ table.
         AreLinesWithout (S.gives source.old) root.now (map left_view table.skipped.items) table.loaded.paths table.loaded.lines) }
     ensures fault { IfErr result (IfFault (IsUnloaded (S.gives source.old) root.now)) }
-    ensures same { Unchanged (S.gives source.old) (S.gives source.new) }
+    ensures same { S.gives source.new ≡ S.gives source.old }
 {
     match gather(alloc, source, root) {
         Ok(gathered) => load_gathered(alloc, source.folders(), gathered, root),
@@ -55,7 +54,7 @@ fn load_all<S: Source>(
     ensures lines { IfOk result (λ table. AreLinesOfFiles (S.gives source.old) root.now table.loaded.paths table.loaded.lines) }
     ensures none { IfOk result (λ table. map left_view table.skipped.items ≡ []) }
     ensures fault { IfErr result (IsLoadFault (S.gives source.old) root.now) }
-    ensures same { Unchanged (S.gives source.old) (S.gives source.new) }
+    ensures same { S.gives source.new ≡ S.gives source.old }
 {
     let loaded = load(alloc, source, root)?;
     let skipped = Vec::new(alloc);

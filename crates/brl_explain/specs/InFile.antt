@@ -10,7 +10,7 @@ use Rattle.brl_explain.specs.Details.{byte_digits, operand_of, titled, unclear_s
 use Rattle.brl_explain.specs.Explaining.{code_of, is_blank}
 use Rattle.brl_explain.specs.Operands.{is_prefix, missing_line, swapped_line, undefined_line}
 use Rattle.brl_explain.specs.declared.in_file.Place.{Place}
-use Rattle.brl_lines.specs.Answer.{FileAnswer, FileAnswers, Holds}
+use Rattle.brl_lines.specs.Answer.{FileAnswer, FileAnswers, Holds, MayAnswer}
 use Rattle.brl_lines.specs.Lines.{LocationView, Refusal}
 use Rattle.brl_lines.specs.Outcome.{AreLinesOf, IsRefusedAs}
 use Rattle.brl_lines.specs.Tokens.{LineView}
@@ -115,7 +115,7 @@ AreNotesAt gives fault (Some place) notes = (lines : List LineView) × AreLinesI
 
 -- notes on a file whose bytes aren't all UTF-8, by its path
 abbrev pub AreByteNotes : FileAnswers → List ℕ → List ℕ → Type 0
-AreByteNotes gives path notes = (answer : FileAnswer) × gives.may path answer × (notes ≡ answer_note path answer)
+AreByteNotes gives path notes = (answer : FileAnswer) × MayAnswer gives path answer × (notes ≡ answer_note path answer)
 
 -- notes on the file that a fault's line names
 abbrev pub AreNotes : FileAnswers → List ℕ → List ℕ → Type 0

@@ -2,7 +2,7 @@
 ghost use Rattle.std.specs.Prelude.{◌≡◌, ◌++◌, ◌<◌, IfOk, OnOk, count_by, flat_map, length, map, option_map, string_bytes};
 ghost use Rattle.std.specs.List.{after_first, before_first};
 ghost use Rattle.std.specs.Str.{chars};
-ghost use Rattle.brl_lines.specs.Answer.{FileAnswer as FileAnswerValue, Unchanged};
+ghost use Rattle.brl_lines.specs.Answer.{FileAnswer as FileAnswerValue};
 ghost use Rattle.brl_lines.specs.Lines.{LocationView as LocationValue};
 ghost use Rattle.brl_lines.specs.Views.{line_view};
 ghost use Rattle.brl_report.specs.Rules.{borrowed_line_view};
@@ -61,7 +61,7 @@ pub fn file_notes<S: Source>(
     line: &str,
 ) -> Result<String, AllocError>
     ensures notes { IfOk result (λ notes. AreNotes (S.gives source.old) line.now (string_bytes notes)) }
-    ensures same { Unchanged (S.gives source.old) (S.gives source.new) }
+    ensures same { S.gives source.new ≡ S.gives source.old }
 {
     if code_of(line) == "L3" {
         return byte_notes(alloc, source, operand_of(line));
@@ -77,7 +77,7 @@ fn notes_at<S: Source>(
     place: Option<Place<'_>>,
 ) -> Result<String, AllocError>
     ensures notes { IfOk result (λ notes. AreNotesAt (S.gives source.old) fault.now (option_map place_view place.entry) (string_bytes notes)) }
-    ensures same { Unchanged (S.gives source.old) (S.gives source.new) }
+    ensures same { S.gives source.new ≡ S.gives source.old }
 {
     let Some(place) = place else {
         return Ok(String::new(alloc));
@@ -241,7 +241,7 @@ fn push_earlier(place: Place<'_>, line: &Line<'_>, notes: &mut String) -> Result
 /// The notes on the file at a path, whose bytes aren't all UTF-8.
 fn byte_notes<S: Source>(alloc: Global, source: &mut S, path: &str) -> Result<String, AllocError>
     ensures notes { IfOk result (λ notes. AreByteNotes (S.gives source.old) path.now (string_bytes notes)) }
-    ensures same { Unchanged (S.gives source.old) (S.gives source.new) }
+    ensures same { S.gives source.new ≡ S.gives source.old }
 {
     match source.read(alloc, path) {
         Ok(bytes) => byte_note(alloc, path, bytes.as_slice()),

@@ -6,7 +6,7 @@ use Rattle.std.specs.Str.{bytes_eq}
 use Rattle.brl_lines.proofs.FileLemmas.{kept}
 use Rattle.brl_lines.proofs.MemoryLemmas.{given-at, never_unread, read_failed_or_not}
 use Rattle.brl_lines.proofs.MoreLemmas.{lines_over-fewer, lines_over-more}
-use Rattle.brl_lines.specs.Answer.{FileAnswer, IsDeterministic, FileAnswers, Unreadable}
+use Rattle.brl_lines.specs.Answer.{FileAnswer, IsDeterministic, FileAnswers, Unreadable, MayAnswer}
 use Rattle.brl_lines.specs.Lines.{Answers, LocationView, Refusal, answer_at, lines_of, refusal, text_of}
 use Rattle.brl_lines.specs.Outcome.{AreGiven, AreLinesOf, IsLoadFault, IsRefusedAs}
 use Rattle.brl_lines.specs.Tokens.{LineView}
@@ -18,7 +18,7 @@ use Rattle.brl_lines.specs.declared.fault.LoadFaultKind.TheVariants as kinds
 
 module _ (gives : FileAnswers) (one : IsDeterministic gives) where
   -- answers before others of the same source change none of them
-  after_others : (answers others : Answers) (path : List ℕ) (answer : FileAnswer) → AreGiven gives answers → gives.may path answer → answer_at others path ≡ Some answer
+  after_others : (answers others : Answers) (path : List ℕ) (answer : FileAnswer) → AreGiven gives answers → MayAnswer gives path answer → answer_at others path ≡ Some answer
       → answer_at (answers ++ others) path ≡ Some answer
   after_others [] others path answer given known h = h
   after_others (entry ∷ answers) others path answer given known h = by_test (bytes_eq path entry.0) refl (after_others answers others path answer given.1 known h)
@@ -26,7 +26,7 @@ module _ (gives : FileAnswers) (one : IsDeterministic gives) where
       by_test : (b : Bool) → bytes_eq path entry.0 ≡ b → answer_at (answers ++ others) path ≡ Some answer → cond b (Some entry.1) (answer_at (answers ++ others) path) ≡ Some answer
       by_test true e later =
           let path_is : entry.0 ≡ path = sym ((bytes_eq-Decides path entry.0).0 e) in
-          ap Some (one path entry.1 answer (subst (λ p. gives.may p entry.1) path_is given.0) known)
+          ap Some (one path entry.1 answer (subst (λ p. MayAnswer gives p entry.1) path_is given.0) known)
       by_test false e later = later
 
   all_given : (answers others : Answers) → AreGiven gives answers → AreGiven gives others → AreGiven gives (answers ++ others)
@@ -55,7 +55,7 @@ module _ (gives : FileAnswers) (one : IsDeterministic gives) where
         cc
 
     -- and not that one, where it is one that the source can't read
-    unreadable : (path : List ℕ) (place : Option LocationView) → gives.may path Unreadable → IsRefusedAs gives root (refusal kinds.ReadFailed path place) → ⊥
+    unreadable : (path : List ℕ) (place : Option LocationView) → MayAnswer gives path Unreadable → IsRefusedAs gives root (refusal kinds.ReadFailed path place) → ⊥
     unreadable path place failed k =
         lines_over-fewer (answer_at k.0) (answer_at (h.0 ++ k.0)) (known k.0 k.1) gives.folders root lines (together k.0) path place k.2
         (by_answer (answer_at (h.0 ++ k.0) path) refl)

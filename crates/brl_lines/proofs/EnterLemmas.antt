@@ -82,7 +82,7 @@ module _ (gives : FileAnswers) (files : Files) (root : List ℕ) (chain : List (
         (ap (λ (u : List ℕ). text_of_found gives.folders u name (Some known) answer) (sym usual_is) ∙ no))
 
     -- it was found
-    module _ (then : FileAnswers) (stays : (p : List ℕ) (a : FileAnswer) → then.may p a → gives.may p a) (mid : Files) (usual path : List ℕ) (usual_is : usual ≡ included root name) (locates : Locates gives files mid usual name path) where
+    module _ (mid : Files) (usual path : List ℕ) (usual_is : usual ≡ included root name) (locates : Locates gives files mid usual name path) where
       path_is : (answer : List ℕ → Option FileAnswer) → Extends mid answer → path_by answer ≡ path
       path_is answer extends = ap (λ (u : List ℕ). found gives.folders answer u name) (sym usual_is) ∙ locates.found_is answer extends
 
@@ -90,26 +90,26 @@ module _ (gives : FileAnswers) (files : Files) (root : List ℕ) (chain : List (
       follow-found answer extends = follow-inside answer ∙ ap (λ (p : List ℕ). text_of p (Some known) (answer p) >>= after_text answer p) (path_is answer extends)
 
       -- and is refused
-      pub file-refused : (failure : Failure LoadFault) → Fails then mid (λ answer. text_of path (Some known) (answer path)) failure → Fails gives files want failure
+      pub file-refused : (failure : Failure LoadFault) → Fails gives mid (λ answer. text_of path (Some known) (answer path)) failure → Fails gives files want failure
       file-refused failure failed =
-          fails-later gives then stays files mid locates.grows want failure
-          (fails-more then mid (λ answer. text_of path (Some known) (answer path)) want failure
+          fails-later gives files mid locates.grows want failure
+          (fails-more gives mid (λ answer. text_of path (Some known) (answer path)) want failure
           (λ answer e extends no. follow-found answer extends ∙ ap (λ (r : Result (List ℕ) Refusal). r >>= after_text answer path) no) failed)
 
       -- it has a text
-      module _ (new : Files) (index : ℕ) (finds : Finds then mid new path index) where
+      module _ (new : Files) (index : ℕ) (finds : Finds gives mid new path index) where
         pub both : Grows gives files new
-        both = grows-twice gives then stays files mid new locates.grows finds.grows
+        both = grows-twice gives files mid new locates.grows finds.grows
 
         follow-text : (answer : List ℕ → Option FileAnswer) → Extends new answer → want answer ≡ after_text answer path (text_at new index)
         follow-text answer extends =
-            follow-found answer (extends-older then mid new finds.grows answer extends)
+            follow-found answer (extends-older gives mid new finds.grows answer extends)
             ∙ ap (λ (r : Result (List ℕ) Refusal). r >>= after_text answer path) (finds.text_is answer extends (Some known))
 
         -- and leads to itself
         pub cycle-refused : list_any (bytes_eq path) chain ≡ true → (failure : Failure LoadFault) → IfFault (λ fault. refusal kinds.Cycle path (Some known) ≡ load_fault_view fault) failure → Fails gives files want failure
         cycle-refused led failure k =
-            fails-later gives gives (λ p a x. x) files new both want failure
+            fails-later gives files new both want failure
             (fails-for gives new want (refusal kinds.Cycle path (Some known)) failure both.given
             (follow-text (answer_at (answers_of new)) (λ p a e. e)
             ∙ ap (λ b. cond b (Err (refusal kinds.Cycle path (Some known))) (Ok tt) >>= λ (_ : Unit {0}).

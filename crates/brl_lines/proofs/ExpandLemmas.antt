@@ -16,7 +16,7 @@ use Rattle.brl_lines.specs.Tokens.{LineView}
 use Rattle.brl_lines.specs.Views.{load_fault_view}
 use Rattle.brl_lines.specs.declared.fault.LoadFault.{LoadFault}
 use Rattle.brl_lines.specs.declared.fault.LoadFaultKind.TheVariants as kinds
-use Rattle.brl_lines.proofs.FileLemmas.{extends-older, given-stays}
+use Rattle.brl_lines.proofs.FileLemmas.{extends-older}
 
 -- ---- lines after others
 
@@ -127,15 +127,15 @@ fails-more gives files step whole (Fault fault) more h = record {
 }
 
 -- a fault of a later step is one of a load that began with fewer files
-pub fails-later : {U : Type 0} (gives now : FileAnswers) → ((path : List ℕ) (a : FileAnswer) → now.may path a → gives.may path a) → (old new : Files) → Grows gives old new
-    → (want : (List ℕ → Option FileAnswer) → Result U Refusal) (failure : Failure LoadFault) → Fails now new want failure → Fails gives old want failure
-fails-later gives now stays old new grows want Memory h = tt
-fails-later gives now stays old new grows want (Fault fault) h = record {
+pub fails-later : {U : Type 0} (gives : FileAnswers) (old new : Files) → Grows gives old new
+    → (want : (List ℕ → Option FileAnswer) → Result U Refusal) (failure : Failure LoadFault) → Fails gives new want failure → Fails gives old want failure
+fails-later gives old new grows want Memory h = tt
+fails-later gives old new grows want (Fault fault) h = record {
   answers = h.answers;
-  given = given-stays now gives stays h.answers h.given;
+  given = h.given;
   extends = extends-older gives old new grows (answer_at h.answers) h.extends;
   fails = h.fails;
-  unreadable = λ failed. stays _ _ (h.unreadable failed);
+  unreadable = h.unreadable;
 }
 
 -- ---- what an include line is replaced by

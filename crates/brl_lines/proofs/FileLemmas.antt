@@ -9,7 +9,7 @@ use Rattle.std.specs.Option.{option_map_or}
 use Rattle.std.specs.Prelude.{String, is_some, not, slice_get, string_bytes}
 use Rattle.std.specs.Str.{IsCharBoundary, bytes_eq}
 use Rattle.std.proofs.lemmas.Map.Made.{lookup_key_passes}
-use Rattle.brl_lines.specs.Answer.{FileAnswer, Holds, Missing, FileAnswers, is_missing, most_file_bytes}
+use Rattle.brl_lines.specs.Answer.{FileAnswer, Holds, Missing, FileAnswers, is_missing, most_file_bytes, MayAnswer}
 use Rattle.brl_lines.specs.Files.{Files, answer_for, answer_of_file, answers_of, lines_at, path_at, paths_of, span_lines, text_at, text_for}
 use Rattle.brl_lines.specs.Lines.{Answers, LocationView, answer_at, refusal, text_of}
 use Rattle.brl_lines.specs.Outcome.{AreGiven}
@@ -60,14 +60,9 @@ last (entry ∷ answers) path a h = by_test (bytes_eq path entry.0) h (last answ
     by_test true k more = cc
     by_test false k more = more k
 
-pub given-more : (gives : FileAnswers) (answers : Answers) (path : List ℕ) (a : FileAnswer) → AreGiven gives answers → gives.may path a → AreGiven gives (answers ++ (path, a) ∷ [])
+pub given-more : (gives : FileAnswers) (answers : Answers) (path : List ℕ) (a : FileAnswer) → AreGiven gives answers → MayAnswer gives path a → AreGiven gives (answers ++ (path, a) ∷ [])
 given-more gives [] path a h k = (k, tt)
 given-more gives (entry ∷ answers) path a h k = (h.0, given-more gives answers path a h.1 k)
-
--- what one source gave, another may give
-pub given-stays : (g h : FileAnswers) → ((path : List ℕ) (a : FileAnswer) → g.may path a → h.may path a) → (answers : Answers) → AreGiven g answers → AreGiven h answers
-given-stays g h stays [] k = tt
-given-stays g h stays (entry ∷ answers) k = (stays entry.0 entry.1 k.0, given-stays g h stays answers k.1)
 
 -- ---- files at an index
 
@@ -141,11 +136,11 @@ pub grows-none : (gives : FileAnswers) (files : Files) → AreGiven gives (answe
 grows-none gives files given = record { more = []; kept = sym (append-nil files); given = given }
 
 -- files are added twice
-pub grows-twice : (gives now : FileAnswers) → ((path : List ℕ) (a : FileAnswer) → now.may path a → gives.may path a) → (old mid new : Files) → Grows gives old mid → Grows now mid new → Grows gives old new
-grows-twice gives now stays old mid new h k = record {
+pub grows-twice : (gives : FileAnswers) (old mid new : Files) → Grows gives old mid → Grows gives mid new → Grows gives old new
+grows-twice gives old mid new h k = record {
   more = h.more ++ k.more;
   kept = k.kept ∙ ap (λ files. files ++ k.more) h.kept ∙ append_assoc old h.more k.more;
-  given = given-stays now gives stays (answers_of new) k.given;
+  given = k.given;
 }
 
 -- ---- a file that is looked up
@@ -187,7 +182,7 @@ found-file gives files path index name file given at key value =
 
 -- a file that is read now
 pub read-file : (gives : FileAnswers) (files new : Files) (path : List ℕ) (name : String Global) (file : CheckedFile) → AreGiven gives (answers_of files)
-    → answer_at (answers_of files) path ≡ None → string_bytes name ≡ path → gives.may path (Holds (string_bytes file.whole)) → new ≡ files ++ (name, Some file) ∷ []
+    → answer_at (answers_of files) path ≡ None → string_bytes name ≡ path → MayAnswer gives path (Holds (string_bytes file.whole)) → new ≡ files ++ (name, Some file) ∷ []
     → Finds gives files new path (length files)
 read-file gives files new path name file given none path_is gave e =
     let answers : answers_of new ≡ answers_of files ++ (path, Holds (string_bytes file.whole)) ∷ [] =
@@ -228,7 +223,7 @@ read-refused gives files path place given none (Fault fault) h = record {
 
 -- a path that is read now, where there is a file or none
 pub seen-now : (gives : FileAnswers) (files new : Files) (path : List ℕ) (name : String Global) (file : Option CheckedFile) (there : Bool) → AreGiven gives (answers_of files)
-    → answer_at (answers_of files) path ≡ None → string_bytes name ≡ path → gives.may path (answer_for file) → new ≡ files ++ (name, file) ∷ [] → there ≡ is_some file
+    → answer_at (answers_of files) path ≡ None → string_bytes name ≡ path → MayAnswer gives path (answer_for file) → new ≡ files ++ (name, file) ∷ [] → there ≡ is_some file
     → Sees gives files new path there
 seen-now gives files new path name file there given none path_is gave e is =
     let answers : answers_of new ≡ answers_of files ++ (path, answer_for file) ∷ [] =

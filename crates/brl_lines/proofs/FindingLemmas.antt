@@ -17,7 +17,7 @@ use Rattle.brl_lines.specs.Views.{load_fault_view}
 use Rattle.brl_lines.specs.declared.fault.LoadFault.{LoadFault}
 use Rattle.brl_lines.specs.declared.fault.LoadFaultKind.{LoadFaultKind}
 use Rattle.brl_lines.specs.declared.fault.LoadFaultKind.TheVariants as kinds
-use Rattle.brl_lines.proofs.FileLemmas.{extends-older, given-stays, grows-none, grows-twice}
+use Rattle.brl_lines.proofs.FileLemmas.{extends-older, grows-none, grows-twice}
 
 -- ---- no folders
 
@@ -104,36 +104,35 @@ module _ (gives : FileAnswers) (old : Files) (paths : List (String Global)) (oth
     by_next answer extends missing e =
         skips.passed answer extends ∙ ap (λ (ps : List (List ℕ)). first_there answer ps other) (paths-left paths i path within is) ∙ ap (next answer) e
 
-    module _ (then : FileAnswers) (stays : (p : List ℕ) (a : FileAnswer) → then.may p a → gives.may p a) where
-      module _ (new : Files) (there : Bool) (sees : Sees then now new (string_bytes path) there) where
-        both : Grows gives old new
-        both = grows-twice gives then stays old now new skips.grows sees.grows
+    module _ (new : Files) (there : Bool) (sees : Sees gives now new (string_bytes path) there) where
+      both : Grows gives old new
+      both = grows-twice gives old now new skips.grows sees.grows
 
-        after : (answer : List ℕ → Option FileAnswer) → Extends new answer → first_there answer all other ≡ next answer (not there)
-        after answer extends =
-            by_next answer (extends-older then now new sees.grows answer extends) (not there)
-            (ap is_missing (extends (string_bytes path) sees.answer sees.known) ∙ sees.is)
+      after : (answer : List ℕ → Option FileAnswer) → Extends new answer → first_there answer all other ≡ next answer (not there)
+      after answer extends =
+          by_next answer (extends-older gives now new sees.grows answer extends) (not there)
+          (ap is_missing (extends (string_bytes path) sees.answer sees.known) ∙ sees.is)
 
-        pub skips-more : there ≡ false → Skips new (i + 1)
-        skips-more e = record { grows = both; passed = λ answer extends. after answer extends ∙ ap (λ b. next answer (not b)) e }
+      pub skips-more : there ≡ false → Skips new (i + 1)
+      skips-more e = record { grows = both; passed = λ answer extends. after answer extends ∙ ap (λ b. next answer (not b)) e }
 
-        pub finds-here : there ≡ true → (same : List ℕ) → same ≡ string_bytes path → FindsFirst gives old new all other same
-        finds-here e same same_is = record { grows = both; first_is = λ answer extends. after answer extends ∙ ap (λ b. next answer (not b)) e ∙ sym same_is }
+      pub finds-here : there ≡ true → (same : List ℕ) → same ≡ string_bytes path → FindsFirst gives old new all other same
+      finds-here e same same_is = record { grows = both; first_is = λ answer extends. after answer extends ∙ ap (λ b. next answer (not b)) e ∙ sym same_is }
 
-      -- the file there is refused
-      pub refused-here : (place : Option LocationView) (failure : Failure LoadFault) → Fails then now (λ answer. text_of (string_bytes path) place (answer (string_bytes path))) failure
-          → IfFault (λ fault. fault.kind ≢ kinds.NotFound) failure → Fails gives old (text_of_first all other place) failure
-      refused-here place Memory h k = tt
-      refused-here place (Fault fault) h k =
-          let answer = answer_at h.answers in
-          let here = by_next answer h.extends false (there-by-text (string_bytes path) place (answer (string_bytes path)) (load_fault_view fault) h.fails k) in
-          record {
-            answers = h.answers;
-            given = given-stays then gives stays h.answers h.given;
-            extends = extends-older gives old now skips.grows answer h.extends;
-            fails = ap (λ (p : List ℕ). text_of p place (answer p)) here ∙ h.fails;
-            unreadable = λ failed. stays _ _ (h.unreadable failed);
-          }
+    -- the file there is refused
+    pub refused-here : (place : Option LocationView) (failure : Failure LoadFault) → Fails gives now (λ answer. text_of (string_bytes path) place (answer (string_bytes path))) failure
+        → IfFault (λ fault. fault.kind ≢ kinds.NotFound) failure → Fails gives old (text_of_first all other place) failure
+    refused-here place Memory h k = tt
+    refused-here place (Fault fault) h k =
+        let answer = answer_at h.answers in
+        let here = by_next answer h.extends false (there-by-text (string_bytes path) place (answer (string_bytes path)) (load_fault_view fault) h.fails k) in
+        record {
+          answers = h.answers;
+          given = h.given;
+          extends = extends-older gives old now skips.grows answer h.extends;
+          fails = ap (λ (p : List ℕ). text_of p place (answer p)) here ∙ h.fails;
+          unreadable = h.unreadable;
+        }
 
 -- ---- the whole
 

@@ -1,5 +1,5 @@
 -- What is learnt of paths.
-use Rattle.std.proofs.Common.{◌≡◌, ◌≢◌, ◌≤◌, IfErr, ℕ, Bool, true, false, cond, nat_lt, List, [], ◌∷◌, length, refl, ap, subst, inl, inr, sym, ◌∙◌, Option, Some, None, Result, Ok, Err, string_bytes}
+use Rattle.std.proofs.Common.{◌≡◌, ◌≢◌, IfErr, ℕ, Bool, true, false, cond, nat_lt, List, [], ◌∷◌, length, refl, ap, subst, sym, ◌∙◌, Option, Some, None, Result, Ok, Err, string_bytes}
 use Rattle.std.proofs.lemmas.Bool.{false≢true}
 use Rattle.std.proofs.lemmas.Slice.Eq.{bytes_eq-Decides}
 use Rattle.std.specs.Global.{Global}
@@ -8,11 +8,9 @@ use Rattle.std.specs.Str.{is_utf8}
 use Rattle.indexmap.specs.IndexMap.{insert_entry}
 use Rattle.brl_failure.specs.declared.failure.Failure.{Failure}
 use Rattle.brl_failure.specs.declared.failure.Failure.TheVariants as failures
-use Rattle.brl_lines.specs.Answer.{FileAnswer, FileAnswers, Holds, Large, Missing, Unchanged, Unreadable, most_file_bytes}
-use Rattle.brl_lines.specs.GatherFaults.{IsFaultAs, most_paths}
-use Rattle.brl_lines.specs.Gathering.{StopView}
+use Rattle.brl_lines.specs.Answer.{FileAnswer, FileAnswers, Holds, Large, MayAnswer, Missing, Unreadable, most_file_bytes}
 use Rattle.brl_lines.specs.Gathered.{IsUnread, KnownPaths, answer_of_known, known_answers}
-use Rattle.brl_lines.specs.Lines.{Answers, LocationView, Refusal, long_row, refusal, text_in, text_of, unless_long}
+use Rattle.brl_lines.specs.Lines.{LocationView, Refusal, long_row, refusal, text_in, text_of, unless_long}
 use Rattle.brl_lines.specs.Outcome.{AreGiven}
 use Rattle.brl_lines.specs.Rows.{without_mark}
 use Rattle.brl_failure.specs.Failure.{IfFault}
@@ -23,12 +21,7 @@ use Rattle.brl_lines.specs.declared.checked_file.CheckedFile.{CheckedFile}
 use Rattle.brl_lines.specs.declared.fault.LoadFault.{LoadFault}
 use Rattle.brl_lines.specs.declared.fault.LoadFaultKind.{LoadFaultKind}
 use Rattle.brl_lines.specs.declared.fault.LoadFaultKind.TheVariants as kinds
-use Rattle.brl_lines.specs.declared.gathering.GatherFault.{GatherFault}
-use Rattle.brl_lines.specs.declared.gathering.GatherFault.TheVariants.{LeadsOut, Load}
 use Rattle.brl_lines.specs.declared.known.Known.{Known}
-use Rattle.brl_lines.specs.declared.way.StopKind.{StopKind}
-use Rattle.brl_lines.specs.declared.way.StopKind.TheVariants as stops
-use Rattle.brl_lines.proofs.FileLemmas.{given-stays}
 
 -- ---- files that aren't there
 
@@ -53,10 +46,10 @@ text_in-there path place bytes = by_tests (nat_lt most_file_bytes (length bytes)
     by_tests false false long = refl
 
 pub missing-read : (gives : FileAnswers) (path : List ℕ) (place : Option LocationView) (fault : LoadFault) → fault.kind ≡ kinds.NotFound
-    → (answer : FileAnswer) → gives.may path answer → text_of path place (Some answer) ≡ Err (load_fault_view fault) → gives.may path Missing
+    → (answer : FileAnswer) → MayAnswer gives path answer → text_of path place (Some answer) ≡ Err (load_fault_view fault) → MayAnswer gives path Missing
 missing-read gives path place fault kind answer given e = by_answer answer given (ap tells_missing e ∙ ap is_not_found kind)
   where
-    by_answer : (answer : FileAnswer) → gives.may path answer → tells_missing (text_of path place (Some answer)) ≡ true → gives.may path Missing
+    by_answer : (answer : FileAnswer) → MayAnswer gives path answer → tells_missing (text_of path place (Some answer)) ≡ true → MayAnswer gives path Missing
     by_answer (Holds bytes) given told = absurd (false≢true (sym (text_in-there path place bytes) ∙ told))
     by_answer Missing given told = given
     by_answer Large given told = absurd (false≢true told)
@@ -65,7 +58,7 @@ missing-read gives path place fault kind answer given e = by_answer answer given
 pub found-out : (gives : FileAnswers) (path : List ℕ) (place : Option LocationView) (fault : LoadFault) (may : Bool) (result : Result (Option CheckedFile) (Failure LoadFault))
     → IsMissingOr may fault result → IsUnread gives path place (failures.Fault fault) → FindsFile gives path place result
 found-out gives path place fault may (Ok found) so unread =
-    subst (λ (k : Option CheckedFile). gives.may path (answer_for k)) (sym so.2) (missing-read gives path place fault so.1 unread.0 unread.1 unread.2)
+    subst (λ (k : Option CheckedFile). MayAnswer gives path (answer_for k)) (sym so.2) (missing-read gives path place fault so.1 unread.0 unread.1 unread.2)
 found-out gives path place fault may (Err failure) so unread = subst (IsUnread gives path place) (sym so.0) unread
 
 -- where no file may be there, that is no fault
@@ -77,42 +70,11 @@ not-missing fault may (Err failure) so e = subst (IfFault (λ one. one.kind ≢ 
 -- ---- what is known of one path more
 
 pub given-inserted : (gives : FileAnswers) (entries : KnownPaths) (key : String Global) (known : Known) → AreGiven gives (known_answers entries)
-    → gives.may (string_bytes key) (answer_of_known known) → AreGiven gives (known_answers (insert_entry string_eq entries key known))
+    → MayAnswer gives (string_bytes key) (answer_of_known known) → AreGiven gives (known_answers (insert_entry string_eq entries key known))
 given-inserted gives [] key known are is = (is, tt)
 given-inserted gives (entry ∷ entries) key known are is = by_test (string_eq key entry.0) refl (given-inserted gives entries key known are.1 is)
   where
     by_test : (b : Bool) → string_eq key entry.0 ≡ b → AreGiven gives (known_answers (insert_entry string_eq entries key known))
         → AreGiven gives (known_answers (cond b ((entry.0, known) ∷ entries) (entry ∷ insert_entry string_eq entries key known)))
-    by_test true same rest = (subst (λ (p : List ℕ). gives.may p (answer_of_known known)) ((bytes_eq-Decides (string_bytes key) (string_bytes entry.0)).0 same) is, are.1)
+    by_test true same rest = (subst (λ (p : List ℕ). MayAnswer gives p (answer_of_known known)) ((bytes_eq-Decides (string_bytes key) (string_bytes entry.0)).0 same) is, are.1)
     by_test false same rest = (are.0, rest)
-
--- what one source gave, another may give, that looks in the same folders
-module _ (g h : FileAnswers) (folders : h.folders ≡ g.folders) (stays : (path : List ℕ) (a : FileAnswer) → g.may path a → h.may path a) where
-  pub fault-stays : (answers : Answers) (kind : StopKind) (stop : StopView) (fault : GatherFault) → IsFaultAs kind g answers stop fault → IsFaultAs kind h answers stop fault
-  fault-stays answers stops.LeadsOut stop fault x = x
-  fault-stays answers stops.TooDeep stop fault x = x
-  fault-stays answers stops.Unknown stop fault (inl x) = inl (subst (λ (fs : List (List ℕ)). most_paths fs ≤ length answers) (sym folders) x.0, x.1)
-  fault-stays answers stops.Unknown stop fault (inr (inl x)) = inr (inl x)
-  fault-stays answers stops.Unknown stop (Load fault) (inr (inr x)) = inr (inr ((x.0.0, stays _ _ x.0.1, x.0.2, λ k. stays _ _ (x.0.3 k)), x.1))
-  fault-stays answers stops.Unknown stop (LeadsOut out) (inr (inr x)) = absurd x
-
--- ---- what a source gave while paths were asked for
-
--- what was learnt is given now, and the source gives what it gave at the start
-pub record HasLearnt (start now : FileAnswers) (answers : Answers) : Type 0 where
-  pub given : AreGiven now answers
-  pub same : Unchanged start now
-
-pub learnt-nothing : (start : FileAnswers) (answers : Answers) → AreGiven start answers → HasLearnt start start answers
-learnt-nothing start answers given = record { given = given; same = (refl, λ p a. (λ x. x, λ x. x)) }
-
--- more was learnt, of what the source gave before
-pub learnt-more : (start now next : FileAnswers) (old new : Answers) → HasLearnt start now old → Unchanged now next → AreGiven now new → HasLearnt start next new
-learnt-more start now next old new before same given = record {
-  given = given-stays now next (λ p a. (same.1 p a).1) new given;
-  same = (same.0 ∙ before.same.0, λ p a. (λ x. (before.same.1 p a).0 ((same.1 p a).0 x), λ x. (same.1 p a).1 ((before.same.1 p a).1 x)));
-}
-
--- it was given at the start
-pub learnt-given : (start now : FileAnswers) (answers : Answers) → HasLearnt start now answers → AreGiven start answers
-learnt-given start now answers learnt = given-stays now start (λ p a. (learnt.same.1 p a).0) answers learnt.given

@@ -12,7 +12,6 @@ pub mod LoadLemmas
 pub mod LoopLemmas
 pub mod MemoryLemmas
 pub mod MoreLemmas
-pub mod Moved
 pub mod PieceLemmas
 pub mod RowLemmas
 pub mod SliceLemmas

@@ -1,5 +1,5 @@
 -- The rows of a file, added one after another.
-use Rattle.std.proofs.Common.{◌≡◌, ℕ, ◌+◌, ◌-◌, ◌<◌, ◌≤◌, List, [], ◌∷◌, ◌++◌, length, ap, sym, ◌∙◌, subst, arith, append-nil, Option, Result, Ok, Err}
+use Rattle.std.proofs.Common.{◌≡◌, ℕ, ◌+◌, ◌-◌, ◌<◌, ◌≤◌, List, [], ◌∷◌, ◌++◌, length, ap, sym, ◌∙◌, subst, arith, append-nil, Option, Result, Err}
 use Rattle.std.proofs.lemmas.List.Concat.{flat_map-append}
 use Rattle.std.specs.Global.{Vec}
 use Rattle.std.specs.Prelude.{string_bytes}
@@ -7,7 +7,7 @@ use Rattle.std.specs.Str.{IsCharBoundary}
 use Rattle.brl_failure.specs.declared.failure.Failure.{Failure}
 use Rattle.brl_lines.specs.Answer.{FileAnswer, FileAnswers}
 use Rattle.brl_lines.specs.Files.{Files, chain_of, lines_at, span_lines, text_at}
-use Rattle.brl_lines.specs.Lines.{Expanded, Follow, LocationView, Refusal, expanded, expanded_as, follow, location_of}
+use Rattle.brl_lines.specs.Lines.{Expanded, Follow, LocationView, Refusal, expanded, follow, location_of}
 use Rattle.brl_lines.specs.Rows.{piece}
 use Rattle.brl_lines.specs.Steps.{AreSpans, Enters, Expands, Extends, Fails, Grows, IsKindOf, IsOpen, IsReady, IsRow, IsSpan, after, lines_from, lines_of_file, lines_of_include}
 use Rattle.brl_lines.specs.Tokens.{LineView}
@@ -158,7 +158,7 @@ module _ (gives : FileAnswers) (root : List ℕ) (file : OpenFile) (old : Expans
             }
 
         -- it includes a file
-        module _ (include : IncludeLine) (e : row.kind ≡ Include include) (then : FileAnswers) (folders : then.folders ≡ gives.folders) (stays : (path : List ℕ) (a : FileAnswer) → then.may path a → gives.may path a) where
+        module _ (include : IncludeLine) (e : row.kind ≡ Include include) where
           abbrev place : LocationView
           place = record { file = string_bytes file.path; line = include.line }
 
@@ -170,60 +170,46 @@ module _ (gives : FileAnswers) (root : List ℕ) (file : OpenFile) (old : Expans
               (added.so_far answer extends) kind.0 kind.1 (string_bytes include.name) kind.2 place (place-is kind.0 (string_bytes file.path) number include.line kind.3 kind.4 kind.5) d h)
 
           -- that file is refused
-          pub refused-include : (failure : Failure LoadFault) → Fails then now.files.entries (lines_of_include then.folders root file include now) failure → Fails gives old.files.entries (lines_of_file gives.folders root file old) failure
+          pub refused-include : (failure : Failure LoadFault) → Fails gives now.files.entries (lines_of_include gives.folders root file include now) failure → Fails gives old.files.entries (lines_of_file gives.folders root file old) failure
           refused-include failure h =
-              fails-later gives then stays old.files.entries now.files.entries added.grows (lines_of_file gives.folders root file old) failure
-              (fails-more then now.files.entries (lines_of_include gives.folders root file include now) (lines_of_file gives.folders root file old) failure refused
-              (subst (λ (fs : List (List ℕ)). Fails then now.files.entries (lines_of_include fs root file include now) failure) folders h))
+              fails-later gives old.files.entries now.files.entries added.grows (lines_of_file gives.folders root file old) failure
+              (fails-more gives now.files.entries (lines_of_include gives.folders root file include now) (lines_of_file gives.folders root file old) failure refused h)
 
-          module _ (entered : Expansion) (inner : OpenFile) (enters : Enters then now entered root file include inner) where
+          module _ (entered : Expansion) (inner : OpenFile) (enters : Enters gives now entered root file include inner) where
             both : Grows gives old.files.entries entered.files.entries
-            both = grows-twice gives then stays old.files.entries now.files.entries entered.files.entries added.grows enters.grows
+            both = grows-twice gives old.files.entries now.files.entries entered.files.entries added.grows enters.grows
 
             older : (answer : List ℕ → Option FileAnswer) → Extends entered.files.entries answer → Extends now.files.entries answer
-            older = extends-older then now.files.entries entered.files.entries enters.grows
-
-            enters-by : (answer : List ℕ → Option FileAnswer) → Extends entered.files.entries answer → lines_of_include gives.folders root file include now answer ≡ lines_of_file gives.folders root inner entered answer
-            enters-by = subst
-                (λ (fs : List (List ℕ)). (answer : List ℕ → Option FileAnswer) → Extends entered.files.entries answer → lines_of_include fs root file include now answer ≡ lines_of_file fs root inner entered answer)
-                folders enters.follows
+            older = extends-older gives now.files.entries entered.files.entries enters.grows
 
             pub inner-spans : AreSpans entered.files.entries entered.spans.items
-            inner-spans = subst (AreSpans entered.files.entries) (sym enters.spans) (spans-grow then now.files.entries entered.files.entries enters.grows now.spans.items added.spans)
+            inner-spans = subst (AreSpans entered.files.entries) (sym enters.spans) (spans-grow gives now.files.entries entered.files.entries enters.grows now.spans.items added.spans)
 
-            module _ (last : FileAnswers) (still : last.folders ≡ gives.folders) (remains : (path : List ℕ) (a : FileAnswer) → last.may path a → gives.may path a) where
-              -- or its lines are
-              pub refused-inner : (failure : Failure LoadFault) → Fails last entered.files.entries (lines_of_file last.folders root inner entered) failure → Fails gives old.files.entries (lines_of_file gives.folders root file old) failure
-              refused-inner failure h =
-                  fails-later gives last remains old.files.entries entered.files.entries both (lines_of_file gives.folders root file old) failure
-                  (fails-more last entered.files.entries (lines_of_file gives.folders root inner entered) (lines_of_file gives.folders root file old) failure
-                  (λ answer d extends no. refused answer d (older answer extends) (enters-by answer extends ∙ no))
-                  (subst (λ (fs : List (List ℕ)). Fails last entered.files.entries (lines_of_file fs root inner entered) failure) still h))
+            -- or its lines are
+            pub refused-inner : (failure : Failure LoadFault) → Fails gives entered.files.entries (lines_of_file gives.folders root inner entered) failure → Fails gives old.files.entries (lines_of_file gives.folders root file old) failure
+            refused-inner failure h =
+                fails-later gives old.files.entries entered.files.entries both (lines_of_file gives.folders root file old) failure
+                (fails-more gives entered.files.entries (lines_of_file gives.folders root inner entered) (lines_of_file gives.folders root file old) failure
+                (λ answer d extends no. refused answer d (older answer extends) (enters.follows answer extends ∙ no)) h)
 
-              -- its lines were added
-              pub added-include : (new : Expansion) → Expands last entered new (lines_of_file last.folders root inner entered) → Added new (number + 1) row.next
-              added-include new expands =
-                  let kind = kind_is (Include include) e in
-                  let adds : (answer : List ℕ → Option FileAnswer) → Extends new.files.entries answer
-                  → after (lines_at entered.files.entries entered.spans.items) (lines_of_file gives.folders root inner entered answer) ≡ Ok (expanded_as (lines_at new.files.entries new.spans.items) new.include_count) =
-                  subst
-                  (λ (fs : List (List ℕ)). (answer : List ℕ → Option FileAnswer) → Extends new.files.entries answer
-                  → after (lines_at entered.files.entries entered.spans.items) (lines_of_file fs root inner entered answer) ≡ Ok (expanded_as (lines_at new.files.entries new.spans.items) new.include_count))
-                  still expands.adds in
-                  let lines : lines_at now.files.entries now.spans.items ≡ lines_at entered.files.entries entered.spans.items =
-                  sym (ap (lines_at entered.files.entries) enters.spans ∙ lines_at-grows then now.files.entries entered.files.entries enters.grows now.spans.items added.spans) in
-                  record {
-                    boundary = row-boundary;
-                    within = row-within;
-                    few = row-few;
-                    grows = grows-twice gives last remains old.files.entries entered.files.entries new.files.entries both expands.grows;
-                    spans = expands.spans;
-                    so_far = λ answer extends.
-                        (let known = extends-older last entered.files.entries new.files.entries expands.grows answer extends in
-                        row-include (follows answer) (lines_at now.files.entries now.spans.items) now.include_count (left number at) (span_lines now.files.entries row.span) (left (number + 1) row.next) (whole answer) cut
-                        (added.so_far answer (older answer known)) kind.0 kind.1 (string_bytes include.name) kind.2 place (place-is kind.0 (string_bytes file.path) number include.line kind.3 kind.4 kind.5)
-                        (lines_at new.files.entries new.spans.items) new.include_count
-                        (ap (after (lines_at now.files.entries now.spans.items)) (enters-by answer known)
-                        ∙ ap (λ (ls : List LineView). after ls (lines_of_file gives.folders root inner entered answer)) lines
-                        ∙ adds answer extends));
-                  }
+            -- its lines were added
+            pub added-include : (new : Expansion) → Expands gives entered new (lines_of_file gives.folders root inner entered) → Added new (number + 1) row.next
+            added-include new expands =
+                let kind = kind_is (Include include) e in
+                let lines : lines_at now.files.entries now.spans.items ≡ lines_at entered.files.entries entered.spans.items =
+                sym (ap (lines_at entered.files.entries) enters.spans ∙ lines_at-grows gives now.files.entries entered.files.entries enters.grows now.spans.items added.spans) in
+                record {
+                  boundary = row-boundary;
+                  within = row-within;
+                  few = row-few;
+                  grows = grows-twice gives old.files.entries entered.files.entries new.files.entries both expands.grows;
+                  spans = expands.spans;
+                  so_far = λ answer extends.
+                      (let known = extends-older gives entered.files.entries new.files.entries expands.grows answer extends in
+                      row-include (follows answer) (lines_at now.files.entries now.spans.items) now.include_count (left number at) (span_lines now.files.entries row.span) (left (number + 1) row.next) (whole answer) cut
+                      (added.so_far answer (older answer known)) kind.0 kind.1 (string_bytes include.name) kind.2 place (place-is kind.0 (string_bytes file.path) number include.line kind.3 kind.4 kind.5)
+                      (lines_at new.files.entries new.spans.items) new.include_count
+                      (ap (after (lines_at now.files.entries now.spans.items)) (enters.follows answer known)
+                      ∙ ap (λ (ls : List LineView). after ls (lines_of_file gives.folders root inner entered answer)) lines
+                      ∙ expands.adds answer extends));
+                }

@@ -3,7 +3,7 @@ use Rattle.std.proofs.Common.{◌≡◌, ◌∙◌, ◌⊎◌, inl, inr, ℕ, ze
 use Rattle.std.proofs.lemmas.List.{drop_all}
 use Rattle.std.specs.List.{AllByRecursion, enumerate_from}
 use Rattle.std.specs.Prelude.{string_bytes}
-use Rattle.brl_lines.specs.Answer.{Holds, FileAnswers}
+use Rattle.brl_lines.specs.Answer.{Holds, FileAnswers, MayAnswer}
 use Rattle.brl_lines.specs.Files.{Files, answers_of, lines_at, path_at, span_lines, text_at}
 use Rattle.brl_lines.specs.Outcome.{AreGiven, IsLineOfFile}
 use Rattle.brl_lines.specs.Rows.{piece, without_mark}
@@ -32,7 +32,7 @@ lines_at-in_order files spans = all_of IsInOrder (lines_at files spans) (in_orde
 
 -- the source gave each file, or there is none, which has no text
 gave-file : (gives : FileAnswers) (files : Files) (index : ℕ) → AreGiven gives (answers_of files) → index < length files
-    → ((bytes : List ℕ) × gives.may (path_at files index) (Holds bytes) × (without_mark bytes ≡ text_at files index)) ⊎ (text_at files index ≡ [])
+    → ((bytes : List ℕ) × MayAnswer gives (path_at files index) (Holds bytes) × (without_mark bytes ≡ text_at files index)) ⊎ (text_at files index ≡ [])
 gave-file gives [] index given less = absurd (omega arith)
 gave-file gives ((name, None) ∷ files) zero given less = inr refl
 gave-file gives ((name, Some file) ∷ files) zero given less = inl (string_bytes file.whole, given.0, refl)
@@ -52,10 +52,10 @@ no_lines files span none =
     ∙ ap (λ (row : List (ℕ × ℕ)). line_of (path_at files span.file) span.line (map token_of (tokens row))) (no_piece span.from span.to)
 
 module _ (gives : FileAnswers) (files : Files) (given : AreGiven gives (answers_of files)) where
-  of_file : (span : LineSpan) (bytes : List ℕ) → gives.may (path_at files span.file) (Holds bytes) → without_mark bytes ≡ text_at files span.file → (line : LineView)
+  of_file : (span : LineSpan) (bytes : List ℕ) → MayAnswer gives (path_at files span.file) (Holds bytes) → without_mark bytes ≡ text_at files span.file → (line : LineView)
       → IsGood (text_at files span.file) (path_at files span.file) line → IsLineOfFile gives line
   of_file span bytes gave text line good =
-      (bytes, subst (λ (path : List ℕ). gives.may path (Holds bytes)) (sym good.of_file) gave, subst (λ (text : List ℕ). IsCutFrom text line) (sym text) good.slices)
+      (bytes, subst (λ (path : List ℕ). MayAnswer gives path (Holds bytes)) (sym good.of_file) gave, subst (λ (text : List ℕ). IsCutFrom text line) (sym text) good.slices)
 
   of_span : (span : LineSpan) → IsSpan files span → AllByRecursion (IsLineOfFile gives) (span_lines files span)
   of_span span h =

@@ -4,7 +4,7 @@ use Rattle.std.proofs.lemmas.Bool.{and_from, and_parts, ltb-true}
 use Rattle.std.proofs.lemmas.List.{take_more}
 use Rattle.std.proofs.lemmas.List.Concat.{flat_map-append}
 use Rattle.std.proofs.lemmas.Str.{chars-encodes, encode_ascii, encodes-append}
-use Rattle.std.specs.Char.{IsScalar, digit_char, encode_utf8}
+use Rattle.std.specs.Char.{IsScalar, digit_char}
 use Rattle.std.specs.Fmt.{digit_glyph}
 use Rattle.std.specs.Str.{all_scalars, encode_utf8_all}
 use lib.Utf8.{low_scalar, scalar, scalar_cases}

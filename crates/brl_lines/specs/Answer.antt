@@ -1,7 +1,8 @@
 -- What a source of files answers for a path, and how it counts its failures.
 -- The manual leaves open where files come from: this is the project's own choice.
-use Rattle.std.specs.Prelude.{ℕ, ◌≡◌, ◌+◌, ◌^◌, ◌-◌, ◌↔◌, min, Bool, true, false, List, length, nat_le, if◌then◌else◌, None, Some, Ok, Err, Result, Option}
+use Rattle.std.specs.Prelude.{ℕ, ◌≡◌, ◌+◌, ◌^◌, ◌-◌, IsTrue, min, Bool, true, false, List, length, nat_le, if◌then◌else◌, None, Some, Ok, Err, Result, Option}
 use Rattle.std.specs.Global.{Vec}
+use Rattle.std.specs.Str.{bytes_eq}
 use Rattle.brl_failure.specs.Failure.{IfFault}
 use Rattle.brl_failure.specs.declared.failure.Failure.{Failure}
 use Rattle.brl_failure.specs.declared.failure.Failure.TheVariants.{Fault}
@@ -17,25 +18,29 @@ pub data FileAnswer : Type 0 where
 
 -- what a source gives: the folders in which a file is looked for that isn't at its usual path, in
 -- order, and what it may answer for each path
-pub record FileAnswers : Type 1 where
+pub record FileAnswers : Type 0 where
   pub folders : List (List ℕ)
-  pub may : List ℕ → FileAnswer → Type 0
+  pub may : List ℕ → FileAnswer → Bool
 
--- it may answer the same as before
-abbrev pub MayAnswerSame : FileAnswers → FileAnswers → Type 0
-MayAnswerSame old new = (path : List ℕ) (answer : FileAnswer) → new.may path answer ↔ old.may path answer
-
--- it looks in the same folders as before, and may answer the same
-abbrev pub Unchanged : FileAnswers → FileAnswers → Type 0
-Unchanged old new = (new.folders ≡ old.folders) × MayAnswerSame old new
+-- it may give this answer for a path
+abbrev pub MayAnswer : FileAnswers → List ℕ → FileAnswer → Type 0
+MayAnswer gives path answer = IsTrue (gives.may path answer)
 
 -- it has one answer at most for each path
 abbrev pub IsDeterministic : FileAnswers → Type 0
-IsDeterministic gives = (path : List ℕ) (one other : FileAnswer) → gives.may path one → gives.may path other → one ≡ other
+IsDeterministic gives = (path : List ℕ) (one other : FileAnswer) → MayAnswer gives path one → MayAnswer gives path other → one ≡ other
 
 -- the same answers, where files are looked for in these folders
 abbrev pub looking : List (List ℕ) → FileAnswers → FileAnswers
 looking folders gives = record { folders = folders; may = gives.may }
+
+-- whether two answers are the same
+abbrev pub same_answer : FileAnswer → FileAnswer → Bool
+same_answer (Holds bytes) (Holds other) = bytes_eq bytes other
+same_answer Missing Missing = true
+same_answer Large Large = true
+same_answer Unreadable Unreadable = true
+same_answer one other = false
 
 -- it is known that there is no file
 abbrev pub is_missing : Option FileAnswer → Bool

@@ -3,7 +3,7 @@ use Rattle.std.specs.Prelude.{◌≡◌, List, map, option_map, ℕ, Option, Som
 use Rattle.std.specs.Global.{Global}
 use Rattle.brl_failure.specs.Failure.{IfFault}
 use Rattle.brl_failure.specs.declared.failure.Failure.{Failure}
-use Rattle.brl_lines.specs.Answer.{FileAnswer, FileAnswers, Holds, Missing}
+use Rattle.brl_lines.specs.Answer.{FileAnswer, FileAnswers, Holds, Missing, MayAnswer}
 use Rattle.brl_lines.specs.Gathering.{IncludeView, LeftView, StopView, Visit, WayView, place_of, stop, taken}
 use Rattle.brl_lines.specs.Lines.{Answers, LocationView, answer_at, text_of}
 use Rattle.brl_lines.specs.Outcome.{IsReadFailure}
@@ -60,10 +60,10 @@ IsTaken folders answer root file include old new (Err failure) =
 -- the source gave an answer for the file at a path for which it is refused
 abbrev pub IsUnread : FileAnswers → List ℕ → Option LocationView → Failure LoadFault → Type 0
 IsUnread gives path place failure =
-    IfFault (λ fault. (answer : FileAnswer) × gives.may path answer × (text_of path place (Some answer) ≡ Err (load_fault_view fault))
+    IfFault (λ fault. (answer : FileAnswer) × MayAnswer gives path answer × (text_of path place (Some answer) ≡ Err (load_fault_view fault))
     × IsReadFailure gives (load_fault_view fault)) failure
 
 -- what is at a path was found out, or its file is refused
 abbrev pub FindsOut : FileAnswers → List ℕ → Option LocationView → Result Known (Failure LoadFault) → Type 0
-FindsOut gives path place (Ok found) = gives.may path (answer_of_known found)
+FindsOut gives path place (Ok found) = MayAnswer gives path (answer_of_known found)
 FindsOut gives path place (Err failure) = IsUnread gives path place failure

@@ -1,9 +1,9 @@
 -- Files in memory. The project's own choice.
-use Rattle.std.specs.Prelude.{ℕ, ◌≡◌, List, [], map, Option, None, Some, String, string_bytes}
+use Rattle.std.specs.Prelude.{ℕ, List, [], map, Option, None, Some, String, string_bytes}
 use Rattle.std.specs.Global.{Global, Vec}
 use Rattle.std.specs.BTreeMap.{get_by_text}
 use Rattle.std.specs.Option.{option_map}
-use Rattle.brl_lines.specs.Answer.{FileAnswer, FileAnswers, answer_of}
+use Rattle.brl_lines.specs.Answer.{FileAnswer, FileAnswers, answer_of, same_answer}
 use Rattle.brl_lines.specs.declared.map_source.MapSource.{MapSource}
 
 -- folders that are given, or none
@@ -21,4 +21,4 @@ answer_in source path = answer_of (bytes_in source path)
 
 -- what they give
 abbrev pub given_in : MapSource → FileAnswers
-given_in source = record { folders = folders_of source.folders; may = λ path answer. answer ≡ answer_in source path }
+given_in source = record { folders = folders_of source.folders; may = λ path answer. same_answer answer (answer_in source path) }

@@ -4,7 +4,7 @@ use Rattle.std.specs.List.{AllByRecursion}
 use Rattle.brl_failure.specs.Failure.{IfFault}
 use Rattle.brl_failure.specs.declared.failure.Failure.{Failure}
 use Rattle.brl_failure.specs.declared.failure.Failure.TheVariants.{Fault, Memory}
-use Rattle.brl_lines.specs.Answer.{Holds, FileAnswers, Unreadable, failures_after}
+use Rattle.brl_lines.specs.Answer.{Holds, FileAnswers, Unreadable, failures_after, MayAnswer}
 use Rattle.brl_lines.specs.Lines.{Answers, Refusal, lines_of}
 use Rattle.brl_lines.specs.Rows.{without_mark}
 use Rattle.brl_lines.specs.Slices.{IsCutFrom}
@@ -16,7 +16,7 @@ use Rattle.brl_lines.specs.declared.fault.LoadFaultKind.TheVariants as kinds
 
 -- the source may give each of these answers
 abbrev pub AreGiven : FileAnswers → Answers → Type 0
-AreGiven gives answers = AllByRecursion (λ entry. gives.may entry.0 entry.1) answers
+AreGiven gives answers = AllByRecursion (λ entry. MayAnswer gives entry.0 entry.1) answers
 
 -- the lines of the table whose root is at a path, for answers of the source
 abbrev pub AreLinesOf : FileAnswers → List ℕ → List LineView → Type 0
@@ -33,7 +33,7 @@ IsRefusedAs gives root want = (answers : Answers) × AreGiven gives answers × (
 
 -- a file that is refused as unreadable is one that the source may be unable to read
 abbrev pub IsReadFailure : FileAnswers → Refusal → Type 0
-IsReadFailure gives want = want.kind ≡ kinds.ReadFailed → gives.may want.path Unreadable
+IsReadFailure gives want = want.kind ≡ kinds.ReadFailed → MayAnswer gives want.path Unreadable
 
 -- why a table whose root is at a path isn't loaded; memory may run out at any file
 abbrev pub IsLoadFault : FileAnswers → List ℕ → Failure LoadFault → Type 0
@@ -59,4 +59,4 @@ CountsFailure before now (Err failure) = CountsFailed before now failure
 -- the tokens of the line are slices of its file's text, for bytes that the source may give for that
 -- file
 abbrev pub IsLineOfFile : FileAnswers → LineView → Type 0
-IsLineOfFile gives line = (bytes : List ℕ) × gives.may line.file (Holds bytes) × IsCutFrom (without_mark bytes) line
+IsLineOfFile gives line = (bytes : List ℕ) × MayAnswer gives line.file (Holds bytes) × IsCutFrom (without_mark bytes) line

@@ -4,7 +4,7 @@ use Rattle.std.specs.List.{AllByRecursion, enumerate_from, flat_map}
 use Rattle.std.specs.Str.{IsCharBoundary}
 use Rattle.brl_failure.specs.Failure.{◌>>=◌, IfFault}
 use Rattle.brl_failure.specs.declared.failure.Failure.{Failure}
-use Rattle.brl_lines.specs.Answer.{FileAnswer, Holds, FileAnswers, is_missing}
+use Rattle.brl_lines.specs.Answer.{FileAnswer, Holds, FileAnswers, is_missing, MayAnswer}
 use Rattle.brl_lines.specs.Files.{Files, answer_for, answers_of, chain_of, lines_at, path_at, span_lines, text_at}
 use Rattle.brl_lines.specs.Includes.{first_there, found, name_of, paths_in}
 use Rattle.brl_lines.specs.Lines.{Answers, Expanded, LocationView, Refusal, answer_at, expanded, expanded_as, follow, text_of}
@@ -96,9 +96,9 @@ Fails gives files want failure = IfFault (λ fault. FailsAs gives files want (lo
 -- the source gave the bytes of the file that is returned, or the answer for which its path is
 -- refused
 abbrev pub Reads : FileAnswers → List ℕ → Option LocationView → Result CheckedFile (Failure LoadFault) → Type 0
-Reads gives path place (Ok file) = gives.may path (Holds (string_bytes file.whole))
+Reads gives path place (Ok file) = MayAnswer gives path (Holds (string_bytes file.whole))
 Reads gives path place (Err failure) =
-    IfFault (λ fault. (answer : FileAnswer) × gives.may path answer × (text_of path place (Some answer) ≡ Err (load_fault_view fault)) × IsReadFailure gives (load_fault_view fault)) failure
+    IfFault (λ fault. (answer : FileAnswer) × MayAnswer gives path answer × (text_of path place (Some answer) ≡ Err (load_fault_view fault)) × IsReadFailure gives (load_fault_view fault)) failure
 
 -- the file with this index is the one at a path, and its text is good
 pub record Finds (gives : FileAnswers) (old new : Files) (path : List ℕ) (index : ℕ) : Type 0 where
@@ -109,9 +109,9 @@ pub record Finds (gives : FileAnswers) (old new : Files) (path : List ℕ) (inde
 
 -- what is at a path was found out: a file, or none; or its file is refused
 abbrev pub FindsFile : FileAnswers → List ℕ → Option LocationView → Result (Option CheckedFile) (Failure LoadFault) → Type 0
-FindsFile gives path place (Ok file) = gives.may path (answer_for file)
+FindsFile gives path place (Ok file) = MayAnswer gives path (answer_for file)
 FindsFile gives path place (Err failure) =
-    IfFault (λ fault. (answer : FileAnswer) × gives.may path answer × (text_of path place (Some answer) ≡ Err (load_fault_view fault)) × IsReadFailure gives (load_fault_view fault)) failure
+    IfFault (λ fault. (answer : FileAnswer) × MayAnswer gives path answer × (text_of path place (Some answer) ≡ Err (load_fault_view fault)) × IsReadFailure gives (load_fault_view fault)) failure
 
 -- that there is no file, where that may be and is the fault; else the fault
 abbrev pub IsMissingOr : Bool → LoadFault → Result (Option CheckedFile) (Failure LoadFault) → Type 0

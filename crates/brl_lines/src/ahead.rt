@@ -1,6 +1,5 @@
 //! Reads the files of a table ahead of the way through them, so that the way is gone once or twice.
-ghost use Rattle.std.specs.Prelude.{◌↔◌, ◌≤◌, IsTrue, OnOk, length, map, string_bytes};
-ghost use Rattle.brl_lines.specs.Answer.{Unchanged};
+ghost use Rattle.std.specs.Prelude.{◌≡◌, ◌↔◌, ◌≤◌, IsTrue, OnOk, length, map, string_bytes};
 ghost use Rattle.brl_lines.specs.GatherFaults.{most_paths};
 ghost use Rattle.brl_lines.specs.Gathered.{known_answers};
 ghost use Rattle.brl_lines.specs.Outcome.{AreGiven};
@@ -93,7 +92,7 @@ fn read_path<S: Source>(
 ) -> Result<(), AllocError>
     requires { AreGiven (S.gives source.old) (known_answers known.old.entries) }
     ensures given { AreGiven (S.gives source.old) (known_answers known.new.entries) }
-    ensures same { Unchanged (S.gives source.old) (S.gives source.new) }
+    ensures same { S.gives source.new ≡ S.gives source.old }
 {
     if is_full(known, source.folders()) || known.contains_key(path) {
         return Ok(());
@@ -113,7 +112,7 @@ fn read_first<S: Source>(
 ) -> Result<(), AllocError>
     requires { AreGiven (S.gives source.old) (known_answers known.old.entries) }
     ensures given { OnOk result (AreGiven (S.gives source.old) (known_answers known.new.entries)) }
-    ensures same { Unchanged (S.gives source.old) (S.gives source.new) }
+    ensures same { S.gives source.new ≡ S.gives source.old }
 {
     let place = Some(LocationRef {
         file: ahead.place.file.as_str(),
@@ -138,7 +137,7 @@ fn read_from<S: Source>(
 ) -> Result<(), AllocError>
     requires { AreGiven (S.gives source.old) (known_answers known.old.entries) }
     ensures given { OnOk result (AreGiven (S.gives source.old) (known_answers known.new.entries)) }
-    ensures same { Unchanged (S.gives source.old) (S.gives source.new) }
+    ensures same { S.gives source.new ≡ S.gives source.old }
 {
     for number in 0..include_count(known, index) {
         if let Some(ahead) = ahead_at(alloc, known, source.folders(), root, index, number)? {
@@ -158,7 +157,7 @@ pub(crate) fn read_ahead<S: Source>(
 ) -> Result<(), AllocError>
     requires { AreGiven (S.gives source.old) (known_answers known.old.entries) }
     ensures given { OnOk result (AreGiven (S.gives source.old) (known_answers known.new.entries)) }
-    ensures same { Unchanged (S.gives source.old) (S.gives source.new) }
+    ensures same { S.gives source.new ≡ S.gives source.old }
 {
     for index in 0..usize::MAX {
         if index >= known.len() {

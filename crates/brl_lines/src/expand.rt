@@ -4,7 +4,6 @@ ghost use Rattle.std.specs.Prelude.{◌≡◌, if◌then◌else◌, IfErr, IfOk,
 ghost use Rattle.std.specs.List.{list_any};
 ghost use Rattle.std.specs.Str.{bytes_eq};
 ghost use Rattle.brl_failure.specs.Failure.{IfFault};
-ghost use Rattle.brl_lines.specs.Answer.{Unchanged};
 ghost use Rattle.brl_lines.specs.Files.{answers_of, chain_of};
 ghost use Rattle.brl_lines.specs.Lines.{refusal as refusal_of};
 ghost use Rattle.brl_lines.specs.Outcome.{AreGiven, CountsFailure};
@@ -47,7 +46,7 @@ fn enter<S: Source>(
     ensures ok { IfOk result (Enters (S.gives source.old) table.old table.new root.now file.now include.now) }
     ensures err { IfErr result (Fails (S.gives source.old) table.old.files.entries (lines_of_include (S.gives source.old).folders root.now file.now include.now table.old)) }
     ensures count { CountsFailure (S.faults source.old) (S.faults source.new) result }
-    ensures same { Unchanged (S.gives source.old) (S.gives source.new) }
+    ensures same { S.gives source.new ≡ S.gives source.old }
 {
     let name = include.name.as_str();
     let usual = included(alloc, root, name)?;
@@ -107,7 +106,7 @@ pub(crate) fn expand<S: Source>(
     ensures ok { IfOk result (λ _. Expands (S.gives source.old) table.old table.new (lines_of_file (S.gives source.old).folders root.now file.now table.old)) }
     ensures err { IfErr result (Fails (S.gives source.old) table.old.files.entries (lines_of_file (S.gives source.old).folders root.now file.now table.old)) }
     ensures count { CountsFailure (S.faults source.old) (S.faults source.new) result }
-    ensures same { Unchanged (S.gives source.old) (S.gives source.new) }
+    ensures same { S.gives source.new ≡ S.gives source.old }
 {
     let mut number = 1u32;
     let mut at = 0;

@@ -107,9 +107,10 @@ fn open<R: Files>(system: &R, path: &str, plain: bool) -> Result<R::File, Source
 }
 
 impl<R: Files> Source for FileSource<R> {
+    ghost use Rattle.std.specs.Prelude.{true};
     ghost use Rattle.brl_lines.specs.InMemory.{folders_of};
 
-    ghost gives = { λ s. record { folders = folders_of s.folders; may = λ _ _. Unit {0} } };
+    ghost gives = { λ s. record { folders = folders_of s.folders; may = λ _ _. true } };
 
     ghost faults = { λ s. s.faults };
 

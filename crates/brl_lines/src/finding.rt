@@ -1,6 +1,5 @@
 //! Where a file is found: at its usual path, or by its name in one of the folders of the source.
 ghost use Rattle.std.specs.Prelude.{◌≡◌, ◌∷◌, IfErr, IfOk, map, option_map, string_bytes};
-ghost use Rattle.brl_lines.specs.Answer.{Unchanged};
 ghost use Rattle.brl_lines.specs.Files.{answers_of};
 ghost use Rattle.brl_lines.specs.Gathered.{known_answer};
 ghost use Rattle.brl_lines.specs.Includes.{found as found_at, paths_in as paths_of_name};
@@ -70,7 +69,7 @@ fn first_there<S: Source>(
     ensures ok { IfOk result (λ path. FindsFirst (S.gives source.old) files.old.entries files.new.entries (map string_bytes paths.now) other.now (string_bytes path)) }
     ensures err { IfErr result (Fails (S.gives source.old) files.old.entries (text_of_first (map string_bytes paths.now) other.now (option_map location_ref_view place.entry))) }
     ensures count { CountsFailure (S.faults source.old) (S.faults source.new) result }
-    ensures same { Unchanged (S.gives source.old) (S.gives source.new) }
+    ensures same { S.gives source.new ≡ S.gives source.old }
 {
     for path in paths {
         if look_at(alloc, source, files, path.as_str(), place)? {
@@ -95,7 +94,7 @@ pub(crate) fn locate<S: Source>(
     ensures ok { IfOk result (λ path. Locates (S.gives source.old) files.old.entries files.new.entries (string_bytes usual) name.now (string_bytes path)) }
     ensures err { IfErr result (Fails (S.gives source.old) files.old.entries (text_of_found (S.gives source.old).folders (string_bytes usual) name.now (option_map location_ref_view place.entry))) }
     ensures count { CountsFailure (S.faults source.old) (S.faults source.new) result }
-    ensures same { Unchanged (S.gives source.old) (S.gives source.new) }
+    ensures same { S.gives source.new ≡ S.gives source.old }
 {
     if source.folders().is_empty() {
         return Ok(usual);

@@ -1,7 +1,6 @@
 //! Gathers the files of a table that are there.
 ghost use Rattle.std.specs.Prelude.{◌≡◌, IfErr, IfOk, IfSome, OnOk, Some, map, option_map, string_bytes};
 ghost use Rattle.brl_failure.specs.Failure.{GivesAs, IfFault};
-ghost use Rattle.brl_lines.specs.Answer.{Unchanged};
 ghost use Rattle.brl_lines.specs.GatherFaults.{IsFaultAtStop, IsGatherFault, IsGathered, IsOfLoad, IsOutside, IsRefusalAt, gathered_view};
 ghost use Rattle.brl_lines.specs.Gathered.{known_answer, known_answers, stop_view, way_view};
 ghost use Rattle.brl_lines.specs.Gathering.{gathered_on, way_from};
@@ -80,7 +79,7 @@ pub fn gather<S: Source>(
 ) -> Result<Gathered, Failure<GatherFault>>
     ensures gathered { IfOk result (IsGathered (S.gives source.old) root.now) }
     ensures fault { IfErr result (IfFault (IsGatherFault (S.gives source.old) root.now)) }
-    ensures same { Unchanged (S.gives source.old) (S.gives source.new) }
+    ensures same { S.gives source.new ≡ S.gives source.old }
 {
     let mut known: IndexMap<String, Known> = IndexMap::new(alloc);
     for _ in 0..u64::MAX {
@@ -154,7 +153,7 @@ fn go_on<S: Source>(
     requires { AreGiven (S.gives source.old) (known_answers known.old.entries) }
     ensures given { OnOk result (AreGiven (S.gives source.old) (known_answers known.new.entries)) }
     ensures fault { IfErr result (IfFault (IsFaultAtStop (S.gives source.old) (known_answers known.old.entries) (stop_view stop.now))) }
-    ensures same { Unchanged (S.gives source.old) (S.gives source.new) }
+    ensures same { S.gives source.new ≡ S.gives source.old }
 {
     match stop.kind {
         StopKind::LeadsOut => Err(leads_out(alloc, stop)),

@@ -2,7 +2,7 @@
 ghost use Rattle.std.specs.Prelude.{◌≡◌, ◌≢◌, IfErr, option_map, string_bytes};
 ghost use Rattle.std.specs.Option.{option_copied};
 ghost use Rattle.brl_failure.specs.Failure.{IfFault};
-ghost use Rattle.brl_lines.specs.Answer.{Unchanged, is_missing as is_missing_by};
+ghost use Rattle.brl_lines.specs.Answer.{is_missing as is_missing_by};
 ghost use Rattle.brl_lines.specs.Gathered.{FindsOut, IsUnread, answer_of_known, known_answer, known_answers};
 ghost use Rattle.brl_lines.specs.Gathering.{held};
 ghost use Rattle.brl_lines.specs.Outcome.{AreGiven, CountsFailure};
@@ -62,7 +62,7 @@ fn find_out<S: Source>(
     ensures found { FindsOut (S.gives source.old) path.now (option_map location_ref_view place.entry) result }
     ensures there { IfErr result (IfFault (λ fault. fault.kind ≢ LoadFaultKind.NotFound)) }
     ensures count { CountsFailure (S.faults source.old) (S.faults source.new) result }
-    ensures same { Unchanged (S.gives source.old) (S.gives source.new) }
+    ensures same { S.gives source.new ≡ S.gives source.old }
 {
     match find_file(alloc, source, path, place, true)? {
         Some(file) => Ok(Known::File(known_file(alloc, file)?)),
@@ -83,7 +83,7 @@ pub(crate) fn learn<S: Source>(
     ensures refused { IfErr result (IsUnread (S.gives source.old) path.now (option_map location_ref_view place.entry)) }
     ensures there { IfErr result (IfFault (λ fault. fault.kind ≢ LoadFaultKind.NotFound)) }
     ensures count { CountsFailure (S.faults source.old) (S.faults source.new) result }
-    ensures same { Unchanged (S.gives source.old) (S.gives source.new) }
+    ensures same { S.gives source.new ≡ S.gives source.old }
 {
     let found = find_out(alloc, source, path, place)?;
     known.insert(String::from_str(alloc, path)?, found)?;

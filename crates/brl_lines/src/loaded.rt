@@ -1,6 +1,5 @@
 //! Loading a table: its files are read and checked whole as lines lead to them.
 ghost use Rattle.std.specs.Prelude.{◌≡◌, All, IfErr, IfOk, map};
-ghost use Rattle.brl_lines.specs.Answer.{Unchanged};
 ghost use Rattle.brl_lines.specs.Outcome.{AreLinesOfFiles, CountsFailure, IsLineOfFile, IsLoadFault};
 ghost use Rattle.brl_lines.specs.Slices.{IsInOrder};
 ghost use Rattle.brl_lines.specs.Views.{line_view};
@@ -100,7 +99,7 @@ pub fn load<S: Source>(
     ensures slices { IfOk result (λ loaded. All (IsLineOfFile (S.gives source.old)) loaded.lines) }
     ensures fault { IfErr result (IsLoadFault (S.gives source.old) root.now) }
     ensures count { CountsFailure (S.faults source.old) (S.faults source.new) result }
-    ensures same { Unchanged (S.gives source.old) (S.gives source.new) }
+    ensures same { S.gives source.new ≡ S.gives source.old }
 {
     let mut table = Expansion {
         files: IndexMap::new(alloc),

@@ -1,7 +1,6 @@
 //! Reading the files of a table: each path once.
 ghost use Rattle.std.specs.Prelude.{◌≡◌, ◌≢◌, IfErr, IfOk, option_map, true};
 ghost use Rattle.brl_failure.specs.Failure.{IfFault};
-ghost use Rattle.brl_lines.specs.Answer.{Unchanged};
 ghost use Rattle.brl_lines.specs.Files.{answers_of};
 ghost use Rattle.brl_lines.specs.Lines.{text_of};
 ghost use Rattle.brl_lines.specs.Outcome.{AreGiven, CountsFailure};
@@ -27,7 +26,7 @@ pub(crate) fn read_file<S: Source>(
 ) -> Result<CheckedFile, Failure<LoadFault>>
     ensures read { Reads (S.gives source.old) path.now (option_map location_ref_view place.entry) result }
     ensures count { CountsFailure (S.faults source.old) (S.faults source.new) result }
-    ensures same { Unchanged (S.gives source.old) (S.gives source.new) }
+    ensures same { S.gives source.new ≡ S.gives source.old }
 {
     let kind = match source.read(alloc, path) {
         Ok(bytes) => return checked(alloc, path, place, bytes),
@@ -64,7 +63,7 @@ pub(crate) fn find_file<S: Source>(
     ensures found { FindsFile (S.gives source.old) path.now (option_map location_ref_view place.entry) result }
     ensures missing { may_be_missing ≡ true → IfErr result (IfFault (λ fault. fault.kind ≢ LoadFaultKind.NotFound)) }
     ensures count { CountsFailure (S.faults source.old) (S.faults source.new) result }
-    ensures same { Unchanged (S.gives source.old) (S.gives source.new) }
+    ensures same { S.gives source.new ≡ S.gives source.old }
 {
     match read_file(alloc, source, path, place) {
         Ok(file) => Ok(Some(file)),
@@ -86,7 +85,7 @@ pub(crate) fn look_at<S: Source>(
     ensures err { IfErr result (Fails (S.gives source.old) files.old.entries (λ answer. text_of path.now (option_map location_ref_view place.entry) (answer path.now))) }
     ensures there { IfErr result (IfFault (λ fault. fault.kind ≢ LoadFaultKind.NotFound)) }
     ensures count { CountsFailure (S.faults source.old) (S.faults source.new) result }
-    ensures same { Unchanged (S.gives source.old) (S.gives source.new) }
+    ensures same { S.gives source.new ≡ S.gives source.old }
 {
     if let Some(file) = files.get(path) {
         return Ok(file.is_some());
@@ -109,7 +108,7 @@ pub(crate) fn file_at<S: Source>(
     ensures ok { IfOk result (Finds (S.gives source.old) files.old.entries files.new.entries path.now) }
     ensures err { IfErr result (Fails (S.gives source.old) files.old.entries (λ answer. text_of path.now (option_map location_ref_view place.entry) (answer path.now))) }
     ensures count { CountsFailure (S.faults source.old) (S.faults source.new) result }
-    ensures same { Unchanged (S.gives source.old) (S.gives source.new) }
+    ensures same { S.gives source.new ≡ S.gives source.old }
 {
     match files.get_full(path) {
         Some((index, _, Some(_))) => return Ok(index),

@@ -24,7 +24,7 @@ pub enum SourceFault {
 /// Gives the bytes of files by their paths.
 pub trait Source {
     ghost use Rattle.std.specs.Prelude.{◌≡◌, ℕ, map, string_bytes};
-    ghost use Rattle.brl_lines.specs.Answer.{Unchanged, IsAnswer, FileAnswers, failures_after, read_failed};
+    ghost use Rattle.brl_lines.specs.Answer.{FileAnswers, IsAnswer, MayAnswer, failures_after, read_failed};
 
     // the folders in which it looks, and what it may answer for a path; reading doesn't change them
     ghost gives: { Self → FileAnswers };
@@ -35,8 +35,8 @@ pub trait Source {
     /// All bytes of the file at `path`. `NotFound` where there is none, `TooLarge` where it has
     /// more than `MOST_FILE_BYTES`, and `Failed` where it could not be read.
     fn read(&mut self, alloc: Global, path: &str) -> Result<Vec<u8>, Failure<SourceFault>>
-        ensures answer { IsAnswer ((gives self.old).may path.now) result }
-        ensures same { Unchanged (gives self.old) (gives self.new) }
+        ensures answer { IsAnswer (MayAnswer (gives self.old) path.now) result }
+        ensures same { gives self.new ≡ gives self.old }
         ensures count { faults self.new ≡ failures_after (faults self.old) (read_failed result) };
 
     /// The folders in which a file of a table is looked for that isn't at its usual path, in order.

@@ -1,7 +1,7 @@
 //! The table that files define.
 ghost use Rattle.std.specs.Prelude.{◌≡◌, ℕ, List, IfErr, IfOk};
 ghost use Rattle.brl_failure.specs.Failure.{IfFault};
-ghost use Rattle.brl_lines.specs.Answer.{Unchanged, IsDeterministic};
+ghost use Rattle.brl_lines.specs.Answer.{IsDeterministic};
 ghost use Rattle.brl_lines.specs.Outcome.{CountsFailure};
 ghost use Rattle.brl_table.specs.Files.{IsFaultAt, IsTableOf, load_outcome};
 ghost use Rattle.brl_table.specs.Reading.{IsFaultOf, PassesAll, table_of};
@@ -25,7 +25,7 @@ pub fn load_table<S: Source>(
     ensures table { IfOk result (IsTableOf (S.gives source.old) root.now) }
     ensures fault { IfErr result (IfFault (IsFaultAt (S.gives source.old) root.now)) }
     ensures count { CountsFailure (S.faults source.old) (S.faults source.new) (load_outcome result) }
-    ensures same { Unchanged (S.gives source.old) (S.gives source.new) }
+    ensures same { S.gives source.new ≡ S.gives source.old }
 {
     let loaded = raise(load(alloc, source, root), NoTable::Load)?;
     raise(table_of_loaded(alloc, &loaded), NoTable::Table)

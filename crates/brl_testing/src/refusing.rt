@@ -11,9 +11,9 @@ pub struct Refusing {
 }
 
 impl Source for Refusing {
-    ghost use Rattle.std.specs.Prelude.{[]};
+    ghost use Rattle.std.specs.Prelude.{[], true};
 
-    ghost gives = { λ _. record { folders = []; may = λ _ _. Unit {0} } };
+    ghost gives = { λ _. record { folders = []; may = λ _ _. true } };
 
     ghost faults = { λ s. s.failures };
 

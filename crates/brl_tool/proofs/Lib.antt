@@ -11,4 +11,3 @@ pub mod RunLemmas
 pub mod SearchLemmas
 pub mod UpToLemmas
 pub mod Answered
-pub mod ExplainLemmas

@@ -1,10 +1,10 @@
 -- What a run that ends with status 1 did.
-use Rattle.std.proofs.Common.{◌≡◌, ◌∙◌, ◌⊎◌, ℕ, Bool, true, false, if◌then◌else◌, List, ap, arith, get_or, length, inl, inr, Option, None, Some, Result, Ok, Err, refl, subst, sym}
+use Rattle.std.proofs.Common.{◌≡◌, ◌∙◌, ◌⊎◌, ℕ, Bool, true, false, if◌then◌else◌, List, ap, arith, length, inl, inr, Option, None, Some, Result, Ok, Err, refl, subst, sym}
 use Rattle.std.specs.Global.{Global}
 use Rattle.std.specs.Option.{option_copied}
 use Rattle.std.specs.Prelude.{◌==◌, String, string_bytes}
 use Rattle.brl_answers.specs.Delivery.{World}
-use Rattle.brl_answers.specs.Files.{MayBeSame, path_of}
+use Rattle.brl_answers.specs.Files.{MayBeSame}
 use Rattle.brl_answers.specs.Status.{code_of}
 use Rattle.brl_answers.specs.declared.run_fault.RunFault.{RunFault}
 use Rattle.brl_answers.specs.declared.status.Status.{Status}
@@ -16,11 +16,15 @@ use Rattle.brl_cli.specs.declared.command.Task.TheVariants as task
 use Rattle.brl_tool.proofs.StatusLemmas.{never_refuted, unrefuted}
 use Rattle.brl_clashes.specs.declared.section.Section.{Section}
 use Rattle.brl_cli.specs.declared.command.PairFiles.{PairFiles}
-use Rattle.brl_lines.specs.Answer.{FileAnswers, Holds, MayAnswerSame, Missing}
+use Rattle.brl_lines.specs.Answer.{FileAnswers, Holds, MayAnswer}
 use Rattle.brl_lines.specs.Tokens.{LineView}
 use Rattle.brl_table.specs.Reading.{table_of}
 use Rattle.brl_tool.specs.Baselines.{IsBaseline, is_written, pruned_text, written_path, written_text}
 use Rattle.brl_tool.specs.Running.{IsPairsText, KeepsFilesRefuted, MayGainFiles, MeansRefuted, Performs, ReportsClash, ReportsClashes, ReportsRefusal, ReportsSlips, ReportsSuspect, ReportsUnknown, ReportsUnused, WritesFile, defined_status, stream_status}
+
+-- files that give the same may answer the same
+same_may : {before after : FileAnswers} → after ≡ before → after.may ≡ before.may
+same_may same = ap (λ (gives : FileAnswers). gives.may) same
 
 -- the status with this number
 refuted_by : (status : Status) → code_of status ≡ 1 → status ≡ Refuted
@@ -66,13 +70,13 @@ module _ (before after : World) (same_file : MayBeSame) (input : Option (List �
   content_of true None out baseline path lines found left of read is = (let e = sym (of refl) ∙ is in cc)
   content_of true (Some file) out baseline path lines found left of (text, some, holds) is =
       let same : file ≡ path = (let e = sym (of refl) ∙ is in cc) in
-      (lines, found, inr (text, subst (λ (p : List ℕ). before.gives.may p (Holds text)) same holds, ap (λ (b : Option (List ℕ)). pruned_text b (table_of lines) lines found) some))
+      (lines, found, inr (text, subst (λ (p : List ℕ). MayAnswer before.gives p (Holds text)) same holds, ap (λ (b : Option (List ℕ)). pruned_text b (table_of lines) lines found) some))
 
   -- which file changed: none, or the one that is written with a list, or new ones of a cut
   gained : (out : Option (List ℕ)) (is : Bool) (content : List ℕ) → ((path : List ℕ) → out ≡ Some path → IsPairsText before.gives path content) → WritesFile before after out is content
       → MayGainFiles before.gives after.gives
-  gained None is content of stay = inl stay.1
-  gained (Some path) false content of stay = inl stay.1
+  gained None is content of stay = inl (same_may stay)
+  gained (Some path) false content of stay = inl (same_may stay)
   gained (Some path) true content of (gives, others) = inr (inl (path, content, of path refl, gives, others.1))
 
   pruned_path : (pairs : PairFiles) → pairs.prune ≡ true → written_path pairs ≡ option_copied pairs.accept
@@ -82,14 +86,14 @@ module _ (before after : World) (same_file : MayBeSame) (input : Option (List �
   gains (question.Clashes path limit first option pairs) (left_out, spelled, (lines, accepted, list, other)) keeps =
       gained (written_path pairs) (is_written pairs.prune list.is.taken list.is.left) (written_text pairs.prune list.baseline (table_of lines) lines list.is.found list.is.left)
       (λ path is. content_of pairs.prune (option_copied pairs.accept) (written_path pairs) list.baseline path lines list.is.found list.is.left (pruned_path pairs) list.read is) list.written
-  gains (question.Clash path left right options) means keeps = inl keeps.1
-  gains (question.Check path cert option) means keeps = inl keeps.1
-  gains (question.CheckUpTo path cert accept option) means keeps = inl keeps.1
-  gains (question.Search path out limit option) means keeps = inl keeps.1
-  gains (question.SearchUpTo path out limit accept option) means keeps = inl keeps.1
-  gains (question.Unused path limit) means keeps = inl keeps.1
-  gains (question.Survey paths brief) means keeps = inl keeps.1
-  gains (question.Slips path columns) means keeps = inl keeps.1
+  gains (question.Clash path left right options) means keeps = inl (same_may keeps)
+  gains (question.Check path cert option) means keeps = inl (same_may keeps)
+  gains (question.CheckUpTo path cert accept option) means keeps = inl (same_may keeps)
+  gains (question.Search path out limit option) means keeps = inl (same_may keeps)
+  gains (question.SearchUpTo path out limit accept option) means keeps = inl (same_may keeps)
+  gains (question.Unused path limit) means keeps = inl (same_may keeps)
+  gains (question.Survey paths brief) means keeps = inl (same_may keeps)
+  gains (question.Slips path columns) means keeps = inl (same_may keeps)
   gains (question.Cut path dir rewrite) means (files, new, written, read) = inr (inr (files, (new, written.0, written.1.1)))
   gains asked means keeps = absurd means
 
@@ -101,25 +105,5 @@ module _ (before after : World) (same_file : MayBeSame) (input : Option (List �
   performed_one (task.Ask asked) status is one = let (means, keeps) = is.refuted (refuted_by status one) in (report_of asked means, gains asked means keeps)
 
 -- the same since before the folders were set
-text_since : (first before : FileAnswers) → MayAnswerSame first before → (path content : List ℕ) → IsPairsText before path content → IsPairsText first path content
-text_since first before kept path content (lines, sections, is) = (
-  lines,
-  sections,
-  (elim is [ inl pairs ↦ inl pairs | inr (text, holds, without) ↦ inr (text, (kept path (Holds text)).0 holds, without) ]),
-)
-
-pub gained_since : (first before after : FileAnswers) → MayAnswerSame first before → MayGainFiles before after → MayGainFiles first after
-gained_since first before after kept gains = elim gains [
-  | inl same ↦ inl (λ p a. ((λ h. (kept p a).0 ((same p a).0 h)), (λ h. (same p a).1 ((kept p a).1 h))))
-  | inr (inl (path, content, is, has, others)) ↦
-      inr (inl (path, content, text_since first before kept path content is, has, λ p a other. ((λ h. (kept p a).0 ((others p a other).0 h)), (λ h. (others p a other).1 ((kept p a).1 h)))))
-  | inr (inr (files, (new, given, others))) ↦
-      inr (inr (
-        files,
-        (
-          (new.0, λ k d within. (kept (path_of (get_or files k d)) Missing).0 (new.1 k d within)),
-          given,
-          λ p a none. ((λ h. (kept p a).0 ((others p a none).0 h)), (λ h. (others p a none).1 ((kept p a).1 h))),
-        ),
-      ))
-]
+pub gained_since : (first before after : FileAnswers) → before.may ≡ first.may → MayGainFiles before after → MayGainFiles first after
+gained_since first before after kept gains = subst (λ may. MayGainFiles (record { folders = first.folders; may = may }) after) kept gains

@@ -198,7 +198,7 @@ module _ (before after : World) (same_file : MayBeSame) where
   list_file (Some path) true content files are written = file_written content path files are written
 
   stays_but : (path : List ℕ) → KeepsFiles before after → OthersStay before.gives after.gives path
-  stays_but path stay = (stay.0, λ p a other. stay.1 p a)
+  stays_but path stay = (ap (λ (gives : FileAnswers). gives.folders) stay, λ p a other. ap (λ (gives : FileAnswers). gives.may p a) stay)
 
   keeps_others : (out : Option (List ℕ)) (is : Bool) (content : List ℕ) → WritesFile before after out is content → KeepsFilesBut out before after
   keeps_others None is content written = written
@@ -209,7 +209,7 @@ module _ (before after : World) (same_file : MayBeSame) where
   answers_stay : (out : List ℕ) → OthersStay before.gives after.gives out → (answers : Given) → All (λ one. one ≢ out) (map (λ entry. entry.0) answers) → AreGiven before.gives answers → AreGiven after.gives answers
   answers_stay out others [] apart given = tt
   answers_stay out others (entry ∷ answers) apart given =
-      ((others.1 entry.0 entry.1 (apart 0 [] (omega arith))).1 given.0, answers_stay out others answers (λ k d l. apart (suc k) d (omega arith)) given.1)
+      (others.1 entry.0 entry.1 (apart 0 [] (omega arith)) ∙ given.0, answers_stay out others answers (λ k d l. apart (suc k) d (omega arith)) given.1)
 
   -- a table stays where a file is written that is none of its files
   table_stays : (path out : List ℕ) (paths : List (List ℕ)) (t : TableView) → IsTableOfFiles before.gives path paths t → All (λ one. one ≢ out) paths → OthersStay before.gives after.gives out → IsTableOf after.gives path t

@@ -1,15 +1,14 @@
 -- One more table of a survey.
-use Rattle.std.proofs.Common.{◌≡◌, ◌∙◌, ℕ, Bool, true, false, ◌&&◌, ◌||◌, List, [], ◌∷◌, ◌++◌, All, Option, None, Some, append-nil, ap, map, refl, sym}
+use Rattle.std.proofs.Common.{◌≡◌, ◌∙◌, ℕ, Bool, true, false, ◌&&◌, ◌||◌, List, [], ◌∷◌, ◌++◌, All, None, Some, append-nil, ap, map, refl, sym}
 use Rattle.std.specs.Prelude.{flat_map, is_some}
 use Rattle.std.specs.List.{list_all, list_any}
 use Rattle.std.proofs.lemmas.Grind.{flat_map-append}
 use Rattle.std.proofs.lemmas.List.{map-append}
 use Rattle.std.proofs.lemmas.List.Elements.{All-nil, All-push}
 use Rattle.std.proofs.lemmas.List.Folds.{list_all-append, list_any-append}
-use Rattle.brl_lines.specs.Answer.{Unchanged, FileAnswer, FileAnswers}
+use Rattle.brl_lines.specs.Answer.{FileAnswers}
 use Rattle.brl_lines.specs.declared.fault.LoadFault.{LoadFault}
 use Rattle.brl_cut.specs.Skipping.{IsUnloaded}
-use Rattle.brl_cut.proofs.SkipLemmas.{unloaded_moved, without_moved}
 use Rattle.brl_tool.specs.Surveying.{IsPart, IsReportAt, Part, part_text, status_after_report, status_by, survey_status, text_of_part}
 use Rattle.brl_answers.specs.declared.status.Status.{Status}
 use Rattle.brl_answers.specs.declared.status.Status.TheVariants.{Done, Faulty}
@@ -50,10 +49,7 @@ without-one : (loaded suspect : Bool) → Faulty ≡ status_by (loaded && (false
 without-one true suspect = refl
 without-one false suspect = refl
 
-module _ (brief : Bool) (gives now : FileAnswers) (same : Unchanged gives now) (several : Bool) (paths : List (List ℕ)) (text : List ℕ) (status : Status) (so_far : IsSoFar brief gives several paths text status) (path : List ℕ) where
-  back : (p : List ℕ) (a : FileAnswer) → now.may p a → gives.may p a
-  back p a = (same.1 p a).0
-
+module _ (brief : Bool) (gives : FileAnswers) (several : Bool) (paths : List (List ℕ)) (text : List ℕ) (status : Status) (so_far : IsSoFar brief gives several paths text status) (path : List ℕ) where
   one-more : (part : Part) (after : List ℕ) (later : Status) → part.path ≡ path → IsPart brief gives part → after ≡ text ++ text_of_part several part
       → later ≡ status_by (list_all (λ p. is_some p.report) so_far.parts && (is_some part.report && true)) (list_any (λ p. p.suspect) so_far.parts || (part.suspect || false))
       → IsSoFar brief gives several (paths ++ path ∷ []) after later
@@ -69,14 +65,14 @@ module _ (brief : Bool) (gives now : FileAnswers) (same : Unchanged gives now) (
   }
 
   -- a table that was loaded
-  pub with-report : (report after : List ℕ) (suspect : Bool) (later : Status) → IsReportAt brief now path report suspect → after ≡ text ++ part_text several path report → later ≡ status_after_report status suspect
+  pub with-report : (report after : List ℕ) (suspect : Bool) (later : Status) → IsReportAt brief gives path report suspect → after ≡ text ++ part_text several path report → later ≡ status_after_report status suspect
       → IsSoFar brief gives several (paths ++ path ∷ []) after later
   with-report report after suspect later is added turned =
-      one-more (record { path = path; report = Some report; suspect = suspect }) after later refl (is.0, is.1, is.2, without_moved now gives (sym same.0) back path is.0 is.1 is.2 is.3, is.4, is.5) added
+      one-more (record { path = path; report = Some report; suspect = suspect }) after later refl is added
       (turned ∙ ap (λ s. status_after_report s suspect) so_far.status_is ∙ with-one (list_all (λ p. is_some p.report) so_far.parts) (list_any (λ p. p.suspect) so_far.parts) suspect)
 
   -- a table that can't be loaded
-  pub without-report : (fault : LoadFault) (later : Status) → IsUnloaded now path fault → later ≡ Faulty → IsSoFar brief gives several (paths ++ path ∷ []) text later
+  pub without-report : (fault : LoadFault) (later : Status) → IsUnloaded gives path fault → later ≡ Faulty → IsSoFar brief gives several (paths ++ path ∷ []) text later
   without-report fault later is turned =
-      one-more (record { path = path; report = None; suspect = false }) text later refl (fault, unloaded_moved now gives (sym same.0) back path fault is, refl) (sym (append-nil text))
+      one-more (record { path = path; report = None; suspect = false }) text later refl (fault, is, refl) (sym (append-nil text))
       (turned ∙ without-one (list_all (λ p. is_some p.report) so_far.parts) (list_any (λ p. p.suspect) so_far.parts))

@@ -4,7 +4,6 @@ use Rattle.brl_accept.specs.Excusing.{IsAcceptedUpTo, IsShown, closed_up_to}
 use Rattle.brl_accept.specs.Judging.{IsRefusedFor}
 use Rattle.brl_accept.specs.declared.judge_fault.JudgeFault.{JudgeFault}
 use Rattle.brl_accept.specs.declared.judge_fault.JudgeFault.TheVariants as judge
-use Rattle.brl_answers.proofs.Moved.{fault_moved}
 use Rattle.brl_answers.specs.Answers.{HasNoTable, HasTextAndStatus, UnlessMemory, counts_line, load_outcome}
 use Rattle.brl_answers.specs.Status.{of_failure}
 use Rattle.brl_answers.specs.Files.{MayBeSame}
@@ -17,8 +16,7 @@ use Rattle.brl_closure.specs.declared.check.fault.AcceptFault.{AcceptFault}
 use Rattle.brl_failure.specs.Failure.{IfFault}
 use Rattle.brl_failure.specs.declared.failure.Failure.{Failure}
 use Rattle.brl_failure.specs.declared.failure.Failure.TheVariants as failures
-use Rattle.brl_lines.proofs.Moved.{file_lines_moved}
-use Rattle.brl_lines.specs.Answer.{FileAnswer, FileAnswers, Holds, Unchanged}
+use Rattle.brl_lines.specs.Answer.{FileAnswers, Holds, MayAnswer}
 use Rattle.brl_lines.specs.Outcome.{AreLinesOf, AreLinesOfFiles, CountsFailure}
 use Rattle.brl_lines.specs.Tokens.{LineView}
 use Rattle.brl_pairs.specs.declared.excused.Excused.{Excused}
@@ -32,71 +30,16 @@ use Rattle.brl_states.specs.declared.cert.Cert.{Cert}
 use Rattle.brl_states.specs.declared.cert.Cert.TheVariants.{Dues, Window, Word}
 use Rattle.brl_table.specs.Reading.{IsFaultOf, PassesAll, table_of}
 use Rattle.brl_table.specs.declared.table_fault.TableFault.{TableFault}
-use Rattle.brl_table.specs.declared.no_table.NoTable.TheVariants as no_table
-use Rattle.brl_tool.proofs.ClashesLemmas.{given_before, text_fault_before}
 use Rattle.brl_tool.specs.Baselines.{read_paths}
 use Rattle.brl_tool.specs.UpTo.{ByExcusal, ChecksUpTo, FindsUpTo, IsAcceptanceUpTo, IsCertificateUpTo, IsExcusedAt, IsFaultBeforeExcusal, IsFaultOfExcusal, IsUnexchanged, IsVerdictUpTo, JudgesFileUpTo, JudgesUpTo, SearchesUpTo}
 use Rattle.brl_tool.specs.Verdicts.{IsOverwriting, IsRefusal, RendersFailure}
 use Rattle.brl_without.specs.Tables.{AreDefined}
 
--- ---- By files as they were before a read
-
-module _ (before after : FileAnswers) (same : Unchanged before after) where
-  excused_before : (path : List ℕ) (t : TableView) (lines : List LineView) (excused : Excused) (sets : ℕ) → IsExcusedAt after path t lines excused sets → IsExcusedAt before path t lines excused sets
-  excused_before path t lines excused sets h = record { text = h.text; there = given_before before after same path (Holds h.text) h.there; good = h.good; excuses = h.excuses; count = h.count }
-
-  pub excusal_fault_before : (path : List ℕ) (t : TableView) (lines : List LineView) (fault : RunFault) → IsFaultOfExcusal after path t lines fault → IsFaultOfExcusal before path t lines fault
-  excusal_fault_before path t lines (Load fault) h = text_fault_before before after same path (Load fault) h
-  excusal_fault_before path t lines (Accept fault) (text, there, bad) = (text, given_before before after same path (Holds text) there, bad)
-  excusal_fault_before path t lines Memory h = tt
-  excusal_fault_before path t lines fault h = absurd h
-
-  module _ (left_out path : List ℕ) (t : TableView) (lines : List LineView) (answers : Excused → ℕ → Result Answer RunFault → Type 0) where
-    found_before : (result : Result Answer RunFault) → (excused : Excused) × (sets : ℕ) × IsExcusedAt after path t lines excused sets × answers excused sets result
-        → (excused : Excused) × (sets : ℕ) × IsExcusedAt before path t lines excused sets × answers excused sets result
-    found_before result (excused, sets, at, is) = (excused, sets, excused_before path t lines excused sets at, is)
-
-    pub excusal_before : (result : Result Answer RunFault) → ByExcusal left_out after path t lines answers result → ByExcusal left_out before path t lines answers result
-    excusal_before (Ok answer) h = (h.0, found_before (Ok answer) h.1)
-    excusal_before (Err (NotDefined fault)) h = h
-    excusal_before (Err (Load fault)) h = (h.0, excusal_fault_before path t lines (Load fault) h.1)
-    excusal_before (Err (Accept fault)) h = (h.0, excusal_fault_before path t lines (Accept fault) h.1)
-    excusal_before (Err Memory) h = tt
-    excusal_before (Err fault) h = (h.0, found_before (Err fault) h.1)
-
-  -- ---- A certificate's file is read before the table's
-
-  back : (p : List ℕ) (a : FileAnswer) → after.may p a → before.may p a
-  back p a = (same.1 p a).0
-
-  no_table_before : (path : List ℕ) (fault : RunFault) → HasNoTable after path fault → HasNoTable before path fault
-  no_table_before path (Load fault) h = fault_moved after before (sym same.0) back path (no_table.Load fault) h
-  no_table_before path (Table fault) h = fault_moved after before (sym same.0) back path (no_table.Table fault) h
-  no_table_before path Memory h = tt
-  no_table_before path fault h = absurd h
-
-  module _ (left_out path accept bytes : List ℕ) where
-    lines_before : (result : Result Answer RunFault)
-        → (paths : List (List ℕ)) × (lines : List LineView) × AreLinesOfFiles after path paths lines × PassesAll lines × ByExcusal left_out after accept (table_of lines) lines (JudgesUpTo left_out (table_of lines) bytes) result
-        → (paths : List (List ℕ)) × (lines : List LineView) × AreLinesOfFiles before path paths lines × PassesAll lines × ByExcusal left_out before accept (table_of lines) lines (JudgesUpTo left_out (table_of lines) bytes) result
-    lines_before result (paths, lines, are, passes, is) = (
-      paths,
-      lines,
-      file_lines_moved after before (sym same.0) back path paths lines are,
-      passes,
-      excusal_before left_out accept (table_of lines) lines (JudgesUpTo left_out (table_of lines) bytes) result is,
-    )
-
-    judged_before : (result : Result Answer RunFault) → JudgesFileUpTo left_out after path accept bytes result → JudgesFileUpTo left_out before path accept bytes result
-    judged_before (Ok answer) h = lines_before (Ok answer) h
-    judged_before (Err fault) h = elim h [
-      | inl none ↦ inl (no_table_before path fault none)
-      | inr is ↦ inr (lines_before (Err fault) is)
-    ]
-
-    pub checked : (cert : List ℕ) → before.may cert (Holds bytes) → (result : Result Answer RunFault) → JudgesFileUpTo left_out after path accept bytes result → ChecksUpTo left_out before path cert accept result
-    checked cert holds (Ok answer) h = (bytes, holds, judged_before (Ok answer) h)
-    checked cert holds (Err fault) h = inr (bytes, holds, judged_before (Err fault) h)
+-- a certificate's bytes were judged
+pub checked : (left_out : List ℕ) (gives : FileAnswers) (path accept bytes cert : List ℕ) → MayAnswer gives cert (Holds bytes) → (result : Result Answer RunFault) → JudgesFileUpTo left_out gives path accept bytes result
+    → ChecksUpTo left_out gives path cert accept result
+checked left_out gives path accept bytes cert holds (Ok answer) h = (bytes, holds, h)
+checked left_out gives path accept bytes cert holds (Err fault) h = inr (bytes, holds, h)
 
 -- ---- What is answered by what is excused
 
@@ -231,18 +174,12 @@ count_handed S T before later now same fault h = by fault (subst (λ (n : ℕ). 
     by f k = k
 
 -- a certificate's bytes were judged for the table of these lines
-judged_of_lines : (left_out : List ℕ) (gives : FileAnswers) (path accept bytes : List ℕ) (paths : List (List ℕ)) (lines : List LineView) → AreLinesOfFiles gives path paths lines → PassesAll lines
+pub judged_of_lines : (left_out : List ℕ) (gives : FileAnswers) (path accept bytes : List ℕ) (paths : List (List ℕ)) (lines : List LineView) → AreLinesOfFiles gives path paths lines → PassesAll lines
     → (t : TableView) → t ≡ table_of lines → (result : Result Answer RunFault) → ByExcusal left_out gives accept t lines (JudgesUpTo left_out t bytes) result → JudgesFileUpTo left_out gives path accept bytes result
 judged_of_lines left_out gives path accept bytes paths lines are passes t table (Ok answer) is =
     (paths, lines, are, passes, subst (λ (u : TableView). ByExcusal left_out gives accept u lines (JudgesUpTo left_out u bytes) (Ok answer)) table is)
 judged_of_lines left_out gives path accept bytes paths lines are passes t table (Err fault) is =
     inr (paths, lines, are, passes, subst (λ (u : TableView). ByExcusal left_out gives accept u lines (JudgesUpTo left_out u bytes) (Err fault)) table is)
-
--- the same, where what is excused is read after the table
-pub judged_later : (left_out : List ℕ) (gives after : FileAnswers) → Unchanged gives after → (path accept bytes : List ℕ) (paths : List (List ℕ)) (lines : List LineView) → AreLinesOfFiles gives path paths lines → PassesAll lines
-    → (t : TableView) → t ≡ table_of lines → (result : Result Answer RunFault) → ByExcusal left_out after accept t lines (JudgesUpTo left_out t bytes) result → JudgesFileUpTo left_out gives path accept bytes result
-judged_later left_out gives after same path accept bytes paths lines are passes t table result h =
-    judged_of_lines left_out gives path accept bytes paths lines are passes t table result (excusal_before gives after same left_out accept t lines (JudgesUpTo left_out t bytes) result h)
 
 -- ---- What a search found
 

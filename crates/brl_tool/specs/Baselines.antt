@@ -1,5 +1,5 @@
 -- The files of pairs of rules that `brl clashes` reads and writes. The project's own choice.
-use Rattle.std.specs.Prelude.{ℕ, ◌≡◌, ◌≢◌, ◌&&◌, All, Any, Bool, true, false, if◌then◌else◌, List, [], ◌∷◌, ◌++◌, Option, None, Some, length, nat_lt, not, string_bytes}
+use Rattle.std.specs.Prelude.{ℕ, ◌≡◌, ◌≢◌, ◌&&◌, All, Any, Bool, true, false, IsTrue, if◌then◌else◌, List, [], ◌∷◌, ◌++◌, Option, None, Some, length, nat_lt, not, string_bytes}
 use Rattle.std.specs.Option.{option_copied, option_map_or}
 use Rattle.std.specs.Str.{is_utf8}
 use Rattle.brl_accepted.specs.Pairs.{wording}
@@ -16,7 +16,7 @@ use Rattle.brl_clashes.specs.Sets.{sets_of_table}
 use Rattle.brl_clashes.specs.declared.accepted.Taken.{Taken}
 use Rattle.brl_clashes.specs.declared.section.Section.{Section}
 use Rattle.brl_cli.specs.declared.command.PairFiles.{PairFiles}
-use Rattle.brl_lines.specs.Answer.{FileAnswer, FileAnswers, Holds}
+use Rattle.brl_lines.specs.Answer.{FileAnswer, FileAnswers, Holds, MayAnswer}
 use Rattle.brl_lines.specs.Tokens.{LineView}
 use Rattle.brl_lines.specs.declared.fault.LoadFaultKind.{LoadFaultKind}
 use Rattle.brl_lines.specs.declared.fault.LoadFaultKind.TheVariants as kinds
@@ -33,7 +33,7 @@ LacksText gives kind = LacksBytes gives kind
 -- the file at a path has no text, and the fault names its path and no line; or memory ran out
 abbrev pub IsFaultOfText : FileAnswers → List ℕ → RunFault → Type 0
 IsFaultOfText gives path Memory = Unit {0}
-IsFaultOfText gives path (Load fault) = (string_bytes fault.path ≡ path) × (fault.place ≡ None) × LacksText (gives.may path) fault.kind
+IsFaultOfText gives path (Load fault) = (string_bytes fault.path ≡ path) × (fault.place ≡ None) × LacksText (MayAnswer gives path) fault.kind
 IsFaultOfText gives path fault = ⊥
 
 -- ---- The file of accepted pairs
@@ -41,7 +41,7 @@ IsFaultOfText gives path fault = ⊥
 -- a text is that of the file of accepted pairs; there is none where no file is asked for
 abbrev pub IsBaseline : FileAnswers → Option (List ℕ) → Option (List ℕ) → Type 0
 IsBaseline gives None baseline = baseline ≡ None
-IsBaseline gives (Some path) baseline = (text : List ℕ) × (baseline ≡ Some text) × gives.may path (Holds text)
+IsBaseline gives (Some path) baseline = (text : List ℕ) × (baseline ≡ Some text) × MayAnswer gives path (Holds text)
 
 -- What the text of a file accepts of the pairs that are listed, and how much: the number of these,
 -- those of the pairs and sets that its lines name, and that of its stale lines.
@@ -112,6 +112,6 @@ IsApart (Some out) paths = All (λ one. one ≢ out) paths
 -- the fault names one of these paths, which may be the file that is written; or memory ran out
 abbrev pub IsOverwritingRead : MayBeSame → List (List ℕ) → Option (List ℕ) → RunFault → Type 0
 IsOverwritingRead same paths write (PairsWouldOverwrite file) =
-    (out : List ℕ) × (write ≡ Some out) × Any (λ one. (one ≡ string_bytes file) × same one out) paths
+    (out : List ℕ) × (write ≡ Some out) × Any (λ one. (one ≡ string_bytes file) × IsTrue (same one out)) paths
 IsOverwritingRead same paths write Memory = Unit {0}
 IsOverwritingRead same paths write fault = ⊥

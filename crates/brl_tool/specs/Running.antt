@@ -1,6 +1,6 @@
 -- What a run of the program does. The project's own choice. `same` says which paths may name one
 -- file, `input` what is left of the input where that is known.
-use Rattle.std.specs.Prelude.{ℕ, ◌≡◌, ◌≢◌, ◌<◌, ◌==◌, ◌⊎◌, ◌↔◌, All, Bool, true, false, if◌then◌else◌, IsTrue, length, List, [], ◌++◌, map, Option, None, Some, Result, Ok, Err, String, codes, string_bytes}
+use Rattle.std.specs.Prelude.{ℕ, ◌≡◌, ◌≢◌, ◌<◌, ◌==◌, ◌⊎◌, All, Bool, true, false, if◌then◌else◌, IsTrue, length, List, [], ◌++◌, map, Option, None, Some, Result, Ok, Err, String, codes, string_bytes}
 use Rattle.std.specs.Global.{Global, Vec}
 use Rattle.std.specs.Option.{option_copied}
 use Rattle.brl_accept.specs.Excusing.{IsAcceptedUpTo, IsShown}
@@ -8,7 +8,7 @@ use Rattle.brl_accept.specs.Judging.{IsAcceptedWithout, counted}
 use Rattle.brl_cert.specs.Reading.{spelling}
 use Rattle.brl_pairs.specs.Body.{BodyView}
 use Rattle.brl_pairs.specs.declared.excused.Excused.{Excused}
-use Rattle.brl_lines.specs.Answer.{FileAnswer, FileAnswers, Holds, MayAnswerSame}
+use Rattle.brl_lines.specs.Answer.{FileAnswer, FileAnswers, Holds, MayAnswer}
 use Rattle.brl_lines.specs.Outcome.{AreLinesOf}
 use Rattle.brl_table.specs.Files.{IsTableOf}
 use Rattle.brl_table.specs.Reading.{PassesAll, table_of}
@@ -342,7 +342,7 @@ Replies (failures.Fault (not_a_task.UseFault text)) before after status = KeepsF
 Replies failures.Memory before after status = KeepsFiles before after × PrintsNothing before after × (status ≡ Undecided)
 
 -- the world before a task, where the files of tables are looked for in some folders
-abbrev pub Looked : Type 1
+abbrev pub Looked : Type 0
 Looked = Vec (String Global) → World
 
 -- what words ask for was done: the task, where the files of tables are looked for in the folders of
@@ -373,18 +373,18 @@ abbrev pub IsPairsText : FileAnswers → List ℕ → List ℕ → Type 0
 IsPairsText old path content =
     (lines : List LineView) × (sections : List Section)
     × ((content ≡ text_of_pairs (table_of lines) lines sections)
-    ⊎ ((text : List ℕ) × old.may path (Holds text) × (content ≡ pruned_text (Some text) (table_of lines) lines sections)))
+    ⊎ ((text : List ℕ) × MayAnswer old path (Holds text) × (content ≡ pruned_text (Some text) (table_of lines) lines sections)))
 
 -- these files were made where nothing was, and no other file changed
 abbrev pub AreGained : List NewFile → FileAnswers → FileAnswers → Type 0
 AreGained files old new =
-    AreNew old files × All (IsGivenBy new) files × ((p : List ℕ) (a : FileAnswer) → IsNoneOf files p → new.may p a ↔ old.may p a)
+    AreNew old files × All (IsGivenBy new) files × ((p : List ℕ) (a : FileAnswer) → IsNoneOf files p → new.may p a ≡ old.may p a)
 
 -- no file changed; or one alone did, which has such a text; or new files were made
 abbrev pub MayGainFiles : FileAnswers → FileAnswers → Type 0
 MayGainFiles old new =
-    MayAnswerSame old new
-    ⊎ ((path content : List ℕ) × IsPairsText old path content × GivesAlso new path content × ((p : List ℕ) (a : FileAnswer) → p ≢ path → new.may p a ↔ old.may p a))
+    (new.may ≡ old.may)
+    ⊎ ((path content : List ℕ) × IsPairsText old path content × GivesAlso new path content × ((p : List ℕ) (a : FileAnswer) → p ≢ path → new.may p a ≡ old.may p a))
     ⊎ ((files : List NewFile) × AreGained files old new)
 
 -- 0, 1, 2 or 3

@@ -22,7 +22,7 @@ use Rattle.brl_cert.specs.Reading.{reading, spelling}
 use Rattle.brl_clashes.specs.Sets.{sets_of_table}
 use Rattle.brl_closure.specs.declared.check.checker.Accepted.{Accepted}
 use Rattle.brl_closure.specs.declared.check.fault.AcceptFault.{AcceptFault}
-use Rattle.brl_lines.specs.Answer.{FileAnswers, Holds}
+use Rattle.brl_lines.specs.Answer.{FileAnswers, Holds, MayAnswer}
 use Rattle.brl_lines.specs.Outcome.{AreLinesOfFiles}
 use Rattle.brl_lines.specs.Tokens.{LineView}
 use Rattle.brl_pairs.specs.Body.{BodyView}
@@ -53,7 +53,7 @@ seen_rows text = map visible_line (rows text)
 -- name this number of sets of characters
 pub record IsExcusedAt (gives : FileAnswers) (path : List ℕ) (t : TableView) (lines : List LineView) (excused : Excused) (sets : ℕ) : Type 0 where
   pub text : List ℕ
-  pub there : gives.may path (Holds text)
+  pub there : MayAnswer gives path (Holds text)
   pub good : stale_of t lines path text ≡ []
   pub excuses : Excuses t (wording t lines) (seen_rows text) excused
   pub count : sets ≡ set_count (sets_of_table t) (seen_rows text)
@@ -69,7 +69,7 @@ IsFaultOfLines t lines path text fault = ⊥
 abbrev pub IsFaultOfExcusal : FileAnswers → List ℕ → TableView → List LineView → RunFault → Type 0
 IsFaultOfExcusal gives path t lines (Load fault) = IsFaultOfText gives path (Load fault)
 IsFaultOfExcusal gives path t lines (Accept stale) =
-    (text : List ℕ) × gives.may path (Holds text) × IsFaultOfLines t lines path text (Accept stale)
+    (text : List ℕ) × MayAnswer gives path (Holds text) × IsFaultOfLines t lines path text (Accept stale)
 IsFaultOfExcusal gives path t lines Memory = Unit {0}
 IsFaultOfExcusal gives path t lines fault = ⊥
 
@@ -135,9 +135,9 @@ JudgesFileUpTo left_out gives path accept bytes (Err fault) = HasNoTable gives p
 -- the same of the certificate in the file at a path, or it has no bytes
 abbrev pub ChecksUpTo : List ℕ → FileAnswers → List ℕ → List ℕ → List ℕ → Result Answer RunFault → Type 0
 ChecksUpTo left_out gives path cert accept (Ok answer) =
-    (bytes : List ℕ) × gives.may cert (Holds bytes) × JudgesFileUpTo left_out gives path accept bytes (Ok answer)
+    (bytes : List ℕ) × MayAnswer gives cert (Holds bytes) × JudgesFileUpTo left_out gives path accept bytes (Ok answer)
 ChecksUpTo left_out gives path cert accept (Err fault) =
-    IsFaultOfFile gives cert fault ⊎ ((bytes : List ℕ) × gives.may cert (Holds bytes) × JudgesFileUpTo left_out gives path accept bytes (Err fault))
+    IsFaultOfFile gives cert fault ⊎ ((bytes : List ℕ) × MayAnswer gives cert (Holds bytes) × JudgesFileUpTo left_out gives path accept bytes (Err fault))
 
 -- ---- `brl search --accept`
 

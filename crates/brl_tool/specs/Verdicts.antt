@@ -1,5 +1,5 @@
 -- What `brl check` and `brl search` answer. The project's own choice.
-use Rattle.std.specs.Prelude.{ℕ, ◌≡◌, ◌≢◌, ◌<◌, ◌≤◌, ◌⊎◌, All, Any, List, ◌++◌, length, None, Result, Ok, Err, codes, string_bytes}
+use Rattle.std.specs.Prelude.{ℕ, ◌≡◌, ◌≢◌, ◌<◌, ◌≤◌, ◌⊎◌, All, Any, IsTrue, List, ◌++◌, length, None, Result, Ok, Err, codes, string_bytes}
 use Rattle.brl_accept.specs.Judging.{IsAcceptedWithout, IsRefusedByWithout, counted}
 use Rattle.brl_closure.specs.declared.check.checker.Accepted.{Accepted}
 use Rattle.brl_accept.specs.declared.judge_fault.JudgeFault.{JudgeFault}
@@ -10,7 +10,7 @@ use Rattle.brl_failure.specs.declared.failure.Failure.{Failure}
 use Rattle.brl_failure.specs.declared.failure.Failure.TheVariants as failures
 use Rattle.brl_states.specs.Counts.{pair_count, state_count}
 use Rattle.brl_states.specs.declared.cert.Cert.{Cert as Certificate}
-use Rattle.brl_lines.specs.Answer.{FileAnswer, FileAnswers, IsDeterministic, Holds, Large, Missing, Unreadable, most_file_bytes}
+use Rattle.brl_lines.specs.Answer.{FileAnswer, FileAnswers, IsDeterministic, Holds, Large, MayAnswer, Missing, Unreadable, most_file_bytes}
 use Rattle.brl_lines.specs.Outcome.{AreLinesOfFiles}
 use Rattle.brl_lines.specs.Tokens.{LineView}
 use Rattle.brl_lines.specs.declared.fault.LoadFaultKind.{LoadFaultKind}
@@ -44,7 +44,7 @@ LacksBytes gives kind = ⊥
 -- the file at a path has no bytes, and the fault names its path and no line; or memory ran out
 abbrev pub IsFaultOfFile : FileAnswers → List ℕ → RunFault → Type 0
 IsFaultOfFile gives path Memory = Unit {0}
-IsFaultOfFile gives path (Load fault) = (string_bytes fault.path ≡ path) × (fault.place ≡ None) × LacksBytes (gives.may path) fault.kind
+IsFaultOfFile gives path (Load fault) = (string_bytes fault.path ≡ path) × (fault.place ≡ None) × LacksBytes (MayAnswer gives path) fault.kind
 IsFaultOfFile gives path fault = ⊥
 
 -- the line of an acceptance
@@ -85,9 +85,9 @@ IsFaultOfTable left_out gives path bytes fault = HasNoTable gives path fault
 -- the certificate in the file at one path was judged for the table of the file at another, without
 -- the characters that are left out
 abbrev pub Checks : List ℕ → FileAnswers → List ℕ → List ℕ → Result Answer RunFault → Type 0
-Checks left_out gives path cert (Ok answer) = (bytes : List ℕ) × gives.may cert (Holds bytes) × IsJudgement left_out gives path bytes answer
+Checks left_out gives path cert (Ok answer) = (bytes : List ℕ) × MayAnswer gives cert (Holds bytes) × IsJudgement left_out gives path bytes answer
 Checks left_out gives path cert (Err fault) =
-    IsFaultOfFile gives cert fault ⊎ ((bytes : List ℕ) × gives.may cert (Holds bytes) × IsFaultOfTable left_out gives path bytes fault)
+    IsFaultOfFile gives cert fault ⊎ ((bytes : List ℕ) × MayAnswer gives cert (Holds bytes) × IsFaultOfTable left_out gives path bytes fault)
 
 -- what is answered where the judge accepts nothing
 abbrev pub RendersFailure : Failure JudgeFault → Result Answer RunFault → Type 0
@@ -106,7 +106,7 @@ Renders left_out (Err failure) outcome = RendersFailure failure outcome
 -- bytes that are acceptable for it, they are accepted, unless memory runs out.
 abbrev pub AcceptsGood : List ℕ → FileAnswers → List ℕ → List ℕ → Result Answer RunFault → Type 0
 AcceptsGood left_out gives path cert outcome =
-    IsDeterministic gives → (bytes : List ℕ) → gives.may cert (Holds bytes) → length bytes ≤ most_file_bytes
+    IsDeterministic gives → (bytes : List ℕ) → MayAnswer gives cert (Holds bytes) → length bytes ≤ most_file_bytes
     → (t : TableView) → IsTableOf gives path t → (accepted : Accepted) → IsAcceptedWithout left_out t bytes accepted → UnlessMemory (IsAcceptance left_out accepted) outcome
 
 -- the certificate was judged, and accepted where it is acceptable
@@ -147,7 +147,7 @@ IsVerdict left_out t out limit answer =
 
 -- the fault names one of these paths, which may be the file for the certificate; or memory ran out
 abbrev pub IsOverwriting : MayBeSame → List (List ℕ) → List ℕ → RunFault → Type 0
-IsOverwriting same paths out (WouldOverwrite file) = Any (λ one. (one ≡ string_bytes file) × same one out) paths
+IsOverwriting same paths out (WouldOverwrite file) = Any (λ one. (one ≡ string_bytes file) × IsTrue (same one out)) paths
 IsOverwriting same paths out Memory = Unit {0}
 IsOverwriting same paths out fault = ⊥
 

@@ -1,5 +1,5 @@
 //! `brl check`: whether a certificate is accepted for a table.
-ghost use Rattle.brl_lines.specs.Answer.{Unchanged};
+ghost use Rattle.std.specs.Prelude.{◌≡◌};
 ghost use Rattle.brl_lines.specs.Outcome.{CountsFailure};
 ghost use Rattle.std.specs.Option.{option_copied};
 ghost use Rattle.brl_answers.specs.Answers.{ByLeftOut, UnlessMemory, load_outcome};
@@ -29,7 +29,7 @@ pub fn check_by_words<S: Source, W: Progress>(
 ) -> Result<Answer, RunFault>
     ensures checks { ByLeftOut (option_copied option.entry) (λ left_out. Judges left_out (S.gives source.old) table.now cert.now) result }
     ensures count { CountsFailure (S.faults source.old) (S.faults source.new) (load_outcome result) }
-    ensures same { Unchanged (S.gives source.old) (S.gives source.new) }
+    ensures same { S.gives source.new ≡ S.gives source.old }
 {
     let left_out = left_out_of(alloc, option)?;
     check_by_file(alloc, source, table, cert, &left_out, progress)
@@ -49,7 +49,7 @@ pub fn check_by_file<S: Source, W: Progress>(
     ensures checks { Checks left_out.now (S.gives source.old) table.now cert.now result }
     ensures accepts { AcceptsGood left_out.now (S.gives source.old) table.now cert.now result }
     ensures count { CountsFailure (S.faults source.old) (S.faults source.new) (load_outcome result) }
-    ensures same { Unchanged (S.gives source.old) (S.gives source.new) }
+    ensures same { S.gives source.new ≡ S.gives source.old }
 {
     let bytes = bytes_at(alloc, source, cert)?;
     let scope = Scope { left_out, progress };

@@ -1,7 +1,7 @@
 //! `brl check --accept`: whether a certificate is accepted for a table, but for what a file
 //! excuses.
+ghost use Rattle.std.specs.Prelude.{◌≡◌};
 ghost use Rattle.std.specs.Option.{option_copied};
-ghost use Rattle.brl_lines.specs.Answer.{Unchanged};
 ghost use Rattle.brl_lines.specs.Outcome.{CountsFailure};
 ghost use Rattle.brl_answers.specs.Answers.{ByLeftOut, UnlessMemory, load_outcome};
 ghost use Rattle.brl_tool.specs.UpTo.{ByExcusal, ChecksUpTo, IsAcceptanceUpTo, JudgesFileUpTo, JudgesUpTo};
@@ -44,7 +44,7 @@ pub fn check_up_to_by_words<S: Source, W: Progress>(
     ensures checks { ByLeftOut (option_copied option.entry)
         (λ left_out. ChecksUpTo left_out (S.gives source.old) paths.entry.table.now paths.entry.cert.now paths.entry.accept.now) result }
     ensures count { CountsFailure (S.faults source.old) (S.faults source.new) (load_outcome result) }
-    ensures same { Unchanged (S.gives source.old) (S.gives source.new) }
+    ensures same { S.gives source.new ≡ S.gives source.old }
 {
     let left_out = left_out_of(alloc, option)?;
     check_up_to_by_files(alloc, source, paths, &left_out, progress)
@@ -60,7 +60,7 @@ fn check_up_to_by_files<S: Source, W: Progress>(
 ) -> Result<Answer, RunFault>
     ensures checks { ChecksUpTo left_out.now (S.gives source.old) paths.entry.table.now paths.entry.cert.now paths.entry.accept.now result }
     ensures count { CountsFailure (S.faults source.old) (S.faults source.new) (load_outcome result) }
-    ensures same { Unchanged (S.gives source.old) (S.gives source.new) }
+    ensures same { S.gives source.new ≡ S.gives source.old }
 {
     let bytes = bytes_at(alloc, source, paths.cert)?;
     check_bytes(alloc, source, paths, bytes.as_slice(), left_out, progress)
@@ -77,7 +77,7 @@ fn check_bytes<S: Source, W: Progress>(
 ) -> Result<Answer, RunFault>
     ensures judges { JudgesFileUpTo left_out.now (S.gives source.old) paths.entry.table.now paths.entry.accept.now bytes.now result }
     ensures count { CountsFailure (S.faults source.old) (S.faults source.new) (load_outcome result) }
-    ensures same { Unchanged (S.gives source.old) (S.gives source.new) }
+    ensures same { S.gives source.new ≡ S.gives source.old }
 {
     let loaded = table_at(alloc, source, paths.table)?;
     check_loaded(
@@ -104,7 +104,7 @@ fn check_loaded<S: Source, W: Progress>(
     ensures judges { ByExcusal left_out.now (S.gives source.old) accept.now loaded.now.table loaded.now.files.lines
         (JudgesUpTo left_out.now loaded.now.table bytes.now) result }
     ensures count { CountsFailure (S.faults source.old) (S.faults source.new) (load_outcome result) }
-    ensures same { Unchanged (S.gives source.old) (S.gives source.new) }
+    ensures same { S.gives source.new ≡ S.gives source.old }
 {
     let excusal = excusal_without(alloc, source, loaded, left_out, accept)?;
     let scope = Scope { left_out, progress };

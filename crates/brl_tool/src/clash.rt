@@ -1,5 +1,5 @@
 //! `brl clash`: whether two texts have the same cells.
-ghost use Rattle.brl_lines.specs.Answer.{Unchanged};
+ghost use Rattle.std.specs.Prelude.{◌≡◌};
 ghost use Rattle.brl_lines.specs.Outcome.{CountsFailure};
 ghost use Rattle.brl_answers.specs.Answers.{load_outcome};
 ghost use Rattle.brl_tool.specs.ByLines.{shown_lines as lines_shown};
@@ -27,7 +27,7 @@ pub fn compare_by_words<S: Source>(
 ) -> Result<Answer, RunFault>
     ensures compares { ComparesByWords options (S.gives source.old) path.now left.now right.now result }
     ensures count { CountsFailure (S.faults source.old) (S.faults source.new) (load_outcome result) }
-    ensures same { Unchanged (S.gives source.old) (S.gives source.new) }
+    ensures same { S.gives source.new ≡ S.gives source.old }
 {
     let left = text_of_word(alloc, left, options.escapes)?;
     let right = text_of_word(alloc, right, options.escapes)?;
@@ -53,7 +53,7 @@ pub fn compare_by_file<S: Source>(
 ) -> Result<Answer, RunFault>
     ensures compares { ComparesByFile with_lines (S.gives source.old) path.now left.now right.now result }
     ensures count { CountsFailure (S.faults source.old) (S.faults source.new) (load_outcome result) }
-    ensures same { Unchanged (S.gives source.old) (S.gives source.new) }
+    ensures same { S.gives source.new ≡ S.gives source.old }
 {
     let loaded = table_at(alloc, source, path)?;
     compare(alloc, &loaded, with_lines, left, right)

@@ -1,7 +1,6 @@
 //! `brl clashes`: every pair of rules of a table at which clashing texts diverge.
 ghost use Rattle.std.specs.Prelude.{◌≡◌, IfOk, map, option_map, string_bytes};
 ghost use Rattle.std.specs.Option.{option_copied};
-ghost use Rattle.brl_lines.specs.Answer.{Unchanged};
 ghost use Rattle.brl_lines.specs.Outcome.{CountsFailure};
 ghost use Rattle.brl_lines.specs.Views.{line_view};
 ghost use Rattle.brl_answers.specs.Answers.{ByLeftOut, load_outcome};
@@ -56,7 +55,7 @@ pub fn list_clashes_by_words<F: Files, E: Write + Progress>(
     ensures diagnoses { ByLeftOut (option_copied option.entry)
         (λ left_out. DiagnosesByFile left_out (F.gives files.old) F.same_file path.now limit first pairs.entry) result }
     ensures count { CountsFailure (F.faults files.old) (F.faults files.new) (load_outcome result) }
-    ensures same { Unchanged (F.gives files.old) (F.gives files.new) }
+    ensures same { F.gives files.new ≡ F.gives files.old }
 {
     let left_out = left_out_of(alloc, option)?;
     let wanted = Wanted {
@@ -80,7 +79,7 @@ fn list_clashes_by_file<F: Files, E: Write + Progress>(
     ensures diagnoses { DiagnosesByFile wanted.entry.left_out.now (F.gives files.old) F.same_file wanted.entry.table.now wanted.entry.limit wanted.entry.first
         wanted.entry.pairs result }
     ensures count { CountsFailure (F.faults files.old) (F.faults files.new) (load_outcome result) }
-    ensures same { Unchanged (F.gives files.old) (F.gives files.new) }
+    ensures same { F.gives files.new ≡ F.gives files.old }
 {
     let read = load(alloc, files, wanted.table)?;
     refuse_file_that_is_read(alloc, files, &read, wanted.pairs)?;
@@ -99,7 +98,7 @@ fn clashes_of_loaded<F: Files, E: Write + Progress>(
     ensures diagnoses { Diagnoses wanted.entry.left_out.now (F.gives files.old) loaded.now.table loaded.now.files.lines wanted.entry.limit wanted.entry.first
         wanted.entry.pairs result }
     ensures count { CountsFailure (F.faults files.old) (F.faults files.new) (load_outcome result) }
-    ensures same { Unchanged (F.gives files.old) (F.gives files.new) }
+    ensures same { F.gives files.new ≡ F.gives files.old }
 {
     let lines = loaded.files.lines(alloc)?;
     list_clashes(alloc, files, &loaded.table, lines.as_slice(), wanted, err)
@@ -119,7 +118,7 @@ fn list_clashes<F: Files, E: Write + Progress>(
     ensures diagnoses { Diagnoses wanted.entry.left_out.now (F.gives files.old) table.now (map line_view lines.now) wanted.entry.limit wanted.entry.first
         wanted.entry.pairs result }
     ensures count { CountsFailure (F.faults files.old) (F.faults files.new) (load_outcome result) }
-    ensures same { Unchanged (F.gives files.old) (F.gives files.new) }
+    ensures same { F.gives files.new ≡ F.gives files.old }
 {
     check_defined(alloc, table, wanted.left_out)?;
     let Some(path) = wanted.pairs.accept else {

@@ -1,6 +1,5 @@
 //! `brl cut`: the lines of a table that are read, as a table of its own.
 ghost use Rattle.std.specs.Prelude.{◌≡◌, IfOk, map, string_bytes};
-ghost use Rattle.brl_lines.specs.Answer.{Unchanged};
 ghost use Rattle.brl_cut.specs.Files.{file_view};
 ghost use Rattle.brl_tool.specs.Cutting.{CutsByFile, IsTextOfCut, new_file_view, status_of_cut};
 
@@ -23,7 +22,7 @@ pub fn cut_by_file<F: Files>(
     rewrite: bool,
 ) -> Result<Answer, RunFault>
     ensures cuts { CutsByFile rewrite (F.gives files.old) path.now dir.now result }
-    ensures same { Unchanged (F.gives files.old) (F.gives files.new) }
+    ensures same { F.gives files.new ≡ F.gives files.old }
 {
     let cut = cut_table(alloc, files, path, dir, rewrite)?;
     let text = text_of_cut(alloc, &cut, rewrite)?;

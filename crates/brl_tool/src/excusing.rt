@@ -5,7 +5,6 @@ ghost use Rattle.brl_accepted.specs.Pairs.{wording};
 ghost use Rattle.brl_accepted.specs.Sets.{set_count};
 ghost use Rattle.brl_answers.specs.Answers.{load_outcome};
 ghost use Rattle.brl_clashes.specs.Sets.{sets_of_table};
-ghost use Rattle.brl_lines.specs.Answer.{Unchanged};
 ghost use Rattle.brl_lines.specs.Outcome.{CountsFailure};
 ghost use Rattle.brl_lines.specs.Views.{line_view};
 ghost use Rattle.brl_without.specs.Tables.{AreDefined};
@@ -40,7 +39,7 @@ pub fn excusal_without<S: Source>(
     ensures excuses { IfOk result (λ excusal. IsExcusedAt (S.gives source.old) path.now loaded.now.table loaded.now.files.lines excusal.excused excusal.sets) }
     ensures fault { IfErr result (IsFaultBeforeExcusal left_out.now (S.gives source.old) path.now loaded.now.table loaded.now.files.lines) }
     ensures count { CountsFailure (S.faults source.old) (S.faults source.new) (load_outcome result) }
-    ensures same { Unchanged (S.gives source.old) (S.gives source.new) }
+    ensures same { S.gives source.new ≡ S.gives source.old }
 {
     let lines = loaded.files.lines(alloc)?;
     check_defined(alloc, &loaded.table, left_out)?;
@@ -58,7 +57,7 @@ fn excusal_at<S: Source>(
     ensures excuses { IfOk result (λ excusal. IsExcusedAt (S.gives source.old) path.now table.now (map line_view lines.now) excusal.excused excusal.sets) }
     ensures fault { IfErr result (IsFaultOfExcusal (S.gives source.old) path.now table.now (map line_view lines.now)) }
     ensures count { CountsFailure (S.faults source.old) (S.faults source.new) (load_outcome result) }
-    ensures same { Unchanged (S.gives source.old) (S.gives source.new) }
+    ensures same { S.gives source.new ≡ S.gives source.old }
 {
     let text = text_at(alloc, source, path)?;
     excusal_of(alloc, table, lines, path, text.as_str())

@@ -1,5 +1,5 @@
 //! `brl explain`: what a fault means.
-ghost use Rattle.brl_lines.specs.Answer.{Unchanged};
+ghost use Rattle.std.specs.Prelude.{◌≡◌};
 ghost use Rattle.brl_tool.specs.Explaining.{Explains};
 
 use brl_answers::{Answer, Files, RunFault, Status};
@@ -11,7 +11,7 @@ use std::alloc::Global;
 /// any path, and reading a pipe would wait for a writer.
 pub fn explain_line<F: Files>(alloc: Global, files: &mut F, line: &str) -> Result<Answer, RunFault>
     ensures explains { Explains (F.gives files.old) line.now result }
-    ensures same { Unchanged (F.gives files.old) (F.gives files.new) }
+    ensures same { F.gives files.new ≡ F.gives files.old }
 {
     let Some(mut text) = explain(alloc, line)? else {
         return Err(RunFault::NoSuchFault(String::from_str(alloc, line)?));

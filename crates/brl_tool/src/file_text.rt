@@ -1,6 +1,6 @@
 //! The bytes and the text of a file that is no table's.
 ghost use Rattle.std.specs.Prelude.{◌≡◌, ◌≤◌, IfErr, IfOk, length, string_bytes};
-ghost use Rattle.brl_lines.specs.Answer.{Unchanged, Holds};
+ghost use Rattle.brl_lines.specs.Answer.{Holds, MayAnswer};
 ghost use Rattle.brl_lines.specs.Outcome.{CountsFailure};
 ghost use Rattle.brl_answers.specs.Answers.{load_outcome};
 ghost use Rattle.brl_tool.specs.Baselines.{IsFaultOfText};
@@ -13,11 +13,11 @@ use std::alloc::{AllocError, Global};
 
 /// The bytes of the file at a path, of which there are no more than `MOST_FILE_BYTES`.
 pub fn bytes_at<S: Source>(alloc: Global, source: &mut S, path: &str) -> Result<Vec<u8>, RunFault>
-    ensures bytes { IfOk result (λ bytes. (S.gives source.old).may path.now (Holds bytes.items)) }
+    ensures bytes { IfOk result (λ bytes. MayAnswer (S.gives source.old) path.now (Holds bytes.items)) }
     ensures short { IfOk result (λ bytes. length bytes.items ≤ 16777216) }
     ensures fault { IfErr result (IsFaultOfFile (S.gives source.old) path.now) }
     ensures count { CountsFailure (S.faults source.old) (S.faults source.new) (load_outcome result) }
-    ensures same { Unchanged (S.gives source.old) (S.gives source.new) }
+    ensures same { S.gives source.new ≡ S.gives source.old }
 {
     let kind = match source.read(alloc, path) {
         Ok(bytes) => {
@@ -41,10 +41,10 @@ pub fn bytes_at<S: Source>(alloc: Global, source: &mut S, path: &str) -> Result<
 
 /// The text of the file at a path: its bytes, which are UTF-8.
 pub fn text_at<S: Source>(alloc: Global, source: &mut S, path: &str) -> Result<String, RunFault>
-    ensures text { IfOk result (λ text. (S.gives source.old).may path.now (Holds (string_bytes text))) }
+    ensures text { IfOk result (λ text. MayAnswer (S.gives source.old) path.now (Holds (string_bytes text))) }
     ensures fault { IfErr result (IsFaultOfText (S.gives source.old) path.now) }
     ensures count { CountsFailure (S.faults source.old) (S.faults source.new) (load_outcome result) }
-    ensures same { Unchanged (S.gives source.old) (S.gives source.new) }
+    ensures same { S.gives source.new ≡ S.gives source.old }
 {
     let bytes = bytes_at(alloc, source, path)?;
     match String::from_utf8(bytes) {

@@ -2,7 +2,6 @@
 ghost use Rattle.std.specs.Prelude.{◌≡◌, IfErr, IfOk};
 ghost use Rattle.brl_answers.specs.Answers.{HasNoTable, load_outcome};
 ghost use Rattle.brl_failure.specs.Failure.{IfFault};
-ghost use Rattle.brl_lines.specs.Answer.{Unchanged};
 ghost use Rattle.brl_lines.specs.Outcome.{AreLinesOfFiles, CountsFailure};
 ghost use Rattle.brl_table.specs.Reading.{IsFaultOf, PassesAll, table_of};
 
@@ -44,7 +43,7 @@ pub fn table_at<S: Source>(
     ensures table { IfOk result (λ loaded. loaded.table ≡ table_of loaded.files.lines) }
     ensures fault { IfErr result (HasNoTable (S.gives source.old) path.now) }
     ensures count { CountsFailure (S.faults source.old) (S.faults source.new) (load_outcome result) }
-    ensures same { Unchanged (S.gives source.old) (S.gives source.new) }
+    ensures same { S.gives source.new ≡ S.gives source.old }
 {
     let files = load(alloc, source, path)?;
     Ok(LoadedTable::of(alloc, files)?)

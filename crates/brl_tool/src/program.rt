@@ -1,6 +1,5 @@
 //! The program over any files and streams.
 ghost use Rattle.std.specs.Prelude.{◌≡◌};
-ghost use Rattle.brl_lines.specs.Answer.{MayAnswerSame, Unchanged};
 ghost use Rattle.brl_answers.specs.Delivery.{world};
 ghost use Rattle.brl_tool.specs.Running.{Answers, Asks, IsStatus, MayGainFiles, Performs, Replies, ReportsOne, Runs, TranslatesDefined};
 
@@ -84,7 +83,7 @@ fn do_work<F: Files, I: Input, O: Output, E: Write + Progress>(
     ensures performs { Performs work.entry.task F.same_file (I.remaining input.old)
         (world (F.gives (F.looked work.entry.folders files.old)) (O.failures out.old) (O.contents out.old))
         (world (F.gives files.new) (O.failures out.new) (O.contents out.new)) result }
-    ensures kept { MayAnswerSame (F.gives files.old) (F.gives (F.looked work.entry.folders files.old)) }
+    ensures kept { (F.gives (F.looked work.entry.folders files.old)).may ≡ (F.gives files.old).may }
 {
     let Work { task, folders } = work;
     files.look_in(folders);
@@ -178,7 +177,7 @@ fn answer<F: Files, E: Write + Progress>(
     err: &mut E,
 ) -> Result<Answer, RunFault>
     ensures answers { Answers question.entry (F.gives files.old) F.same_file result }
-    ensures same { Unchanged (F.gives files.old) (F.gives files.new) }
+    ensures same { F.gives files.new ≡ F.gives files.old }
 {
     match question {
         Question::Clash {

@@ -1,6 +1,5 @@
 //! `brl rules`: the rules of a table by their numbers.
 ghost use Rattle.std.specs.Prelude.{◌≡◌, IfOk};
-ghost use Rattle.brl_lines.specs.Answer.{Unchanged};
 ghost use Rattle.brl_lines.specs.Outcome.{CountsFailure};
 ghost use Rattle.brl_answers.specs.Answers.{load_outcome};
 ghost use Rattle.brl_tool.specs.Listing.{Lists, ListsByFile, listed_numbers as numbers_listed};
@@ -22,7 +21,7 @@ pub fn list_rules_by_file<S: Source>(
 ) -> Result<Answer, RunFault>
     ensures lists { ListsByFile (S.gives source.old) path.now numbers.now result }
     ensures count { CountsFailure (S.faults source.old) (S.faults source.new) (load_outcome result) }
-    ensures same { Unchanged (S.gives source.old) (S.gives source.new) }
+    ensures same { S.gives source.new ≡ S.gives source.old }
 {
     let loaded = table_at(alloc, source, path)?;
     list_rules(alloc, &loaded, numbers)

@@ -1,6 +1,5 @@
 //! `brl search`: whether two texts of a table clash.
 ghost use Rattle.std.specs.Prelude.{◌≡◌, ◌≢◌, ℕ, All, IfErr, IfOk, OnOk};
-ghost use Rattle.brl_lines.specs.Answer.{Unchanged};
 ghost use Rattle.brl_lines.specs.Outcome.{CountsFailure};
 ghost use Rattle.std.specs.Option.{option_copied};
 ghost use Rattle.brl_answers.specs.Answers.{ByLeftOut, load_outcome};
@@ -39,7 +38,7 @@ pub fn search_by_words<F: Files, E: Write + Progress>(
     ensures searches { ByLeftOut (option_copied option.entry)
         (λ left_out. SearchesByFile left_out (F.gives files.old) F.same_file path.now out.now limit) result }
     ensures count { CountsFailure (F.faults files.old) (F.faults files.new) (load_outcome result) }
-    ensures same { Unchanged (F.gives files.old) (F.gives files.new) }
+    ensures same { F.gives files.new ≡ F.gives files.old }
 {
     let left_out = left_out_of(alloc, option)?;
     search_by_file(alloc, files, path, out, limit, &left_out, err)
@@ -62,7 +61,7 @@ pub fn search_by_file<F: Files, E: Write + Progress>(
 ) -> Result<Answer, RunFault>
     ensures searches { SearchesByFile left_out.now (F.gives files.old) F.same_file path.now out.now limit result }
     ensures count { CountsFailure (F.faults files.old) (F.faults files.new) (load_outcome result) }
-    ensures same { Unchanged (F.gives files.old) (F.gives files.new) }
+    ensures same { F.gives files.new ≡ F.gives files.old }
 {
     let loaded = load(alloc, files, path)?;
     refuse_file_that_is_read(alloc, files, &loaded, None, out)?;

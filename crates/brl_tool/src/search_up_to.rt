@@ -1,7 +1,6 @@
 //! `brl search --accept`: whether two texts of a table clash, but for what a file excuses.
-ghost use Rattle.std.specs.Prelude.{ℕ, IfOk};
+ghost use Rattle.std.specs.Prelude.{◌≡◌, ℕ, IfOk};
 ghost use Rattle.std.specs.Option.{option_copied};
-ghost use Rattle.brl_lines.specs.Answer.{Unchanged};
 ghost use Rattle.brl_lines.specs.Outcome.{CountsFailure};
 ghost use Rattle.brl_answers.specs.Answers.{ByLeftOut, load_outcome};
 ghost use Rattle.brl_search.specs.FoundUpTo.{IsFoundUpTo};
@@ -52,7 +51,7 @@ pub fn search_up_to_by_words<F: Files, E: Write + Progress>(
     ensures searches { ByLeftOut (option_copied option.entry)
         (λ left_out. SearchesUpTo left_out (F.gives files.old) F.same_file paths.entry.table.now paths.entry.out.now limit paths.entry.accept.now) result }
     ensures count { CountsFailure (F.faults files.old) (F.faults files.new) (load_outcome result) }
-    ensures same { Unchanged (F.gives files.old) (F.gives files.new) }
+    ensures same { F.gives files.new ≡ F.gives files.old }
 {
     let left_out = left_out_of(alloc, option)?;
     search_up_to_by_files(alloc, files, paths, limit, &left_out, err)
@@ -69,7 +68,7 @@ fn search_up_to_by_files<F: Files, E: Write + Progress>(
 ) -> Result<Answer, RunFault>
     ensures searches { SearchesUpTo left_out.now (F.gives files.old) F.same_file paths.entry.table.now paths.entry.out.now limit paths.entry.accept.now result }
     ensures count { CountsFailure (F.faults files.old) (F.faults files.new) (load_outcome result) }
-    ensures same { Unchanged (F.gives files.old) (F.gives files.new) }
+    ensures same { F.gives files.new ≡ F.gives files.old }
 {
     let read = load(alloc, files, paths.table)?;
     refuse_file_that_is_read(alloc, files, &read, Some(paths.accept), paths.out)?;
@@ -90,7 +89,7 @@ fn search_loaded<F: Files, E: Write + Progress>(
     ensures finds { ByExcusal left_out.now (F.gives files.old) paths.entry.accept.now loaded.now.table loaded.now.files.lines
         (FindsUpTo left_out.now loaded.now.table paths.entry.out.now limit) result }
     ensures count { CountsFailure (F.faults files.old) (F.faults files.new) (load_outcome result) }
-    ensures same { Unchanged (F.gives files.old) (F.gives files.new) }
+    ensures same { F.gives files.new ≡ F.gives files.old }
 {
     let excusal = excusal_without(alloc, files, loaded, left_out, paths.accept)?;
     let but_for = ButFor {

@@ -1,6 +1,5 @@
 //! `brl slips`: the rules of a table that look like typing errors.
 ghost use Rattle.std.specs.Prelude.{◌≡◌, IfOk, map};
-ghost use Rattle.brl_lines.specs.Answer.{Unchanged};
 ghost use Rattle.brl_lines.specs.Views.{line_view};
 ghost use Rattle.brl_tool.specs.Slipping.{IsSlipsAnswer, ListsSlips, status_of_slips};
 
@@ -21,7 +20,7 @@ pub fn list_slips_by_file<S: Source>(
     columns: bool,
 ) -> Result<Answer, RunFault>
     ensures lists { ListsSlips (S.gives source.old) path.now result }
-    ensures same { Unchanged (S.gives source.old) (S.gives source.new) }
+    ensures same { S.gives source.new ≡ S.gives source.old }
 {
     match load_without_dictionaries(alloc, source, path) {
         Ok(table) => {

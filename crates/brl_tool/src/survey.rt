@@ -1,7 +1,6 @@
 //! `brl survey`: the lines of tables that are outside the profile or faulty.
 ghost use Rattle.std.specs.Prelude.{◌≡◌, ◌++◌, IfErr, IfOk, OnOk, map, string_bytes};
 ghost use Rattle.brl_failure.specs.Failure.{IfFault};
-ghost use Rattle.brl_lines.specs.Answer.{Unchanged};
 ghost use Rattle.brl_lines.specs.Gathered.{left_view};
 ghost use Rattle.brl_cut.specs.Skipping.{IsUnloaded};
 ghost use Rattle.brl_table.specs.Survey.{survey_of};
@@ -38,7 +37,7 @@ pub fn survey_by_files<S: Source, E: Write>(
     err: &mut E,
 ) -> Result<Answer, RunFault>
     ensures surveys { SurveysByFiles brief (S.gives source.old) (map (λ path. path.now) paths.now) result }
-    ensures same { Unchanged (S.gives source.old) (S.gives source.new) }
+    ensures same { S.gives source.new ≡ S.gives source.old }
 {
     let several = paths.len() > 1;
     let mut text = String::new(alloc);
@@ -104,7 +103,7 @@ fn report_at<S: Source, E: Write>(
 ) -> Result<Report, Failure<LoadFault>>
     ensures report { IfOk result (λ report. IsReportAt brief (S.gives source.old) path.now (string_bytes report.text) report.suspect) }
     ensures fault { IfErr result (IfFault (IsUnloaded (S.gives source.old) path.now)) }
-    ensures same { Unchanged (S.gives source.old) (S.gives source.new) }
+    ensures same { S.gives source.new ≡ S.gives source.old }
 {
     let table = load_without_dictionaries(alloc, source, path)?;
     write_notes_if_read(alloc, &table.loaded, err)?;

@@ -1,5 +1,5 @@
 //! `brl trace`: the steps of a text's translation.
-ghost use Rattle.brl_lines.specs.Answer.{Unchanged};
+ghost use Rattle.std.specs.Prelude.{◌≡◌};
 ghost use Rattle.brl_lines.specs.Outcome.{CountsFailure};
 ghost use Rattle.brl_answers.specs.Answers.{load_outcome};
 ghost use Rattle.brl_tool.specs.ByLines.{shown_lines as lines_shown};
@@ -25,7 +25,7 @@ pub fn trace_by_word<S: Source>(
 ) -> Result<Answer, RunFault>
     ensures traces { TracesByWord options (S.gives source.old) path.now word.now result }
     ensures count { CountsFailure (S.faults source.old) (S.faults source.new) (load_outcome result) }
-    ensures same { Unchanged (S.gives source.old) (S.gives source.new) }
+    ensures same { S.gives source.new ≡ S.gives source.old }
 {
     let text = text_of_word(alloc, word, options.escapes)?;
     trace_by_file(alloc, source, path, options.lines, text.as_slice())
@@ -42,7 +42,7 @@ pub fn trace_by_file<S: Source>(
 ) -> Result<Answer, RunFault>
     ensures traces { TracesByFile with_lines (S.gives source.old) path.now text.now result }
     ensures count { CountsFailure (S.faults source.old) (S.faults source.new) (load_outcome result) }
-    ensures same { Unchanged (S.gives source.old) (S.gives source.new) }
+    ensures same { S.gives source.new ≡ S.gives source.old }
 {
     let loaded = table_at(alloc, source, path)?;
     trace(alloc, &loaded, with_lines, text)

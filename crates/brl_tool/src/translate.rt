@@ -1,6 +1,5 @@
 //! `brl translate`: a stream, translated line by line.
 ghost use Rattle.std.specs.Prelude.{◌≡◌, IfOk, string_bytes};
-ghost use Rattle.brl_lines.specs.Answer.{Unchanged};
 ghost use Rattle.brl_lines.specs.Outcome.{CountsFailure};
 ghost use Rattle.brl_answers.specs.Answers.{load_outcome};
 ghost use Rattle.brl_tool.specs.Streams.{TranslatesByFile, TranslatesDefinedByFile, code_point, lacking_line, lacking_lines};
@@ -23,7 +22,7 @@ pub fn translate_by_file<S: Source, R: Input, W: Output>(
     ensures translates { TranslatesByFile (S.gives source.old) path.now form (R.remaining reader.old) (W.contents writer.old)
         (W.contents writer.new) result }
     ensures count { CountsFailure (S.faults source.old) (S.faults source.new) (load_outcome result) }
-    ensures same { Unchanged (S.gives source.old) (S.gives source.new) }
+    ensures same { S.gives source.new ≡ S.gives source.old }
 {
     let table = load_table(alloc, source, path)?;
     match translate_lines(alloc, &table, form, reader, writer) {
@@ -77,7 +76,7 @@ pub fn translate_defined_by_file<S: Source, R: Input, W: Output>(
     ensures translates { TranslatesDefinedByFile (S.gives source.old) path.now form (R.remaining reader.old)
         (W.contents writer.old) (W.contents writer.new) result }
     ensures count { CountsFailure (S.faults source.old) (S.faults source.new) (load_outcome result) }
-    ensures same { Unchanged (S.gives source.old) (S.gives source.new) }
+    ensures same { S.gives source.new ≡ S.gives source.old }
 {
     let table = load_table(alloc, source, path)?;
     match translate_defined_lines(alloc, &table, form, reader, writer) {

@@ -1,6 +1,5 @@
 //! `brl unused`: the rules of a table that no text uses.
 ghost use Rattle.std.specs.Prelude.{◌≡◌, IfOk, map, string_bytes};
-ghost use Rattle.brl_lines.specs.Answer.{Unchanged};
 ghost use Rattle.brl_lines.specs.Outcome.{CountsFailure};
 ghost use Rattle.brl_lines.specs.Views.{line_view};
 ghost use Rattle.brl_answers.specs.Answers.{HasTextAndStatus, load_outcome};
@@ -28,7 +27,7 @@ pub fn list_unused_by_file<S: Source, E: Write + Progress>(
 ) -> Result<Answer, RunFault>
     ensures lists { ListsUnusedByFile (S.gives source.old) path.now limit result }
     ensures count { CountsFailure (S.faults source.old) (S.faults source.new) (load_outcome result) }
-    ensures same { Unchanged (S.gives source.old) (S.gives source.new) }
+    ensures same { S.gives source.new ≡ S.gives source.old }
 {
     let loaded = table_at(alloc, source, path)?;
     list_unused(alloc, &loaded, limit, err)

@@ -5,7 +5,7 @@ use Rattle.brl_answers.proofs.MakingLemmas.{all_of, more_written, stops_here}
 use Rattle.brl_answers.proofs.making.make_files.Goals as goal
 
 pub loop-place-init : goal.loop-place-init
-loop-place-init g c = ((λ k d l. absurd (omega arith)), (refl, λ p a none. ((λ h. h), (λ h. h))))
+loop-place-init g c = ((λ k d l. absurd (omega arith)), (refl, λ p a none. refl))
 
 pub loop-place-preserved : goal.loop-place-preserved
 loop-place-preserved g c =

@@ -9,8 +9,8 @@ use Rattle.brl_answers.proofs.making.make_new_files.Goals as goal
 module _ (files : List NewFile) (gives : FileAnswers) where
   -- a file is there already, and none was made
   not_new : (fault : RunFault) → IsThereAlready gives files fault → AreMade files gives gives (Err fault)
-  not_new (AlreadyThere path) is = (is, (refl, λ p a. ((λ h. h), (λ h. h))))
-  not_new Memory is = (0, ((λ k d l. absurd (omega arith)), (refl, λ p a none. ((λ h. h), (λ h. h)))))
+  not_new (AlreadyThere path) is = (is, refl)
+  not_new Memory is = (0, ((λ k d l. absurd (omega arith)), (refl, λ p a none. refl)))
   not_new fault is = absurd is
 
   -- the same of what came back

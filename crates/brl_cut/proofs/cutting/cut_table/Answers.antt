@@ -1,5 +1,6 @@
-use Rattle.std.proofs.Common.{◌∙◌, map, string_bytes}
+use Rattle.std.proofs.Common.{◌∙◌, ap, map, string_bytes}
 use Rattle.brl_failure.specs.Raised.{raised_is}
+use Rattle.brl_lines.specs.Answer.{FileAnswers}
 use Rattle.brl_cut.proofs.CutLemmas.{cut-fault, cut-whole}
 use Rattle.brl_cut.proofs.cutting.cut_table.Goals as goal
 
@@ -7,10 +8,10 @@ pub returns-clause-cut : goal.returns-clause-cut
 returns-clause-cut g c =
     let gathered = c.in_ok-gathered.gathered in
     let is = rw (raised_is _ c.gather.result c.raise.result gathered c.raise.ensures c.in_ok-gathered.was) at c.gather.ensures.gathered in
-    cut-whole c.args.rewrite (g.S.Source.gives c.args.source.now) c.args.root.now c.args.dir.now gathered is (map string_bytes c.folders.result.now) (c.folders.ensures ∙ c.gather.ensures.same.0) c.cut_gathered.result c.cut_gathered.ensures.cut
+    cut-whole c.args.rewrite (g.S.Source.gives c.args.source.now) c.args.root.now c.args.dir.now gathered is (map string_bytes c.folders.result.now) (c.folders.ensures ∙ ap (λ (gives : FileAnswers). gives.folders) c.gather.ensures.same) c.cut_gathered.result c.cut_gathered.ensures.cut
 
 pub returns-clause-fault : goal.returns-clause-fault
 returns-clause-fault g c =
     let gathered = c.in_ok-gathered.gathered in
     let is = rw (raised_is _ c.gather.result c.raise.result gathered c.raise.ensures c.in_ok-gathered.was) at c.gather.ensures.gathered in
-    cut-fault c.args.rewrite (g.S.Source.gives c.args.source.now) c.args.root.now c.args.dir.now gathered is (map string_bytes c.folders.result.now) (c.folders.ensures ∙ c.gather.ensures.same.0) c.cut_gathered.result c.cut_gathered.ensures.fault
+    cut-fault c.args.rewrite (g.S.Source.gives c.args.source.now) c.args.root.now c.args.dir.now gathered is (map string_bytes c.folders.result.now) (c.folders.ensures ∙ ap (λ (gives : FileAnswers). gives.folders) c.gather.ensures.same) c.cut_gathered.result c.cut_gathered.ensures.fault

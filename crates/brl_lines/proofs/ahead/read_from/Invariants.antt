@@ -1,6 +1,10 @@
+use Rattle.std.proofs.Common.{◌≡◌}
 use Rattle.brl_lines.specs.Gathered.{known_answers}
-use Rattle.brl_lines.proofs.KnownLemmas.{HasLearnt}
+use Rattle.brl_lines.specs.Outcome.{AreGiven}
 use Rattle.brl_lines.proofs.ahead.read_from.Given as goal
 
 abbrev pub invariant-loop-number : goal.invariant-loop-number
-invariant-loop-number g l = HasLearnt (g.S.Source.gives l.fn.source) (g.S.Source.gives l.source) (known_answers l.known.entries)
+invariant-loop-number g l = record {
+  given : AreGiven (g.S.Source.gives l.source) (known_answers l.known.entries);
+  same : g.S.Source.gives l.source ≡ g.S.Source.gives l.fn.source;
+}

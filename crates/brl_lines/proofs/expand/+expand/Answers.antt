@@ -1,8 +1,6 @@
 use Rattle.std.proofs.Common.{◌∙◌, arith, refl, subst}
 use Rattle.std.proofs.lemmas.Result.{err_from_is_err_and}
-use Rattle.brl_lines.specs.Files.{answers_of}
 use Rattle.brl_lines.specs.Steps.{IsRowAt}
-use Rattle.brl_lines.proofs.FileLemmas.{given-stays}
 use Rattle.brl_lines.proofs.LoopLemmas.{added-all, added-include, added-line, added-none, added-nothing, inner-spans, number-small, refused-include, refused-inner, row-smaller, still-boundary, still-open, still-within}
 use Rattle.brl_lines.proofs.expand.+expand.Goals as goal
 
@@ -11,7 +9,7 @@ loop-row-init g t c =
     record {
       added = added-none (g.S.Source.gives c.args.source.now) c.args.root.now c.args.file.now c.args.table.now c.requires.1.1.1;
       count = refl;
-      same = (refl, λ p a. (λ x. x, λ x. x));
+      same = refl;
     }
 
 pub row_from-requires-clause-opened : goal.row_from-requires-clause-opened
@@ -64,28 +62,24 @@ loop-row-preserved-in-Continue-branch-3 g t c =
       same = c.loop-row.invariant.same;
     }
 
-pub enter-requires : goal.enter-requires
-enter-requires g t c =
-    given-stays (g.S.Source.gives c.args.source.now) (g.S.Source.gives c.loop-row.source) (λ p a. (c.loop-row.invariant.same.1 p a).1) (answers_of c.loop-row.table.files.entries) c.loop-row.invariant.added.grows.given
-
 pub returns-in_err-inner-in-Include-clause-err : goal.returns-in_err-inner-in-Include-clause-err
 returns-in_err-inner-in-Include-clause-err g t c =
     let is = subst (IsRowAt c.loop-row.table.files.entries c.args.file.now c.loop-row.number c.loop-row.at) c.in-Some.is c.in_ok-row.ensures in
     let p = err_from_is_err_and c.from_residual-in_err-inner-in-Include.result c.from_residual-in_err-inner-in-Include.ensures.1 in
-    rw (p.1, p.2) (refused-include (g.S.Source.gives c.args.source.now) c.args.root.now c.args.file.now c.args.table.now c.requires.1.1.1 c.loop-row.table c.loop-row.number c.loop-row.at c.loop-row.invariant.added c.in-Some.row is c.in-Include.include c.in-Include.is (g.S.Source.gives c.loop-row.source) c.loop-row.invariant.same.0 (λ path a. (c.loop-row.invariant.same.1 path a).0) c.in_err-inner-in-Include.field-0.0 (rw c.in-Include.is at c.in_err-inner-in-Include.ensures.err))
+    rw (p.1, p.2) (refused-include (g.S.Source.gives c.args.source.now) c.args.root.now c.args.file.now c.args.table.now c.requires.1.1.1 c.loop-row.table c.loop-row.number c.loop-row.at c.loop-row.invariant.added c.in-Some.row is c.in-Include.include c.in-Include.is c.in_err-inner-in-Include.field-0.0 (rw (c.loop-row.invariant.same, c.in-Include.is) at c.in_err-inner-in-Include.ensures.err))
 
 pub expand-requires : goal.expand-requires
 expand-requires g t c κs within =
     let is = subst (IsRowAt c.loop-row.table.files.entries c.args.file.now c.loop-row.number c.loop-row.at) c.in-Some.is c.in_ok-row.ensures in
-    let enters = rw c.in-Include.is at c.in_ok-inner-in-Include.ensures.ok in
+    let enters = rw (c.loop-row.invariant.same, c.in-Include.is) at c.in_ok-inner-in-Include.ensures.ok in
     let depth = enters.depth in (
       omega (arith, depth),
       (
         within,
         record {
-          given = given-stays (g.S.Source.gives c.loop-row.source) (g.S.Source.gives c.enter.new.source) (λ p a. (c.in_ok-inner-in-Include.ensures.same.1 p a).1) (answers_of c.enter.new.table.files.entries) enters.grows.given;
+          given = rw (c.in_ok-inner-in-Include.ensures.same ∙ c.loop-row.invariant.same) enters.grows.given;
           opened = enters.opened;
-          spans = inner-spans (g.S.Source.gives c.args.source.now) c.args.root.now c.args.file.now c.args.table.now c.requires.1.1.1 c.loop-row.table c.loop-row.number c.loop-row.at c.loop-row.invariant.added c.in-Some.row is c.in-Include.include c.in-Include.is (g.S.Source.gives c.loop-row.source) c.loop-row.invariant.same.0 (λ path a. (c.loop-row.invariant.same.1 path a).0) c.enter.new.table c.in_ok-inner-in-Include.inner enters;
+          spans = inner-spans (g.S.Source.gives c.args.source.now) c.args.root.now c.args.file.now c.args.table.now c.requires.1.1.1 c.loop-row.table c.loop-row.number c.loop-row.at c.loop-row.invariant.added c.in-Some.row is c.in-Include.include c.in-Include.is c.enter.new.table c.in_ok-inner-in-Include.inner enters;
         },
       ),
     )
@@ -93,24 +87,18 @@ expand-requires g t c κs within =
 pub returns-in_err-expand-in-Include-clause-err : goal.returns-in_err-expand-in-Include-clause-err
 returns-in_err-expand-in-Include-clause-err g t c =
     let is = subst (IsRowAt c.loop-row.table.files.entries c.args.file.now c.loop-row.number c.loop-row.at) c.in-Some.is c.in_ok-row.ensures in
-    let enters = rw c.in-Include.is at c.in_ok-inner-in-Include.ensures.ok in
+    let enters = rw (c.loop-row.invariant.same, c.in-Include.is) at c.in_ok-inner-in-Include.ensures.ok in
     let p = err_from_is_err_and c.from_residual-in_err-expand-in-Include.result c.from_residual-in_err-expand-in-Include.ensures.1 in
-    rw (p.1, p.2) (refused-inner (g.S.Source.gives c.args.source.now) c.args.root.now c.args.file.now c.args.table.now c.requires.1.1.1 c.loop-row.table c.loop-row.number c.loop-row.at c.loop-row.invariant.added c.in-Some.row is c.in-Include.include c.in-Include.is (g.S.Source.gives c.loop-row.source) c.loop-row.invariant.same.0 (λ path a. (c.loop-row.invariant.same.1 path a).0) c.enter.new.table c.in_ok-inner-in-Include.inner enters (g.S.Source.gives c.enter.new.source) (c.in_ok-inner-in-Include.ensures.same.0 ∙ c.loop-row.invariant.same.0) (λ path a x. (c.loop-row.invariant.same.1 path a).0 ((c.in_ok-inner-in-Include.ensures.same.1 path a).0 x)) c.in_err-expand-in-Include.field-0.0 c.in_err-expand-in-Include.ensures.err)
+    rw (p.1, p.2) (refused-inner (g.S.Source.gives c.args.source.now) c.args.root.now c.args.file.now c.args.table.now c.requires.1.1.1 c.loop-row.table c.loop-row.number c.loop-row.at c.loop-row.invariant.added c.in-Some.row is c.in-Include.include c.in-Include.is c.enter.new.table c.in_ok-inner-in-Include.inner enters c.in_err-expand-in-Include.field-0.0 (rw (c.in_ok-inner-in-Include.ensures.same ∙ c.loop-row.invariant.same) at c.in_err-expand-in-Include.ensures.err))
 
 pub loop-row-preserved : goal.loop-row-preserved
 loop-row-preserved g t c =
     let is = subst (IsRowAt c.loop-row.table.files.entries c.args.file.now c.loop-row.number c.loop-row.at) c.in-Some.is c.in_ok-row.ensures in
-    let enters = rw c.in-Include.is at c.in_ok-inner-in-Include.ensures.ok in
+    let enters = rw (c.loop-row.invariant.same, c.in-Include.is) at c.in_ok-inner-in-Include.ensures.ok in
     record {
-      added = added-include (g.S.Source.gives c.args.source.now) c.args.root.now c.args.file.now c.args.table.now c.requires.1.1.1 c.loop-row.table c.loop-row.number c.loop-row.at c.loop-row.invariant.added c.in-Some.row is c.in-Include.include c.in-Include.is (g.S.Source.gives c.loop-row.source) c.loop-row.invariant.same.0 (λ path a. (c.loop-row.invariant.same.1 path a).0) c.enter.new.table c.in_ok-inner-in-Include.inner enters (g.S.Source.gives c.enter.new.source) (c.in_ok-inner-in-Include.ensures.same.0 ∙ c.loop-row.invariant.same.0) (λ path a x. (c.loop-row.invariant.same.1 path a).0 ((c.in_ok-inner-in-Include.ensures.same.1 path a).0 x)) c.expand.new.table c.in_ok-expand-in-Include.ensures.ok;
+      added = added-include (g.S.Source.gives c.args.source.now) c.args.root.now c.args.file.now c.args.table.now c.requires.1.1.1 c.loop-row.table c.loop-row.number c.loop-row.at c.loop-row.invariant.added c.in-Some.row is c.in-Include.include c.in-Include.is c.enter.new.table c.in_ok-inner-in-Include.inner enters c.expand.new.table (rw (c.in_ok-inner-in-Include.ensures.same ∙ c.loop-row.invariant.same) at c.in_ok-expand-in-Include.ensures.ok);
       count = c.in_ok-expand-in-Include.ensures.count ∙ c.in_ok-inner-in-Include.ensures.count ∙ c.loop-row.invariant.count;
-      same = (
-        c.in_ok-expand-in-Include.ensures.same.0 ∙ c.in_ok-inner-in-Include.ensures.same.0 ∙ c.loop-row.invariant.same.0,
-        λ p a. (
-          λ x. (c.loop-row.invariant.same.1 p a).0 ((c.in_ok-inner-in-Include.ensures.same.1 p a).0 ((c.in_ok-expand-in-Include.ensures.same.1 p a).0 x)),
-          λ x. (c.in_ok-expand-in-Include.ensures.same.1 p a).1 ((c.in_ok-inner-in-Include.ensures.same.1 p a).1 ((c.loop-row.invariant.same.1 p a).1 x)),
-        ),
-      );
+      same = c.in_ok-expand-in-Include.ensures.same ∙ c.in_ok-inner-in-Include.ensures.same ∙ c.loop-row.invariant.same;
     }
 
 pub returns-clause-ok : goal.returns-clause-ok

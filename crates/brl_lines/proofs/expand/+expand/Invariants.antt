@@ -1,5 +1,4 @@
 use Rattle.std.proofs.Common.{◌≡◌, ◌-◌, length}
-use Rattle.brl_lines.specs.Answer.{Unchanged}
 use Rattle.brl_lines.specs.Files.{text_at}
 use Rattle.brl_lines.proofs.LoopLemmas.{Added}
 use Rattle.brl_lines.proofs.expand.+expand.Given as goal
@@ -11,7 +10,7 @@ abbrev pub invariant-loop-row : goal.invariant-loop-row
 invariant-loop-row g l = record {
   added : Added (g.S.Source.gives l.fn.source) l.root l.file l.fn.table l.table l.number l.at;
   count : g.S.Source.faults l.source ≡ g.S.Source.faults l.fn.source;
-  same : Unchanged (g.S.Source.gives l.fn.source) (g.S.Source.gives l.source);
+  same : g.S.Source.gives l.source ≡ g.S.Source.gives l.fn.source;
 }
 
 abbrev pub decreases-loop-row : goal.decreases-loop-row

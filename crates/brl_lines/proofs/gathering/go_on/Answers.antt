@@ -4,7 +4,6 @@ use Rattle.brl_lines.specs.Answer.{is_missing}
 use Rattle.brl_lines.specs.GatherFaults.{IsFaultAs}
 use Rattle.brl_lines.specs.Gathered.{known_answer, known_answers, stop_view}
 use Rattle.brl_lines.specs.declared.way.StopKind.{StopKind}
-use Rattle.brl_lines.proofs.FileLemmas.{given-stays}
 use Rattle.brl_lines.proofs.gathering.go_on.Goals as goal
 
 pub returns-in-Unknown-clause-fault : goal.returns-in-Unknown-clause-fault
@@ -16,8 +15,3 @@ returns-in-Unknown-clause-fault g c =
     if_fault-weaker _ _ c.refuse-in-Unknown.result
     (λ fault h. subst (λ (kind : StopKind). IsFaultAs kind gives (known_answers entries) stop fault) (sym c.in-Unknown.is) (inr (inl (missing, h))))
     c.refuse-in-Unknown.ensures
-
-pub returns-in_ok-read_ahead-in-Unknown-3-clause-given : goal.returns-in_ok-read_ahead-in-Unknown-3-clause-given
-returns-in_ok-read_ahead-in-Unknown-3-clause-given g c =
-    given-stays (g.S.Source.gives c.learn.new.source) (g.S.Source.gives c.args.source.now) (λ p a. (c.learn.ensures.same.1 p a).0) (known_answers c.read_ahead.new.known.entries)
-    c.in_ok-read_ahead-in-Unknown-3.ensures.given

@@ -33,11 +33,11 @@ impl<F: Source> Source for Sealed<F> {
 }
 
 impl<F: Files> Files for Sealed<F> {
-    ghost use Rattle.std.specs.Prelude.{◌≡◌};
+    ghost use Rattle.std.specs.Str.{bytes_eq};
 
     ghost looked = { λ folders s. record s { files = F.looked folders s.files } };
 
-    ghost same_file = { λ one other. one ≡ other };
+    ghost same_file = { bytes_eq };
 
     fn look_in(&mut self, folders: Vec<String>) {
         self.files.look_in(folders);
@@ -84,9 +84,10 @@ pub struct Unreadable {
 }
 
 impl Source for Unreadable {
+    ghost use Rattle.std.specs.Prelude.{true};
     ghost use Rattle.brl_lines.specs.InMemory.{folders_of};
 
-    ghost gives = { λ s. record { folders = folders_of s.folders; may = λ _ _. Unit {0} } };
+    ghost gives = { λ s. record { folders = folders_of s.folders; may = λ _ _. true } };
 
     ghost faults = { λ s. s.files.failures };
 
@@ -107,11 +108,11 @@ impl Source for Unreadable {
 }
 
 impl Files for Unreadable {
-    ghost use Rattle.std.specs.Prelude.{Some};
+    ghost use Rattle.std.specs.Prelude.{Some, true};
 
     ghost looked = { λ folders s. record s { folders = Some folders } };
 
-    ghost same_file = { λ _ _. Unit {0} };
+    ghost same_file = { λ _ _. true };
 
     fn look_in(&mut self, folders: Vec<String>) {
         self.folders = Some(folders);

@@ -2,7 +2,7 @@ use Rattle.std.proofs.Common.{sym, subst}
 use Rattle.std.proofs.lemmas.Result.{err_from_is_err_and}
 use Rattle.brl_tool.specs.Baselines.{IsOverwritingRead, only_read, written_path}
 use Rattle.brl_tool.specs.Diagnosing.{DiagnosesByFile}
-use Rattle.brl_tool.proofs.ClashesLemmas.{diagnoses_before, listed, overwriting}
+use Rattle.brl_tool.proofs.ClashesLemmas.{listed, overwriting}
 use Rattle.brl_tool.proofs.clashes.list_clashes_by_file.Goals as goal
 
 pub returns-in_err-refuse_file_that_is_read-clause-diagnoses : goal.returns-in_err-refuse_file_that_is_read-clause-diagnoses
@@ -24,5 +24,4 @@ returns-clause-diagnoses g c =
     let answer = c.clashes_of_loaded in
     listed wanted.left_out.now gives g.F.Files.same_file wanted.table.now wanted.limit wanted.first wanted.pairs read.paths read.lines c.in_ok-read.ensures.lines of.passes c.in_ok-refuse_file_that_is_read.ensures.apart
     c.in_ok-loaded.loaded.table of.table answer.result
-    (diagnoses_before gives (g.F.Source.gives c.load.new.source) c.in_ok-read.ensures.same wanted.left_out.now c.in_ok-loaded.loaded.table read.lines wanted.limit wanted.first wanted.pairs answer.result
-    (rw of.files at answer.ensures.diagnoses))
+    (rw (c.in_ok-read.ensures.same, of.files) at answer.ensures.diagnoses)

@@ -1,4 +1,3 @@
-use Rattle.brl_answers.proofs.DeliveryLemmas.{delivered_after}
 use Rattle.brl_answers.specs.Delivery.{world}
 use Rattle.brl_tool.proofs.StatusLemmas.{asks}
 use Rattle.brl_tool.proofs.program.ask.Goals as goal
@@ -8,4 +7,4 @@ returns g c =
     let before = world (g.F.Source.gives c.args.files.now) (g.O.Output.failures c.args.out.now) (g.O.Output.contents c.args.out.now) in
     let after = world (g.F.Source.gives c.deliver.new.files) (g.O.Output.failures c.deliver.new.out) (g.O.Output.contents c.deliver.new.out) in
     asks before after g.F.Files.same_file c.args.question c.answer-outcome.result c.deliver.result c.answer-outcome.ensures.answers
-    (delivered_after before after (g.F.Source.gives c.answer-outcome.new.files) c.answer-outcome.ensures.same c.answer-outcome.result c.deliver.result c.deliver.ensures)
+    (rw c.answer-outcome.ensures.same at c.deliver.ensures)

@@ -1,5 +1,5 @@
-use Rattle.std.proofs.Common.{subst}
-use Rattle.brl_lines.specs.Answer.{MayAnswerSame}
+use Rattle.std.proofs.Common.{◌∙◌, ap, subst, sym}
+use Rattle.brl_lines.specs.Answer.{FileAnswers}
 use Rattle.brl_answers.specs.Delivery.{world}
 use Rattle.brl_tool.specs.Running.{Performs}
 use Rattle.brl_tool.proofs.program.do_work.Goals as goal
@@ -15,4 +15,4 @@ returns-clause-performs g c =
 pub returns-clause-kept : goal.returns-clause-kept
 returns-clause-kept g c =
     let gives = g.F.Source.gives in
-    subst (λ files. MayAnswerSame (gives c.args.files.now) (gives files)) c.look_in.ensures.looked c.look_in.ensures.looks.1
+    ap (λ files. (gives files).may) (sym c.look_in.ensures.looked) ∙ ap (λ (gives : FileAnswers). gives.may) c.look_in.ensures.looks

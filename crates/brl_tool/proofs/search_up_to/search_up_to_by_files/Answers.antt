@@ -1,9 +1,9 @@
 use Rattle.std.proofs.Common.{sym, subst, Some}
 use Rattle.std.proofs.lemmas.Result.{err_from_is_err_and}
 use Rattle.brl_tool.specs.Baselines.{read_paths}
-use Rattle.brl_tool.specs.UpTo.{FindsUpTo, SearchesUpTo}
+use Rattle.brl_tool.specs.UpTo.{SearchesUpTo}
 use Rattle.brl_tool.specs.Verdicts.{IsOverwriting}
-use Rattle.brl_tool.proofs.UpToLemmas.{excusal_before, overwriting, searched}
+use Rattle.brl_tool.proofs.UpToLemmas.{overwriting, searched}
 use Rattle.brl_tool.proofs.search_up_to.search_up_to_by_files.Goals as goal
 
 pub returns-in_err-refuse_file_that_is_read-clause-searches : goal.returns-in_err-refuse_file_that_is_read-clause-searches
@@ -27,5 +27,4 @@ returns-clause-searches g c =
     let answer = c.search_loaded in
     searched left_out gives g.F.Files.same_file paths.table.now paths.out.now c.args.limit paths.accept.now read.paths read.lines c.in_ok-read.ensures.lines of.passes
     c.in_ok-refuse_file_that_is_read.ensures.apart table of.table answer.result
-    (excusal_before gives (g.F.Source.gives c.load.new.source) c.in_ok-read.ensures.same left_out paths.accept.now table read.lines (FindsUpTo left_out table paths.out.now c.args.limit) answer.result
-    (rw of.files at answer.ensures.finds))
+    (rw (c.in_ok-read.ensures.same, of.files) at answer.ensures.finds)

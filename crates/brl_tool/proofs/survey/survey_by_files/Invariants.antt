@@ -1,10 +1,9 @@
-use Rattle.std.proofs.Common.{map, string_bytes, take}
-use Rattle.brl_lines.specs.Answer.{Unchanged}
+use Rattle.std.proofs.Common.{◌≡◌, map, string_bytes, take}
 use Rattle.brl_tool.proofs.SurveyLemmas.{IsSoFar}
 use Rattle.brl_tool.proofs.survey.survey_by_files.Given as goal
 
 abbrev pub invariant-loop-path : goal.invariant-loop-path
 invariant-loop-path g l = record {
-  same : Unchanged (g.S.Source.gives l.fn.source) (g.S.Source.gives l.source);
+  same : g.S.Source.gives l.source ≡ g.S.Source.gives l.fn.source;
   so_far : IsSoFar l.brief (g.S.Source.gives l.fn.source) l.several (map (λ path. path.now) (take l.path-index l.paths)) (string_bytes l.text) l.status;
 }

@@ -56,9 +56,10 @@ struct Watched {
 }
 
 impl Source for Watched {
+    ghost use Rattle.std.specs.Prelude.{true};
     ghost use Rattle.brl_lines.specs.InMemory.{folders_of};
 
-    ghost gives = { λ s. record { folders = folders_of s.files.folders; may = λ _ _. Unit {0} } };
+    ghost gives = { λ s. record { folders = folders_of s.files.folders; may = λ _ _. true } };
 
     ghost faults = { λ s. s.failures };
 

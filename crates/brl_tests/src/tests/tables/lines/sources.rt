@@ -16,9 +16,9 @@ struct LineFeeds {
 }
 
 impl Source for LineFeeds {
-    ghost use Rattle.std.specs.Prelude.{[]};
+    ghost use Rattle.std.specs.Prelude.{[], true};
 
-    ghost gives = { λ _. record { folders = []; may = λ _ _. Unit {0} } };
+    ghost gives = { λ _. record { folders = []; may = λ _ _. true } };
 
     ghost faults = { λ _. 0 };
 
