@@ -12,7 +12,7 @@ use Rattle.brl_accepted.specs.declared.fault.ExcuseFaultKind.{ExcuseFaultKind}
 use Rattle.brl_accepted.specs.declared.fault.ExcuseFaultKind.TheVariants.{NoSuchRules, NoSuchSet, NotListed}
 use Rattle.brl_accepted.specs.declared.reading.Nameable.{Nameable}
 use Rattle.brl_lines.specs.Rows.{without_mark}
-use Rattle.brl_lines.specs.Tokens.{is_gap}
+use Rattle.brl_lines.specs.Tokens.{LineView, is_gap}
 use Rattle.brl_lines.specs.Visible.{visible_line}
 use Rattle.brl_lines.specs.Views.{line_view}
 use Rattle.brl_pairs.specs.Divergence.{has_rules}
@@ -26,10 +26,13 @@ pub record Names : Type 0 where
   pub words : List (List ℕ)
   pub sets : List (List ℕ)
 
--- those of a table of lines, with some sets of its characters
+-- those of a table of these lines, and these sets
+abbrev pub names_in : TableView → List LineView → List (List ℕ) → Names
+names_in t lines sets = record { table = t; words = wording t lines; sets = sets }
+
+-- what a call gives of them
 abbrev pub names_of : Nameable → Names
-names_of known =
-    record { table = known.table.now; words = wording known.table.now (map line_view known.lines.now); sets = map (λ set. set.items) known.sets.now }
+names_of known = names_in known.table.now (map line_view known.lines.now) (map (λ set. set.items) known.sets.now)
 
 -- ---- A line
 

@@ -9,6 +9,7 @@ ghost use Rattle.brl_accepted.specs.Reading.{
   excused_of as excused_among,
   is_excused as is_excused_by,
   kept_by,
+  names_in,
   names_of,
   pruned,
   rows as rows_of_file,
@@ -18,6 +19,7 @@ ghost use Rattle.brl_accepted.specs.Reading.{
   stale_lines,
 };
 ghost use Rattle.brl_accepted.specs.Sets.{pairs_of_sets as pairs_in_sets};
+ghost use Rattle.brl_lines.specs.Views.{line_view};
 ghost use Rattle.brl_accepted.specs.Words.{AreFound, IsIndexed, list_of, names_read};
 
 use crate::fault::ExcuseFault;
@@ -44,9 +46,7 @@ pub struct Nameable<'a> {
 impl<'a> Nameable<'a> {
     /// What a file may name of a table.
     pub fn new(table: &'a Table, lines: &'a [Line<'a>], sets: &'a [Vec<char>]) -> Nameable<'a>
-        ensures table { result.table.now ≡ table.now }
-        ensures lines { result.lines.now ≡ lines.now }
-        ensures sets { result.sets.now ≡ sets.now }
+        ensures { names_of result ≡ names_in table.now (map line_view lines.now) (map (λ set. set.items) sets.now) }
     {
         Nameable { table, lines, sets }
     }
