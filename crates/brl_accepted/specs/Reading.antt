@@ -20,7 +20,7 @@ use Rattle.brl_pairs.specs.declared.excused.Excused.{Excused}
 use Rattle.brl_report.specs.Rules.{rule_count, rule_numbers}
 use Rattle.brl_rules.specs.TableView.{TableView}
 
--- what a file of pairs may name: the rules of a table, by what each says, and its sets of characters
+-- what a file of pairs may name: the rules of a table, by what each says, and sets of characters
 pub record Names : Type 0 where
   pub table : TableView
   pub words : List (List ℕ)

@@ -66,8 +66,8 @@ fn numbers_at<'b>(index: &'b Index<'_>, text: &[u8]) -> &'b [u32]
     }
 }
 
-/// The pairs of rules whose line this is, each in the order of the line. Each rule says three words,
-/// and the index has it by these.
+/// The pairs of rules whose line this is, each in the order of the line. Each rule says three
+/// words, and the index has it by these.
 pub(crate) fn pairs_of_line(
     alloc: Global,
     index: &Index<'_>,

@@ -103,9 +103,9 @@ impl Excusal {
     }
 }
 
-/// What a file at a path excuses, where its text is given. A line is blank, a comment that begins
-/// with `#`, `ONE / OTHER`, just as `write_accepted` writes it or with its rules in the other order,
-/// or `exchange CHARS` with two characters or more of a set: it names the pairs of their own
+/// What the file at a path with this text excuses. A line is blank, a comment that begins with `#`,
+/// `ONE / OTHER`, just as `write_accepted` writes it or with its rules in the other order, or
+/// `exchange CHARS` with two characters or more of a set: it names the pairs of their own
 /// definitions. Where several rules say the same, a line names each of them.
 ///
 /// Any other line is stale, and names nothing: `NoSuchSet` where it begins as that of a set, and
