@@ -9,9 +9,7 @@ ghost use Rattle.brl_clashes.specs.Sections.{AreSections};
 ghost use Rattle.brl_tool.specs.Baselines.{AreExcused, leaves_stale as stale_stay, pruned_text};
 ghost use Rattle.brl_tool.specs.Diagnosing.{Diagnoses, DiagnosesByFile, IsDiagnosis, status_of_sections};
 
-use crate::baselines::{
-    Baseline, Exempt, excused_pairs, file_of_pairs, refuse_file_that_is_read,
-};
+use crate::baselines::{Baseline, Exempt, excused_pairs, file_of_pairs, refuse_file_that_is_read};
 use crate::file_text::text_at;
 use crate::loaded_table::LoadedTable;
 use crate::notices::write_if_without_characters;

@@ -31,6 +31,8 @@ returns-clause-kept c =
     let names : names_of c.new-known.result ≡ names_of_table t lines =
     c.new-known.ensures ∙ ap (names_in t lines) (ap (map (λ set. set.items)) c.as_slice.ensures.value ∙ c.in_ok-sets.ensures) in
     let pairs : c.in_ok-listed.listed ≡ listed_pairs sections = c.in_ok-listed.ensures ∙ c.in_ok-pairs_of_sections.ensures in
-    let content = (λ i. pruned (names i) (if_whole (c.are_whole.ensures i) (pairs i)) text) in
+    let list = if_whole (are_whole sections) (listed_pairs sections) in
+    let content : pruned (names_of c.new-known.result) (if_whole c.are_whole.result c.in_ok-listed.listed) text ≡ pruned (names_of_table t lines) list text =
+    (λ i. pruned (names i) (if_whole (c.are_whole.ensures i) (pairs i)) text) in
     subst (λ baseline. IfOk result (λ exempt. string_bytes exempt.kept ≡ pruned_text (option_map (λ file. file.text.now) baseline) t lines sections)) (sym c.in-Some.is)
     (subst (λ (bytes : List ℕ). IfOk result (λ exempt. string_bytes exempt.kept ≡ bytes)) content c.exempt_by.ensures.kept)

@@ -1,4 +1,4 @@
-use Rattle.std.proofs.Common.{◌≡◌, ◌∙◌, Some, ap, length}
+use Rattle.std.proofs.Common.{◌≡◌, ◌∙◌, Some, ap, length, rules}
 use Rattle.brl_accepted.specs.Reading.{accepted_count, excused_by, excused_of, names_of, pruned, sets_named, stale_count}
 use Rattle.brl_tool.proofs.baselines.exempt_by.Goals as goal
 
@@ -10,7 +10,7 @@ returns-clause-excuses c =
     let e = c.in_ok-excusal.ensures in
     let excused = e.excused ∙ ap (λ l. excused_by names l text) list in
     let pairs = c.in_ok-pairs.ensures ∙ (λ i. excused_of (excused i) (c.as_slice.ensures i)) in
-    let size = c.len.ensures in
+    let size : c.len.result ≡ length c.in_ok-pairs.pairs.items = search rules in
     let taken = c.taken_of-taken.ensures
     ∙ (λ i. record {
       listed = size i;
