@@ -1,8 +1,11 @@
-mod LineTests
-mod NamingLemmas
+mod Finding
+mod Indexing
+mod ListLemmas
+mod PairLemmas
+mod Parting
 mod Plain
 mod ReadBack
+mod Said
 mod Seen
 mod SetLemmas
-mod StaleLemmas
 mod WrittenLines

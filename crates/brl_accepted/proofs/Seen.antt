@@ -1,7 +1,6 @@
 -- What is written can be seen: a line of a rule or of a set is the same where what can't be seen is
 -- spelled.
 use Rattle.std.proofs.Common.{◌≡◌, ◌≢◌, ◌∙◌, ◌<◌, ◌++◌, ◌-◌, ◌/◌, ◌%◌, ◌&&◌, ◌||◌, ℕ, zero, suc, All, Bool, true, false, cond, List, [], ◌∷◌, Option, None, Some, ap, append_assoc, arith, codes, drop, encode_utf8_all, filter, find, flat_map, get_or, if◌then◌else◌, length, map, nat_eq, nat_lt, refl, subst, sym, take}
-use Rattle.std.specs.Cmp.{first_so, second_so}
 use Rattle.std.specs.List.{AllByRecursion, join_with_byte, list_all, list_any}
 use Rattle.std.specs.Option.{option_and_then, option_map_or, option_or}
 use Rattle.std.specs.Str.{all_scalars, bytes_eq, chars}
@@ -12,7 +11,6 @@ use Rattle.std.specs.Prelude.{nat_le, option_map, slice_get}
 use Rattle.std.proofs.lemmas.List.Elements.{recursion_from_All}
 use Rattle.ucd_category.specs.GeneralCategory.{general_category}
 use Rattle.ucd_derived.specs.Binary.{is_default_ignorable_code_point}
-use Rattle.std.proofs.lemmas.Slice.Eq.{bytes_eq-Decides}
 use Rattle.std.proofs.lemmas.Str.{chars-encodes, encode_ascii, encodes-append}
 use lib.Utf8.{low_scalar, scalar}
 use Rattle.brl_cells.specs.Dots.{cell_spelling, dot_marks, has_dot, spelling}
@@ -23,8 +21,9 @@ use Rattle.brl_lines.specs.Spelling.{escape_marks, means}
 use Rattle.brl_lines.specs.Tokens.{LineView, is_gap}
 use Rattle.brl_lines.specs.Visible.{by_mark, by_number, is_hidden, is_mark, is_mark_category, is_unseen, is_unseen_category, line_character, line_from, number_prefix, two_digits, visible_character, visible_line, visible_text}
 use Rattle.brl_report.specs.Place.{file_name}
-use Rattle.brl_report.specs.Rules.{ListedView, known_opcode, of_character, of_rule, opcode_at, own_definition, rule_numbers, rule_with_number, rule_words, said_rule}
+use Rattle.brl_report.specs.Rules.{ListedView, known_opcode, of_character, of_rule, opcode_at, own_definition, rule_with_number, said_rule}
 use Rattle.brl_accepted.specs.Pairs.{said, wording}
+use Rattle.brl_accepted.proofs.Said.{each_says, opcode_passes}
 use Rattle.brl_rules.specs.TableView.{TableView, info_of}
 use Rattle.brl_rules.specs.declared.rule.Info.{Info}
 use Rattle.brl_rules.specs.declared.rule.Rule.{Rule}
@@ -274,24 +273,9 @@ seen_text text s = record { cs = visible_text text; is = refl; scalars = text_sc
 
 -- ---- Rules
 
-one_of : (word : List ℕ) (words : List (List ℕ)) → list_all (λ (w : List ℕ). list_all (λ b. nat_lt 31 b && nat_lt b 127) w) words ≡ true → list_any (bytes_eq word) words ≡ true → IsSeen word
-one_of word [] all any = absurd cc
-one_of word (w ∷ words) all any = cases (bytes_eq word w) refl (one_of word words (second_so (list_all (λ b. nat_lt 31 b && nat_lt b 127) w) _ all)) any
-  where
-    cases : (b : Bool) → bytes_eq word w ≡ b → (list_any (bytes_eq word) words ≡ true → IsSeen word) → (b || list_any (bytes_eq word) words) ≡ true → IsSeen word
-    cases true same later is = subst IsSeen (sym ((bytes_eq-Decides word w).0 same)) (seen_codes w (first_so _ _ all))
-    cases false other later is = later is
-
 opcode_seen : (word : List ℕ) → IsSeen (known_opcode word)
 unfolding opcode_words
-opcode_seen word = cases (list_any (bytes_eq word) opcode_words) refl
-  where
-    all : list_all (λ (w : List ℕ). list_all (λ b. nat_lt 31 b && nat_lt b 127) w) opcode_words ≡ true
-    all = refl
-
-    cases : (b : Bool) → list_any (bytes_eq word) opcode_words ≡ b → IsSeen (if b then word else codes "rule")
-    cases true is = one_of word opcode_words all is
-    cases false is = seen_codes (codes "rule") refl
+opcode_seen word = seen_codes (known_opcode word) (opcode_passes (λ (w : List ℕ). list_all (λ b. nat_lt 31 b && nat_lt b 127) w) refl refl word)
 
 filtered : (p : ℕ → Bool) (marks : List ℕ) → AreSeenMarks marks → AreSeenMarks (filter p marks)
 filtered p [] h = tt
@@ -343,24 +327,9 @@ unfolding starts_low
 low_one [] e = tt
 low_one (b ∷ bytes) e = ltb-true b 128 e
 
-low_word : (word : List ℕ) (words : List (List ℕ)) → list_all starts_low words ≡ true → list_any (bytes_eq word) words ≡ true → StartsLow word
-low_word word [] all any = absurd cc
-low_word word (w ∷ words) all any = cases (bytes_eq word w) refl (low_word word words (second_so (starts_low w) _ all)) any
-  where
-    cases : (b : Bool) → bytes_eq word w ≡ b → (list_any (bytes_eq word) words ≡ true → StartsLow word) → (b || list_any (bytes_eq word) words) ≡ true → StartsLow word
-    cases true same later is = subst StartsLow (sym ((bytes_eq-Decides word w).0 same)) (low_one w (first_so _ _ all))
-    cases false other later is = later is
-
 opcode_low : (word : List ℕ) → StartsLow (known_opcode word)
 unfolding opcode_words starts_low
-opcode_low word = cases (list_any (bytes_eq word) opcode_words) refl
-  where
-    all : list_all starts_low opcode_words ≡ true
-    all = refl
-
-    cases : (b : Bool) → list_any (bytes_eq word) opcode_words ≡ b → StartsLow (if b then word else codes "rule")
-    cases true is = low_word word opcode_words all is
-    cases false is = omega arith
+opcode_low word = low_one (known_opcode word) (opcode_passes starts_low refl refl word)
 
 said_low : (t : TableView) (lines : List LineView) (x : ListedView) → StartsLow (said_rule t lines x)
 said_low t lines x =
@@ -407,20 +376,8 @@ numbered_scalars t has number x e =
     (λ r there. element (λ (rule : Rule). all_scalars rule.chars ≡ true) t.rules number r (recursion_from_All (λ (rule : Rule). all_scalars rule.chars ≡ true) t.rules has.rules) there)
     (λ y is. of_own t (slice_get (map (λ entry. entry.0) t.characters) (number - length t.rules)) y (λ c there. one_scalar (map (λ entry. entry.0) t.characters) (number - length t.rules) c has.own there) is) e
 
-looked_up : (P : List ℕ → Type 0) (f : ListedView → List ℕ) → P [] → (rule : Option ListedView) → ((x : ListedView) → rule ≡ Some x → P (f x)) → P (option_map_or f rule [])
-looked_up P f none None h = none
-looked_up P f none (Some x) h = h x refl
-
-mapped : (P : List ℕ → Type 0) (f : ℕ → List ℕ) → P [] → ((number : ℕ) → P (f number)) → (numbers : List ℕ) (k : ℕ) → P (get_or (map f numbers) k [])
-mapped P f none h [] k = none
-mapped P f none h (n ∷ numbers) zero = h n
-mapped P f none h (n ∷ numbers) (suc k) = mapped P f none h numbers k
-
 pub wording_seen : (t : TableView) (lines : List LineView) → HasScalars t → (number : ℕ) → IsSeen (said (wording t lines) number)
-wording_seen t lines has number =
-    mapped IsSeen (rule_words t lines) (seen_codes [] refl)
-    (λ n. looked_up IsSeen (said_rule t lines) (seen_codes [] refl) (rule_with_number t n) (λ x is. said_seen t lines x (numbered_scalars t has n x is))) (rule_numbers t) number
+wording_seen t lines has number = each_says IsSeen t lines (seen_codes [] refl) (λ n x is. said_seen t lines x (numbered_scalars t has n x is)) number
 
 pub wording_low : (t : TableView) (lines : List LineView) (number : ℕ) → StartsLow (said (wording t lines) number)
-wording_low t lines number =
-    mapped StartsLow (rule_words t lines) tt (λ n. looked_up StartsLow (said_rule t lines) tt (rule_with_number t n) (λ x is. said_low t lines x)) (rule_numbers t) number
+wording_low t lines number = each_says StartsLow t lines tt (λ n x is. said_low t lines x) number

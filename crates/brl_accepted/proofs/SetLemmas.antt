@@ -6,8 +6,7 @@ use Rattle.std.proofs.lemmas.Bool.{and_from, false≢true, le-ltb, lt-ltb}
 use Rattle.std.proofs.lemmas.Bool.Decides.{Decides-eqb}
 use Rattle.std.proofs.lemmas.List.Elements.{recursion_from_All}
 use Rattle.std.proofs.lemmas.List.Folds.{list_any_at}
-use Rattle.brl_accepted.specs.Sets.{exchanged_pairs, is_within, named_set, or_none, set_line, set_pairs}
-use Rattle.brl_accepted.specs.Writing.{pairs_of_sets}
+use Rattle.brl_accepted.specs.Sets.{is_within, named_set, or_none, set_line, set_pairs}
 use Rattle.brl_lines.proofs.VisibleLemmas.{visibly_back}
 use Rattle.brl_lines.specs.Visible.{visible_text}
 use Rattle.brl_report.specs.Rules.{own_number}
@@ -36,8 +35,3 @@ of_two t (c ∷ []) p there =
     let none : nat_lt n n ≡ false = le-ltb n n (omega arith) in
     absurd (false≢true (subst (λ (b : Bool). list_any p (map (λ s. (n, s)) (cond b (n ∷ []) []) ++ []) ≡ true) none there))
 of_two t (c ∷ d ∷ set) p there = lt-ltb 1 (length (c ∷ d ∷ set)) (omega arith)
-
--- the lines of sets name the pairs of the sets
-pub sets_again : (t : TableView) (sets : List (List ℕ)) → AllByRecursion (λ set. all_scalars set ≡ true) sets → exchanged_pairs t (map set_line sets) ≡ pairs_of_sets t sets
-sets_again t [] scalars = refl
-sets_again t (set ∷ sets) scalars = λ i. set_pairs t (set_back set scalars.0 i) ++ sets_again t sets scalars.1 i

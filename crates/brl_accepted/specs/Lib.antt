@@ -3,5 +3,5 @@ pub mod Sets
 pub mod Counting
 pub mod FaultText
 pub mod Reading
-pub mod Naming
+pub mod Words
 pub mod Writing

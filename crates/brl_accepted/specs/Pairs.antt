@@ -1,5 +1,6 @@
--- How a file of accepted pairs of rules names them. The project's own choice.
-use Rattle.std.specs.Prelude.{ℕ, Bool, ◌||◌, List, [], ◌++◌, codes, flat_map, get_or, map}
+-- How a file of pairs of rules names them. The project's own choice.
+use Rattle.std.specs.Prelude.{ℕ, List, [], ◌++◌, codes, flat_map, get_or, map}
+use Rattle.std.specs.List.{filter}
 use Rattle.std.specs.Str.{bytes_eq}
 use Rattle.brl_lines.specs.Tokens.{LineView}
 use Rattle.brl_report.specs.Rules.{rule_numbers, rule_words}
@@ -21,18 +22,18 @@ between = codes " / "
 abbrev pub pair_line : List (List ℕ) → ℕ × ℕ → List ℕ
 pair_line words pair = said words pair.0 ++ (between ++ said words pair.1)
 
--- the same with its end
+-- the pairs of a rule and one of these whose line this is
+abbrev pub pairs_with : List (List ℕ) → List ℕ → List ℕ → ℕ → List (ℕ × ℕ)
+pairs_with words numbers line r = map (λ s. (r, s)) (filter (λ s. bytes_eq line (pair_line words (r, s))) numbers)
+
+-- the pairs of these rules whose line this is: all of them, where several rules say the same
+abbrev pub pairs_of_line : List (List ℕ) → List ℕ → List ℕ → List (ℕ × ℕ)
+pairs_of_line words numbers line = flat_map (pairs_with words numbers line) numbers
+
+-- the line of a pair with its end
 abbrev pub whole_line : List (List ℕ) → ℕ × ℕ → List ℕ
 whole_line words pair = pair_line words pair ++ codes "\n"
 
 -- the text of a file that names these pairs, a line for each
 abbrev pub pairs_text : List (List ℕ) → List (ℕ × ℕ) → List ℕ
 pairs_text words pairs = flat_map (whole_line words) pairs
-
--- a pair of rules the other way round
-abbrev pub turned : ℕ × ℕ → ℕ × ℕ
-turned pair = (pair.1, pair.0)
-
--- whether a line names a pair of rules: it is the line of the pair, in either order
-abbrev pub names : List (List ℕ) → List ℕ → ℕ × ℕ → Bool
-names words line pair = bytes_eq line (pair_line words pair) || bytes_eq line (pair_line words (turned pair))

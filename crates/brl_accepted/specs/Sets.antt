@@ -1,4 +1,4 @@
--- How a file of accepted pairs of rules names sets of characters whose steps may be exchanged. The
+-- How a file of pairs of rules names sets of characters whose steps may be exchanged. The
 -- project's own choice.
 use Rattle.std.specs.Prelude.{ℕ, Bool, ◌&&◌, if◌then◌else◌, List, [], ◌++◌, codes, drop, flat_map, length, map, nat_eq, nat_lt, Result, Ok, Err}
 use Rattle.std.specs.List.{count_by, filter, list_all, list_any, starts_with}
@@ -41,17 +41,13 @@ is_within set characters = list_all (λ c. list_any (nat_eq c) set) characters
 abbrev pub are_characters_of : List ℕ → List ℕ → Bool
 are_characters_of set characters = nat_lt 1 (length characters) && is_within set characters
 
--- whether a line names such
-abbrev pub names_characters_of : List ℕ → List ℕ → Bool
-names_characters_of set line = are_characters_of set (named_set line)
+-- whether these are two characters or more that are in one of these sets
+abbrev pub are_in_one_set : List (List ℕ) → List ℕ → Bool
+are_in_one_set sets characters = nat_lt 1 (length characters) && list_any (λ set. is_within set characters) sets
 
--- whether a line names two characters or more that are in one of these sets
-abbrev pub names_set : List (List ℕ) → List ℕ → Bool
-names_set sets line = nat_lt 1 (length (named_set line)) && list_any (λ set. is_within set (named_set line)) sets
-
--- how many of these sets some line names characters of
+-- of how many of these sets one of these lists has two characters or more
 abbrev pub set_count : List (List ℕ) → List (List ℕ) → ℕ
-set_count sets rows = count_by (λ set. list_any (names_characters_of set) rows) sets
+set_count sets named = count_by (λ set. list_any (are_characters_of set) named) sets
 
 -- ---- Pairs of own definitions
 
@@ -67,6 +63,6 @@ ordered_pairs numbers = flat_map (greater_pairs numbers) numbers
 abbrev pub set_pairs : TableView → List ℕ → List (ℕ × ℕ)
 set_pairs t set = ordered_pairs (map (own_number t) set)
 
--- those of the sets that these lines name
-abbrev pub exchanged_pairs : TableView → List (List ℕ) → List (ℕ × ℕ)
-exchanged_pairs t rows = flat_map (λ line. set_pairs t (named_set line)) rows
+-- those of some sets
+abbrev pub pairs_of_sets : TableView → List (List ℕ) → List (ℕ × ℕ)
+pairs_of_sets t sets = flat_map (set_pairs t) sets

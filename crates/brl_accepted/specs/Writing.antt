@@ -3,7 +3,7 @@
 use Rattle.std.specs.Prelude.{ℕ, Bool, List, ◌++◌, codes, flat_map, not}
 use Rattle.std.specs.List.{filter, list_any}
 use Rattle.brl_accepted.specs.Pairs.{pairs_text}
-use Rattle.brl_accepted.specs.Sets.{set_line, set_pairs}
+use Rattle.brl_accepted.specs.Sets.{pairs_of_sets, set_line, set_pairs}
 use Rattle.brl_pairs.specs.Divergence.{has_rules}
 use Rattle.brl_rules.specs.TableView.{TableView}
 
@@ -14,10 +14,6 @@ is_listed_set t listed set = list_any (λ pair. has_rules listed pair.0 pair.1) 
 -- the sets that have such a pair
 abbrev pub listed_sets : TableView → List (List ℕ) → List (ℕ × ℕ) → List (List ℕ)
 listed_sets t sets listed = filter (is_listed_set t listed) sets
-
--- the pairs of own definitions of some sets
-abbrev pub pairs_of_sets : TableView → List (List ℕ) → List (ℕ × ℕ)
-pairs_of_sets t sets = flat_map (set_pairs t) sets
 
 -- those of the listed pairs that are of none of these sets
 abbrev pub pairs_beside : TableView → List (List ℕ) → List (ℕ × ℕ) → List (ℕ × ℕ)

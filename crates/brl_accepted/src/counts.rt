@@ -1,7 +1,9 @@
 //! How much a file excuses, and the line of an answer that says so.
 ghost use Rattle.std.specs.Prelude.{◌≡◌, IfOk, string_bytes};
-ghost use Rattle.brl_accepted.specs.Counting.{but_for_line as line_of_counts, pairs_words as words_of_pairs, sets_words as words_of_sets};
+ghost use Rattle.brl_accepted.specs.Counting.{but_for_line as line_of_counts, lesser_first as in_order, pair_count as count_of_pairs, pairs_words as words_of_pairs, sets_words as words_of_sets};
 
+use brl_pairs::Seed;
+use indexmap::IndexSet;
 use std::alloc::{AllocError, Global};
 
 /// How much a file excuses.
@@ -44,4 +46,36 @@ pub fn but_for_line(alloc: Global, counts: Counts) -> Result<String, AllocError>
     let accepted = pairs_words(pairs);
     let exchanged = sets_words(sets);
     format!(in alloc; "but for: {pairs}{accepted}, {sets}{exchanged}\n")
+}
+
+/// How many pairs of rules these are, whatever the order of the two.
+pub fn pair_count(alloc: Global, pairs: &[(u32, u32)]) -> Result<usize, AllocError>
+    ensures { IfOk result (λ count. count ≡ count_of_pairs pairs.now) }
+{
+    let mut once = IndexSet::with_hasher(alloc, seed_of(alloc, pairs)?);
+    for pair in pairs {
+        once.insert(lesser_first(*pair))?;
+    }
+    Ok(once.len())
+}
+
+/// The seed that is drawn from these pairs, so that whoever names them can't choose their hashes.
+fn seed_of(alloc: Global, pairs: &[(u32, u32)]) -> Result<Seed, AllocError> {
+    let mut bytes = Vec::new(alloc);
+    for pair in pairs {
+        bytes.extend_from_slice(&pair.0.to_le_bytes())?;
+        bytes.extend_from_slice(&pair.1.to_le_bytes())?;
+    }
+    Ok(Seed::of(bytes.as_slice()))
+}
+
+/// A pair of rules, the lesser number first.
+fn lesser_first(pair: (u32, u32)) -> (u32, u32)
+    ensures { result ≡ in_order pair }
+{
+    if pair.0 <= pair.1 {
+        pair
+    } else {
+        (pair.1, pair.0)
+    }
 }

@@ -1,4 +1,4 @@
-//! The faults of a file of accepted pairs.
+//! The faults of a file of pairs of rules.
 ghost use Rattle.std.specs.Prelude.{◌≡◌, Some};
 ghost use Rattle.brl_accepted.specs.FaultText.{kind_text};
 
@@ -7,29 +7,29 @@ use std::fmt;
 
 /// The kinds of faults of a line.
 #[derive(Clone, Copy, PartialEq, Eq, Debug)]
-pub enum AcceptFaultKind {
+pub enum ExcuseFaultKind {
     /// It isn't what two rules of the table say.
     NoSuchRules,
-    /// Its rules are no pair that is listed, and the list is whole.
+    /// None of the pairs of rules that it names is listed, and the list is whole.
     NotListed,
     /// It begins as the line of a set, but names no characters that are in one set of the table.
     NoSuchSet,
 }
 
-impl AcceptFaultKind {
+impl ExcuseFaultKind {
     /// Its code and its name.
     fn text(&self) -> &'static str
         ensures { result.now ≡ kind_text self.now }
     {
         match self {
-            AcceptFaultKind::NoSuchRules => "P1 NoSuchRules",
-            AcceptFaultKind::NotListed => "P2 NotListed",
-            AcceptFaultKind::NoSuchSet => "P3 NoSuchSet",
+            ExcuseFaultKind::NoSuchRules => "P1 NoSuchRules",
+            ExcuseFaultKind::NotListed => "P2 NotListed",
+            ExcuseFaultKind::NoSuchSet => "P3 NoSuchSet",
         }
     }
 }
 
-impl fmt::Display for AcceptFaultKind {
+impl fmt::Display for ExcuseFaultKind {
     ghost output = { λ kind. Some (kind_text kind) };
 
     fn fmt<W: fmt::Write>(&self, f: &mut fmt::Formatter<W>) -> fmt::Result {
@@ -37,13 +37,13 @@ impl fmt::Display for AcceptFaultKind {
     }
 }
 
-impl Error for AcceptFaultKind {}
+impl Error for ExcuseFaultKind {}
 
-/// A fault of a line of a file of accepted pairs: its kind, the line as it is written, and its
+/// A fault of a line of a file of pairs of rules: its kind, the line as it is written, and its
 /// place.
 #[derive(Debug, Drop)]
-pub struct AcceptFault {
-    pub kind: AcceptFaultKind,
+pub struct ExcuseFault {
+    pub kind: ExcuseFaultKind,
     pub subject: String,
     /// The path of the file.
     pub file: String,
@@ -51,7 +51,7 @@ pub struct AcceptFault {
     pub line: usize,
 }
 
-impl fmt::Display for AcceptFault {
+impl fmt::Display for ExcuseFault {
     ghost use Rattle.brl_accepted.specs.FaultText.{fault_text};
 
     ghost output = { λ found. Some (fault_text found) };
@@ -65,11 +65,11 @@ impl fmt::Display for AcceptFault {
     }
 }
 
-impl Error for AcceptFault {}
+impl Error for ExcuseFault {}
 
 /// The stale lines of a file, in order: those with a fault. They are shown one after another.
 #[derive(Debug, Drop)]
-pub struct StaleLines(pub Vec<AcceptFault>);
+pub struct StaleLines(pub Vec<ExcuseFault>);
 
 impl fmt::Display for StaleLines {
     fn fmt<W: fmt::Write>(&self, f: &mut fmt::Formatter<W>) -> fmt::Result {

@@ -3,24 +3,21 @@
 //! line of them is read back.
 ghost use Rattle.std.specs.Prelude.{◌≡◌, ℕ, All, Bool, List, map, true};
 ghost use Rattle.std.specs.Str.{all_scalars};
-ghost use Rattle.brl_accepted.specs.Pairs.{wording};
-ghost use Rattle.brl_accepted.specs.Reading.{IsReadBack};
+ghost use Rattle.brl_accepted.specs.Reading.{AreOfTable, IsReadBack, names_of};
 ghost use Rattle.brl_accepted.specs.Writing.{accepted_text};
-ghost use Rattle.brl_lines.specs.Views.{line_view};
 
-use brl_lines::Line;
+use crate::reading::Nameable;
 use brl_rules::{Rule, Table};
 
 /// Of the file that is written for some listed pairs of rules of a table no line is stale, and it
-/// accepts just these pairs, where these are the table's sets of characters.
-pub fn read_back_law(table: &Table, lines: &[Line<'_>], sets: &[Vec<char>])
-    ensures { (listed : List (ℕ × ℕ)) (whole : Bool) →
-        IsReadBack table.now (wording table.now (map line_view lines.now)) (map (λ set. set.items) sets.now) listed whole
-        (accepted_text table.now (wording table.now (map line_view lines.now)) (map (λ set. set.items) sets.now) listed) }
+/// excuses just these pairs, where these are the table's sets of characters.
+pub fn read_back_law(known: Nameable<'_>)
+    ensures { let names = names_of known.entry in (listed : List (ℕ × ℕ)) (whole : Bool) → All (AreOfTable names.table) listed
+        → IsReadBack names listed whole (accepted_text names.table names.words names.sets listed) }
 {
-    sets_law(sets);
-    rules_law(table);
-    own_law(table);
+    sets_law(known.sets);
+    rules_law(known.table);
+    own_law(known.table);
 }
 
 /// The characters of a table's rules are scalar values of Unicode.

@@ -1,15 +1,15 @@
 //! Lines of sets of characters whose steps may be exchanged.
-ghost use Rattle.std.specs.Prelude.{◌≡◌, ◌++◌, IfOk, OnOk, count_by, map, string_bytes};
+ghost use Rattle.std.specs.Prelude.{◌≡◌, ◌++◌, IfOk, OnOk, map, string_bytes};
 ghost use Rattle.std.specs.List.{list_any};
 ghost use Rattle.brl_accepted.specs.Sets.{
   are_characters_of,
-  exchanged_pairs as pairs_of_rows,
+  are_in_one_set as are_in_one_of,
   greater_pairs,
   is_exchange as is_exchange_line,
   is_within as is_within_set,
   named_set as set_of_line,
-  names_set as names_one_of,
   ordered_pairs as pairs_in_order,
+  pairs_of_sets as pairs_in_sets,
   set_count,
   set_line as line_of_set,
   set_pairs as pairs_of_set,
@@ -55,18 +55,17 @@ fn is_within(set: &[char], characters: &[char]) -> bool
 }
 
 /// Whether all of some characters are in one of these sets.
-fn are_in_one(sets: &[Vec<char>], characters: &[char]) -> bool
+fn are_within_one(sets: &[Vec<char>], characters: &[char]) -> bool
     ensures { result ≡ list_any (λ set. is_within_set set characters.now) (map (λ set. set.items) sets.now) }
 {
     sets.iter().any(|set| is_within(set.as_slice(), characters))
 }
 
-/// Whether a line names two characters or more that are in one of these sets.
-pub(crate) fn names_set(alloc: Global, sets: &[Vec<char>], row: &str) -> Result<bool, AllocError>
-    ensures { IfOk result (λ names. names ≡ names_one_of (map (λ set. set.items) sets.now) row.now) }
+/// Whether these are two characters or more that are in one of these sets.
+pub(crate) fn are_in_one_set(sets: &[Vec<char>], characters: &[char]) -> bool
+    ensures { result ≡ are_in_one_of (map (λ set. set.items) sets.now) characters.now }
 {
-    let named = named_set(alloc, row)?;
-    Ok(named.len() > 1 && are_in_one(sets, named.as_slice()))
+    characters.len() > 1 && are_within_one(sets, characters)
 }
 
 /// Appends the pairs of a number and each of these that is greater.
@@ -111,31 +110,19 @@ pub(crate) fn push_set_pairs(
     push_ordered(numbers.as_slice(), pairs)
 }
 
-/// The pairs of own definitions whose steps may be exchanged by these lines.
-pub(crate) fn exchanged_pairs(
+/// The pairs of own definitions of some sets of characters.
+pub(crate) fn pairs_of_sets(
     alloc: Global,
     table: &Table,
-    rows: &[String],
+    sets: &[Vec<char>],
 ) -> Result<Vec<(u32, u32)>, AllocError>
-    ensures { IfOk result (λ pairs. pairs.items ≡ pairs_of_rows table.now (map string_bytes rows.now)) }
+    ensures { IfOk result (λ pairs. pairs.items ≡ pairs_in_sets table.now (map (λ set. set.items) sets.now)) }
 {
     let mut pairs = Vec::new(alloc);
-    for row in rows {
-        let set = named_set(alloc, row.as_str())?;
+    for set in sets {
         push_set_pairs(alloc, table, set.as_slice(), &mut pairs)?;
     }
     Ok(pairs)
-}
-
-/// The characters that each of these lines names.
-fn named_sets(alloc: Global, rows: &[String]) -> Result<Vec<Vec<char>>, AllocError>
-    ensures { IfOk result (λ named. map (λ set. set.items) named.items ≡ map set_of_line (map string_bytes rows.now)) }
-{
-    let mut named = Vec::new(alloc);
-    for row in rows {
-        named.push(named_set(alloc, row.as_str())?)?;
-    }
-    Ok(named)
 }
 
 /// Whether these are two characters or more of a set.
@@ -155,24 +142,12 @@ fn is_named(set: &[char], named: &[Vec<char>]) -> bool
 }
 
 /// Of how many of these sets one of these lists has two characters or more.
-fn count_named(sets: &[Vec<char>], named: &[Vec<char>]) -> usize
-    ensures { result ≡ count_by (λ set. list_any (are_characters_of set) (map (λ characters. characters.items) named.now)) (map (λ set. set.items) sets.now) }
+pub(crate) fn count_sets(sets: &[Vec<char>], named: &[Vec<char>]) -> usize
+    ensures { result ≡ set_count (map (λ set. set.items) sets.now) (map (λ characters. characters.items) named.now) }
 {
     sets.iter()
         .filter(|set| is_named(set.as_slice(), named))
         .count()
-}
-
-/// How many of these sets some line names characters of.
-pub(crate) fn count_sets(
-    alloc: Global,
-    sets: &[Vec<char>],
-    rows: &[String],
-) -> Result<usize, AllocError>
-    ensures { IfOk result (λ count. count ≡ set_count (map (λ set. set.items) sets.now) (map string_bytes rows.now)) }
-{
-    let named = named_sets(alloc, rows)?;
-    Ok(count_named(sets, named.as_slice()))
 }
 
 /// The line of a set of characters, without its end.

@@ -10,7 +10,11 @@ use std::alloc::{AllocError, Global};
 
 /// What each rule of a table of these lines says, by its number: the opcode, the characters as they
 /// are spelled in a table, and the cells in dots.
-pub fn wording(alloc: Global, table: &Table, lines: &[Line<'_>]) -> Result<Vec<String>, AllocError>
+pub(crate) fn wording(
+    alloc: Global,
+    table: &Table,
+    lines: &[Line<'_>],
+) -> Result<Vec<String>, AllocError>
     ensures { IfOk result (λ words. map string_bytes words.items ≡ words_of_rules table.now (map line_view lines.now)) }
 {
     let numbers = rule_numbers(alloc, table)?;
@@ -32,11 +36,7 @@ pub(crate) fn said(words: &[String], number: u32) -> &str
 }
 
 /// The line of a pair of rules, without its end.
-pub(crate) fn pair_line(
-    alloc: Global,
-    words: &[String],
-    pair: (u32, u32),
-) -> Result<String, AllocError>
+fn pair_line(alloc: Global, words: &[String], pair: (u32, u32)) -> Result<String, AllocError>
     ensures { IfOk result (λ text. string_bytes text ≡ line_of_pair (map string_bytes words.now) pair) }
 {
     let one = said(words, pair.0);

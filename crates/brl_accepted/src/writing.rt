@@ -1,18 +1,18 @@
-//! The text of a file of accepted pairs of rules.
+//! The text of a file of pairs of rules.
 ghost use Rattle.std.specs.Prelude.{◌≡◌, ◌++◌, ◌∷◌, [], IfOk, OnOk, filter, map, string_bytes};
+ghost use Rattle.brl_accepted.specs.Reading.{names_of};
 ghost use Rattle.brl_accepted.specs.Writing.{
   accepted_text,
   is_listed_set as is_listed_set_in,
   listed_sets as sets_that_are_listed,
   pairs_beside as pairs_that_are_beside,
-  pairs_of_sets as pairs_in_sets,
   sets_text as text_of_sets,
   whole_set_line,
 };
 
 use crate::reading::Nameable;
-use crate::sets::{push_set_pairs, set_line};
-use crate::words::write_pairs;
+use crate::sets::{pairs_of_sets, push_set_pairs, set_line};
+use crate::words::{wording, write_pairs};
 use brl_pairs::RulePairs;
 use brl_rules::Table;
 use std::alloc::{AllocError, Global};
@@ -24,18 +24,17 @@ use std::alloc::{AllocError, Global};
 /// Every line ends with LF. `AllocError` if memory runs out.
 pub fn write_accepted(
     alloc: Global,
-    table: &Table,
     known: Nameable<'_>,
     listed: &[(u32, u32)],
 ) -> Result<String, AllocError>
-    ensures { IfOk result (λ text. string_bytes text
-        ≡ accepted_text table.now (map string_bytes known.entry.words.now) (map (λ set. set.items) known.entry.sets.now) listed.now) }
+    ensures { let names = names_of known.entry in IfOk result (λ text. string_bytes text ≡ accepted_text names.table names.words names.sets listed.now) }
 {
+    let words = wording(alloc, known.table, known.lines)?;
     let all = RulePairs::new(alloc, Vec::from_slice(alloc, listed)?)?;
-    let sets = listed_sets(alloc, table, known.sets, &all)?;
-    let pairs = pairs_beside(alloc, table, sets.as_slice(), listed)?;
+    let sets = listed_sets(alloc, known.table, known.sets, &all)?;
+    let pairs = pairs_beside(alloc, known.table, sets.as_slice(), listed)?;
     let mut text = sets_text(alloc, sets.as_slice())?;
-    text.push_str(write_pairs(alloc, known.words, pairs.as_slice())?.as_str())?;
+    text.push_str(write_pairs(alloc, words.as_slice(), pairs.as_slice())?.as_str())?;
     Ok(text)
 }
 
@@ -84,21 +83,6 @@ fn is_listed_set(
     let mut pairs = Vec::new(alloc);
     push_set_pairs(alloc, table, set, &mut pairs)?;
     Ok(pairs.iter().any(|pair| listed.has(pair.0, pair.1)))
-}
-
-/// The pairs of own definitions of some sets of characters.
-fn pairs_of_sets(
-    alloc: Global,
-    table: &Table,
-    sets: &[Vec<char>],
-) -> Result<Vec<(u32, u32)>, AllocError>
-    ensures { IfOk result (λ pairs. pairs.items ≡ pairs_in_sets table.now (map (λ set. set.items) sets.now)) }
-{
-    let mut pairs = Vec::new(alloc);
-    for set in sets {
-        push_set_pairs(alloc, table, set.as_slice(), &mut pairs)?;
-    }
-    Ok(pairs)
 }
 
 /// Those of the listed pairs that are of none of these sets of characters.

@@ -33,7 +33,7 @@ use Rattle.brl_clashes.specs.declared.section.Section.{Section}
 use Rattle.brl_clashes.specs.declared.verdict.Outcome.{Outcome}
 use Rattle.brl_clashes.specs.declared.verdict.Outcome.TheVariants.{Unambiguous, Clashing, Unfinished}
 use Rattle.brl_table.specs.Reading.{PassesAll, table_of}
-use Rattle.brl_tool.specs.Baselines.{AreAccepted, AreFilesWith, IsBaseline, is_written, leaves_stale, written_path, written_text}
+use Rattle.brl_tool.specs.Baselines.{AreExcused, AreFilesWith, IsBaseline, is_written, leaves_stale, written_path, written_text}
 use Rattle.brl_traces.specs.Traces.{ClashesDivergeAtWithout}
 use Rattle.brl_tool.specs.Diagnosing.{DiagnosesByFile, IsDiagnosis, status_of_sections}
 use Rattle.brl_cut.specs.Cuts.{IsReadAs, written_root}
@@ -234,12 +234,12 @@ module _ (before after : World) (same_file : MayBeSame) where
 
   -- where no file is read, none are accepted
   none_accepted : (baseline : Option (List ℕ)) (prune : Bool) (t : TableView) (lines : List LineView) (found : List Section) (accepted : List (ℕ × ℕ)) (taken : Option Taken) → IsBaseline before.gives None baseline
-      → AreAccepted baseline prune t lines found accepted taken → accepted ≡ []
-  none_accepted baseline prune t lines found accepted taken none accepts = (subst (λ (b : Option (List ℕ)). AreAccepted b prune t lines found accepted taken) none accepts).0
+      → AreExcused baseline prune t lines found accepted taken → accepted ≡ []
+  none_accepted baseline prune t lines found accepted taken none accepts = (subst (λ (b : Option (List ℕ)). AreExcused b prune t lines found accepted taken) none accepts).0
 
   -- where no other clash is left, no texts clash but at accepted pairs
   at_accepted : (accept baseline : Option (List ℕ)) (prune : Bool) (left_out : List ℕ) (lines : List LineView) (found : List Section) (accepted : List (ℕ × ℕ)) (taken : Option Taken) → IsBaseline before.gives accept baseline
-      → AreAccepted baseline prune (table_of lines) lines found accepted taken → ClashesDivergeAtWithout left_out accepted (table_of lines) → ClashAtAccepted accept left_out accepted (table_of lines)
+      → AreExcused baseline prune (table_of lines) lines found accepted taken → ClashesDivergeAtWithout left_out accepted (table_of lines) → ClashAtAccepted accept left_out accepted (table_of lines)
   at_accepted None baseline prune left_out lines found accepted taken none accepts only =
       none_clash (table_of lines) left_out
       (subst (λ (pairs : List (ℕ × ℕ)). ClashesDivergeAtWithout left_out pairs (table_of lines)) (none_accepted baseline prune (table_of lines) lines found accepted taken none accepts) only)

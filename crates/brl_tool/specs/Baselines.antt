@@ -3,9 +3,8 @@ use Rattle.std.specs.Prelude.{ℕ, ◌≡◌, ◌≢◌, ◌&&◌, All, Any, Boo
 use Rattle.std.specs.Option.{option_copied, option_map_or}
 use Rattle.std.specs.Str.{is_utf8}
 use Rattle.brl_accepted.specs.Pairs.{wording}
-use Rattle.brl_accepted.specs.Reading.{Accepts, pruned, stale_count}
+use Rattle.brl_accepted.specs.Reading.{Names, accepted_count, excused_by, excused_of, if_whole, names_in, pruned, sets_named, stale_count}
 use Rattle.brl_accepted.specs.Writing.{accepted_text}
-use Rattle.brl_accepted.specs.declared.counts.Counts.{Counts}
 use Rattle.brl_answers.specs.Files.{MayBeSame}
 use Rattle.brl_answers.specs.declared.new_files.NewFiles.{NewFiles}
 use Rattle.brl_answers.specs.declared.new_files.NewFiles.TheVariants.{Nothing}
@@ -43,18 +42,28 @@ abbrev pub IsBaseline : FileAnswers → Option (List ℕ) → Option (List ℕ) 
 IsBaseline gives None baseline = baseline ≡ None
 IsBaseline gives (Some path) baseline = (text : List ℕ) × (baseline ≡ Some text) × MayAnswer gives path (Holds text)
 
--- What the text of a file accepts of the pairs that are listed, and how much: the number of these,
+-- what a file of pairs may name of a table of these lines: its rules and its sets of characters
+abbrev pub names_of_table : TableView → List LineView → Names
+names_of_table t lines = names_in t lines (sets_of_table t)
+
+-- What the text of a file excuses of the pairs that are listed, and how much: the number of these,
 -- those of the pairs and sets that its lines name, and that of its stale lines.
-abbrev pub IsTakenOut : TableView → List (List ℕ) → List (List ℕ) → List (ℕ × ℕ) → Bool → List ℕ → Bool → List (ℕ × ℕ) → Option Taken → Type 0
-IsTakenOut t words sets listed whole text prune accepted taken =
-    (counts : Counts) × Accepts t words sets listed whole text accepted counts
-    × (taken ≡ Some (record { listed = length accepted; counts = counts; stale = stale_count words sets listed whole text; pruned = prune }))
+abbrev pub IsTakenOut : Names → List (ℕ × ℕ) → Bool → List ℕ → Bool → List (ℕ × ℕ) → Option Taken → Type 0
+IsTakenOut names listed whole text prune pairs taken =
+    let list = if_whole whole listed in
+    let excused = excused_by names list text in
+    (pairs ≡ excused_of excused listed)
+    × (taken ≡ Some (record {
+      listed = length pairs;
+      counts = record { pairs = accepted_count excused listed; sets = sets_named names list text };
+      stale = stale_count names list text;
+      pruned = prune;
+    }))
 
 -- the same of the pairs that sections list, where a file is read; nothing without one
-abbrev pub AreAccepted : Option (List ℕ) → Bool → TableView → List LineView → List Section → List (ℕ × ℕ) → Option Taken → Type 0
-AreAccepted None prune t lines sections accepted taken = (accepted ≡ []) × (taken ≡ None)
-AreAccepted (Some text) prune t lines sections accepted taken =
-    IsTakenOut t (wording t lines) (sets_of_table t) (listed_pairs sections) (are_whole sections) text prune accepted taken
+abbrev pub AreExcused : Option (List ℕ) → Bool → TableView → List LineView → List Section → List (ℕ × ℕ) → Option Taken → Type 0
+AreExcused None prune t lines sections pairs taken = (pairs ≡ []) × (taken ≡ None)
+AreExcused (Some text) prune t lines sections pairs taken = IsTakenOut (names_of_table t lines) (listed_pairs sections) (are_whole sections) text prune pairs taken
 
 -- whether stale lines stay in the file
 abbrev pub leaves_stale : Option Taken → Bool
@@ -75,11 +84,7 @@ AreFilesWith (Some path) true text files = IsFileWith path text files
 -- the text of the file of accepted pairs without its stale lines
 abbrev pub pruned_text : Option (List ℕ) → TableView → List LineView → List Section → List ℕ
 pruned_text baseline t lines sections =
-    option_map_or (pruned (wording t lines) (sets_of_table t) (listed_pairs sections) (are_whole sections)) baseline []
-
--- where its stale lines are to be taken out of it, this is that text
-abbrev pub IsKept : Option (List ℕ) → Bool → TableView → List LineView → List Section → List ℕ → Type 0
-IsKept baseline prune t lines sections kept = prune ≡ true → kept ≡ pruned_text baseline t lines sections
+    option_map_or (pruned (names_of_table t lines) (if_whole (are_whole sections) (listed_pairs sections))) baseline []
 
 -- the path of the file that is written: that of the accepted pairs, where its stale lines are taken
 -- out, else that which gets the pairs

@@ -21,7 +21,7 @@ use Rattle.brl_lines.specs.Outcome.{AreLinesOfFiles}
 use Rattle.brl_lines.specs.Tokens.{LineView}
 use Rattle.brl_rules.specs.TableView.{TableView}
 use Rattle.brl_table.specs.Reading.{PassesAll, table_of}
-use Rattle.brl_tool.specs.Baselines.{AreAccepted, AreFilesWith, IsApart, IsBaseline, IsFaultOfText, IsOverwritingRead, is_written, leaves_stale, only_read, written_path, written_text}
+use Rattle.brl_tool.specs.Baselines.{AreExcused, AreFilesWith, IsApart, IsBaseline, IsFaultOfText, IsOverwritingRead, is_written, leaves_stale, only_read, written_path, written_text}
 use Rattle.brl_without.specs.Tables.{AreDefined, IsUndefined}
 
 -- the status for an outcome of sections, beside what a file takes out of them: where no pair is
@@ -42,7 +42,7 @@ pub record IsDiagnosis (left_out : List ℕ) (t : TableView) (lines : List LineV
   pub taken : Option Taken
   pub left : List Section
   pub are : AreSections t left_out limit found
-  pub accepts : AreAccepted baseline pairs.prune t lines found accepted taken
+  pub accepts : AreExcused baseline pairs.prune t lines found accepted taken
   pub beside : AreLeftOf accepted found left
   pub shows : IsClashesText t lines left_out first taken left (string_bytes answer.text)
   pub status : answer.status ≡ status_of_sections taken (outcome_of left)

@@ -1,17 +1,13 @@
 -- What `brl check` and `brl search` answer where a file says which pairs of rules are accepted, and
 -- which characters may be exchanged. The project's own choice.
-use Rattle.std.specs.Prelude.{ℕ, ◌≡◌, ◌≢◌, ◌⊎◌, All, false, List, [], ◌++◌, Some, Result, Ok, Err, codes, map, string_bytes}
+use Rattle.std.specs.Prelude.{ℕ, ◌≡◌, ◌≢◌, ◌⊎◌, All, List, [], ◌++◌, None, Some, Result, Ok, Err, codes, map, string_bytes}
 use Rattle.brl_accept.specs.Excusing.{IsAcceptedUpTo, IsShown, closed_up_to}
 use Rattle.brl_accept.specs.Judging.{IsRefusedFor, counted}
 use Rattle.brl_accept.specs.declared.judge_fault.JudgeFault.{JudgeFault}
 use Rattle.brl_accept.specs.declared.judge_fault.JudgeFault.TheVariants as judge
-use Rattle.brl_accepted.specs.Counting.{but_for_line}
+use Rattle.brl_accepted.specs.Counting.{but_for_line, pair_count}
 use Rattle.brl_accepted.specs.FaultText.{FaultView, fault_view}
-use Rattle.brl_accepted.specs.Naming.{Excuses, pair_count}
-use Rattle.brl_accepted.specs.Pairs.{wording}
-use Rattle.brl_accepted.specs.Reading.{rows, stale_rows}
-use Rattle.brl_lines.specs.Visible.{visible_line}
-use Rattle.brl_accepted.specs.Sets.{set_count}
+use Rattle.brl_accepted.specs.Reading.{excused_by, sets_named, stale_lines}
 use Rattle.brl_answers.specs.Answers.{HasNoTable, HasTextAndStatus, counts_line, with_left_out_line}
 use Rattle.brl_answers.specs.Files.{MayBeSame}
 use Rattle.brl_answers.specs.declared.answer.Answer.{Answer}
@@ -19,7 +15,6 @@ use Rattle.brl_answers.specs.declared.run_fault.RunFault.{RunFault}
 use Rattle.brl_answers.specs.declared.run_fault.RunFault.TheVariants.{Accept, Load, Memory, NotDefined, Table, Wide, WouldOverwrite}
 use Rattle.brl_answers.specs.declared.status.Status.TheVariants.{Done, Refuted, Undecided}
 use Rattle.brl_cert.specs.Reading.{reading, spelling}
-use Rattle.brl_clashes.specs.Sets.{sets_of_table}
 use Rattle.brl_closure.specs.declared.check.checker.Accepted.{Accepted}
 use Rattle.brl_closure.specs.declared.check.fault.AcceptFault.{AcceptFault}
 use Rattle.brl_lines.specs.Answer.{FileAnswers, Holds, MayAnswer}
@@ -34,7 +29,7 @@ use Rattle.brl_search.specs.Searched.{State, certificate_of}
 use Rattle.brl_search.specs.declared.table_clashes.RuleClash.{RuleClash}
 use Rattle.brl_states.specs.declared.cert.Cert.{Cert as Certificate}
 use Rattle.brl_table.specs.Reading.{PassesAll, table_of}
-use Rattle.brl_tool.specs.Baselines.{IsFaultOfText, read_paths}
+use Rattle.brl_tool.specs.Baselines.{IsFaultOfText, names_of_table, read_paths}
 use Rattle.brl_tool.specs.ByLines.{ByGivenLines}
 use Rattle.brl_tool.specs.Verdicts.{IsFaultOfFile, IsFileOf, IsOfCertificate, IsOverwriting, IsRefusal, accepted_line, certified_line}
 use Rattle.brl_without.specs.Tables.{AreDefined, IsUndefined}
@@ -43,11 +38,7 @@ use Rattle.brl_without.specs.Tables.{AreDefined, IsUndefined}
 
 -- the stale lines of a file at this path with this text, beside a table of these lines
 abbrev pub stale_of : TableView → List LineView → List ℕ → List ℕ → List FaultView
-stale_of t lines path text = stale_rows (wording t lines) (sets_of_table t) [] false path (rows text)
-
--- the lines of a file, in which what can't be seen is spelled
-abbrev pub seen_rows : List ℕ → List (List ℕ)
-seen_rows text = map visible_line (rows text)
+stale_of t lines path text = stale_lines (names_of_table t lines) None path text
 
 -- the file at a path excuses this of the table of these lines: it has no stale line, and its lines
 -- name this number of sets of characters
@@ -55,8 +46,8 @@ pub record IsExcusedAt (gives : FileAnswers) (path : List ℕ) (t : TableView) (
   pub text : List ℕ
   pub there : MayAnswer gives path (Holds text)
   pub good : stale_of t lines path text ≡ []
-  pub excuses : Excuses t (wording t lines) (seen_rows text) excused
-  pub count : sets ≡ set_count (sets_of_table t) (seen_rows text)
+  pub excuses : excused ≡ excused_by (names_of_table t lines) None text
+  pub count : sets ≡ sets_named (names_of_table t lines) None text
 
 -- the fault has the stale lines of a file at this path with this text, and there are some; or
 -- memory ran out

@@ -1,35 +1,29 @@
-//! The files of pairs of rules of `brl clashes`: what one accepts, and what is written.
-ghost use Rattle.std.specs.Prelude.{◌≡◌, IfErr, IfOk, OnOk, if◌then◌else◌, map, option_map, string_bytes, true};
+//! The files of pairs of rules of `brl clashes`: what one excuses, and what is written.
+ghost use Rattle.std.specs.Prelude.{◌≡◌, IfErr, IfOk, OnOk, if◌then◌else◌, length, map, option_map, string_bytes};
 ghost use Rattle.std.specs.Option.{option_copied};
-ghost use Rattle.brl_accepted.specs.Pairs.{wording as words_of_rules};
-ghost use Rattle.brl_accepted.specs.Reading.{pruned};
-ghost use Rattle.brl_accepted.specs.Writing.{accepted_text};
-ghost use Rattle.brl_clashes.specs.Sections.{are_whole as all_whole, listed_pairs};
-ghost use Rattle.brl_clashes.specs.Sets.{sets_of_table};
+ghost use Rattle.brl_accepted.specs.Reading.{accepted_count, if_whole as list_if_whole, names_of, pruned};
 ghost use Rattle.brl_lines.specs.Views.{line_view};
 ghost use Rattle.brl_tool.specs.Baselines.{
-  AreAccepted,
+  AreExcused,
   AreFilesWith,
   IsApart,
-  IsKept,
   IsOverwritingRead,
   IsTakenOut,
   is_written as is_to_be_written,
   only_read as paths_only_read,
+  pruned_text,
   read_paths as paths_of_read,
   text_of_pairs,
   written_path as path_to_write,
 };
 
 use crate::same_file::path_of_file;
-use brl_accepted::{
-    Acceptance, Baseline, Listed, Nameable, StaleLines, read_accepted, without_stale, wording,
-    write_accepted,
-};
+use brl_accepted::{Counts, Excusal, Nameable, StaleLines, read_excusal, write_accepted};
 use brl_answers::{Files, NewFile, NewFiles, RunFault};
 use brl_clashes::{Section, Taken, are_whole, character_sets, pairs_of_sections};
 use brl_cli::PairFiles;
 use brl_lines::{Line, Loaded};
+use brl_pairs::RulePairs;
 use brl_rules::Table;
 use std::alloc::{AllocError, Global};
 
@@ -98,21 +92,28 @@ pub(crate) fn read_paths<'a>(
     Ok(paths)
 }
 
+/// A file of pairs of rules: its path, and its text.
+#[derive(Clone, Copy)]
+pub struct Baseline<'a> {
+    pub path: &'a str,
+    pub text: &'a str,
+}
+
 /// What a file takes out of the sections of a table, and its stale lines.
 #[derive(Drop)]
 pub struct Exempt {
-    /// The pairs of rules that are accepted of those that the sections list.
+    /// Those of the pairs of rules that the sections list that are excused.
     pub pairs: Vec<(u32, u32)>,
     /// How much is taken out, where a file is read.
     pub taken: Option<Taken>,
     pub stale: StaleLines,
-    /// The text of the file without its stale lines, where these are to be taken out.
+    /// The text of the file without its stale lines.
     pub kept: String,
 }
 
-/// What a file accepts of the pairs that the sections of a table of these lines list; nothing
+/// What a file excuses of the pairs that the sections of a table of these lines list; nothing
 /// without a file.
-pub fn accepted_pairs(
+pub fn excused_pairs(
     alloc: Global,
     table: &Table,
     lines: &[Line<'_>],
@@ -120,8 +121,8 @@ pub fn accepted_pairs(
     baseline: Option<Baseline<'_>>,
     prune: bool,
 ) -> Result<Exempt, AllocError>
-    ensures accepts { IfOk result (λ exempt. AreAccepted (option_map (λ file. file.text.now) baseline.entry) prune table.now (map line_view lines.now) sections.now exempt.pairs.items exempt.taken) }
-    ensures kept { IfOk result (λ exempt. IsKept (option_map (λ file. file.text.now) baseline.entry) prune table.now (map line_view lines.now) sections.now (string_bytes exempt.kept)) }
+    ensures excuses { IfOk result (λ exempt. AreExcused (option_map (λ file. file.text.now) baseline.entry) prune table.now (map line_view lines.now) sections.now exempt.pairs.items exempt.taken) }
+    ensures kept { IfOk result (λ exempt. string_bytes exempt.kept ≡ pruned_text (option_map (λ file. file.text.now) baseline.entry) table.now (map line_view lines.now) sections.now) }
 {
     let Some(file) = baseline else {
         return Ok(Exempt {
@@ -131,51 +132,56 @@ pub fn accepted_pairs(
             kept: String::new(alloc),
         });
     };
-    let names = Names::of(alloc, table, lines)?;
-    let pairs = pairs_of_sections(alloc, sections)?;
-    let listed = Listed {
-        pairs: pairs.as_slice(),
-        whole: are_whole(sections),
-    };
-    exempt_by(alloc, table, names.nameable(), listed, file, prune)
+    let sets = character_sets(alloc, table)?;
+    let known = Nameable::new(table, lines, sets.as_slice());
+    let listed = RulePairs::new(alloc, pairs_of_sections(alloc, sections)?)?;
+    exempt_by(alloc, known, &listed, are_whole(sections), file, prune)
 }
 
-/// What a file accepts of the pairs that are listed.
+/// What a file excuses of the pairs that are listed, which may be the whole list.
 fn exempt_by(
     alloc: Global,
-    table: &Table,
     known: Nameable<'_>,
-    listed: Listed<'_>,
+    listed: &RulePairs,
+    whole: bool,
     file: Baseline<'_>,
     prune: bool,
 ) -> Result<Exempt, AllocError>
-    ensures accepts { IfOk result (λ exempt. IsTakenOut table.now (map string_bytes known.entry.words.now) (map (λ set. set.items) known.entry.sets.now)
-        listed.entry.pairs.now listed.entry.whole file.entry.text.now prune exempt.pairs.items exempt.taken) }
-    ensures kept { prune ≡ true → IfOk result (λ exempt. string_bytes exempt.kept ≡ pruned (map string_bytes known.entry.words.now) (map (λ set. set.items) known.entry.sets.now)
-        listed.entry.pairs.now listed.entry.whole file.entry.text.now) }
+    ensures excuses { IfOk result (λ exempt. IsTakenOut (names_of known.entry) listed.now whole file.entry.text.now prune exempt.pairs.items exempt.taken) }
+    ensures kept { IfOk result (λ exempt. string_bytes exempt.kept ≡ pruned (names_of known.entry) (list_if_whole whole listed.now) file.entry.text.now) }
 {
-    let Acceptance {
-        pairs,
-        counts,
-        stale,
-    } = read_accepted(alloc, table, known, listed, file)?;
-    let taken = Taken {
-        listed: pairs.len(),
-        counts,
-        stale: stale.len(),
-        pruned: prune,
-    };
-    let kept = if prune {
-        without_stale(alloc, known, listed, file)?
-    } else {
-        String::new(alloc)
-    };
+    let excusal = read_excusal(alloc, known, if_whole(whole, listed), file.path, file.text)?;
+    let pairs = excusal.excused_of(alloc, listed.as_slice())?;
+    let taken = taken_of(&excusal, listed.as_slice(), pairs.len(), prune);
+    let Excusal { stale, kept, .. } = excusal;
     Ok(Exempt {
         pairs,
         taken: Some(taken),
         stale: StaleLines(stale),
         kept,
     })
+}
+
+/// A list of pairs, where it is whole.
+fn if_whole(whole: bool, listed: &RulePairs) -> Option<&RulePairs>
+    ensures { option_copied result ≡ list_if_whole whole listed.entry.now }
+{
+    if whole { Some(listed) } else { None }
+}
+
+/// How much a file takes out of the listed pairs, this many of which are excused.
+fn taken_of(excusal: &Excusal, listed: &[(u32, u32)], excused: usize, prune: bool) -> Taken
+    ensures { result ≡ record { listed = excused; counts = record { pairs = accepted_count excusal.now.excused listed.now; sets = excusal.now.sets }; stale = length excusal.now.stale.items; pruned = prune } }
+{
+    Taken {
+        listed: excused,
+        counts: Counts {
+            pairs: excusal.accepted_count(listed),
+            sets: excusal.sets,
+        },
+        stale: excusal.stale.len(),
+        pruned: prune,
+    }
 }
 
 /// The file that is written: the file of accepted pairs without its stale lines, where it has some
@@ -217,9 +223,23 @@ fn content(
     if prune {
         return Vec::from_slice(alloc, exempt.kept.as_bytes());
     }
-    let names = Names::of(alloc, table, lines)?;
-    let text = names.pairs_text(alloc, table, left)?;
+    let text = pairs_text(alloc, table, lines, left)?;
     Ok(text.into_bytes())
+}
+
+/// The text of a file with the pairs of a table's rules that these sections list.
+fn pairs_text(
+    alloc: Global,
+    table: &Table,
+    lines: &[Line<'_>],
+    sections: &[Section],
+) -> Result<String, AllocError>
+    ensures { IfOk result (λ text. string_bytes text ≡ text_of_pairs table.now (map line_view lines.now) sections.now) }
+{
+    let sets = character_sets(alloc, table)?;
+    let known = Nameable::new(table, lines, sets.as_slice());
+    let pairs = pairs_of_sections(alloc, sections)?;
+    write_accepted(alloc, known, pairs.as_slice())
 }
 
 /// Whether a file is written: where lines are stale that are to be taken out, or where the list is
@@ -233,50 +253,5 @@ fn is_written(prune: bool, taken: Option<Taken>, left: &[Section]) -> bool
     match taken {
         Some(taken) => taken.stale > 0,
         None => false,
-    }
-}
-
-/// What a file of pairs may name: the rules of a table, by what each says, and its sets of
-/// characters.
-#[derive(Drop)]
-struct Names {
-    words: Vec<String>,
-    sets: Vec<Vec<char>>,
-}
-
-impl Names {
-    /// Those of a table of these lines.
-    fn of(alloc: Global, table: &Table, lines: &[Line<'_>]) -> Result<Names, AllocError>
-        ensures words { IfOk result (λ names. map string_bytes names.words.items ≡ words_of_rules table.now (map line_view lines.now)) }
-        ensures sets { IfOk result (λ names. map (λ set. set.items) names.sets.items ≡ sets_of_table table.now) }
-    {
-        let words = wording(alloc, table, lines)?;
-        let sets = character_sets(alloc, table)?;
-        Ok(Names { words, sets })
-    }
-
-    /// The same, as it is given to what reads and writes such files.
-    fn nameable(&self) -> Nameable<'_>
-        ensures words { result.words.now ≡ self.now.words.items }
-        ensures sets { result.sets.now ≡ self.now.sets.items }
-    {
-        Nameable {
-            words: self.words.as_slice(),
-            sets: self.sets.as_slice(),
-        }
-    }
-
-    /// The text of a file with the pairs of a table's rules that these sections list.
-    fn pairs_text(
-        &self,
-        alloc: Global,
-        table: &Table,
-        sections: &[Section],
-    ) -> Result<String, AllocError>
-        ensures { IfOk result (λ text. string_bytes text
-            ≡ accepted_text table.now (map string_bytes self.now.words.items) (map (λ set. set.items) self.now.sets.items) (listed_pairs sections.now)) }
-    {
-        let pairs = pairs_of_sections(alloc, sections)?;
-        write_accepted(alloc, table, self.nameable(), pairs.as_slice())
     }
 }

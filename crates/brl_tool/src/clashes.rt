@@ -5,14 +5,14 @@ ghost use Rattle.brl_lines.specs.Outcome.{CountsFailure};
 ghost use Rattle.brl_lines.specs.Views.{line_view};
 ghost use Rattle.brl_answers.specs.Answers.{ByLeftOut, load_outcome};
 ghost use Rattle.brl_clashes.specs.Sections.{AreSections};
-ghost use Rattle.brl_tool.specs.Baselines.{AreAccepted, IsKept, leaves_stale as stale_stay};
+ghost use Rattle.brl_tool.specs.Baselines.{AreExcused, leaves_stale as stale_stay, pruned_text};
 ghost use Rattle.brl_tool.specs.Diagnosing.{Diagnoses, DiagnosesByFile, IsDiagnosis, status_of_sections};
 
-use crate::baselines::{Exempt, accepted_pairs, file_of_pairs, refuse_file_that_is_read};
+use crate::baselines::{Baseline, Exempt, excused_pairs, file_of_pairs, refuse_file_that_is_read};
 use crate::file_text::text_at;
 use crate::loaded_table::LoadedTable;
 use crate::notices::write_if_without_characters;
-use brl_accepted::{Baseline, StaleLines};
+use brl_accepted::StaleLines;
 use brl_answers::{Answer, Files, RunFault, Status, left_out_of};
 use brl_clashes::{
     Extent, Outcome, Section, Taken, list_sections, outcome_of, sections_text, without_accepted,
@@ -132,7 +132,7 @@ fn list_clashes<F: Files, E: Write + Progress>(
     Ok(diagnosis(alloc, table, lines, wanted, Some(baseline), err)?)
 }
 
-/// Lists a table's clashes beside the pairs that a file accepts. Standard error hears of it first
+/// Lists a table's clashes beside the pairs that a file excuses. Standard error hears of it first
 /// where no line defines a character.
 fn diagnosis<E: Write + Progress>(
     alloc: Global,
@@ -152,7 +152,7 @@ fn diagnosis<E: Write + Progress>(
     };
     let sections = list_sections(alloc, table, u64::from(wanted.limit), scope)?;
     let prune = wanted.pairs.prune;
-    let exempt = accepted_pairs(alloc, table, lines, sections.as_slice(), baseline, prune)?;
+    let exempt = excused_pairs(alloc, table, lines, sections.as_slice(), baseline, prune)?;
     write_stale(&exempt.stale, err);
     answer_beside(alloc, table, lines, wanted, baseline, &exempt, sections)
 }
@@ -164,7 +164,7 @@ fn write_stale<E: Write>(stale: &StaleLines, err: &mut E) {
     }
 }
 
-/// The answer with the sections of a table, beside the pairs that a file accepts.
+/// The answer with the sections of a table, beside the pairs that a file excuses.
 fn answer_beside(
     alloc: Global,
     table: &Table,
@@ -175,8 +175,8 @@ fn answer_beside(
     sections: Vec<Section>,
 ) -> Result<Answer, AllocError>
     requires sections { AreSections table.now wanted.left_out.now wanted.limit sections.items }
-    requires accepted { AreAccepted (option_map (λ file. file.text.now) baseline) wanted.pairs.prune table.now (map line_view lines.now) sections.items exempt.now.pairs.items exempt.now.taken }
-    requires kept { IsKept (option_map (λ file. file.text.now) baseline) wanted.pairs.prune table.now (map line_view lines.now) sections.items (string_bytes exempt.now.kept) }
+    requires excused { AreExcused (option_map (λ file. file.text.now) baseline) wanted.pairs.prune table.now (map line_view lines.now) sections.items exempt.now.pairs.items exempt.now.taken }
+    requires kept { string_bytes exempt.now.kept ≡ pruned_text (option_map (λ file. file.text.now) baseline) table.now (map line_view lines.now) sections.items }
     ensures { IfOk result (IsDiagnosis wanted.entry.left_out.now table.now (map line_view lines.now) wanted.entry.limit wanted.entry.first
         (option_map (λ file. file.text.now) baseline.entry) wanted.entry.pairs) }
 {

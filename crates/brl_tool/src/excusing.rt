@@ -1,18 +1,16 @@
 //! What a file excuses of a table, and the line of an answer that says so.
-ghost use Rattle.std.specs.Prelude.{◌≡◌, [], IfErr, IfOk, map, string_bytes};
-ghost use Rattle.brl_accepted.specs.Naming.{Excuses};
-ghost use Rattle.brl_accepted.specs.Pairs.{wording};
-ghost use Rattle.brl_accepted.specs.Sets.{set_count};
+ghost use Rattle.std.specs.Prelude.{◌≡◌, [], IfErr, IfOk, None, map, string_bytes};
+ghost use Rattle.brl_accepted.specs.Reading.{excused_by, sets_named};
 ghost use Rattle.brl_answers.specs.Answers.{load_outcome};
-ghost use Rattle.brl_clashes.specs.Sets.{sets_of_table};
 ghost use Rattle.brl_lines.specs.Outcome.{CountsFailure};
 ghost use Rattle.brl_lines.specs.Views.{line_view};
 ghost use Rattle.brl_without.specs.Tables.{AreDefined};
-ghost use Rattle.brl_tool.specs.UpTo.{IsExcusedAt, IsFaultBeforeExcusal, IsFaultOfExcusal, IsFaultOfLines, lines_up_to as whole_lines, seen_rows, stale_of};
+ghost use Rattle.brl_tool.specs.Baselines.{names_of_table};
+ghost use Rattle.brl_tool.specs.UpTo.{IsExcusedAt, IsFaultBeforeExcusal, IsFaultOfExcusal, IsFaultOfLines, lines_up_to as whole_lines, stale_of};
 
 use crate::file_text::text_at;
 use crate::loaded_table::LoadedTable;
-use brl_accepted::{Baseline, Counts, Excusal, StaleLines, but_for_line, pair_count, read_excusal};
+use brl_accepted::{Counts, Excusal, Nameable, StaleLines, but_for_line, pair_count, read_excusal};
 use brl_answers::{RunFault, with_left_out_line};
 use brl_clashes::character_sets;
 use brl_lines::{Line, Source};
@@ -73,13 +71,13 @@ fn excusal_of(
     text: &str,
 ) -> Result<Excusal, RunFault>
     ensures good { IfOk result (λ _. stale_of table.now (map line_view lines.now) path.now text.now ≡ []) }
-    ensures excuses { IfOk result (λ excusal. Excuses table.now (wording table.now (map line_view lines.now)) (seen_rows text.now) excusal.excused) }
-    ensures sets { IfOk result (λ excusal. excusal.sets ≡ set_count (sets_of_table table.now) (seen_rows text.now)) }
+    ensures excuses { IfOk result (λ excusal. excusal.excused ≡ excused_by (names_of_table table.now (map line_view lines.now)) None text.now) }
+    ensures sets { IfOk result (λ excusal. excusal.sets ≡ sets_named (names_of_table table.now (map line_view lines.now)) None text.now) }
     ensures fault { IfErr result (IsFaultOfLines table.now (map line_view lines.now) path.now text.now) }
 {
     let sets = character_sets(alloc, table)?;
-    let file = Baseline { path, text };
-    let excusal = read_excusal(alloc, table, lines, sets.as_slice(), file)?;
+    let known = Nameable::new(table, lines, sets.as_slice());
+    let excusal = read_excusal(alloc, known, None, path, text)?;
     if !excusal.stale.is_empty() {
         return Err(RunFault::Accept(StaleLines(excusal.stale)));
     }

@@ -10,9 +10,11 @@ use Rattle.brl_accepted.proofs.WrittenLines.{pair_apart}
 use Rattle.brl_accepted.proofs.laws.read_back_law.Goals as goal
 
 pub returns : goal.returns
-returns c listed whole =
-    let t = c.args.table.now in
-    let lines = map line_view c.args.lines.now in
-    let sets = map (λ set. set.items) c.args.sets.now in
+returns c listed whole of_table =
+    let known = c.args.known in
+    let t = known.table.now in
+    let lines = map line_view known.lines.now in
+    let sets = map (λ set. set.items) known.sets.now in
     let has : HasScalars t = record { rules = c.rules_law.ensures; own = c.own_law.ensures } in
-    read_back (wording t lines) (wording_above t lines) (wording_seen t lines has) (wording_low t lines) t sets listed whole (pair_apart t lines) (All-map (λ cs. all_scalars cs ≡ true) (λ set. set.items) c.args.sets.now c.sets_law.ensures)
+    read_back (wording t lines) (wording_above t lines) (wording_seen t lines has) (wording_low t lines) t sets listed whole (pair_apart t lines) (All-map (λ cs. all_scalars cs ≡ true) (λ set. set.items) known.sets.now c.sets_law.ensures)
+    of_table

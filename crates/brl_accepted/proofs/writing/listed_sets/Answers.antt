@@ -2,7 +2,7 @@ use Rattle.std.proofs.Common.{◌≡◌, ◌∙◌, ◌<◌, ◌≤◌, ◌++◌
 use Rattle.std.specs.Global.{Global}
 use Rattle.std.proofs.lemmas.List.{get_or-map, length-map, take_all}
 use Rattle.brl_accepted.specs.Writing.{is_listed_set}
-use Rattle.brl_accepted.proofs.NamingLemmas.{one_more_kept}
+use Rattle.brl_accepted.proofs.ListLemmas.{one_more_kept}
 use Rattle.brl_accepted.proofs.writing.listed_sets.Goals as goal
 
 pub loop-set-preserved : goal.loop-set-preserved

@@ -2,7 +2,7 @@ use Rattle.std.proofs.Common.{◌≡◌, ◌∙◌, ◌<◌, ◌++◌, List, [],
 use Rattle.std.specs.Global.{Global}
 use Rattle.std.proofs.lemmas.List.{get_or-map, length-map}
 use Rattle.brl_accepted.specs.Writing.{whole_set_line}
-use Rattle.brl_accepted.proofs.NamingLemmas.{one_more}
+use Rattle.brl_accepted.proofs.ListLemmas.{one_more}
 use Rattle.brl_accepted.proofs.writing.sets_text.Goals as goal
 
 pub loop-set-preserved : goal.loop-set-preserved

@@ -1,33 +1,29 @@
-//! Files of accepted pairs of rules.
+//! Files of pairs of rules.
 use brl_accepted::{
-    AcceptFaultKind, Acceptance, Baseline, Excusal, Listed, Nameable, read_accepted, read_back_law,
-    read_excusal, without_stale, wording, write_accepted,
+    Excusal, ExcuseFaultKind, Nameable, read_back_law, read_excusal, write_accepted,
 };
+use brl_pairs::RulePairs;
 use brl_table::Table;
 use brl_testing::table_of;
 use std::alloc::{AllocError, Global};
 use std::test::Fail;
 
 /// The pair of the first and the third letter of a table, and no others.
-const ONE: Listed<'static> = Listed {
-    pairs: &[(0, 2)],
-    whole: true,
-};
+const ONE: &[(u32, u32)] = &[(0, 2)];
 
-/// What is accepted of a text.
-fn read(
-    alloc: Global,
-    table: &Table,
-    known: Nameable<'_>,
-    text: &str,
-) -> Result<Acceptance, AllocError> {
-    read_accepted(alloc, table, known, ONE, Baseline { path: "p", text })
+/// What a text excuses beside that pair.
+fn read(alloc: Global, known: Nameable<'_>, text: &str) -> Result<Excusal, AllocError> {
+    let list = RulePairs::new(alloc, Vec::from_slice(alloc, ONE)?)?;
+    read_excusal(alloc, known, Some(&list), "p", text)
 }
 
-/// Whether just the one pair is accepted of a text, and no line of it is stale.
-fn accepts_one(alloc: Global, table: &Table, known: Nameable<'_>, text: &str) -> bool {
-    match read(alloc, table, known, text) {
-        Ok(accepted) => accepted.pairs.as_slice() == ONE.pairs && accepted.stale.is_empty(),
+/// Whether just the one pair is excused by a text, and no line of it is stale.
+fn excuses_one(alloc: Global, known: Nameable<'_>, text: &str) -> bool {
+    let Ok(excusal) = read(alloc, known, text) else {
+        return false;
+    };
+    match excusal.excused_of(alloc, &[(1, 2), (2, 0), (0, 1)]) {
+        Ok(pairs) => pairs.as_slice() == &[(2, 0)] && excusal.stale.is_empty(),
         Err(_) => false,
     }
 }
@@ -35,24 +31,19 @@ fn accepts_one(alloc: Global, table: &Table, known: Nameable<'_>, text: &str) ->
 /// Whether just this line of a text is stale, for this, and the text without it is this.
 fn has_stale(
     alloc: Global,
-    table: &Table,
     known: Nameable<'_>,
     text: &str,
-    (kind, line, kept): (AcceptFaultKind, usize, &str),
+    (kind, line, kept): (ExcuseFaultKind, usize, &str),
 ) -> bool {
-    let file = Baseline { path: "p", text };
-    match (
-        read(alloc, table, known, text),
-        without_stale(alloc, known, ONE, file),
-    ) {
-        (Ok(accepted), Ok(left)) => {
-            let stale = accepted.stale.as_slice();
+    match read(alloc, known, text) {
+        Ok(excusal) => {
+            let stale = excusal.stale.as_slice();
             stale.len() == 1
                 && stale[0].kind == kind
                 && stale[0].line == line
-                && left.as_str() == kept
+                && excusal.kept.as_str() == kept
         }
-        _ => false,
+        Err(_) => false,
     }
 }
 
@@ -78,18 +69,14 @@ fn excuses(
     let Ok(sets) = sets_of(alloc, &["ax"]) else {
         return false;
     };
-    match read_excusal(
-        alloc,
-        table,
-        &[],
-        sets.as_slice(),
-        Baseline { path: "p", text },
-    ) {
+    let known = Nameable::new(table, &[], sets.as_slice());
+    match read_excusal(alloc, known, None, "p", text) {
         Ok(
             Excusal {
                 excused,
                 sets,
                 stale,
+                ..
             },
         ) => {
             excused.accepted.as_slice() == accepted
@@ -126,80 +113,62 @@ fn names(alloc: Global, table: &Table) -> bool {
 
 /// Whether the line of a pair is written and read, and another is stale.
 fn reads(alloc: Global, table: &Table) -> Result<bool, Fail> {
-    let words = wording(alloc, table, &[])?;
     let sets = sets_of(alloc, &[])?;
-    let known = Nameable {
-        words: words.as_slice(),
-        sets: sets.as_slice(),
-    };
-    let text = write_accepted(alloc, table, known, ONE.pairs)?;
+    let known = Nameable::new(table, &[], sets.as_slice());
+    let text = write_accepted(alloc, known, ONE)?;
     let turned = "# both\n\nrule x 1-12 / rule a 1\r\n";
     let stale = "rule a 1 / rule b 12\n";
     Ok(
         text.as_str() == "rule a 1 / rule x 1-12\n"
-            && accepts_one(alloc, table, known, text.as_str())
-            && accepts_one(alloc, table, known, turned)
+            && excuses_one(alloc, known, text.as_str())
+            && excuses_one(alloc, known, turned)
             && has_stale(
                 alloc,
-                table,
                 known,
                 "#\nrule a 1\n\nrule a 1 / rule x 1-12",
                 (
-                    AcceptFaultKind::NoSuchRules,
+                    ExcuseFaultKind::NoSuchRules,
                     2,
                     "#\n\nrule a 1 / rule x 1-12\n",
                 ),
             )
+            && has_stale(alloc, known, stale, (ExcuseFaultKind::NotListed, 1, ""))
             && has_stale(
                 alloc,
-                table,
-                known,
-                stale,
-                (AcceptFaultKind::NotListed, 1, ""),
-            )
-            && has_stale(
-                alloc,
-                table,
                 known,
                 "exchange ax",
-                (AcceptFaultKind::NoSuchSet, 1, ""),
+                (ExcuseFaultKind::NoSuchSet, 1, ""),
             ),
     )
 }
 
 /// Whether the line of a set is written in place of its pair, and read.
 fn reads_sets(alloc: Global, table: &Table) -> Result<bool, Fail> {
-    let words = wording(alloc, table, &[])?;
     let sets = sets_of(alloc, &["bb", "ax"])?;
-    read_back_law(table, &[], sets.as_slice());
-    let known = Nameable {
-        words: words.as_slice(),
-        sets: sets.as_slice(),
-    };
-    let text = write_accepted(alloc, table, known, ONE.pairs)?;
+    let known = Nameable::new(table, &[], sets.as_slice());
+    read_back_law(known);
+    let text = write_accepted(alloc, known, ONE)?;
     Ok(
         text.as_str() == "exchange ax\n"
-            && accepts_one(alloc, table, known, text.as_str())
-            && accepts_one(alloc, table, known, "#\nexchange xa\r\n")
+            && excuses_one(alloc, known, text.as_str())
+            && excuses_one(alloc, known, "#\nexchange xa\r\n")
             && has_stale(
                 alloc,
-                table,
                 known,
                 "exchange ab\n",
-                (AcceptFaultKind::NoSuchSet, 1, ""),
+                (ExcuseFaultKind::NoSuchSet, 1, ""),
             )
             && has_stale(
                 alloc,
-                table,
                 known,
                 "exchange ax\nexchange a\n",
-                (AcceptFaultKind::NoSuchSet, 2, "exchange ax\n"),
+                (ExcuseFaultKind::NoSuchSet, 2, "exchange ax\n"),
             ),
     )
 }
 
 #[test]
-fn calls_of_accepted_pairs(rt: HostRuntime) -> Result<(), Fail> {
+fn calls_of_excused_pairs(rt: HostRuntime) -> Result<(), Fail> {
     let table = table_of(rt.alloc(), "letter a 1; letter b 12; letter x 1-12")?;
     assert!(rt; reads(rt.alloc(), &table)?);
     assert!(rt; reads_sets(rt.alloc(), &table)?);

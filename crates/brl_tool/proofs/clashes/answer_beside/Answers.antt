@@ -1,5 +1,4 @@
 use Rattle.std.proofs.Common.{◌≡◌, ◌∙◌, Bool, List, Option, ap, if◌then◌else◌, map, option_map, refl, string_bytes, subst, true, false, ℕ}
-use Rattle.brl_accepted.specs.declared.reading.Baseline.{Baseline}
 use Rattle.brl_clashes.proofs.Verdicts.{left_are_clashes}
 use Rattle.brl_clashes.specs.Accepted.{AreLeftOf}
 use Rattle.brl_clashes.specs.Sections.{outcome_of}
@@ -7,14 +6,15 @@ use Rattle.brl_clashes.specs.declared.section.Section.{Section}
 use Rattle.brl_lines.specs.Tokens.{LineView}
 use Rattle.brl_lines.specs.Views.{line_view}
 use Rattle.brl_rules.specs.TableView.{TableView}
-use Rattle.brl_tool.specs.Baselines.{AreFilesWith, IsKept, is_written, text_of_pairs, written_path, written_text}
+use Rattle.brl_tool.specs.Baselines.{AreFilesWith, is_written, pruned_text, text_of_pairs, written_path, written_text}
+use Rattle.brl_tool.specs.declared.baselines.Baseline.{Baseline}
 use Rattle.brl_tool.specs.Diagnosing.{status_of_sections}
 use Rattle.brl_tool.proofs.clashes.answer_beside.Goals as goal
 
 -- what is written, where the text without stale lines is kept
-content_is : (baseline : Option (List ℕ)) (prune : Bool) (t : TableView) (lines : List LineView) (found left : List Section) (kept : List ℕ) → IsKept baseline prune t lines found kept
+content_is : (baseline : Option (List ℕ)) (prune : Bool) (t : TableView) (lines : List LineView) (found left : List Section) (kept : List ℕ) → kept ≡ pruned_text baseline t lines found
     → (if prune then kept else text_of_pairs t lines left) ≡ written_text prune baseline t lines found left
-content_is baseline true t lines found left kept is = is refl
+content_is baseline true t lines found left kept is = is
 content_is baseline false t lines found left kept is = refl
 
 pub sections_text-requires : goal.sections_text-requires
@@ -38,7 +38,7 @@ returns c =
       taken = exempt.taken;
       left = left;
       are = c.requires.sections;
-      accepts = c.requires.accepted;
+      accepts = c.requires.excused;
       beside = subst (λ (accepted : List (ℕ × ℕ)). AreLeftOf accepted c.args.sections.items left) c.as_slice.ensures.value c.in_ok-left.ensures;
       shows = c.in_ok-text.ensures;
       status = c.status_of-status.ensures ∙ ap (status_of_sections exempt.taken) (c.outcome_of.ensures ∙ ap outcome_of c.as_slice-2.ensures.value);

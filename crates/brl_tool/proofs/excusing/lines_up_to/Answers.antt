@@ -1,6 +1,6 @@
 use Rattle.std.proofs.Common.{◌≡◌, ◌∙◌, ◌++◌, ap, IfOk, List, rules, string_bytes, subst, ℕ}
 use Rattle.brl_accepted.specs.Counting.{but_for_line}
-use Rattle.brl_accepted.specs.Naming.{pair_count}
+use Rattle.brl_accepted.specs.Counting.{pair_count}
 use Rattle.brl_answers.specs.Answers.{with_left_out_line}
 use Rattle.brl_tool.proofs.excusing.lines_up_to.Goals as goal
 
