@@ -23,7 +23,7 @@ fn excuses_one(alloc: Global, known: Nameable<'_>, text: &str) -> bool {
         return false;
     };
     match excusal.excused_of(alloc, &[(1, 2), (2, 0), (0, 1)]) {
-        Ok(pairs) => pairs.as_slice() == &[(2, 0)] && excusal.stale.is_empty(),
+        Ok(pairs) => pairs.as_slice() == [(2, 0)].as_slice() && excusal.stale.is_empty(),
         Err(_) => false,
     }
 }
