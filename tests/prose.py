@@ -246,9 +246,19 @@ CHECKS: dict[str, Callable[[Document], Faults]] = {
     "README.md alone names the kit, and it is that of `rt version`": other_kits,
 }
 
+def dangling(it: Document) -> Faults:
+    """Comments on code and definitions that only mean something after another one."""
+    if "proofs" in it.path.relative_to(TOP).parts:
+        return
+    for number in sorted(it.own):
+        if number - 1 not in it.own and re.match(r"\s*(?:the same|those)\b", it.lines[number], re.IGNORECASE):
+            yield number, "a comment says itself what it means, and doesn't begin with 'The same' or 'Those'"
+
+
 OF_COMMENTS: dict[str, Callable[[Document], Faults]] = {
     f"no comment has more than {MOST_COLUMNS} columns": long_lines,
     "no comment has a word that the house doesn't use": other_words,
+    "no comment on code or definitions rests on the one before": dangling,
 }
 
 

@@ -26,7 +26,7 @@ pub record Names : Type 0 where
   pub words : List (List ℕ)
   pub sets : List (List ℕ)
 
--- those of a table of these lines, and these sets
+-- what a file may name of a table of these lines, with these sets
 abbrev pub names_in : TableView → List LineView → List (List ℕ) → Names
 names_in t lines sets = record { table = t; words = wording t lines; sets = sets }
 
@@ -157,7 +157,7 @@ stale_count names list text = count_by (λ (line : Named). is_some line.fault) (
 abbrev pub is_excused : Excused → ℕ × ℕ → Bool
 is_excused excused pair = has_rules excused.accepted pair.0 pair.1 || has_rules excused.exchanged pair.0 pair.1
 
--- those of the listed pairs that are
+-- the listed pairs that are excused
 abbrev pub excused_of : Excused → List (ℕ × ℕ) → List (ℕ × ℕ)
 excused_of excused listed = filter (is_excused excused) listed
 

@@ -63,6 +63,6 @@ ordered_pairs numbers = flat_map (greater_pairs numbers) numbers
 abbrev pub set_pairs : TableView → List ℕ → List (ℕ × ℕ)
 set_pairs t set = ordered_pairs (map (own_number t) set)
 
--- those of some sets
+-- the pairs of the own definitions of some sets
 abbrev pub pairs_of_sets : TableView → List (List ℕ) → List (ℕ × ℕ)
 pairs_of_sets t sets = flat_map (set_pairs t) sets

@@ -49,7 +49,7 @@ Parts line found = MatchOption found ((one rest : List ℕ) → ArePartsOf line 
 abbrev pub numbers_of : {S : Type 0} → IndexMap (Bor (List ℕ)) (Vec ℕ) S → List ℕ → List ℕ
 numbers_of index text = option_map_or (λ found. found.items) (get_by (λ key. bytes_eq text key.now) index) []
 
--- those of these rules that say a text
+-- the rules with these numbers that say a text
 abbrev pub numbers_saying : List (List ℕ) → List ℕ → List ℕ → List ℕ
 numbers_saying words numbers text = filter (λ s. bytes_eq text (said words s)) numbers
 

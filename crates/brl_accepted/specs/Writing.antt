@@ -15,7 +15,7 @@ is_listed_set t listed set = list_any (λ pair. has_rules listed pair.0 pair.1) 
 abbrev pub listed_sets : TableView → List (List ℕ) → List (ℕ × ℕ) → List (List ℕ)
 listed_sets t sets listed = filter (is_listed_set t listed) sets
 
--- those of the listed pairs that are of none of these sets
+-- the listed pairs that are of none of these sets
 abbrev pub pairs_beside : TableView → List (List ℕ) → List (ℕ × ℕ) → List (ℕ × ℕ)
 pairs_beside t sets listed = filter (λ pair. not (has_rules (pairs_of_sets t sets) pair.0 pair.1)) listed
 

@@ -27,7 +27,7 @@ fn rules_law(table: &Table)
     rule_characters_law(table.rules_in_rank());
 }
 
-/// Those of each of these rules are.
+/// The characters of each of these rules are Unicode scalar values.
 fn rule_characters_law(rules: &[Rule])
     ensures { All (λ rule. all_scalars rule.chars ≡ true) rules.now }
 {

@@ -67,7 +67,7 @@ pub struct Excusal {
 }
 
 impl Excusal {
-    /// Those of the listed pairs that are excused.
+    /// The listed pairs that are excused.
     pub fn excused_of(
         &self,
         alloc: Global,

@@ -85,7 +85,7 @@ fn is_listed_set(
     Ok(pairs.iter().any(|pair| listed.has(pair.0, pair.1)))
 }
 
-/// Those of the listed pairs that are of none of these sets of characters.
+/// The listed pairs that are of none of these sets of characters.
 fn pairs_beside(
     alloc: Global,
     table: &Table,

@@ -34,7 +34,7 @@ pub trait Files: Source {
     ghost use Rattle.brl_lines.specs.Answer.{looking};
     ghost use Rattle.brl_answers.specs.Files.{GivesAlso, MayBeAbsent, MayBeSame, MayBeThere, OthersStay, StaysWhereThere};
 
-    // the same files, where those of tables are looked for in these folders
+    // this source of files, where the files of tables are looked for in these folders too
     ghost looked: { Vec (String Global) → Self → Self };
 
     // whether two paths may name one file

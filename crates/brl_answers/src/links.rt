@@ -23,7 +23,7 @@ pub fn end_of_links<R: Files>(alloc: Global, system: &R, path: &str) -> io::Resu
     Err(io::Error::from(ErrorKind::FilesystemLoop))
 }
 
-/// The same; `None` where the links can't be followed.
+/// The path at which the links end; `None` where they can't be followed.
 pub fn end_if_followed<R: Files>(
     alloc: Global,
     system: &R,

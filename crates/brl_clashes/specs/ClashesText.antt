@@ -53,7 +53,7 @@ abbrev pub counts_of : List ℕ → ClashList → List ℕ
 counts_of word (Complete list body) = counts_line word (length body.states) (length body.pairs)
 counts_of word (Partial list states pairs) = counts_line word states pairs
 
--- the same of the last of these sections
+-- how many states and pairs the last of these sections rests on, after a word
 abbrev pub last_counts : List ℕ → List Section → List ℕ
 last_counts word sections = option_map_or (λ s. counts_of word s.found) (slice_get sections (length sections - 1)) []
 
@@ -78,7 +78,7 @@ verdict_pairs taken Unfinished count = pairs_line taken count false
 abbrev pub outcome_text : Bool → Outcome → List Section → List ℕ
 outcome_text taken outcome sections = verdict_counts outcome sections ++ verdict_pairs taken outcome (length (listed_pairs sections))
 
--- the same of sections from which accepted pairs may be left out, and how much was
+-- the last lines for these sections, of which accepted pairs were taken out, if a file was read
 abbrev pub verdict_text : Option Taken → List Section → List ℕ
 verdict_text accepted sections =
     outcome_text (are_taken accepted) (outcome_beside (accepted_count accepted) (outcome_of sections)) sections ++ accepted_lines accepted

@@ -40,7 +40,7 @@ is_of t kind c = number_of (kind_of (classes_of t c)) == number_of kind
 abbrev pub table_characters : TableView → List ℕ
 table_characters t = map (λ entry. entry.0) t.characters
 
--- those of them that aren't left out
+-- the characters of a table that aren't left out
 abbrev pub kept : TableView → List ℕ → List ℕ
 kept t left_out = filter (λ c. not (is_left_out left_out c)) (table_characters t)
 
@@ -57,7 +57,7 @@ or_letter (kind ∷ more) = kind ∷ more
 abbrev pub section_kinds : TableView → List ℕ → List Kind
 section_kinds t left_out = or_letter (kinds_among t (kept t left_out))
 
--- those of the characters that are of one of these kinds
+-- the characters that are of one of these kinds
 abbrev pub of_kinds : TableView → List Kind → List ℕ → List ℕ
 of_kinds t later characters = filter (λ c. list_any (λ kind. is_of t kind c) later) characters
 

@@ -38,7 +38,7 @@ lists_none found = length (clashes_of found) == 0
 abbrev pub list_none : List Section → Bool
 list_none sections = list_all (λ s. lists_none s.found) sections
 
--- those of these clashes that are at none of some pairs of rules
+-- the clashes that are at none of some pairs of rules
 abbrev pub clashes_beside : List (ℕ × ℕ) → List RuleClash → List RuleClash
 clashes_beside pairs clashes = filter (λ clash. not (has_pair pairs (clash.lesser, clash.greater))) clashes
 

@@ -23,7 +23,7 @@ rule_characters t = flat_map (λ rule. rule.chars) t.rules
 abbrev pub is_plain : TableView → ℕ → Bool
 is_plain t c = not (list_any (nat_eq c) (rule_characters t)) && (fold_of t c == c)
 
--- those of the characters that aren't left out
+-- the plain characters of a table that aren't left out
 abbrev pub plain : TableView → List ℕ → List ℕ
 plain t left_out = filter (is_plain t) (kept t left_out)
 
@@ -32,7 +32,7 @@ abbrev pub have_same : Info → Info → Bool
 have_same x y =
     pointwise nat_eq x.cells y.cells && (x.classes.0 == y.classes.0) && beq x.literary y.literary && beq x.mode y.mode && beq x.nocont y.nocont
 
--- the same of two characters
+-- whether two characters have infos with the same cells, classes and flags
 abbrev pub are_equal : TableView → ℕ → ℕ → Bool
 are_equal t c d = option_map_or (λ x. option_map_or (have_same x) (info_of t d) false) (info_of t c) false
 
@@ -48,7 +48,7 @@ first_among t characters c = unwrap_or (find (are_equal t c) characters) c
 unfoldable pub opens_set : TableView → List ℕ → ℕ → Bool
 opens_set t characters c = nat_lt 1 (count_by (are_equal t c) characters) && (first_among t characters c == c)
 
--- those of these that are
+-- the characters that are the first of a set of two or more
 abbrev pub openers : TableView → List ℕ → List ℕ
 openers t characters = filter (opens_set t characters) characters
 
@@ -84,7 +84,7 @@ abbrev pub is_folded : List (ℕ × ℕ) → ℕ × ℕ → ℕ × ℕ → Bool
 is_folded listed rules first =
     not (is_pair rules first) && ((not (rules.0 == rules.1) && (first.0 == first.1)) || has_pair listed (in_order first.0 first.1))
 
--- the same of a clash of a table
+-- whether another line represents a clash of a table
 abbrev pub is_represented : TableView → List ℕ → List (ℕ × ℕ) → RuleClash → Bool
 is_represented t characters listed clash =
     is_folded listed (clash.lesser, clash.greater) (representative t characters clash.lesser, representative t characters clash.greater)

@@ -76,7 +76,7 @@ pub fn section_text(
     Ok(text)
 }
 
-/// Those of these clashes whose pairs of rules aren't listed.
+/// The clashes whose pairs of rules aren't listed yet.
 pub(crate) fn new_clashes(listed: &ListedPairs, clashes: Vec<RuleClash>) -> Vec<RuleClash>
     ensures { result.items ≡ clashes_beside listed.now clashes.items }
 {
@@ -95,7 +95,7 @@ fn push_rules(listed: &mut ListedPairs, clashes: &[RuleClash]) -> Result<(), All
     Ok(())
 }
 
-/// Those of these clashes that no other line represents.
+/// The clashes that no other line represents.
 fn own_clashes(
     table: &Table,
     firsts: &[u32],

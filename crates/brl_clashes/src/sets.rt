@@ -21,8 +21,7 @@ use brl_rules::{Info, Table};
 use brl_without::LeftOut;
 use std::alloc::{AllocError, Global};
 
-/// Those of these characters of a table, which aren't left out, that no rule has, and that are
-/// their own folds.
+/// The characters of a table that aren't left out, that no rule has, and that are their own folds.
 pub fn plain_characters(
     alloc: Global,
     table: &Table,
@@ -70,7 +69,7 @@ fn have_same(one: &Info, other: &Info) -> bool
         && one.nocont == other.nocont
 }
 
-/// The same of two characters of a table.
+/// Whether two characters of a table have the same cells, classes and flags.
 fn are_equal(table: &Table, one: char, other: char) -> bool
     ensures { result ≡ are_equal_in table.now one other }
 {
@@ -169,7 +168,7 @@ pub fn sets_text(alloc: Global, table: &Table, characters: &[char]) -> Result<St
     Ok(text)
 }
 
-/// Those of these characters that are the first of a set of two or more of them.
+/// The characters that are the first of a set of two or more.
 fn openers(alloc: Global, table: &Table, characters: &[char]) -> Result<Vec<char>, AllocError>
     ensures { IfOk result (λ openers. openers.items ≡ openers_among table.now characters.now) }
 {

@@ -45,8 +45,8 @@ pub enum Question<'a> {
         cert: &'a str,
         without: Option<&'a str>,
     },
-    /// The same, but for what the file at `accept` excuses: the pairs of rules that it names are
-    /// accepted, and the characters of its sets may be exchanged.
+    /// Whether a certificate is one, but for what the file at `accept` excuses: the pairs of rules
+    /// that it names are accepted, and the characters of its sets may be exchanged.
     CheckUpTo {
         table: &'a str,
         cert: &'a str,
@@ -62,7 +62,7 @@ pub enum Question<'a> {
         limit: u32,
         without: Option<&'a str>,
     },
-    /// The same, but for what the file at `accept` excuses.
+    /// Whether two texts clash, but for what the file at `accept` excuses.
     SearchUpTo {
         table: &'a str,
         cert: &'a str,
@@ -1105,7 +1105,7 @@ fn read_words<'a>(alloc: Global, words: &'a [String]) -> Result<Work<'a>, Error>
     read_by(alloc, &mut command, words)
 }
 
-/// The same by a command line.
+/// What the words ask for by this command line; an error has the text that answers them.
 fn read_by<'a>(
     alloc: Global,
     command: &mut Command<'a>,

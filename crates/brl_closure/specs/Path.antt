@@ -46,8 +46,8 @@ pub record Continues {S : Type 0} (m : Behaviour S) (states : List S) (pairs : L
   pub ahead_reads : reverse ahead ≡ reads_of one
   pub behind_reads : reverse behind ≡ reads_of two
 
--- the same from the next states of two steps that split: those of the state with this number, at
--- these places
+-- two paths with the same cells from the next states of two steps that split: those of the state
+-- with this number, at these places
 pub record SplitContinues {S : Type 0} (m : Behaviour S) (states : List S) (number longer shorter : ℕ) (ahead behind : List ℕ) : Type 0 where
   pub pair : NumberPair
   pub split : IsSplitOf m states number longer shorter pair

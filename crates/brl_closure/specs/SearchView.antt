@@ -20,8 +20,8 @@ pub record IsOf {M S : Type 0} (machine : M) (limit : ℕ) (it : SearchView M S)
 abbrev pub Stays : {X : Type 0} → List X → List X → Type 0
 Stays {X} old new = (k : ℕ) (x : X) → slice_get old k ≡ Some x → slice_get new k ≡ Some x
 
--- the same search after this number of steps: what it has found stays found, and each step is one
--- less to do
+-- a search that went on for this number of steps: what it has found stays found, and each step is
+-- one less to do
 pub record IsAfter {M S : Type 0} (steps : ℕ) (old new : SearchView M S) : Type 0 where
   pub same_search : IsOf old.machine old.limit new
   pub states : Stays old.states new.states

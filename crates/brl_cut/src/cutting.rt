@@ -134,7 +134,7 @@ pub fn cut_table<S: Source>(
     cut_gathered(alloc, source.folders(), &gathered, root, dir, rewrite)
 }
 
-/// The same of files that are gathered, where they were looked for in these folders too.
+/// Cuts a table whose files are gathered, and were looked for in these folders too.
 fn cut_gathered(
     alloc: Global,
     folders: &[String],

@@ -12,7 +12,7 @@ pub record IsOf {M : Type 0} (machine : M) (limit : ℕ) (it : ListingView M) : 
   pub same_machine : it.machine ≡ machine
   pub same_limit : it.limit ≡ limit
 
--- the same listing after this number of steps: at least this many fewer are left
+-- a listing that went on for this number of steps: at least this many fewer are left
 pub record IsAfter {M : Type 0} (steps : ℕ) (old new : ListingView M) : Type 0 where
   pub same_listing : IsOf old.machine old.limit new
   pub fewer : new.steps_left + steps ≤ old.steps_left

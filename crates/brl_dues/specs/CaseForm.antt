@@ -87,7 +87,7 @@ rule_form before above r run reads next = record {
   above = above;
 }
 
--- the same, if these characters can begin there
+-- the form of a rule that reads these characters, if they can begin there
 abbrev pub rule_forms : TableView → Class → List Rule → Rule → Bool → List ℕ → List CaseForm
 rule_forms t before above r run reads = form_if (rule_form before above r run reads) (further t before run reads)
 
@@ -97,7 +97,7 @@ abbrev pub cased : TableView → Class → List Rule → Rule → List ℕ → �
 cased t before above r others c =
     flat_map (λ chosen. rule_forms t before above r true (c ∷ chosen)) (choices t others) ++ rule_forms t before above r false (c ∷ others)
 
--- the same, where the character folds to the rule's first
+-- the forms of a rule with this character in place of its first, where it folds to that
 abbrev pub cased_if : TableView → Class → List Rule → Rule → List ℕ → ℕ → List CaseForm
 cased_if t before above r [] c = []
 cased_if t before above r (first ∷ others) c = if first == fold_of t c then cased t before above r others c else []

@@ -111,7 +111,7 @@ abbrev pub letter_step : TableView → DuesState → LetterView → ℕ → Bool
 letter_step t s l number run others after cells =
     option_map_or (next_step t s l number run others after cells) (further t s.before run (l.character ∷ others)) []
 
--- the same in a run of capitals
+-- the step of that form in a run of capitals, if the characters can begin there
 abbrev pub caps_run_step : TableView → DuesState → LetterView → ℕ → Cond → List ℕ → List ℕ → List (Step DuesState)
 caps_run_step t s l number after cells others = letter_step t s l number true others after cells
 

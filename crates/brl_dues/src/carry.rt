@@ -198,7 +198,7 @@ fn second_in_rules(table: &CasedTable<'_>, run: bool, second: char) -> u32
     second as u32 + 1
 }
 
-/// The same for each of some rules. `cased` says whether a run of capitals may begin with the
+/// Adds the bars of each of some rules. `cased` says whether a run of capitals may begin with the
 /// character.
 fn add_all_bars(
     alloc: Global,

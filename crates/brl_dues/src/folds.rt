@@ -36,7 +36,7 @@ fn places_of(alloc: Global, letters: &[Letter<'_>]) -> Result<Vec<Place>, AllocE
     Ok(places)
 }
 
-/// Those of some places, in the order of their folds, that have this fold.
+/// The places that have this fold, of places in the order of their folds.
 pub fn with_fold(fold: char, places: &[Place]) -> &[Place]
     requires { IsNonDecreasingBy (λ (place : PlaceValue). place.fold) places.now }
     ensures { result.now ≡ filter (has_fold fold) places.now }

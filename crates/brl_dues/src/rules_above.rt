@@ -56,7 +56,7 @@ impl<'a> RulesAbove<'a> {
         self.all.as_slice()
     }
 
-    /// Those with this second character, from 1 on, or with none for 0.
+    /// The rules whose second character has this number, from 1 on, or that have none, for 0.
     pub fn with_second(&self, second: u32) -> &[Above<'a>]
         ensures { result.now ≡ filter (has_second second) self.now }
     {

@@ -45,8 +45,7 @@ pub record Row : Type 0 where
 abbrev pub row : List ℕ → CertFaultKind → ℕ → Row
 row bytes wrong line = record { bytes = bytes; wrong = wrong; line = line }
 
--- the same certificate with another line at a number, counted from 1: that line is the first faulty
--- one
+-- a certificate with another line at a number, counted from 1: that line is the first faulty one
 abbrev pub with_line : ℕ → CertFaultKind → List ℕ → Row
 with_line n wrong line = row (lines (take (n - 1) three_lines ++ line ∷ drop n three_lines)) wrong n
 

@@ -73,7 +73,8 @@ pub fn letters_are_unambiguous()
     closed_sets_law::<Letters, LetterSets>(&Letters);
 }
 
-/// The same by the numbers of states and pairs.
+/// No two texts of the letters have the same cells, as sets show whose states and pairs have
+/// numbers.
 pub fn numbered_letters_are_unambiguous()
     ensures { IsUnambiguous letters }
 {
@@ -98,7 +99,8 @@ pub fn letters_diverge_at_their_rules()
     divergence_law::<Letters, NoPairs>(&Letters);
 }
 
-/// The same of paths, by the numbers of states and pairs.
+/// Paths with the same cells diverge at the two rules alone, as sets show whose states and pairs
+/// have numbers.
 pub fn numbered_letters_diverge_at_their_rules()
     ensures { DivergeOnlyAt a_or_b letters }
 {

@@ -134,6 +134,6 @@ opcode_line line =
 abbrev pub explanation : List ℕ → List ℕ → List ℕ
 explanation text line = text ++ opcode_line line ++ dots_line line ++ count_line line ++ characters_line line
 
--- the same, if there is a text for its fault
+-- what explains a line, if there is a text for its fault
 abbrev pub explanation_of : List ℕ → Option (List ℕ)
 explanation_of line = option_map (λ text. explanation text line) (text_of_fault line)

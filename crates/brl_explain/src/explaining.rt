@@ -71,7 +71,7 @@ pub(crate) fn text_of_fault(line: &str) -> Option<&'static str>
     text_among(&FAULTS, code_of(line))
 }
 
-/// The same, as a text.
+/// The first of these texts that is for a code.
 fn text_among<'a>(texts: &[&'a str], code: &str) -> Option<&'a str>
     ensures { option_map (λ text. text.now) result ≡ find (explains code.now) (map (λ text. text.now) texts.now) }
 {

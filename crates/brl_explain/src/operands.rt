@@ -199,7 +199,7 @@ fn undefined_in(
     }
 }
 
-/// Those of some characters that aren't among others, each after a blank.
+/// The characters that aren't among these known ones, each after a blank.
 fn undefined_among(
     alloc: Global,
     known: &IndexMap<char, Info>,

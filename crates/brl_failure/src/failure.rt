@@ -16,7 +16,7 @@ pub enum Failure<E> {
 }
 
 impl<E> Failure<E> {
-    /// The same failure, with its fault converted.
+    /// This failure, with its fault converted.
     pub fn map<F, G: FnOnce(E) -> F>(self, change: G) -> Failure<F>
         requires { IfFault (G.pre change) self }
         ensures { IsChanged (G.post change) self result }

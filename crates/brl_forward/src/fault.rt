@@ -15,7 +15,7 @@ impl ForwardFault {
     ghost use Rattle.std.specs.Prelude.{◌≡◌};
     ghost use Rattle.brl_forward.specs.Faults.{fault_of_side};
 
-    /// The same fault, as that of one of two texts.
+    /// This fault, as that of one of two texts.
     pub(crate) fn of_side(self, side: Side) -> ConfirmFault
         ensures { result ≡ fault_of_side side self }
     {

@@ -30,7 +30,7 @@ MayAnswer gives path answer = IsTrue (gives.may path answer)
 abbrev pub IsDeterministic : FileAnswers → Type 0
 IsDeterministic gives = (path : List ℕ) (one other : FileAnswer) → MayAnswer gives path one → MayAnswer gives path other → one ≡ other
 
--- the same answers, where files are looked for in these folders
+-- this source, where files are looked for in these folders
 abbrev pub looking : List (List ℕ) → FileAnswers → FileAnswers
 looking folders gives = record { folders = folders; may = gives.may }
 

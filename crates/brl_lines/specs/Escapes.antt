@@ -50,7 +50,7 @@ abbrev pub or_else : Option ℕ → Option (ℕ × ℕ) → Option (ℕ × ℕ)
 or_else (Some c) other = Some (c, 1)
 or_else None other = other
 
--- the same of any escape, whose marks follow the backslash
+-- any escape, whose marks follow the backslash: its character, and how many of the marks it takes
 abbrev pub escape : List ℕ → Option (ℕ × ℕ)
 escape [] = None
 escape (mark ∷ marks) = or_else (named mark) (numbered mark marks)

@@ -65,7 +65,7 @@ IsFaultAs stops.Unknown gives answers stop fault =
     ((most_paths gives.folders ≤ length answers) × IsRefusalAt kinds.TooManyIncludes stop fault)
     ⊎ (IsNowhere answers stop fault ⊎ IsUnreadAt gives stop fault)
 
--- the same by the stop alone
+-- the fault at a stop, by the stop alone
 abbrev pub IsFaultAtStop : FileAnswers → Answers → StopView → GatherFault → Type 0
 IsFaultAtStop gives answers stop fault = IsFaultAs stop.kind gives answers stop fault
 

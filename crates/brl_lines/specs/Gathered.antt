@@ -44,7 +44,7 @@ KnownPaths = List (String Global × Known)
 abbrev pub known_answers : KnownPaths → Answers
 known_answers entries = map (λ entry. (string_bytes entry.0, answer_of_known entry.1)) entries
 
--- the same as a function
+-- what the source answered for a path, if it is one of these
 abbrev pub known_answer : KnownPaths → List ℕ → Option FileAnswer
 known_answer entries = answer_at (known_answers entries)
 

@@ -122,7 +122,7 @@ taken visit folders answer root file include way =
     else if not (is_plain include.name) then Err (stop stops.LeadsOut include.name (Some (place_of file include)))
     else led visit answer (found folders answer (included root include.name) include.name) file include way
 
--- the same at these include lines, one after the other
+-- the way on at these include lines, one after the other
 abbrev pub taken_all : Visit → List (List ℕ) → (List ℕ → Option FileAnswer) → List ℕ → List ℕ → List IncludeView → WayView → Result WayView StopView
 taken_all visit folders answer root file [] way = Ok way
 taken_all visit folders answer root file (include ∷ includes) way = do
@@ -134,7 +134,8 @@ abbrev pub entered : Visit → List (List ℕ) → (List ℕ → Option FileAnsw
 entered visit folders answer root place path (Some bytes) way = taken_all visit folders answer root path (includes_in (without_mark bytes)) (with_file way path)
 entered visit folders answer root place path None way = Err (stop stops.Unknown path place)
 
--- the same, where this many files may lead down from it, itself counted
+-- the way on through the file at a path, where this many files may lead down from it, itself
+-- counted
 unfoldable pub through : ℕ → List (List ℕ) → (List ℕ → Option FileAnswer) → List ℕ → Visit
 through zero folders answer root place path way = Err (stop stops.TooDeep path place)
 through (suc depth) folders answer root place path way = entered (through depth folders answer root) folders answer root place path (held (answer path)) way

@@ -22,7 +22,7 @@ AreGiven gives answers = AllByRecursion (λ entry. MayAnswer gives entry.0 entry
 abbrev pub AreLinesOf : FileAnswers → List ℕ → List LineView → Type 0
 AreLinesOf gives root lines = (answers : Answers) × AreGiven gives answers × (lines_of gives.folders answers root ≡ Ok lines)
 
--- the same, by answers for just these paths
+-- the lines of the table whose root is at a path, by answers of the source for just these paths
 abbrev pub AreLinesOfFiles : FileAnswers → List ℕ → List (List ℕ) → List LineView → Type 0
 AreLinesOfFiles gives root paths lines =
     (answers : Answers) × AreGiven gives answers × (map (λ entry. entry.0) answers ≡ paths) × (lines_of gives.folders answers root ≡ Ok lines)

@@ -63,7 +63,7 @@ pub record IsRow (files : Files) (file : OpenFile) (number from : ℕ) (row : Fi
   pub left : lines_from (string_bytes file.path) number (piece (text_at files file.index) from (length (text_at files file.index)))
       ≡ span_lines files row.span ++ lines_from (string_bytes file.path) (number + 1) (piece (text_at files file.index) row.next (length (text_at files file.index)))
 
--- the same, or no row is left
+-- the next row of a file from a place on, or none is left
 abbrev pub IsRowAt : Files → OpenFile → ℕ → ℕ → Option FileRow → Type 0
 IsRowAt files file number from None = from ≡ length (text_at files file.index)
 IsRowAt files file number from (Some row) = IsRow files file number from row
@@ -89,7 +89,7 @@ pub record FailsAs {U : Type 0} (gives : FileAnswers) (files : Files) (want : (L
   pub fails : want (answer_at answers) ≡ Err fault
   pub unreadable : IsReadFailure gives fault
 
--- the same of the fault with which a step failed, unless memory ran out
+-- a step failed with this fault, by what the source may answer, unless memory ran out
 abbrev pub Fails : {U : Type 0} → FileAnswers → Files → ((List ℕ → Option FileAnswer) → Result U Refusal) → Failure LoadFault → Type 0
 Fails gives files want failure = IfFault (λ fault. FailsAs gives files want (load_fault_view fault)) failure
 

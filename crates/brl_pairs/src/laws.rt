@@ -51,7 +51,7 @@ pub fn divergence_law<M: Machine, C: Sets<M::State>>(machine: &M)
     let _ = machine.start();
 }
 
-/// The same for sets that are given by numbers.
+/// `divergence_law` for sets whose states and pairs have numbers.
 pub fn numbered_divergence_law<M: Machine>(machine: &M)
     ensures paths { (rules : List (ℕ × ℕ)) (states : ℕ → Option M.State) (pairs : ℕ → Option (PairValue M.State)) →
         IsClosedBut (M.behaviour machine.now) rules (numbered states pairs) → DivergeOnlyAt rules (M.behaviour machine.now) }
@@ -77,7 +77,7 @@ pub fn exchange_law<M: Machine, C: Sets<M::State>>(machine: &M)
     let _ = machine.start();
 }
 
-/// The same for sets that are given by numbers.
+/// `exchange_law` for sets whose states and pairs have numbers.
 pub fn numbered_exchange_law<M: Machine>(machine: &M)
     ensures paths { (exchanged rules : List (ℕ × ℕ)) (states : ℕ → Option M.State) (pairs : ℕ → Option (PairValue M.State)) →
         IsClosedUpTo (M.behaviour machine.now) exchanged rules (numbered states pairs) → PathsDifferByExchangesBut exchanged rules (M.behaviour machine.now) }

@@ -91,7 +91,7 @@ filled width text = text ++ repeat (width - width_of text) (codes " ")
 abbrev pub column : ℕ → List ℕ → List ℕ
 column width entry = codes "  " ++ filled width entry
 
--- the same of a column that may not be there
+-- an entry of a column, if the column is there
 abbrev pub column_if : ℕ → Option (List ℕ) → List ℕ
 column_if width None = []
 column_if width (Some entry) = column width entry

@@ -80,7 +80,7 @@ pub record ListedView : Type 0 where
   pub file : ℕ
   pub line : ℕ
 
--- the same, as the code has it
+-- a listed rule, as the code has it
 abbrev pub listed_view : Listed → ListedView
 listed_view x = record { characters = x.characters.now; cells = x.cells.now; file = x.file; line = x.line }
 

@@ -40,8 +40,8 @@ pub fn report(alloc: Global, table: &Table, clash: &Clash) -> Result<String, Rep
     report_with(alloc, table, &[], clash)
 }
 
-/// The same report, where each step's line is followed by those of `lines` by which the step is
-/// made: the lines of its indicators, and that of its rule.
+/// The report of a clash, where each step's line is followed by those of `lines` by which the step
+/// is made: the lines of its indicators, and that of its rule.
 pub fn report_with(
     alloc: Global,
     table: &Table,

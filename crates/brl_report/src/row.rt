@@ -177,7 +177,7 @@ fn push_column(
     text.push_str(blanks.as_str())
 }
 
-/// The same of a column that may not be there.
+/// Appends the entry of a column, if the column is there.
 fn push_column_if(
     alloc: Global,
     text: &mut String,

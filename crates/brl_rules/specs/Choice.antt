@@ -40,7 +40,7 @@ fits t before rest r =
 abbrev pub place_allows : TableView → Class → List ℕ → Rule → Bool
 place_allows t before rest r = holds (before_of r.place) before && holds (after_of r.place before) (classes_at t rest (length r.chars))
 
--- the same of the rule with this number
+-- the neighbours of the rule with this number meet the conditions of its place
 abbrev pub place_allows_number : TableView → Class → List ℕ → ℕ → Bool
 place_allows_number t before rest number = option_map_or (place_allows t before rest) (slice_get t.rules number) false
 

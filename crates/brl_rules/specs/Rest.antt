@@ -1,5 +1,5 @@
--- The same translation without positions, by the context and the rest of the text: so a machine
--- reads it.
+-- The translation of a text without positions, by the context and the rest of the text: so a
+-- machine reads it.
 use Rattle.std.specs.Prelude.{ℕ, zero, suc, ◌≡◌, List, [], ◌∷◌, ◌++◌, length, take, drop}
 use Rattle.brl_rules.specs.declared.context.Context.{Context}
 use Rattle.brl_rules.specs.TableView.{TableView}

@@ -47,8 +47,8 @@ impl Table {
         }
     }
 
-    /// The same, given the info of the first character and whether `rest` begins in a run of
-    /// capitals.
+    /// The choice for `rest`, given the info of its first character and whether it begins in a run
+    /// of capitals.
     pub fn choice_of<'a>(
         &'a self,
         info: &'a Info,

@@ -59,7 +59,7 @@ impl Table {
         }
     }
 
-    /// The same, given the info of the first character.
+    /// Whether `rest` begins in a run of capitals, given the info of its first character.
     pub fn is_in_caps_run_of(&self, info: &Info, before: Class, rest: &[char]) -> bool
         requires { first_info self.now rest.now ≡ Some info.now }
         ensures { result ≡ is_in_caps_run self.now before rest.now }

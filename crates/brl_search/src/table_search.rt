@@ -49,7 +49,7 @@ pub fn search(alloc: Global, table: &Table, limit: u64) -> Result<Found, SearchF
     search_silently(alloc, table, limit, &left_out)
 }
 
-/// The same of texts that use none of some characters. Nothing is reported.
+/// Searches a table for texts that use none of some characters, and reports nothing.
 fn search_silently(
     alloc: Global,
     table: &Table,

@@ -39,7 +39,7 @@ small_letter line = option_to_list (option_and_then
     (λ (pair : List ℕ × List ℕ). option_and_then (λ (upper : ℕ). option_map (λ (lower : ℕ). (upper, lower)) (one_character pair.1)) (one_character pair.0))
     (capital_words (words_of line)))
 
--- those of all lines, the last of each capital
+-- the small letters that `base uppercase` lines give capitals, the last of each capital
 abbrev pub small_letters : List LineView → List (ℕ × ℕ)
 small_letters lines = insert_all nat_eq [] (flat_map small_letter lines)
 
@@ -65,7 +65,7 @@ own_piece entry = record { chars = entry.0 ∷ []; cells = entry.1.cells }
 abbrev pub small_piece : Alphabet → ℕ × Info → List Piece
 small_piece alphabet entry = if nat_eq (fold_of alphabet entry.0) entry.0 then own_piece entry ∷ [] else []
 
--- those of all characters
+-- the own pieces of all characters that are no capitals of others
 abbrev pub own_pieces : Alphabet → List Piece
 own_pieces alphabet = flat_map (small_piece alphabet) alphabet.infos.entries
 

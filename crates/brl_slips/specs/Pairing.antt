@@ -79,7 +79,8 @@ AreFound lexicon one other found = MatchOption found
 abbrev pub IsPairBelow : Lexicon → ℕ → Twins → Type 0
 IsPairBelow lexicon end twins = IsCandidate lexicon twins × (twins.other < end)
 
--- the same, and of the next rule those whose earlier is one of these
+-- twins that may be shown, whose later rule has a number below this one; and those of the next rule
+-- whose earlier rule is one of these
 abbrev pub IsPairWith : Lexicon → ℕ → List ℕ → Twins → Type 0
 IsPairWith lexicon other ones twins = IsCandidate lexicon twins × ((twins.other < other) ⊎ ((twins.other ≡ other) × Contains ones twins.one))
 

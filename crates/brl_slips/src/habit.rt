@@ -256,7 +256,7 @@ fn place_of_tally(tallies: &[Tally], case: &Case) -> Option<usize>
         .position(|tally| case.difference == tally.difference)
 }
 
-/// Those differences that are in four slips or more, in the order of their tallies.
+/// The differences that are in four slips or more, in the order of their tallies.
 fn often(alloc: Global, tallies: &[Tally]) -> Result<Vec<Habit>, AllocError>
     ensures { IfOk result (λ habits. habits.items ≡ map habit_of (filter is_often tallies.now)) }
 {

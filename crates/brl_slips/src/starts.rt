@@ -47,7 +47,7 @@ impl Index {
         Ok(starts)
     }
 
-    /// The same of one place.
+    /// The pieces with which the text goes on at one place.
     fn starting_at(
         &self,
         alloc: Global,

@@ -156,7 +156,7 @@ ResolvesLine characters line item old new (Ok done) =
     (reference_fault (over characters) line item ≡ None) × (new ≡ old ++ map (rule_of (over characters)) (used_in item))
 ResolvesLine characters line item old new (Err failure) = IfFault (λ found. reference_fault (over characters) line item ≡ Some found) failure
 
--- the same of a line whose rule isn't kept
+-- the second pass over one line whose rule isn't kept: its fault is returned, if it has one
 abbrev pub FindsReference : List (ℕ × Info) → LineView → Item → Result (Unit {0}) (Failure Fault) → Type 0
 FindsReference characters line item (Ok done) = reference_fault (over characters) line item ≡ None
 FindsReference characters line item (Err failure) = IfFault (λ found. reference_fault (over characters) line item ≡ Some found) failure

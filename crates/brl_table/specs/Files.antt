@@ -15,7 +15,7 @@ use Rattle.brl_rules.specs.TableView.{TableView}
 abbrev pub IsTableOf : FileAnswers → List ℕ → TableView → Type 0
 IsTableOf gives root t = (lines : List LineView) × AreLinesOf gives root lines × PassesAll lines × (t ≡ table_of lines)
 
--- the same, by just the files at these paths
+-- the table with its root at this path, by just the files at these paths
 abbrev pub IsTableOfFiles : FileAnswers → List ℕ → List (List ℕ) → TableView → Type 0
 IsTableOfFiles gives root paths t = (lines : List LineView) × AreLinesOfFiles gives root paths lines × PassesAll lines × (t ≡ table_of lines)
 

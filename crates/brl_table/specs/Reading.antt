@@ -289,7 +289,8 @@ reference_fault t line (Lists l) =
     else None
 reference_fault t line other = None
 
--- the same of a line that was read; a line with a fault of its own refers to nothing
+-- the fault of what a line refers to, where it was read; a line with a fault of its own refers to
+-- nothing
 abbrev pub reference_fault_of : TableView → LineView → Result Item Fault → Option Fault
 reference_fault_of t line (Ok item) = reference_fault t line item
 reference_fault_of t line (Err wrong) = None

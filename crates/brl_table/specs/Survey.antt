@@ -65,7 +65,7 @@ faulty_line_view faulty = record { opcode = string_bytes faulty.opcode; fault = 
 abbrev pub faulty_line : LineView → Fault → FaultyLineView
 faulty_line line wrong = record { opcode = named_opcode line; fault = record { fault = wrong; file = line.file; line = line.line } }
 
--- the same as a list; empty for a line without a fault
+-- a line with its fault, as a list; empty for a line without a fault
 abbrev pub faulty_line_if : LineView → Option Fault → List FaultyLineView
 faulty_line_if line None = []
 faulty_line_if line (Some wrong) = faulty_line line wrong ∷ []

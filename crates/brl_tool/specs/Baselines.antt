@@ -60,7 +60,7 @@ IsTakenOut names listed whole text prune pairs taken =
       pruned = prune;
     }))
 
--- the same of the pairs that sections list, where a file is read; nothing without one
+-- what is taken out of the pairs that sections list, where a file is read; nothing without one
 abbrev pub AreExcused : Option (List ℕ) → Bool → TableView → List LineView → List Section → List (ℕ × ℕ) → Option Taken → Type 0
 AreExcused None prune t lines sections pairs taken = (pairs ≡ []) × (taken ≡ None)
 AreExcused (Some text) prune t lines sections pairs taken = IsTakenOut (names_of_table t lines) (listed_pairs sections) (are_whole sections) text prune pairs taken

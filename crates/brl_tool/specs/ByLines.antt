@@ -14,7 +14,7 @@ abbrev pub ByGivenLines : FileAnswers → List ℕ → (List LineView → Result
 ByGivenLines gives path answers outcome =
     (paths : List (List ℕ)) × (lines : List LineView) × AreLinesOfFiles gives path paths lines × PassesAll lines × answers lines outcome
 
--- the same, or there is no table at the path
+-- what is answered by the lines of the table at a path, or why there is no table
 abbrev pub ByLines : FileAnswers → List ℕ → (List LineView → Result Answer RunFault → Type 0) → Result Answer RunFault → Type 0
 ByLines gives path answers (Err (Load fault)) = HasNoTable gives path (Load fault)
 ByLines gives path answers (Err (Table fault)) = HasNoTable gives path (Table fault)

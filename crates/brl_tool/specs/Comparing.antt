@@ -31,12 +31,12 @@ Compares t lines left right (Err (Confirm fault)) = IsFaultOfTwo t left right fa
 Compares t lines left right (Err Memory) = Unit {0}
 Compares t lines left right (Err fault) = ⊥
 
--- the same by the table of the file at a path, whose lines are shown or not
+-- two texts were compared by the table of the file at a path, whose lines are shown or not
 abbrev pub ComparesByFile : Bool → FileAnswers → List ℕ → List ℕ → List ℕ → Result Answer RunFault → Type 0
 ComparesByFile with_lines gives path left right outcome =
     ByLines gives path (λ lines. Compares (table_of lines) (shown_lines with_lines lines) left right) outcome
 
--- the same for the texts of two words, with or without escapes; the left one is read first
+-- the texts of two words were compared, with or without escapes; the left one is read first
 abbrev pub ComparesByWords : TextOptions → FileAnswers → List ℕ → List ℕ → List ℕ → Result Answer RunFault → Type 0
 ComparesByWords options gives path left right outcome =
     ByText options.escapes left (λ l. ByText options.escapes right (ComparesByFile options.lines gives path l)) outcome

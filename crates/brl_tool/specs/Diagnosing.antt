@@ -60,8 +60,8 @@ Diagnoses left_out gives t lines limit first pairs (Err (Load fault)) =
 Diagnoses left_out gives t lines limit first pairs (Err Memory) = Unit {0}
 Diagnoses left_out gives t lines limit first pairs (Err fault) = ⊥
 
--- the same by the table of the file at a path, where the file that is written is none that is only
--- read
+-- the clashes of the table of the file at a path were listed, where the file that is written is
+-- none that is only read
 abbrev pub DiagnosesTable : List ℕ → FileAnswers → List ℕ → ℕ → ℕ → PairFiles → Result Answer RunFault → Type 0
 DiagnosesTable left_out gives path limit first pairs outcome =
     (paths : List (List ℕ)) × (lines : List LineView) × AreLinesOfFiles gives path paths lines × PassesAll lines × IsApart (written_path pairs) (only_read paths pairs)

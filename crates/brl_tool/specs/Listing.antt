@@ -26,6 +26,6 @@ Lists t lines numbers (Err (NoSuchRule number)) = first_unknown t numbers ≡ So
 Lists t lines numbers (Err Memory) = Unit {0}
 Lists t lines numbers (Err fault) = ⊥
 
--- the same by the lines of the table at a path
+-- the rules of the table at a path were listed, by its lines
 abbrev pub ListsByFile : FileAnswers → List ℕ → List ℕ → Result Answer RunFault → Type 0
 ListsByFile gives path numbers outcome = ByLines gives path (λ lines. Lists (table_of lines) lines numbers) outcome

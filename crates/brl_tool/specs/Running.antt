@@ -158,7 +158,7 @@ ReportsOther before after path option pairs =
     × ((lines : List LineView) × (accepted : List (ℕ × ℕ)) × WritesList before after path left_out pairs lines accepted
     × ((r s : ℕ) × ClashesDiverge left_out (table_of lines) r s × (has_pair accepted (r, s) ≡ false)))
 
--- the same of the table of the file at some path, with some options
+-- another pair of rules of the table of the file at some path was listed, with some options
 abbrev pub ReportsClashes : World → World → Type 0
 ReportsClashes before after = (path : List ℕ) × (option : Option (List ℕ)) × (pairs : PairFiles) × ReportsOther before after path option pairs
 
@@ -232,7 +232,8 @@ CutsUnknown before after path dir rewrite =
     WritesTable before after path dir
     × ((cut : Cut) × IsCut rewrite before.gives path dir cut × (has_unknown_opcode (map faulty_line_view cut.left_out.items) ≡ true))
 
--- the same of the table at some path, for some folder
+-- the table at some path was cut into some folder, and a line that is left out has an unknown
+-- opcode
 abbrev pub ReportsUnknown : World → World → Type 0
 ReportsUnknown before after = (path dir : List ℕ) × (rewrite : Bool) × CutsUnknown before after path dir rewrite
 

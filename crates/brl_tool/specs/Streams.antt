@@ -29,7 +29,8 @@ abbrev pub WritesLines : GivesLines → FileAnswers → List ℕ → Form → Op
 WritesLines lines gives path form input old new outcome =
     (t : TableView) × IsTableOf gives path t × ((bytes : List ℕ) → input ≡ Some bytes → HasWritten (lines t form bytes) old new outcome)
 
--- the same by the outcome of the work; where there is no table, nothing was written
+-- what the input's lines give was written, by the outcome of the work; where there is no table,
+-- nothing was written
 abbrev pub TranslatesBy : GivesLines → FileAnswers → List ℕ → Form → Option (List ℕ) → Option (List ℕ) → Option (List ℕ) → Result (Unit {0}) RunFault → Type 0
 TranslatesBy lines gives path form input old new (Ok done) = WritesLines lines gives path form input old new (Ok done)
 TranslatesBy lines gives path form input old new (Err (Stream fault)) = WritesLines lines gives path form input old new (Err (failures.Fault fault))

@@ -44,7 +44,7 @@ abbrev pub IsReportIfLoaded : Bool → FileAnswers → List ℕ → Option (List
 IsReportIfLoaded brief gives path (Some text) suspect = IsReportAt brief gives path text suspect
 IsReportIfLoaded brief gives path None suspect = (fault : LoadFault) × IsUnloaded gives path fault × (suspect ≡ false)
 
--- the same of a part
+-- a part of a survey is the report of the table at its path, or that table can't be loaded
 abbrev pub IsPart : Bool → FileAnswers → Part → Type 0
 IsPart brief gives part = IsReportIfLoaded brief gives part.path part.report part.suspect
 

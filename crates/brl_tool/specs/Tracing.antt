@@ -23,11 +23,11 @@ Traces t lines text (Err (Text fault)) = IsFaultOf t text fault
 Traces t lines text (Err Memory) = Unit {0}
 Traces t lines text (Err fault) = ⊥
 
--- the same by the table of the file at a path, whose lines are shown or not
+-- a text was traced by the table of the file at a path, whose lines are shown or not
 abbrev pub TracesByFile : Bool → FileAnswers → List ℕ → List ℕ → Result Answer RunFault → Type 0
 TracesByFile with_lines gives path text outcome =
     ByLines gives path (λ lines. Traces (table_of lines) (shown_lines with_lines lines) text) outcome
 
--- the same for the text of a word, with or without escapes
+-- the text of a word was traced, with or without escapes
 abbrev pub TracesByWord : TextOptions → FileAnswers → List ℕ → List ℕ → Result Answer RunFault → Type 0
 TracesByWord options gives path word outcome = ByText options.escapes word (TracesByFile options.lines gives path) outcome

@@ -46,6 +46,6 @@ ListsUnused t lines limit (Ok answer) = IsUnusedAnswer t lines limit answer
 ListsUnused t lines limit (Err Memory) = Unit {0}
 ListsUnused t lines limit (Err fault) = ⊥
 
--- the same by the lines of the table at a path
+-- the unused rules of the table at a path were listed, by its lines
 abbrev pub ListsUnusedByFile : FileAnswers → List ℕ → ℕ → Result Answer RunFault → Type 0
 ListsUnusedByFile gives path limit outcome = ByLines gives path (λ lines. ListsUnused (table_of lines) lines limit) outcome

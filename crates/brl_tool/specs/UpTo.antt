@@ -105,7 +105,8 @@ IsJudgementUpTo left_out excused sets t bytes answer =
     × ((accepted : Accepted) × IsAcceptedUpTo left_out excused t bytes accepted × IsAcceptanceUpTo left_out excused sets accepted answer))
     ⊎ ((fault : JudgeFault) × IsOfCertificate fault × IsRefusedFor (closed_up_to left_out excused) t bytes fault × IsRefusal answer)
 
--- the same, or the table is too wide for the certificate's version; or memory ran out
+-- a certificate's bytes were judged for a table, or it is too wide for the certificate's version;
+-- or memory ran out
 abbrev pub JudgesUpTo : List ℕ → TableView → List ℕ → Excused → ℕ → Result Answer RunFault → Type 0
 JudgesUpTo left_out t bytes excused sets (Ok answer) = IsJudgementUpTo left_out excused sets t bytes answer
 JudgesUpTo left_out t bytes excused sets (Err (Wide fault)) = IsRefusedFor (closed_up_to left_out excused) t bytes (judge.Wide fault)
@@ -118,12 +119,13 @@ abbrev pub JudgesLinesUpTo : List ℕ → FileAnswers → List ℕ → List ℕ 
 JudgesLinesUpTo left_out gives path accept bytes outcome =
     ByGivenLines gives path (λ lines. ByExcusal left_out gives accept (table_of lines) lines (JudgesUpTo left_out (table_of lines) bytes)) outcome
 
--- the same, or there is no table
+-- the certificate with these bytes was judged so for the table of the file at a path, or there is
+-- no table
 abbrev pub JudgesFileUpTo : List ℕ → FileAnswers → List ℕ → List ℕ → List ℕ → Result Answer RunFault → Type 0
 JudgesFileUpTo left_out gives path accept bytes (Ok answer) = JudgesLinesUpTo left_out gives path accept bytes (Ok answer)
 JudgesFileUpTo left_out gives path accept bytes (Err fault) = HasNoTable gives path fault ⊎ JudgesLinesUpTo left_out gives path accept bytes (Err fault)
 
--- the same of the certificate in the file at a path, or it has no bytes
+-- the certificate in the file at a path was judged so, or that file has no bytes
 abbrev pub ChecksUpTo : List ℕ → FileAnswers → List ℕ → List ℕ → List ℕ → Result Answer RunFault → Type 0
 ChecksUpTo left_out gives path cert accept (Ok answer) =
     (bytes : List ℕ) × MayAnswer gives cert (Holds bytes) × JudgesFileUpTo left_out gives path accept bytes (Ok answer)
@@ -169,8 +171,8 @@ SearchesLinesUpTo left_out gives path out limit accept outcome =
     × All (λ one. one ≢ out) (read_paths paths (Some accept))
     × ByExcusal left_out gives accept (table_of lines) lines (FindsUpTo left_out (table_of lines) out limit) outcome
 
--- The same. Or there is no table; or the file for the certificate is one that is read. `same` says
--- which paths may name one file.
+-- The table of the file at a path was searched so. Or there is no table; or the file for the
+-- certificate is one that is read. `same` says which paths may name one file.
 abbrev pub SearchesUpTo : List ℕ → FileAnswers → MayBeSame → List ℕ → List ℕ → ℕ → List ℕ → Result Answer RunFault → Type 0
 SearchesUpTo left_out gives same path out limit accept (Err (Table fault)) = HasNoTable gives path (Table fault)
 SearchesUpTo left_out gives same path out limit accept (Err (Load fault)) =

@@ -125,7 +125,7 @@ abbrev pub IsFileWith : List ℕ → List ℕ → NewFiles → Type 0
 IsFileWith path bytes (InPlace file) = (string_bytes file.path ≡ path) × (file.bytes.items ≡ bytes)
 IsFileWith path bytes files = ⊥
 
--- the same with the bytes of a certificate
+-- one file, in place of what is at a path, with the bytes of a certificate
 abbrev pub IsFileOf : Certificate → List ℕ → NewFiles → Type 0
 IsFileOf cert path files = IsFileWith path (spelling cert) files
 

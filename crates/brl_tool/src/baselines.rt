@@ -102,7 +102,7 @@ pub struct Baseline<'a> {
 /// What a file takes out of the sections of a table, and its stale lines.
 #[derive(Drop)]
 pub struct Exempt {
-    /// Those of the pairs of rules that the sections list that are excused.
+    /// The pairs of rules that the sections list and that are excused.
     pub pairs: Vec<(u32, u32)>,
     /// How much is taken out, where a file is read.
     pub taken: Option<Taken>,

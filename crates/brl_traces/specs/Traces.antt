@@ -77,7 +77,8 @@ ClashesDivergeAt rules t =
     (left right : List ℕ) → IsTrue (is_text t left) → IsTrue (is_text t right) → translation t left ≡ translation t right
     → (left ≡ right) ⊎ TracesDivergeAt t rules left right
 
--- the same of two texts that use none of some characters
+-- two texts with the same cells that use none of some characters are equal, or their traces diverge
+-- at one of these pairs of rules
 abbrev pub ClashesDivergeAtWithout : List ℕ → List (ℕ × ℕ) → TableView → Type 0
 ClashesDivergeAtWithout left_out rules t =
     (left right : List ℕ) → IsTrue (is_text t left) → IsTrue (is_text t right) → IsTrue (uses_none left_out left) → IsTrue (uses_none left_out right)

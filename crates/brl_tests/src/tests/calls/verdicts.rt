@@ -143,7 +143,7 @@ fn lists_both_without(alloc: Global, table: &Table, left_out: &LeftOut) -> bool 
     }
 }
 
-/// The same of the list of all its clashes.
+/// Whether the list of all clashes of a table has both pairs of rules.
 fn lists_both(alloc: Global, table: &Table) -> bool {
     let left_out = LeftOut::none(alloc);
     lists_both_without(alloc, table, &left_out)
@@ -211,7 +211,8 @@ fn is_judged_up_to(
     }
 }
 
-/// The same for the table of two letters with the same cells, up to their pair of rules.
+/// Whether the certificate of the table of two letters with the same cells is accepted up to their
+/// pair of rules.
 fn judges_up_to(alloc: Global) -> Result<bool, Fail> {
     let mut files = one_file(alloc, "t.ctb", b"letter a 1\nletter b 1\n")?;
     let excused = pair_excused(alloc)?;

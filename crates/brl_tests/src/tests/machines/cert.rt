@@ -48,7 +48,7 @@ BRLCERT 4294967296;state 1 0 0 -;state 8 0 0 61;state 8 0 1 -;pair 1 2 -;end 3 1
 BRLCERT 1;state 1 0;end 1 0;|K2 Syntax line 2
 ";
 
-/// The same of versions 2 and 3.
+/// Certificates of versions 2 and 3, and how they are read.
 const READINGS_OF_DUES: &str = "\
 BRLCERT 2;state 1 0;state 8 0;state 8 0 b62*;pair 1 2 12;end 3 1;|certificate
 BRLCERT 2;state 1 0;end 1 0;|certificate

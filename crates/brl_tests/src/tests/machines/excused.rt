@@ -120,7 +120,7 @@ fn judged_but_for(
     answer_up_to(alloc, table.as_slice(), cert.as_slice(), excused)
 }
 
-/// The same, but for what a field excuses.
+/// The answer of the judge, but for what a field excuses.
 fn judged(alloc: Global, table: &str, cert: &str, excused: &str) -> Result<String, Fail> {
     let excused = excused_of(alloc, excused)?;
     judged_but_for(alloc, table, cert, &excused)
@@ -199,7 +199,7 @@ fn count_needed(
     Ok(needed)
 }
 
-/// The same in words, or the refusal where all pairs of the list are accepted.
+/// How many pairs of the list are needed, in words, or the refusal where all of them are accepted.
 fn needed_of(alloc: Global, table: &[u8], cert: &[u8], list: &[RuleClash]) -> Result<String, Fail> {
     let answer = answer_but(alloc, table, cert, list, list.len())?;
     if answer.as_str().starts_with("A") {
@@ -391,7 +391,7 @@ fn agreement(
     Ok(format!(in alloc; "{count} agree")?)
 }
 
-/// The same of all texts of up to four of these characters.
+/// Whether all texts of up to four of these characters agree, or two that don't.
 fn agreement_of(
     alloc: Global,
     table: &Table,
@@ -418,7 +418,7 @@ fn agreed_by(
     agreement_of(alloc, table, characters, excused)
 }
 
-/// The same of a table with these lines.
+/// Whether the texts of a table with these lines agree but for what is excused.
 fn agreed_but_for(
     alloc: Global,
     lines: &str,
@@ -430,7 +430,7 @@ fn agreed_but_for(
     agreed_by(alloc, &table, bytes.as_bytes(), characters, excused)
 }
 
-/// The same, but for what a field excuses.
+/// Whether the texts of a table agree, but for what a field excuses.
 fn agreed(alloc: Global, lines: &str, characters: &str, excused: &str) -> Result<String, Fail> {
     let excused = excused_of(alloc, excused)?;
     agreed_but_for(alloc, lines, characters, &excused)
@@ -466,7 +466,7 @@ fn found_among(alloc: Global, pairs: &RulePairs, rules: &str) -> Result<String, 
     }
 }
 
-/// The same among the pairs of a field.
+/// What is found of two rules among the pairs of a field.
 fn looked_up(alloc: Global, pairs: &str, rules: &str) -> Result<String, Fail> {
     let pairs = pairs_after(alloc, pairs, "a")?;
     found_among(alloc, &pairs, rules)

@@ -66,7 +66,7 @@ fn seed_of_found(found: &Found) -> Option<Seed> {
     }
 }
 
-/// The same of the search of a table.
+/// The seed of the certificate that the search of a table finds.
 fn seed_of_search(alloc: Global, table: &Table) -> Result<Option<Seed>, Fail> {
     let found = search(alloc, table, 1000)?;
     Ok(seed_of_found(&found))
@@ -80,7 +80,7 @@ fn seed_of_whole(found: &ClashList) -> Option<Seed> {
     }
 }
 
-/// The same of the list of a table's clashes.
+/// The seed of the states and pairs of a table's list of clashes.
 fn seed_of_list(alloc: Global, table: &Table) -> Result<Option<Seed>, Fail> {
     let found = clashes_of(alloc, table)?;
     Ok(seed_of_whole(&found))

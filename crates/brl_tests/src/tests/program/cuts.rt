@@ -32,7 +32,7 @@ t.ctb: include u & one/u: letter a 1||t.ctb|o/t.ctb: # L1 NotFound u: include u
 t.ctb: include u|one,two|v.ctb|L1 NotFound v.ctb
 one/t.ctb: include ../u & u: letter a 1|one|t.ctb|include ../u at one/t.ctb:1 leads out of the table's folder";
 
-/// The same of cuts whose lines may be rewritten.
+/// Cuts whose lines may be rewritten.
 const REWRITTEN: &str = "\
 t.ctb: noback sign x 12; nofor sign y 1; noback pass2 x|t.ctb|o/t.ctb: sign x 12 # noback sign x 12; # B1 OutsideProfile sign: nofor sign y 1; # B1 OutsideProfile pass2: noback pass2 x
 t.ctb: base uppercase A a; noback letter a 21-0; letter a 3|t.ctb|o/t.ctb: uplow Aa 12-0 # base uppercase A a; letter a 21-0 # noback letter a 21-0; letter a 3

@@ -69,7 +69,7 @@ b x; a x; b y; c z; a w; b q|B1 OutsideProfile b at t.ctb:1; B1 OutsideProfile a
 letter a 1; always ab 2; word a 3; nofor always c 4|B5 UndefinedInRule ab at t.ctb:2; B5 UndefinedInRule c at t.ctb:4; opcode always: 1; opcode nofor always: 1; file t.ctb: 2 of 4 lines are read; 2 of 4 lines are read
 ";
 
-/// The same of brief reports.
+/// Brief reports of surveys.
 const BRIEF_SURVEYS: &str = "\
 letter a 1|1 of 1 lines are read
 letter a 1; pass2 @1 @2; letter b 9|opcode letter: 1; opcode pass2: 1 (not in the profile); file t.ctb: 1 of 3 lines are read; undefined characters (B5 to B7) are looked for once no line has another fault; 1 of 3 lines are read

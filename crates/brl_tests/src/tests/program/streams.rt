@@ -111,7 +111,7 @@ fn answer_and_output(
     Ok(format!(in alloc; "{answer}|{output}")?)
 }
 
-/// The same of an input in memory.
+/// The answer and the output of an input in memory.
 fn translated_by(alloc: Global, table: &Table, input: &[u8]) -> Result<String, Fail> {
     let mut writer = Counting::new(Vec::new(alloc));
     let outcome = none_lacking(alloc, translate_bytes(alloc, table, input, &mut writer));
@@ -132,7 +132,7 @@ abc a||ABC A;
 a;;b c;c||A;;B C;C;
 ";
 
-/// The same of an input that is a field.
+/// The answer and the output of an input that is a field.
 fn translated(alloc: Global, input: &str) -> Result<String, Fail> {
     translated_bytes(alloc, bytes_of(alloc, input)?.as_slice())
 }
@@ -142,7 +142,7 @@ fn lines_are_translated(rt: HostRuntime) -> Result<(), Fail> {
     for_rows_of_2(rt.alloc(), TRANSLATED, translated)
 }
 
-/// The same of inputs with a fault.
+/// Inputs with a fault.
 const FAULTY: &str = "\
 az|F1 UnknownChar 1 at line 1|
 a;b z;c|F1 UnknownChar 2 at line 2|A;

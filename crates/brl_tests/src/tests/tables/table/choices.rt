@@ -69,7 +69,7 @@ const SEVERAL_PLACES: &str = "\
 uplow Aa 1; letter b 12; punctuation . 256; always ab 14; word ab 15; begword a 16; midword ba 24; endword bb 25; \
 always aab 26; partword ba 34; midendword b 35; sufword abb 36; prfword a 45; begmidword bab 46; word a. 56; always .. 2";
 
-/// The same, with word capitals.
+/// Rules of several places and lengths, with word capitals.
 const SEVERAL_PLACES_WITH_RUNS: &str = "\
 uplow Aa 1; uplow Bb 12; punctuation . 256; always ab 14; word ab 15; begword a 16; midword ba 24; endword bb 25; \
 always aab 26; partword ba 34; midendword b 35; sufword abb 36; prfword a 45; begmidword bab 46; begcapsword 6";
@@ -77,7 +77,7 @@ always aab 26; partword ba 34; midendword b 35; sufword abb 36; prfword a 45; be
 /// The characters of the texts that are compared.
 const LETTERS: [char; 4] = ['a', 'A', 'b', '.'];
 
-/// Those of the texts with word capitals.
+/// The characters of the texts with word capitals.
 const CAPITALS: [char; 4] = ['a', 'A', 'B', '.'];
 
 /// How many texts of up to four of them there are.
