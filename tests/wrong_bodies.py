@@ -388,7 +388,7 @@ class Trial:
             is_shared = is_shared and (bool(refused) or len(tried) == 1)
 
     def run(self) -> "Trial":
-        self.try_in_place(self.try_copies())
+        self.try_in_place([replace(it, copied=None) for it in self.try_copies()])
         return self
 
 
