@@ -78,7 +78,8 @@ verdict_pairs taken Unfinished count = pairs_line taken count false
 abbrev pub outcome_text : Bool → Outcome → List Section → List ℕ
 outcome_text taken outcome sections = verdict_counts outcome sections ++ verdict_pairs taken outcome (length (listed_pairs sections))
 
--- the last lines for these sections, of which accepted pairs were taken out, if a file was read
+-- the verdict lines of a list with these sections; where a file was read, the list leaves out the
+-- pairs that it accepts, and the lines say how many
 abbrev pub verdict_text : Option Taken → List Section → List ℕ
 verdict_text accepted sections =
     outcome_text (are_taken accepted) (outcome_beside (accepted_count accepted) (outcome_of sections)) sections ++ accepted_lines accepted

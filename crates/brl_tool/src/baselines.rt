@@ -169,7 +169,7 @@ fn if_whole(whole: bool, listed: &RulePairs) -> Option<&RulePairs>
     if whole { Some(listed) } else { None }
 }
 
-/// How much a file takes out of the listed pairs, this many of which are excused.
+/// The numbers that an answer gives of a file, which excuses `excused` of the listed pairs.
 fn taken_of(excusal: &Excusal, listed: &[(u32, u32)], excused: usize, prune: bool) -> Taken
     ensures { result ≡ record { listed = excused; counts = record { pairs = accepted_count excusal.now.excused listed.now; sets = excusal.now.sets }; stale = length excusal.now.stale.items; pruned = prune } }
 {
