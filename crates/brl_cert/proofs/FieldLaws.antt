@@ -14,7 +14,8 @@ use Rattle.std.proofs.lemmas.List.Elements.{All-from_recursion, recursion_from_A
 use Rattle.std.proofs.lemmas.List.Splits.{slice_split_none, slice_split_at}
 use Rattle.std.proofs.lemmas.Slice.Eq.{bytes_eq-Decides}
 use Rattle.brl_cells.specs.Dots.{AreCells, dot_marks, has_dot, cell_spelling, spelling as dots_spelling, reading as dots_reading}
-use Rattle.brl_cert.specs.Fields.{FieldFormat, lenient_number, number, flag, is_char, character, lenient_char, each, chars, lead}
+use Rattle.brl_lines.specs.Numbers.{lenient_number}
+use Rattle.brl_cert.specs.Fields.{FieldFormat, number, flag, is_char, character, lenient_char, each, chars, lead}
 
 -- each byte is above the given one
 abbrev pub IsAbove : ℕ → List ℕ → Type 0

@@ -7,7 +7,6 @@ pub mod Written
 pub mod Loops
 pub mod DuesLaws
 pub mod DuesSound
-pub mod Numbers
 pub mod Each
 pub mod FieldLaws
 pub mod Lists

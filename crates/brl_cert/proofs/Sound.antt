@@ -18,7 +18,8 @@ use Rattle.brl_cells.specs.declared.fault.DotsFault.TheVariants.{TooManyCells}
 use Rattle.brl_cells.specs.Dots.{AreCells, cells_reading, parts, reading as dots_reading}
 use Rattle.brl_cert.specs.declared.fault.CertFaultKind.TheVariants.{Syntax, NotCanonical, DuplicateState, DuplicatePair, NoSuchState, WrongCount, Version}
 use Rattle.brl_pairs.specs.Body.{BodyView, IsPairOf, NumberPair, same_pair}
-use Rattle.brl_cert.specs.Fields.{◌>>=◌, lenient_context, lenient_number, lenient_lead, is_char, lenient_char, lenient_chars, each, number, flag}
+use Rattle.brl_lines.specs.Numbers.{lenient_number}
+use Rattle.brl_cert.specs.Fields.{◌>>=◌, lenient_context, lenient_lead, is_char, lenient_char, lenient_chars, each, number, flag}
 use Rattle.brl_cert.specs.declared.line.Line.{Line}
 use Rattle.brl_cert.specs.declared.line.Line.TheVariants.{State, Pair, End}
 use Rattle.brl_cert.specs.Lines.{at_line, StateFormat, ◌>>>◌, placed, count, spelled_line, lenient_line, lenient_pair, lenient_end, strict_line, line_of, may_follow, is_end, add_line, one_line, body_of}

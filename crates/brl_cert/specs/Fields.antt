@@ -1,14 +1,13 @@
 -- The fields of a certificate's lines: the one spelling of each, and how it is read leniently. A
 -- text is the list of its bytes, a character its code point, a cell its number. The project's own
 -- choice.
-use Rattle.std.specs.Prelude.{ℕ, nat_lt, nat_le, Bool, true, false, ◌&&◌, ◌||◌, ◌==◌, if◌then◌else◌, List, [], ◌∷◌, length, map, Option, Some, None, codes}
+use Rattle.std.specs.Prelude.{ℕ, nat_lt, nat_le, Bool, true, false, ◌&&◌, ◌||◌, ◌==◌, if◌then◌else◌, List, [], ◌∷◌, map, Option, Some, None, codes}
 use Rattle.std.specs.Result.{result_ok}
 use Rattle.std.specs.Str.{bytes_eq}
-use Rattle.std.specs.Str.Parse.{digits_value}
-use Rattle.std.specs.Char.{is_digit}
 use Rattle.std.specs.Fmt.{decimal, digits}
-use Rattle.std.specs.List.{slice_split, join_with_byte, list_all}
+use Rattle.std.specs.List.{slice_split, join_with_byte}
 use Rattle.brl_cells.specs.Dots as dots
+use Rattle.brl_lines.specs.Numbers.{lenient_number}
 use Rattle.brl_rules.specs.declared.context.Context.{Context}
 
 -- a kind of field: its one spelling, and the value of a field that is read leniently
@@ -23,13 +22,6 @@ abbrev pub ◌>>=◌ : {A B : Type 0} → Option A → (A → Option B) → Opti
 None >>= f = None
 
 -- ---- Numbers and flags
-
--- the number that digits of the radix spell, up to the greatest; leading zeros and capital letters
--- are allowed
-abbrev pub lenient_number : ℕ → ℕ → List ℕ → Option ℕ
-lenient_number radix greatest field =
-    if nat_lt 0 (length field) && list_all (λ c. is_digit c radix) field && nat_le (digits_value radix field) greatest
-    then Some (digits_value radix field) else None
 
 -- a decimal number up to the greatest
 abbrev pub number : ℕ → FieldFormat ℕ

@@ -11,8 +11,9 @@ ghost use Rattle.brl_rules.specs.declared.place.Cond.TheVariants.{Meets, Avoids}
 
 use crate::field::{
     parts_of, push_char, push_flag, push_more, push_number, read_between_points, read_context,
-    read_flag, read_number,
+    read_flag,
 };
+use brl_lines::read_number;
 use brl_rules::{Class, Cond};
 use brl_states::{Due, DueList, DuesState};
 use std::alloc::{AllocError, Global};

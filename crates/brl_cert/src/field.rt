@@ -1,53 +1,16 @@
 //! Fields of a line: reading them leniently, and writing their one spelling.
-ghost use Rattle.std.specs.Prelude.{◌≡◌, ◌<◌, ◌≤◌, ◌^◌, ◌++◌, ◌∷◌, ◌==◌, length, map, IfOk, IfSome, OnOk, All, true, false};
-ghost use Rattle.std.specs.Char.{digit_value};
+ghost use Rattle.std.specs.Prelude.{◌≡◌, ◌≤◌, ◌++◌, ◌∷◌, ◌==◌, length, map, IfOk, IfSome, OnOk, All, true, false};
 ghost use Rattle.std.specs.Fmt.{decimal, digits};
 ghost use Rattle.std.specs.List.{flat_map, slice_split};
 ghost use Rattle.brl_cells.specs.Dots.{AreCells};
-ghost use Rattle.brl_cert.specs.Fields.{each, is_char, lenient_char, lenient_chars, lenient_context, lenient_flag, lenient_lead, lenient_number, spelled_chars, spelled_flag, spelled_lead};
+ghost use Rattle.brl_cert.specs.Fields.{each, is_char, lenient_char, lenient_chars, lenient_context, lenient_flag, lenient_lead, spelled_chars, spelled_flag, spelled_lead};
 
 use brl_cells::{Cell, Cells, Chars, read_dots, write_dots};
 use brl_failure::Failure;
+use brl_lines::read_number;
 use brl_rules::{Class, Context};
 use std::alloc::{AllocError, Global};
 use std::io::Write;
-
-/// The value of a digit in any radix to 36, and 36 for any other byte.
-fn digit_of(byte: u8) -> u64
-    ensures { result ≡ digit_value byte }
-{
-    match byte {
-        b'0'..=b'9' => (byte - b'0') as u64,
-        b'A'..=b'Z' => (byte - b'A') as u64 + 10,
-        b'a'..=b'z' => (byte - b'a') as u64 + 10,
-        _ => 36,
-    }
-}
-
-/// The number that a lenient field spells in this radix, if it is at most `greatest`.
-pub fn read_number(field: &[u8], radix: u64, greatest: u64) -> Option<u64>
-    requires radix_from { 1 ≤ radix }
-    requires radix_to { radix ≤ 16 }
-    requires greatest { greatest < 2 ^ 32 }
-    ensures number { result ≡ lenient_number radix greatest field.now }
-    ensures limited { IfSome result (λ number. number ≤ greatest) }
-{
-    if field.is_empty() {
-        return None;
-    }
-    let mut value = 0u64;
-    for byte in field {
-        let digit = digit_of(*byte);
-        if digit >= radix {
-            return None;
-        }
-        value = value * radix + digit;
-        if value > greatest {
-            return None;
-        }
-    }
-    Some(value)
-}
 
 /// The flag of a field.
 pub fn read_flag(field: &[u8]) -> Option<bool>

@@ -33,7 +33,6 @@ pub type CertPair = brl_pairs::Pair<u32>;
 pub use brl_pairs::{Body, Members, Seed};
 pub use brl_states::{CapsFree, Cert};
 pub use fault::{CertFault, CertFaultKind};
-pub use field::read_number;
 pub use reading::{certificate_laws, read_cert};
 pub use version::{Version, Version1, Version2, Version3};
 pub use writing::{WriteFault, write_cert};

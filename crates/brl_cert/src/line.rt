@@ -4,7 +4,8 @@ ghost use Rattle.std.specs.List.{slice_split};
 ghost use Rattle.brl_cert.specs.Lines.{HasShortLead, lenient_end, lenient_line, lenient_pair};
 
 use crate::Version;
-use crate::field::{parts_of, read_lead, read_number};
+use crate::field::{parts_of, read_lead};
+use brl_lines::read_number;
 use brl_pairs::Pair;
 use std::alloc::{AllocError, Global};
 

@@ -12,11 +12,12 @@ ghost use Rattle.brl_states.specs.declared.dues_state.DuesState.{DuesState};
 ghost use Rattle.brl_pairs.specs.Body.{BodyView};
 ghost use Rattle.brl_states.specs.declared.window_state.WindowState.{WindowState};
 
-use crate::field::{parts_of, push_number, read_number};
+use crate::field::{parts_of, push_number};
 use crate::reader::Reader;
 use crate::{Cert, CertFault, CertFaultKind, Version, Version1, Version2, Version3};
 use brl_cells::{cells_are_read, spelled_cells_are_read};
 use brl_failure::Failure;
+use brl_lines::read_number;
 use brl_pairs::{Body, Seed};
 use brl_states::{CapsFree, order_law};
 use std::alloc::Global;

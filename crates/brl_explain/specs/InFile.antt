@@ -5,13 +5,13 @@ use Rattle.std.specs.List.{after_first, before_first, find, starts_with}
 use Rattle.std.specs.Option.{option_and_then, option_map_or}
 use Rattle.std.specs.Str.{bytes_eq, chars}
 use Rattle.std.specs.Str.Lossy.{utf8_valid_len}
-use Rattle.brl_cert.specs.Fields.{lenient_number}
 use Rattle.brl_explain.specs.Details.{byte_digits, operand_of, titled, unclear_spelling}
 use Rattle.brl_explain.specs.Explaining.{code_of, is_blank}
 use Rattle.brl_explain.specs.Operands.{is_prefix, missing_line, swapped_line, undefined_line}
 use Rattle.brl_explain.specs.declared.in_file.Place.{Place}
 use Rattle.brl_lines.specs.Answer.{FileAnswer, FileAnswers, Holds, MayAnswer}
 use Rattle.brl_lines.specs.Lines.{LocationView, Refusal}
+use Rattle.brl_lines.specs.Numbers.{lenient_number}
 use Rattle.brl_lines.specs.Outcome.{AreLinesOf, IsRefusedAs}
 use Rattle.brl_lines.specs.Tokens.{LineView}
 use Rattle.brl_report.specs.Rules.{gives_sign, is_at, source_line, words_of}

@@ -32,9 +32,8 @@ ghost use Rattle.brl_explain.specs.InFile.{
 use crate::details::{operand_of, push_byte, push_titled, unclear_characters};
 use crate::explaining::{after_first_word, code_of, first_word};
 use crate::operands::{is_prefix, push_missing, push_swapped, push_undefined};
-use brl_cert::read_number;
 use brl_failure::Failure;
-use brl_lines::{Line, Source, load};
+use brl_lines::{Line, Source, load, read_number};
 use brl_report::{Wanted, first_line, push_source_line, push_words};
 use brl_table::indicator_named;
 use std::alloc::{AllocError, Global};

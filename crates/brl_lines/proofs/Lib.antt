@@ -12,6 +12,7 @@ pub mod LoadLemmas
 pub mod LoopLemmas
 pub mod MemoryLemmas
 pub mod MoreLemmas
+pub mod NumberLemmas
 pub mod PieceLemmas
 pub mod RowLemmas
 pub mod SliceLemmas

@@ -11,6 +11,7 @@ pub mod Escapes
 pub mod Spelling
 pub mod Visible
 pub mod Views
+pub mod Numbers
 pub mod Examples
 pub mod Files
 pub mod Steps

@@ -3,7 +3,7 @@
 //! A `Source` gives the bytes of a file by its path: `MapSource` from memory, `FileSource` from a
 //! file system. `load` reads and checks a table's file and the files that it includes, and
 //! `Loaded::lines` gives the lines that do something, each as tokens that are slices of its file's
-//! text. `chars_of` reads the characters that a token spells.
+//! text. `chars_of` reads the characters that a token spells, and `read_number` a number.
 //!
 //! Room 1, text and tables (docs/dev/ARCHITECTURE.md). The definitions begin in
 //! `specs/Lines.antt`.
@@ -24,6 +24,7 @@ mod laws;
 mod line;
 mod loaded;
 mod map_source;
+mod number;
 mod open_file;
 mod operand;
 mod read;
@@ -43,6 +44,7 @@ pub use laws::{files_in_memory_law, one_answer_law};
 pub use line::{Line, Token};
 pub use loaded::{Loaded, load};
 pub use map_source::MapSource;
+pub use number::read_number;
 pub use operand::{CharsFault, characters, chars_of};
 pub use source::{MOST_FILE_BYTES, Source, SourceFault};
 pub use spelling::spell_chars;

@@ -1,6 +1,6 @@
 use Rattle.std.proofs.Common.{◌≡◌, ◌≤◌, drop}
-use Rattle.brl_cert.proofs.Numbers.{going}
-use Rattle.brl_cert.proofs.field.read_number.Given as goal
+use Rattle.brl_lines.proofs.NumberLemmas.{going}
+use Rattle.brl_lines.proofs.number.read_number.Given as goal
 
 abbrev pub invariant-loop-byte : goal.invariant-loop-byte
 invariant-loop-byte l = record {

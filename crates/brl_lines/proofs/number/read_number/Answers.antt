@@ -1,7 +1,7 @@
 use Rattle.std.proofs.Common.{◌<◌, length, arith}
 use Rattle.std.proofs.lemmas.Bool.Decides.{nat_tests}
-use Rattle.brl_cert.proofs.Numbers.{at_end, past_greatest}
-use Rattle.brl_cert.proofs.field.read_number.Goals as goal
+use Rattle.brl_lines.proofs.NumberLemmas.{at_end, past_greatest}
+use Rattle.brl_lines.proofs.number.read_number.Goals as goal
 
 pub returns-then-value-greatest-clause-number : goal.returns-then-value-greatest-clause-number
 returns-then-value-greatest-clause-number c =
