@@ -1,4 +1,9 @@
 //! Why the program stopped before its work was done.
+ghost use Rattle.std.specs.Prelude.{◌≡◌};
+ghost use Rattle.brl_answers.specs.Status.{of_cut_fault, of_failure, of_no_table, status_of};
+ghost use Rattle.brl_answers.specs.declared.run_fault.RunFault.{RunFault};
+ghost use Rattle.brl_answers.specs.declared.run_fault.RunFault.TheVariants.{Confirm, Load, Memory, NotDefined, OutputFailed, Stream, Table, Text};
+
 use crate::new_files::NewFile;
 use crate::status::Status;
 use brl_accepted::StaleLines;
@@ -96,9 +101,6 @@ pub enum RunFault {
 }
 
 impl RunFault {
-    ghost use Rattle.std.specs.Prelude.{◌≡◌};
-    ghost use Rattle.brl_answers.specs.Status.{status_of};
-
     /// The status: nothing was decided where memory ran out and where the table is too wide for a
     /// certificate of version 1, else there is a fault.
     pub fn status(&self) -> Status
@@ -121,9 +123,6 @@ impl RunFault {
 }
 
 impl From<AllocError> for RunFault {
-    ghost use Rattle.std.specs.Prelude.{◌≡◌};
-    ghost use Rattle.brl_answers.specs.declared.run_fault.RunFault.TheVariants.{Memory};
-
     ghost from_gives = { λ _ fault. fault ≡ Memory };
 
     fn from(_error: AllocError) -> RunFault {
@@ -133,9 +132,6 @@ impl From<AllocError> for RunFault {
 
 /// A fault of a step, which ends the work as a fault of the program.
 pub trait EndsRun {
-    ghost use Rattle.std.specs.Prelude.{◌≡◌};
-    ghost use Rattle.brl_answers.specs.declared.run_fault.RunFault.{RunFault};
-
     // the fault of the program
     ghost run_fault: { Self → RunFault };
 
@@ -144,9 +140,6 @@ pub trait EndsRun {
 }
 
 impl<E: EndsRun> From<Failure<E>> for RunFault {
-    ghost use Rattle.std.specs.Prelude.{◌≡◌};
-    ghost use Rattle.brl_answers.specs.Status.{of_failure};
-
     ghost from_gives = { λ failure fault. fault ≡ of_failure E.run_fault failure };
 
     fn from(failure: Failure<E>) -> RunFault {
@@ -158,8 +151,6 @@ impl<E: EndsRun> From<Failure<E>> for RunFault {
 }
 
 impl EndsRun for LoadFault {
-    ghost use Rattle.brl_answers.specs.declared.run_fault.RunFault.TheVariants.{Load};
-
     ghost run_fault = { λ fault. Load fault };
 
     fn into_run_fault(self) -> RunFault {
@@ -168,8 +159,6 @@ impl EndsRun for LoadFault {
 }
 
 impl EndsRun for TableFault {
-    ghost use Rattle.brl_answers.specs.declared.run_fault.RunFault.TheVariants.{Table};
-
     ghost run_fault = { λ fault. Table fault };
 
     fn into_run_fault(self) -> RunFault {
@@ -178,8 +167,6 @@ impl EndsRun for TableFault {
 }
 
 impl EndsRun for StreamFault {
-    ghost use Rattle.brl_answers.specs.declared.run_fault.RunFault.TheVariants.{Stream};
-
     ghost run_fault = { λ fault. Stream fault };
 
     fn into_run_fault(self) -> RunFault {
@@ -188,8 +175,6 @@ impl EndsRun for StreamFault {
 }
 
 impl EndsRun for ConfirmFault {
-    ghost use Rattle.brl_answers.specs.declared.run_fault.RunFault.TheVariants.{Confirm};
-
     ghost run_fault = { λ fault. Confirm fault };
 
     fn into_run_fault(self) -> RunFault {
@@ -198,8 +183,6 @@ impl EndsRun for ConfirmFault {
 }
 
 impl EndsRun for ForwardFault {
-    ghost use Rattle.brl_answers.specs.declared.run_fault.RunFault.TheVariants.{Text};
-
     ghost run_fault = { λ fault. Text fault };
 
     fn into_run_fault(self) -> RunFault {
@@ -208,8 +191,6 @@ impl EndsRun for ForwardFault {
 }
 
 impl EndsRun for UndefinedLeftOut {
-    ghost use Rattle.brl_answers.specs.declared.run_fault.RunFault.TheVariants.{NotDefined};
-
     ghost run_fault = { λ fault. NotDefined fault };
 
     fn into_run_fault(self) -> RunFault {
@@ -218,8 +199,6 @@ impl EndsRun for UndefinedLeftOut {
 }
 
 impl EndsRun for NoTable {
-    ghost use Rattle.brl_answers.specs.Status.{of_no_table};
-
     ghost run_fault = { λ fault. of_no_table fault };
 
     fn into_run_fault(self) -> RunFault {
@@ -231,8 +210,6 @@ impl EndsRun for NoTable {
 }
 
 impl EndsRun for CutFault {
-    ghost use Rattle.brl_answers.specs.Status.{of_cut_fault};
-
     ghost run_fault = { λ fault. of_cut_fault fault };
 
     fn into_run_fault(self) -> RunFault {
@@ -247,9 +224,6 @@ impl EndsRun for CutFault {
 }
 
 impl From<Failed> for RunFault {
-    ghost use Rattle.std.specs.Prelude.{◌≡◌};
-    ghost use Rattle.brl_answers.specs.declared.run_fault.RunFault.TheVariants.{OutputFailed};
-
     ghost from_gives = { λ _ fault. fault ≡ OutputFailed };
 
     fn from(_failed: Failed) -> RunFault {
