@@ -32,14 +32,6 @@ impl Chars {
         Chars { items }
     }
 
-    /// The characters as a `Vec`. It takes no memory.
-    pub fn into_vec(self) -> Vec<char>
-        ensures { result.items ≡ self }
-    {
-        let Chars { items: chars } = self;
-        chars
-    }
-
     /// The number of characters.
     pub fn len(&self) -> usize
         ensures { result ≡ length self.now }

@@ -155,6 +155,6 @@ fn lists_of_characters(rt: HostRuntime) -> Result<(), Fail> {
     assert!(rt; chars.len() == 2);
     let copy = chars.copy(alloc)?;
     assert!(rt; copy == chars);
-    assert!(rt; copy.into_vec().as_slice() == chars.as_slice());
+    assert!(rt; copy.as_slice() == chars.as_slice());
     Ok(())
 }
