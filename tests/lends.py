@@ -3,7 +3,7 @@
 `name: &Type::new(..)` of a literal, and any `&Type::made(..)` in the call whose value a `match` takes apart.
 
 Such a function owns the value at each of its exits, and its proof may take minutes where it else takes a second: make the
-value by a `let`, and lend it to another function (docs/dev/DECISIONS.md, 'A function owns little where it can leave').
+value by a `let`, and lend it to another function (docs/dev/DECISIONS.md, 'Owning little').
 
 A line is printed for each, with the file and the line, and 'ok: ..' where there is none; then the exit status is 0, else 1.
 """

@@ -7,10 +7,11 @@ sources, where no document is named.
 - A line has at most 100 columns, outside of tables and blocks of code; a cell of a table at most 120 characters.
 - A link leads to a file, and to a heading of it; a path of the repository, or the name of a document, is there.
 - What is written `crate::item` is an item that the crate exports, and `crate::Type::item` one of such a type.
+- Each entry of DECISIONS.md has a name of its own, and a name that is cited after `DECISIONS, ` is one of these.
 - The words that the house doesn't use aren't used, outside of code.
 - README.md alone names the kit, and it is the one on the path.
 
-Comments are held to the columns and the words.
+Comments are held to the columns, the names of decisions and the words; scripts to these names.
 
 A line is printed for each fault, with the document and the line, and 'ok: ..' for each check that finds none. The exit
 status is 1 where there is a fault.
@@ -44,6 +45,8 @@ PAGE = re.compile(r"(?<![\w/.-])[A-Z][A-Z_]+\.md\b")
 NO_PROSE = (r"(`+)(?:(?!\1)[^\n]|\n(?!\n))+?\1", r"\]\([^)\n]*\)", r"<!--(?:.|\n)*?-->")
 KIT = re.compile(r"rattle-kit-\w+(?: logic \w+)?")
 README = TOP / "README.md"
+# The name of an entry, empty where it has none, and one that is cited.
+ENTRY, CITED = re.compile(r"^- (?:\*([^*]+)\.\*$)?", re.MULTILINE), re.compile(r"DECISIONS(?:\.md)?, '([^']+)'")
 ITEM = re.compile(r"\b(brl(?:_\w+)?)::(\w+)((?:::\w+)*)")
 
 # Words that the house doesn't use, and what it uses.
@@ -205,6 +208,19 @@ def unknown_items(it: Document) -> Faults:
                 yield number, f"{crate}::{name}{rest}: {name} has no {rest.split('::')[1]}"
 
 
+@functools.cache
+def decisions() -> tuple[str, ...]:
+    return tuple(ENTRY.findall((TOP / "docs/dev/DECISIONS.md").read_text()))
+
+
+def unknown_decisions(it: Document) -> Faults:
+    for number in sorted(it.own):
+        named = ENTRY.findall(it.lines[number]) if it.path.name == "DECISIONS.md" else []
+        for name in (*named, *CITED.findall(it.lines[number])):
+            if not name or decisions().count(name) != 1:
+                yield number, f"'{name}', which isn't the name of just one entry of DECISIONS.md"
+
+
 def blanked(text: str, pattern: str) -> str:
     """A text with what matches as blanks, so that places stay."""
     return re.sub(pattern, lambda it: re.sub(r"\S", " ", it[0]), text)
@@ -242,6 +258,7 @@ CHECKS: dict[str, Callable[[Document], Faults]] = {
     "each link leads to a file, and to a heading": dead_links,
     "each path and each document that is named is there": dead_paths,
     "each item that is named is exported": unknown_items,
+    "each decision that is cited is there, and each has a name": unknown_decisions,
     "no word is used that the house doesn't use": other_words,
     "README.md alone names the kit, and it is that of `rt version`": other_kits,
 }
@@ -257,9 +274,12 @@ def dangling(it: Document) -> Faults:
 
 OF_COMMENTS: dict[str, Callable[[Document], Faults]] = {
     f"no comment has more than {MOST_COLUMNS} columns": long_lines,
+    "each decision that a comment cites is there": unknown_decisions,
     "no comment has a word that the house doesn't use": other_words,
     "no comment on code or definitions rests on the one before": dangling,
 }
+
+OF_SCRIPTS: dict[str, Callable[[Document], Faults]] = {"each decision that a script cites is there": unknown_decisions}
 
 
 def documents() -> list[Path]:
@@ -296,7 +316,9 @@ def main(words: list[str]) -> int:
         return 2
     read = [Document.read(Path(it).resolve()) for it in words] or [Document.read(it) for it in documents()]
     commented = [] if words else [Document.comments_of(it) for it in sources_with_comments()]
-    failed = run_checks(CHECKS, read, "documents") + (run_checks(OF_COMMENTS, commented, "sources") if not words else 0)
+    scripts = [] if words else [Document.read(it) for it in sorted(TOP.glob("t*/*.py"))]
+    failed = run_checks(CHECKS, read, "documents")
+    failed += 0 if words else run_checks(OF_COMMENTS, commented, "sources") + run_checks(OF_SCRIPTS, scripts, "scripts")
     return 1 if failed or not read or not words and not commented else 0
 
 
