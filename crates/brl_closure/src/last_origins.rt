@@ -22,6 +22,7 @@ impl LastOrigins {
     /// The number of the state that led last to most of the next states of these edges, if there is
     /// one. Where no state led to most of them, it may be any.
     pub fn likely(&self, edges: &[ListedEdge]) -> Option<usize> {
+        // A vote in one pass: an edge for another state takes one vote away.
         let mut likely = 0u32;
         let mut votes = 0usize;
         for edge in edges {

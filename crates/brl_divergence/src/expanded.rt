@@ -44,8 +44,9 @@ fn rules_of(alloc: Global, edges: &[ListedEdge]) -> Result<Vec<u32>, AllocError>
     edges.iter().map(|edge| edge.rule).collect(alloc)
 }
 
-/// Keeps no parts any more where as many are kept as should be, or where no state is left to be
-/// expanded. New ones will be found by hashes of this seed.
+/// Drops all kept parts where they have too many edges (`Parts::is_full`), or where no state is
+/// left to be expanded, since then none is asked for. New ones will be found by hashes of this
+/// seed.
 pub fn forget_parts<P: Key>(alloc: Global, seed: Seed, none_left: bool, parts: &mut Parts<P>)
     ensures { (parts.new ≡ parts.old) ⊎ (parts.new ≡ no_parts) }
 {

@@ -79,6 +79,7 @@ impl<'a, 'm, M: Machine> Explorer<'a, 'm, M> {
         ensures stopped { IfErr result (IfFault (IsStopped M.behaviour self.now.finder.now trail.new)) }
         ensures adds { AddsPairs (IsOfSplit state first.now.place second.now.place (length trail.old.pairs)) trail.old trail.new }
     {
+        // What follows the pairs before this place is listed already.
         let mut next = trail.pairs.len();
         self.find_split(trail, state, first, second)?;
         let cells = self.expanded.cells.as_slice();

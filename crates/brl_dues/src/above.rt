@@ -39,10 +39,10 @@ impl<'a> Above<'a> {
         Above { others, after }
     }
 
-    /// Appends what is left of the bars of its forms that begin with a character after one of these
-    /// classes, in a run of capitals or out of one, after the characters `past` to the dues found
-    /// so far. `cased` says whether a run may begin with the character. Returns whether none is
-    /// broken.
+    /// Carries the bar of each form of this rule that begins with `character` past the characters
+    /// `past`, and appends what is left of it to `found`. The forms are those in a run of capitals
+    /// or out of one, after a character of the classes `before`; `cased` says whether a run may
+    /// begin with the character. False if a bar is broken.
     pub fn add_bars(
         &self,
         alloc: Global,

@@ -148,6 +148,7 @@ impl<'a> CasedTable<'a> {
             return here;
         };
         match self.table.info(*last) {
+            // Any character but one of `numericmodechars` sets the mode, whatever it was before.
             Some(info) if !info.mode => {
                 let before = self.context_before(here, others);
                 self.table.context_after_info(before, info)

@@ -38,6 +38,7 @@ pub fn find_parts(
     let here = asked_of(table, state.context());
     let dues = state.dues.as_slice();
     let needs = needs_of(dues);
+    // One pass over the dues in place of a search for each character.
     let starts = starts_of(alloc, table, dues)?;
     let mut parts = Vec::with_capacity(alloc, table.char_count())?;
     for number in 0..table.char_count() {
@@ -48,7 +49,7 @@ pub fn find_parts(
     Ok(parts)
 }
 
-/// What steps ask of a context.
+/// What steps ask of a context. States that differ in the rest share their parts.
 fn asked_of(table: &Table, here: Context) -> Context
     ensures { result ≡ asked_context table.now here }
 {

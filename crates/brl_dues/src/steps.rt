@@ -28,6 +28,7 @@ pub fn list_steps<'a>(
     ensures { IfOk result (λ listed. listed.items ≡ steps_found table.now state.now 0 table.now.rules letters.entry.items) }
 {
     let mut listed = Vec::new(alloc);
+    // By folds, a rule finds the letters that it may begin with, and goes through no others.
     let places = by_fold(alloc, letters.as_slice())?;
     for (number, rule) in table.table().rules_in_rank().iter().enumerate() {
         take_rule(

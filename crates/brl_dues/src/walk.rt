@@ -58,6 +58,7 @@ pub fn push_caps_run_steps(
     if !origin.table.may_begin_caps_run(first) {
         return Ok(());
     }
+    // Else all choices for the characters before one that has none would be made in vain.
     if !origin.table.has_choices(alloc, taken.others)? {
         return Ok(());
     }

@@ -1,4 +1,7 @@
-//! Reads the files of a table ahead of the way through them, so that the way is gone once or twice.
+//! Reads the files to which the include lines of known files lead, before a walk needs them.
+//!
+//! `gather` begins its walk anew at each path of which nothing is known. With the files read ahead,
+//! two walks do. No contract needs this: it is for speed alone (DECISIONS, 'Walks over files').
 ghost use Rattle.std.specs.Prelude.{◌≡◌, ◌↔◌, ◌≤◌, IsTrue, OnOk, length, map, string_bytes};
 ghost use Rattle.brl_lines.specs.GatherFaults.{most_paths};
 ghost use Rattle.brl_lines.specs.Gathered.{known_answers};

@@ -29,7 +29,7 @@ use std::alloc::{AllocError, Global};
 pub enum IncludeReason {
     /// It includes a hyphenation dictionary.
     Dictionary,
-    /// Its file was gone through before, or leads to it.
+    /// Its file was included before, or includes the file of this line.
     Repeated,
     /// Its file isn't there.
     Missing,

@@ -12,7 +12,7 @@ const POWER: u64 = 1 << 61;
 
 /// What the hashes of a set depend on beside its members: the point at which a polynomial is
 /// evaluated, and what it begins with. Whoever makes the members can't know the seed that is drawn
-/// from them: it changes with each of their bytes.
+/// from them: it changes with each of their bytes (DECISIONS, 'Seeds').
 #[derive(Clone, Copy)]
 pub struct Seed {
     pub start: u64,

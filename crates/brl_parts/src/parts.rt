@@ -10,7 +10,7 @@ use brl_pairs::{Key, ListedEdge, Members, Seed, by_number};
 use std::alloc::{AllocError, Global};
 use std::marker::Model;
 
-/// The most edges that are kept: 48 MB of them.
+/// The most edges that are kept: 48 MB of them. A part that was dropped is listed again.
 const MOST_EDGES: usize = 4_000_000;
 
 /// Parts of a machine's steps, each once, with its steps by numbers. A contract sees the parts, the
@@ -113,6 +113,7 @@ impl<P: Key> Parts<P> {
         let mut listed = self.joined(alloc, numbers)?;
         let rules = rules_of(alloc, listed.as_slice())?;
         let count = past_all(rules.as_slice());
+        // By numbers takes no comparisons, but memory for each number: too much for a few edges.
         if count / 8 > listed.len() {
             sort_by_rule(&mut listed)?;
             return Ok(listed);

@@ -9,7 +9,7 @@
 //! that was hardly meant so, and `certificate` has the answer with a certificate that was found.
 //! `baselines` has the files of pairs of rules that `clashes` reads and writes. `check_up_to` and
 //! `search_up_to` have what `check` and `search` answer where a file excuses something, which
-//! `excusing` reads. What all but `translate` give is an answer (brl_answers).
+//! `excusing` reads. Every command but `translate` gives an `Answer` (brl_answers).
 //!
 //! Room 5, the program (docs/dev/ARCHITECTURE.md). The definitions begin in `specs/Running.antt`.
 #![tactic(auto)]

@@ -9,7 +9,7 @@ use brl_pairs::SortedEdge;
 use std::alloc::{AllocError, Global};
 
 /// The most edges of states that are kept, but for those of the state that is passed last: 3 MB of
-/// them.
+/// them. Nothing but time depends on which are kept (DECISIONS, 'Shared splits').
 const MOST_KEPT: usize = 250_000;
 
 /// The edges of states that miss no split, in the order of their cells. Another state often shares

@@ -35,8 +35,8 @@ impl<P: Key> KeptParts<P> {
         }
     }
 
-    /// Keeps no parts any more where as many are kept as should be. New ones will be found by
-    /// hashes of this seed.
+    /// Drops all kept parts where they have too many edges (`Parts::is_full`). New ones will be
+    /// found by hashes of this seed.
     pub fn forget_parts(&mut self, alloc: Global, seed: Seed)
         ensures parts { (self.new.parts ≡ self.old.parts) ⊎ (self.new.parts ≡ no_parts) }
         ensures cells { self.new.cells ≡ self.old.cells }
@@ -84,6 +84,7 @@ fn edges_of_steps<S: Key>(
 {
     let mut edges: Vec<ListedEdge> = Vec::with_capacity(alloc, steps.len())?;
     for step in steps {
+        // States mostly have the same cells in the same order, so their numbers follow each other.
         let likely = edges.last().map_or(0, |edge| edge.cells.saturating_add(1));
         let edge = edge_of(body, cells, &step, likely)?;
         edges.push(edge)?;
@@ -198,6 +199,7 @@ pub fn edges_of<M: Parted>(
         return Ok(edges);
     };
     let Some(numbers) = numbers_of_parts(alloc, machine, body, kept, listed)? else {
+        // The list of all steps has the least rule that leads to a missing state.
         let edges = list_edges(alloc, machine, body, &mut kept.cells, number)?;
         return Ok(edges);
     };

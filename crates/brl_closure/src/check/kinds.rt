@@ -45,7 +45,7 @@ impl Kind {
 /// before them. Edges of one kind miss the same pairs, and are excused with the same edges, so
 /// further ones tell nothing new; the second one is kept, since two edges of one kind split with
 /// each other. Where no three edges have the same cells, all are kept. Kinds are found by hashes of
-/// this seed.
+/// this seed. It saves time alone (DECISIONS, 'First two of a kind').
 pub fn sort_first_two<'c>(
     alloc: Global,
     excused: &Excused,

@@ -252,6 +252,7 @@ fn missing_split(
 {
     edges.law();
     let shared = edges.shared_with(alloc, others)?;
+    // To look each new edge up costs more than one pass over all splits where many are new.
     if count_unshared(shared.as_slice()) > shared.len() / 2 {
         return missing_of_all(alloc, excused, pairs, edges);
     }

@@ -106,6 +106,7 @@ fn keep_passed(
     ensures { OnOk result ((pairs : List NumberPair) → (missing.split ≡ None → MissNone excused.now pairs edges.entry.edges) → ArePassed pairs edges.entry.cells earlier.old.lists.items → ArePassed pairs edges.entry.cells earlier.new.lists.items) }
 {
     edges.law();
+    // Where something is excused a split depends on its rules, which kept edges don't have.
     if missing.split.is_some() || !excused.is_nothing() {
         return Ok(());
     }

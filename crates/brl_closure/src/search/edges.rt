@@ -68,6 +68,8 @@ impl<'m, M: Machine> Finder<'m, M> {
             .moves(self.alloc, &trail.states.as_slice()[number])?;
         let mut edges: Vec<ListedEdge> = Vec::new(self.alloc);
         for step in listed {
+            // States mostly have the same cells in the same order, so their numbers follow each
+            // other.
             let likely = edges.last().map_or(0, |edge| edge.cells.saturating_add(1));
             let edge = self.number_step(trail, cells, number, step, likely)?;
             edges.push(edge)?;

@@ -10,7 +10,7 @@ use brl_parts::Parts;
 use std::alloc::{AllocError, Global};
 
 /// A part that isn't kept yet: the edges of its first steps, and its other steps, the last one
-/// first.
+/// first. New parts take their steps by turns (DECISIONS, 'Parts in a search').
 #[derive(Drop)]
 pub struct Fresh<S: Key, P: Key> {
     pub part: P,
@@ -39,8 +39,8 @@ struct Next {
     place: usize,
 }
 
-/// The lesser of two next steps by their rules, or the first of them. The second one is that of the
-/// part at this place, and has this rule, if a step is left there.
+/// The next step with the lesser rule, of `least` and that of the part at `place`, which has `rule`
+/// if a step is left there. It is `least` where both rules are the same.
 fn lesser(least: Option<Next>, rule: Option<u32>, place: usize) -> Option<Next>
     ensures some { IfSome result (λ next. (least ≡ Some next) ⊎ ((next.place ≡ place) × IsSome rule)) }
     ensures none { IfNone result ((least ≡ None) × (IsSome rule → ⊥)) }

@@ -8,7 +8,8 @@ use brl_pairs::{Key, Machine, Step};
 use std::alloc::{AllocError, Global};
 use std::mem;
 
-/// The most steps that are kept, but for those of the state that is asked for last.
+/// The most steps that are kept, but for those of the state that is asked for last. It bounds
+/// memory alone: steps that aren't kept are listed again.
 const MOST: usize = 262_144;
 
 /// The steps of states that have been asked for, as long as there are not too many of them: for

@@ -139,6 +139,7 @@ impl<'m, M: Machine> Finder<'m, M> {
         ensures advances { OnOk result (Advances M.behaviour self.now trail.old trail.new) }
         ensures stopped { IfErr result (IfFault (IsStopped M.behaviour self.now trail.new)) }
     {
+        // To look each new edge up costs more than one pass over all splits where many are new.
         if count_unshared(shared) > shared.len() / 2 {
             return self.find_splits(trail, state);
         }

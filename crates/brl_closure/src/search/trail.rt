@@ -16,12 +16,12 @@ pub enum PairOrigin {
         longer: usize,
         shorter: usize,
     },
-    /// By a step of the run behind of an earlier pair, which stays behind.
+    /// From an earlier pair: its trailing run took a step, and still trails.
     Still {
         pair: usize,
         place: usize,
     },
-    /// By a step of the run behind of an earlier pair, which gets ahead.
+    /// From an earlier pair: its trailing run took a step, and leads now.
     Swapped {
         pair: usize,
         place: usize,

@@ -16,7 +16,9 @@ use std::collections::BinaryHeap;
 use std::mem;
 
 /// The most edges of states that are kept, but for those of the state that is asked for last: 3 MB
-/// of them.
+/// of them. All edges would be most of a search's memory. Pairs are walked state by state, so the
+/// edges of a state are seldom asked for after they were dropped, and then they are listed again
+/// (DECISIONS, 'Kept edges').
 const MOST_KEPT: usize = 250_000;
 
 /// What is left to do in a search: states to be expanded, and pairs to be walked.
@@ -31,7 +33,7 @@ pub struct Worklist<P: Key> {
     /// The edges of each state that has been expanded, in the order of their cells; none where they
     /// aren't kept. The other states are expanded in the order in which they were found.
     pub expanded: Vec<Vec<SortedEdge>>,
-    /// At least how many edges of states are kept.
+    /// A lower bound on how many edges of states are kept.
     pub kept: usize,
     /// The pairs to be walked, each with the number of its state behind: that with the least comes
     /// first.
@@ -55,8 +57,8 @@ impl<P: Key> Worklist<P> {
         }
     }
 
-    /// Keeps no parts any more where as many are kept as should be. New ones will be found by
-    /// hashes of this seed.
+    /// Drops all kept parts where they have too many edges (`Parts::is_full`). New ones will be
+    /// found by hashes of this seed.
     pub fn forget_parts(&mut self, alloc: Global, seed: Seed)
         ensures parts { (self.new.parts ≡ self.old.parts) ⊎ (self.new.parts ≡ no_parts) }
         ensures cells { self.new.cells ≡ self.old.cells }
@@ -78,6 +80,7 @@ impl<P: Key> Worklist<P> {
         ensures queue { self.new.queue ≡ self.old.queue }
     {
         if self.kept > MOST_KEPT {
+            // To drop all costs less than to know which were asked for last.
             drop_all(alloc, &mut self.expanded);
             self.kept = 0;
         }
