@@ -19,7 +19,7 @@ each table
 - `search --accept` with all lines certifies the table, and says how many pairs and sets it accepts; `check` accepts
   the certificate with the same file, and refuses it without one of its lines. Any two short texts with the same
   cells are then the same but for what the file says. With some lines alone the search reports a clash at another
-  pair of rules.
+  pair of rules, and with none that of the search without a file.
 
 The same seed makes the same tables. The exit status is 1 where something differs, which is printed.
 """
@@ -312,6 +312,9 @@ class Case:
         rules = divergence(*texts)
         if told.status != 1 or self.cert.exists() or not rules or rules in named or set("".join(told.clash())) & set(self.without):
             return f"beside {some} the search ends with {told}"
+        if not named:
+            alone = self.run("search", *self.options, self.path, self.cert)
+            return "" if told == alone else f"beside {some} the search ends with {told}, and without a file with {alone}"
         return "" if rules == min(left) else f"beside {some} the clash is at {rules}, and not at the least of {left}"
 
     def agree(self, left: list[Step], right: list[Step], accepted: set[Rules], exchanged: set[Rules]) -> bool:

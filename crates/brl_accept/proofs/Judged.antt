@@ -1,8 +1,8 @@
 -- What follows from a judge's outcome for the table and the certificate.
-use Rattle.std.proofs.Common.{◌≡◌, ℕ, ◌⊎◌, inl, inr, List, Result, Ok, Err, IfErr, IfOk, OnOk, refl, sym, ◌∙◌, ap, subst, subst₂}
-use Rattle.brl_accept.specs.Excusing.{IsNothing, IsShown, MayExcuse, closed_up_to}
-use Rattle.brl_accept.specs.Judging.{IsAcceptedFor, IsFirstFault, IsProved, IsRefusedAs, IsRefusedFor, Terms, closed_without, counted}
-use Rattle.brl_closure.specs.Excusing.{IsClosedBody, IsRefusedUpTo}
+use Rattle.std.proofs.Common.{◌≡◌, ℕ, ◌⊎◌, inl, inr, List, [], Result, Ok, Err, IfErr, IfOk, OnOk, refl, sym, ◌∙◌, ap, subst, subst₂}
+use Rattle.brl_accept.specs.Excusing.{IsShown, MayExcuse, closed_up_to}
+use Rattle.brl_accept.specs.Judging.{IsAccepted, IsAcceptedFor, IsProved, IsRefusedAs, IsRefusedBy, IsRefusedFor, Terms, closed_without, counted, load_outcome}
+use Rattle.brl_closure.specs.Excusing.{IsClosedBody}
 use Rattle.brl_closure.specs.Refusals.{IsRefused}
 use Rattle.brl_closure.specs.declared.check.fault.AcceptFault.{AcceptFault}
 use Rattle.brl_pairs.specs.Body.{BodyView}
@@ -23,9 +23,10 @@ use Rattle.brl_failure.specs.Failure.{IfFault}
 use Rattle.brl_failure.specs.declared.failure.Failure.{Failure}
 use Rattle.brl_failure.specs.declared.failure.Failure.TheVariants.{Fault, Memory}
 use Rattle.brl_lines.specs.Answer.{FileAnswers}
-use Rattle.brl_table.specs.Files.{IsFaultAt, IsTableOf}
-use Rattle.brl_table.specs.declared.no_table.NoTable.{NoTable as NoTableFault}
+use Rattle.brl_lines.specs.Outcome.{CountsFailure}
+use Rattle.brl_table.specs.Files.{IsTableOf}
 use Rattle.brl_rules.specs.TableView.{TableView}
+use Rattle.brl_rules.specs.Translation.{IsUnambiguous}
 use Rattle.brl_window.specs.Windows.{window_machine}
 use Rattle.brl_dues.specs.Steps.{dues_machine}
 use Rattle.brl_pairs.specs.Exchanges.{IsClosedUpTo}
@@ -35,6 +36,7 @@ use Rattle.brl_pairs.proofs.Excusing.{closed_from_up_to, up_to_from_closed}
 use Rattle.brl_forward.specs.Trace.{trace_of}
 use Rattle.brl_traces.specs.Exchanges.{TracesAgreeBut}
 use Rattle.brl_traces.proofs.Alike.{itself}
+use Rattle.brl_without.specs.Scope.{IsNothing}
 use Rattle.brl_without.specs.Tables.{AreDefined, IsUnambiguousWithout}
 use Rattle.brl_without.specs.Without.{without}
 
@@ -92,7 +94,7 @@ module _ (terms : Terms) (not_closed : (t : TableView) (cert : Certificate) (fau
     by_cert fault h accepted is =
         not_proved t h.0 fault h.2 accepted (subst (λ (cert : Certificate). terms.IsFor t cert × IsProved terms t cert accepted) (one_cert bytes is.1.0 h.0 is.1.1 h.1) (is.1.2, is.1.3))
 
-    not_accepted : (fault : JudgeFault) → IsRefusedFor terms t bytes fault → (accepted : Accepted) → IsAcceptedFor terms t bytes accepted → ⊥
+    pub not_accepted : (fault : JudgeFault) → IsRefusedFor terms t bytes fault → (accepted : Accepted) → IsAcceptedFor terms t bytes accepted → ⊥
     not_accepted (NoTable fault) h accepted is = by_cert (NoTable fault) h.1 accepted is
     not_accepted (NotDefined fault) h accepted is = absurd (let defined : AreDefined t terms.left_out = is.0 in cc h.1)
     not_accepted (Cert fault) h accepted is = no_cert bytes fault is.1.0 h.1 is.1.1
@@ -100,54 +102,57 @@ module _ (terms : Terms) (not_closed : (t : TableView) (cert : Certificate) (fau
     not_accepted (Wide fault) h accepted is = by_cert (Wide fault) h.1 accepted is
     not_accepted (Refused fault) h accepted is = by_cert (Refused fault) h.1 accepted is
 
--- ---- Over what the source gives
-
-module _ (terms : Terms) (not_closed : (t : TableView) (cert : Certificate) (fault : AcceptFault) → terms.IsRefused fault t cert → terms.IsClosed t cert → ⊥) (Shown : TableView → Type 0) (gives : FileAnswers) (root bytes : List ℕ) where
-  -- a refusal of the table is one of the last stages
-  refused_after : (t : TableView) (fault : JudgeFault) → IsTableOf gives root t → IsRefusedFor terms t bytes fault → IsFirstFault terms gives root bytes fault
-  refused_after t (NoTable fault) is h = absurd h.1.2
-  refused_after t (NotDefined fault) is h = (t, is, h, not_accepted terms not_closed t bytes (NotDefined fault) h)
-  refused_after t (Cert fault) is h = (t, is, h, not_accepted terms not_closed t bytes (Cert fault) h)
-  refused_after t OldVersion is h = (t, is, h, not_accepted terms not_closed t bytes OldVersion h)
-  refused_after t (Wide fault) is h = (t, is, h, not_accepted terms not_closed t bytes (Wide fault) h)
-  refused_after t (Refused fault) is h = (t, is, h, not_accepted terms not_closed t bytes (Refused fault) h)
-
-  pub failed_after : (t : TableView) (failure : Failure JudgeFault) → IsTableOf gives root t → IfFault (IsRefusedFor terms t bytes) failure → IfFault (IsFirstFault terms gives root bytes) failure
-  failed_after t (Fault fault) is h = refused_after t fault is h
-  failed_after t Memory is h = tt
-
-  -- an acceptance for the table at the path
-  pub accepted_for : (t : TableView) → IsTableOf gives root t → (result : Result Accepted (Failure JudgeFault)) → OnOk result (Shown t) → IfOk result (IsAcceptedFor terms t bytes)
-      → IfOk result (λ accepted. (u : TableView) × IsTableOf gives root u × Shown u × IsAcceptedFor terms u bytes accepted)
-  accepted_for t is (Ok accepted) unambiguous h = (t, is, unambiguous, h)
-  accepted_for t is (Err fault) unambiguous h = tt
-
-  module _ (t : TableView) (is : IsTableOf gives root t) (accepted : Accepted) (deserved : IsAcceptedFor terms t bytes accepted)
-      (one_table : (u : TableView) → IsTableOf gives root u → t ≡ u) (no_fault : (fault : NoTableFault) → IsFaultAt gives root fault → ⊥) where
-    -- a refusal of what is to be accepted
-    later_stage : (fault : JudgeFault) → (u : TableView) × IsTableOf gives root u × IsRefusedFor terms u bytes fault × ((other : Accepted) → IsAcceptedFor terms u bytes other → ⊥) → ⊥
-    later_stage fault h = h.3 accepted (subst (λ (u : TableView). IsAcceptedFor terms u bytes accepted) (one_table h.0 h.1) deserved)
-
-    never_refused : (fault : JudgeFault) → IsFirstFault terms gives root bytes fault → ⊥
-    never_refused (NoTable fault) h = no_fault fault h
-    never_refused (NotDefined fault) h = later_stage (NotDefined fault) h
-    never_refused (Cert fault) h = later_stage (Cert fault) h
-    never_refused OldVersion h = later_stage OldVersion h
-    never_refused (Wide fault) h = later_stage (Wide fault) h
-    never_refused (Refused fault) h = later_stage (Refused fault) h
-
-    same_acceptance : (other : Accepted) → (u : TableView) × IsTableOf gives root u × Shown u × IsAcceptedFor terms u bytes other → other ≡ accepted
-    same_acceptance other h =
-        let here = (subst (λ (u : TableView). IsAcceptedFor terms u bytes other) (sym (one_table h.0 h.1)) h.3).1 in
-        let cert : here.0 ≡ deserved.1.0 = one_cert bytes here.0 deserved.1.0 here.1 deserved.1.1 in
-        here.3.2 ∙ ap counted cert ∙ sym deserved.1.3.2
+    -- the acceptances of the same bytes are one
+    pub same_accepted : (one other : Accepted) → IsAcceptedFor terms t bytes one → IsAcceptedFor terms t bytes other → one ≡ other
+    same_accepted one other a b =
+        let cert : a.1.0 ≡ b.1.0 = one_cert bytes a.1.0 b.1.0 a.1.1 b.1.1 in
+        a.1.3.2 ∙ ap counted cert ∙ sym b.1.3.2
 
     -- what the judge answers: acceptance, unless memory ran out
-    pub decided : (result : Result Accepted (Failure JudgeFault)) → IfOk result (λ other. (u : TableView) × IsTableOf gives root u × Shown u × IsAcceptedFor terms u bytes other)
-        → IfErr result (IfFault (IsFirstFault terms gives root bytes)) → (result ≡ Ok accepted) ⊎ (result ≡ Err Memory)
-    decided (Ok other) h k = inl (ap Ok (same_acceptance other h))
-    decided (Err (Fault fault)) h k = absurd (never_refused fault k)
-    decided (Err Memory) h k = inr refl
+    pub decided : (accepted : Accepted) → IsAcceptedFor terms t bytes accepted → (result : Result Accepted (Failure JudgeFault)) → IfOk result (IsAcceptedFor terms t bytes)
+        → IfErr result (IfFault (IsRefusedFor terms t bytes)) → (result ≡ Ok accepted) ⊎ (result ≡ Err Memory)
+    decided accepted deserved (Ok other) h k = inl (ap Ok (same_accepted other accepted h deserved))
+    decided accepted deserved (Err (Fault fault)) h k = absurd (not_accepted fault k accepted deserved)
+    decided accepted deserved (Err Memory) h k = inr refl
+
+-- ---- Over what the source gives
+
+module _ (gives : FileAnswers) (root bytes : List ℕ) (t : TableView) (is : IsTableOf gives root t) where
+  -- an acceptance for the table at the path
+  pub accepted_at : (result : Result Accepted (Failure JudgeFault)) → OnOk result (IsUnambiguous t) → IfOk result (IsAccepted t bytes)
+      → IfOk result (λ accepted. (u : TableView) × IsTableOf gives root u × IsUnambiguous u × IsAccepted u bytes accepted)
+  accepted_at (Ok accepted) single h = (t, is, single, h)
+  accepted_at (Err failure) single h = tt
+
+  -- a refusal for the table at the path
+  refused_for : (fault : JudgeFault) → IsRefusedFor (closed_without []) t bytes fault → ((accepted : Accepted) → IsAccepted t bytes accepted → ⊥) → IsRefusedBy gives root bytes fault
+  refused_for (NoTable fault) h never = absurd h.1.2
+  refused_for (NotDefined fault) h never = (t, is, h, never)
+  refused_for (Cert fault) h never = (t, is, h, never)
+  refused_for OldVersion h never = (t, is, h, never)
+  refused_for (Wide fault) h never = (t, is, h, never)
+  refused_for (Refused fault) h never = (t, is, h, never)
+
+  neither : (fault : JudgeFault) (accepted : Accepted) (result : Result Accepted (Failure JudgeFault)) → result ≡ Err (Fault fault) → (result ≡ Ok accepted) ⊎ (result ≡ Err Memory) → ⊥
+  neither fault accepted result is (inl e) = let f = sym is ∙ e in cc
+  neither fault accepted result is (inr e) = let f = sym is ∙ e in cc
+
+  pub refused_at : (result : Result Accepted (Failure JudgeFault)) → IfErr result (IfFault (IsRefusedFor (closed_without []) t bytes))
+      → ((accepted : Accepted) → IsAccepted t bytes accepted → (result ≡ Ok accepted) ⊎ (result ≡ Err Memory)) → IfErr result (IfFault (IsRefusedBy gives root bytes))
+  refused_at (Ok accepted) h decides = tt
+  refused_at (Err Memory) h decides = tt
+  refused_at (Err (Fault fault)) h decides = refused_for fault h (λ accepted deserved. neither fault accepted (Err (Fault fault)) refl (decides accepted deserved))
+
+-- the answer for a table counts no failure of a file
+pub judged_count : (before now : ℕ) → now ≡ before → (t : TableView) (bytes : List ℕ) (result : Result Accepted (Failure JudgeFault)) → IfErr result (IfFault (IsRefusedFor (closed_without []) t bytes)) → CountsFailure before now (load_outcome result)
+judged_count before now same t bytes (Ok accepted) h = same
+judged_count before now same t bytes (Err Memory) h = inl same
+judged_count before now same t bytes (Err (Fault (NoTable fault))) h = absurd h.1.2
+judged_count before now same t bytes (Err (Fault (NotDefined fault))) h = same
+judged_count before now same t bytes (Err (Fault (Cert fault))) h = same
+judged_count before now same t bytes (Err (Fault OldVersion)) h = same
+judged_count before now same t bytes (Err (Fault (Wide fault))) h = same
+judged_count before now same t bytes (Err (Fault (Refused fault))) h = same
 
 -- ---- Nothing is excused
 
@@ -202,23 +207,10 @@ module _ (left_out : List ℕ) (excused : Excused) (nothing : IsNothing excused)
     plain_as cert (Wide fault) h = (h.0.0, h.1)
     plain_as cert (Refused fault) h = (h.0.0, h.1, plain_refused fault t cert h.2)
 
-    plain_for : (fault : JudgeFault) → IsRefusedFor (closed_up_to left_out excused) t bytes fault → IsRefusedFor (closed_without left_out) t bytes fault
-    plain_for (NoTable fault) h = absurd h.1.2
-    plain_for (NotDefined fault) h = h
-    plain_for (Cert fault) h = h
-    plain_for OldVersion h = (h.0, (h.1.0, h.1.1, plain_as h.1.0 OldVersion h.1.2))
-    plain_for (Wide fault) h = (h.0, (h.1.0, h.1.1, plain_as h.1.0 (Wide fault) h.1.2))
-    plain_for (Refused fault) h = (h.0, (h.1.0, h.1.1, plain_as h.1.0 (Refused fault) h.1.2))
-
-  module _ (gives : FileAnswers) (root bytes : List ℕ) where
-    plain_later : (fault : JudgeFault) → (t : TableView) × IsTableOf gives root t × IsRefusedFor (closed_up_to left_out excused) t bytes fault × ((accepted : Accepted) → IsAcceptedFor (closed_up_to left_out excused) t bytes accepted → ⊥)
-        → (t : TableView) × IsTableOf gives root t × IsRefusedFor (closed_without left_out) t bytes fault × ((accepted : Accepted) → IsAcceptedFor (closed_without left_out) t bytes accepted → ⊥)
-    plain_later fault h = (h.0, h.1, plain_for h.0 bytes fault h.2, (λ accepted is. h.3 accepted (excused_accepted h.0 bytes accepted is)))
-
-    pub plainly_refused : (fault : JudgeFault) → IsFirstFault (closed_up_to left_out excused) gives root bytes fault → IsFirstFault (closed_without left_out) gives root bytes fault
-    plainly_refused (NoTable fault) h = h
-    plainly_refused (NotDefined fault) h = plain_later (NotDefined fault) h
-    plainly_refused (Cert fault) h = plain_later (Cert fault) h
-    plainly_refused OldVersion h = plain_later OldVersion h
-    plainly_refused (Wide fault) h = plain_later (Wide fault) h
-    plainly_refused (Refused fault) h = plain_later (Refused fault) h
+    pub plainly_refused : (fault : JudgeFault) → IsRefusedFor (closed_up_to left_out excused) t bytes fault → IsRefusedFor (closed_without left_out) t bytes fault
+    plainly_refused (NoTable fault) h = absurd h.1.2
+    plainly_refused (NotDefined fault) h = h
+    plainly_refused (Cert fault) h = h
+    plainly_refused OldVersion h = (h.0, (h.1.0, h.1.1, plain_as h.1.0 OldVersion h.1.2))
+    plainly_refused (Wide fault) h = (h.0, (h.1.0, h.1.1, plain_as h.1.0 (Wide fault) h.1.2))
+    plainly_refused (Refused fault) h = (h.0, (h.1.0, h.1.1, plain_as h.1.0 (Refused fault) h.1.2))

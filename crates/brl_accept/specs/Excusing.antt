@@ -1,23 +1,19 @@
 -- When a certificate is accepted where some splits are excused, and what it shows then. The
 -- project's own choice.
-use Rattle.std.specs.Prelude.{◌≡◌, ℕ, List, []}
-use Rattle.brl_accept.specs.Judging.{IsAcceptedFor, IsFirstFault, Terms}
+use Rattle.std.specs.Prelude.{ℕ, List}
+use Rattle.brl_accept.specs.Judging.{IsAcceptedFor, IsRefusedFor, Terms}
 use Rattle.brl_accept.specs.Kinds.{HasVersion, OfMachine}
 use Rattle.brl_accept.specs.declared.judge_fault.JudgeFault.{JudgeFault}
-use Rattle.brl_closure.specs.Excusing.{IsClosedBody, IsRefusedUpTo}
+use Rattle.brl_closure.specs.Excusing.{IsClosedBody, IsRefusedUpTo as IsRefusedBody}
 use Rattle.brl_closure.specs.declared.check.checker.Accepted.{Accepted}
-use Rattle.brl_lines.specs.Answer.{FileAnswers}
 use Rattle.brl_pairs.specs.declared.excused.Excused.{Excused}
 use Rattle.brl_rules.specs.TableView.{TableView}
 use Rattle.brl_states.specs.declared.cert.Cert.{Cert as Certificate}
 use Rattle.brl_states.specs.declared.cert.Cert.TheVariants.{Dues, Window, Word}
 use Rattle.brl_traces.specs.Exchanges.{TextsAgreeBut}
+use Rattle.brl_without.specs.Scope.{IsNothing}
 use Rattle.brl_without.specs.Tables.{IsUnambiguousWithout}
 use Rattle.brl_without.specs.Without.{without}
-
--- nothing is excused
-abbrev pub IsNothing : Excused → Type 0
-IsNothing excused = (excused.accepted ≡ []) × (excused.exchanged ≡ [])
 
 -- Any two texts over the table's other characters that it translates to the same cells have traces
 -- that are the same but for exchanges, to their ends or up to a place where they go on with two
@@ -39,13 +35,13 @@ closed_up_to left_out excused = record {
   left_out = left_out;
   IsFor = λ t cert. HasVersion t cert × MayExcuse excused cert;
   IsClosed = OfMachine (λ S m body. IsClosedBody (without left_out m) excused body);
-  IsRefused = λ fault. OfMachine (λ S m body. IsRefusedUpTo (without left_out m) excused body fault);
+  IsRefused = λ fault. OfMachine (λ S m body. IsRefusedBody (without left_out m) excused body fault);
 }
 
 -- the bytes spell a certificate that is so closed, with these numbers of states and pairs
 abbrev pub IsAcceptedUpTo : List ℕ → Excused → TableView → List ℕ → Accepted → Type 0
 IsAcceptedUpTo left_out excused = IsAcceptedFor (closed_up_to left_out excused)
 
--- the fault of the first stage that refuses
-abbrev pub IsRefusedByUpTo : List ℕ → Excused → FileAnswers → List ℕ → List ℕ → JudgeFault → Type 0
-IsRefusedByUpTo left_out excused = IsFirstFault (closed_up_to left_out excused)
+-- the fault of the first stage that refuses the bytes for a table
+abbrev pub IsRefusedUpTo : List ℕ → Excused → TableView → List ℕ → JudgeFault → Type 0
+IsRefusedUpTo left_out excused = IsRefusedFor (closed_up_to left_out excused)

@@ -75,19 +75,12 @@ closed_without left_out = record {
   IsRefused = λ fault. OfMachine (λ S m body. IsRefused (without left_out m) body fault);
 }
 
--- acceptance and the first fault, for the texts that use none of these characters
-abbrev pub IsAcceptedWithout : List ℕ → TableView → List ℕ → Accepted → Type 0
-IsAcceptedWithout left_out = IsAcceptedFor (closed_without left_out)
-
-abbrev pub IsRefusedByWithout : List ℕ → FileAnswers → List ℕ → List ℕ → JudgeFault → Type 0
-IsRefusedByWithout left_out = IsFirstFault (closed_without left_out)
-
 -- acceptance and the first fault, for all texts
 abbrev pub IsAccepted : TableView → List ℕ → Accepted → Type 0
-IsAccepted = IsAcceptedWithout []
+IsAccepted = IsAcceptedFor (closed_without [])
 
 abbrev pub IsRefusedBy : FileAnswers → List ℕ → List ℕ → JudgeFault → Type 0
-IsRefusedBy = IsRefusedByWithout []
+IsRefusedBy = IsFirstFault (closed_without [])
 
 -- how the loading of the files ended
 abbrev pub load_outcome : {T : Type 0} → Result T (Failure JudgeFault) → Result (Unit {0}) (Failure LoadFault)

@@ -1,9 +1,9 @@
-//! The judge of a certificate for the table that files define.
-ghost use Rattle.std.specs.Prelude.{◌≡◌, ◌⊎◌, ◌↔◌, Err, IfErr, IfOk, IsTrue, Ok, OnOk, length};
-ghost use Rattle.brl_accept.specs.Excusing.{IsAcceptedUpTo, IsNothing, IsRefusedByUpTo, IsShown, MayExcuse, closed_up_to};
-ghost use Rattle.brl_accept.specs.Judging.{IsAccepted, IsAcceptedWithout, IsProved, IsRefusedAs, IsRefusedBy, IsRefusedByWithout, IsRefusedFor, load_outcome};
+//! The judge of a certificate for a table, and for the table that files define.
+ghost use Rattle.std.specs.Prelude.{◌≡◌, ◌⊎◌, ◌↔◌, [], Err, IfErr, IfOk, IsTrue, Ok, OnOk, length};
+ghost use Rattle.brl_accept.specs.Excusing.{IsAcceptedUpTo, IsRefusedUpTo, IsShown, MayExcuse, closed_up_to};
+ghost use Rattle.brl_accept.specs.Judging.{IsAccepted, IsProved, IsRefusedAs, IsRefusedBy, IsRefusedFor, closed_without, load_outcome};
 ghost use Rattle.brl_closure.specs.declared.check.checker.Accepted.{Accepted as AcceptedValue};
-ghost use Rattle.brl_closure.specs.Excusing.{IsClosedBody, IsRefusedUpTo};
+ghost use Rattle.brl_closure.specs.Excusing.{IsClosedBody, IsRefusedUpTo as IsRefusedBody};
 ghost use Rattle.brl_closure.specs.declared.check.fault.AcceptFault.{AcceptFault};
 ghost use Rattle.brl_failure.specs.Failure.{IfFault};
 ghost use Rattle.brl_failure.specs.declared.failure.Failure.TheVariants as failures;
@@ -14,7 +14,7 @@ ghost use Rattle.brl_table.specs.Files.{IsTableOf};
 ghost use Rattle.brl_rules.specs.TableView.{TableView};
 ghost use Rattle.brl_rules.specs.Translation.{IsUnambiguous};
 ghost use Rattle.brl_pairs.specs.Exchanges.{TextsDifferByExchangesBut};
-ghost use Rattle.brl_without.specs.Tables.{IsUnambiguousWithout};
+ghost use Rattle.brl_without.specs.Scope.{IsNothing};
 ghost use Rattle.brl_without.specs.Without.{IsUnambiguousFor, without};
 
 use crate::JudgeFault;
@@ -33,23 +33,25 @@ use brl_window::{TooWide, Window};
 use brl_without::{LeftOut, Scope, Without, check_defined, unambiguous_without_law};
 use std::alloc::Global;
 
-/// Judges the states and pairs of a certificate for a machine without some characters, but for what
-/// is excused.
+/// Judges the states and pairs of a certificate for a machine.
 fn judge_body<M: Parted, W: Progress>(
     alloc: Global,
     machine: &M,
-    left_out: &LeftOut,
-    excused: &Excused,
     body: &Body<M::State>,
-    progress: &mut W,
+    scope: Scope<'_, W>,
 ) -> Result<Accepted, Failure<JudgeFault>>
-    ensures texts { OnOk result (TextsDifferByExchangesBut excused.now.exchanged excused.now.accepted (without left_out.now (M.behaviour machine.now))) }
-    ensures unambiguous { OnOk result (IsNothing excused.now → IsUnambiguousFor left_out.now (M.behaviour machine.now)) }
-    ensures accepted { IfOk result (λ accepted. IsClosedBody (without left_out.now (M.behaviour machine.now)) excused.now body.now
+    ensures texts { OnOk result (TextsDifferByExchangesBut scope.entry.excused.now.exchanged scope.entry.excused.now.accepted (without scope.entry.left_out.now (M.behaviour machine.now))) }
+    ensures unambiguous { OnOk result (IsNothing scope.entry.excused.now → IsUnambiguousFor scope.entry.left_out.now (M.behaviour machine.now)) }
+    ensures accepted { IfOk result (λ accepted. IsClosedBody (without scope.entry.left_out.now (M.behaviour machine.now)) scope.entry.excused.now body.now
         × (accepted.states ≡ length body.now.states) × (accepted.pairs ≡ length body.now.pairs)) }
     ensures refused { IfErr result (IfFault (λ fault. (refusal : AcceptFault) × (fault ≡ JudgeFault.Refused refusal)
-        × IsRefusedUpTo (without left_out.now (M.behaviour machine.now)) excused.now body.now refusal)) }
+        × IsRefusedBody (without scope.entry.left_out.now (M.behaviour machine.now)) scope.entry.excused.now body.now refusal)) }
 {
+    let Scope {
+        left_out,
+        excused,
+        progress,
+    } = scope;
     unambiguous_without_law(machine);
     let without = Without::new(machine, left_out);
     numbered_sets_law(&without);
@@ -57,25 +59,22 @@ fn judge_body<M: Parted, W: Progress>(
     raise(accepted, JudgeFault::Refused)
 }
 
-/// Judges the states and pairs of a certificate of version 1 for a table without some characters.
-/// Nothing is excused.
+/// Judges the states and pairs of a certificate of version 1. Nothing is excused.
 fn judge_windows<W: Progress>(
     alloc: Global,
     table: &Table,
-    left_out: &LeftOut,
-    excused: &Excused,
     body: &Body<WindowState>,
-    progress: &mut W,
+    scope: Scope<'_, W>,
 ) -> Result<Accepted, Failure<JudgeFault>>
-    requires { HasVersion table.now (Cert.Window body.now) × IsNothing excused.now }
-    ensures shown { OnOk result (IsShown left_out.now excused.now table.now) }
-    ensures accepted { IfOk result (IsProved (closed_up_to left_out.now excused.now) table.now (Cert.Window body.now)) }
-    ensures refused { IfErr result (IfFault (IsRefusedAs (closed_up_to left_out.now excused.now) table.now (Cert.Window body.now))) }
+    requires { HasVersion table.now (Cert.Window body.now) × IsNothing scope.excused.now }
+    ensures shown { OnOk result (IsShown scope.entry.left_out.now scope.entry.excused.now table.now) }
+    ensures accepted { IfOk result (IsProved (closed_up_to scope.entry.left_out.now scope.entry.excused.now) table.now (Cert.Window body.now)) }
+    ensures refused { IfErr result (IfFault (IsRefusedAs (closed_up_to scope.entry.left_out.now scope.entry.excused.now) table.now (Cert.Window body.now))) }
 {
     let Ok(window) = Window::new(alloc, table) else {
         return Err(Failure::Fault(JudgeFault::Wide(TooWide)));
     };
-    judge_body(alloc, &window, left_out, excused, body, progress)
+    judge_body(alloc, &window, body, scope)
 }
 
 /// Whether certificates of this one's version are for the table and for what is excused: those of
@@ -91,57 +90,87 @@ fn has_version(table: &Table, excused: &Excused, cert: &Cert) -> bool
     }
 }
 
-/// Judges a certificate that was read, for a table without some characters, but for what is
-/// excused.
+/// Judges a certificate that was read.
 fn judge_read<W: Progress>(
     alloc: Global,
     table: &Table,
-    left_out: &LeftOut,
-    excused: &Excused,
     cert: &Cert,
-    progress: &mut W,
+    scope: Scope<'_, W>,
 ) -> Result<Accepted, Failure<JudgeFault>>
-    ensures shown { OnOk result (IsShown left_out.now excused.now table.now) }
-    ensures accepted { IfOk result (λ accepted. (HasVersion table.now cert.now × MayExcuse excused.now cert.now)
-        × IsProved (closed_up_to left_out.now excused.now) table.now cert.now accepted) }
-    ensures refused { IfErr result (IfFault (IsRefusedAs (closed_up_to left_out.now excused.now) table.now cert.now)) }
+    ensures shown { OnOk result (IsShown scope.entry.left_out.now scope.entry.excused.now table.now) }
+    ensures accepted { IfOk result (λ accepted. (HasVersion table.now cert.now × MayExcuse scope.entry.excused.now cert.now)
+        × IsProved (closed_up_to scope.entry.left_out.now scope.entry.excused.now) table.now cert.now accepted) }
+    ensures refused { IfErr result (IfFault (IsRefusedAs (closed_up_to scope.entry.left_out.now scope.entry.excused.now) table.now cert.now)) }
 {
-    if !has_version(table, excused, cert) {
+    if !has_version(table, scope.excused, cert) {
         return Err(Failure::Fault(JudgeFault::OldVersion));
     }
     dues_exchange_law(table);
     let dues = Dues::new(alloc, table);
     match cert {
-        Cert::Window(listed) => judge_windows(
-            alloc,
-            table,
-            left_out,
-            excused,
-            listed.body(),
-            progress,
-        ),
-        Cert::Dues(listed) => judge_body(alloc, &dues, left_out, excused, listed.body(), progress),
-        Cert::Word(body) => judge_body(alloc, &dues, left_out, excused, body, progress),
+        Cert::Window(listed) => judge_windows(alloc, table, listed.body(), scope),
+        Cert::Dues(listed) => judge_body(alloc, &dues, listed.body(), scope),
+        Cert::Word(body) => judge_body(alloc, &dues, body, scope),
     }
 }
 
-/// Judges the certificate that bytes spell as `judge_up_to` does, for a table that was read before.
+/// Judges the certificate that bytes spell for a table, for the texts that use none of some
+/// characters, but for splits that are excused. An acceptance gives the numbers of states and pairs
+/// that the certificate lists. Then any two texts over the table's other characters that the table
+/// translates to the same cells are the same step by step but for exchanges, to their ends or up to
+/// a place where they go on with two steps of an accepted pair of rules; where nothing is excused
+/// they are equal. What is excused is part of this statement, and any pairs of numbers will do: one
+/// that no two rules have excuses nothing. Progress is reported state by state.
+///
+/// Otherwise the fault is that of the first stage that refuses: `NotDefined` where the table
+/// doesn't define a character that is left out; `Cert` where the bytes spell no certificate;
+/// `OldVersion` where the certificate is of version 1 or 2 and the table has word capitals, or of
+/// version 1 and something is excused, since its states are of a machine whose paths aren't known
+/// to be traces; `Wide` where the certificate is of version 1 and the table has no window machine;
+/// `Refused` where the certificate's states and pairs aren't closed for the machine of its version
+/// without these characters, but for what is excused.
 pub fn judge_table<W: Progress>(
     alloc: Global,
     table: &Table,
     cert: &[u8],
-    excused: &Excused,
     scope: Scope<'_, W>,
 ) -> Result<Accepted, Failure<JudgeFault>>
-    ensures shown { OnOk result (IsShown scope.entry.left_out.now excused.now table.now) }
-    ensures accepted { IfOk result (IsAcceptedUpTo scope.entry.left_out.now excused.now table.now cert.now) }
-    ensures refused { IfErr result (IfFault (IsRefusedFor (closed_up_to scope.entry.left_out.now excused.now) table.now cert.now)) }
+    // Any two texts over the table's other characters that it translates to the same cells,
+    // whatever their length, are the same but for what is excused.
+    ensures shown { OnOk result (IsShown scope.entry.left_out.now scope.entry.excused.now table.now) }
+    // The bytes spell a certificate that proves it, with these numbers of states and pairs.
+    ensures accepted { IfOk result (IsAcceptedUpTo scope.entry.left_out.now scope.entry.excused.now table.now cert.now) }
+    // The fault is that of the first stage that refuses.
+    ensures refused { IfErr result (IfFault (IsRefusedUpTo scope.entry.left_out.now scope.entry.excused.now table.now cert.now)) }
+    // A certificate that is acceptable is accepted, unless memory runs out.
+    ensures decides { (accepted : AcceptedValue) → IsAcceptedUpTo scope.entry.left_out.now scope.entry.excused.now table.now cert.now accepted
+        → (result ≡ Ok accepted) ⊎ (result ≡ Err failures.Memory) }
 {
-    let Scope { left_out, progress } = scope;
-    let defined = check_defined(alloc, table, left_out);
+    let defined = check_defined(alloc, table, scope.left_out);
     raise(defined, JudgeFault::NotDefined)?;
     let cert = raise(read_cert(alloc, cert), JudgeFault::Cert)?;
-    judge_read(alloc, table, left_out, excused, &cert, progress)
+    judge_read(alloc, table, &cert, scope)
+}
+
+/// Judges a certificate for all texts of a table. Nothing is excused.
+fn judge_all_texts(
+    alloc: Global,
+    table: &Table,
+    cert: &[u8],
+) -> Result<Accepted, Failure<JudgeFault>>
+    ensures unambiguous { OnOk result (IsUnambiguous table.now) }
+    ensures accepted { IfOk result (IsAccepted table.now cert.now) }
+    ensures refused { IfErr result (IfFault (IsRefusedFor (closed_without []) table.now cert.now)) }
+    ensures decides { (accepted : AcceptedValue) → IsAccepted table.now cert.now accepted → (result ≡ Ok accepted) ⊎ (result ≡ Err failures.Memory) }
+{
+    let left_out = LeftOut::none(alloc);
+    let excused = Excused::nothing(alloc);
+    let scope = Scope {
+        left_out: &left_out,
+        excused: &excused,
+        progress: &mut NoProgress,
+    };
+    judge_table(alloc, table, cert, scope)
 }
 
 /// Judges a certificate for the table that the file at the path `root` defines. An acceptance gives
@@ -174,108 +203,7 @@ pub fn judge<S: Source>(
     ensures count { CountsFailure (S.faults source.old) (S.faults source.new) (load_outcome result) }
     ensures same { S.gives source.new ≡ S.gives source.old }
 {
-    let left_out = LeftOut::none(alloc);
-    judge_silently(alloc, source, root, cert, &left_out)
-}
-
-/// Judges a certificate as `judge_with` does, and reports no progress.
-fn judge_silently<S: Source>(
-    alloc: Global,
-    source: &mut S,
-    root: &str,
-    cert: &[u8],
-    left_out: &LeftOut,
-) -> Result<Accepted, Failure<JudgeFault>>
-    ensures accepted { IfOk result (λ accepted. (t : TableView) × IsTableOf (S.gives source.old) root.now t
-        × IsUnambiguousWithout left_out.now t × IsAcceptedWithout left_out.now t cert.now accepted) }
-    ensures refused { IfErr result (IfFault (IsRefusedByWithout left_out.now (S.gives source.old) root.now cert.now)) }
-    ensures decides { IsDeterministic (S.gives source.old) → (t : TableView) → IsTableOf (S.gives source.old) root.now t
-        → (accepted : AcceptedValue) → IsAcceptedWithout left_out.now t cert.now accepted
-        → (result ≡ Ok accepted) ⊎ (result ≡ Err failures.Memory) }
-    ensures count { CountsFailure (S.faults source.old) (S.faults source.new) (load_outcome result) }
-    ensures same { S.gives source.new ≡ S.gives source.old }
-{
-    let scope = Scope {
-        left_out,
-        progress: &mut NoProgress,
-    };
-    judge_with(alloc, source, root, cert, scope)
-}
-
-/// Judges a certificate for the table that the file at the path `root` defines, for the texts that
-/// use none of some characters. An acceptance gives the numbers of states and pairs that the
-/// certificate lists. Then any two texts over the table's other characters that the table
-/// translates to the same cells are equal, whatever their length. Progress is reported state by
-/// state.
-///
-/// Otherwise the fault is that of the first stage that refuses: those of `judge`, and after
-/// `NoTable` `NotDefined` where the table doesn't define a character that is left out. `Refused`
-/// where the certificate's states and pairs aren't closed for the machine of its version without
-/// these characters.
-pub fn judge_with<S: Source, W: Progress>(
-    alloc: Global,
-    source: &mut S,
-    root: &str,
-    cert: &[u8],
-    scope: Scope<'_, W>,
-) -> Result<Accepted, Failure<JudgeFault>>
-    // The files define a table, as the source gave them. Any two texts over its other characters
-    // that it translates to the same cells are equal, whatever their length. The bytes spell a
-    // certificate that proves it, with these numbers of states and pairs.
-    ensures accepted { IfOk result (λ accepted. (t : TableView) × IsTableOf (S.gives source.old) root.now t
-        × IsUnambiguousWithout scope.entry.left_out.now t × IsAcceptedWithout scope.entry.left_out.now t cert.now accepted) }
-    // The fault is that of the first stage that refuses. Where the files define a table, the bytes
-    // aren't acceptable for it without these characters.
-    ensures refused { IfErr result (IfFault (IsRefusedByWithout scope.entry.left_out.now (S.gives source.old) root.now cert.now)) }
-    // Where each file has one content, a certificate that is acceptable is accepted, unless
-    // memory runs out.
-    ensures decides { IsDeterministic (S.gives source.old) → (t : TableView) → IsTableOf (S.gives source.old) root.now t
-        → (accepted : AcceptedValue) → IsAcceptedWithout scope.entry.left_out.now t cert.now accepted
-        → (result ≡ Ok accepted) ⊎ (result ≡ Err failures.Memory) }
-    ensures count { CountsFailure (S.faults source.old) (S.faults source.new) (load_outcome result) }
-    ensures same { S.gives source.new ≡ S.gives source.old }
-{
-    let excused = Excused::nothing(alloc);
-    judge_up_to(alloc, source, root, cert, &excused, scope)
-}
-
-/// Judges a certificate as `judge_with` does, but for splits that are excused. An acceptance says
-/// that any two texts over the table's other characters that the table translates to the same cells
-/// are the same step by step but for exchanges, to their ends or up to a place where they go on
-/// with two steps of an accepted pair of rules. What is excused is part of this statement, and any
-/// pairs of numbers will do: one that no two rules have excuses nothing.
-///
-/// The faults are those of `judge_with`. `OldVersion` is also that of a certificate of version 1
-/// where something is excused: its states are of a machine whose paths aren't known to be traces.
-pub fn judge_up_to<S: Source, W: Progress>(
-    alloc: Global,
-    source: &mut S,
-    root: &str,
-    cert: &[u8],
-    excused: &Excused,
-    scope: Scope<'_, W>,
-) -> Result<Accepted, Failure<JudgeFault>>
-    // The files define a table, as the source gave them. Any two texts over its other characters
-    // that it translates to the same cells, whatever their length, are the same but for what is
-    // excused. The bytes spell a certificate that proves it, with these numbers of states and
-    // pairs.
-    ensures accepted { IfOk result (λ accepted. (t : TableView) × IsTableOf (S.gives source.old) root.now t
-        × IsShown scope.entry.left_out.now excused.now t × IsAcceptedUpTo scope.entry.left_out.now excused.now t cert.now accepted) }
-    // The fault is that of the first stage that refuses. Where the files define a table, the bytes
-    // aren't acceptable for it without these characters, but for what is excused.
-    ensures refused { IfErr result (IfFault (IsRefusedByUpTo scope.entry.left_out.now excused.now (S.gives source.old) root.now cert.now)) }
-    // Where each file has one content, a certificate that is acceptable is accepted, unless
-    // memory runs out.
-    ensures decides { IsDeterministic (S.gives source.old) → (t : TableView) → IsTableOf (S.gives source.old) root.now t
-        → (accepted : AcceptedValue) → IsAcceptedUpTo scope.entry.left_out.now excused.now t cert.now accepted
-        → (result ≡ Ok accepted) ⊎ (result ≡ Err failures.Memory) }
-    ensures count { CountsFailure (S.faults source.old) (S.faults source.new) (load_outcome result) }
-    ensures same { S.gives source.new ≡ S.gives source.old }
-{
-    let Scope { left_out, progress } = scope;
     one_table_law(&*source);
     let table = raise(load_table(alloc, source, root), JudgeFault::NoTable)?;
-    let judged = judge_table(alloc, &table, cert, excused, Scope { left_out, progress });
-    drop(table);
-    judged
+    judge_all_texts(alloc, &table, cert)
 }

@@ -1,10 +1,9 @@
 //! The checker: it accepts exactly the certificates whose states and pairs are closed. A table with
 //! an accepted certificate translates no two different texts, of any length, to the same cells.
 //!
-//! `judge` reads a table and a certificate and checks the one against the other; `judge_with` does
-//! so for the texts that don't use some characters, and `judge_up_to` but for what is excused, as
-//! `judge_table` does for a table that was read before. `Accepted` has the numbers of states and
-//! pairs, `JudgeFault` is the first refusal.
+//! `judge` reads a table and a certificate and checks the one against the other. `judge_table` does
+//! so for a table that was read before, for the texts that don't use some characters, but for what
+//! is excused. `Accepted` has the numbers of states and pairs, `JudgeFault` is the first refusal.
 //!
 //! From files whose `t.ctb` has the lines `letter a 1` and `letter b 12`:
 //!
@@ -23,4 +22,4 @@ mod judge_files;
 
 pub use brl_closure::{AcceptFault, Accepted, accept};
 pub use judge_fault::JudgeFault;
-pub use judge_files::{judge, judge_table, judge_up_to, judge_with};
+pub use judge_files::{judge, judge_table};

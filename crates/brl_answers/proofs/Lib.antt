@@ -1,3 +1,4 @@
 pub mod DeliveryLemmas
 pub mod FilesLemmas
 pub mod MakingLemmas
+pub mod StepLemmas

@@ -9,9 +9,8 @@ use Rattle.brl_lines.specs.Escapes.{characters_of}
 use Rattle.brl_lines.specs.Visible.{visible_text}
 use Rattle.brl_lines.specs.declared.fault.LoadFault.{LoadFault}
 use Rattle.brl_lines.specs.declared.operand.CharsFault.{CharsFault}
-use Rattle.brl_table.specs.Files.{IsFaultAt, IsTableOf}
+use Rattle.brl_table.specs.Files.{IsFaultAt}
 use Rattle.brl_table.specs.declared.no_table.NoTable.TheVariants as no_table
-use Rattle.brl_rules.specs.TableView.{TableView}
 use Rattle.brl_answers.specs.declared.answer.Answer.{Answer}
 use Rattle.brl_answers.specs.declared.new_files.NewFiles.TheVariants.{Nothing}
 use Rattle.brl_answers.specs.declared.run_fault.RunFault.{RunFault}
@@ -32,6 +31,24 @@ UnlessMemory is (Err fault) = ⊥
 abbrev pub counts_line : List ℕ → ℕ → ℕ → List ℕ
 counts_line word states pairs = word ++ (codes ": " ++ (decimal states ++ (codes " states, " ++ (decimal pairs ++ codes " pairs\n"))))
 
+-- ---- Steps
+
+-- The answer of a step and of what comes after it: the step gives a value, by which the rest is
+-- answered; or it ends the work by a fault.
+abbrev pub Then : {T A : Type 0} → (T → Type 0) → (RunFault → Type 0) → (T → Result A RunFault → Type 0) → Result A RunFault → Type 0
+Then {T} gives ends answers outcome =
+    ((value : T) × gives value × answers value outcome) ⊎ ((fault : RunFault) × (outcome ≡ Err fault) × ends fault)
+
+-- the answer of a step that gives no value: something holds, and the rest is answered; or the step
+-- ends the work by a fault
+abbrev pub Provided : {A : Type 0} → Type 0 → (RunFault → Type 0) → (Result A RunFault → Type 0) → Result A RunFault → Type 0
+Provided holds ends answers outcome = (holds × answers outcome) ⊎ ((fault : RunFault) × (outcome ≡ Err fault) × ends fault)
+
+-- the fault of a step, which becomes one of the program, ended the work; or memory ran out
+abbrev pub EndsAs : {E : Type 0} → (E → RunFault) → (E → Type 0) → RunFault → Type 0
+EndsAs run_fault is Memory = Unit {0}
+EndsAs {E} run_fault is fault = (own : E) × is own × (fault ≡ run_fault own)
+
 -- ---- The table of a file
 
 -- there is no table at a path, and this is why; memory may run out at any file
@@ -46,21 +63,6 @@ abbrev pub load_outcome : {T : Type 0} → Result T RunFault → Result (Unit {0
 load_outcome (Err (Load fault)) = Err (failures.Fault fault)
 load_outcome (Err Memory) = Err failures.Memory
 load_outcome outcome = Ok tt
-
--- what is answered by the table of the file at a path: what the table gives, or why there is none
-abbrev pub ByTable : FileAnswers → List ℕ → (TableView → Result Answer RunFault → Type 0) → Result Answer RunFault → Type 0
-ByTable gives path answers (Err (Load fault)) = HasNoTable gives path (Load fault)
-ByTable gives path answers (Err (Table fault)) = HasNoTable gives path (Table fault)
-ByTable gives path answers (Err Memory) = Unit {0}
-ByTable gives path answers outcome = (t : TableView) × IsTableOf gives path t × answers t outcome
-
--- ---- Characters that a word spells
-
--- what is answered for the characters that are spelled, or the fault that none are
-abbrev pub BySpelled : Result (List ℕ) CharsFault → (RunFault → Type 0) → (List ℕ → Result Answer RunFault → Type 0) → Result Answer RunFault → Type 0
-BySpelled spelled is_bad answers outcome =
-    ((characters : List ℕ) × (spelled ≡ Ok characters) × answers characters outcome)
-    ⊎ ((fault : RunFault) × (outcome ≡ Err fault) × is_bad fault)
 
 -- ---- Texts
 
@@ -77,7 +79,7 @@ IsBadText escapes word fault = ⊥
 
 -- what is answered for the text of a word, or that it spells none
 abbrev pub ByText : Bool → List ℕ → (List ℕ → Result Answer RunFault → Type 0) → Result Answer RunFault → Type 0
-ByText escapes word answers outcome = BySpelled (text_of escapes word) (IsBadText escapes word) answers outcome
+ByText escapes word answers outcome = Then (λ text. text_of escapes word ≡ Ok text) (IsBadText escapes word) answers outcome
 
 -- ---- Characters that are left out
 
@@ -95,7 +97,7 @@ IsBadLeftOut option fault = ⊥
 
 -- what is answered for the characters that an option leaves out, or that it spells none
 abbrev pub ByLeftOut : Option (List ℕ) → (List ℕ → Result Answer RunFault → Type 0) → Result Answer RunFault → Type 0
-ByLeftOut option answers outcome = BySpelled (spelled_by option) (IsBadLeftOut option) answers outcome
+ByLeftOut option answers outcome = Then (λ left_out. spelled_by option ≡ Ok left_out) (IsBadLeftOut option) answers outcome
 
 -- a character, spelled after a blank
 abbrev pub spelled_after_blank : ℕ → List ℕ

@@ -19,7 +19,7 @@ use Rattle.brl_clashes.specs.declared.verdict.Outcome.TheVariants.{Unambiguous, 
 use Rattle.brl_rules.specs.TableView.{TableView}
 use Rattle.brl_pairs.specs.Divergence.{are_rules, has_rules}
 use Rattle.brl_rules.specs.Translation.{IsClash}
-use Rattle.brl_search.proofs.UpTo.{not_back}
+use Rattle.brl_search.proofs.FoundFor.{not_back}
 use Rattle.brl_search.specs.Clashes.{AreClashes, AreRuleClashes, ClashesDiverge, IsRuleClash, rules_of_clashes}
 use Rattle.brl_traces.proofs.Widening.{clashes_widen}
 use Rattle.brl_traces.specs.Traces.{ClashesDivergeAtWithout, TracesDivergeAt}

@@ -10,7 +10,7 @@ use crate::section::{Section, is_whole};
 use brl_progress::Progress;
 use brl_rules::Table;
 use brl_search::clashes;
-use brl_without::{LeftOut, Scope};
+use brl_without::LeftOut;
 use std::alloc::{AllocError, Global};
 
 /// Lists every pair of rules of a table at which clashing texts diverge that use none of some
@@ -22,12 +22,12 @@ pub fn list_sections<P: Progress>(
     alloc: Global,
     table: &Table,
     limit: u64,
-    scope: Scope<'_, P>,
+    left_out: &LeftOut,
+    progress: &mut P,
 ) -> Result<Vec<Section>, AllocError>
     requires { limit ≤ 4294967295 }
-    ensures { IfOk result (λ sections. AreSections table.now scope.entry.left_out.now limit sections.items) }
+    ensures { IfOk result (λ sections. AreSections table.now left_out.now limit sections.items) }
 {
-    let Scope { left_out, progress } = scope;
     let kept = kept_characters(alloc, table, left_out)?;
     let kinds = section_kinds(alloc, table, kept.as_slice())?;
     let mut sections = Vec::new(alloc);
@@ -57,6 +57,6 @@ fn list_section<P: Progress>(
     ensures kind { IfOk result (λ s. s.kind ≡ kind) }
     ensures found { IfOk result (λ s. AreClashes left_out.now table.now limit s.found) }
 {
-    let found = clashes(alloc, table, limit, Scope { left_out, progress })?;
+    let found = clashes(alloc, table, limit, left_out, progress)?;
     Ok(Section { kind, found })
 }

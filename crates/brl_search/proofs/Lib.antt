@@ -6,4 +6,4 @@ pub mod TableSearch
 pub mod RuleClashes
 mod WholeList
 pub mod Used
-pub mod UpTo
+pub mod FoundFor

@@ -4,4 +4,4 @@ pub mod Small
 pub mod Smaller
 pub mod Clashes
 pub mod Used
-pub mod FoundUpTo
+pub mod Scoped

@@ -1,11 +1,10 @@
 //! The search of a table for a certificate or a clash.
 //!
-//! - `search` searches a table and returns what it `Found`. `search_with` has options: the
-//!   characters that the texts don't use, and who hears how far the search is.
+//! - `search` searches a table and returns what it `Found`. `search_table` does so for what a
+//!   `Scope` asks for: the characters that the texts don't use, the pairs of rules that are
+//!   excused, and who hears how far the search is.
 //! - `clashes` lists every pair of rules at which clashing texts diverge, each with a clash, or as
 //!   many as the limit lets it find.
-//! - `search_up_to` searches a table where pairs of rules are accepted, and others may be
-//!   exchanged.
 //! - `small_clash_of` leaves characters out of two `Texts` while they clash, and where a pair of
 //!   rules is given, while `clash_at` says that their traces diverge at it.
 //! - `unused_rules` lists the rules of a table that no text uses.
@@ -31,20 +30,20 @@
 mod dues_laws;
 mod keys;
 mod list_laws;
+mod scoped;
 mod seed;
 mod small;
 mod table_clashes;
 mod table_search;
 mod texts;
 mod unused;
-mod up_to;
 
 pub use dues_laws::{dues_certificate_law, dues_closed_law, dues_reached_law};
 pub use list_laws::{accepted_list_law, whole_list_law};
+pub use scoped::{Searched, search_table};
 pub use seed::seed_of;
 pub use small::small_clash_of;
 pub use table_clashes::{ClashList, RuleClash, clashes};
-pub use table_search::{Found, SearchFault, search, search_with};
+pub use table_search::{Found, SearchFault, search};
 pub use texts::{Texts, clash_at};
 pub use unused::{UnusedRules, unused_rules};
-pub use up_to::{FoundUpTo, search_up_to};

@@ -15,7 +15,7 @@ use brl_progress::Progress;
 use brl_rules::Table;
 use brl_states::DuesState;
 use brl_traces::{dues_divergence_law, dues_trace_law};
-use brl_without::{LeftOut, Scope, Without, exact_without_law};
+use brl_without::{LeftOut, Without, exact_without_law};
 use std::alloc::{AllocError, Global};
 
 /// A pair of rules, by their numbers, and a clash whose texts diverge at it. No character can be
@@ -54,12 +54,12 @@ pub fn clashes<P: Progress>(
     alloc: Global,
     table: &Table,
     limit: u64,
-    scope: Scope<'_, P>,
+    left_out: &LeftOut,
+    progress: &mut P,
 ) -> Result<ClashList, AllocError>
     requires { limit ≤ 4294967295 }
-    ensures { IfOk result (AreClashes scope.entry.left_out.now table.now limit) }
+    ensures { IfOk result (AreClashes left_out.now table.now limit) }
 {
-    let Scope { left_out, progress } = scope;
     let dues = Dues::new(alloc, table);
     let machine = Without::new(&dues, left_out);
     let seed = seed_of(alloc, table)?;

@@ -5,7 +5,6 @@ ghost use Rattle.brl_search.specs.Found.{IfCertified, IfClashing, IsFound, IsFou
 ghost use Rattle.brl_search.specs.Searched.{machine_of};
 ghost use Rattle.brl_search.specs.Small.{IsSmallClash};
 ghost use Rattle.brl_rules.specs.Translation.{IsUnambiguous};
-ghost use Rattle.brl_without.specs.Tables.{IsUnambiguousWithout};
 ghost use Rattle.brl_without.specs.Without.{without};
 
 use crate::{Texts, seed_of, small_clash_of};
@@ -16,7 +15,7 @@ use brl_pairs::numbered_sets_law;
 use brl_progress::{NoProgress, Progress};
 use brl_rules::Table;
 use brl_states::{Cert, DuesState};
-use brl_without::{LeftOut, Scope, Without, exact_without_law, unambiguous_without_law};
+use brl_without::{LeftOut, Without, exact_without_law, unambiguous_without_law};
 use std::alloc::{AllocError, Global};
 
 /// What a search of a table finds.
@@ -46,42 +45,22 @@ pub fn search(alloc: Global, table: &Table, limit: u64) -> Result<Found, SearchF
     ensures small { IfOk result (IfClashing (IsSmallClash table.now)) }
 {
     let left_out = LeftOut::none(alloc);
-    search_silently(alloc, table, limit, &left_out)
+    find(alloc, table, limit, &left_out, &mut NoProgress)
 }
 
-/// Searches a table for texts that use none of some characters, and reports nothing.
-fn search_silently(
+/// Searches a table for a certificate or a clash of texts that use none of some characters, over
+/// its dues machine without these. What is found so far is reported slice by slice.
+pub(crate) fn find<P: Progress>(
     alloc: Global,
     table: &Table,
     limit: u64,
     left_out: &LeftOut,
+    progress: &mut P,
 ) -> Result<Found, AllocError>
     requires { limit ≤ 4294967295 }
     ensures found { IfOk result (IsFoundWithout left_out.now table.now limit) }
     ensures small { IfOk result (IfClashing (IsSmallClash table.now)) }
 {
-    let scope = Scope {
-        left_out,
-        progress: &mut NoProgress,
-    };
-    search_with(alloc, table, limit, scope)
-}
-
-/// Searches a table for a certificate or a clash of texts that use none of some characters, over
-/// its dues machine without these. Else the same as `search`. What is found so far is reported
-/// slice by slice.
-pub fn search_with<P: Progress>(
-    alloc: Global,
-    table: &Table,
-    limit: u64,
-    scope: Scope<'_, P>,
-) -> Result<Found, AllocError>
-    requires { limit ≤ 4294967295 }
-    ensures found { IfOk result (IsFoundWithout scope.entry.left_out.now table.now limit) }
-    ensures unambiguous { IfOk result (IfCertified (λ _. IsUnambiguousWithout scope.entry.left_out.now table.now)) }
-    ensures small { IfOk result (IfClashing (IsSmallClash table.now)) }
-{
-    let Scope { left_out, progress } = scope;
     let dues = Dues::new(alloc, table);
     let machine = Without::new(&dues, left_out);
     let seed = seed_of(alloc, table)?;

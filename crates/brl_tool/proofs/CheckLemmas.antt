@@ -1,97 +1,173 @@
 -- What is answered for the judge's outcome.
-use Rattle.std.proofs.Common.{◌≡◌, ℕ, ◌<◌, List, length, ◌⊎◌, inl, inr, Result, Ok, Err, IfOk, IfErr, arith, refl, subst, sym}
-use Rattle.brl_accept.specs.Judging.{IsAcceptedWithout, IsRefusedByWithout}
+use Rattle.std.proofs.Common.{◌≡◌, ◌∙◌, ℕ, ◌<◌, ◌≤◌, List, length, inl, inr, Option, None, Some, Result, Ok, Err, ap, arith, refl, subst, sym}
+use Rattle.brl_accept.proofs.Judged.{excused_accepted, not_accepted, not_closed_up_to, same_accepted}
+use Rattle.brl_accept.specs.Excusing.{IsAcceptedUpTo, IsRefusedUpTo, IsShown, closed_up_to}
+use Rattle.brl_accept.specs.Judging.{IsAcceptedFor, closed_without}
 use Rattle.brl_closure.specs.declared.check.checker.Accepted.{Accepted}
 use Rattle.brl_accept.specs.declared.judge_fault.JudgeFault.{JudgeFault}
 use Rattle.brl_accept.specs.declared.judge_fault.JudgeFault.TheVariants as judge
+use Rattle.brl_accepted.specs.declared.reading.Excusal.{Excusal}
 use Rattle.brl_failure.specs.Failure.{IfFault}
 use Rattle.brl_failure.specs.declared.failure.Failure.{Failure}
 use Rattle.brl_failure.specs.declared.failure.Failure.TheVariants as failures
-use Rattle.brl_lines.specs.Answer.{FileAnswer, FileAnswers, IsDeterministic, Holds, Large, MayAnswer, Missing, Unreadable, most_file_bytes}
+use Rattle.brl_lines.specs.Answer.{FileAnswers, IsDeterministic, Holds, Large, MayAnswer, Missing, Unreadable, most_file_bytes}
+use Rattle.brl_lines.specs.Outcome.{CountsFailure}
+use Rattle.brl_lines.specs.Tokens.{LineView}
 use Rattle.brl_lines.specs.declared.fault.LoadFaultKind.{LoadFaultKind}
 use Rattle.brl_lines.specs.declared.fault.LoadFaultKind.TheVariants as kinds
-use Rattle.brl_table.specs.Files.{IsTableOf}
+use Rattle.brl_lines.specs.declared.operand.CharsFault.{CharsFault}
+use Rattle.brl_table.specs.Files.{IsFaultAt, IsTableOf}
+use Rattle.brl_table.specs.Reading.{table_of}
+use Rattle.brl_table.specs.declared.no_table.NoTable.{NoTable as NoTableFault}
 use Rattle.brl_table.specs.declared.no_table.NoTable.TheVariants as no_table
 use Rattle.brl_rules.specs.TableView.{TableView}
-use Rattle.brl_answers.specs.Answers.{UnlessMemory}
-use Rattle.brl_tool.specs.Verdicts.{AcceptsGood, Checks, IsAcceptance, IsFaultOfFile, IsRefusal, LacksBytes, Renders}
+use Rattle.brl_answers.specs.Answers.{EndsAs, HasNoTable, HasTextAndStatus, IsBadLeftOut, UnlessMemory, load_outcome, spelled_by, with_left_out_line}
 use Rattle.brl_answers.specs.declared.answer.Answer.{Answer}
 use Rattle.brl_answers.specs.declared.run_fault.RunFault.{RunFault}
-use Rattle.brl_answers.specs.declared.run_fault.RunFault.TheVariants.{Load, Table, Wide, Memory, NotDefined}
-use Rattle.brl_without.specs.Tables.{IsUnambiguousWithout}
+use Rattle.brl_answers.specs.declared.run_fault.RunFault.TheVariants.{BadLeftOut, Load, Table, Wide, Memory, NotDefined}
+use Rattle.brl_answers.specs.declared.status.Status.TheVariants.{Done}
+use Rattle.brl_tool.proofs.OfFiles.{lines_of}
+use Rattle.brl_tool.specs.Excusing.{ByExcusal}
+use Rattle.brl_tool.specs.FileBytes.{ByBytes, IsFaultOfFile, LacksBytes}
+use Rattle.brl_tool.specs.Verdicts.{Checks, IsAcceptance, IsRefusal, Judges, JudgesFile, RendersFailure, accepted_line}
+use Rattle.brl_without.specs.Scope.{IsNothing}
+use Rattle.brl_without.specs.Tables.{AreDefined, IsUndefined}
 
 -- ---- The judge's outcome
 
-module _ (left_out : List ℕ) (gives : FileAnswers) (path cert bytes : List ℕ) (holds : MayAnswer gives cert (Holds bytes)) where
+module _ (left_out : List ℕ) (accept : Option (List ℕ)) (excusal : Excusal) (t : TableView) (bytes : List ℕ) (defined : AreDefined t left_out) where
+  abbrev IsJudged : Result Answer RunFault → Type 0
+  IsJudged = Judges left_out accept t bytes excusal
+
   -- an answer, unless memory ran out
-  unless : (is : Answer → Type 0) (result : Result Answer RunFault) → UnlessMemory is result → ((answer : Answer) → is answer → Checks left_out gives path cert (Ok answer)) → Checks left_out gives path cert result
+  unless : (is : Answer → Type 0) (result : Result Answer RunFault) → UnlessMemory is result → ((answer : Answer) → is answer → IsJudged (Ok answer)) → IsJudged result
   unless is (Ok answer) h then = then answer h
-  unless is (Err Memory) h then = inr (bytes, holds, tt)
+  unless is (Err Memory) h then = tt
   unless is (Err fault) h then = absurd h
 
-  -- a fault is answered as it is
-  as_it_is : (fault : RunFault) (result : Result Answer RunFault) → Checks left_out gives path cert (Err fault) → result ≡ Err fault → Checks left_out gives path cert result
-  as_it_is fault result is e = subst (Checks left_out gives path cert) (sym e) is
+  pub accepted_told : (accepted : Accepted) → IsShown left_out excusal.excused t → IsAcceptedUpTo left_out excusal.excused t bytes accepted → (result : Result Answer RunFault) → UnlessMemory (IsAcceptance left_out accept excusal accepted) result → IsJudged result
+  accepted_told accepted shown is result says = unless (IsAcceptance left_out accept excusal accepted) result says (λ answer told. inl (shown, (accepted, is, told)))
 
-  refused_as : (failure : Failure JudgeFault) → IfFault (IsRefusedByWithout left_out gives path bytes) failure → (result : Result Answer RunFault) → Renders left_out (Err failure) result → Checks left_out gives path cert result
-  refused_as (failures.Fault (judge.NoTable (no_table.Load fault))) h result told = as_it_is (Load fault) result (inr (bytes, holds, h)) told
-  refused_as (failures.Fault (judge.NoTable (no_table.Table fault))) h result told = as_it_is (Table fault) result (inr (bytes, holds, h)) told
-  refused_as (failures.Fault (judge.NotDefined fault)) h result told = as_it_is (NotDefined fault) result (inr (bytes, holds, h)) told
-  refused_as (failures.Fault (judge.Cert fault)) h result told = unless IsRefusal result told (λ answer is. (bytes, holds, inr (judge.Cert fault, tt, h, is)))
-  refused_as (failures.Fault judge.OldVersion) h result told = unless IsRefusal result told (λ answer is. (bytes, holds, inr (judge.OldVersion, tt, h, is)))
-  refused_as (failures.Fault (judge.Wide fault)) h result told = as_it_is (Wide fault) result (inr (bytes, holds, h)) told
-  refused_as (failures.Fault (judge.Refused fault)) h result told = unless IsRefusal result told (λ answer is. (bytes, holds, inr (judge.Refused fault, tt, h, is)))
-  refused_as failures.Memory h result told = as_it_is Memory result (inr (bytes, holds, tt)) told
+  pub refused_told : (failure : Failure JudgeFault) → IfFault (IsRefusedUpTo left_out excusal.excused t bytes) failure → (result : Result Answer RunFault) → RendersFailure failure result → IsJudged result
+  refused_told (failures.Fault (judge.NoTable fault)) h result told = absurd h.1.2
+  refused_told (failures.Fault (judge.NotDefined fault)) h result told = absurd (let here : AreDefined t left_out = defined in cc h.1)
+  refused_told (failures.Fault (judge.Cert fault)) h result told = unless IsRefusal result told (λ answer says. inr (judge.Cert fault, tt, h, says))
+  refused_told (failures.Fault judge.OldVersion) h result told = unless IsRefusal result told (λ answer says. inr (judge.OldVersion, tt, h, says))
+  refused_told (failures.Fault (judge.Wide fault)) h result told = subst IsJudged (sym told) h
+  refused_told (failures.Fault (judge.Refused fault)) h result told = unless IsRefusal result told (λ answer says. inr (judge.Refused fault, tt, h, says))
+  refused_told failures.Memory h result told = subst IsJudged (sym told) tt
 
-  -- the answer to a judge's outcome is one about the table of the path
-  pub judged : (outcome : Result Accepted (Failure JudgeFault))
-      → IfOk outcome (λ accepted. (t : TableView) × IsTableOf gives path t × IsUnambiguousWithout left_out t × IsAcceptedWithout left_out t bytes accepted)
-      → IfErr outcome (IfFault (IsRefusedByWithout left_out gives path bytes))
-      → (result : Result Answer RunFault) → Renders left_out outcome result → Checks left_out gives path cert result
-  judged (Ok accepted) is refused result told =
-      unless (IsAcceptance left_out accepted) result told (λ answer says. (bytes, holds, inl (is.0, is.1, is.2, (accepted, is.3, says))))
-  judged (Err failure) is refused result told = refused_as failure refused result told
+  -- it counts no failure of a file
+  pub judged_count : (before now : ℕ) → now ≡ before → (result : Result Answer RunFault) → IsJudged result → CountsFailure before now (load_outcome result)
+  judged_count before now same (Ok answer) h = same
+  judged_count before now same (Err (Wide fault)) h = same
+  judged_count before now same (Err Memory) h = inl same
+  judged_count before now same (Err fault) h = absurd h
 
-  -- a good certificate is accepted, unless memory ran out
-  pub accepted_good : (outcome : Result Accepted (Failure JudgeFault))
-      → (IsDeterministic gives → (t : TableView) → IsTableOf gives path t → (accepted : Accepted) → IsAcceptedWithout left_out t bytes accepted → (outcome ≡ Ok accepted) ⊎ (outcome ≡ Err failures.Memory))
-      → (result : Result Answer RunFault) → Renders left_out outcome result → AcceptsGood left_out gives path cert result
-  accepted_good outcome decides result told one certificate there short t table accepted deserved =
-      let are : certificate ≡ bytes = same_bytes (one cert (Holds certificate) (Holds bytes) there holds) in
-      let decided = decides one t table accepted (subst (λ (b : List ℕ). IsAcceptedWithout left_out t b accepted) are deserved) in
-      elim decided [
-        | inl ok ↦ subst (λ (o : Result Accepted (Failure JudgeFault)). Renders left_out o result) ok told
-        | inr err ↦ subst (UnlessMemory (IsAcceptance left_out accepted)) (sym (subst (λ (o : Result Accepted (Failure JudgeFault)). Renders left_out o result) err told)) tt
-      ]
+-- ---- A certificate that is acceptable, over files that each have one answer
+
+module _ (gives : FileAnswers) (one : IsDeterministic gives) (left_out path cert bytes : List ℕ) (there : MayAnswer gives cert (Holds bytes)) (short : length bytes ≤ most_file_bytes) where
+  -- the file has bytes, and few enough
+  same_bytes : (found : List ℕ) → MayAnswer gives cert (Holds found) → found ≡ bytes
+  same_bytes found holds = by (one cert (Holds found) (Holds bytes) holds there)
     where
-      same_bytes : {x y : List ℕ} → Holds x ≡ Holds y → x ≡ y
-      same_bytes e = cc
+      by : Holds found ≡ Holds bytes → found ≡ bytes
+      by e = cc
 
--- a file with few enough bytes is read, unless memory runs out
-pub has_bytes : (left_out : List ℕ) (gives : FileAnswers) (path cert : List ℕ) (fault : RunFault) → IsFaultOfFile gives cert fault → AcceptsGood left_out gives path cert (Err fault)
-has_bytes left_out gives path cert fault h one bytes there short t table accepted deserved =
-    subst (λ (f : RunFault). UnlessMemory (IsAcceptance left_out accepted) (Err f)) (sym (by_fault fault h)) tt
-  where
-    other : (a : FileAnswer) → MayAnswer gives cert a → Holds bytes ≡ a
-    other a given = one cert (Holds bytes) a there given
+  lacks : (kind : LoadFaultKind) → LacksBytes (MayAnswer gives cert) kind → ⊥
+  lacks kinds.NotFound k = let e = one cert (Holds bytes) Missing there k in cc
+  lacks kinds.ReadFailed k = let e = one cert (Holds bytes) Unreadable there k in cc
+  lacks kinds.TooLarge k = elim k [
+    | inl large ↦ let e = one cert (Holds bytes) Large there large in cc
+    | inr (found, holds, long) ↦ let here = subst (λ (b : List ℕ). most_file_bytes < length b) (same_bytes found holds) long in absurd (omega (arith, here, short))
+  ]
+  lacks kinds.NotUtf8 k = k
+  lacks kinds.Cycle k = k
+  lacks kinds.TooDeep k = k
+  lacks kinds.LineTooLong k = k
+  lacks kinds.TooManyIncludes k = k
 
-    too_long : {x : List ℕ} → Holds bytes ≡ Holds x → most_file_bytes < length x → ⊥
-    too_long {x} e long = let are : bytes ≡ x = cc in let here = subst (λ (b : List ℕ). most_file_bytes < length b) (sym are) long in absurd (omega (arith, here, short))
+  has_bytes : (fault : RunFault) → IsFaultOfFile gives cert fault → fault ≡ Memory
+  has_bytes (Load found) k = absurd (lacks found.kind k.2)
+  has_bytes Memory k = refl
+  has_bytes fault k = absurd k
 
-    lacks : (kind : LoadFaultKind) → LacksBytes (MayAnswer gives cert) kind → ⊥
-    lacks kinds.NotFound k = let e = other Missing k in cc
-    lacks kinds.ReadFailed k = let e = other Unreadable k in cc
-    lacks kinds.TooLarge k = elim k [
-      | inl large ↦ let e = other Large large in cc
-      | inr (x, given, long) ↦ too_long (other (Holds x) given) long
+  -- the option spells characters
+  spells : (option : Option (List ℕ)) → spelled_by option ≡ Ok left_out → (fault : RunFault) → IsBadLeftOut option fault → fault ≡ Memory
+  spells (Some word) e (BadLeftOut named) bad = let (found, wrong) = bad.0 in cc
+  spells (Some word) e Memory bad = refl
+  spells None e Memory bad = refl
+  spells option e fault bad = absurd bad
+
+  module _ (t : TableView) (table : IsTableOf gives path t) (one_table : (u : TableView) → IsTableOf gives path u → t ≡ u) (no_fault : (fault : NoTableFault) → IsFaultAt gives path fault → ⊥)
+      (accepted : Accepted) (deserved : IsAcceptedFor (closed_without left_out) t bytes accepted) where
+    abbrev IsGood : Result Answer RunFault → Type 0
+    IsGood = UnlessMemory (HasTextAndStatus Done (with_left_out_line left_out (accepted_line accepted.states accepted.pairs)))
+
+    -- there is a table
+    has_table : (fault : RunFault) → HasNoTable gives path fault → fault ≡ Memory
+    has_table (Load fault) none = absurd (no_fault (no_table.Load fault) none)
+    has_table (Table fault) none = absurd (no_fault (no_table.Table fault) none)
+    has_table Memory none = refl
+    has_table fault none = absurd none
+
+    -- it defines what is left out
+    is_defined : (fault : RunFault) → EndsAs NotDefined (IsUndefined t left_out) fault → fault ≡ Memory
+    is_defined Memory ends = refl
+    is_defined fault ends = absurd (let (own, is, same) = ends in let here : AreDefined t left_out = deserved.0 in cc is.1)
+
+    -- a fault that is none but that memory ran out
+    ran_out : (result : Result Answer RunFault) (fault : RunFault) → result ≡ Err fault → fault ≡ Memory → IsGood result
+    ran_out result fault e same = subst IsGood (sym (e ∙ ap Err same)) tt
+
+    judged_good : (excusal : Excusal) → IsNothing excusal.excused → (result : Result Answer RunFault) → Judges left_out None t bytes excusal result → IsGood result
+    judged_good excusal nothing result h = by result h
+      where
+        good : IsAcceptedUpTo left_out excusal.excused t bytes accepted
+        good = excused_accepted left_out excusal.excused nothing t bytes accepted deserved
+
+        never : (fault : JudgeFault) → IsRefusedUpTo left_out excusal.excused t bytes fault → ⊥
+        never fault refused = not_accepted (closed_up_to left_out excusal.excused) (not_closed_up_to left_out excusal.excused) t bytes fault refused accepted good
+
+        by : (r : Result Answer RunFault) → Judges left_out None t bytes excusal r → IsGood r
+        by (Ok answer) judged = elim judged [
+          | inl (shown, (other, is, says)) ↦
+              subst (λ (a : Accepted). HasTextAndStatus Done (with_left_out_line left_out (accepted_line a.states a.pairs)) answer)
+              (same_accepted (closed_up_to left_out excusal.excused) (not_closed_up_to left_out excusal.excused) t bytes other accepted is good) says
+          | inr (fault, of, refused, says) ↦ absurd (never fault refused)
+        ]
+        by (Err (Wide fault)) judged = absurd (never (judge.Wide fault) judged)
+        by (Err Memory) judged = tt
+        by (Err fault) judged = absurd judged
+
+    by_excusal : (lines : List LineView) (result : Result Answer RunFault) → ByExcusal left_out gives None t lines (Judges left_out None t bytes) result → IsGood result
+    by_excusal lines result is = elim is [
+      | inl (defined, then) ↦ (elim then [
+        | inl (excusal, nothing, judged) ↦ judged_good excusal nothing result judged
+        | inr (fault, e, (path, none, why)) ↦ absurd cc
+      ])
+      | inr (fault, e, ends) ↦ ran_out result fault e (is_defined fault ends)
     ]
-    lacks kinds.NotUtf8 k = k
-    lacks kinds.Cycle k = k
-    lacks kinds.TooDeep k = k
-    lacks kinds.LineTooLong k = k
-    lacks kinds.TooManyIncludes k = k
 
-    by_fault : (fault : RunFault) → IsFaultOfFile gives cert fault → fault ≡ Memory
-    by_fault (Load found) k = absurd (lacks found.kind k.2)
-    by_fault Memory k = refl
-    by_fault fault k = absurd k
+    by_lines : (result : Result Answer RunFault) → JudgesFile left_out gives path None bytes result → IsGood result
+    by_lines result is = elim is [
+      | inl (lines, (paths, are, passes), then) ↦ by_excusal lines result
+          (subst (λ (u : TableView). ByExcusal left_out gives None u lines (Judges left_out None u bytes) result) (sym (one_table (table_of lines) (lines, lines_of gives path paths lines are, passes, refl))) then)
+      | inr (fault, e, none) ↦ ran_out result fault e (has_table fault none)
+    ]
+
+    -- it is accepted, unless memory runs out
+    pub accepts_good : (option : Option (List ℕ)) → spelled_by option ≡ Ok left_out → (result : Result Answer RunFault) → Checks gives path cert None option result → IsGood result
+    accepts_good option spelled result is = elim is [
+      | inl (characters, spells_too, then) ↦ by_bytes (subst (λ (cs : List ℕ). ByBytes gives cert (JudgesFile cs gives path None) result) (same_ok characters (spelled_by option) spells_too spelled) then)
+      | inr (fault, e, bad) ↦ ran_out result fault e (spells option spelled fault bad)
+    ]
+      where
+        same_ok : (characters : List ℕ) (r : Result (List ℕ) CharsFault) → r ≡ Ok characters → r ≡ Ok left_out → characters ≡ left_out
+        same_ok characters r e f = let g = sym e ∙ f in cc
+
+        by_bytes : ByBytes gives cert (JudgesFile left_out gives path None) result → IsGood result
+        by_bytes step = elim step [
+          | inl (found, holds, then) ↦ by_lines result (subst (λ (b : List ℕ). JudgesFile left_out gives path None b result) (same_bytes found holds) then)
+          | inr (fault, e, none) ↦ ran_out result fault e (has_bytes fault none)
+        ]

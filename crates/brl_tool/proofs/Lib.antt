@@ -1,5 +1,3 @@
-pub mod ClashesLemmas
-pub mod CutFaults
 pub mod GoodRows
 pub mod StatusLemmas
 pub mod StreamLemmas
@@ -9,5 +7,3 @@ pub mod NoticesLemmas
 pub mod OfFiles
 pub mod RunLemmas
 pub mod SearchLemmas
-pub mod UpToLemmas
-pub mod Answered

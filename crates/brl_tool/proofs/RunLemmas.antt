@@ -20,7 +20,7 @@ use Rattle.brl_lines.specs.Answer.{FileAnswers, Holds, MayAnswer}
 use Rattle.brl_lines.specs.Tokens.{LineView}
 use Rattle.brl_table.specs.Reading.{table_of}
 use Rattle.brl_tool.specs.Baselines.{IsBaseline, is_written, pruned_text, written_path, written_text}
-use Rattle.brl_tool.specs.Running.{IsPairsText, KeepsFilesRefuted, MayGainFiles, MeansRefuted, Performs, ReportsClash, ReportsClashes, ReportsRefusal, ReportsSlips, ReportsSuspect, ReportsUnknown, ReportsUnused, WritesFile, defined_status, stream_status}
+use Rattle.brl_tool.specs.Running.{IsPairsText, KeepsFilesRefuted, MayGainFiles, MeansRefuted, Performs, ReportsClash, ReportsClashes, ReportsRefusal, ReportsSlips, ReportsSuspect, ReportsUnknown, ReportsUnused, WritesFile, stream_status}
 
 -- files that give the same may answer the same
 same_may : {before after : FileAnswers} → after ≡ before → after.may ≡ before.may
@@ -35,13 +35,9 @@ refuted_by Undecided e = absurd (omega (arith, e))
 
 module _ (before after : World) (same_file : MayBeSame) (input : Option (List ℕ)) where
   -- a translation doesn't end so
-  not_translated : (outcome : Result (Unit {0}) RunFault) → stream_status outcome ≡ Refuted → ⊥
-  not_translated (Ok done) e = cc
+  not_translated : (outcome : Result (String Global) RunFault) → stream_status outcome ≡ Refuted → ⊥
+  not_translated (Ok text) e = unrefuted (length (string_bytes text) == 0) e
   not_translated (Err fault) e = never_refuted fault e
-
-  not_defined : (outcome : Result (String Global) RunFault) → defined_status outcome ≡ Refuted → ⊥
-  not_defined (Ok text) e = unrefuted (length (string_bytes text) == 0) e
-  not_defined (Err fault) e = never_refuted fault e
 
   -- one of the reports of status 1 was written
   abbrev pub IsReported : Type 0
@@ -52,10 +48,8 @@ module _ (before after : World) (same_file : MayBeSame) (input : Option (List �
   -- which report was written
   report_of : (asked : Question) → MeansRefuted asked before after → IsReported
   report_of (question.Clash path left right options) means = inl means
-  report_of (question.Check path cert option) means = inr (inl means)
-  report_of (question.CheckUpTo path cert accept option) means = inr (inl means)
-  report_of (question.Search path out limit option) means = inl means
-  report_of (question.SearchUpTo path out limit accept option) means = inl means
+  report_of (question.Check path cert accept option) means = inr (inl means)
+  report_of (question.Search path out limit accept option) means = inl means
   report_of (question.Clashes path limit first option pairs) means = inr (inr (inl (path.now, option_copied option, pairs, means)))
   report_of (question.Unused path limit) means = inr (inr (inr (inl means)))
   report_of (question.Survey paths brief) means = inr (inr (inr (inr (inl means))))
@@ -87,10 +81,8 @@ module _ (before after : World) (same_file : MayBeSame) (input : Option (List �
       gained (written_path pairs) (is_written pairs.prune list.is.taken list.is.left) (written_text pairs.prune list.baseline (table_of lines) lines list.is.found list.is.left)
       (λ path is. content_of pairs.prune (option_copied pairs.accept) (written_path pairs) list.baseline path lines list.is.found list.is.left (pruned_path pairs) list.read is) list.written
   gains (question.Clash path left right options) means keeps = inl (same_may keeps)
-  gains (question.Check path cert option) means keeps = inl (same_may keeps)
-  gains (question.CheckUpTo path cert accept option) means keeps = inl (same_may keeps)
-  gains (question.Search path out limit option) means keeps = inl (same_may keeps)
-  gains (question.SearchUpTo path out limit accept option) means keeps = inl (same_may keeps)
+  gains (question.Check path cert accept option) means keeps = inl (same_may keeps)
+  gains (question.Search path out limit accept option) means keeps = inl (same_may keeps)
   gains (question.Unused path limit) means keeps = inl (same_may keeps)
   gains (question.Survey paths brief) means keeps = inl (same_may keeps)
   gains (question.Slips path columns) means keeps = inl (same_may keeps)
@@ -100,8 +92,7 @@ module _ (before after : World) (same_file : MayBeSame) (input : Option (List �
   -- it wrote a report, and changed no other file
   pub performed_one : (asked : Task) (status : Status) → Performs asked same_file input before after status → code_of status ≡ 1
       → IsReported × MayGainFiles before.gives after.gives
-  performed_one (task.Translate path form) status is one = absurd (not_translated is.1.0 (sym is.1.2 ∙ refuted_by status one))
-  performed_one (task.TranslateDefined path form) status is one = absurd (not_defined is.1.0 (sym is.1.2 ∙ refuted_by status one))
+  performed_one (task.Translate path form lacking) status is one = absurd (not_translated is.1.0 (sym is.1.2 ∙ refuted_by status one))
   performed_one (task.Ask asked) status is one = let (means, keeps) = is.refuted (refuted_by status one) in (report_of asked means, gains asked means keeps)
 
 -- the same since before the folders were set

@@ -1,31 +1,34 @@
 -- What the status says of what was delivered.
-use Rattle.std.proofs.Common.{◌≡◌, ◌≢◌, ◌∙◌, ℕ, suc, Bool, ap, true, false, cond, List, [], ◌∷◌, ◌++◌, All, arith, length, map, inl, inr, Option, None, Some, Result, Ok, Err, refl, subst, sym}
+use Rattle.std.proofs.Common.{◌≡◌, ◌≢◌, ◌∙◌, ℕ, suc, Bool, ap, true, false, cond, List, [], ◌∷◌, All, arith, length, map, inl, inr, Option, None, Some, Result, Ok, Err, refl, subst, sym}
 use Rattle.std.specs.Option.{option_copied}
 use Rattle.std.proofs.lemmas.Bool.{eqb-true}
 use Rattle.std.specs.Prelude.{◌==◌, ◌||◌, flat_map, if◌then◌else◌, is_some, nat_lt, string_bytes}
 use Rattle.std.specs.List.{list_all, list_any}
-use Rattle.std.specs.Str.Lines.{lines as rows_of_text}
 use Rattle.std.proofs.lemmas.List.{get_or_append_left, length-append}
 use Rattle.brl_cert.specs.Reading.{spelling}
 use Rattle.brl_lines.specs.Answer.{FileAnswers}
 use Rattle.brl_lines.specs.Lines.{Answers as Given}
 use Rattle.brl_lines.specs.Outcome.{AreGiven, AreLinesOfFiles}
-use Rattle.brl_lines.specs.declared.operand.CharsFault.{CharsFault}
 use Rattle.brl_table.specs.Files.{IsTableOf, IsTableOfFiles}
+use Rattle.brl_accept.specs.Excusing.{IsShown}
+use Rattle.brl_accepted.specs.declared.reading.Excusal.{Excusal}
+use Rattle.brl_search.specs.Scoped.{IsSearched}
 use Rattle.brl_search.specs.Searched.{certificate_of}
+use Rattle.brl_search.specs.declared.scoped.Searched.{Searched}
+use Rattle.brl_search.specs.declared.scoped.Searched.TheVariants.{Found, NotExchangeable}
+use Rattle.brl_search.specs.declared.table_search.Found.TheVariants.{Certified, Clashing, Limit}
+use Rattle.brl_states.specs.declared.cert.Cert.TheVariants.{Dues, Window, Word}
 use Rattle.brl_lines.specs.Tokens.{LineView}
 use Rattle.brl_lines.specs.Lines.{lines_of as lines_of_answers}
 use Rattle.brl_tool.proofs.OfFiles.{lines_of, of_files}
 use Rattle.brl_tool.specs.ByLines.{shown_lines}
-use Rattle.brl_cli.specs.declared.command.TextOptions.{TextOptions}
 use Rattle.brl_search.specs.Used.{AreUnused, AreUnusedRules, IsRule, IsUsed}
 use Rattle.brl_search.specs.declared.unused.UnusedRules.{UnusedRules}
-use Rattle.brl_search.specs.declared.unused.UnusedRules.TheVariants.{Limit, Unused}
+use Rattle.brl_search.specs.declared.unused.UnusedRules.TheVariants as unused
 use Rattle.brl_report.specs.Unused.{unused_text}
 use Rattle.brl_rules.specs.TableView.{TableView}
-use Rattle.brl_rules.specs.Translation.{IsClash}
-use Rattle.brl_report.specs.Report.{report_text}
 use Rattle.brl_answers.proofs.DeliveryLemmas.{none_changes, one_changes}
+use Rattle.brl_answers.proofs.StepLemmas.{then_ok}
 use Rattle.brl_clashes.proofs.Verdicts.{none_clash, only_accepted, other_clash}
 use Rattle.brl_clashes.specs.Sections.{are_whole, lists_none, outcome_of}
 use Rattle.brl_clashes.specs.declared.accepted.Taken.{Taken}
@@ -33,24 +36,23 @@ use Rattle.brl_clashes.specs.declared.section.Section.{Section}
 use Rattle.brl_clashes.specs.declared.verdict.Outcome.{Outcome}
 use Rattle.brl_clashes.specs.declared.verdict.Outcome.TheVariants.{Unambiguous, Clashing, Unfinished}
 use Rattle.brl_table.specs.Reading.{PassesAll, table_of}
-use Rattle.brl_tool.specs.Baselines.{AreExcused, AreFilesWith, IsBaseline, is_written, leaves_stale, written_path, written_text}
+use Rattle.brl_tool.specs.Baselines.{AreExcused, AreFilesWith, IsBaseline, is_written, leaves_stale, read_paths, written_path, written_text}
 use Rattle.brl_traces.specs.Traces.{ClashesDivergeAtWithout}
-use Rattle.brl_tool.specs.Diagnosing.{DiagnosesByFile, IsDiagnosis, status_of_sections}
+use Rattle.brl_tool.specs.Diagnosing.{IsDiagnosis, status_of_sections}
 use Rattle.brl_cut.specs.Cuts.{IsReadAs, written_root}
 use Rattle.brl_cut.specs.Edits.{Texts}
-use Rattle.brl_tool.specs.Comparing.{ComparesByFile, ComparesByWords, IsComparison}
-use Rattle.brl_tool.specs.Tracing.{TracesByFile}
+use Rattle.brl_tool.specs.Comparing.{IsComparison}
 use Rattle.brl_tool.specs.Unused.{status_of_list, status_of_unused, text_of_unused}
-use Rattle.brl_tool.specs.UpTo.{ChecksUpTo, IsJudgementUpTo, SearchesUpTo}
-use Rattle.brl_tool.specs.Verdicts.{IsFileWith, IsJudgement, Judges, SearchesByFile}
-use Rattle.brl_pairs.specs.declared.excused.Excused.{Excused}
-use Rattle.brl_answers.specs.Answers.{BySpelled, ByText, IsBadLeftOut, IsBadText, spelled_by, text_of}
+use Rattle.brl_tool.specs.Excusing.{Excuses}
+use Rattle.brl_tool.specs.FileBytes.{IsFileWith}
+use Rattle.brl_tool.specs.Verdicts.{IsJudgement, SaysFound}
+use Rattle.brl_answers.specs.Answers.{spelled_by}
 use Rattle.brl_answers.specs.Delivery.{Delivers, World, KeepsFiles, Prints, Writes}
 use Rattle.brl_answers.specs.Files.{GivesAlso, MayBeSame, OthersStay}
 use Rattle.brl_answers.specs.Making.{FilesAfter}
-use Rattle.brl_tool.specs.Running.{Answers, Asks, ClashAtAccepted, KeepsFilesBut, KeepsFilesRefuted, KeepsFilesUnlessWritten, MeansDone, MeansRefuted, WritesFile, WritesList, WritesTable}
+use Rattle.brl_tool.specs.Running.{Answers, Asks, ClashAtAccepted, KeepsFilesBut, KeepsFilesRefuted, KeepsFilesUnlessWritten, IsShownBut, MeansDone, MeansRefuted, ReportsCertificate, ReportsClash, WritesFile, WritesList, WritesTable}
 use Rattle.brl_slips.specs.declared.findings.Findings.{Findings}
-use Rattle.brl_tool.specs.Slipping.{IsSlipsAnswer, shows_none, status_of_slips}
+use Rattle.brl_tool.specs.Slipping.{shows_none, status_of_slips}
 use Rattle.brl_tool.specs.Surveying.{IsPart, IsReportIfLoaded, IsSuspectAt, Part, status_by, text_of_part}
 use Rattle.brl_tool.specs.Suspects.{has_unknown_opcode}
 use Rattle.brl_table.specs.Survey.{faulty_line_view}
@@ -61,7 +63,7 @@ use Rattle.brl_answers.specs.declared.new_files.NewFiles.TheVariants.{Nothing, I
 use Rattle.brl_answers.specs.declared.run_fault.RunFault.{RunFault}
 use Rattle.brl_answers.specs.declared.run_fault.RunFault.TheVariants.{Wide, Memory}
 use Rattle.brl_answers.specs.declared.status.Status.{Status}
-use Rattle.brl_answers.specs.declared.status.Status.TheVariants.{Done, Faulty, Refuted}
+use Rattle.brl_answers.specs.declared.status.Status.TheVariants.{Done, Faulty, Refuted, Undecided}
 use Rattle.brl_cli.specs.declared.command.PairFiles.{PairFiles}
 use Rattle.brl_cli.specs.declared.command.Question.{Question}
 use Rattle.brl_cli.specs.declared.command.Question.TheVariants as question
@@ -142,38 +144,21 @@ some_listed false some e = cc
 
 none_unused : (t : TableView) (lines : List LineView) (limit : ℕ) (found : UnusedRules) → AreUnusedRules t limit found → status_of_unused found ≡ Done
     → (text_of_unused t lines found ≡ unused_text t lines []) × ((number : ℕ) → IsRule t number → IsUsed t number)
-none_unused t lines limit (Unused numbers) rules done = by numbers.items rules done
+none_unused t lines limit (unused.Unused numbers) rules done = by numbers.items rules done
   where
     by : (xs : List ℕ) → AreUnused t xs → status_of_list (length xs) ≡ Done → (unused_text t lines xs ≡ unused_text t lines []) × ((number : ℕ) → IsRule t number → IsUsed t number)
     by [] are e = (refl, λ number is. elim (are.others number is) [ inl one ↦ absurd (let within = one.1 in omega (arith, within)) | inr used ↦ used ])
     by (x ∷ xs) are e = absurd (some_listed (length (x ∷ xs) == 0) (λ none. (let size = eqb-true (length (x ∷ xs)) 0 none in omega (arith, size))) e)
-none_unused t lines limit (Limit states) rules done = absurd cc
+none_unused t lines limit (unused.Limit states) rules done = absurd cc
 
 some_unused : (t : TableView) (lines : List LineView) (limit : ℕ) (found : UnusedRules) → AreUnusedRules t limit found → status_of_unused found ≡ Refuted
     → (numbers : List ℕ) × (numbers ≢ []) × AreUnused t numbers × (text_of_unused t lines found ≡ unused_text t lines numbers)
-some_unused t lines limit (Unused numbers) rules refuted = (numbers.items, some numbers.items refuted, rules, refl)
+some_unused t lines limit (unused.Unused numbers) rules refuted = (numbers.items, some numbers.items refuted, rules, refl)
   where
     some : (xs : List ℕ) → status_of_list (length xs) ≡ Refuted → xs ≢ []
     some [] e none = cc
     some (x ∷ xs) e none = cc
-some_unused t lines limit (Limit states) rules refuted = absurd cc
-
--- what is spelled is known where there is an answer
-spelled_in : (spelled : Result (List ℕ) CharsFault) (is_bad : RunFault → Type 0) (promises : List ℕ → Result Answer RunFault → Type 0) (answer : Answer) → BySpelled spelled is_bad promises (Ok answer)
-    → (characters : List ℕ) × (spelled ≡ Ok characters) × promises characters (Ok answer)
-spelled_in spelled is_bad promises answer is = elim is [
-  | inl known ↦ known
-  | inr (fault, e, bad) ↦ absurd cc
-]
-
--- an answer of two words is one of two texts
-texts_compared : (options : TextOptions) (gives : FileAnswers) (path left right : List ℕ) (answer : Answer) → ComparesByWords options gives path left right (Ok answer)
-    → (l r : List ℕ) × ComparesByFile options.lines gives path l r (Ok answer)
-texts_compared options gives path left right answer is =
-    let compares : List ℕ → List ℕ → Result Answer RunFault → Type 0 = ComparesByFile options.lines gives path in
-    let (l, left_is, rest) = spelled_in (text_of options.escapes left) (IsBadText options.escapes left) (λ l. ByText options.escapes right (compares l)) answer is in
-    let (r, right_is, compared) = spelled_in (text_of options.escapes right) (IsBadText options.escapes right) (compares l) answer rest in
-    (l, r, compared)
+some_unused t lines limit (unused.Limit states) rules refuted = absurd cc
 
 module _ (before after : World) (same_file : MayBeSame) where
   -- an answer with a status that no fault has was written whole
@@ -216,10 +201,57 @@ module _ (before after : World) (same_file : MayBeSame) where
   table_stays path out paths t (lines, (answers, given, are, lines_are), passes, is) apart others =
       (lines, (answers, answers_stay out others answers (subst (All (λ one. one ≢ out)) (sym are) apart) given, ap (λ fs. lines_of_answers fs answers path) others.0 ∙ lines_are), passes, is)
 
-  -- a file that is none of some and another is none of these
-  front_apart : (out : List ℕ) (paths : List (List ℕ)) (accept : List ℕ) → All (λ one. one ≢ out) (paths ++ accept ∷ []) → All (λ one. one ≢ out) paths
-  front_apart out paths accept apart k d within =
+  -- a file that is none of those that are read is none of a table's
+  front_apart : (out : List ℕ) (paths : List (List ℕ)) (accept : Option (List ℕ)) → All (λ one. one ≢ out) (read_paths paths accept) → All (λ one. one ≢ out) paths
+  front_apart out paths None apart k d within = apart k d within
+  front_apart out paths (Some accept) apart k d within =
       subst (λ (one : List ℕ). one ≢ out) (get_or_append_left paths (accept ∷ []) d k within) (apart k d (omega (arith, within, length-append paths (accept ∷ []))))
+
+  -- ---- What a certificate and a search mean
+
+  -- what is shown, where nothing is excused or a file says what is
+  shown_but : (accept : Option (List ℕ)) (left_out : List ℕ) (lines : List LineView) (excusal : Excusal) → Excuses before.gives accept (table_of lines) lines excusal → IsShown left_out excusal.excused (table_of lines)
+      → IsShownBut accept left_out excusal (table_of lines)
+  shown_but None left_out lines excusal nothing shown = shown.1 nothing
+  shown_but (Some path) left_out lines excusal at shown = shown
+
+  module _ (path out : List ℕ) (accept option : Option (List ℕ)) (limit : ℕ) (left_out : List ℕ) (spelled : spelled_by option ≡ Ok left_out) (paths : List (List ℕ)) (lines : List LineView) (are : AreLinesOfFiles before.gives path paths lines) (passes : PassesAll lines)
+      (apart : All (λ one. one ≢ out) (read_paths paths accept)) (excusal : Excusal) (excused : Excuses before.gives accept (table_of lines) lines excusal) (answer : Answer) (files : FilesAfter before.gives after.gives answer.files)
+      (prints : Prints before after (string_bytes answer.text)) where
+    abbrev IsMeant : Type 0
+    IsMeant = (answer.status ≡ Done → ReportsCertificate before after path out accept option) × (answer.status ≡ Refuted → ReportsClash before after × KeepsFiles before after)
+
+    -- with another status it says neither
+    neither : (s : Status) → answer.status ≡ s → (s ≡ Done → ⊥) → (s ≡ Refuted → ⊥) → IsMeant
+    neither s is undone unrefuted = ((λ done. absurd (undone (sym is ∙ done))), (λ refuted. absurd (unrefuted (sym is ∙ refuted))))
+
+    found_means : (found : Searched) → IsSearched left_out excusal.excused (table_of lines) limit found → SaysFound left_out accept excusal (table_of lines) out found answer → IsMeant
+    found_means (Found (Certified (Word body))) is (shown, accepted, (status, text, file, read)) = (
+      (λ done. let (gives, others) = file_written (spelling (certificate_of body)) out answer.files file files in
+          let stays = table_stays path out paths (table_of lines) (lines, are, passes, refl) (front_apart out paths accept apart) others in (
+            left_out,
+            spelled,
+            (
+              lines,
+              excusal,
+              (lines_of before.gives path paths lines are, passes, excused),
+              shown_but accept left_out lines excusal excused shown,
+              (body, accepted, gives, others, stays, subst (Prints before after) text prints),
+            ),
+          )),
+      (λ refuted. let e = sym status ∙ refuted in cc),
+    )
+    found_means (Found (Certified (Dues body))) is says = absurd is.found_for
+    found_means (Found (Certified (Window body))) is says = absurd is.found_for
+    found_means (Found (Clashing clash)) is says = (
+      (λ done. let e = sym says.0 ∙ done in cc),
+      (λ refuted. (
+        (path, clash.left, clash.right, clash.cells, lines, lines_of before.gives path paths lines are, passes, is.found_for.0.clash, (false, subst (Prints before after) says.1 prints)),
+        subst (FilesAfter before.gives after.gives) says.2 files,
+      )),
+    )
+    found_means (Found (Limit states pairs)) is says = neither Undecided says.0 (λ e. cc) (λ e. cc)
+    found_means (NotExchangeable fault) is (rest, says) = neither Undecided says.0 (λ e. cc) (λ e. cc)
 
   -- ---- What an answer means that was written whole
 
@@ -265,10 +297,11 @@ module _ (before after : World) (same_file : MayBeSame) where
   }
 
   means : (asked : Question) (answer : Answer) → IsAnswerTo asked answer → Means asked answer
-  unfolding list_written spelled_in
+  unfolding list_written
   means (question.Clash path left right options) answer compares files prints =
-      let (l, r, by_file) = texts_compared options before.gives path.now left.now right.now answer compares in
-      let (paths, lines, are, passes, is) = by_file in
+      let (l, left_read, after_left) = then_ok compares in
+      let (r, right_read, after_right) = then_ok after_left in
+      let (lines, (paths, are, passes), is) = then_ok after_right in
       elim is [
         | inl (cells, clash, says) ↦ (
           (λ done. tt),
@@ -287,11 +320,12 @@ module _ (before after : World) (same_file : MayBeSame) where
           subst (FilesAfter before.gives after.gives) says.2 files,
         )),
   )
-  means (question.Slips path columns) answer (lines, at, is) files prints = (
+  means (question.Slips path columns) answer listed files prints = let (lines, at, is) = then_ok listed in (
     (λ done. tt),
     (λ refuted. ((path.now, (lines, at, (is.lexicon, is.found, is.are, some_shown is.found (sym is.status ∙ refuted))), (string_bytes answer.text, prints)), subst (FilesAfter before.gives after.gives) is.files files)),
   )
-  means (question.Cut path dir rewrite) answer (cut, (answers, given, gathered, gathers, is), status, text, (made, are, same)) files prints =
+  means (question.Cut path dir rewrite) answer cuts files prints =
+      let (cut, (answers, given, gathered, gathers, is), (status, text, (made, are, same))) = then_ok cuts in
       let written : FilesAfter before.gives after.gives (AllNew made) = subst (FilesAfter before.gives after.gives) are files in
       let read = subst (λ (fs : Texts). IsReadAs fs (written_root dir.now path.now)) (sym (same ∙ is.files_are)) is.read in
       let table : WritesTable before after path.now dir.now = (made.items, written.0, written.1, read) in (
@@ -302,11 +336,14 @@ module _ (before after : World) (same_file : MayBeSame) where
         )),
       )
   means (question.Trace path text options) answer traces files prints =
-      let (chars, spelled, by_file) = spelled_in (text_of options.escapes text.now) (IsBadText options.escapes text.now) (TracesByFile options.lines before.gives path.now) answer traces in
-      let (paths, lines, are, passes, (known, says)) = by_file in
+      let (chars, spelled, after_text) = then_ok traces in
+      let (lines, at, (known, says)) = then_ok after_text in
       ((λ done. tt), (λ refuted. let e = sym says.0 ∙ refuted in cc))
-  means (question.Rules path numbers) answer (paths, lines, are, passes, (known, says)) files prints = ((λ done. tt), (λ refuted. let e = sym says.0 ∙ refuted in cc))
-  means (question.Unused path limit) answer (paths, lines, are, passes, (found, rules, says)) files prints =
+  means (question.Rules path numbers) answer lists files prints =
+      let (lines, at, (known, says)) = then_ok lists in
+      ((λ done. tt), (λ refuted. let e = sym says.0 ∙ refuted in cc))
+  means (question.Unused path limit) answer lists files prints =
+      let (lines, (paths, are, passes), (found, rules, says)) = then_ok lists in
       let table : IsTableOf before.gives path.now (table_of lines) = of_files before.gives path.now paths (table_of lines) (lines, are, passes, refl) in (
         (λ done.
             let (none, all) = none_unused (table_of lines) lines limit found rules (sym says.0 ∙ done) in
@@ -315,91 +352,52 @@ module _ (before after : World) (same_file : MayBeSame) where
             let (numbers, some, are_unused, text) = some_unused (table_of lines) lines limit found rules (sym says.0 ∙ refuted) in
             ((path.now, table_of lines, table, (lines, numbers, some, are_unused, subst (Prints before after) (says.1 ∙ text) prints)), subst (FilesAfter before.gives after.gives) says.2 files)),
       )
-  means (question.Explain line) answer (text, notes, is, seen, says) files prints = ((λ done. tt), (λ refuted. let e = sym says.0 ∙ refuted in cc))
-  means (question.Check path cert option) answer is files prints =
-      let (left_out, spelled, judges) = spelled_in (spelled_by (option_copied option)) (IsBadLeftOut (option_copied option)) (λ left_out. Judges left_out before.gives path.now cert.now) answer is in
-      let (bytes, holds, judged) = judges.checks in
-      elim judged [
-        | inl (t, table, none, (accepted, deserved, says)) ↦
-            ((λ done. (left_out, spelled, (t, table, none), (accepted.states, accepted.pairs, subst (Prints before after) says.1 prints))), (λ refuted. let e = sym says.0 ∙ refuted in cc))
-        | inr (fault, of, refused, (rest, says)) ↦
-            ((λ done. let e = sym says.0 ∙ done in cc), (λ refuted. ((rest, subst (Prints before after) says.1 prints), subst (FilesAfter before.gives after.gives) says.2 files)))
-      ]
-  means (question.CheckUpTo path cert accept option) answer is files prints =
-      let (left_out, spelled, (bytes, holds, (paths, lines, are, passes, by))) = spelled_in (spelled_by (option_copied option)) (IsBadLeftOut (option_copied option))
-      (λ left_out. ChecksUpTo left_out before.gives path.now cert.now accept.now) answer is in
-      let (defined, (excused, sets, excused_at, judged)) = by in
+  means (question.Explain line) answer explains files prints =
+      let (text, is, (notes, seen, says)) = then_ok explains in
+      ((λ done. tt), (λ refuted. let e = sym says.0 ∙ refuted in cc))
+  means (question.Check path cert accept option) answer is files prints =
+      let (left_out, spelled, reads) = then_ok is.checks in
+      let (bytes, holds, loads) = then_ok reads in
+      let (lines, (paths, are, passes), defines) = then_ok loads in
+      let (defined, excuses) = then_ok defines in
+      let (excusal, excused, judged) = then_ok excuses in
       elim judged [
         | inl (shown, (accepted, deserved, says)) ↦ (
           (λ done. (
             left_out,
             spelled,
-            (lines, excused, sets, (lines_of before.gives path.now paths lines are, passes, excused_at), shown, (accepted.states, accepted.pairs, subst (Prints before after) says.1 prints)),
+            (
+              lines,
+              excusal,
+              (lines_of before.gives path.now paths lines are, passes, excused),
+              shown_but (option_copied accept) left_out lines excusal excused shown,
+              (accepted.states, accepted.pairs, subst (Prints before after) says.1 prints),
+            ),
           )),
           (λ refuted. let e = sym says.0 ∙ refuted in cc),
         )
         | inr (fault, of, refused, (rest, says)) ↦
             ((λ done. let e = sym says.0 ∙ done in cc), (λ refuted. ((rest, subst (Prints before after) says.1 prints), subst (FilesAfter before.gives after.gives) says.2 files)))
       ]
-  means (question.SearchUpTo path out limit accept option) answer is files prints =
-      let (left_out, spelled, (paths, lines, are, passes, apart, (defined, (excused, sets, excused_at, verdict)))) = spelled_in (spelled_by (option_copied option)) (IsBadLeftOut (option_copied option))
-      (λ left_out. SearchesUpTo left_out before.gives same_file path.now out.now limit accept.now) answer is in
-      let here = lines_of before.gives path.now paths lines are in
-      elim verdict [
-        | inl (body, certified, accepted, (status, text, file, read)) ↦ (
-          (λ done. let (gives, others) = file_written (spelling (certificate_of body)) out.now answer.files file files in
-              let stays = table_stays path.now out.now paths (table_of lines) (lines, are, passes, refl) (front_apart out.now paths accept.now apart) others in (
-                left_out,
-                spelled,
-                (lines, excused, sets, (here, passes, excused_at), certified.agree, (body, accepted, gives, others, stays, subst (Prints before after) text prints)),
-              )),
-          (λ refuted. let e = sym status ∙ refuted in cc),
-        )
-        | inr (inl (c, least, says)) ↦ (
-          (λ done. let e = sym says.0 ∙ done in cc),
-          (λ refuted. (
-            (path.now, c.clash.left, c.clash.right, c.clash.cells, lines, here, passes, least.clash.clash.clash, (false, subst (Prints before after) says.1 prints)),
-            subst (FilesAfter before.gives after.gives) says.2 files,
-          )),
-        )
-        | inr (inr (inl (fault, not, (rest, says)))) ↦ ((λ done. let e = sym says.0 ∙ done in cc), (λ refuted. let e = sym says.0 ∙ refuted in cc))
-        | inr (inr (inr (states, pairs, limit_is, says))) ↦ ((λ done. let e = sym says.0 ∙ done in cc), (λ refuted. let e = sym says.0 ∙ refuted in cc))
-      ]
-  means (question.Search path out limit option) answer is files prints =
-      let (left_out, spelled, searched) = spelled_in (spelled_by (option_copied option)) (IsBadLeftOut (option_copied option)) (λ left_out. SearchesByFile left_out before.gives same_file path.now out.now limit) answer is in
-      let (paths, t, table, apart, verdict) = searched in
-      elim verdict [
-        | inl (none, (body, certified, accepted, (status, text, file, read))) ↦ (
-          (λ done. let (gives, others) = file_written (spelling (certificate_of body)) out.now answer.files file files in
-              (left_out, spelled, t, of_files before.gives path.now paths t table, none, (body, accepted, gives, others, table_stays path.now out.now paths t table apart others, subst (Prints before after) text prints))),
-          (λ refuted. let e = sym status ∙ refuted in cc),
-        )
-        | inr (inl (left, right, cells, clash, says)) ↦ (
-          (λ done. let e = sym says.0 ∙ done in cc),
-          (λ refuted.
-              let (lines, are, passes, is) = table in (
-                (
-                  path.now,
-                  left,
-                  right,
-                  cells,
-                  lines,
-                  lines_of before.gives path.now paths lines are,
-                  passes,
-                  subst (λ (u : TableView). IsClash u left right cells) is clash.clash,
-                  (false, subst (Prints before after) (says.1 ∙ ap (λ (u : TableView). report_text u left right cells) is) prints),
-                ),
-                subst (FilesAfter before.gives after.gives) says.2 files,
-              )),
-        )
-        | inr (inr (states, pairs, limit_is, says)) ↦ ((λ done. let e = sym says.0 ∙ done in cc), (λ refuted. let e = sym says.0 ∙ refuted in cc))
-      ]
+  means (question.Search path out limit accept option) answer is files prints =
+      let (left_out, spelled, loads) = then_ok is in
+      let (read, are, stays) = then_ok loads in
+      let (apart, checks) = then_ok stays in
+      let (passes, defines) = then_ok checks in
+      let (defined, excuses) = then_ok defines in
+      let (excusal, excused, (found, searched, says)) = then_ok excuses in
+      found_means path.now out.now (option_copied accept) (option_copied option) limit left_out spelled read.paths read.lines are passes apart excusal excused answer files prints found searched says
   means (question.Clashes path limit first option pairs) answer is files prints =
       let accept = option_copied pairs.accept in
-      let (left_out, spelled, listed) = spelled_in (spelled_by (option_copied option)) (IsBadLeftOut (option_copied option)) (λ left_out. DiagnosesByFile left_out before.gives same_file path.now limit first pairs) answer is in
-      let (paths, lines, are, passes, apart, (defined, (baseline, read, d))) = listed in
+      let (left_out, spelled, loads) = then_ok is in
+      let (loaded, are, stays) = then_ok loads in
+      let (apart, checks) = then_ok stays in
+      let (passes, defines) = then_ok checks in
+      let (defined, reads) = then_ok defines in
+      let (baseline, read, d) = then_ok reads in
+      let lines = loaded.lines in
       let t = table_of lines in
-      let list = list_written path.now left_out pairs baseline paths lines limit first answer are passes read d in (
+      let list = list_written path.now left_out pairs baseline loaded.paths lines limit first answer are passes read d in (
         (λ done.
             let none = no_pair d.taken (outcome_of d.left) (sym d.status ∙ done) in
             let written = list (λ e. let u = sym none ∙ e in cc) files prints in
@@ -420,14 +418,8 @@ module _ (before after : World) (same_file : MayBeSame) where
     | inr (l, r, none, says) ↦ says.2
   ]
 
-  judgement_has_none : (left_out path bytes : List ℕ) (answer : Answer) → IsJudgement left_out before.gives path bytes answer → answer.files ≡ Nothing
-  judgement_has_none left_out path bytes answer is = elim is [
-    | inl (t, table, none, (accepted, deserved, says)) ↦ says.2
-    | inr (fault, of, refused, (rest, says)) ↦ says.2
-  ]
-
-  judged_has_none : (left_out : List ℕ) (excused : Excused) (sets : ℕ) (t : TableView) (bytes : List ℕ) (answer : Answer) → IsJudgementUpTo left_out excused sets t bytes answer → answer.files ≡ Nothing
-  judged_has_none left_out excused sets t bytes answer is = elim is [
+  judgement_has_none : (left_out : List ℕ) (accept : Option (List ℕ)) (excusal : Excusal) (t : TableView) (bytes : List ℕ) (answer : Answer) → IsJudgement left_out accept excusal t bytes answer → answer.files ≡ Nothing
+  judgement_has_none left_out accept excusal t bytes answer is = elim is [
     | inl (shown, (accepted, deserved, says)) ↦ says.2
     | inr (fault, of, refused, (rest, says)) ↦ says.2
   ]
@@ -450,33 +442,45 @@ module _ (before after : World) (same_file : MayBeSame) where
   pairs_alone answer (Some path) true content are written writes = one_alone answer path content answer.files refl are written writes
 
   keeps : (asked : Question) (outcome : Result Answer RunFault) (status : Status) → Answers asked before.gives same_file outcome → Delivers outcome before after status → KeepsFilesUnlessWritten asked before after
-  keeps (question.Search path out limit option) outcome status is delivers = tt
-  keeps (question.SearchUpTo path out limit accept option) outcome status is delivers = tt
+  keeps (question.Search path out limit accept option) outcome status is delivers = tt
   keeps (question.Cut path dir rewrite) outcome status is delivers = tt
   keeps (question.Clash path left right options) (Ok answer) status compares (written, writes, e) =
-      let (l, r, by_file) = texts_compared options before.gives path.now left.now right.now answer compares in
-      let (paths, lines, are, passes, is) = by_file in
+      let (l, left_read, after_left) = then_ok compares in
+      let (r, right_read, after_right) = then_ok after_left in
+      let (lines, at, is) = then_ok after_right in
       none_changes before after answer written (comparison_has_none (table_of lines) (shown_lines options.lines lines) l r answer is) writes
   keeps (question.Survey paths brief) (Ok answer) status (parts, named, are, says) (written, writes, e) = none_changes before after answer written says.2 writes
-  keeps (question.Slips path columns) (Ok answer) status (lines, at, is) (written, writes, e) = none_changes before after answer written is.files writes
+  keeps (question.Slips path columns) (Ok answer) status listed (written, writes, e) =
+      let (lines, at, is) = then_ok listed in
+      none_changes before after answer written is.files writes
   keeps (question.Trace path text options) (Ok answer) status traces (written, writes, e) =
-      let (chars, spelled, by_file) = spelled_in (text_of options.escapes text.now) (IsBadText options.escapes text.now) (TracesByFile options.lines before.gives path.now) answer traces in
-      let (paths, lines, are, passes, (known, says)) = by_file in
+      let (chars, spelled, after_text) = then_ok traces in
+      let (lines, at, (known, says)) = then_ok after_text in
       none_changes before after answer written says.2 writes
-  keeps (question.Rules path numbers) (Ok answer) status (paths, lines, are, passes, (known, says)) (written, writes, e) = none_changes before after answer written says.2 writes
-  keeps (question.Unused path limit) (Ok answer) status (paths, lines, are, passes, (found, rules, says)) (written, writes, e) = none_changes before after answer written says.2 writes
-  keeps (question.Explain line) (Ok answer) status (text, notes, is, seen, says) (written, writes, e) = none_changes before after answer written says.2 writes
-  keeps (question.Check path cert option) (Ok answer) status is (written, writes, e) =
-      let (left_out, spelled, judges) = spelled_in (spelled_by (option_copied option)) (IsBadLeftOut (option_copied option)) (λ left_out. Judges left_out before.gives path.now cert.now) answer is in
-      none_changes before after answer written (judgement_has_none left_out path.now judges.checks.0 answer judges.checks.2) writes
-  keeps (question.CheckUpTo path cert accept option) (Ok answer) status is (written, writes, e) =
-      let (left_out, spelled, (bytes, holds, (paths, lines, are, passes, (defined, (excused, sets, excused_at, judged))))) = spelled_in (spelled_by (option_copied option)) (IsBadLeftOut (option_copied option))
-      (λ left_out. ChecksUpTo left_out before.gives path.now cert.now accept.now) answer is in
-      none_changes before after answer written (judged_has_none left_out excused sets (table_of lines) bytes answer judged) writes
+  keeps (question.Rules path numbers) (Ok answer) status lists (written, writes, e) =
+      let (lines, at, (known, says)) = then_ok lists in
+      none_changes before after answer written says.2 writes
+  keeps (question.Unused path limit) (Ok answer) status lists (written, writes, e) =
+      let (lines, at, (found, rules, says)) = then_ok lists in
+      none_changes before after answer written says.2 writes
+  keeps (question.Explain line) (Ok answer) status explains (written, writes, e) =
+      let (text, is, (notes, seen, says)) = then_ok explains in
+      none_changes before after answer written says.2 writes
+  keeps (question.Check path cert accept option) (Ok answer) status is (written, writes, e) =
+      let (left_out, spelled, reads) = then_ok is.checks in
+      let (bytes, holds, loads) = then_ok reads in
+      let (lines, at, defines) = then_ok loads in
+      let (defined, excuses) = then_ok defines in
+      let (excusal, excused, judged) = then_ok excuses in
+      none_changes before after answer written (judgement_has_none left_out (option_copied accept) excusal (table_of lines) bytes answer judged) writes
   keeps (question.Clashes path limit first option pairs) (Ok answer) status is (written, writes, e) =
-      let (left_out, spelled, listed) = spelled_in (spelled_by (option_copied option)) (IsBadLeftOut (option_copied option)) (λ left_out. DiagnosesByFile left_out before.gives same_file path.now limit first pairs) answer is in
-      let (paths, lines, are, passes, apart, (defined, (baseline, read, d))) = listed in
-      pairs_alone answer (written_path pairs) (is_written pairs.prune d.taken d.left) (written_text pairs.prune baseline (table_of lines) lines d.found d.left) d.files written writes
+      let (left_out, spelled, loads) = then_ok is in
+      let (loaded, are, stays) = then_ok loads in
+      let (apart, checks) = then_ok stays in
+      let (passes, defines) = then_ok checks in
+      let (defined, reads) = then_ok defines in
+      let (baseline, read, d) = then_ok reads in
+      pairs_alone answer (written_path pairs) (is_written pairs.prune d.taken d.left) (written_text pairs.prune baseline (table_of loaded.lines) loaded.lines d.found d.left) d.files written writes
   keeps (question.Clashes path limit first option pairs) (Err fault) status is (stay, still, e) = keeps_all_but (written_path pairs) stay
   keeps asked (Err fault) status is (stay, still, e) = stay
 

@@ -20,7 +20,7 @@ use Rattle.brl_lines.specs.Tokens.{LineView}
 use Rattle.brl_lines.specs.declared.fault.LoadFaultKind.{LoadFaultKind}
 use Rattle.brl_lines.specs.declared.fault.LoadFaultKind.TheVariants as kinds
 use Rattle.brl_rules.specs.TableView.{TableView}
-use Rattle.brl_tool.specs.Verdicts.{IsFileWith, LacksBytes}
+use Rattle.brl_tool.specs.FileBytes.{IsFileWith, LacksBytes}
 
 -- ---- The text of a file
 

@@ -1,5 +1,5 @@
 -- What `brl clash` answers. The project's own choice.
-use Rattle.std.specs.Prelude.{ℕ, ◌⊎◌, Bool, IsTrue, List, Result, Ok, Err, codes}
+use Rattle.std.specs.Prelude.{ℕ, ◌⊎◌, IsTrue, List, Result, Ok, Err, codes}
 use Rattle.brl_forward.specs.Faults.{IsFaultOfTwo}
 use Rattle.brl_lines.specs.Answer.{FileAnswers}
 use Rattle.brl_lines.specs.Tokens.{LineView}
@@ -31,12 +31,9 @@ Compares t lines left right (Err (Confirm fault)) = IsFaultOfTwo t left right fa
 Compares t lines left right (Err Memory) = Unit {0}
 Compares t lines left right (Err fault) = ⊥
 
--- two texts were compared by the table of the file at a path, whose lines are shown or not
-abbrev pub ComparesByFile : Bool → FileAnswers → List ℕ → List ℕ → List ℕ → Result Answer RunFault → Type 0
-ComparesByFile with_lines gives path left right outcome =
-    ByLines gives path (λ lines. Compares (table_of lines) (shown_lines with_lines lines) left right) outcome
-
--- the texts of two words were compared, with or without escapes; the left one is read first
+-- The texts of two words, with or without escapes, were compared by the table of the file at a
+-- path, whose lines are shown or not. The left word is read first, and both before the table.
 abbrev pub ComparesByWords : TextOptions → FileAnswers → List ℕ → List ℕ → List ℕ → Result Answer RunFault → Type 0
 ComparesByWords options gives path left right outcome =
-    ByText options.escapes left (λ l. ByText options.escapes right (ComparesByFile options.lines gives path l)) outcome
+    ByText options.escapes left (λ l. ByText options.escapes right (λ r. ByLines gives path
+    (λ lines. Compares (table_of lines) (shown_lines options.lines lines) l r))) outcome

@@ -1,5 +1,5 @@
 -- What `brl cut` answers. The project's own choice.
-use Rattle.std.specs.Prelude.{ℕ, ◌≡◌, Bool, if◌then◌else◌, List, ◌++◌, codes, map, Result, Ok, Err, string_bytes}
+use Rattle.std.specs.Prelude.{ℕ, ◌≡◌, Bool, if◌then◌else◌, List, ◌++◌, codes, map, Result, string_bytes}
 use Rattle.std.specs.Global.{Vec}
 use Rattle.brl_lines.specs.Answer.{FileAnswers}
 use Rattle.brl_table.specs.Survey.{faulty_line_view}
@@ -7,13 +7,12 @@ use Rattle.brl_report.specs.Survey.{IsCutText}
 use Rattle.brl_cut.specs.Cuts.{IsCut, IsCutFault}
 use Rattle.brl_cut.specs.Files.{file_view}
 use Rattle.brl_table.specs.declared.readable.Cut.{Cut}
-use Rattle.brl_cut.specs.declared.cutting.CutFault.{CutFault}
+use Rattle.brl_answers.specs.Answers.{EndsAs, Then, UnlessMemory}
 use Rattle.brl_answers.specs.Status.{of_cut_fault}
 use Rattle.brl_answers.specs.declared.answer.Answer.{Answer}
 use Rattle.brl_answers.specs.declared.new_files.NewFile.{NewFile}
 use Rattle.brl_answers.specs.declared.new_files.NewFiles.TheVariants.{AllNew}
 use Rattle.brl_answers.specs.declared.run_fault.RunFault.{RunFault}
-use Rattle.brl_answers.specs.declared.run_fault.RunFault.TheVariants.{Memory}
 use Rattle.brl_answers.specs.declared.status.Status.{Status}
 use Rattle.brl_answers.specs.declared.status.Status.TheVariants.{Done, Refuted}
 use Rattle.brl_tool.specs.Suspects.{has_unknown_opcode}
@@ -33,15 +32,13 @@ IsTextOfCut rewrite cut text =
 abbrev pub status_of_cut : Cut → Status
 status_of_cut cut = if has_unknown_opcode (map faulty_line_view cut.left_out.items) then Refuted else Done
 
--- the answer of the cut of the table of the file at a path, for a folder, with or without lines
--- rewritten: its files are new ones
-abbrev pub IsCutAnswer : Bool → FileAnswers → List ℕ → List ℕ → Answer → Type 0
-IsCutAnswer rewrite gives path dir answer =
-    (cut : Cut) × IsCut rewrite gives path dir cut × (answer.status ≡ status_of_cut cut) × IsTextOfCut rewrite cut (string_bytes answer.text)
+-- the answer with a cut, with or without lines rewritten: its files are new ones
+abbrev pub IsCutAnswer : Bool → Cut → Answer → Type 0
+IsCutAnswer rewrite cut answer =
+    (answer.status ≡ status_of_cut cut) × IsTextOfCut rewrite cut (string_bytes answer.text)
     × ((files : Vec NewFile) × (answer.files ≡ AllNew files) × (map new_file_view files.items ≡ map file_view cut.files.items))
 
--- the table of the file at a path was cut for a folder; or this is why it isn't; or memory ran out
+-- the table of the file at a path was cut for a folder; or this is why it isn't
 abbrev pub CutsByFile : Bool → FileAnswers → List ℕ → List ℕ → Result Answer RunFault → Type 0
-CutsByFile rewrite gives path dir (Ok answer) = IsCutAnswer rewrite gives path dir answer
-CutsByFile rewrite gives path dir (Err Memory) = Unit {0}
-CutsByFile rewrite gives path dir (Err fault) = (why : CutFault) × IsCutFault rewrite gives path dir why × (fault ≡ of_cut_fault why)
+CutsByFile rewrite gives path dir outcome =
+    Then (IsCut rewrite gives path dir) (EndsAs of_cut_fault (IsCutFault rewrite gives path dir)) (λ cut. UnlessMemory (IsCutAnswer rewrite cut)) outcome

@@ -1,11 +1,11 @@
 -- What `brl clashes` answers. The project's own choice.
-use Rattle.std.specs.Prelude.{ℕ, ◌≡◌, ◌⊎◌, if◌then◌else◌, List, Option, Some, Result, Ok, Err, string_bytes}
+use Rattle.std.specs.Prelude.{ℕ, ◌≡◌, if◌then◌else◌, List, Option, Some, Result, string_bytes}
 use Rattle.std.specs.Option.{option_copied}
-use Rattle.brl_answers.specs.Answers.{HasNoTable}
+use Rattle.brl_answers.specs.Answers.{ByLeftOut, EndsAs, Provided, Then, UnlessMemory}
 use Rattle.brl_answers.specs.Files.{MayBeSame}
 use Rattle.brl_answers.specs.declared.answer.Answer.{Answer}
 use Rattle.brl_answers.specs.declared.run_fault.RunFault.{RunFault}
-use Rattle.brl_answers.specs.declared.run_fault.RunFault.TheVariants.{Load, NotDefined, Memory, PairsWouldOverwrite, Table}
+use Rattle.brl_answers.specs.declared.run_fault.RunFault.TheVariants.{NotDefined}
 use Rattle.brl_answers.specs.declared.status.Status.{Status}
 use Rattle.brl_answers.specs.declared.status.Status.TheVariants.{Done, Faulty, Refuted, Undecided}
 use Rattle.brl_clashes.specs.Accepted.{AreLeftOf}
@@ -17,11 +17,11 @@ use Rattle.brl_clashes.specs.declared.verdict.Outcome.{Outcome}
 use Rattle.brl_clashes.specs.declared.verdict.Outcome.TheVariants.{Unambiguous, Clashing, Unfinished}
 use Rattle.brl_cli.specs.declared.command.PairFiles.{PairFiles}
 use Rattle.brl_lines.specs.Answer.{FileAnswers}
-use Rattle.brl_lines.specs.Outcome.{AreLinesOfFiles}
 use Rattle.brl_lines.specs.Tokens.{LineView}
 use Rattle.brl_rules.specs.TableView.{TableView}
-use Rattle.brl_table.specs.Reading.{PassesAll, table_of}
+use Rattle.brl_table.specs.Reading.{table_of}
 use Rattle.brl_tool.specs.Baselines.{AreExcused, AreFilesWith, IsApart, IsBaseline, IsFaultOfText, IsOverwritingRead, is_written, leaves_stale, only_read, written_path, written_text}
+use Rattle.brl_tool.specs.ByLines.{ByFiles, IfPassing}
 use Rattle.brl_without.specs.Tables.{AreDefined, IsUndefined}
 
 -- the status for an outcome of sections, beside what a file takes out of them: where no pair is
@@ -48,33 +48,23 @@ pub record IsDiagnosis (left_out : List ℕ) (t : TableView) (lines : List LineV
   pub status : answer.status ≡ status_of_sections taken (outcome_of left)
   pub files : AreFilesWith (written_path pairs) (is_written pairs.prune taken left) (written_text pairs.prune baseline t lines found left) answer.files
 
--- The clashes of a table of these lines were listed, beside the pairs of a file that accepts some.
--- Or the table doesn't define what is left out; or it does, and that file has no text.
-abbrev pub Diagnoses : List ℕ → FileAnswers → TableView → List LineView → ℕ → ℕ → PairFiles → Result Answer RunFault → Type 0
-Diagnoses left_out gives t lines limit first pairs (Ok answer) =
-    AreDefined t left_out
-    × ((baseline : Option (List ℕ)) × IsBaseline gives (option_copied pairs.accept) baseline × IsDiagnosis left_out t lines limit first baseline pairs answer)
-Diagnoses left_out gives t lines limit first pairs (Err (NotDefined fault)) = IsUndefined t left_out fault
-Diagnoses left_out gives t lines limit first pairs (Err (Load fault)) =
-    AreDefined t left_out × ((path : List ℕ) × (option_copied pairs.accept ≡ Some path) × IsFaultOfText gives path (Load fault))
-Diagnoses left_out gives t lines limit first pairs (Err Memory) = Unit {0}
-Diagnoses left_out gives t lines limit first pairs (Err fault) = ⊥
+-- what is answered by the text of the file of accepted pairs, where one is asked for, or why it has
+-- none
+abbrev pub ByBaseline : FileAnswers → Option (List ℕ) → (Option (List ℕ) → Result Answer RunFault → Type 0) → Result Answer RunFault → Type 0
+ByBaseline gives accept answers outcome =
+    Then (IsBaseline gives accept) (λ fault. (path : List ℕ) × (accept ≡ Some path) × IsFaultOfText gives path fault) answers outcome
 
--- the clashes of the table of the file at a path were listed, where the file that is written is
--- none that is only read
-abbrev pub DiagnosesTable : List ℕ → FileAnswers → List ℕ → ℕ → ℕ → PairFiles → Result Answer RunFault → Type 0
-DiagnosesTable left_out gives path limit first pairs outcome =
-    (paths : List (List ℕ)) × (lines : List LineView) × AreLinesOfFiles gives path paths lines × PassesAll lines × IsApart (written_path pairs) (only_read paths pairs)
-    × Diagnoses left_out gives (table_of lines) lines limit first pairs outcome
+-- The clashes of a table of these lines were listed, once no line has a fault and the table defines
+-- what is left out.
+abbrev pub DiagnosesLines : List ℕ → FileAnswers → List LineView → ℕ → ℕ → PairFiles → Result Answer RunFault → Type 0
+DiagnosesLines left_out gives lines limit first pairs outcome =
+    IfPassing lines (Provided (AreDefined (table_of lines) left_out) (EndsAs NotDefined (IsUndefined (table_of lines) left_out))
+    (ByBaseline gives (option_copied pairs.accept) (λ baseline. UnlessMemory (IsDiagnosis left_out (table_of lines) lines limit first baseline pairs)))) outcome
 
--- The clashes of the table of the file at a path were listed so. Or there is no table; or the file
--- that is written is one that is only read. `same` says which paths may name one file.
-abbrev pub DiagnosesByFile : List ℕ → FileAnswers → MayBeSame → List ℕ → ℕ → ℕ → PairFiles → Result Answer RunFault → Type 0
-DiagnosesByFile left_out gives same path limit first pairs (Err (Table fault)) = HasNoTable gives path (Table fault)
-DiagnosesByFile left_out gives same path limit first pairs (Err (Load fault)) =
-    HasNoTable gives path (Load fault) ⊎ DiagnosesTable left_out gives path limit first pairs (Err (Load fault))
-DiagnosesByFile left_out gives same path limit first pairs (Err (PairsWouldOverwrite file)) =
-    (paths : List (List ℕ)) × (lines : List LineView) × AreLinesOfFiles gives path paths lines
-    × IsOverwritingRead same (only_read paths pairs) (written_path pairs) (PairsWouldOverwrite file)
-DiagnosesByFile left_out gives same path limit first pairs (Err Memory) = Unit {0}
-DiagnosesByFile left_out gives same path limit first pairs outcome = DiagnosesTable left_out gives path limit first pairs outcome
+-- The clashes of the table of the file at a path were listed, without what an option leaves out,
+-- where the file that is written is none that is only read. `same` says which paths may name one
+-- file.
+abbrev pub Diagnoses : Option (List ℕ) → FileAnswers → MayBeSame → List ℕ → ℕ → ℕ → PairFiles → Result Answer RunFault → Type 0
+Diagnoses option gives same path limit first pairs outcome =
+    ByLeftOut option (λ left_out. ByFiles gives path (λ read. let paths = only_read read.paths pairs in
+    Provided (IsApart (written_path pairs) paths) (IsOverwritingRead same paths (written_path pairs)) (DiagnosesLines left_out gives read.lines limit first pairs))) outcome

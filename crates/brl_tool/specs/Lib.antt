@@ -14,5 +14,6 @@ pub mod Notices
 pub mod Remarks
 pub mod Baselines
 pub mod Diagnosing
-pub mod UpTo
+pub mod Excusing
+pub mod FileBytes
 pub mod Unused

@@ -4,10 +4,10 @@ use Rattle.std.specs.Prelude.{ℕ, ◌≡◌, ◌≢◌, ◌<◌, ◌==◌, ◌�
 use Rattle.std.specs.Global.{Global, Vec}
 use Rattle.std.specs.Option.{option_copied}
 use Rattle.brl_accept.specs.Excusing.{IsAcceptedUpTo, IsShown}
-use Rattle.brl_accept.specs.Judging.{IsAcceptedWithout, counted}
+use Rattle.brl_accept.specs.Judging.{counted}
+use Rattle.brl_accepted.specs.declared.reading.Excusal.{Excusal}
 use Rattle.brl_cert.specs.Reading.{spelling}
 use Rattle.brl_pairs.specs.Body.{BodyView}
-use Rattle.brl_pairs.specs.declared.excused.Excused.{Excused}
 use Rattle.brl_lines.specs.Answer.{FileAnswer, FileAnswers, Holds, MayAnswer}
 use Rattle.brl_lines.specs.Outcome.{AreLinesOf}
 use Rattle.brl_table.specs.Files.{IsTableOf}
@@ -27,26 +27,26 @@ use Rattle.brl_lines.specs.Tokens.{LineView}
 use Rattle.brl_tool.specs.Baselines.{IsBaseline, is_written, pruned_text, text_of_pairs, written_path, written_text}
 use Rattle.brl_tool.specs.ByLines.{shown_lines}
 use Rattle.brl_tool.specs.Comparing.{ComparesByWords}
-use Rattle.brl_tool.specs.Diagnosing.{DiagnosesByFile, IsDiagnosis}
+use Rattle.brl_tool.specs.Diagnosing.{Diagnoses, IsDiagnosis}
 use Rattle.brl_cut.specs.Cuts.{IsCut, IsReadAs, written_root}
 use Rattle.brl_tool.specs.Cutting.{CutsByFile, new_file_view}
 use Rattle.brl_tool.specs.Explaining.{Explains}
 use Rattle.brl_tool.specs.Listing.{ListsByFile}
-use Rattle.brl_answers.specs.Answers.{ByLeftOut, HasTextAndStatus, spelled_by, with_left_out_line}
-use Rattle.brl_tool.specs.Verdicts.{Judges, SearchesByFile, accepted_line, certified_line}
+use Rattle.brl_answers.specs.Answers.{HasTextAndStatus, spelled_by}
+use Rattle.brl_tool.specs.Verdicts.{ChecksAll, Searches, accepted_line, certified_line}
 use Rattle.brl_answers.specs.Delivery.{World, IsDelivered, KeepsFiles, Prints, PrintsNothing}
 use Rattle.brl_answers.specs.Files.{GivesAlso, IsGivenBy, MayBeSame, OthersStay}
 use Rattle.brl_answers.specs.Making.{AreNew, AreWritten, IsNoneOf}
 use Rattle.brl_answers.specs.Status.{code_of, status_of}
 use Rattle.brl_tool.specs.Slipping.{HasSlips, ListsSlips}
-use Rattle.brl_tool.specs.Streams.{TranslatesByFile, TranslatesDefinedByFile}
+use Rattle.brl_tool.specs.Streams.{TranslatesByFile}
 use Rattle.brl_tool.specs.Surveying.{IsSuspectAt, SurveysByFiles, no_verdict}
 use Rattle.brl_tool.specs.Suspects.{has_unknown_opcode}
 use Rattle.brl_table.specs.Survey.{faulty_line_view}
 use Rattle.brl_table.specs.declared.readable.Cut.{Cut}
 use Rattle.brl_tool.specs.Tracing.{TracesByWord}
 use Rattle.brl_tool.specs.Unused.{ListsUnusedByFile}
-use Rattle.brl_tool.specs.UpTo.{ChecksUpTo, IsExcusedAt, SearchesUpTo, lines_up_to}
+use Rattle.brl_tool.specs.Excusing.{Excuses, lines_with}
 use Rattle.brl_answers.specs.declared.answer.Answer.{Answer}
 use Rattle.brl_answers.specs.declared.new_files.NewFile.{NewFile}
 use Rattle.brl_answers.specs.declared.run_fault.RunFault.{RunFault}
@@ -62,7 +62,6 @@ use Rattle.brl_cli.specs.declared.command.Question.TheVariants as question
 use Rattle.brl_cli.specs.declared.command.Task.{Task}
 use Rattle.brl_cli.specs.declared.command.Work.{Work}
 use Rattle.brl_cli.specs.declared.command.Task.TheVariants as task
-use Rattle.brl_traces.specs.Exchanges.{TextsAgreeBut}
 use Rattle.brl_traces.specs.Traces.{ClashesDivergeAtWithout}
 use Rattle.brl_without.specs.Tables.{IsUnambiguousWithout}
 
@@ -78,41 +77,34 @@ Answers (question.Unused path limit) gives same outcome = ListsUnusedByFile give
 Answers (question.Slips path columns) gives same outcome = ListsSlips gives path.now outcome
 Answers (question.Explain line) gives same outcome = Explains gives line.now outcome
 Answers (question.Cut path dir rewrite) gives same outcome = CutsByFile rewrite gives path.now dir.now outcome
-Answers (question.Check path cert option) gives same outcome =
-    ByLeftOut (option_copied option) (λ left_out. Judges left_out gives path.now cert.now) outcome
-Answers (question.CheckUpTo path cert accept option) gives same outcome =
-    ByLeftOut (option_copied option) (λ left_out. ChecksUpTo left_out gives path.now cert.now accept.now) outcome
-Answers (question.SearchUpTo path out limit accept option) gives same outcome =
-    ByLeftOut (option_copied option) (λ left_out. SearchesUpTo left_out gives same path.now out.now limit accept.now) outcome
-Answers (question.Search path out limit option) gives same outcome =
-    ByLeftOut (option_copied option) (λ left_out. SearchesByFile left_out gives same path.now out.now limit) outcome
+Answers (question.Check path cert accept option) gives same outcome =
+    ChecksAll gives path.now cert.now (option_copied accept) (option_copied option) outcome
+Answers (question.Search path out limit accept option) gives same outcome =
+    Searches gives same path.now out.now (option_copied accept) limit (option_copied option) outcome
 Answers (question.Clashes path limit first option pairs) gives same outcome =
-    ByLeftOut (option_copied option) (λ left_out. DiagnosesByFile left_out gives same path.now limit first pairs) outcome
+    Diagnoses (option_copied option) gives same path.now limit first pairs outcome
 
 -- ---- What the status says of a question
 
--- these are the lines of the table of the file at a path, and the file at another excuses this of
--- it
-abbrev pub IsExcusalOf : World → List ℕ → List ℕ → List LineView → Excused → ℕ → Type 0
-IsExcusalOf before path accept lines excused sets =
-    AreLinesOf before.gives path lines × PassesAll lines × IsExcusedAt before.gives accept (table_of lines) lines excused sets
+-- these are the lines of the table of the file at a path, and this is excused of it
+abbrev pub IsExcusalOf : World → List ℕ → Option (List ℕ) → List LineView → Excusal → Type 0
+IsExcusalOf before path accept lines excusal =
+    AreLinesOf before.gives path lines × PassesAll lines × Excuses before.gives accept (table_of lines) lines excusal
 
--- an acceptance was written, and the table of the file at the path is unambiguous without the
--- characters that the option leaves out
-abbrev pub ReportsAcceptance : World → World → List ℕ → Option (List ℕ) → Type 0
-ReportsAcceptance before after path option =
-    (left_out : List ℕ) × (spelled_by option ≡ Ok left_out)
-    × ((t : TableView) × IsTableOf before.gives path t × IsUnambiguousWithout left_out t)
-    × ((states pairs : ℕ) × Prints before after (with_left_out_line left_out (accepted_line states pairs)))
+-- what a certificate shows of a table: any two texts that use none of some characters, and that it
+-- translates to the same cells, are equal; or, where a file excuses pairs of rules, they are the
+-- same but for these
+abbrev pub IsShownBut : Option (List ℕ) → List ℕ → Excusal → TableView → Type 0
+IsShownBut None left_out excusal t = IsUnambiguousWithout left_out t
+IsShownBut (Some path) left_out excusal t = IsShown left_out excusal.excused t
 
--- an acceptance was written that says what the file at a path excuses of the table of the file at
--- another: any two texts of that table that use none of what the option leaves out and that it
--- translates to the same cells are the same but for this
-abbrev pub ReportsAcceptanceUpTo : World → World → List ℕ → List ℕ → Option (List ℕ) → Type 0
-ReportsAcceptanceUpTo before after path accept option =
+-- an acceptance was written, which says what is left out and what is excused, and this is shown of
+-- the table of the file at the path
+abbrev pub ReportsAcceptance : World → World → List ℕ → Option (List ℕ) → Option (List ℕ) → Type 0
+ReportsAcceptance before after path accept option =
     (left_out : List ℕ) × (spelled_by option ≡ Ok left_out)
-    × ((lines : List LineView) × (excused : Excused) × (sets : ℕ) × IsExcusalOf before path accept lines excused sets × IsShown left_out excused (table_of lines)
-    × ((states pairs : ℕ) × Prints before after (lines_up_to left_out excused sets (accepted_line states pairs))))
+    × ((lines : List LineView) × (excusal : Excusal) × IsExcusalOf before path accept lines excusal × IsShownBut accept left_out excusal (table_of lines)
+    × ((states pairs : ℕ) × Prints before after (lines_with left_out accept excusal (accepted_line states pairs))))
 
 -- the refusal of a certificate was written
 abbrev pub ReportsRefusal : World → World → Type 0
@@ -190,28 +182,16 @@ ReportsNoUnused before after path =
     (t : TableView) × IsTableOf before.gives path t × ((number : ℕ) → IsRule t number → IsUsed t number)
     × ((lines : List LineView) × Prints before after (unused_text t lines []))
 
--- a certificate was written that a judge accepts for the table of the file at the path, and that
--- table is unambiguous, both without the characters that the option leaves out; no other file
--- changed, so the files still define that table
-abbrev pub ReportsCertificate : World → World → List ℕ → List ℕ → Option (List ℕ) → Type 0
-ReportsCertificate before after path out option =
-    (left_out : List ℕ) × (spelled_by option ≡ Ok left_out) × (t : TableView) × IsTableOf before.gives path t × IsUnambiguousWithout left_out t
-    × ((body : BodyView State) × IsAcceptedWithout left_out t (spelling (certificate_of body)) (counted (certificate_of body))
-    × GivesAlso after.gives out (spelling (certificate_of body)) × OthersStay before.gives after.gives out × IsTableOf after.gives path t
-    × Prints before after (with_left_out_line left_out (certified_line (certificate_of body))))
-
--- a certificate was written that a judge accepts for the table of the file at the path, but for
--- what another file excuses: any two texts of that table that it translates to the same cells are
--- the same but for this, both without the characters that the option leaves out; no other file
--- changed
-abbrev pub ReportsCertificateUpTo : World → World → List ℕ → List ℕ → List ℕ → Option (List ℕ) → Type 0
-ReportsCertificateUpTo before after path out accept option =
+-- a certificate was written that a judge accepts for the table of the file at the path, and what it
+-- shows holds of that table, both without what the option leaves out and but for what is excused;
+-- no other file changed
+abbrev pub ReportsCertificate : World → World → List ℕ → List ℕ → Option (List ℕ) → Option (List ℕ) → Type 0
+ReportsCertificate before after path out accept option =
     (left_out : List ℕ) × (spelled_by option ≡ Ok left_out)
-    × ((lines : List LineView) × (excused : Excused) × (sets : ℕ) × IsExcusalOf before path accept lines excused sets
-    × TextsAgreeBut left_out excused.exchanged excused.accepted (table_of lines)
-    × ((body : BodyView State) × IsAcceptedUpTo left_out excused (table_of lines) (spelling (certificate_of body)) (counted (certificate_of body))
+    × ((lines : List LineView) × (excusal : Excusal) × IsExcusalOf before path accept lines excusal × IsShownBut accept left_out excusal (table_of lines)
+    × ((body : BodyView State) × IsAcceptedUpTo left_out excusal.excused (table_of lines) (spelling (certificate_of body)) (counted (certificate_of body))
     × GivesAlso after.gives out (spelling (certificate_of body)) × OthersStay before.gives after.gives out × IsTableOf after.gives path (table_of lines)
-    × Prints before after (lines_up_to left_out excused sets (certified_line (certificate_of body)))))
+    × Prints before after (lines_with left_out accept excusal (certified_line (certificate_of body)))))
 
 -- new files were written, and no other file changed; these files define a table whose root is the
 -- file at the path, written into the folder
@@ -243,10 +223,9 @@ ReportsSlips before after = (path : List ℕ) × HasSlips before.gives path × (
 
 -- what it means that the work was done
 abbrev pub MeansDone : Question → World → World → Type 0
-MeansDone (question.Check path cert option) before after = ReportsAcceptance before after path.now (option_copied option)
-MeansDone (question.CheckUpTo path cert accept option) before after = ReportsAcceptanceUpTo before after path.now accept.now (option_copied option)
-MeansDone (question.SearchUpTo path out limit accept option) before after = ReportsCertificateUpTo before after path.now out.now accept.now (option_copied option)
-MeansDone (question.Search path out limit option) before after = ReportsCertificate before after path.now out.now (option_copied option)
+MeansDone (question.Check path cert accept option) before after = ReportsAcceptance before after path.now (option_copied accept) (option_copied option)
+MeansDone (question.Search path out limit accept option) before after =
+    ReportsCertificate before after path.now out.now (option_copied accept) (option_copied option)
 MeansDone (question.Clashes path limit first option pairs) before after =
     ReportsNoOther before after path.now (option_copied option) pairs
 MeansDone (question.Unused path limit) before after = ReportsNoUnused before after path.now
@@ -257,10 +236,8 @@ MeansDone asked before after = Unit {0}
 -- so
 abbrev pub MeansRefuted : Question → World → World → Type 0
 MeansRefuted (question.Clash path left right options) before after = ReportsClash before after
-MeansRefuted (question.Check path cert option) before after = ReportsRefusal before after
-MeansRefuted (question.CheckUpTo path cert accept option) before after = ReportsRefusal before after
-MeansRefuted (question.Search path out limit option) before after = ReportsClash before after
-MeansRefuted (question.SearchUpTo path out limit accept option) before after = ReportsClash before after
+MeansRefuted (question.Check path cert accept option) before after = ReportsRefusal before after
+MeansRefuted (question.Search path out limit accept option) before after = ReportsClash before after
 MeansRefuted (question.Clashes path limit first option pairs) before after =
     ReportsOther before after path.now (option_copied option) pairs
 MeansRefuted (question.Unused path limit) before after = ReportsUnused before after
@@ -276,8 +253,7 @@ KeepsFilesBut (Some path) before after = OthersStay before.gives after.gives pat
 
 -- no file changes, unless a table was searched or cut, or pairs of rules are to be written
 abbrev pub KeepsFilesUnlessWritten : Question → World → World → Type 0
-KeepsFilesUnlessWritten (question.Search path out limit option) before after = Unit {0}
-KeepsFilesUnlessWritten (question.SearchUpTo path out limit accept option) before after = Unit {0}
+KeepsFilesUnlessWritten (question.Search path out limit accept option) before after = Unit {0}
 KeepsFilesUnlessWritten (question.Cut path dir rewrite) before after = Unit {0}
 KeepsFilesUnlessWritten (question.Clashes path limit first option pairs) before after = KeepsFilesBut (written_path pairs) before after
 KeepsFilesUnlessWritten asked before after = KeepsFiles before after
@@ -298,36 +274,21 @@ pub record Asks (asked : Question) (same : MayBeSame) (before after : World) (st
 
 -- ---- What each task gives
 
--- the status after the translation of a stream
-abbrev pub stream_status : Result (Unit {0}) RunFault → Status
-stream_status (Ok done) = Done
+-- the status after a translation: a fault where a character is listed as lacking
+abbrev pub stream_status : Result (String Global) RunFault → Status
+stream_status (Ok text) = if length (string_bytes text) == 0 then Done else Faulty
 stream_status (Err fault) = status_of fault
 
 -- the input was translated by the table of the file at a path, which changes no file
-abbrev pub Translates : List ℕ → Form → Option (List ℕ) → World → World → Status → Type 0
-Translates path form input before after status =
+abbrev pub Translates : List ℕ → Form → Bool → Option (List ℕ) → World → World → Status → Type 0
+Translates path form lacking input before after status =
     KeepsFiles before after
-    × ((outcome : Result (Unit {0}) RunFault) × TranslatesByFile before.gives path form input before.contents after.contents outcome
+    × ((outcome : Result (String Global) RunFault) × TranslatesByFile lacking before.gives path form input before.contents after.contents outcome
     × (status ≡ stream_status outcome))
-
--- the status after the translation of the lines without undefined characters: a fault where a
--- character is listed
-abbrev pub defined_status : Result (String Global) RunFault → Status
-defined_status (Ok text) = if length (string_bytes text) == 0 then Done else Faulty
-defined_status (Err fault) = status_of fault
-
--- the input's lines without undefined characters were translated by the table of the file at a
--- path, which changes no file
-abbrev pub TranslatesDefined : List ℕ → Form → Option (List ℕ) → World → World → Status → Type 0
-TranslatesDefined path form input before after status =
-    KeepsFiles before after
-    × ((outcome : Result (String Global) RunFault) × TranslatesDefinedByFile before.gives path form input before.contents after.contents outcome
-    × (status ≡ defined_status outcome))
 
 -- a task was done, with the paths, texts, form, option and limit that it has
 abbrev pub Performs : Task → MayBeSame → Option (List ℕ) → World → World → Status → Type 0
-Performs (task.Translate path form) same input before after status = Translates path.now form input before after status
-Performs (task.TranslateDefined path form) same input before after status = TranslatesDefined path.now form input before after status
+Performs (task.Translate path form lacking) same input before after status = Translates path.now form lacking input before after status
 Performs (task.Ask asked) same input before after status = Asks asked same before after status
 
 -- the answer with this text of help or of the version

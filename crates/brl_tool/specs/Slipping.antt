@@ -1,5 +1,5 @@
 -- What `brl slips` answers. The project's own choice.
-use Rattle.std.specs.Prelude.{ℕ, ◌≡◌, ◌==◌, ◌&&◌, Bool, false, if◌then◌else◌, List, length, Result, Ok, Err}
+use Rattle.std.specs.Prelude.{ℕ, ◌≡◌, ◌==◌, ◌&&◌, Bool, false, if◌then◌else◌, List, length, Result}
 use Rattle.std.specs.List.Sorted.{IsPermutation, IsSorted}
 use Rattle.brl_lines.specs.Answer.{FileAnswers}
 use Rattle.brl_lines.specs.Gathering.{LeftView}
@@ -13,10 +13,11 @@ use Rattle.brl_slips.specs.Slips.{AreSlips}
 use Rattle.brl_slips.specs.Twins.{AreTwins}
 use Rattle.brl_slips.specs.declared.findings.Findings.{Findings}
 use Rattle.brl_slips.specs.declared.lexicon.Lexicon.{Lexicon}
+use Rattle.brl_answers.specs.Answers.{EndsAs, Then, UnlessMemory}
 use Rattle.brl_answers.specs.declared.answer.Answer.{Answer}
 use Rattle.brl_answers.specs.declared.new_files.NewFiles.TheVariants.{Nothing}
 use Rattle.brl_answers.specs.declared.run_fault.RunFault.{RunFault}
-use Rattle.brl_answers.specs.declared.run_fault.RunFault.TheVariants.{Load, Memory}
+use Rattle.brl_answers.specs.declared.run_fault.RunFault.TheVariants.{Load}
 use Rattle.brl_answers.specs.declared.status.Status.{Status}
 use Rattle.brl_answers.specs.declared.status.Status.TheVariants.{Done, Refuted}
 
@@ -50,13 +51,9 @@ pub record IsSlipsAnswer (lines : List LineView) (answer : Answer) : Type 0 wher
 abbrev pub AreLinesOf : FileAnswers → List ℕ → List LineView → Type 0
 AreLinesOf gives path lines = (skipped : List LeftView) × (paths : List (List ℕ)) × AreLinesWithout gives path skipped paths lines
 
--- the slips of the table at a path were listed, whatever lines aren't read; or it can't be loaded;
--- or memory ran out
+-- the slips of the table at a path were listed, whatever lines aren't read; or it can't be loaded
 abbrev pub ListsSlips : FileAnswers → List ℕ → Result Answer RunFault → Type 0
-ListsSlips gives path (Ok answer) = (lines : List LineView) × AreLinesOf gives path lines × IsSlipsAnswer lines answer
-ListsSlips gives path (Err (Load fault)) = IsUnloaded gives path fault
-ListsSlips gives path (Err Memory) = Unit {0}
-ListsSlips gives path (Err fault) = ⊥
+ListsSlips gives path outcome = Then (AreLinesOf gives path) (EndsAs Load (IsUnloaded gives path)) (λ lines. UnlessMemory (IsSlipsAnswer lines)) outcome
 
 -- the table at a path has slips or twins that are shown
 abbrev pub HasSlips : FileAnswers → List ℕ → Type 0

@@ -1,6 +1,6 @@
 -- What the translation of a stream gives. The project's own choice.
 use Rattle.std.specs.Fmt.{decimal, digits, format_spec, padded_integral}
-use Rattle.std.specs.Prelude.{ℕ, ◌≡◌, ◌⊎◌, ◌-◌, ◌^◌, ◌++◌, ◌∷◌, [], false, true, codes, flat_map, List, Option, Some, Result, Ok, Err, String, string_bytes}
+use Rattle.std.specs.Prelude.{ℕ, ◌≡◌, ◌-◌, ◌^◌, ◌++◌, ◌∷◌, [], Bool, false, true, if◌then◌else◌, codes, flat_map, List, Option, Some, Result, Ok, Err, String, string_bytes}
 use Rattle.std.specs.Global.{Global}
 use Rattle.std.specs.Str.{encode_utf8_all}
 use Rattle.brl_lines.specs.Visible.{visible_text}
@@ -15,32 +15,9 @@ use Rattle.brl_stream.specs.declared.lacking.Lacking.{Lacking}
 use Rattle.brl_stream.specs.declared.fault.StreamFault.{StreamFault}
 use Rattle.brl_cells.specs.declared.form.Form.{Form}
 use Rattle.brl_rules.specs.TableView.{TableView}
-use Rattle.brl_answers.specs.Answers.{HasNoTable}
+use Rattle.brl_answers.specs.Answers.{HasNoTable, Then}
 use Rattle.brl_answers.specs.declared.run_fault.RunFault.{RunFault}
 use Rattle.brl_answers.specs.declared.run_fault.RunFault.TheVariants.{Stream, Memory}
-
--- what the lines of an input give, by a table and in a form
-abbrev pub GivesLines : Type 0
-GivesLines = TableView → Form → List ℕ → List LineResult
-
--- what the input's lines give by the table of the file at a path was written, as far as the outcome
--- says
-abbrev pub WritesLines : GivesLines → FileAnswers → List ℕ → Form → Option (List ℕ) → Option (List ℕ) → Option (List ℕ) → Result (Unit {0}) (Failure StreamFault) → Type 0
-WritesLines lines gives path form input old new outcome =
-    (t : TableView) × IsTableOf gives path t × ((bytes : List ℕ) → input ≡ Some bytes → HasWritten (lines t form bytes) old new outcome)
-
--- what the input's lines give was written, by the outcome of the work; where there is no table,
--- nothing was written
-abbrev pub TranslatesBy : GivesLines → FileAnswers → List ℕ → Form → Option (List ℕ) → Option (List ℕ) → Option (List ℕ) → Result (Unit {0}) RunFault → Type 0
-TranslatesBy lines gives path form input old new (Ok done) = WritesLines lines gives path form input old new (Ok done)
-TranslatesBy lines gives path form input old new (Err (Stream fault)) = WritesLines lines gives path form input old new (Err (failures.Fault fault))
-TranslatesBy lines gives path form input old new (Err Memory) =
-    (new ≡ old) ⊎ WritesLines lines gives path form input old new (Err failures.Memory)
-TranslatesBy lines gives path form input old new (Err fault) = (new ≡ old) × HasNoTable gives path fault
-
--- the input was translated by the table of the file at a path
-abbrev pub TranslatesByFile : FileAnswers → List ℕ → Form → Option (List ℕ) → Option (List ℕ) → Option (List ℕ) → Result (Unit {0}) RunFault → Type 0
-TranslatesByFile gives path form input old new outcome = TranslatesBy verdict gives path form input old new outcome
 
 -- ---- Characters that the table doesn't define
 
@@ -58,10 +35,34 @@ lacking_line lacking =
 abbrev pub lacking_lines : List Lacking → List ℕ
 lacking_lines list = flat_map lacking_line list
 
--- the input's lines without a character that the table of the file at a path doesn't define were
--- translated, and the text has the lines of all such characters
-abbrev pub TranslatesDefinedByFile : FileAnswers → List ℕ → Form → Option (List ℕ) → Option (List ℕ) → Option (List ℕ) → Result (String Global) RunFault → Type 0
-TranslatesDefinedByFile gives path form input old new (Ok text) =
-    (t : TableView) × IsTableOf gives path t × ((bytes : List ℕ) → input ≡ Some bytes →
-    HasWritten (verdict_of_defined t form bytes) old new (Ok tt) × (string_bytes text ≡ lacking_lines (lacking_of t (lines_of bytes))))
-TranslatesDefinedByFile gives path form input old new (Err fault) = TranslatesBy verdict_of_defined gives path form input old new (Err fault)
+-- ---- The translation of an input
+
+-- what the lines of an input give by a table and in a form; of those that have characters that are
+-- lacking nothing, where these are to be listed
+abbrev pub given_by : Bool → TableView → Form → List ℕ → List LineResult
+given_by lacking t form bytes = if lacking then verdict_of_defined t form bytes else verdict t form bytes
+
+-- what the lines of the input give was written, as far as the outcome says
+abbrev pub WritesLines : Bool → TableView → Form → Option (List ℕ) → Option (List ℕ) → Option (List ℕ) → Result (Unit {0}) (Failure StreamFault) → Type 0
+WritesLines lacking t form input old new outcome =
+    (bytes : List ℕ) → input ≡ Some bytes → HasWritten (given_by lacking t form bytes) old new outcome
+
+-- the text has the lines of all characters of the input that are lacking, where these are to be
+-- listed; else it is empty
+abbrev pub ListsLacking : Bool → TableView → Option (List ℕ) → List ℕ → Type 0
+ListsLacking false t input text = text ≡ []
+ListsLacking true t input text = (bytes : List ℕ) → input ≡ Some bytes → text ≡ lacking_lines (lacking_of t (lines_of bytes))
+
+-- the input was translated by a table, up to its end or to the fault, and the answer has the lines
+-- of lacking characters
+abbrev pub TranslatesBy : Bool → TableView → Form → Option (List ℕ) → Option (List ℕ) → Option (List ℕ) → Result (String Global) RunFault → Type 0
+TranslatesBy lacking t form input old new (Ok text) = WritesLines lacking t form input old new (Ok tt) × ListsLacking lacking t input (string_bytes text)
+TranslatesBy lacking t form input old new (Err (Stream fault)) = WritesLines lacking t form input old new (Err (failures.Fault fault))
+TranslatesBy lacking t form input old new (Err Memory) = WritesLines lacking t form input old new (Err failures.Memory)
+TranslatesBy lacking t form input old new (Err fault) = ⊥
+
+-- the input was translated by the table of the file at a path; where there is none, nothing was
+-- written
+abbrev pub TranslatesByFile : Bool → FileAnswers → List ℕ → Form → Option (List ℕ) → Option (List ℕ) → Option (List ℕ) → Result (String Global) RunFault → Type 0
+TranslatesByFile lacking gives path form input old new outcome =
+    Then (IsTableOf gives path) (λ fault. HasNoTable gives path fault × (new ≡ old)) (λ t. TranslatesBy lacking t form input old new) outcome

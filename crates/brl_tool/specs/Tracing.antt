@@ -1,5 +1,5 @@
 -- What `brl trace` answers. The project's own choice.
-use Rattle.std.specs.Prelude.{ℕ, Bool, IsTrue, List, Result, Ok, Err}
+use Rattle.std.specs.Prelude.{ℕ, IsTrue, List, Result, Ok, Err}
 use Rattle.brl_forward.specs.Faults.{IsFaultOf}
 use Rattle.brl_lines.specs.Answer.{FileAnswers}
 use Rattle.brl_lines.specs.Tokens.{LineView}
@@ -23,11 +23,8 @@ Traces t lines text (Err (Text fault)) = IsFaultOf t text fault
 Traces t lines text (Err Memory) = Unit {0}
 Traces t lines text (Err fault) = ⊥
 
--- a text was traced by the table of the file at a path, whose lines are shown or not
-abbrev pub TracesByFile : Bool → FileAnswers → List ℕ → List ℕ → Result Answer RunFault → Type 0
-TracesByFile with_lines gives path text outcome =
-    ByLines gives path (λ lines. Traces (table_of lines) (shown_lines with_lines lines) text) outcome
-
--- the text of a word was traced, with or without escapes
+-- the text of a word, with or without escapes, was traced by the table of the file at a path, whose
+-- lines are shown or not; the word is read before the table
 abbrev pub TracesByWord : TextOptions → FileAnswers → List ℕ → List ℕ → Result Answer RunFault → Type 0
-TracesByWord options gives path word outcome = ByText options.escapes word (TracesByFile options.lines gives path) outcome
+TracesByWord options gives path word outcome =
+    ByText options.escapes word (λ text. ByLines gives path (λ lines. Traces (table_of lines) (shown_lines options.lines lines) text)) outcome

@@ -1,10 +1,9 @@
 -- What `brl unused` answers. The project's own choice.
-use Rattle.std.specs.Prelude.{ℕ, ◌==◌, if◌then◌else◌, List, ◌++◌, Result, Ok, Err, codes, length}
+use Rattle.std.specs.Prelude.{ℕ, ◌==◌, if◌then◌else◌, List, ◌++◌, Result, codes, length}
 use Rattle.std.specs.Fmt.{decimal}
-use Rattle.brl_answers.specs.Answers.{HasTextAndStatus}
+use Rattle.brl_answers.specs.Answers.{HasTextAndStatus, UnlessMemory}
 use Rattle.brl_answers.specs.declared.answer.Answer.{Answer}
 use Rattle.brl_answers.specs.declared.run_fault.RunFault.{RunFault}
-use Rattle.brl_answers.specs.declared.run_fault.RunFault.TheVariants.{Memory}
 use Rattle.brl_answers.specs.declared.status.Status.{Status}
 use Rattle.brl_answers.specs.declared.status.Status.TheVariants.{Done, Refuted, Undecided}
 use Rattle.brl_lines.specs.Answer.{FileAnswers}
@@ -40,12 +39,6 @@ abbrev pub IsUnusedAnswer : TableView → List LineView → ℕ → Answer → T
 IsUnusedAnswer t lines limit answer =
     (found : UnusedRules) × AreUnusedRules t limit found × HasTextAndStatus (status_of_unused found) (text_of_unused t lines found) answer
 
--- the rules of a table of these lines that no text uses were listed
-abbrev pub ListsUnused : TableView → List LineView → ℕ → Result Answer RunFault → Type 0
-ListsUnused t lines limit (Ok answer) = IsUnusedAnswer t lines limit answer
-ListsUnused t lines limit (Err Memory) = Unit {0}
-ListsUnused t lines limit (Err fault) = ⊥
-
 -- the unused rules of the table at a path were listed, by its lines
 abbrev pub ListsUnusedByFile : FileAnswers → List ℕ → ℕ → Result Answer RunFault → Type 0
-ListsUnusedByFile gives path limit outcome = ByLines gives path (λ lines. ListsUnused (table_of lines) lines limit) outcome
+ListsUnusedByFile gives path limit outcome = ByLines gives path (λ lines. UnlessMemory (IsUnusedAnswer (table_of lines) lines limit)) outcome

@@ -1,59 +1,50 @@
--- What `brl check` and `brl search` answer. The project's own choice.
-use Rattle.std.specs.Prelude.{ℕ, ◌≡◌, ◌≢◌, ◌<◌, ◌≤◌, ◌⊎◌, All, Any, IsTrue, List, ◌++◌, length, None, Result, Ok, Err, codes, string_bytes}
-use Rattle.brl_accept.specs.Judging.{IsAcceptedWithout, IsRefusedByWithout, counted}
+-- What `brl check` and `brl search` answer. `accept` is the path of a file that excuses pairs of
+-- rules, where there is one. The project's own choice.
+use Rattle.std.specs.Prelude.{ℕ, ◌≡◌, ◌≢◌, ◌≤◌, ◌⊎◌, All, Any, IsTrue, List, ◌++◌, length, Option, None, Result, Ok, Err, codes, string_bytes}
+use Rattle.brl_accept.specs.Excusing.{IsAcceptedUpTo, IsRefusedUpTo, IsShown}
+use Rattle.brl_accept.specs.Judging.{IsAcceptedFor, closed_without, counted}
 use Rattle.brl_closure.specs.declared.check.checker.Accepted.{Accepted}
 use Rattle.brl_accept.specs.declared.judge_fault.JudgeFault.{JudgeFault}
 use Rattle.brl_accept.specs.declared.judge_fault.JudgeFault.TheVariants as judge
+use Rattle.brl_accepted.specs.declared.reading.Excusal.{Excusal}
 use Rattle.brl_cert.specs.Reading.{reading, spelling}
-use Rattle.brl_pairs.specs.Body.{BodyView}
 use Rattle.brl_failure.specs.declared.failure.Failure.{Failure}
 use Rattle.brl_failure.specs.declared.failure.Failure.TheVariants as failures
 use Rattle.brl_states.specs.Counts.{pair_count, state_count}
 use Rattle.brl_states.specs.declared.cert.Cert.{Cert as Certificate}
-use Rattle.brl_lines.specs.Answer.{FileAnswer, FileAnswers, IsDeterministic, Holds, Large, MayAnswer, Missing, Unreadable, most_file_bytes}
-use Rattle.brl_lines.specs.Outcome.{AreLinesOfFiles}
+use Rattle.brl_lines.specs.Answer.{FileAnswers, IsDeterministic, Holds, MayAnswer, most_file_bytes}
 use Rattle.brl_lines.specs.Tokens.{LineView}
-use Rattle.brl_lines.specs.declared.fault.LoadFaultKind.{LoadFaultKind}
-use Rattle.brl_lines.specs.declared.fault.LoadFaultKind.TheVariants as kinds
-use Rattle.brl_table.specs.Files.{IsTableOf, IsTableOfFiles}
+use Rattle.brl_table.specs.Files.{IsTableOf}
+use Rattle.brl_table.specs.Reading.{table_of}
 use Rattle.brl_report.specs.Report.{report_text}
-use Rattle.brl_closure.specs.Answers.{IsCertified, IsLimit}
-use Rattle.brl_search.specs.Searched.{State, certificate_of, machine_of}
+use Rattle.brl_search.specs.Scoped.{IsSearched}
+use Rattle.brl_search.specs.declared.scoped.Searched.{Searched}
+use Rattle.brl_search.specs.declared.scoped.Searched.TheVariants.{Found, NotExchangeable}
+use Rattle.brl_search.specs.declared.table_search.Found.TheVariants.{Certified, Clashing, Limit}
 use Rattle.brl_rules.specs.TableView.{TableView}
+use Rattle.brl_answers.specs.Answers.{ByLeftOut, HasTextAndStatus, Provided, UnlessMemory, counts_line, spelled_by, with_left_out_line}
 use Rattle.brl_answers.specs.Files.{MayBeSame}
 use Rattle.brl_answers.specs.Status.{of_no_table}
 use Rattle.brl_answers.specs.declared.answer.Answer.{Answer}
 use Rattle.brl_answers.specs.declared.new_files.NewFiles.{NewFiles}
-use Rattle.brl_answers.specs.declared.new_files.NewFiles.TheVariants.{InPlace}
 use Rattle.brl_answers.specs.declared.run_fault.RunFault.{RunFault}
-use Rattle.brl_answers.specs.declared.run_fault.RunFault.TheVariants.{Load, Wide, NotDefined, WouldOverwrite, Memory}
+use Rattle.brl_answers.specs.declared.run_fault.RunFault.TheVariants.{Wide, NotDefined, WouldOverwrite, Memory}
 use Rattle.brl_answers.specs.declared.status.Status.TheVariants.{Done, Refuted, Undecided}
-use Rattle.brl_without.specs.Tables.{IsClashWithout, IsUndefined, IsUnambiguousWithout}
-use Rattle.brl_without.specs.Without.{without}
-use Rattle.brl_answers.specs.Answers.{HasNoTable, HasTextAndStatus, UnlessMemory, counts_line, with_left_out_line}
+use Rattle.brl_tool.specs.Baselines.{read_paths}
+use Rattle.brl_tool.specs.ByLines.{ByFiles, ByLines, IfPassing}
+use Rattle.brl_tool.specs.Excusing.{ByExcusal, lines_with}
+use Rattle.brl_tool.specs.FileBytes.{ByBytes, IsFileWith}
 
 -- ---- `brl check`
-
--- why a file has no bytes
-abbrev pub LacksBytes : (FileAnswer → Type 0) → LoadFaultKind → Type 0
-LacksBytes gives kinds.NotFound = gives Missing
-LacksBytes gives kinds.ReadFailed = gives Unreadable
-LacksBytes gives kinds.TooLarge = gives Large ⊎ ((bytes : List ℕ) × gives (Holds bytes) × (most_file_bytes < length bytes))
-LacksBytes gives kind = ⊥
-
--- the file at a path has no bytes, and the fault names its path and no line; or memory ran out
-abbrev pub IsFaultOfFile : FileAnswers → List ℕ → RunFault → Type 0
-IsFaultOfFile gives path Memory = Unit {0}
-IsFaultOfFile gives path (Load fault) = (string_bytes fault.path ≡ path) × (fault.place ≡ None) × LacksBytes (MayAnswer gives path) fault.kind
-IsFaultOfFile gives path fault = ⊥
 
 -- the line of an acceptance
 abbrev pub accepted_line : ℕ → ℕ → List ℕ
 accepted_line states pairs = counts_line (codes "accepted") states pairs
 
 -- the answer where a certificate is accepted
-abbrev pub IsAcceptance : List ℕ → Accepted → Answer → Type 0
-IsAcceptance left_out accepted answer = HasTextAndStatus Done (with_left_out_line left_out (accepted_line accepted.states accepted.pairs)) answer
+abbrev pub IsAcceptance : List ℕ → Option (List ℕ) → Excusal → Accepted → Answer → Type 0
+IsAcceptance left_out accept excusal accepted answer =
+    HasTextAndStatus Done (lines_with left_out accept excusal (accepted_line accepted.states accepted.pairs)) answer
 
 -- the answer where a certificate is refused: a line that begins with this word
 abbrev pub IsRefusal : Answer → Type 0
@@ -66,28 +57,23 @@ IsOfCertificate judge.OldVersion = Unit {0}
 IsOfCertificate (judge.Refused fault) = Unit {0}
 IsOfCertificate fault = ⊥
 
--- The answer for a certificate's bytes and the table of the file at a path. Where they are
--- accepted, any two texts over the table's characters but those that are left out, of whatever
--- length, that it translates to the same cells are equal.
-abbrev pub IsJudgement : List ℕ → FileAnswers → List ℕ → List ℕ → Answer → Type 0
-IsJudgement left_out gives path bytes answer =
-    ((t : TableView) × IsTableOf gives path t × IsUnambiguousWithout left_out t
-    × ((accepted : Accepted) × IsAcceptedWithout left_out t bytes accepted × IsAcceptance left_out accepted answer))
-    ⊎ ((fault : JudgeFault) × IsOfCertificate fault × IsRefusedByWithout left_out gives path bytes fault × IsRefusal answer)
+-- The answer for a certificate's bytes and a table. Where they are accepted, any two texts over the
+-- table's characters but those that are left out, of whatever length, that it translates to the
+-- same cells are the same step by step but for exchanges, to their ends or up to an accepted pair
+-- of rules; where nothing is excused they are equal.
+abbrev pub IsJudgement : List ℕ → Option (List ℕ) → Excusal → TableView → List ℕ → Answer → Type 0
+IsJudgement left_out accept excusal t bytes answer =
+    (IsShown left_out excusal.excused t
+    × ((accepted : Accepted) × IsAcceptedUpTo left_out excusal.excused t bytes accepted × IsAcceptance left_out accept excusal accepted answer))
+    ⊎ ((fault : JudgeFault) × IsOfCertificate fault × IsRefusedUpTo left_out excusal.excused t bytes fault × IsRefusal answer)
 
--- there is no table at the path, or it doesn't define what is left out, or it is too wide for the
--- certificate's version
-abbrev pub IsFaultOfTable : List ℕ → FileAnswers → List ℕ → List ℕ → RunFault → Type 0
-IsFaultOfTable left_out gives path bytes (NotDefined fault) = IsRefusedByWithout left_out gives path bytes (judge.NotDefined fault)
-IsFaultOfTable left_out gives path bytes (Wide fault) = IsRefusedByWithout left_out gives path bytes (judge.Wide fault)
-IsFaultOfTable left_out gives path bytes fault = HasNoTable gives path fault
-
--- the certificate in the file at one path was judged for the table of the file at another, without
--- the characters that are left out
-abbrev pub Checks : List ℕ → FileAnswers → List ℕ → List ℕ → Result Answer RunFault → Type 0
-Checks left_out gives path cert (Ok answer) = (bytes : List ℕ) × MayAnswer gives cert (Holds bytes) × IsJudgement left_out gives path bytes answer
-Checks left_out gives path cert (Err fault) =
-    IsFaultOfFile gives cert fault ⊎ ((bytes : List ℕ) × MayAnswer gives cert (Holds bytes) × IsFaultOfTable left_out gives path bytes fault)
+-- a certificate's bytes were judged for a table, or it is too wide for the certificate's version;
+-- or memory ran out
+abbrev pub Judges : List ℕ → Option (List ℕ) → TableView → List ℕ → Excusal → Result Answer RunFault → Type 0
+Judges left_out accept t bytes excusal (Ok answer) = IsJudgement left_out accept excusal t bytes answer
+Judges left_out accept t bytes excusal (Err (Wide fault)) = IsRefusedUpTo left_out excusal.excused t bytes (judge.Wide fault)
+Judges left_out accept t bytes excusal (Err Memory) = Unit {0}
+Judges left_out accept t bytes excusal (Err fault) = ⊥
 
 -- what is answered where the judge accepts nothing
 abbrev pub RendersFailure : Failure JudgeFault → Result Answer RunFault → Type 0
@@ -97,22 +83,31 @@ RendersFailure (failures.Fault (judge.Wide fault)) outcome = outcome ≡ Err (Wi
 RendersFailure (failures.Fault fault) outcome = UnlessMemory IsRefusal outcome
 RendersFailure failures.Memory outcome = outcome ≡ Err Memory
 
--- what is answered for each outcome of the judge
-abbrev pub Renders : List ℕ → Result Accepted (Failure JudgeFault) → Result Answer RunFault → Type 0
-Renders left_out (Ok accepted) outcome = UnlessMemory (IsAcceptance left_out accepted) outcome
-Renders left_out (Err failure) outcome = RendersFailure failure outcome
+-- the certificate with these bytes was judged for the table of the file at a path
+abbrev pub JudgesFile : List ℕ → FileAnswers → List ℕ → Option (List ℕ) → List ℕ → Result Answer RunFault → Type 0
+JudgesFile left_out gives path accept bytes outcome =
+    ByLines gives path (λ lines. ByExcusal left_out gives accept (table_of lines) lines (Judges left_out accept (table_of lines) bytes)) outcome
 
--- Over files that each have one answer: where they define a table, and the certificate's file has
--- bytes that are acceptable for it, they are accepted, unless memory runs out.
-abbrev pub AcceptsGood : List ℕ → FileAnswers → List ℕ → List ℕ → Result Answer RunFault → Type 0
-AcceptsGood left_out gives path cert outcome =
-    IsDeterministic gives → (bytes : List ℕ) → MayAnswer gives cert (Holds bytes) → length bytes ≤ most_file_bytes
-    → (t : TableView) → IsTableOf gives path t → (accepted : Accepted) → IsAcceptedWithout left_out t bytes accepted → UnlessMemory (IsAcceptance left_out accepted) outcome
+-- The certificate in the file at one path was judged for the table of the file at another, without
+-- the characters that an option leaves out, but for what a file excuses. What is left out is read
+-- first, then the certificate, the table, and what is excused.
+abbrev pub Checks : FileAnswers → List ℕ → List ℕ → Option (List ℕ) → Option (List ℕ) → Result Answer RunFault → Type 0
+Checks gives path cert accept option outcome = ByLeftOut option (λ left_out. ByBytes gives cert (JudgesFile left_out gives path accept)) outcome
+
+-- Over files that each have one answer, where nothing is excused: where they define a table, and
+-- the certificate's file has bytes that are acceptable for it, they are accepted, unless memory
+-- runs out.
+abbrev pub AcceptsGood : FileAnswers → List ℕ → List ℕ → Option (List ℕ) → Option (List ℕ) → Result Answer RunFault → Type 0
+AcceptsGood gives path cert accept option outcome =
+    IsDeterministic gives → accept ≡ None → (left_out : List ℕ) → spelled_by option ≡ Ok left_out
+    → (bytes : List ℕ) → MayAnswer gives cert (Holds bytes) → length bytes ≤ most_file_bytes
+    → (t : TableView) → IsTableOf gives path t → (accepted : Accepted) → IsAcceptedFor (closed_without left_out) t bytes accepted
+    → UnlessMemory (HasTextAndStatus Done (with_left_out_line left_out (accepted_line accepted.states accepted.pairs))) outcome
 
 -- the certificate was judged, and accepted where it is acceptable
-pub record Judges (left_out : List ℕ) (gives : FileAnswers) (path cert : List ℕ) (outcome : Result Answer RunFault) : Type 0 where
-  pub checks : Checks left_out gives path cert outcome
-  pub accepts : AcceptsGood left_out gives path cert outcome
+pub record ChecksAll (gives : FileAnswers) (path cert : List ℕ) (accept option : Option (List ℕ)) (outcome : Result Answer RunFault) : Type 0 where
+  pub checks : Checks gives path cert accept option outcome
+  pub accepts : AcceptsGood gives path cert accept option outcome
 
 -- ---- `brl search`
 
@@ -120,30 +115,36 @@ pub record Judges (left_out : List ℕ) (gives : FileAnswers) (path cert : List 
 abbrev pub certified_line : Certificate → List ℕ
 certified_line cert = counts_line (codes "certified") (state_count cert) (pair_count cert)
 
--- one file, in place of what is at a path, with these bytes
-abbrev pub IsFileWith : List ℕ → List ℕ → NewFiles → Type 0
-IsFileWith path bytes (InPlace file) = (string_bytes file.path ≡ path) × (file.bytes.items ≡ bytes)
-IsFileWith path bytes files = ⊥
-
 -- one file, in place of what is at a path, with the bytes of a certificate
 abbrev pub IsFileOf : Certificate → List ℕ → NewFiles → Type 0
 IsFileOf cert path files = IsFileWith path (spelling cert) files
 
 -- the answer with a certificate, which is read back from the bytes for its file
-abbrev pub IsCertificateAt : List ℕ → List ℕ → Certificate → Answer → Type 0
-IsCertificateAt left_out path cert answer =
-    (answer.status ≡ Done) × (string_bytes answer.text ≡ with_left_out_line left_out (certified_line cert)) × IsFileOf cert path answer.files
+abbrev pub IsCertificateAt : List ℕ → Option (List ℕ) → Excusal → List ℕ → Certificate → Answer → Type 0
+IsCertificateAt left_out accept excusal path cert answer =
+    (answer.status ≡ Done) × (string_bytes answer.text ≡ lines_with left_out accept excusal (certified_line cert)) × IsFileOf cert path answer.files
     × (reading (spelling cert) ≡ Ok cert)
 
--- The answer of the search of a table with a limit, without the characters that are left out: a
--- certificate for a file, where no two texts clash; or the report of a clash; or the numbers at
--- which the limit was passed.
-abbrev pub IsVerdict : List ℕ → TableView → List ℕ → ℕ → Answer → Type 0
-IsVerdict left_out t out limit answer =
-    (IsUnambiguousWithout left_out t × ((body : BodyView State) × IsCertified (without left_out (machine_of t)) limit body
-    × IsAcceptedWithout left_out t (spelling (certificate_of body)) (counted (certificate_of body)) × IsCertificateAt left_out out (certificate_of body) answer))
-    ⊎ ((left right cells : List ℕ) × IsClashWithout left_out t left right cells × HasTextAndStatus Refuted (report_text t left right cells) answer)
-    ⊎ ((states pairs : ℕ) × IsLimit (without left_out (machine_of t)) limit states pairs × HasTextAndStatus Undecided (counts_line (codes "limit") states pairs) answer)
+-- the answer where steps of exchanged pairs can't be exchanged everywhere
+abbrev pub IsUnexchanged : Answer → Type 0
+IsUnexchanged answer = (rest : List ℕ) × HasTextAndStatus Undecided (codes "not exchangeable: " ++ rest) answer
+
+-- The answer that says what is found of a table: a certificate for a file, which `brl check`
+-- accepts for the same table and the same excuses; or the report of a clash; or the numbers at
+-- which the limit was passed; or why some steps can't be exchanged.
+abbrev pub SaysFound : List ℕ → Option (List ℕ) → Excusal → TableView → List ℕ → Searched → Answer → Type 0
+SaysFound left_out accept excusal t out (Found (Certified cert)) answer =
+    IsShown left_out excusal.excused t × IsAcceptedUpTo left_out excusal.excused t (spelling cert) (counted cert)
+    × IsCertificateAt left_out accept excusal out cert answer
+SaysFound left_out accept excusal t out (Found (Clashing clash)) answer = HasTextAndStatus Refuted (report_text t clash.left clash.right clash.cells) answer
+SaysFound left_out accept excusal t out (Found (Limit states pairs)) answer = HasTextAndStatus Undecided (counts_line (codes "limit") states pairs) answer
+SaysFound left_out accept excusal t out (NotExchangeable fault) answer = IsUnexchanged answer
+
+-- the answer of the search of a table with a limit, without the characters that are left out, but
+-- for what is excused
+abbrev pub IsVerdict : List ℕ → Option (List ℕ) → Excusal → TableView → List ℕ → ℕ → Answer → Type 0
+IsVerdict left_out accept excusal t out limit answer =
+    (found : Searched) × IsSearched left_out excusal.excused t limit found × SaysFound left_out accept excusal t out found answer
 
 -- the fault names one of these paths, which may be the file for the certificate; or memory ran out
 abbrev pub IsOverwriting : MayBeSame → List (List ℕ) → List ℕ → RunFault → Type 0
@@ -151,23 +152,16 @@ IsOverwriting same paths out (WouldOverwrite file) = Any (λ one. (one ≡ strin
 IsOverwriting same paths out Memory = Unit {0}
 IsOverwriting same paths out fault = ⊥
 
--- the fault names the first character that is left out and that the table doesn't define; or memory
--- ran out
-abbrev pub IsUndefinedFault : TableView → List ℕ → RunFault → Type 0
-IsUndefinedFault t left_out (NotDefined fault) = IsUndefined t left_out fault
-IsUndefinedFault t left_out Memory = Unit {0}
-IsUndefinedFault t left_out fault = ⊥
+-- the table of these lines was searched, once no line has a fault, and what is excused is known
+abbrev pub SearchesLines : List ℕ → FileAnswers → List LineView → List ℕ → Option (List ℕ) → ℕ → Result Answer RunFault → Type 0
+SearchesLines left_out gives lines out accept limit outcome =
+    IfPassing lines (ByExcusal left_out gives accept (table_of lines) lines (λ excusal. UnlessMemory (IsVerdict left_out accept excusal (table_of lines) out limit))) outcome
 
 -- The table of the file at a path was searched, up to a limit, for a certificate for a file that is
--- none of the table's, without the characters that are left out; `same` says which paths may name
--- one file.
-abbrev pub SearchesByFile : List ℕ → FileAnswers → MayBeSame → List ℕ → List ℕ → ℕ → Result Answer RunFault → Type 0
-SearchesByFile left_out gives same path out limit (Ok answer) =
-    (paths : List (List ℕ)) × (t : TableView) × IsTableOfFiles gives path paths t × All (λ one. one ≢ out) paths
-    × IsVerdict left_out t out limit answer
-SearchesByFile left_out gives same path out limit (Err (WouldOverwrite file)) =
-    (paths : List (List ℕ)) × (lines : List LineView) × AreLinesOfFiles gives path paths lines
-    × IsOverwriting same paths out (WouldOverwrite file)
-SearchesByFile left_out gives same path out limit (Err (NotDefined fault)) =
-    (t : TableView) × IsTableOf gives path t × IsUndefined t left_out fault
-SearchesByFile left_out gives same path out limit (Err fault) = HasNoTable gives path fault
+-- none that is read, without the characters that an option leaves out, but for what a file excuses;
+-- `same` says which paths may name one file.
+abbrev pub Searches : FileAnswers → MayBeSame → List ℕ → List ℕ → Option (List ℕ) → ℕ → Option (List ℕ) → Result Answer RunFault → Type 0
+Searches gives same path out accept limit option outcome =
+    ByLeftOut option (λ left_out. ByFiles gives path (λ read.
+    Provided (All (λ one. one ≢ out) (read_paths read.paths accept)) (IsOverwriting same (read_paths read.paths accept) out)
+    (SearchesLines left_out gives read.lines out accept limit))) outcome

@@ -2,81 +2,149 @@
 ghost use Rattle.std.specs.Prelude.{◌≡◌};
 ghost use Rattle.brl_lines.specs.Outcome.{CountsFailure};
 ghost use Rattle.std.specs.Option.{option_copied};
-ghost use Rattle.brl_answers.specs.Answers.{ByLeftOut, UnlessMemory, load_outcome};
-ghost use Rattle.brl_tool.specs.Verdicts.{AcceptsGood, Checks, IsAcceptance, IsRefusal, Judges, Renders, RendersFailure};
+ghost use Rattle.brl_answers.specs.Answers.{UnlessMemory, load_outcome};
+ghost use Rattle.brl_tool.specs.Excusing.{ByExcusal};
+ghost use Rattle.brl_tool.specs.Verdicts.{AcceptsGood, Checks, IsAcceptance, IsRefusal, Judges, JudgesFile, RendersFailure};
+ghost use Rattle.brl_without.specs.Tables.{AreDefined};
 
+use crate::excusing::{ButFor, excusal_by, lines_with};
 use crate::file_text::bytes_at;
-use brl_accept::{JudgeFault, judge_with};
-use brl_answers::{Answer, RunFault, Status, counts_text, left_out_of, with_left_out_line};
+use crate::loaded_table::{LoadedTable, table_at};
+use brl_accept::{JudgeFault, judge_table};
+use brl_answers::{Answer, RunFault, Status, counts_text, left_out_of};
 use brl_closure::Accepted;
 use brl_failure::Failure;
 use brl_lines::Source;
 use brl_progress::Progress;
-use brl_without::{LeftOut, Scope};
+use brl_rules::Table;
+use brl_table::one_table_law;
+use brl_without::{LeftOut, Scope, check_defined};
 use std::alloc::Global;
 use std::fmt::Display;
 
-/// Judges the certificate in the file at one path for the table whose file is at another, without
-/// the characters that the option leaves out. The option is parsed first. Progress is reported
-/// state by state.
+/// The paths of the files of a check: the table's, the certificate's, and that of what is excused,
+/// where there is one.
+#[derive(Clone, Copy)]
+pub struct CheckedFiles<'a> {
+    pub table: &'a str,
+    pub cert: &'a str,
+    pub accept: Option<&'a str>,
+}
+
+/// Judges the certificate in a file for the table of another, without the characters that the
+/// option leaves out, but for what a third one excuses: the pairs of rules that it names are
+/// accepted, and the steps of characters of its sets may be exchanged. The option is parsed first,
+/// the certificate's file is read before the table's, and that of what is excused once the table
+/// defines what is left out. The answer is the lines of an acceptance or the line of a refusal.
+/// Progress is reported state by state.
 pub fn check_by_words<S: Source, W: Progress>(
     alloc: Global,
     source: &mut S,
-    table: &str,
-    cert: &str,
-    option: Option<&str>,
+    paths: CheckedFiles<'_>,
+    without: Option<&str>,
     progress: &mut W,
 ) -> Result<Answer, RunFault>
-    ensures checks { ByLeftOut (option_copied option.entry) (λ left_out. Judges left_out (S.gives source.old) table.now cert.now) result }
+    ensures checks { Checks (S.gives source.old) paths.entry.table.now paths.entry.cert.now (option_copied paths.entry.accept) (option_copied without.entry) result }
+    ensures accepts { AcceptsGood (S.gives source.old) paths.entry.table.now paths.entry.cert.now (option_copied paths.entry.accept) (option_copied without.entry) result }
     ensures count { CountsFailure (S.faults source.old) (S.faults source.new) (load_outcome result) }
     ensures same { S.gives source.new ≡ S.gives source.old }
 {
-    let left_out = left_out_of(alloc, option)?;
-    check_by_file(alloc, source, table, cert, &left_out, progress)
+    one_table_law(&*source);
+    check_files(alloc, source, paths, without, progress)
 }
 
-/// Judges the certificate in the file at one path for the table whose file is at another, without
-/// the characters that are left out. The certificate's file is read first. The answer is the lines
-/// of an acceptance or the line of a refusal.
-pub fn check_by_file<S: Source, W: Progress>(
+/// Reads what is left out and the certificate, and judges it.
+fn check_files<S: Source, W: Progress>(
     alloc: Global,
     source: &mut S,
-    table: &str,
-    cert: &str,
-    left_out: &LeftOut,
+    paths: CheckedFiles<'_>,
+    without: Option<&str>,
     progress: &mut W,
 ) -> Result<Answer, RunFault>
-    ensures checks { Checks left_out.now (S.gives source.old) table.now cert.now result }
-    ensures accepts { AcceptsGood left_out.now (S.gives source.old) table.now cert.now result }
+    ensures checks { Checks (S.gives source.old) paths.entry.table.now paths.entry.cert.now (option_copied paths.entry.accept) (option_copied without.entry) result }
     ensures count { CountsFailure (S.faults source.old) (S.faults source.new) (load_outcome result) }
     ensures same { S.gives source.new ≡ S.gives source.old }
 {
-    let bytes = bytes_at(alloc, source, cert)?;
-    let scope = Scope { left_out, progress };
-    let judged = judge_with(alloc, source, table, bytes.as_slice(), scope);
-    judgement(alloc, left_out, judged)
+    let left_out = left_out_of(alloc, without)?;
+    let bytes = bytes_at(alloc, source, paths.cert)?;
+    check_bytes(alloc, source, paths, bytes.as_slice(), &left_out, progress)
 }
 
-/// The answer to what the judge found. A fault of the table, or no memory, says nothing of the
-/// certificate.
-fn judgement(
+/// Judges a certificate with these bytes for the table of a file.
+fn check_bytes<S: Source, W: Progress>(
     alloc: Global,
+    source: &mut S,
+    paths: CheckedFiles<'_>,
+    bytes: &[u8],
     left_out: &LeftOut,
-    judged: Result<Accepted, Failure<JudgeFault>>,
+    progress: &mut W,
 ) -> Result<Answer, RunFault>
-    ensures { Renders left_out.now judged result }
+    ensures judges { JudgesFile left_out.now (S.gives source.old) paths.entry.table.now (option_copied paths.entry.accept) bytes.now result }
+    ensures count { CountsFailure (S.faults source.old) (S.faults source.new) (load_outcome result) }
+    ensures same { S.gives source.new ≡ S.gives source.old }
 {
-    match judged {
-        Ok(accepted) => acceptance(alloc, left_out, accepted),
+    let loaded = table_at(alloc, source, paths.table)?;
+    check_loaded(
+        alloc,
+        source,
+        &loaded,
+        paths.accept,
+        bytes,
+        left_out,
+        progress,
+    )
+}
+
+/// Judges it for a table, but for what the file at a path excuses.
+fn check_loaded<S: Source, W: Progress>(
+    alloc: Global,
+    source: &mut S,
+    loaded: &LoadedTable,
+    accept: Option<&str>,
+    bytes: &[u8],
+    left_out: &LeftOut,
+    progress: &mut W,
+) -> Result<Answer, RunFault>
+    ensures judges { ByExcusal left_out.now (S.gives source.old) (option_copied accept.entry) loaded.now.table loaded.now.files.lines
+        (Judges left_out.now (option_copied accept.entry) loaded.now.table bytes.now) result }
+    ensures count { CountsFailure (S.faults source.old) (S.faults source.new) (load_outcome result) }
+    ensures same { S.gives source.new ≡ S.gives source.old }
+{
+    check_defined(alloc, &loaded.table, left_out)?;
+    let excusal = excusal_by(alloc, source, loaded, accept)?;
+    let but_for = ButFor {
+        left_out,
+        accept,
+        excusal: &excusal,
+    };
+    judgement(alloc, &loaded.table, bytes, but_for, progress)
+}
+
+/// The answer to what the judge finds of a table that defines what is left out.
+fn judgement<W: Progress>(
+    alloc: Global,
+    table: &Table,
+    bytes: &[u8],
+    but_for: ButFor<'_>,
+    progress: &mut W,
+) -> Result<Answer, RunFault>
+    requires { AreDefined table.now but_for.left_out.now }
+    ensures { Judges but_for.entry.left_out.now (option_copied but_for.entry.accept) table.now bytes.now but_for.entry.excusal.now result }
+{
+    let scope = Scope {
+        left_out: but_for.left_out,
+        excused: &but_for.excusal.excused,
+        progress,
+    };
+    match judge_table(alloc, table, bytes, scope) {
+        Ok(accepted) => acceptance(alloc, but_for, accepted),
         Err(failure) => answer_failure(alloc, failure),
     }
 }
 
-/// The answer where the judge accepts nothing.
-pub(crate) fn answer_failure(
-    alloc: Global,
-    failure: Failure<JudgeFault>,
-) -> Result<Answer, RunFault>
+/// The answer where the judge accepts nothing. A fault of the table, or no memory, says nothing of
+/// the certificate.
+fn answer_failure(alloc: Global, failure: Failure<JudgeFault>) -> Result<Answer, RunFault>
     ensures { RendersFailure failure result }
 {
     match failure {
@@ -91,13 +159,13 @@ pub(crate) fn answer_failure(
 }
 
 /// The answer where a certificate is accepted.
-fn acceptance(alloc: Global, left_out: &LeftOut, accepted: Accepted) -> Result<Answer, RunFault>
-    ensures { UnlessMemory (IsAcceptance left_out.now accepted) result }
+fn acceptance(alloc: Global, but_for: ButFor<'_>, accepted: Accepted) -> Result<Answer, RunFault>
+    ensures { UnlessMemory (IsAcceptance but_for.entry.left_out.now (option_copied but_for.entry.accept) but_for.entry.excusal.now accepted) result }
 {
     let states = u64::from(accepted.states);
     let pairs = u64::from(accepted.pairs);
     let line = counts_text(alloc, "accepted", states, pairs)?;
-    let text = with_left_out_line(alloc, line, left_out)?;
+    let text = lines_with(alloc, line, but_for)?;
     Ok(Answer::new(Status::Done, text))
 }
 

@@ -3,7 +3,7 @@ ghost use Rattle.std.specs.Prelude.{◌≡◌};
 ghost use Rattle.brl_lines.specs.Outcome.{CountsFailure};
 ghost use Rattle.brl_answers.specs.Answers.{load_outcome};
 ghost use Rattle.brl_tool.specs.ByLines.{shown_lines as lines_shown};
-ghost use Rattle.brl_tool.specs.Comparing.{Compares, ComparesByFile, ComparesByWords};
+ghost use Rattle.brl_tool.specs.Comparing.{Compares, ComparesByWords};
 
 use crate::loaded_table::{LoadedTable, table_at};
 use crate::shown::shown_lines;
@@ -16,7 +16,8 @@ use std::alloc::Global;
 
 /// Compares the texts of two words by the table whose file is at a path. With escapes they are read
 /// as operands of a table, and with lines each step of a report is followed by the table's lines by
-/// which it is made. The texts are read before the table, the left one first.
+/// which it is made. The texts are read before the table, the left one first. The answer is the
+/// report of a clash, or `no clash`.
 pub fn compare_by_words<S: Source>(
     alloc: Global,
     source: &mut S,
@@ -31,32 +32,14 @@ pub fn compare_by_words<S: Source>(
 {
     let left = text_of_word(alloc, left, options.escapes)?;
     let right = text_of_word(alloc, right, options.escapes)?;
-    compare_by_file(
+    let loaded = table_at(alloc, source, path)?;
+    compare(
         alloc,
-        source,
-        path,
+        &loaded,
         options.lines,
         left.as_slice(),
         right.as_slice(),
     )
-}
-
-/// Compares two texts by the table whose file is at a path, whose lines are shown or not. The
-/// answer is the report of a clash, or `no clash`.
-pub fn compare_by_file<S: Source>(
-    alloc: Global,
-    source: &mut S,
-    path: &str,
-    with_lines: bool,
-    left: &[char],
-    right: &[char],
-) -> Result<Answer, RunFault>
-    ensures compares { ComparesByFile with_lines (S.gives source.old) path.now left.now right.now result }
-    ensures count { CountsFailure (S.faults source.old) (S.faults source.new) (load_outcome result) }
-    ensures same { S.gives source.new ≡ S.gives source.old }
-{
-    let loaded = table_at(alloc, source, path)?;
-    compare(alloc, &loaded, with_lines, left, right)
 }
 
 /// Compares two texts by a table. Each step of a report has the lines by which it is made, where

@@ -3,10 +3,10 @@ ghost use Rattle.std.specs.Prelude.{◌≡◌, IfOk, map, option_map, string_byt
 ghost use Rattle.std.specs.Option.{option_copied};
 ghost use Rattle.brl_lines.specs.Outcome.{CountsFailure};
 ghost use Rattle.brl_lines.specs.Views.{line_view};
-ghost use Rattle.brl_answers.specs.Answers.{ByLeftOut, load_outcome};
+ghost use Rattle.brl_answers.specs.Answers.{UnlessMemory, load_outcome};
 ghost use Rattle.brl_clashes.specs.Sections.{AreSections};
 ghost use Rattle.brl_tool.specs.Baselines.{AreExcused, leaves_stale as stale_stay, pruned_text};
-ghost use Rattle.brl_tool.specs.Diagnosing.{Diagnoses, DiagnosesByFile, IsDiagnosis, status_of_sections};
+ghost use Rattle.brl_tool.specs.Diagnosing.{ByBaseline, Diagnoses, IsDiagnosis, status_of_sections};
 
 use crate::baselines::{Baseline, Exempt, excused_pairs, file_of_pairs, refuse_file_that_is_read};
 use crate::file_text::text_at;
@@ -21,16 +21,25 @@ use brl_cli::PairFiles;
 use brl_lines::{Line, load};
 use brl_progress::Progress;
 use brl_rules::Table;
-use brl_without::{LeftOut, Scope, check_defined};
+use brl_without::{LeftOut, check_defined};
 use std::alloc::{AllocError, Global};
 use std::io::Write;
 
 /// What a list of clashes is asked for: the path of the table's file, how many states, pairs and
-/// pairs of rules a section may find, how many clashes of it are shown, where 0 means all, the
-/// characters that are left out, and the files of pairs of rules.
+/// pairs of rules a section may find, how many clashes of it are shown, where 0 means all, the word
+/// for the characters that are left out, and the files of pairs of rules.
+#[derive(Clone, Copy)]
+pub struct ListedClashes<'a> {
+    pub table: &'a str,
+    pub limit: u32,
+    pub first: u32,
+    pub without: Option<&'a str>,
+    pub pairs: PairFiles<'a>,
+}
+
+/// What is listed of the clashes of a table that is loaded.
 #[derive(Clone, Copy)]
 struct Wanted<'a> {
-    table: &'a str,
     limit: u32,
     first: u32,
     left_out: &'a LeftOut,
@@ -42,115 +51,78 @@ struct Wanted<'a> {
 /// the file at `pairs.accept` names are left out, and those that are left go to the file at
 /// `pairs.write`, unless there may be others. Its stale lines name none; with `pairs.prune` they
 /// are taken out of it. Standard error gets these lines, and reports of progress.
+/// `PairsWouldOverwrite` where the file that is written is one of the table's, or that of the
+/// accepted pairs and not its own; `NotDefined` where the table doesn't define a character that is
+/// left out.
 pub fn list_clashes_by_words<F: Files, E: Write + Progress>(
     alloc: Global,
     files: &mut F,
-    path: &str,
-    limit: u32,
-    first: u32,
-    option: Option<&str>,
-    pairs: PairFiles<'_>,
+    asked: ListedClashes<'_>,
     err: &mut E,
 ) -> Result<Answer, RunFault>
-    ensures diagnoses { ByLeftOut (option_copied option.entry)
-        (λ left_out. DiagnosesByFile left_out (F.gives files.old) F.same_file path.now limit first pairs.entry) result }
+    ensures diagnoses { Diagnoses (option_copied asked.entry.without) (F.gives files.old) F.same_file asked.entry.table.now asked.entry.limit asked.entry.first
+        asked.entry.pairs result }
     ensures count { CountsFailure (F.faults files.old) (F.faults files.new) (load_outcome result) }
     ensures same { F.gives files.new ≡ F.gives files.old }
 {
-    let left_out = left_out_of(alloc, option)?;
-    let wanted = Wanted {
-        table: path,
-        limit,
-        first,
-        left_out: &left_out,
-        pairs,
-    };
-    list_clashes_by_file(alloc, files, wanted, err)
-}
-
-/// Lists them without the characters that are left out. `PairsWouldOverwrite` where the file that
-/// is written is one of the table's, or that of the accepted pairs and not its own.
-fn list_clashes_by_file<F: Files, E: Write + Progress>(
-    alloc: Global,
-    files: &mut F,
-    wanted: Wanted<'_>,
-    err: &mut E,
-) -> Result<Answer, RunFault>
-    ensures diagnoses { DiagnosesByFile wanted.entry.left_out.now (F.gives files.old) F.same_file wanted.entry.table.now wanted.entry.limit wanted.entry.first
-        wanted.entry.pairs result }
-    ensures count { CountsFailure (F.faults files.old) (F.faults files.new) (load_outcome result) }
-    ensures same { F.gives files.new ≡ F.gives files.old }
-{
-    let read = load(alloc, files, wanted.table)?;
-    refuse_file_that_is_read(alloc, files, &read, wanted.pairs)?;
+    let left_out = left_out_of(alloc, asked.without)?;
+    let read = load(alloc, files, asked.table)?;
+    refuse_file_that_is_read(alloc, files, &read, asked.pairs)?;
     let loaded = LoadedTable::of(alloc, read)?;
-    clashes_of_loaded(alloc, files, &loaded, wanted, err)
+    check_defined(alloc, &loaded.table, &left_out)?;
+    let wanted = Wanted {
+        limit: asked.limit,
+        first: asked.first,
+        left_out: &left_out,
+        pairs: asked.pairs,
+    };
+    list_clashes(alloc, files, &loaded, wanted, err)
 }
 
-/// Lists the clashes of a table of loaded files.
-fn clashes_of_loaded<F: Files, E: Write + Progress>(
+/// Lists the clashes of a table that defines what is left out. The file of accepted pairs is read
+/// before the work.
+fn list_clashes<F: Files, E: Write + Progress>(
     alloc: Global,
     files: &mut F,
     loaded: &LoadedTable,
     wanted: Wanted<'_>,
     err: &mut E,
 ) -> Result<Answer, RunFault>
-    ensures diagnoses { Diagnoses wanted.entry.left_out.now (F.gives files.old) loaded.now.table loaded.now.files.lines wanted.entry.limit wanted.entry.first
-        wanted.entry.pairs result }
+    ensures diagnoses { ByBaseline (F.gives files.old) (option_copied wanted.entry.pairs.accept)
+        (λ baseline. UnlessMemory (IsDiagnosis wanted.entry.left_out.now loaded.now.table loaded.now.files.lines wanted.entry.limit wanted.entry.first
+        baseline wanted.entry.pairs)) result }
     ensures count { CountsFailure (F.faults files.old) (F.faults files.new) (load_outcome result) }
     ensures same { F.gives files.new ≡ F.gives files.old }
 {
-    let lines = loaded.files.lines(alloc)?;
-    list_clashes(alloc, files, &loaded.table, lines.as_slice(), wanted, err)
-}
-
-/// Lists the clashes of a table of these lines, once it defines what is left out. The file of
-/// accepted pairs is read before the work. `NotDefined` where the table doesn't define a character
-/// that is left out.
-fn list_clashes<F: Files, E: Write + Progress>(
-    alloc: Global,
-    files: &mut F,
-    table: &Table,
-    lines: &[Line<'_>],
-    wanted: Wanted<'_>,
-    err: &mut E,
-) -> Result<Answer, RunFault>
-    ensures diagnoses { Diagnoses wanted.entry.left_out.now (F.gives files.old) table.now (map line_view lines.now) wanted.entry.limit wanted.entry.first
-        wanted.entry.pairs result }
-    ensures count { CountsFailure (F.faults files.old) (F.faults files.new) (load_outcome result) }
-    ensures same { F.gives files.new ≡ F.gives files.old }
-{
-    check_defined(alloc, table, wanted.left_out)?;
     let Some(path) = wanted.pairs.accept else {
-        return Ok(diagnosis(alloc, table, lines, wanted, None, err)?);
+        return Ok(diagnosis(alloc, loaded, wanted, None, err)?);
     };
     let text = text_at(alloc, files, path)?;
     let baseline = Baseline {
         path,
         text: text.as_str(),
     };
-    Ok(diagnosis(alloc, table, lines, wanted, Some(baseline), err)?)
+    Ok(diagnosis(alloc, loaded, wanted, Some(baseline), err)?)
 }
 
 /// Lists a table's clashes beside the pairs that a file excuses. Standard error hears of it first
 /// where no line defines a character.
 fn diagnosis<E: Write + Progress>(
     alloc: Global,
-    table: &Table,
-    lines: &[Line<'_>],
+    loaded: &LoadedTable,
     wanted: Wanted<'_>,
     baseline: Option<Baseline<'_>>,
     err: &mut E,
 ) -> Result<Answer, AllocError>
-    ensures { IfOk result (IsDiagnosis wanted.entry.left_out.now table.now (map line_view lines.now) wanted.entry.limit wanted.entry.first
+    ensures { IfOk result (IsDiagnosis wanted.entry.left_out.now loaded.now.table loaded.now.files.lines wanted.entry.limit wanted.entry.first
         (option_map (λ file. file.text.now) baseline.entry) wanted.entry.pairs) }
 {
+    let table = &loaded.table;
     write_if_without_characters(table, err);
-    let scope = Scope {
-        left_out: wanted.left_out,
-        progress: err,
-    };
-    let sections = list_sections(alloc, table, u64::from(wanted.limit), scope)?;
+    let limit = u64::from(wanted.limit);
+    let sections = list_sections(alloc, table, limit, wanted.left_out, err)?;
+    let lines = loaded.files.lines(alloc)?;
+    let lines = lines.as_slice();
     let prune = wanted.pairs.prune;
     let exempt = excused_pairs(alloc, table, lines, sections.as_slice(), baseline, prune)?;
     write_stale(&exempt.stale, err);

@@ -1,7 +1,7 @@
 //! `brl cut`: the lines of a table that are read, as a table of its own.
 ghost use Rattle.std.specs.Prelude.{◌≡◌, IfOk, map, string_bytes};
 ghost use Rattle.brl_cut.specs.Files.{file_view};
-ghost use Rattle.brl_tool.specs.Cutting.{CutsByFile, IsTextOfCut, new_file_view, status_of_cut};
+ghost use Rattle.brl_tool.specs.Cutting.{CutsByFile, IsCutAnswer, IsTextOfCut, new_file_view, status_of_cut};
 
 use crate::suspects::has_unknown_opcode;
 use brl_answers::{Answer, Files, NewFile, NewFiles, RunFault, Status};
@@ -25,12 +25,19 @@ pub fn cut_by_file<F: Files>(
     ensures same { F.gives files.new ≡ F.gives files.old }
 {
     let cut = cut_table(alloc, files, path, dir, rewrite)?;
-    let text = text_of_cut(alloc, &cut, rewrite)?;
-    let status = status_of(&cut);
+    Ok(answer_of(alloc, &cut, rewrite)?)
+}
+
+/// The answer with a cut.
+fn answer_of(alloc: Global, cut: &Cut, rewrite: bool) -> Result<Answer, AllocError>
+    ensures { IfOk result (IsCutAnswer rewrite cut.now) }
+{
+    let text = text_of_cut(alloc, cut, rewrite)?;
+    let files = new_files(alloc, cut.files.as_slice())?;
     Ok(Answer {
         text,
-        status,
-        files: NewFiles::AllNew(new_files(alloc, cut.files.as_slice())?),
+        status: status_of(cut),
+        files: NewFiles::AllNew(files),
     })
 }
 

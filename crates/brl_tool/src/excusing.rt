@@ -1,12 +1,13 @@
 //! What a file excuses of a table, and the line of an answer that says so.
 ghost use Rattle.std.specs.Prelude.{◌≡◌, [], IfErr, IfOk, None, map, string_bytes};
+ghost use Rattle.std.specs.Option.{option_copied};
 ghost use Rattle.brl_accepted.specs.Reading.{excused_by, sets_named};
 ghost use Rattle.brl_answers.specs.Answers.{load_outcome};
 ghost use Rattle.brl_lines.specs.Outcome.{CountsFailure};
 ghost use Rattle.brl_lines.specs.Views.{line_view};
-ghost use Rattle.brl_without.specs.Tables.{AreDefined};
 ghost use Rattle.brl_tool.specs.Baselines.{names_of_table};
-ghost use Rattle.brl_tool.specs.UpTo.{IsExcusedAt, IsFaultBeforeExcusal, IsFaultOfExcusal, IsFaultOfLines, lines_up_to as whole_lines, stale_of};
+ghost use Rattle.brl_tool.specs.Excusing.{Excuses, IsExcusedAt, IsFaultOfExcusal, IsFaultOfExcuses, IsFaultOfLines, excused_text, lines_with as whole_lines, stale_of};
+ghost use Rattle.brl_without.specs.Scope.{IsNothing};
 
 use crate::file_text::text_at;
 use crate::loaded_table::LoadedTable;
@@ -14,51 +15,68 @@ use brl_accepted::{Counts, Excusal, Nameable, StaleLines, but_for_line, pair_cou
 use brl_answers::{RunFault, with_left_out_line};
 use brl_clashes::character_sets;
 use brl_lines::{Line, Source};
+use brl_pairs::Excused;
 use brl_rules::Table;
-use brl_without::{LeftOut, check_defined};
+use brl_without::LeftOut;
 use std::alloc::{AllocError, Global};
 
-/// What an answer doesn't speak of: what a file excuses, and the characters that are left out.
+/// What an answer doesn't speak of.
 #[derive(Clone, Copy)]
 pub struct ButFor<'a> {
-    pub excusal: &'a Excusal,
+    /// The characters that are left out.
     pub left_out: &'a LeftOut,
+    /// The path of the file that says what is excused, where there is one.
+    pub accept: Option<&'a str>,
+    /// What is excused: nothing where there is no such file.
+    pub excusal: &'a Excusal,
 }
 
-/// What the file at a path excuses of a table, once the table defines what is left out.
-pub fn excusal_without<S: Source>(
+/// What the file at a path excuses of a table; nothing where there is none. `Accept` where it has
+/// stale lines.
+pub fn excusal_by<S: Source>(
     alloc: Global,
     source: &mut S,
     loaded: &LoadedTable,
-    left_out: &LeftOut,
+    accept: Option<&str>,
+) -> Result<Excusal, RunFault>
+    ensures excuses { IfOk result (Excuses (S.gives source.old) (option_copied accept.entry) loaded.now.table loaded.now.files.lines) }
+    ensures fault { IfErr result (IsFaultOfExcuses (S.gives source.old) (option_copied accept.entry) loaded.now.table loaded.now.files.lines) }
+    ensures count { CountsFailure (S.faults source.old) (S.faults source.new) (load_outcome result) }
+    ensures same { S.gives source.new ≡ S.gives source.old }
+{
+    match accept {
+        Some(path) => excusal_at(alloc, source, loaded, path),
+        None => Ok(nothing(alloc)),
+    }
+}
+
+/// Nothing is excused.
+fn nothing(alloc: Global) -> Excusal
+    ensures { IsNothing result.excused }
+{
+    Excusal {
+        excused: Excused::nothing(alloc),
+        sets: 0,
+        stale: Vec::new(alloc),
+        kept: String::new(alloc),
+    }
+}
+
+/// What the file at a path excuses of a table. `Accept` where it has stale lines.
+fn excusal_at<S: Source>(
+    alloc: Global,
+    source: &mut S,
+    loaded: &LoadedTable,
     path: &str,
 ) -> Result<Excusal, RunFault>
-    ensures defined { IfOk result (λ _. AreDefined loaded.now.table left_out.now) }
     ensures excuses { IfOk result (λ excusal. IsExcusedAt (S.gives source.old) path.now loaded.now.table loaded.now.files.lines excusal.excused excusal.sets) }
-    ensures fault { IfErr result (IsFaultBeforeExcusal left_out.now (S.gives source.old) path.now loaded.now.table loaded.now.files.lines) }
+    ensures fault { IfErr result (IsFaultOfExcusal (S.gives source.old) path.now loaded.now.table loaded.now.files.lines) }
     ensures count { CountsFailure (S.faults source.old) (S.faults source.new) (load_outcome result) }
     ensures same { S.gives source.new ≡ S.gives source.old }
 {
     let lines = loaded.files.lines(alloc)?;
-    check_defined(alloc, &loaded.table, left_out)?;
-    excusal_at(alloc, source, &loaded.table, lines.as_slice(), path)
-}
-
-/// What the file at a path excuses of a table of these lines. `Accept` where it has stale lines.
-fn excusal_at<S: Source>(
-    alloc: Global,
-    source: &mut S,
-    table: &Table,
-    lines: &[Line<'_>],
-    path: &str,
-) -> Result<Excusal, RunFault>
-    ensures excuses { IfOk result (λ excusal. IsExcusedAt (S.gives source.old) path.now table.now (map line_view lines.now) excusal.excused excusal.sets) }
-    ensures fault { IfErr result (IsFaultOfExcusal (S.gives source.old) path.now table.now (map line_view lines.now)) }
-    ensures count { CountsFailure (S.faults source.old) (S.faults source.new) (load_outcome result) }
-    ensures same { S.gives source.new ≡ S.gives source.old }
-{
     let text = text_at(alloc, source, path)?;
-    excusal_of(alloc, table, lines, path, text.as_str())
+    excusal_of(alloc, &loaded.table, lines.as_slice(), path, text.as_str())
 }
 
 /// What a text excuses of a table of these lines; it is that of the file at a path. `Accept` where
@@ -84,18 +102,26 @@ fn excusal_of(
     Ok(excusal)
 }
 
-/// A line of an answer, the line of what is excused, and that of what is left out.
-pub fn lines_up_to(alloc: Global, line: String, but_for: ButFor<'_>) -> Result<String, AllocError>
+/// A line of an answer, that of what is excused where a file says it, and that of what is left out.
+pub fn lines_with(alloc: Global, line: String, but_for: ButFor<'_>) -> Result<String, AllocError>
     ensures { IfOk result (λ text. string_bytes text
-        ≡ whole_lines but_for.entry.left_out.now but_for.entry.excusal.now.excused but_for.entry.excusal.now.sets (string_bytes line)) }
+        ≡ whole_lines but_for.entry.left_out.now (option_copied but_for.entry.accept) but_for.entry.excusal.now (string_bytes line)) }
 {
-    let excusal = but_for.excusal;
+    let mut text = line;
+    if but_for.accept.is_some() {
+        let excused = excused_line(alloc, but_for.excusal)?;
+        text.push_str(excused.as_str())?;
+    }
+    with_left_out_line(alloc, text, but_for.left_out)
+}
+
+/// The line that says how much a file excuses.
+fn excused_line(alloc: Global, excusal: &Excusal) -> Result<String, AllocError>
+    ensures { IfOk result (λ text. string_bytes text ≡ excused_text excusal.now) }
+{
     let counts = Counts {
         pairs: pair_count(alloc, excusal.excused.accepted.as_slice())?,
         sets: excusal.sets,
     };
-    let excused = but_for_line(alloc, counts)?;
-    let mut text = line;
-    text.push_str(excused.as_str())?;
-    with_left_out_line(alloc, text, but_for.left_out)
+    but_for_line(alloc, counts)
 }

@@ -4,7 +4,7 @@ ghost use Rattle.brl_lines.specs.Answer.{Holds, MayAnswer};
 ghost use Rattle.brl_lines.specs.Outcome.{CountsFailure};
 ghost use Rattle.brl_answers.specs.Answers.{load_outcome};
 ghost use Rattle.brl_tool.specs.Baselines.{IsFaultOfText};
-ghost use Rattle.brl_tool.specs.Verdicts.{IsFaultOfFile};
+ghost use Rattle.brl_tool.specs.FileBytes.{IsFaultOfFile};
 
 use brl_answers::RunFault;
 use brl_failure::Failure;

@@ -3,13 +3,12 @@
 //! `program` has what each command's words lead to. `translate`, `clash`, `trace`, `rules`,
 //! `survey` and `cut` do the work of these commands by the files of a table, `search`, `clashes`,
 //! `unused` and `check` that of theirs, `slips` lists rules that look like typing errors, and
-//! `explain` has what a fault means. `loaded_table` has
-//! the table of a file with its lines, `notices` writes the notices of a table that is searched or
-//! surveyed, `remarks` the rules that are there again, `suspects` has what a survey or a cut finds
-//! that was hardly meant so, and `certificate` has the answer with a certificate that was found.
-//! `baselines` has the files of pairs of rules that `clashes` reads and writes. `check_up_to` and
-//! `search_up_to` have what `check` and `search` answer where a file excuses something, which
-//! `excusing` reads. Every command but `translate` gives an `Answer` (brl_answers).
+//! `explain` has what a fault means. `loaded_table` has the table of a file with its lines,
+//! `notices` writes the notices of a table that is searched or surveyed, `remarks` the rules that
+//! are there again, `suspects` has what a survey or a cut finds that was hardly meant so, and
+//! `certificate` has the answer with a certificate that was found. `baselines` has the files of
+//! pairs of rules that `clashes` reads and writes, `excusing` what such a file excuses of a `check`
+//! or a `search`. Every command but `translate` gives an `Answer` (brl_answers).
 //!
 //! Room 5, the program (docs/dev/ARCHITECTURE.md). The definitions begin in `specs/Running.antt`.
 #![tactic(auto)]
@@ -17,7 +16,6 @@
 mod baselines;
 mod certificate;
 mod check;
-mod check_up_to;
 mod clash;
 mod clashes;
 mod cut;
@@ -31,7 +29,6 @@ mod remarks;
 mod rules;
 mod same_file;
 mod search;
-mod search_up_to;
 mod shown;
 mod slips;
 mod survey;
@@ -45,18 +42,16 @@ pub use brl_stream::{
     Counting, Failed, Form, Input, Lacking, LineFault, Output, StreamFault,
     translate_defined_lines, translate_lines,
 };
-pub use check::check_by_words;
-pub use check_up_to::{CheckedFiles, check_up_to_by_words};
+pub use check::{CheckedFiles, check_by_words};
 pub use clash::compare_by_words;
-pub use clashes::list_clashes_by_words;
+pub use clashes::{ListedClashes, list_clashes_by_words};
 pub use cut::cut_by_file;
 pub use explain::explain_line;
 pub use program::run;
 pub use rules::list_rules_by_file;
-pub use search::search_by_words;
-pub use search_up_to::{SearchedFiles, search_up_to_by_words};
+pub use search::{SearchedFiles, search_by_words};
 pub use slips::list_slips_by_file;
 pub use survey::survey_by_files;
 pub use trace::trace_by_word;
-pub use translate::{translate_by_file, translate_defined_by_file};
+pub use translate::{Translation, translate_by_file};
 pub use unused::list_unused_by_file;

@@ -1,23 +1,21 @@
 //! The program over any files and streams.
 ghost use Rattle.std.specs.Prelude.{◌≡◌};
 ghost use Rattle.brl_answers.specs.Delivery.{world};
-ghost use Rattle.brl_tool.specs.Running.{Answers, Asks, IsStatus, MayGainFiles, Performs, Replies, ReportsOne, Runs, TranslatesDefined};
+ghost use Rattle.brl_tool.specs.Running.{Answers, Asks, IsStatus, MayGainFiles, Performs, Replies, ReportsOne, Runs, Translates};
 
-use crate::check::check_by_words;
-use crate::check_up_to::{CheckedFiles, check_up_to_by_words};
+use crate::check::{CheckedFiles, check_by_words};
 use crate::clash::compare_by_words;
-use crate::clashes::list_clashes_by_words;
+use crate::clashes::{ListedClashes, list_clashes_by_words};
 use crate::cut::cut_by_file;
 use crate::explain::explain_line;
 use crate::rules::list_rules_by_file;
-use crate::search::search_by_words;
-use crate::search_up_to::{SearchedFiles, search_up_to_by_words};
+use crate::search::{SearchedFiles, search_by_words};
 use crate::slips::list_slips_by_file;
 use crate::survey::survey_by_files;
 use crate::trace::trace_by_word;
-use crate::translate::{translate_by_file, translate_defined_by_file};
+use crate::translate::{Translation, translate_by_file};
 use crate::unused::list_unused_by_file;
-use crate::{Files, Form, Input, Output};
+use crate::{Files, Input, Output};
 use brl_answers::{Answer, RunFault, Status, deliver};
 use brl_cli::{NotATask, Question, Task, Words, Work};
 use brl_failure::Failure;
@@ -103,34 +101,36 @@ fn perform<F: Files, I: Input, O: Output, E: Write + Progress>(
         (world (F.gives files.new) (O.failures out.new) (O.contents out.new)) result }
 {
     match task {
-        Task::Translate { table, form } => {
-            match translate_by_file(alloc, files, table, form, input, out) {
-                Ok(()) => Status::Done,
-                Err(fault) => fault.report(err),
-            }
-        }
-        Task::TranslateDefined { table, form } => {
-            translate_defined(alloc, files, table, form, input, out, err)
+        Task::Translate {
+            table,
+            form,
+            lacking,
+        } => {
+            let wanted = Translation {
+                table,
+                form,
+                lacking,
+            };
+            translate(alloc, wanted, files, input, out, err)
         }
         Task::Ask(question) => ask(alloc, question, files, out, err),
     }
 }
 
-/// `brl translate --lacking`. Standard error gets the lines of the characters that the table
-/// doesn't define.
-fn translate_defined<F: Files, I: Input, O: Output, E: Write>(
+/// Translates the input. Standard error gets the lines of the characters that are listed as
+/// lacking.
+fn translate<F: Files, I: Input, O: Output, E: Write>(
     alloc: Global,
+    wanted: Translation<'_>,
     files: &mut F,
-    table: &str,
-    form: Form,
     input: &mut I,
     out: &mut O,
     err: &mut E,
 ) -> Status
-    ensures { TranslatesDefined table.now form (I.remaining input.old) (world (F.gives files.old) (O.failures out.old) (O.contents out.old))
+    ensures { Translates wanted.entry.table.now wanted.entry.form wanted.entry.lacking (I.remaining input.old) (world (F.gives files.old) (O.failures out.old) (O.contents out.old))
         (world (F.gives files.new) (O.failures out.new) (O.contents out.new)) result }
 {
-    match translate_defined_by_file(alloc, files, table, form, input, out) {
+    match translate_by_file(alloc, files, wanted, input, out) {
         Ok(lacking) if lacking.is_empty() => Status::Done,
         Ok(lacking) => {
             let _ = err.write_all(lacking.as_bytes());
@@ -140,7 +140,7 @@ fn translate_defined<F: Files, I: Input, O: Output, E: Write>(
     }
 }
 
-/// Answers a question, and delivers the answer.
+/// Answers a question, and delivers the answer. Standard error hears of the end of the work before.
 fn ask<F: Files, O: Output, E: Write + Progress>(
     alloc: Global,
     question: Question<'_>,
@@ -153,6 +153,7 @@ fn ask<F: Files, O: Output, E: Write + Progress>(
 {
     let quiet = !decides(&question);
     let outcome = answer(alloc, question, files, err);
+    err.end();
     deliver(alloc, outcome, quiet, files, out, err)
 }
 
@@ -161,15 +162,11 @@ fn ask<F: Files, O: Output, E: Write + Progress>(
 fn decides(question: &Question<'_>) -> bool {
     matches!(
         question,
-        Question::Clash { .. }
-            | Question::Check { .. }
-            | Question::CheckUpTo { .. }
-            | Question::Search { .. }
-            | Question::SearchUpTo { .. }
+        Question::Clash { .. } | Question::Check { .. } | Question::Search { .. }
     )
 }
 
-/// The answer to a question. Standard error hears of the end of a check or a search.
+/// The answer to a question.
 fn answer<F: Files, E: Write + Progress>(
     alloc: Global,
     question: Question<'_>,
@@ -198,11 +195,7 @@ fn answer<F: Files, E: Write + Progress>(
         Question::Rules { table, numbers } => {
             list_rules_by_file(alloc, files, table, numbers.as_slice())
         }
-        Question::Unused { table, limit } => {
-            let outcome = list_unused_by_file(alloc, files, table, limit, err);
-            err.end();
-            outcome
-        }
+        Question::Unused { table, limit } => list_unused_by_file(alloc, files, table, limit, err),
         Question::Cut {
             table,
             dir,
@@ -210,15 +203,6 @@ fn answer<F: Files, E: Write + Progress>(
         } => cut_by_file(alloc, files, table, dir, rewrite),
         Question::Slips { table, columns } => list_slips_by_file(alloc, files, table, columns),
         Question::Check {
-            table,
-            cert,
-            without,
-        } => {
-            let outcome = check_by_words(alloc, files, table, cert, without, err);
-            err.end();
-            outcome
-        }
-        Question::CheckUpTo {
             table,
             cert,
             accept,
@@ -229,21 +213,9 @@ fn answer<F: Files, E: Write + Progress>(
                 cert,
                 accept,
             };
-            let outcome = check_up_to_by_words(alloc, files, paths, without, err);
-            err.end();
-            outcome
+            check_by_words(alloc, files, paths, without, err)
         }
         Question::Search {
-            table,
-            cert,
-            limit,
-            without,
-        } => {
-            let outcome = search_by_words(alloc, files, table, cert, limit, without, err);
-            err.end();
-            outcome
-        }
-        Question::SearchUpTo {
             table,
             cert: out,
             limit,
@@ -251,9 +223,7 @@ fn answer<F: Files, E: Write + Progress>(
             without,
         } => {
             let paths = SearchedFiles { table, out, accept };
-            let outcome = search_up_to_by_words(alloc, files, paths, limit, without, err);
-            err.end();
-            outcome
+            search_by_words(alloc, files, paths, limit, without, err)
         }
         Question::Clashes {
             table,
@@ -262,11 +232,14 @@ fn answer<F: Files, E: Write + Progress>(
             without,
             pairs,
         } => {
-            let outcome = list_clashes_by_words(
-                alloc, files, table, limit, first, without, pairs, err,
-            );
-            err.end();
-            outcome
+            let asked = ListedClashes {
+                table,
+                limit,
+                first,
+                without,
+                pairs,
+            };
+            list_clashes_by_words(alloc, files, asked, err)
         }
     }
 }

@@ -2,76 +2,71 @@
 ghost use Rattle.std.specs.Prelude.{◌≡◌, ◌≢◌, ℕ, All, IfErr, IfOk, OnOk};
 ghost use Rattle.brl_lines.specs.Outcome.{CountsFailure};
 ghost use Rattle.std.specs.Option.{option_copied};
-ghost use Rattle.brl_answers.specs.Answers.{ByLeftOut, load_outcome};
+ghost use Rattle.brl_answers.specs.Answers.{UnlessMemory, load_outcome};
 ghost use Rattle.brl_tool.specs.Baselines.{read_paths as paths_of_read};
-ghost use Rattle.brl_tool.specs.Verdicts.{IsCertificateAt, IsOverwriting, IsUndefinedFault, IsVerdict, SearchesByFile};
-ghost use Rattle.brl_search.specs.Found.{IsFoundWithout};
+ghost use Rattle.brl_tool.specs.Excusing.{ByExcusal};
+ghost use Rattle.brl_tool.specs.Verdicts.{IsCertificateAt, IsOverwriting, IsUnexchanged, IsVerdict, Searches};
+ghost use Rattle.brl_search.specs.Scoped.{IsSearched};
+ghost use Rattle.brl_search.specs.declared.scoped.Searched.TheVariants as searched;
 ghost use Rattle.brl_without.specs.Tables.{AreDefined};
 
 use crate::baselines::read_paths;
 use crate::certificate::{certificate_with, certified_text};
+use crate::excusing::{ButFor, excusal_by, lines_with};
+use crate::loaded_table::LoadedTable;
 use crate::notices::write_notices;
 use crate::same_file::path_of_file;
-use brl_answers::{Answer, Files, RunFault, Status, counts_text, left_out_of, with_left_out_line};
+use brl_answers::{Answer, Files, RunFault, Status, counts_text, left_out_of};
+use brl_closure::AcceptFault;
 use brl_lines::{Loaded, load};
 use brl_progress::Progress;
 use brl_report::report;
 use brl_rules::Table;
-use brl_search::{Found, search_with};
+use brl_search::{Found, Searched, search_table};
 use brl_states::Cert;
-use brl_table::table_of_loaded;
 use brl_without::{LeftOut, Scope, check_defined};
 use std::alloc::{AllocError, Global};
 use std::io::Write;
 
-/// Searches the table whose file is at a path, without the characters that the option leaves out.
-/// What it spells is read first. Standard error gets reports of progress.
+/// The paths of the files of a search: the table's, the certificate's, and that of what is excused,
+/// where there is one.
+#[derive(Clone, Copy)]
+pub struct SearchedFiles<'a> {
+    pub table: &'a str,
+    pub out: &'a str,
+    pub accept: Option<&'a str>,
+}
+
+/// Searches the table of a file, without the characters that the option leaves out, until more than
+/// `limit` states or pairs are found, but for what another file excuses: the pairs of rules that it
+/// names are accepted, and the steps of characters of its sets may be exchanged. The answer is a
+/// certificate for the file at `out`, with its numbers; or the report of a clash, at another pair
+/// of rules; or why some steps can't be exchanged; or the numbers at which the limit was passed.
+///
+/// The option is parsed first. `WouldOverwrite` where `out` names a file that is read, `NotDefined`
+/// where the table doesn't define a character that is left out. What is excused is read after that.
+/// Before the search standard error gets the table's notices, and then reports of progress.
 pub fn search_by_words<F: Files, E: Write + Progress>(
     alloc: Global,
     files: &mut F,
-    path: &str,
-    out: &str,
+    paths: SearchedFiles<'_>,
     limit: u32,
-    option: Option<&str>,
+    without: Option<&str>,
     err: &mut E,
 ) -> Result<Answer, RunFault>
-    ensures searches { ByLeftOut (option_copied option.entry)
-        (λ left_out. SearchesByFile left_out (F.gives files.old) F.same_file path.now out.now limit) result }
+    ensures searches { Searches (F.gives files.old) F.same_file paths.entry.table.now paths.entry.out.now (option_copied paths.entry.accept) limit (option_copied without.entry) result }
     ensures count { CountsFailure (F.faults files.old) (F.faults files.new) (load_outcome result) }
     ensures same { F.gives files.new ≡ F.gives files.old }
 {
-    let left_out = left_out_of(alloc, option)?;
-    search_by_file(alloc, files, path, out, limit, &left_out, err)
-}
-
-/// Searches the table whose file is at a path, without the characters that are left out, until more
-/// than `limit` states or pairs are found. The answer is a certificate for the file at `out`, with
-/// its numbers; or the report of a clash; or the numbers at which the limit was passed. Before the
-/// search standard error gets the table's notices, and then reports of progress. `WouldOverwrite`
-/// where `out` names one of the table's files; `NotDefined` where the table doesn't define a
-/// character that is left out.
-pub fn search_by_file<F: Files, E: Write + Progress>(
-    alloc: Global,
-    files: &mut F,
-    path: &str,
-    out: &str,
-    limit: u32,
-    left_out: &LeftOut,
-    err: &mut E,
-) -> Result<Answer, RunFault>
-    ensures searches { SearchesByFile left_out.now (F.gives files.old) F.same_file path.now out.now limit result }
-    ensures count { CountsFailure (F.faults files.old) (F.faults files.new) (load_outcome result) }
-    ensures same { F.gives files.new ≡ F.gives files.old }
-{
-    let loaded = load(alloc, files, path)?;
-    refuse_file_that_is_read(alloc, files, &loaded, None, out)?;
-    let table = table_of_loaded(alloc, &loaded)?;
-    drop(loaded);
-    search_table(alloc, &table, out, limit, left_out, err)
+    let left_out = left_out_of(alloc, without)?;
+    let read = load(alloc, files, paths.table)?;
+    refuse_file_that_is_read(alloc, files, &read, paths.accept, paths.out)?;
+    let loaded = LoadedTable::of(alloc, read)?;
+    search_loaded(alloc, files, &loaded, paths, limit, &left_out, err)
 }
 
 /// Refuses a file for the certificate that is one of a table's files, or that of what is excused.
-pub(crate) fn refuse_file_that_is_read<F: Files>(
+fn refuse_file_that_is_read<F: Files>(
     alloc: Global,
     files: &F,
     loaded: &Loaded,
@@ -88,68 +83,100 @@ pub(crate) fn refuse_file_that_is_read<F: Files>(
     }
 }
 
-/// Searches a table without the characters that are left out, once it defines these.
-fn search_table<E: Write + Progress>(
+/// Searches a table, once it defines what is left out, but for what the file at a path excuses.
+fn search_loaded<F: Files, E: Write + Progress>(
     alloc: Global,
-    table: &Table,
-    out: &str,
+    files: &mut F,
+    loaded: &LoadedTable,
+    paths: SearchedFiles<'_>,
     limit: u32,
     left_out: &LeftOut,
     err: &mut E,
 ) -> Result<Answer, RunFault>
-    ensures verdict { IfOk result (IsVerdict left_out.now table.now out.now limit) }
-    ensures fault { IfErr result (IsUndefinedFault table.now left_out.now) }
+    ensures searches { ByExcusal left_out.now (F.gives files.old) (option_copied paths.entry.accept) loaded.now.table loaded.now.files.lines
+        (λ excusal. UnlessMemory (IsVerdict left_out.now (option_copied paths.entry.accept) excusal loaded.now.table paths.entry.out.now limit)) result }
+    ensures count { CountsFailure (F.faults files.old) (F.faults files.new) (load_outcome result) }
+    ensures same { F.gives files.new ≡ F.gives files.old }
 {
-    check_defined(alloc, table, left_out)?;
-    Ok(search_defined(alloc, table, out, limit, left_out, err)?)
+    check_defined(alloc, &loaded.table, left_out)?;
+    let excusal = excusal_by(alloc, files, loaded, paths.accept)?;
+    let but_for = ButFor {
+        left_out,
+        accept: paths.accept,
+        excusal: &excusal,
+    };
+    Ok(verdict(alloc, &loaded.table, but_for, paths.out, limit, err)?)
 }
 
-/// Writes a table's notices, and searches it without the characters that are left out.
-fn search_defined<E: Write + Progress>(
+/// Writes a table's notices, and searches it.
+fn verdict<E: Write + Progress>(
     alloc: Global,
     table: &Table,
+    but_for: ButFor<'_>,
     out: &str,
     limit: u32,
-    left_out: &LeftOut,
     err: &mut E,
 ) -> Result<Answer, AllocError>
-    requires { AreDefined table.now left_out.now }
-    ensures { IfOk result (IsVerdict left_out.now table.now out.now limit) }
+    requires { AreDefined table.now but_for.left_out.now }
+    ensures { IfOk result (IsVerdict but_for.entry.left_out.now (option_copied but_for.entry.accept) but_for.entry.excusal.now table.now out.now limit) }
 {
     write_notices(alloc, table, err)?;
-    let found = found_without(alloc, table, limit, left_out, err)?;
-    answer_found(alloc, table, out, left_out, &found)
+    let found = found_but_for(alloc, table, limit, but_for, err)?;
+    answer_found(alloc, table, but_for, out, &found)
 }
 
-/// What a search of a table finds without the characters that are left out.
-fn found_without<P: Progress>(
+/// What a search of a table finds.
+fn found_but_for<P: Progress>(
     alloc: Global,
     table: &Table,
     limit: u32,
-    left_out: &LeftOut,
+    but_for: ButFor<'_>,
     progress: &mut P,
-) -> Result<Found, AllocError>
-    ensures { IfOk result (IsFoundWithout left_out.now table.now limit) }
+) -> Result<Searched, AllocError>
+    ensures { IfOk result (IsSearched but_for.entry.left_out.now but_for.entry.excusal.now.excused table.now limit) }
 {
-    let scope = Scope { left_out, progress };
-    search_with(alloc, table, u64::from(limit), scope)
+    let scope = Scope {
+        left_out: but_for.left_out,
+        excused: &but_for.excusal.excused,
+        progress,
+    };
+    search_table(alloc, table, u64::from(limit), scope)
 }
 
-/// The answer with what was found of a table without the characters that are left out.
+/// The answer with what was found of a table.
 fn answer_found(
     alloc: Global,
     table: &Table,
+    but_for: ButFor<'_>,
     out: &str,
-    left_out: &LeftOut,
-    found: &Found,
+    found: &Searched,
 ) -> Result<Answer, AllocError>
-    requires defined { AreDefined table.now left_out.now }
-    requires found { (limit : ℕ) × IsFoundWithout left_out.now table.now limit found.now }
-    ensures { (limit : ℕ) → IsFoundWithout left_out.now table.now limit found.now →
-        IfOk result (IsVerdict left_out.now table.now out.now limit) }
+    requires defined { AreDefined table.now but_for.left_out.now }
+    requires found { (limit : ℕ) × IsSearched but_for.left_out.now but_for.excusal.now.excused table.now limit found.now }
+    ensures { (limit : ℕ) → IsSearched but_for.entry.left_out.now but_for.entry.excusal.now.excused table.now limit found.now →
+        IfOk result (IsVerdict but_for.entry.left_out.now (option_copied but_for.entry.accept) but_for.entry.excusal.now table.now out.now limit) }
 {
     match found {
-        Found::Certified(cert) => certificate(alloc, cert, out, left_out),
+        Searched::Found(found) => answer_of(alloc, table, but_for, out, found),
+        Searched::NotExchangeable(fault) => unexchanged(alloc, fault),
+    }
+}
+
+/// The answer with a certificate, a clash, or the limit.
+fn answer_of(
+    alloc: Global,
+    table: &Table,
+    but_for: ButFor<'_>,
+    out: &str,
+    found: &Found,
+) -> Result<Answer, AllocError>
+    requires defined { AreDefined table.now but_for.left_out.now }
+    requires found { (limit : ℕ) × IsSearched but_for.left_out.now but_for.excusal.now.excused table.now limit (searched.Found found.now) }
+    ensures { (limit : ℕ) → IsSearched but_for.entry.left_out.now but_for.entry.excusal.now.excused table.now limit (searched.Found found.now) →
+        IfOk result (IsVerdict but_for.entry.left_out.now (option_copied but_for.entry.accept) but_for.entry.excusal.now table.now out.now limit) }
+{
+    match found {
+        Found::Certified(cert) => certificate(alloc, cert, but_for, out),
         Found::Clashing(clash) => Ok(Answer::new(Status::Refuted, report(alloc, table, clash)?)),
         Found::Limit { states, pairs } => {
             let text = counts_text(alloc, "limit", *states, *pairs)?;
@@ -158,16 +185,25 @@ fn answer_found(
     }
 }
 
+/// The answer where steps of exchanged pairs can't be exchanged everywhere.
+fn unexchanged(alloc: Global, fault: &AcceptFault) -> Result<Answer, AllocError>
+    ensures { IfOk result IsUnexchanged }
+{
+    let reason = fault.to_string(alloc)?;
+    let text = format!(in alloc; "not exchangeable: {reason}\n")?;
+    Ok(Answer::new(Status::Undecided, text))
+}
+
 /// The answer with a certificate for the file at a path.
 fn certificate(
     alloc: Global,
     cert: &Cert,
+    but_for: ButFor<'_>,
     path: &str,
-    left_out: &LeftOut,
 ) -> Result<Answer, AllocError>
-    ensures { IfOk result (IsCertificateAt left_out.now path.now cert.now) }
+    ensures { IfOk result (IsCertificateAt but_for.entry.left_out.now (option_copied but_for.entry.accept) but_for.entry.excusal.now path.now cert.now) }
 {
     let line = certified_text(alloc, cert)?;
-    let text = with_left_out_line(alloc, line, left_out)?;
+    let text = lines_with(alloc, line, but_for)?;
     certificate_with(alloc, cert, path, text)
 }

@@ -1,12 +1,10 @@
 //! `brl slips`: the rules of a table that look like typing errors.
-ghost use Rattle.std.specs.Prelude.{◌≡◌, IfOk, map};
-ghost use Rattle.brl_lines.specs.Views.{line_view};
+ghost use Rattle.std.specs.Prelude.{◌≡◌, IfOk};
 ghost use Rattle.brl_tool.specs.Slipping.{IsSlipsAnswer, ListsSlips, status_of_slips};
 
 use brl_answers::{Answer, RunFault, Status};
 use brl_cut::load_without_dictionaries;
-use brl_failure::Failure;
-use brl_lines::{Line, Source};
+use brl_lines::{Loaded, Source};
 use brl_slips::{Findings, find_slips, read_lexicon, slips_columns, slips_text};
 use std::alloc::{AllocError, Global};
 
@@ -22,26 +20,21 @@ pub fn list_slips_by_file<S: Source>(
     ensures lists { ListsSlips (S.gives source.old) path.now result }
     ensures same { S.gives source.new ≡ S.gives source.old }
 {
-    match load_without_dictionaries(alloc, source, path) {
-        Ok(table) => {
-            let lines = table.loaded.lines(alloc)?;
-            Ok(list_slips(alloc, lines.as_slice(), columns)?)
-        }
-        Err(Failure::Fault(fault)) => Err(RunFault::Load(fault)),
-        Err(Failure::Memory) => Err(RunFault::Memory),
-    }
+    let table = load_without_dictionaries(alloc, source, path)?;
+    Ok(list_slips(alloc, &table.loaded, columns)?)
 }
 
-/// Lists the rules of lines that look like typing errors.
-fn list_slips(alloc: Global, lines: &[Line<'_>], columns: bool) -> Result<Answer, AllocError>
-    ensures { IfOk result (IsSlipsAnswer (map line_view lines.now)) }
+/// Lists the rules of loaded files that look like typing errors.
+fn list_slips(alloc: Global, loaded: &Loaded, columns: bool) -> Result<Answer, AllocError>
+    ensures { IfOk result (IsSlipsAnswer loaded.now.lines) }
 {
-    let lexicon = read_lexicon(alloc, lines)?;
+    let lines = loaded.lines(alloc)?;
+    let lexicon = read_lexicon(alloc, lines.as_slice())?;
     let findings = find_slips(alloc, &lexicon)?;
     let text = if columns {
-        slips_columns(alloc, &lexicon, lines, &findings)?
+        slips_columns(alloc, &lexicon, lines.as_slice(), &findings)?
     } else {
-        slips_text(alloc, &lexicon, lines, &findings)?
+        slips_text(alloc, &lexicon, lines.as_slice(), &findings)?
     };
     Ok(Answer::new(status_of(&findings), text))
 }

@@ -3,7 +3,7 @@ ghost use Rattle.std.specs.Prelude.{◌≡◌};
 ghost use Rattle.brl_lines.specs.Outcome.{CountsFailure};
 ghost use Rattle.brl_answers.specs.Answers.{load_outcome};
 ghost use Rattle.brl_tool.specs.ByLines.{shown_lines as lines_shown};
-ghost use Rattle.brl_tool.specs.Tracing.{Traces, TracesByFile, TracesByWord};
+ghost use Rattle.brl_tool.specs.Tracing.{Traces, TracesByWord};
 
 use crate::loaded_table::{LoadedTable, table_at};
 use crate::shown::shown_lines;
@@ -15,7 +15,7 @@ use std::alloc::Global;
 
 /// Traces the text of a word by the table whose file is at a path. With escapes it is read as an
 /// operand of a table, and with lines each step is followed by the table's lines by which it is
-/// made. The text is read before the table.
+/// made. The text is read before the table. The answer is the report of the text.
 pub fn trace_by_word<S: Source>(
     alloc: Global,
     source: &mut S,
@@ -28,24 +28,8 @@ pub fn trace_by_word<S: Source>(
     ensures same { S.gives source.new ≡ S.gives source.old }
 {
     let text = text_of_word(alloc, word, options.escapes)?;
-    trace_by_file(alloc, source, path, options.lines, text.as_slice())
-}
-
-/// Traces a text by the table whose file is at a path, whose lines are shown or not. The answer is
-/// the report of the text.
-pub fn trace_by_file<S: Source>(
-    alloc: Global,
-    source: &mut S,
-    path: &str,
-    with_lines: bool,
-    text: &[char],
-) -> Result<Answer, RunFault>
-    ensures traces { TracesByFile with_lines (S.gives source.old) path.now text.now result }
-    ensures count { CountsFailure (S.faults source.old) (S.faults source.new) (load_outcome result) }
-    ensures same { S.gives source.new ≡ S.gives source.old }
-{
     let loaded = table_at(alloc, source, path)?;
-    trace(alloc, &loaded, with_lines, text)
+    trace(alloc, &loaded, options.lines, text.as_slice())
 }
 
 /// Traces a text by a table. Each step has the lines by which it is made, where these are shown.

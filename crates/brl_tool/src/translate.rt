@@ -2,33 +2,60 @@
 ghost use Rattle.std.specs.Prelude.{◌≡◌, IfOk, string_bytes};
 ghost use Rattle.brl_lines.specs.Outcome.{CountsFailure};
 ghost use Rattle.brl_answers.specs.Answers.{load_outcome};
-ghost use Rattle.brl_tool.specs.Streams.{TranslatesByFile, TranslatesDefinedByFile, code_point, lacking_line, lacking_lines};
+ghost use Rattle.brl_tool.specs.Streams.{TranslatesBy, TranslatesByFile, code_point, lacking_line, lacking_lines};
 
 use brl_answers::RunFault;
 use brl_lines::{Source, spell_visibly};
+use brl_rules::Table;
 use brl_stream::{Form, Input, Lacking, Output, translate_defined_lines, translate_lines};
 use brl_table::load_table;
 use std::alloc::{AllocError, Global};
 
-/// Translates the input, line by line, by the table whose file is at a path.
+/// How an input is translated: by the table whose file is at a path, and to which form. With
+/// `lacking` lines with a character that the table doesn't define are passed over, and these
+/// characters are listed.
+#[derive(Clone, Copy)]
+pub struct Translation<'a> {
+    pub table: &'a str,
+    pub form: Form,
+    pub lacking: bool,
+}
+
+/// Translates the input, line by line. Answers the lines that name the characters that are lacking,
+/// in the order of their first uses; the text is empty where there are none, or where these aren't
+/// to be listed: then the first ends the work.
 pub fn translate_by_file<S: Source, R: Input, W: Output>(
     alloc: Global,
     source: &mut S,
-    path: &str,
-    form: Form,
+    wanted: Translation<'_>,
     reader: &mut R,
     writer: &mut W,
-) -> Result<(), RunFault>
-    ensures translates { TranslatesByFile (S.gives source.old) path.now form (R.remaining reader.old) (W.contents writer.old)
-        (W.contents writer.new) result }
+) -> Result<String, RunFault>
+    ensures translates { TranslatesByFile wanted.entry.lacking (S.gives source.old) wanted.entry.table.now wanted.entry.form (R.remaining reader.old)
+        (W.contents writer.old) (W.contents writer.new) result }
     ensures count { CountsFailure (S.faults source.old) (S.faults source.new) (load_outcome result) }
     ensures same { S.gives source.new ≡ S.gives source.old }
 {
-    let table = load_table(alloc, source, path)?;
-    match translate_lines(alloc, &table, form, reader, writer) {
-        Ok(()) => Ok(()),
-        Err(failure) => Err(failure.into()),
+    let table = load_table(alloc, source, wanted.table)?;
+    translate(alloc, &table, wanted, reader, writer)
+}
+
+/// Translates the input by a table.
+fn translate<R: Input, W: Output>(
+    alloc: Global,
+    table: &Table,
+    wanted: Translation<'_>,
+    reader: &mut R,
+    writer: &mut W,
+) -> Result<String, RunFault>
+    ensures { TranslatesBy wanted.entry.lacking table.now wanted.entry.form (R.remaining reader.old) (W.contents writer.old) (W.contents writer.new) result }
+{
+    if !wanted.lacking {
+        translate_lines(alloc, table, wanted.form, reader, writer)?;
+        return Ok(String::new(alloc));
     }
+    let list = translate_defined_lines(alloc, table, wanted.form, reader, writer)?;
+    Ok(lacking_texts(alloc, list.as_slice())?)
 }
 
 /// The code point of a character, as `U+2019`.
@@ -60,27 +87,4 @@ fn lacking_texts(alloc: Global, list: &[Lacking]) -> Result<String, AllocError>
         text.push_str(lacking_text(alloc, *lacking)?.as_str())?;
     }
     Ok(text)
-}
-
-/// Translates the lines of the input whose characters are all defined by the table whose file is at
-/// a path. Answers the lines that name the other characters, in the order of their first uses; the
-/// text is empty where there are none.
-pub fn translate_defined_by_file<S: Source, R: Input, W: Output>(
-    alloc: Global,
-    source: &mut S,
-    path: &str,
-    form: Form,
-    reader: &mut R,
-    writer: &mut W,
-) -> Result<String, RunFault>
-    ensures translates { TranslatesDefinedByFile (S.gives source.old) path.now form (R.remaining reader.old)
-        (W.contents writer.old) (W.contents writer.new) result }
-    ensures count { CountsFailure (S.faults source.old) (S.faults source.new) (load_outcome result) }
-    ensures same { S.gives source.new ≡ S.gives source.old }
-{
-    let table = load_table(alloc, source, path)?;
-    match translate_defined_lines(alloc, &table, form, reader, writer) {
-        Ok(list) => Ok(lacking_texts(alloc, list.as_slice())?),
-        Err(failure) => Err(failure.into()),
-    }
 }

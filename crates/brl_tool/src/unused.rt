@@ -3,7 +3,7 @@ ghost use Rattle.std.specs.Prelude.{◌≡◌, IfOk, map, string_bytes};
 ghost use Rattle.brl_lines.specs.Outcome.{CountsFailure};
 ghost use Rattle.brl_lines.specs.Views.{line_view};
 ghost use Rattle.brl_answers.specs.Answers.{HasTextAndStatus, load_outcome};
-ghost use Rattle.brl_tool.specs.Unused.{ListsUnused, ListsUnusedByFile, limit_line, status_of_list, status_of_unused, text_of_unused};
+ghost use Rattle.brl_tool.specs.Unused.{IsUnusedAnswer, ListsUnusedByFile, limit_line, status_of_list, status_of_unused, text_of_unused};
 
 use crate::loaded_table::{LoadedTable, table_at};
 use crate::notices::write_if_without_characters;
@@ -30,7 +30,7 @@ pub fn list_unused_by_file<S: Source, E: Write + Progress>(
     ensures same { S.gives source.new ≡ S.gives source.old }
 {
     let loaded = table_at(alloc, source, path)?;
-    list_unused(alloc, &loaded, limit, err)
+    Ok(list_unused(alloc, &loaded, limit, err)?)
 }
 
 /// Lists a table's unused rules.
@@ -39,13 +39,13 @@ fn list_unused<E: Write + Progress>(
     loaded: &LoadedTable,
     limit: u32,
     err: &mut E,
-) -> Result<Answer, RunFault>
-    ensures { ListsUnused loaded.now.table loaded.now.files.lines limit result }
+) -> Result<Answer, AllocError>
+    ensures { IfOk result (IsUnusedAnswer loaded.now.table loaded.now.files.lines limit) }
 {
     let lines = loaded.files.lines(alloc)?;
     write_if_without_characters(&loaded.table, err);
     let found = unused_rules(alloc, &loaded.table, u64::from(limit), err)?;
-    Ok(answer_of(alloc, &loaded.table, lines.as_slice(), &found)?)
+    answer_of(alloc, &loaded.table, lines.as_slice(), &found)
 }
 
 /// The answer with what is found.

@@ -1,4 +1,5 @@
 pub mod LeftOut
+pub mod Scope
 pub mod Without
 pub mod Tables
 pub mod Itself

@@ -1,9 +1,9 @@
 //! Machines without some characters: what is left of a machine for the texts that don't use them.
 //! So a table's question can be decided for the texts over its other characters.
 //!
-//! `Without` is such a machine, over any other one; `LeftOut` has the characters, and `Scope` the
-//! options of a search or a check. The laws state that
-//! it keeps what a search and a checker need.
+//! `Without` is such a machine, over any other one; `LeftOut` has the characters, and `Scope` all
+//! that a search or a check of a table is asked for. The laws state that the machine keeps what
+//! these need.
 //!
 //! Room 2, any machine (docs/dev/ARCHITECTURE.md). The definitions begin in `specs/Without.antt`.
 #![tactic(auto)]

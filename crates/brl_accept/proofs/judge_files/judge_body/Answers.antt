@@ -1,7 +1,7 @@
 use Rattle.std.proofs.Common.{◌≡◌, ◌∙◌, List, ℕ, length, ap, slice_get, subst, subst₂}
 use Rattle.brl_accept.specs.declared.judge_fault.JudgeFault.{JudgeFault}
 use Rattle.brl_accept.specs.declared.judge_fault.JudgeFault.TheVariants.{Refused}
-use Rattle.brl_accept.specs.Excusing.{IsNothing}
+use Rattle.brl_without.specs.Scope.{IsNothing}
 use Rattle.brl_closure.specs.Excusing.{IsClosedBody, IsRefusedUpTo}
 use Rattle.brl_closure.specs.declared.check.checker.Accepted.{Accepted}
 use Rattle.brl_closure.specs.declared.check.fault.AcceptFault.{AcceptFault}
@@ -16,8 +16,8 @@ use Rattle.brl_accept.proofs.judge_files.judge_body.Goals as goal
 pub returns : goal.returns
 returns g c =
     let m = g.M.Machine.behaviour in
-    let left_out = c.args.left_out.now in
-    let excused = c.args.excused.now in
+    let left_out = c.args.scope.left_out.now in
+    let excused = c.args.scope.excused.now in
     let body = c.args.body.now in
     let w = c.new-without.result in
     let told = c.accept_up_to-accepted.ensures in

@@ -8,8 +8,8 @@ use Rattle.brl_accept.proofs.judge_files.judge_windows.Goals as goal
 pub returns : goal.returns
 returns g c =
     let window = c.in-Ok.window in
-    let left_out = c.args.left_out.now in
-    let excused = c.args.excused.now in
+    let left_out = c.args.scope.left_out.now in
+    let excused = c.args.scope.excused.now in
     let t = c.args.table.now in
     let h = judged left_out excused t window (Window c.args.body.now) c.in-Ok.ensures.table c.requires c.in-Ok.ensures.ok c.judge_body.result c.judge_body.ensures.accepted c.judge_body.ensures.refused in
     record {

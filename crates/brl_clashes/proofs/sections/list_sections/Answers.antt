@@ -49,7 +49,7 @@ pub loop-place-preserved : goal.loop-place-preserved
 loop-place-preserved g c =
     let s = c.in_ok-section.section in
     let there = slice_get-get_or c.deref-kind-items.result.now c.loop-place.place _ c.loop-place-test.true ∙ ap Some (sym c.in_ok-section.ensures.kind) in
-    let each = each_after c.args.table.now c.args.scope.left_out.now c.args.limit c.loop-place.place c.loop-place.sections.items c.push.new.self.items s _ _ _ _ _ _ c.in_ok-without.without
+    let each = each_after c.args.table.now c.args.left_out.now c.args.limit c.loop-place.place c.loop-place.sections.items c.push.new.self.items s _ _ _ _ _ _ c.in_ok-without.without
     c.loop-place.invariant.0 c.in_ok-push.ensures.items c.loop-place.invariant.2 c.in_ok-kinds.ensures c.as_slice.ensures.value c.in_ok-kept.ensures c.deref-kind-items.ensures.value c.deref.ensures.value c.as_slice-in-loop-place.ensures.value there c.in_ok-without.ensures c.in_ok-section.ensures.found in
     let whole = sym c.is_whole-whole.ensures ∙ c.if-not-whole.false in
     (omega (arith, c.in_ok-push.ensures.len, c.loop-place.invariant.0), ap are_whole c.in_ok-push.ensures.items ∙ whole_more c.loop-place.sections.items s c.loop-place.invariant.1 whole, each)
@@ -58,7 +58,7 @@ pub returns-then-not-whole : goal.returns-then-not-whole
 returns-then-not-whole g c =
     let s = c.in_ok-section.section in
     let there = slice_get-get_or c.deref-kind-items.result.now c.loop-place.place _ c.loop-place-test.true ∙ ap Some (sym c.in_ok-section.ensures.kind) in
-    let each = each_after c.args.table.now c.args.scope.left_out.now c.args.limit c.loop-place.place c.loop-place.sections.items c.push.new.self.items s _ _ _ _ _ _ c.in_ok-without.without
+    let each = each_after c.args.table.now c.args.left_out.now c.args.limit c.loop-place.place c.loop-place.sections.items c.push.new.self.items s _ _ _ _ _ _ c.in_ok-without.without
     c.loop-place.invariant.0 c.in_ok-push.ensures.items c.loop-place.invariant.2 c.in_ok-kinds.ensures c.as_slice.ensures.value c.in_ok-kept.ensures c.deref-kind-items.ensures.value c.deref.ensures.value c.as_slice-in-loop-place.ensures.value there c.in_ok-without.ensures c.in_ok-section.ensures.found in
     let part = ap are_whole c.in_ok-push.ensures.items ∙ not_whole c.loop-place.sections.items s (sym c.is_whole-whole.ensures ∙ c.if-not-whole.true) in
     record { each = each; all = λ whole. (let e : true ≡ false = sym whole ∙ part in cc) }

@@ -8,14 +8,14 @@ pub returns-clause-found : goal.returns-clause-found
 returns-clause-found c =
     let t = c.args.table.now in
     let limit = c.args.limit in
-    IfOk-weaker c.search_silently.result (IsFoundWithout c.none-left_out.result t limit) (IsFound t limit)
+    IfOk-weaker c.find.result (IsFoundWithout c.none-left_out.result t limit) (IsFound t limit)
     (λ found h. found_all t limit found (subst (λ (left_out : List ℕ). IsFoundWithout left_out t limit found) c.none-left_out.ensures h))
-    c.search_silently.ensures.found
+    c.find.ensures.found
 
 pub returns-clause-unambiguous : goal.returns-clause-unambiguous
 returns-clause-unambiguous c =
     let t = c.args.table.now in
     let limit = c.args.limit in
-    IfOk-weaker c.search_silently.result (IsFoundWithout c.none-left_out.result t limit) _
+    IfOk-weaker c.find.result (IsFoundWithout c.none-left_out.result t limit) _
     (λ found h. (found_all t limit found (subst (λ (left_out : List ℕ). IsFoundWithout left_out t limit found) c.none-left_out.ensures h)).unambiguous)
-    c.search_silently.ensures.found
+    c.find.ensures.found

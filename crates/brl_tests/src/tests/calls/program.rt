@@ -13,7 +13,7 @@ use brl_tool::{
     Counting, CreateFault, Files, Form, Lacking, SinkFault, StreamFault, run,
     translate_defined_lines, translate_lines,
 };
-use brl_without::{LeftOut, Scope};
+use brl_without::LeftOut;
 use std::alloc::{AllocError, Global};
 use std::test::Fail;
 
@@ -113,11 +113,7 @@ fn is_of_letters(sections: &[Section]) -> bool {
 /// is.
 fn clashes_text(alloc: Global, table: &Table, accepts: bool) -> Result<String, AllocError> {
     let left_out = LeftOut::none(alloc);
-    let scope = Scope {
-        left_out: &left_out,
-        progress: &mut NoProgress,
-    };
-    let sections: Vec<Section> = list_sections(alloc, table, 1000, scope)?;
+    let sections: Vec<Section> = list_sections(alloc, table, 1000, &left_out, &mut NoProgress)?;
     if !is_of_letters(sections.as_slice()) {
         return Ok(String::new(alloc));
     }

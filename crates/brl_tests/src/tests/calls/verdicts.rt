@@ -2,7 +2,7 @@
 ghost use Rattle.brl_rules.specs.Translation.{IsClash};
 
 use crate::tests::calls::tables::is_refused;
-use brl_accept::{AcceptFault, Accepted, JudgeFault, accept, judge, judge_up_to};
+use brl_accept::{AcceptFault, Accepted, JudgeFault, accept, judge, judge_table};
 use brl_cells::Cells;
 use brl_cert::{Body, Cert, CertFault, CertPair, WriteFault, read_cert, write_cert};
 use brl_divergence::{Divergences, list_divergences};
@@ -13,7 +13,9 @@ use brl_lines::MapSource;
 use brl_pairs::{Excused, RulePairs};
 use brl_progress::NoProgress;
 use brl_report::{ReportFault, report};
-use brl_search::{ClashList, Found, RuleClash, SearchFault, clashes, search, seed_of};
+use brl_search::{
+    ClashList, Found, RuleClash, SearchFault, Searched, clashes, search, search_table, seed_of,
+};
 use brl_table::Table;
 use brl_testing::{one_file, table_of};
 use brl_without::{LeftOut, Scope};
@@ -132,11 +134,13 @@ fn has_both(found: &ClashList) -> bool {
 /// Whether the list of a table's clashes without some characters, of two letters with the same
 /// cells, has their pair alone.
 fn lists_both_without(alloc: Global, table: &Table, left_out: &LeftOut) -> bool {
-    let scope = Scope {
+    let found: Result<ClashList, AllocError> = clashes(
+        alloc,
+        table,
+        1000,
         left_out,
-        progress: &mut NoProgress,
-    };
-    let found: Result<ClashList, AllocError> = clashes(alloc, table, 1000, scope);
+        &mut NoProgress,
+    );
     match &found {
         Ok(found) => has_both(found),
         Err(_) => false,
@@ -190,38 +194,46 @@ fn pair_excused(alloc: Global) -> Result<Excused, Fail> {
     })
 }
 
-/// Whether that certificate is judged for the table of a file without some characters, but for what
-/// is excused.
-fn is_judged_up_to(
-    alloc: Global,
-    files: &mut MapSource,
-    excused: &Excused,
-    left_out: &LeftOut,
-) -> bool {
+/// Whether that certificate is judged for a table, but for what is excused.
+fn is_judged_but_for(alloc: Global, table: &Table, excused: &Excused) -> bool {
+    let left_out = LeftOut::none(alloc);
     let scope = Scope {
-        left_out,
+        left_out: &left_out,
+        excused,
         progress: &mut NoProgress,
     };
-    let judged: Result<Accepted, Failure<JudgeFault>> = judge_up_to(
-        alloc, files, "t.ctb", CERT, excused, scope,
-    );
+    let judged: Result<Accepted, Failure<JudgeFault>> = judge_table(alloc, table, CERT, scope);
     match judged {
         Ok(accepted) => are_counts(accepted),
         Err(_) => false,
     }
 }
 
-/// Whether the certificate of the table of two letters with the same cells is accepted up to their
-/// pair of rules.
-fn judges_up_to(alloc: Global) -> Result<bool, Fail> {
-    let mut files = one_file(alloc, "t.ctb", b"letter a 1\nletter b 1\n")?;
-    let excused = pair_excused(alloc)?;
+/// Whether a search of a table, but for what is excused, finds a certificate of two states.
+fn is_certified_but_for(alloc: Global, table: &Table, excused: &Excused) -> bool {
     let left_out = LeftOut::none(alloc);
-    Ok(is_judged_up_to(alloc, &mut files, &excused, &left_out))
+    let scope = Scope {
+        left_out: &left_out,
+        excused,
+        progress: &mut NoProgress,
+    };
+    let found: Result<Searched, AllocError> = search_table(alloc, table, 1000, scope);
+    match &found {
+        Ok(Searched::Found(Found::Certified(cert))) => cert.counts() == (2, 0),
+        _ => false,
+    }
+}
+
+/// Whether the table of two letters with the same cells is certified but for their pair of rules.
+fn certifies_but_for(alloc: Global) -> Result<bool, Fail> {
+    let table = table_of(alloc, "letter a 1; letter b 1")?;
+    let excused = pair_excused(alloc)?;
+    let is_judged = is_judged_but_for(alloc, &table, &excused);
+    Ok(is_judged && is_certified_but_for(alloc, &table, &excused))
 }
 
 fn are_reached(alloc: Global) -> Result<bool, Fail> {
-    let are_judged = judges(alloc)? && judges_up_to(alloc)?;
+    let are_judged = judges(alloc)? && certifies_but_for(alloc)?;
     Ok(are_certificates(alloc) && are_judged && certifies(alloc)? && finds_a_clash(alloc)?)
 }
 

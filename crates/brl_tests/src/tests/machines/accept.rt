@@ -1,7 +1,11 @@
 //! Worked certificates, judged. Certificates and files are fields of bytes.
-use brl_accept::{Accepted, judge};
+use brl_accept::{Accepted, JudgeFault, judge, judge_table};
+use brl_failure::{Failure, raise};
 use brl_lines::MapSource;
+use brl_progress::Progress;
+use brl_table::load_table;
 use brl_testing::{add_file, agree, bytes_of, for_rows_of_2, for_rows_of_3, no_files};
+use brl_without::Scope;
 use std::alloc::Global;
 use std::fmt::{Display, Write};
 use std::test::Fail;
@@ -70,6 +74,17 @@ fn files(alloc: Global, root: &str, other: &str) -> Result<MapSource, Fail> {
     add_file(alloc, &mut files, "t.ctb", bytes_of(alloc, root)?)?;
     add_file(alloc, &mut files, "u.ctb", bytes_of(alloc, other)?)?;
     Ok(files)
+}
+
+/// Judges a certificate for the table of the file `t.ctb`, for what is asked.
+pub fn judge_scoped<W: Progress>(
+    alloc: Global,
+    source: &mut MapSource,
+    cert: &[u8],
+    scope: Scope<'_, W>,
+) -> Result<Accepted, Failure<JudgeFault>> {
+    let table = raise(load_table(alloc, source, "t.ctb"), JudgeFault::NoTable)?;
+    judge_table(alloc, &table, cert, scope)
 }
 
 /// What is answered, in words.

@@ -8,7 +8,7 @@ use brl_rules::Table;
 use brl_search::{ClashList, RuleClash, clashes, seed_of};
 use brl_states::DuesState;
 use brl_testing::{chars, for_tables_of_4, run_slices};
-use brl_without::{LeftOut, Scope};
+use brl_without::LeftOut;
 use std::alloc::{AllocError, Global};
 use std::test::Fail;
 
@@ -100,11 +100,7 @@ fn clashes_without(
     left_out: &LeftOut,
     limit: u32,
 ) -> Result<ClashList, AllocError> {
-    let scope = Scope {
-        left_out,
-        progress: &mut NoProgress,
-    };
-    clashes(alloc, table, limit as u64, scope)
+    clashes(alloc, table, limit as u64, left_out, &mut NoProgress)
 }
 
 /// The list of a table's clashes.

@@ -1,7 +1,6 @@
 //! Certificates that are judged but for what is excused.
-use crate::tests::machines::accept::answer_text;
+use crate::tests::machines::accept::{answer_text, judge_scoped};
 use crate::tests::machines::clashes::clashes_of;
-use brl_accept::judge_up_to;
 use brl_cert::{Cert, write_cert};
 use brl_forward::{Traced, trace, translate};
 use brl_lines::MapSource;
@@ -90,9 +89,10 @@ fn answer_without(
 ) -> Result<String, Fail> {
     let scope = Scope {
         left_out,
+        excused,
         progress: &mut NoProgress,
     };
-    let judged = judge_up_to(alloc, source, "t.ctb", cert, excused, scope);
+    let judged = judge_scoped(alloc, source, cert, scope);
     answer_text(alloc, judged)
 }
 

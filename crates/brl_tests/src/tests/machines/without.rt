@@ -1,14 +1,13 @@
 //! Worked tables without some of their characters.
-use crate::tests::machines::accept::answer_text;
-use brl_accept::judge_with;
+use crate::tests::machines::accept::{answer_text, judge_scoped};
 use brl_cert::Cert;
 use brl_closure::accept;
 use brl_dues::Dues;
 use brl_forward::Clash;
-use brl_pairs::{Body, Machine};
+use brl_pairs::{Body, Excused, Machine};
 use brl_progress::NoProgress;
 use brl_rules::Table;
-use brl_search::{Found, search_with};
+use brl_search::{Found, Searched, search_table};
 use brl_states::DuesState;
 use brl_testing::{bytes_of, chars, for_rows_of_4, for_tables_of_3, one_file};
 use brl_without::{LeftOut, Scope, Without};
@@ -63,22 +62,26 @@ fn told_of_found(
     alloc: Global,
     table: &Table,
     left_out: &LeftOut,
-    found: &Found,
+    found: &Searched,
 ) -> Result<String, Fail> {
     match found {
-        Found::Certified(Cert::Word(body)) => told_of_body(alloc, table, left_out, body),
-        Found::Clashing(clash) => told_of_clash(alloc, left_out, clash),
+        Searched::Found(Found::Certified(Cert::Word(body))) => {
+            told_of_body(alloc, table, left_out, body)
+        }
+        Searched::Found(Found::Clashing(clash)) => told_of_clash(alloc, left_out, clash),
         _ => Ok(String::from_str(alloc, "neither")?),
     }
 }
 
 fn told_of(alloc: Global, table: &Table, left_out: &str) -> Result<String, Fail> {
     let left_out = left_out_of(alloc, left_out)?;
+    let excused = Excused::nothing(alloc);
     let scope = Scope {
         left_out: &left_out,
+        excused: &excused,
         progress: &mut NoProgress,
     };
-    let found = search_with(alloc, table, 1_000_000, scope)?;
+    let found = search_table(alloc, table, 1_000_000, scope)?;
     told_of_found(alloc, table, &left_out, &found)
 }
 
@@ -133,11 +136,13 @@ fn judged(alloc: Global, table: &str, left_out: &str, cert: &str) -> Result<Stri
     let mut source = one_file(alloc, "t.ctb", table.as_slice())?;
     let cert = bytes_of(alloc, cert)?;
     let cert = cert.as_slice();
+    let excused = Excused::nothing(alloc);
     let scope = Scope {
         left_out: &left_out,
+        excused: &excused,
         progress: &mut NoProgress,
     };
-    let judged = judge_with(alloc, &mut source, "t.ctb", cert, scope);
+    let judged = judge_scoped(alloc, &mut source, cert, scope);
     answer_text(alloc, judged)
 }
 

@@ -17,8 +17,8 @@ t.ctb: letter a 1|brl,search,t.ctb,o,--without,b|0|1|
 t.ctb: letter a 1; letter b 12; letter x 1-12; always ab 14 & c: BRLCERT 2; state 1 0; state 8 0; state 8 0 b62*; pair 1 2 12; end 3 1|brl,check,t.ctb,c|3|1|checking: 2 of 3 states, 1 pairs
 t.ctb: letter a 1 & c: BRLCERT 1; state 1 0 0 -; state 8 0 0 61; state 8 0 1 -; pair 1 2 -; end 3 1|brl,check,t.ctb,c|3|1|checking: 2 of 3 states, 1 pairs
 t.ctb: letter a 1 & c: BRLCERT 2; state 01 0; end 1 0|brl,check,t.ctb,c|0|1|
-t.ctb: letter a 1|brl,clash,t.ctb,a,a|0|0|
-t.ctb: letter a 1|brl,trace,t.ctb,a|0|0|
+t.ctb: letter a 1|brl,clash,t.ctb,a,a|0|1|
+t.ctb: letter a 1|brl,trace,t.ctb,a|0|1|
 ";
 
 /// The numbers and the last work that a run's standard error heard, as in a row.

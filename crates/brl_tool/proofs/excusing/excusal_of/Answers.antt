@@ -4,7 +4,7 @@ use Rattle.brl_accepted.specs.FaultText.{fault_view}
 use Rattle.brl_accepted.specs.Reading.{excused_by, names_in, names_of, sets_named, stale_lines}
 use Rattle.brl_lines.specs.Views.{line_view}
 use Rattle.brl_tool.specs.Baselines.{names_of_table}
-use Rattle.brl_tool.specs.UpTo.{stale_of}
+use Rattle.brl_tool.specs.Excusing.{stale_of}
 use Rattle.brl_tool.proofs.GoodRows.{nothing_seen, something_seen}
 use Rattle.brl_tool.proofs.excusing.excusal_of.Goals as goal
 

@@ -1,11 +1,11 @@
-use Rattle.std.proofs.Common.{string_bytes, rules}
-use Rattle.brl_tool.proofs.SearchLemmas.{certificate_found, clash_found}
+use Rattle.brl_tool.proofs.SearchLemmas.{unexchanged_found}
+use Rattle.std.specs.Option.{option_copied}
 use Rattle.brl_tool.proofs.search.answer_found.Goals as goal
 
-pub returns-in-Certified : goal.returns-in-Certified
-returns-in-Certified c limit is =
-    certificate_found c.args.left_out.now c.args.table.now c.requires.defined limit c.args.out.now c.args.found.now c.in-Certified.cert c.certificate.result c.in-Certified.is is c.certificate.ensures
+pub returns-in-Found : goal.returns-in-Found
+returns-in-Found c limit is = c.answer_of.ensures limit (rw c.in-Found.is at is)
 
-pub returns-in_ok-report-in-Clashing : goal.returns-in_ok-report-in-Clashing
-returns-in_ok-report-in-Clashing c limit is =
-    clash_found c.args.left_out.now c.args.table.now limit c.args.out.now c.args.found.now c.in-Clashing.clash c.new.result (string_bytes c.in_ok-report-in-Clashing.field-0) c.in-Clashing.is is c.new.ensures (search rules)
+pub returns-in-NotExchangeable : goal.returns-in-NotExchangeable
+returns-in-NotExchangeable c limit is =
+    let but_for = c.args.but_for in
+    unexchanged_found but_for.left_out.now (option_copied but_for.accept) but_for.excusal.now c.args.table.now limit c.args.out.now c.args.found.now c.in-NotExchangeable.fault c.in-NotExchangeable.is is c.unexchanged.result c.unexchanged.ensures

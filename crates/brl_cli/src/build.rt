@@ -1,0 +1,86 @@
+//! The command line that `clap` gets, made of the pages.
+
+use crate::pages::{
+    ABOUT, Argument, LINE_PAGES, PATH, Page, RULE_PAGES, STATUSES, TEXT_PAGES, Takes,
+};
+use clap::{Arg, ArgAction, Command, value_parser};
+use std::alloc::{AllocError, Global};
+
+/// The program's version, which `--version` prints.
+const VERSION: &str = "0.1.0";
+
+/// The command line of `brl`.
+pub fn command_line<'a>(alloc: Global) -> Result<Command<'a>, AllocError> {
+    Command::new(alloc, "brl")
+        .version(VERSION)
+        .about(ABOUT)
+        .after_help(STATUSES)
+        .subcommand_required(true)
+        .arg_required_else_help(true)
+        .subcommands(commands(alloc, &TEXT_PAGES)?)?
+        .subcommands(commands(alloc, &LINE_PAGES)?)?
+        .subcommands(commands(alloc, &RULE_PAGES)?)
+}
+
+/// The command lines of the commands of these pages.
+fn commands<'a>(alloc: Global, pages: &[Page]) -> Result<Vec<Command<'a>>, AllocError> {
+    let mut commands = Vec::new(alloc);
+    for page in pages {
+        commands.push(command(alloc, page)?)?;
+    }
+    Ok(commands)
+}
+
+/// The command line of the command of a page.
+fn command<'a>(alloc: Global, page: &Page) -> Result<Command<'a>, AllocError> {
+    let mut arguments = Vec::new(alloc);
+    for row in page.arguments {
+        arguments.push(argument(alloc, *row)?)?;
+    }
+    arguments.push(argument(alloc, PATH)?)?;
+    Command::new(alloc, page.name)
+        .about(page.about)
+        .long_about(page.long_about)
+        .after_help(page.example)
+        .args(arguments)
+}
+
+/// The operand or option of a row.
+fn argument<'a>(alloc: Global, row: Argument) -> Result<Arg<'a>, AllocError> {
+    let Argument(name, takes, help) = row;
+    let argument = Arg::new(alloc, name).help(help);
+    Ok(match takes {
+        Takes::Operand => argument.required(true),
+        Takes::Operands => repeated(argument.required(true)),
+        Takes::Numbers => repeated(argument).value_parser(value_parser!(u32)),
+        Takes::Switch => switch(argument, name),
+        Takes::SwitchBeside(needed, barred) => switch(argument, name)
+            .requires_arg(needed)?
+            .conflicts_with(barred)?,
+        Takes::Text(value) => argument.long(name).value_name(value),
+        Takes::Texts(value) => argument
+            .long(name)
+            .value_name(value)
+            .action(ArgAction::Append),
+        Takes::Number(usual) => argument
+            .long(name)
+            .value_name("N")
+            .value_parser(value_parser!(u32))
+            .default_value(usual),
+        Takes::Name(value, names) => argument
+            .long(name)
+            .value_name(value)
+            .value_parser(names.as_slice())
+            .default_value(names[0]),
+    })
+}
+
+/// An operand of one word or more.
+fn repeated(operand: Arg<'_>) -> Arg<'_> {
+    operand.num_args(1..).action(ArgAction::Append)
+}
+
+/// An option without a value.
+fn switch<'a>(option: Arg<'a>, name: &'static str) -> Arg<'a> {
+    option.long(name).action(ArgAction::SetTrue)
+}

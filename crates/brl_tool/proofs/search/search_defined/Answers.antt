@@ -1,4 +1,0 @@
-use Rattle.brl_tool.proofs.search.search_defined.Goals as goal
-
-pub returns : goal.returns
-returns g c = c.answer_found.ensures c.args.limit c.in_ok-found.ensures
