@@ -1,7 +1,8 @@
 //! Reads the files to which the include lines of known files lead, before a walk needs them.
 //!
-//! `gather` begins its walk anew at each path of which nothing is known. With the files read ahead,
-//! two walks do. No contract needs this: it is for speed alone (DECISIONS, 'Walks over files').
+//! When `gather` reaches a path whose file wasn't read, it starts its walk again. Where the files
+//! are read ahead, two walks are enough. No contract needs this: it is for speed alone (DECISIONS,
+//! 'Walks over files').
 ghost use Rattle.std.specs.Prelude.{◌≡◌, ◌↔◌, ◌≤◌, IsTrue, OnOk, length, map, string_bytes};
 ghost use Rattle.brl_lines.specs.GatherFaults.{most_paths};
 ghost use Rattle.brl_lines.specs.Gathered.{known_answers};
