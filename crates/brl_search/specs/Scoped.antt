@@ -11,7 +11,8 @@ use Rattle.brl_pairs.specs.declared.excused.Excused.{Excused}
 use Rattle.brl_rules.specs.TableView.{TableView}
 use Rattle.brl_search.specs.Clashes.{AreRuleClashes, IsOverLimit, IsRuleClash, IsWholeList}
 use Rattle.brl_search.specs.Searched.{State, machine_of}
-use Rattle.brl_search.specs.Found.{IsFoundWithout}
+use Rattle.brl_search.specs.Small.{IsSmallClash}
+use Rattle.brl_search.specs.Found.{IfClashing, IsFoundWithout}
 use Rattle.brl_search.specs.declared.scoped.Searched.{Searched}
 use Rattle.brl_search.specs.declared.scoped.Searched.TheVariants.{Found, NotExchangeable}
 use Rattle.brl_search.specs.declared.table_search.Found.TheVariants.{Certified, Clashing, Limit}
@@ -95,7 +96,13 @@ abbrev pub IsFoundPlainly : List ℕ → TableView → ℕ → Searched → Type
 IsFoundPlainly left_out t limit (Found found) = IsFoundWithout left_out t limit found
 IsFoundPlainly left_out t limit (NotExchangeable fault) = ⊥
 
+-- no character can be left out of a clash that is found
+abbrev pub IsSmallFound : TableView → Searched → Type 0
+IsSmallFound t (Found found) = IfClashing (IsSmallClash t) found
+IsSmallFound t (NotExchangeable fault) = Unit {0}
+
 -- what is found, with all that a search without excuses says of it where there are none
 pub record IsSearched (left_out : List ℕ) (excused : Excused) (t : TableView) (limit : ℕ) (found : Searched) : Type 0 where
   pub found_for : IsFoundFor left_out excused t limit found
   pub plainly : IsNothing excused → IsFoundPlainly left_out t limit found
+  pub small : IsNothing excused → IsSmallFound t found

@@ -121,7 +121,8 @@ fn found_so_far(excused: &Excused, list: Vec<RuleClash>, states: u64, pairs: u64
     }
 }
 
-/// Checks the states and pairs of a whole list of which each pair of rules is excused.
+/// Checks the states and pairs that come with a whole list. Each pair of rules of the list is
+/// excused.
 fn check_body<P: Progress>(
     alloc: Global,
     table: &Table,

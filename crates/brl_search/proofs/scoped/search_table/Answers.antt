@@ -7,4 +7,5 @@ returns-then-is_nothing g c =
     record {
       found_for = found_plainly c.args.scope.left_out.now c.args.scope.excused.now c.args.table.now c.args.limit (c.is_nothing.ensures.0 c.if-is_nothing.true) c.in_ok-found.found found;
       plainly = λ nothing. found;
+      small = λ nothing. c.in_ok-found.ensures.small;
     }
