@@ -31,7 +31,7 @@ _brl() {
     # The command, the option that waits for its value, and the operands before the cursor.
     for ((at = 1; at < COMP_CWORD; at++)); do
         case ${COMP_WORDS[at]} in
-            --accept | --form | --first | --limit | --path | --without | --write) option=${COMP_WORDS[at]} ;;
+            --accept | --form | --first | --limit | --only | --path | --without | --write) option=${COMP_WORDS[at]} ;;
             =) ;;
             *)
                 if [[ -n $option ]]; then
@@ -53,11 +53,11 @@ _brl() {
         translate) options='--form --lacking --path --help' ;;
         clash | trace) options='--escapes --lines --path --help' ;;
         rules | explain) options='--path --help' ;;
-        search) options='--limit --without --accept --path --help' ;;
-        clashes) options='--first --limit --without --accept --prune --write --path --help' ;;
-        unused) options='--limit --path --help' ;;
+        search) options='--limit --without --only --accept --path --help' ;;
+        clashes) options='--first --limit --without --only --accept --prune --write --path --help' ;;
+        unused) options='--limit --without --only --path --help' ;;
         slips) options='--tsv --path --help' ;;
-        check) options='--without --accept --path --help' ;;
+        check) options='--without --only --accept --path --help' ;;
         survey) options='--brief --path --help' ;;
         cut) options='--rewrite --path --help' ;;
         help) options='' ;;

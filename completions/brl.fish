@@ -7,7 +7,7 @@ function __brl_operands
     for word in (commandline -opc)[3..-1]
         if test $takes_value = yes
             set takes_value no
-        else if contains -- $word --accept --form --first --limit --path --without --write
+        else if contains -- $word --accept --form --first --limit --only --path --without --write
             set takes_value yes
         else if not string match -q -- '-*' $word
             set count (math $count + 1)
@@ -63,7 +63,8 @@ complete -c brl -n '__brl_is clashes' -l accept -r -F -d 'Leave the pairs of rul
 complete -c brl -n '__brl_is search check' -l accept -r -F -d 'Find no clash in what this file names'
 complete -c brl -n '__brl_is clashes' -l prune -d 'Take the stale lines out of the file of accepted pairs'
 complete -c brl -n '__brl_is clashes' -l write -r -F -d 'Write the pairs of rules that are listed to this file'
-complete -c brl -n '__brl_is search clashes check' -l without -x -d 'Characters that the texts do not use'
+complete -c brl -n '__brl_is search clashes check unused' -l without -x -d 'Characters that the texts do not use'
+complete -c brl -n '__brl_is search clashes check unused' -l only -x -d 'Characters of which the texts are made'
 complete -c brl -n '__brl_is translate clash trace rules unused slips explain search clashes check survey cut' -l path -x -a '(__fish_complete_directories)' -d 'Look for files of tables in this folder, too'
 
 complete -c brl -n '__brl_at translate 0' -F

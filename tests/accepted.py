@@ -87,10 +87,6 @@ def many(count: int, one: str) -> str:
     return f"{count} {one}{'s' * (count != 1)}"
 
 
-def spelled(chars: str) -> str:
-    return chars.replace(" ", "\\s")
-
-
 class Words:
     """What the rules of a table say, and its sets of characters."""
 
@@ -106,7 +102,7 @@ class Words:
 
     @staticmethod
     def of(opcode: str, chars: str, cells: list[str]) -> str:
-        return f"{opcode} {spelled(chars)} {'-'.join(cells)}"
+        return f"{opcode} {random_tables.spelled(chars)} {'-'.join(cells)}"
 
     def line(self, pair: Rules) -> str:
         return f"{self.rules[pair[0]]} / {self.rules[pair[1]]}"
@@ -120,7 +116,7 @@ class Words:
 
     def written(self, pairs: list[Rules]) -> list[str]:
         """The lines of a file with these pairs."""
-        lines = [EXCHANGE + spelled(it) for it in self.sets if self.named(EXCHANGE + spelled(it)) & set(pairs)]
+        lines = [EXCHANGE + random_tables.spelled(it) for it in self.sets if self.named(EXCHANGE + random_tables.spelled(it)) & set(pairs)]
         of_sets = set().union(*map(self.named, lines))
         return lines + [self.line(it) for it in pairs if it not in of_sets]
 
@@ -137,7 +133,7 @@ class Case:
         self.program, self.folder = program, folder
         self.path, self.pairs, self.chosen, self.cert = (folder / it for it in ("t.ctb", "t.pairs", "chosen.pairs", "t.cert"))
         self.path.write_text(table)
-        self.options = ["--without", spelled(without)] if without else []
+        self.options = random_tables.option(table, without)
         self.without = without
         self.plain = Plain(Table(str(self.path)))
         self.words = Words(self.plain)
@@ -185,7 +181,7 @@ class Case:
         listed = self.listed(lines)
         if len(listed) != plain_list.listed():
             return f"{len(listed)} pairs in {lines}, and {plain_list.listed()} in the list"
-        sets = [EXCHANGE + spelled(it) for it in self.words.sets if len(set(it) - set(self.without)) > 1]
+        sets = [EXCHANGE + random_tables.spelled(it) for it in self.words.sets if len(set(it) - set(self.without)) > 1]
         if [it for it in lines if it.startswith(EXCHANGE)] != sets:
             return f"these aren't just the sets {sets}: {lines}"
         if strange := [it for it in lines if it not in sets and it not in self.words.lines]:
@@ -205,7 +201,7 @@ class Case:
         if not line.startswith(EXCHANGE):
             return line
         some = characters(line.removeprefix(EXCHANGE))
-        return EXCHANGE + spelled("".join(self.chance.sample(some, self.chance.randint(2, len(some)))))
+        return EXCHANGE + random_tables.spelled("".join(self.chance.sample(some, self.chance.randint(2, len(some)))))
 
     def fault_of(self, line: str, listed: set[Rules] | None) -> str:
         """The fault of a line, if it has one, where these pairs are listed and no others; without them no line lacks its pair."""
@@ -235,7 +231,7 @@ class Case:
     def tail(self, left: int, taken: int, stale: str, counted: str) -> str:
         """The last lines of a list."""
         verdict = f"{left} {'pair of rules diverges' if left == 1 else 'pairs of rules diverge'}, and no others"
-        names = f"without: {spelled(self.without)}\n" if self.without else ""
+        names = random_tables.option_line(self.options)
         return f"{verdict}{' but for the accepted ones' * (taken > 0)}\n{stale}{counted}{names}"
 
     def accepting_fault(self, plain_list: Told, lines: list[str], some: list[str]) -> str:
@@ -286,7 +282,7 @@ class Case:
         bad = self.chance.choice([f"{it}{end}" for it in self.words.rules for end in ("", " / ", " / nothing", f" / {it} ")])
         known = list(self.plain.table.chars)
         apart = [one + other for one, other in combinations(known, 2) if not any({one, other} <= set(it) for it in self.words.sets)]
-        no_set = EXCHANGE + spelled(self.chance.choice([*apart, "", known[0]])) + self.chance.choice(["", "", " ", "\\q"])
+        no_set = EXCHANGE + random_tables.spelled(self.chance.choice([*apart, "", known[0]])) + self.chance.choice(["", "", " ", "\\q"])
         some = [self.chance.choice([it, turned(it)]) for it in lines if self.chance.random() < 0.3] + [stale, bad, no_set]
         self.chance.shuffle(some)
         if wrong := self.accepting_fault(plain_list, lines, some):
@@ -347,7 +343,7 @@ class Case:
         self.cert.unlink(missing_ok=True)
         found, told = self.decide("search", some), self.decide("check", some)
         but_for = self.counted(some, None)
-        names = f"without: {spelled(self.without)}\n" if self.without else ""
+        names = random_tables.option_line(self.options)
         form = r"certified: \d+ states, \d+ pairs\n" + re.escape(but_for + names)
         if found.status or not re.fullmatch(form, found.out):
             return f"beside {some} the search ends with {found}, and not with {but_for}"

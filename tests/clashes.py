@@ -238,7 +238,7 @@ def difference(program: str, folder: Path, table: str, without: str) -> tuple[st
     """What the list of a table says, and what is wrong with it, if anything."""
     path = folder / "t.ctb"
     path.write_text(table)
-    words = ["--without", without.replace(" ", "\\s")] if without else []
+    words = random_tables.option(table, without)
     status, told = random_tables.run(program, "clashes", "--first", "0", *words, path)
     wrong = list_fault(Plain(Table(str(path))), told, status, without)
     return "failed" if wrong else ["unambiguous", "listed"][status], f"{wrong}\n{told}" if wrong else ""

@@ -119,7 +119,7 @@ for shell in bash zsh fish; do
         'translate table.ctb' 'clash table.ctb' 'clash table.ctb text' 'trace table.ctb' \
         'clash --escapes table.ctb text' 'clash --lines table.ctb text' 'rules table.ctb' \
             'unused table.ctb' 'slips table.ctb' 'unused --limit' 'explain' 'search table.ctb table.cert' \
-        'search --limit' 'search --without' 'search --limit=5 table.ctb table.cert' \
+        'search --limit' 'search --only' 'search --without' 'search --limit=5 table.ctb table.cert' \
         'clashes table.ctb' 'clashes --accept other.txt table.ctb' 'clashes --first' 'check table.ctb table.cert' 'cut table.ctb tables'; do
         offers "brl $words t"
     done
@@ -127,7 +127,7 @@ for shell in bash zsh fish; do
     for words in \
         'translate --form ascii' 'trace --escapes' 'trace --escapes --lines' 'unused --limit 5' 'slips --tsv' \
             'search table.ctb' 'search --limit 5' \
-        'search --without ab table.ctb' 'clashes --first 5' 'clashes --accept' 'clashes --write' \
+        'search --without ab table.ctb' 'search --only a..z table.ctb' 'unused --only ab' 'clashes --first 5' 'clashes --accept' 'clashes --write' \
         'clashes --accept other.txt' 'clashes --write other.txt' 'check table.ctb' \
         'check --without ab table.ctb' 'survey table.ctb other.txt' 'survey --brief'; do
         offers "brl $words t" table.ctb table.cert tables

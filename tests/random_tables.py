@@ -156,6 +156,35 @@ def lacking(counts: Counter[str]) -> str:
 Difference = Callable[[str, str], tuple[str, str]]
 
 
+def spelled(chars: str) -> str:
+    return chars.replace(" ", "\\s")
+
+
+def with_ranges(chars: list[str]) -> str:
+    """Ascending characters, of which three or more in a row are a range."""
+    runs: list[list[str]] = []
+    for it in chars:
+        if runs and ord(it) == ord(runs[-1][-1]) + 1:
+            runs[-1].append(it)
+        else:
+            runs.append([it])
+    return "".join("".join(map(spelled, it)) if len(it) < 3 else f"{spelled(it[0])}..{spelled(it[-1])}" for it in runs)
+
+
+def option(table: str, without: str) -> list[str]:
+    """The option for the texts that use none of some characters: of every other table the one that
+    names the characters of which they are made."""
+    kept = sorted({*defined(table.splitlines()), *" " * ("space" in table)} - {*without})
+    if without and kept and len(table) % 2:
+        return ["--only", with_ranges(kept)]
+    return ["--without", spelled(without)] if without else []
+
+
+def option_line(option: list[str]) -> str:
+    """The line of an answer that names the characters of an option, if there is one."""
+    return f"{option[0].removeprefix('--')}: {option[1]}\n" if option else ""
+
+
 def asked(doc: str, words: list[str]) -> argparse.Namespace:
     """The program that is compared, and of how many tables of which seed."""
     reader = argparse.ArgumentParser(description=doc.split("\n", 1)[0])
@@ -176,12 +205,19 @@ def compare(asked: argparse.Namespace, wanted: str, difference: Difference) -> t
     which it says what is wanted, where there are tables enough. Prints what is wrong, and these."""
     counts: Counter[str] = Counter()
     has: Counter[str] = Counter()
+    options: Counter[str] = Counter()
     for table, without in tables(random.Random(asked.seed), asked.count):
         came, wrong = difference(table, without)
         counts[came] += 1
+        options.update(option(table, without)[:1])
         has.update(kinds(table) if came == wanted else [])
         if wrong:
             print(f"{wrong}\nwithout '{without}':\n{table}", flush=True)
     lacks = lacking(has) if asked.count >= ENOUGH else ""
-    print("\n".join(filter(None, [f"seed {asked.seed}: {wanted} {shown(has)}", lacks])))
+    print("\n".join(filter(None, [f"seed {asked.seed}: {wanted} {shown(has)}", shown_options(options), lacks])))
     return counts, lacks
+
+
+def shown_options(options: Counter[str]) -> str:
+    """How many tables were asked about with each option."""
+    return f"{options['--without']} tables with --without, {options['--only']} with --only"

@@ -263,7 +263,7 @@ def difference(program: str, folder: Path, table: str, without: str) -> tuple[st
     """What the search says of a table, and what is different here, if anything."""
     path, cert, mine = folder / "t.ctb", folder / "t.cert", folder / "mine.cert"
     path.write_text(table)
-    words = ["--without", without.replace(" ", "\\s")] if without else []
+    words = random_tables.option(table, without)
     status, told = random_tables.run(program, "search", *words, path, cert)
     reached = Reached(Machine(Table(str(path)), without))
     if status not in (0, 1) or reached.is_clash != (status == 1):

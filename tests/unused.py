@@ -6,10 +6,11 @@
 Texts are translated here anew, as in tests/clashes.py, and the machine with dues is written anew, as in
 tests/states.py: neither is the program's code. Of each table that is made at random
 
-- no text of up to 5 characters, or up to fewer where there would be too many, may use a listed rule;
+- no text of up to 5 characters, or up to fewer where there would be too many, may use a listed rule, of
+  some tables without a character, by --without or by --only with the others;
 - a rule must be listed just where no path of the machine from its start to a final state takes it;
 - each listed rule must be as `brl rules` has it, and with the rule that is chosen at the start of its
-  characters;
+  characters, if that is another;
 - the last line must give the numbers of listed rules and of all, and the status whether there are any;
 - with a limit of one state less than are reached, no rule is listed, and the status is 3.
 
@@ -65,9 +66,10 @@ def found_of(machine: Machine) -> Found:
     return Found(len(states), {rule for _, rule, after in steps if after in live})
 
 
-def used_by_short(plain: Plain) -> set[int]:
-    """The rules that a short text uses."""
-    return {step.rule for text in short_texts(list(plain.table.chars)) for step in plain.steps(text)}
+def used_by_short(plain: Plain, without: str) -> set[int]:
+    """The rules that a short text without some characters uses."""
+    kept = [it for it in plain.table.chars if it not in without]
+    return {step.rule for text in short_texts(kept) for step in plain.steps(text)}
 
 
 # ---- What the program lists
@@ -87,36 +89,39 @@ def wanted_row(rows: list[list[str]], plain: Plain, number: int) -> str:
     """The line of an unused rule."""
     rules = plain.table.rules
     chars = rules[number].chars if number < len(rules) else list(plain.table.chars)[number - len(rules)]
-    _, opcode, spelled, _, place = rows[plain.steps(chars)[0].rule]
-    return "  ".join([*rows[number], "in its place:", f"{place} {opcode} {spelled}"])
+    chosen = plain.steps(chars)[0].rule
+    _, opcode, spelled, _, place = rows[chosen]
+    return "  ".join([*rows[number], *["in its place:", f"{place} {opcode} {spelled}"] * (chosen != number)])
 
 
-def wanted_text(program: str, path: Path, plain: Plain, unused: list[int]) -> str:
+def wanted_text(program: str, path: Path, plain: Plain, unused: list[int], option: list[str]) -> str:
     rows = rule_rows(program, path)
     lines = [wanted_row(rows, plain, it) for it in unused]
     whole = "the one rule" if len(rows) == 1 else f"each of {len(rows)} rules"
     last = f"{len(unused)} of {len(rows)} rules {'is' if len(unused) == 1 else 'are'} used by no text" if unused else f"{whole} is used by some text"
-    return "\n".join([*lines, last]) + "\n"
+    return "\n".join([*lines, last]) + "\n" + random_tables.option_line(option)
 
 
 # ---- The comparison
 
 
-def difference(program: str, path: Path, counts: Counter[str]) -> str:
-    """What is wrong with the answer for a table, if anything."""
+def difference(program: str, path: Path, without: str, counts: Counter[str]) -> str:
+    """What is wrong with the answer for a table and the texts without some characters, if anything."""
     plain = Plain(Table(str(path)))
-    found, short = found_of(Machine(plain.table, "")), used_by_short(plain)
+    option = random_tables.option(path.read_text(), without)
+    found, short = found_of(Machine(plain.table, without)), used_by_short(plain, without)
     total = len(plain.table.rules) + len(plain.table.chars)
     unused = [it for it in range(total) if it not in found.used]
-    status, told = run(program, "unused", path)
+    status, told = run(program, "unused", *option, path)
     listed = {int(it) for it in re.findall(r"^(\d+)  ", told, re.MULTILINE)}
     if listed & short:
         return f"used by a short text: {sorted(listed & short)}"
-    if status != (1 if unused else 0) or told != wanted_text(program, path, plain, unused):
-        return f"status {status}, wanted {wanted_text(program, path, plain, unused)}"
-    if run(program, "unused", "--limit", str(found.states), path) != (status, told):
+    wanted = wanted_text(program, path, plain, unused, option)
+    if status != (1 if unused else 0) or told != wanted:
+        return f"{option}: status {status}, wanted {wanted}"
+    if run(program, "unused", *option, "--limit", str(found.states), path) != (status, told):
         return f"another answer within a limit of {found.states} states"
-    if run(program, "unused", "--limit", str(found.states - 1), path) != (3, f"limit: {found.states} states\n"):
+    if run(program, "unused", *option, "--limit", str(found.states - 1), path) != (3, f"limit: {found.states} states\n"):
         return f"no limit at {found.states - 1} states"
     counts.update(unused=len(unused), own=sum(it >= len(plain.table.rules) for it in unused), short=len(short), used=total - len(unused))
     counts.update(["some" if unused else "none"])
@@ -133,17 +138,19 @@ def main(words: list[str]) -> int:
     asked = random_tables.asked(__doc__, words)
     counts: Counter[str] = Counter()
     kinds: Counter[str] = Counter()
+    options: Counter[str] = Counter()
     with tempfile.TemporaryDirectory() as room:
         path = Path(room) / "t.ctb"
-        for number, (some, _) in enumerate(random_tables.tables(random.Random(asked.seed), asked.count)):
+        for number, (some, without) in enumerate(random_tables.tables(random.Random(asked.seed), asked.count)):
             table = with_extra(some, EXTRAS[number // 3 % len(EXTRAS)])
             path.write_text(table)
             kinds.update(random_tables.kinds(table))
-            if wrong := difference(asked.program, path, counts):
+            options.update(random_tables.option(table, without)[:1])
+            if wrong := difference(asked.program, path, without, counts):
                 counts["failed"] += 1
-                print(f"{wrong}\n{table}", flush=True)
+                print(f"{wrong}\nwithout '{without}':\n{table}", flush=True)
     lacking = random_tables.lacking(kinds) if asked.count >= random_tables.ENOUGH else ""
-    print("\n".join(filter(None, [f"seed {asked.seed}: compared {random_tables.shown(kinds)}", lacking])))
+    print("\n".join(filter(None, [f"seed {asked.seed}: compared {random_tables.shown(kinds)}", random_tables.shown_options(options), lacking])))
     print(f"used: {counts['used']} rules, {counts['short']} of them by a short text; unused: {counts['unused']}, {counts['own']} of them own")
     print(f"unused: {asked.count} tables, {counts['some']} with such rules, {counts['none']} without, {counts['failed']} failed")
     return 1 if counts["failed"] or lacking else 0

@@ -1,13 +1,15 @@
 -- What holds of new files once one more of them is looked for, or made.
-use Rattle.std.proofs.Common.{◌≡◌, ◌≢◌, ◌∙◌, ℕ, ◌+◌, ◌<◌, ◌≤◌, List, All, Some, length, get_or, take, option_map, arith, ap, refl, subst, sym}
+use Rattle.std.proofs.Common.{◌≡◌, ◌≢◌, ◌∙◌, ℕ, ◌+◌, ◌<◌, ◌≤◌, List, All, Err, Some, length, get_or, take, option_map, arith, ap, refl, subst, sym}
 use Rattle.std.proofs.lemmas.List.{get_or-take, get_or_read, length-take, take_all, take_more}
 use Rattle.std.proofs.lemmas.List.Elements.{All-more}
 use Rattle.std.proofs.lemmas.List.Quantifiers.{all_pairs_push}
 use Rattle.std.proofs.lemmas.Option.{slice_get_read}
 use Rattle.brl_lines.specs.Answer.{FileAnswers}
 use Rattle.brl_answers.specs.Files.{IsGivenBy, MayBeAbsent, OthersStay, path_of}
-use Rattle.brl_answers.specs.Making.{AreApart, AreNew, AreWritten, AreWrittenBefore, HasPathAt, IsFree, IsNoneOf, OnlyTheseChange}
+use Rattle.brl_answers.specs.Making.{AreApart, AreMade, AreNew, AreWritten, AreWrittenBefore, HasPathAt, IsFree, IsNamed, IsNoneOf, OnlyTheseChange}
 use Rattle.brl_answers.specs.declared.new_files.NewFile.{NewFile}
+use Rattle.brl_answers.specs.declared.run_fault.RunFault.{RunFault}
+use Rattle.brl_answers.specs.declared.run_fault.RunFault.TheVariants.{CannotWrite}
 
 -- at the end of the list all files are the first ones
 pub all_of : (P : List NewFile → Type 0) (files : List NewFile) (i : ℕ) → length files ≤ i → P (take i files) → P files
@@ -61,3 +63,8 @@ module _ (files : List NewFile) (i : ℕ) (file : NewFile) (within : i < length 
     -- this file was made
     pub more_written : IsGivenBy new file → AreWritten (take (i + 1) files) start new
     more_written given = (All-more (IsGivenBy new) files i file within given_still (subst (IsGivenBy new) is given), only_more)
+
+-- a file couldn't be made, and the fault names it
+pub named_made : (files : List NewFile) (before after : FileAnswers) (place : ℕ) (fault : RunFault) → AreNew before files → IsNamed files place fault → AreWrittenBefore place files before after → AreMade files before after (Err fault)
+named_made files before after place (CannotWrite path made) new named written = (new, (place, named, written))
+named_made files before after place fault new named written = absurd named

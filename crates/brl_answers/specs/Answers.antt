@@ -9,12 +9,15 @@ use Rattle.brl_lines.specs.Escapes.{characters_of}
 use Rattle.brl_lines.specs.Visible.{visible_text}
 use Rattle.brl_lines.specs.declared.fault.LoadFault.{LoadFault}
 use Rattle.brl_lines.specs.declared.operand.CharsFault.{CharsFault}
+use Rattle.brl_without.specs.Alphabet.{AlphabetView, Without, Only}
+use Rattle.brl_without.specs.Spans.{spelled_spans}
+use Rattle.brl_without.specs.declared.span.Span.{Span}
 use Rattle.brl_table.specs.Files.{IsFaultAt}
 use Rattle.brl_table.specs.declared.no_table.NoTable.TheVariants as no_table
 use Rattle.brl_answers.specs.declared.answer.Answer.{Answer}
 use Rattle.brl_answers.specs.declared.new_files.NewFiles.TheVariants.{Nothing}
 use Rattle.brl_answers.specs.declared.run_fault.RunFault.{RunFault}
-use Rattle.brl_answers.specs.declared.run_fault.RunFault.TheVariants.{Load, Table, BadLeftOut, BadText, Memory}
+use Rattle.brl_answers.specs.declared.run_fault.RunFault.TheVariants.{Load, Table, BadText, Memory}
 use Rattle.brl_answers.specs.declared.status.Status.{Status}
 
 -- an answer has this status and text, and no files
@@ -81,23 +84,7 @@ IsBadText escapes word fault = ⊥
 abbrev pub ByText : Bool → List ℕ → (List ℕ → Result Answer RunFault → Type 0) → Result Answer RunFault → Type 0
 ByText escapes word answers outcome = Then (λ text. text_of escapes word ≡ Ok text) (IsBadText escapes word) answers outcome
 
--- ---- Characters that are left out
-
--- the characters that an option leaves out; none where it isn't given
-abbrev pub spelled_by : Option (List ℕ) → Result (List ℕ) CharsFault
-spelled_by None = Ok []
-spelled_by (Some word) = characters_of word
-
--- the fault is that the option spells no characters, and names it as it was written; or memory ran
--- out
-abbrev pub IsBadLeftOut : Option (List ℕ) → RunFault → Type 0
-IsBadLeftOut (Some word) (BadLeftOut named) = ((fault : CharsFault) × (characters_of word ≡ Err fault)) × (string_bytes named ≡ word)
-IsBadLeftOut option Memory = Unit {0}
-IsBadLeftOut option fault = ⊥
-
--- what is answered for the characters that an option leaves out, or that it spells none
-abbrev pub ByLeftOut : Option (List ℕ) → (List ℕ → Result Answer RunFault → Type 0) → Result Answer RunFault → Type 0
-ByLeftOut option answers outcome = Then (λ left_out. spelled_by option ≡ Ok left_out) (IsBadLeftOut option) answers outcome
+-- ---- The characters of which texts are made
 
 -- a character, spelled after a blank
 abbrev pub spelled_after_blank : ℕ → List ℕ
@@ -111,3 +98,13 @@ spelled_one_by_one characters = flat_map spelled_after_blank characters
 abbrev pub with_left_out_line : List ℕ → List ℕ → List ℕ
 with_left_out_line [] line = line
 with_left_out_line (c ∷ left_out) line = line ++ (codes "without:" ++ (spelled_one_by_one (c ∷ left_out) ++ codes "\n"))
+
+-- a line of an answer, and another line with the spans of the characters that texts may have
+abbrev pub with_spans_line : List Span → List ℕ → List ℕ
+with_spans_line spans line = line ++ (codes "only: " ++ (spelled_spans spans ++ codes "\n"))
+
+-- a line of an answer, and where texts aren't made of all characters of a table another line that
+-- says of which
+abbrev pub with_alphabet_line : AlphabetView → List ℕ → List ℕ
+with_alphabet_line (Without given) line = with_left_out_line given line
+with_alphabet_line (Only spans) line = with_spans_line spans line

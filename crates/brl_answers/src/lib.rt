@@ -7,9 +7,9 @@
 //! Room 5, the program (docs/dev/ARCHITECTURE.md). The definitions begin in `specs/Answers.antt`.
 #![tactic(auto)]
 
+mod alphabet;
 mod answer;
 mod files;
-mod left_out;
 mod links;
 mod making;
 mod new_files;
@@ -18,9 +18,9 @@ mod run_fault;
 mod status;
 mod text;
 
+pub use alphabet::{spell_one_by_one, with_alphabet_line};
 pub use answer::{Answer, counts_text, deliver};
 pub use files::{CreateFault, Files, NewFileFault, SinkFault};
-pub use left_out::{left_out_of, spell_one_by_one, with_left_out_line};
 pub use new_files::{NewFile, NewFiles};
 pub use run_fault::{EndsRun, RunFault};
 pub use status::Status;

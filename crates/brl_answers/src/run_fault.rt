@@ -14,7 +14,7 @@ use brl_lines::{GatherFault, LeadsOut, LoadFault};
 use brl_stream::{Failed, StreamFault};
 use brl_table::{NoTable, TableFault};
 use brl_window::TooWide;
-use brl_without::UndefinedLeftOut;
+use brl_without::Undefined;
 use std::alloc::AllocError;
 use std::fmt;
 use std::io::Write;
@@ -69,9 +69,12 @@ pub enum RunFault {
     /// The option of what is left out spells no characters, as this is written.
     #[error("U9 BadLeftOut {0}")]
     BadLeftOut(String),
-    /// A character that is left out isn't one of the table's.
+    /// The option of the only characters that texts may have spells none, as this is written.
+    #[error("U11 BadOnly {0}")]
+    BadOnly(String),
+    /// The table doesn't define the characters of which texts are to be made.
     #[error("{0}")]
-    NotDefined(UndefinedLeftOut),
+    NotDefined(Undefined),
     /// The file for the certificate is this one of the files that are read.
     #[error("error: the certificate would overwrite {0}, a file that is read")]
     WouldOverwrite(String),
@@ -190,7 +193,7 @@ impl EndsRun for ForwardFault {
     }
 }
 
-impl EndsRun for UndefinedLeftOut {
+impl EndsRun for Undefined {
     ghost run_fault = { λ fault. NotDefined fault };
 
     fn into_run_fault(self) -> RunFault {

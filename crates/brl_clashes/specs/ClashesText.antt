@@ -3,8 +3,9 @@
 use Rattle.std.specs.Prelude.{ℕ, ◌≡◌, ◌-◌, ◌==◌, Bool, true, false, if◌then◌else◌, List, [], ◌∷◌, ◌++◌, Option, codes, flat_map, length, slice_get}
 use Rattle.std.specs.Fmt.{decimal}
 use Rattle.std.specs.Option.{option_map_or}
-use Rattle.brl_answers.specs.Answers.{counts_line, spelled_one_by_one, with_left_out_line}
+use Rattle.brl_answers.specs.Answers.{counts_line, spelled_one_by_one, with_alphabet_line}
 use Rattle.brl_cells.specs.Dots.{spelling}
+use Rattle.brl_without.specs.Alphabet.{AlphabetView, left_out_by}
 use Rattle.brl_clashes.specs.Accepted.{accepted_count, accepted_lines, are_taken, outcome_beside}
 use Rattle.brl_clashes.specs.SectionText.{IsSectionText, others_note, pairs_words}
 use Rattle.brl_clashes.specs.Sections.{listed_after, listed_pairs, outcome_of}
@@ -94,9 +95,9 @@ AreSectionTexts t lines characters taken first before (s ∷ sections) text =
     × AreSectionTexts t lines characters taken first (listed_after before s) sections rest × (text ≡ front ++ rest)
 
 -- The text of a list of clashes: the sets of characters, the sections, and the verdict, with the
--- line of what is left out. Where a file accepts pairs, they are left out of the sections, and it
--- says how much the file excuses.
-abbrev pub IsClashesText : TableView → List LineView → List ℕ → ℕ → Option Taken → List Section → List ℕ → Type 0
-IsClashesText t lines left_out first accepted sections text =
-    (parts : List ℕ) × AreSectionTexts t lines (plain t left_out) (are_taken accepted) first [] sections parts
-    × (text ≡ sets_text t (plain t left_out) ++ parts ++ with_left_out_line left_out (verdict_text accepted sections))
+-- line that says of which characters texts are made. Where a file accepts pairs, they are left out
+-- of the sections, and it says how much the file excuses.
+abbrev pub IsClashesText : TableView → List LineView → AlphabetView → ℕ → Option Taken → List Section → List ℕ → Type 0
+IsClashesText t lines alphabet first accepted sections text = let plain = plain t (left_out_by t alphabet) in
+    (parts : List ℕ) × AreSectionTexts t lines plain (are_taken accepted) first [] sections parts
+    × (text ≡ sets_text t plain ++ parts ++ with_alphabet_line alphabet (verdict_text accepted sections))

@@ -8,6 +8,7 @@ use Rattle.brl_rules.specs.Places.{digit, letter, punctuation, share, space, upp
 use Rattle.brl_rules.specs.TableView.{TableView}
 use Rattle.brl_rules.specs.Text.{classes_of}
 use Rattle.brl_rules.specs.declared.class.Class.{Class}
+use Rattle.brl_without.specs.Alphabet.{table_characters}
 use Rattle.brl_without.specs.LeftOut.{is_left_out}
 
 -- the kind of a character of these classes: a capital, a digit, a small letter or blank, a mark, or
@@ -35,10 +36,6 @@ number_of Other = 4
 -- whether a character of a table is of a kind
 abbrev pub is_of : TableView → Kind → ℕ → Bool
 is_of t kind c = number_of (kind_of (classes_of t c)) == number_of kind
-
--- the characters of a table in the order of their first definitions
-abbrev pub table_characters : TableView → List ℕ
-table_characters t = map (λ entry. entry.0) t.characters
 
 -- the characters of a table that aren't left out
 abbrev pub kept : TableView → List ℕ → List ℕ

@@ -5,7 +5,8 @@ use Rattle.std.specs.Bool.{beq}
 use Rattle.std.specs.Cmp.Lexicographic.{pointwise}
 use Rattle.std.specs.List.{count_by, filter, find, list_any}
 use Rattle.std.specs.Option.{option_map_or, unwrap_or}
-use Rattle.brl_clashes.specs.Kinds.{kept, table_characters}
+use Rattle.brl_clashes.specs.Kinds.{kept}
+use Rattle.brl_without.specs.Alphabet.{table_characters}
 use Rattle.brl_clashes.specs.ListedPairs.{has_pair, is_pair}
 use Rattle.brl_report.specs.Rules.{own_number}
 use Rattle.brl_rules.specs.TableView.{TableView, info_of}

@@ -3,7 +3,7 @@ ghost use Rattle.std.specs.Prelude.{◌≡◌, [], ℕ, All, IfOk, List, OnOk, m
 ghost use Rattle.brl_clashes.specs.Accepted.{accepted_count as count_of_accepted};
 ghost use Rattle.brl_clashes.specs.ClashesText.{AreSectionTexts, IsClashesText};
 ghost use Rattle.brl_clashes.specs.Sections.{AreClashesOf, clashes_of, listed_pairs};
-ghost use Rattle.brl_clashes.specs.Kinds.{table_characters};
+ghost use Rattle.brl_without.specs.Alphabet.{alphabet_view, left_out_by, table_characters};
 ghost use Rattle.brl_clashes.specs.Sets.{first_number as number_of_first};
 ghost use Rattle.brl_lines.specs.Views.{line_view};
 
@@ -15,16 +15,18 @@ use crate::representatives::first_numbers;
 use crate::section_text::{Shown, section_text};
 use crate::sets::{plain_characters, sets_text};
 use crate::verdict::{accepted_lines, outcome_beside, outcome_of, verdict_counts, verdict_pairs};
-use brl_answers::with_left_out_line;
+use brl_answers::with_alphabet_line;
 use brl_lines::Line;
 use brl_rules::Table;
-use brl_without::LeftOut;
+use brl_without::{Alphabet, LeftOut};
 use std::alloc::{AllocError, Global};
 
 /// How much of a list is shown.
 #[derive(Clone, Copy)]
 pub struct Extent<'a> {
-    /// The characters that are left out.
+    /// The characters of which texts are made.
+    pub alphabet: &'a Alphabet,
+    /// The characters of the table that are left out of these.
     pub left_out: &'a LeftOut,
     /// How many clashes of each section are shown; 0 for all.
     pub first: usize,
@@ -35,7 +37,7 @@ pub struct Extent<'a> {
 /// The text of the sections of a table with these lines: the sets of characters that the table
 /// treats as one, where the first of a set represents the others; for each section the first
 /// `first` pairs of rules that no earlier one lists, all of them where `first` is 0; and the
-/// verdict with its counts, how much a file excuses, and the characters that are left out.
+/// verdict with its counts, how much a file excuses, and of which characters texts are made.
 ///
 /// Every line ends with LF. `AllocError` if memory runs out.
 pub fn sections_text(
@@ -45,10 +47,12 @@ pub fn sections_text(
     shown: Extent<'_>,
     sections: Vec<Section>,
 ) -> Result<String, AllocError>
-    requires { All (λ s. AreClashesOf table.now (clashes_of s.found)) sections.items }
-    ensures { IfOk result (λ text. IsClashesText table.now (map line_view lines.now) shown.entry.left_out.now shown.entry.first shown.entry.accepted sections.items (string_bytes text)) }
+    requires clashes { All (λ s. AreClashesOf table.now (clashes_of s.found)) sections.items }
+    requires left_out { shown.left_out.now ≡ left_out_by table.now (alphabet_view shown.alphabet.now) }
+    ensures { IfOk result (λ text. IsClashesText table.now (map line_view lines.now) (alphabet_view shown.entry.alphabet.now) shown.entry.first shown.entry.accepted sections.items (string_bytes text)) }
 {
     let Extent {
+        alphabet,
         left_out,
         first,
         accepted,
@@ -78,7 +82,7 @@ pub fn sections_text(
     let mut verdict = counts;
     verdict.push_str(verdict_pairs(alloc, shown.taken, outcome, listed.len())?.as_str())?;
     verdict.push_str(accepted_lines(alloc, accepted)?.as_str())?;
-    text.push_str(with_left_out_line(alloc, verdict, left_out)?.as_str())?;
+    text.push_str(with_alphabet_line(alloc, verdict, alphabet)?.as_str())?;
     Ok(text)
 }
 

@@ -10,13 +10,12 @@ ghost use Rattle.brl_clashes.specs.Kinds.{
   number_of,
   of_kinds as are_of_kinds,
   or_letter,
-  table_characters as characters_of,
 };
 ghost use Rattle.brl_clashes.specs.SectionText.{kind_name};
 
 use bitflags::Flags;
 use brl_rules::{Class, Table};
-use brl_without::LeftOut;
+use brl_without::{LeftOut, table_characters};
 use std::alloc::{AllocError, Global};
 
 /// The kind of a character: what it is first of these, in the order of capitals, digits, letters
@@ -108,17 +107,6 @@ fn is_of_one(table: &Table, kinds: &[Kind], character: char) -> bool
     ensures { result ≡ list_any (λ kind. is_character_of table.now kind character) kinds.now }
 {
     kinds.iter().any(|kind| is_of(table, *kind, character))
-}
-
-/// The characters of a table in the order of their first definitions.
-pub fn table_characters(alloc: Global, table: &Table) -> Result<Vec<char>, AllocError>
-    ensures { IfOk result (λ characters. characters.items ≡ characters_of table.now) }
-{
-    let mut characters = Vec::new(alloc);
-    for number in 0..table.char_count() as u32 {
-        characters.push(table.char_at(number))?;
-    }
-    Ok(characters)
 }
 
 /// The characters of a table that aren't left out, in the order of their first definitions.

@@ -1,6 +1,6 @@
 //! The rules that represent others in a list of clashes.
 ghost use Rattle.std.specs.Prelude.{◌≡◌, ℕ, IfOk, List, map};
-ghost use Rattle.brl_clashes.specs.Kinds.{table_characters as characters_of};
+ghost use Rattle.brl_without.specs.Alphabet.{table_characters as characters_of};
 ghost use Rattle.brl_clashes.specs.Sets.{
   first_number as number_of_first,
   first_of_set as first_in_set,
@@ -10,12 +10,12 @@ ghost use Rattle.brl_clashes.specs.Sets.{
   representative as representative_of,
 };
 
-use crate::kind::table_characters;
 use crate::listed_pairs::ListedPairs;
 use crate::sets::first_among;
 use brl_report::own_number;
 use brl_rules::Table;
 use brl_search::RuleClash;
+use brl_without::table_characters;
 use std::alloc::{AllocError, Global};
 
 /// For each character of a table, by its number, the number of the own definition that represents

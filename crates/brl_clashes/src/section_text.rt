@@ -12,7 +12,7 @@ ghost use Rattle.brl_clashes.specs.SectionText.{
   rule_clash_line,
 };
 ghost use Rattle.brl_clashes.specs.Sections.{AreClashesOf, clashes_beside, clashes_of, listed_after};
-ghost use Rattle.brl_clashes.specs.Kinds.{table_characters};
+ghost use Rattle.brl_without.specs.Alphabet.{table_characters};
 ghost use Rattle.brl_clashes.specs.Sets.{first_number as number_of_first, is_represented as is_represented_in};
 ghost use Rattle.brl_lines.specs.Views.{line_view};
 ghost use Rattle.brl_search.specs.Clashes.{rules_of_clashes};

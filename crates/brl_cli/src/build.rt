@@ -57,11 +57,9 @@ fn argument<'a>(alloc: Global, row: Argument) -> Result<Arg<'a>, AllocError> {
         Takes::SwitchBeside(needed, barred) => switch(argument, name)
             .requires_arg(needed)?
             .conflicts_with(barred)?,
-        Takes::Text(value) => argument.long(name).value_name(value),
-        Takes::Texts(value) => argument
-            .long(name)
-            .value_name(value)
-            .action(ArgAction::Append),
+        Takes::Text(value) => text(argument, name, value),
+        Takes::TextBut(value, barred) => text(argument, name, value).conflicts_with(barred)?,
+        Takes::Texts(value) => text(argument, name, value).action(ArgAction::Append),
         Takes::Number(usual) => argument
             .long(name)
             .value_name("N")
@@ -78,6 +76,11 @@ fn argument<'a>(alloc: Global, row: Argument) -> Result<Arg<'a>, AllocError> {
 /// An operand of one word or more.
 fn repeated(operand: Arg<'_>) -> Arg<'_> {
     operand.num_args(1..).action(ArgAction::Append)
+}
+
+/// An option with a text, whose value the help calls so.
+fn text<'a>(option: Arg<'a>, name: &'static str, value: &'static str) -> Arg<'a> {
+    option.long(name).value_name(value)
 }
 
 /// An option without a value.

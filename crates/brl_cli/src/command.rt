@@ -33,9 +33,9 @@ pub enum Task<'a> {
 }
 
 /// What is answered by one text. `table` is the path of a table's file, as `cert`, `accept` and
-/// `dir` are paths. Where `without` is there, only texts that use none of the characters that it
-/// spells are asked about. The file at `accept` names pairs of rules and sets of characters, as a
-/// list of clashes writes it; without it nothing is excused.
+/// `dir` are paths. `alphabet` says of which characters the texts are made that are asked about.
+/// The file at `accept` names pairs of rules and sets of characters, as a list of clashes writes
+/// it; without it nothing is excused.
 #[derive(Drop)]
 pub enum Question<'a> {
     /// Whether two texts clash.
@@ -51,7 +51,7 @@ pub enum Question<'a> {
         table: &'a str,
         cert: &'a str,
         accept: Option<&'a str>,
-        without: Option<&'a str>,
+        alphabet: AlphabetOption<'a>,
     },
     /// Whether two texts clash, but for what is excused. A certificate goes to the file at `cert`.
     /// At most `limit` states and `limit` pairs may be found.
@@ -60,7 +60,7 @@ pub enum Question<'a> {
         cert: &'a str,
         limit: u32,
         accept: Option<&'a str>,
-        without: Option<&'a str>,
+        alphabet: AlphabetOption<'a>,
     },
     /// At which pairs of rules clashing texts diverge. At most `limit` states, pairs and pairs of
     /// rules may be found for each section; `first` clashes of each are shown, and all where it
@@ -69,7 +69,7 @@ pub enum Question<'a> {
         table: &'a str,
         limit: u32,
         first: u32,
-        without: Option<&'a str>,
+        alphabet: AlphabetOption<'a>,
         pairs: PairFiles<'a>,
     },
     /// Which lines of tables are outside the profile or faulty. A brief answer has the counts of
@@ -87,6 +87,7 @@ pub enum Question<'a> {
     Unused {
         table: &'a str,
         limit: u32,
+        alphabet: AlphabetOption<'a>,
     },
     /// What the fault of this line means.
     Explain {
@@ -111,6 +112,17 @@ pub enum Question<'a> {
         table: &'a str,
         columns: bool,
     },
+}
+
+/// The characters of which texts are made, as an option spells them.
+#[derive(Clone, Copy)]
+pub enum AlphabetOption<'a> {
+    /// All that the table defines: there is no such option.
+    All,
+    /// All that the table defines but these.
+    Without(&'a str),
+    /// These.
+    Only(&'a str),
 }
 
 /// How texts are read, and what is shown of their steps.

@@ -8,4 +8,4 @@ mod command;
 mod pages;
 mod read;
 
-pub use command::{NotATask, PairFiles, Question, Task, TextOptions, Words, Work};
+pub use command::{AlphabetOption, NotATask, PairFiles, Question, Task, TextOptions, Words, Work};

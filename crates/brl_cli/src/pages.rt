@@ -1,6 +1,6 @@
 //! The words that `brl` knows: a page for each command, with a row for each operand and option.
 
-use Takes::{Name, Number, Numbers, Operand, Operands, Switch, SwitchBeside, Text, Texts};
+use Takes::{Name, Number, Numbers, Operand, Operands, Switch, SwitchBeside, Text, TextBut, Texts};
 
 /// A command, as its help shows it.
 pub struct Page {
@@ -34,6 +34,8 @@ pub enum Takes {
     SwitchBeside(&'static str, &'static str),
     /// An option with a text, whose value the help calls so.
     Text(&'static str),
+    /// An option with a text, whose value the help calls so, and that bars another option.
+    TextBut(&'static str, &'static str),
     /// An option with a text, whose value the help calls so, and which may be given again.
     Texts(&'static str),
     /// An option with a number, which is this one where the words don't say.
@@ -71,6 +73,12 @@ const WITHOUT: Argument = Argument(
     "without",
     Text("CHARS"),
     "Look only at texts that use none of these characters",
+);
+
+const ONLY: Argument = Argument(
+    "only",
+    TextBut("CHARS", "without"),
+    "Look only at texts of these characters; x..y is all from x to y",
 );
 
 const EXCUSED: Argument = Argument(
@@ -197,15 +205,17 @@ It prints:
     },
     page! {
         "check": "Says whether a certificate proves a table unambiguous",
-        arguments: [WITHOUT, EXCUSED, TABLE, Argument("CERT", Operand, "The certificate's file")],
+        arguments: [WITHOUT, ONLY, EXCUSED, TABLE, Argument("CERT", Operand, "The certificate's file")],
         help: "A certificate lists states and pairs of states. Where it is accepted, standard
 output gets how many there are, and no two different texts over the table's
 characters give the same cells, however long they are. Whoever made the
 certificate need not be trusted. Else standard output gets why it is refused,
 and the exit status is 1; a refusal doesn't say that two texts look alike.
 
-With --without it is judged for the texts that use none of CHARS, and the last
-line of an acceptance names these. CHARS are spelled as in a table.
+With --without it is judged for the texts that use none of CHARS, with --only
+for those made of CHARS alone, and the last line of an acceptance names these.
+CHARS are spelled as in a table. With --only x..y is all characters from x to y
+that the table defines.
 
 With --accept it is judged but for what FILE names, as 'brl clashes' writes it:
 two texts with the same cells are the same step by step, but that characters of
@@ -225,6 +235,7 @@ It prints:
         arguments: [
             LIMIT,
             WITHOUT,
+            ONLY,
             EXCUSED,
             TABLE,
             Argument("OUT", Operand, "The file that gets a certificate"),
@@ -237,10 +248,11 @@ the exit status is 1, and OUT isn't written. No character of one of them, nor on
 of each, can be left out so that they still clash. Where more than N states or
 more than N pairs are found, nothing is decided, and the status is 3.
 
-With --without only texts that use none of CHARS are searched, and the last line
-after 'certified' names these; 'brl check' with the same option accepts the
-certificate. CHARS are spelled as in a table: \\s is a blank, \\x00a0 a no-break
-space.
+With --without only texts that use none of CHARS are searched, with --only those
+made of CHARS alone, and the last line after 'certified' names these; 'brl check'
+with the same option accepts the certificate. CHARS are spelled as in a table:
+\\s is a blank, \\x00a0 a no-break space. With --only x..y is all characters from
+x to y that the table defines.
 
 With --accept the pairs of rules and the sets of characters that FILE names are
 no clashes, as 'brl clashes' writes them; the second line says how many these
@@ -262,6 +274,7 @@ It prints:
             Argument("first", Number("12"), "How many lines of each section are shown; 0 for all"),
             LIMIT,
             WITHOUT,
+            ONLY,
             Argument("accept", Text("FILE"), "Leave the pairs of rules out that this file names"),
             Argument("write", Text("FILE"), "Write the pairs of rules that are listed to this file"),
             Argument("prune", SwitchBeside("accept", "write"),
@@ -299,8 +312,10 @@ no two rules and no set of the table, is stale: it accepts nothing, standard
 error names it, and where no other pair is left, the status is 2. With --prune
 such lines are taken out of FILE; nothing is added.
 
-With --without only texts that use none of CHARS are looked at, and a line after
-the last one names these. CHARS are spelled as in a table.",
+With --without only texts that use none of CHARS are looked at, with --only those
+made of CHARS alone, and a line after the last one names these. CHARS are spelled
+as in a table. With --only x..y is all characters from x to y that the table
+defines.",
         example: "Example, a table with two words that have the cells of a shorter text:
   printf '%s\\n' 'letter a 1' 'letter b 12' 'letter c 14' > three.ctb
   printf '%s\\n' 'word abc 1-12' 'word bca 12-14' >> three.ctb
@@ -430,7 +445,12 @@ It prints:
     },
     page! {
         "unused": "Lists the rules of a table that no text uses",
-        arguments: [Argument("limit", Number(USUAL_LIMIT), "How many states may be found"), TABLE],
+        arguments: [
+            Argument("limit", Number(USUAL_LIMIT), "How many states may be found"),
+            WITHOUT,
+            ONLY,
+            TABLE,
+        ],
         help: "Reads a liblouis table. Standard output gets a line for each rule that the
 translation of no text over the table's characters uses, however long the text
 is, and for no other rule: the line of 'brl rules', and after it the rule that is
@@ -440,7 +460,12 @@ a rule too.
 
 The last line says how many rules these are, and how many the table has. Where
 there are some, the exit status is 1, else 0. Where more than N states are found,
-no rule is listed, and the status is 3.",
+no rule is listed, and the status is 3.
+
+With --without only texts that use none of CHARS are looked at, with --only those
+made of CHARS alone, and a line after the last one names these. CHARS are spelled
+as in a table. With --only x..y is all characters from x to y that the table
+defines.",
         example: "Example, a table that has one rule twice:
   printf '%s\n' 'letter a 1' 'letter b 12' 'always ab 3' 'always ab 4' > twice.ctb
   brl unused twice.ctb

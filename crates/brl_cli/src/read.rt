@@ -1,6 +1,6 @@
 //! What words ask for that `clap` has read: a reader for each command.
 
-use crate::command::{PairFiles, Question, Task, TextOptions, Work};
+use crate::command::{AlphabetOption, PairFiles, Question, Task, TextOptions, Work};
 use crate::pages::{ASCII, UNICODE};
 use brl_cells::Form;
 use clap::ArgMatches;
@@ -92,12 +92,21 @@ fn text_options(found: &ArgMatches<'_>) -> TextOptions {
     }
 }
 
+/// Of which characters texts are made; at most one of the two options is there.
+fn alphabet_option<'a>(found: &ArgMatches<'a>) -> AlphabetOption<'a> {
+    match (found.get_str("without"), found.get_str("only")) {
+        (None, None) => AlphabetOption::All,
+        (Some(word), _) => AlphabetOption::Without(word),
+        (None, Some(word)) => AlphabetOption::Only(word),
+    }
+}
+
 fn check<'a>(found: &ArgMatches<'a>) -> Option<Question<'a>> {
     Some(Question::Check {
         table: found.get_str("TABLE")?,
         cert: found.get_str("CERT")?,
         accept: found.get_str("accept"),
-        without: found.get_str("without"),
+        alphabet: alphabet_option(found),
     })
 }
 
@@ -107,7 +116,7 @@ fn search<'a>(found: &ArgMatches<'a>) -> Option<Question<'a>> {
         cert: found.get_str("OUT")?,
         limit: found.get_one("limit")?,
         accept: found.get_str("accept"),
-        without: found.get_str("without"),
+        alphabet: alphabet_option(found),
     })
 }
 
@@ -116,7 +125,7 @@ fn clashes<'a>(found: &ArgMatches<'a>) -> Option<Question<'a>> {
         table: found.get_str("TABLE")?,
         limit: found.get_one("limit")?,
         first: found.get_one("first")?,
-        without: found.get_str("without"),
+        alphabet: alphabet_option(found),
         pairs: PairFiles {
             accept: found.get_str("accept"),
             write: found.get_str("write"),
@@ -168,6 +177,7 @@ fn unused<'a>(found: &ArgMatches<'a>) -> Option<Question<'a>> {
     Some(Question::Unused {
         table: found.get_str("TABLE")?,
         limit: found.get_one("limit")?,
+        alphabet: alphabet_option(found),
     })
 }
 

@@ -4,7 +4,7 @@
 /// What explains each fault: a line with its own form, or with several, which commas part; when it
 /// comes; for a line of a table what the fault's line names; and what to do about it. Words in
 /// capitals are for what differs.
-pub const FAULTS: [&str; 49] = [
+pub const FAULTS: [&str; 51] = [
     "Memory\n\
      When: an allocation failed, which says nothing of the table, the text or the certificate\n\
      What to do: Give the program more memory, or search with a smaller `--limit`.\n",
@@ -106,6 +106,12 @@ pub const FAULTS: [&str; 49] = [
     "U8 UndefinedLeftOut CHARACTER\n\
      When: the table doesn't define it: the first such character of `--without`\n\
      What to do: Leave it out: no text of the table has it.\n",
+    "U11 BadOnly WORD\n\
+     When: the word of `--only` has a bad escape, or no character\n\
+     What to do: TABLES.md lists the escapes; a backslash itself is `\\\\`.\n",
+    "U10 UndefinedOnly CHARACTERS\n\
+     When: the table doesn't define it: the first such character of `--only`, or range in which no character is defined\n\
+     What to do: Leave it out: no text of the table has it.\n",
     "U7 CannotWrite PATH\n\
      When: a file can't be written; after `written before it:` come the files of a cut that are\n\
      What to do: Check the permissions of the file and its folder, and the free space. Cut into another folder, or remove these files.\n",
@@ -116,7 +122,7 @@ pub const FAULTS: [&str; 49] = [
     "P2 NotListed\n\
      When: the line's pair of rules isn't listed, and the list has all\n\
      Named: the line\n\
-     What to do: Take the line out by `brl clashes --prune`; or it was accepted with another `--without`: give that one.\n",
+     What to do: Take the line out by `brl clashes --prune`; or it was accepted with another `--without` or `--only`: give that one.\n",
     "P3 NoSuchSet\n\
      When: the line begins with `exchange`, and what follows isn't two characters or more of one set of the table\n\
      Named: the line\n\
@@ -153,17 +159,17 @@ pub const FAULTS: [&str; 49] = [
      What to do: Search again: version 3 is for every table.\n",
     "A1 NoStart\n\
      When: the start isn't among the states\n\
-     What to do: The certificate was made for another table, an earlier state of it, or another `--without`: search again.\n",
+     What to do: The certificate was made for another table, an earlier state of it, or another `--without` or `--only`: search again.\n",
     "A2 StateMissing state S rule R\n\
      When: a step of rule R from state S ends in none of the states\n\
-     What to do: The certificate was made for another table, an earlier state of it, or another `--without`: search again.\n",
+     What to do: The certificate was made for another table, an earlier state of it, or another `--without` or `--only`: search again.\n",
     "A3 SplitMissing state S rules R R\n\
      When: after two steps of these rules from state S a pair is missing\n\
-     What to do: The certificate was made for another table, an earlier state of it, or another `--without`: search again.\n",
+     What to do: The certificate was made for another table, an earlier state of it, or another `--without` or `--only`: search again.\n",
     "A4 PairMissing pair P rule R\n\
      When: after a step of rule R from pair P a pair is missing\n\
-     What to do: The certificate was made for another table, an earlier state of it, or another `--without`: search again.\n",
+     What to do: The certificate was made for another table, an earlier state of it, or another `--without` or `--only`: search again.\n",
     "A5 BothEnd pair P\n\
      When: a pair with no lead has two states that end\n\
-     What to do: The certificate was made for another table, an earlier state of it, or another `--without`: search again.\n",
+     What to do: The certificate was made for another table, an earlier state of it, or another `--without` or `--only`: search again.\n",
 ];

@@ -17,9 +17,11 @@ first_rule t text = if is_text t text then option_map (λ (x : Traced). x.rule) 
 abbrev pub rule_in_place : TableView → ℕ → Option ℕ
 rule_in_place t number = option_and_then (λ x. first_rule t x.characters) (rule_with_number t number)
 
--- the note on the rule that is chosen in place of the one with a number
+-- the note on the rule that is chosen in place of the one with a number, where that is another: it
+-- may be chosen itself, and be used by no text of some characters
 abbrev pub in_place_note : TableView → List LineView → ℕ → List ℕ
-in_place_note t lines number = option_map_or (λ other. codes "  in its place:" ++ rule_note t lines other) (rule_in_place t number) []
+in_place_note t lines number =
+    option_map_or (λ other. if other == number then [] else codes "  in its place:" ++ rule_note t lines other) (rule_in_place t number) []
 
 -- the line of an unused rule: its entry, and the rule that is chosen in its place
 abbrev pub unused_line : TableView → List LineView → ℕ → List ℕ

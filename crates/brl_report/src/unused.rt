@@ -12,8 +12,8 @@ use brl_rules::Table;
 use std::alloc::{AllocError, Global};
 
 /// The rules of a table that have these numbers, as those that no text uses: for each the entry of
-/// the list of rules, and the rule that is chosen for its characters where these are a text. The
-/// last line says how many they are, and how many rules the table has.
+/// the list of rules, and the rule that is chosen for its characters where these are a text and it
+/// isn't chosen itself. The last line says how many they are, and how many rules the table has.
 ///
 /// Every line ends with LF. `AllocError` if memory runs out.
 pub fn unused_report(
@@ -43,13 +43,16 @@ impl Lined<'_> {
         text.push('\n')
     }
 
-    /// Appends the rule that is chosen in place of the one with a number.
+    /// Appends the rule that is chosen in place of the one with a number, where that is another.
     fn push_in_place(&self, number: u32, text: &mut String) -> Result<(), AllocError>
         ensures { OnOk result (string_bytes text.new ≡ string_bytes text.old ++ in_place_note self.now.table.now (map line_view self.now.lines.now) number) }
     {
         let Some(other) = rule_in_place(self.alloc, self.table, number)? else {
             return Ok(());
         };
+        if other == number {
+            return Ok(());
+        }
         text.push_str("  in its place:")?;
         self.push_rule(other, RuleForm::Note, text)
     }

@@ -7,3 +7,4 @@ pub mod NoticesLemmas
 pub mod OfFiles
 pub mod RunLemmas
 pub mod SearchLemmas
+pub mod UnusedLemmas

@@ -46,7 +46,10 @@ use Rattle.brl_tool.specs.Unused.{status_of_list, status_of_unused, text_of_unus
 use Rattle.brl_tool.specs.Excusing.{Excuses}
 use Rattle.brl_tool.specs.FileBytes.{IsFileWith}
 use Rattle.brl_tool.specs.Verdicts.{IsJudgement, SaysFound}
-use Rattle.brl_answers.specs.Answers.{spelled_by}
+use Rattle.brl_answers.specs.Answers.{with_alphabet_line}
+use Rattle.brl_cli.specs.declared.command.AlphabetOption.{AlphabetOption}
+use Rattle.brl_tool.specs.Alphabets.{spelled_by}
+use Rattle.brl_without.specs.Alphabet.{AlphabetView, left_out_by}
 use Rattle.brl_answers.specs.Delivery.{Delivers, World, KeepsFiles, Prints, Writes}
 use Rattle.brl_answers.specs.Files.{GivesAlso, MayBeSame, OthersStay}
 use Rattle.brl_answers.specs.Making.{FilesAfter}
@@ -142,23 +145,24 @@ some_listed : (none : Bool) → (none ≡ true → ⊥) → cond none Done Refut
 some_listed true some e = some refl
 some_listed false some e = cc
 
-none_unused : (t : TableView) (lines : List LineView) (limit : ℕ) (found : UnusedRules) → AreUnusedRules t limit found → status_of_unused found ≡ Done
-    → (text_of_unused t lines found ≡ unused_text t lines []) × ((number : ℕ) → IsRule t number → IsUsed t number)
-none_unused t lines limit (unused.Unused numbers) rules done = by numbers.items rules done
+none_unused : (alphabet : AlphabetView) (left_out : List ℕ) (t : TableView) (lines : List LineView) (limit : ℕ) (found : UnusedRules) → AreUnusedRules left_out t limit found → status_of_unused found ≡ Done
+    → (text_of_unused alphabet t lines found ≡ with_alphabet_line alphabet (unused_text t lines [])) × ((number : ℕ) → IsRule t number → IsUsed left_out t number)
+none_unused alphabet left_out t lines limit (unused.Unused numbers) rules done = by numbers.items rules done
   where
-    by : (xs : List ℕ) → AreUnused t xs → status_of_list (length xs) ≡ Done → (unused_text t lines xs ≡ unused_text t lines []) × ((number : ℕ) → IsRule t number → IsUsed t number)
+    by : (xs : List ℕ) → AreUnused left_out t xs → status_of_list (length xs) ≡ Done
+        → (with_alphabet_line alphabet (unused_text t lines xs) ≡ with_alphabet_line alphabet (unused_text t lines [])) × ((number : ℕ) → IsRule t number → IsUsed left_out t number)
     by [] are e = (refl, λ number is. elim (are.others number is) [ inl one ↦ absurd (let within = one.1 in omega (arith, within)) | inr used ↦ used ])
     by (x ∷ xs) are e = absurd (some_listed (length (x ∷ xs) == 0) (λ none. (let size = eqb-true (length (x ∷ xs)) 0 none in omega (arith, size))) e)
-none_unused t lines limit (unused.Limit states) rules done = absurd cc
+none_unused alphabet left_out t lines limit (unused.Limit states) rules done = absurd cc
 
-some_unused : (t : TableView) (lines : List LineView) (limit : ℕ) (found : UnusedRules) → AreUnusedRules t limit found → status_of_unused found ≡ Refuted
-    → (numbers : List ℕ) × (numbers ≢ []) × AreUnused t numbers × (text_of_unused t lines found ≡ unused_text t lines numbers)
-some_unused t lines limit (unused.Unused numbers) rules refuted = (numbers.items, some numbers.items refuted, rules, refl)
+some_unused : (alphabet : AlphabetView) (left_out : List ℕ) (t : TableView) (lines : List LineView) (limit : ℕ) (found : UnusedRules) → AreUnusedRules left_out t limit found → status_of_unused found ≡ Refuted
+    → (numbers : List ℕ) × (numbers ≢ []) × AreUnused left_out t numbers × (text_of_unused alphabet t lines found ≡ with_alphabet_line alphabet (unused_text t lines numbers))
+some_unused alphabet left_out t lines limit (unused.Unused numbers) rules refuted = (numbers.items, some numbers.items refuted, rules, refl)
   where
     some : (xs : List ℕ) → status_of_list (length xs) ≡ Refuted → xs ≢ []
     some [] e none = cc
     some (x ∷ xs) e none = cc
-some_unused t lines limit (unused.Limit states) rules refuted = absurd cc
+some_unused alphabet left_out t lines limit (unused.Limit states) rules refuted = absurd cc
 
 module _ (before after : World) (same_file : MayBeSame) where
   -- an answer with a status that no fault has was written whole
@@ -215,7 +219,7 @@ module _ (before after : World) (same_file : MayBeSame) where
   shown_but None left_out lines excusal nothing shown = shown.1 nothing
   shown_but (Some path) left_out lines excusal at shown = shown
 
-  module _ (path out : List ℕ) (accept option : Option (List ℕ)) (limit : ℕ) (left_out : List ℕ) (spelled : spelled_by option ≡ Ok left_out) (paths : List (List ℕ)) (lines : List LineView) (are : AreLinesOfFiles before.gives path paths lines) (passes : PassesAll lines)
+  module _ (path out : List ℕ) (accept : Option (List ℕ)) (option : AlphabetOption) (limit : ℕ) (alphabet : AlphabetView) (spelled : spelled_by option ≡ Some alphabet) (paths : List (List ℕ)) (lines : List LineView) (are : AreLinesOfFiles before.gives path paths lines) (passes : PassesAll lines)
       (apart : All (λ one. one ≢ out) (read_paths paths accept)) (excusal : Excusal) (excused : Excuses before.gives accept (table_of lines) lines excusal) (answer : Answer) (files : FilesAfter before.gives after.gives answer.files)
       (prints : Prints before after (string_bytes answer.text)) where
     abbrev IsMeant : Type 0
@@ -225,17 +229,17 @@ module _ (before after : World) (same_file : MayBeSame) where
     neither : (s : Status) → answer.status ≡ s → (s ≡ Done → ⊥) → (s ≡ Refuted → ⊥) → IsMeant
     neither s is undone unrefuted = ((λ done. absurd (undone (sym is ∙ done))), (λ refuted. absurd (unrefuted (sym is ∙ refuted))))
 
-    found_means : (found : Searched) → IsSearched left_out excusal.excused (table_of lines) limit found → SaysFound left_out accept excusal (table_of lines) out found answer → IsMeant
+    found_means : (found : Searched) → IsSearched (left_out_by (table_of lines) alphabet) excusal.excused (table_of lines) limit found → SaysFound alphabet accept excusal (table_of lines) out found answer → IsMeant
     found_means (Found (Certified (Word body))) is (shown, accepted, (status, text, file, read)) = (
       (λ done. let (gives, others) = file_written (spelling (certificate_of body)) out answer.files file files in
           let stays = table_stays path out paths (table_of lines) (lines, are, passes, refl) (front_apart out paths accept apart) others in (
-            left_out,
+            alphabet,
             spelled,
             (
               lines,
               excusal,
               (lines_of before.gives path paths lines are, passes, excused),
-              shown_but accept left_out lines excusal excused shown,
+              shown_but accept (left_out_by (table_of lines) alphabet) lines excusal excused shown,
               (body, accepted, gives, others, stays, subst (Prints before after) text prints),
             ),
           )),
@@ -278,10 +282,10 @@ module _ (before after : World) (same_file : MayBeSame) where
   at_accepted (Some path) baseline prune left_out lines found accepted taken read accepts only = only
 
   -- a list that is whole was written, and its file
-  list_written : (path left_out : List ℕ) (pairs : PairFiles) (baseline : Option (List ℕ)) (paths : List (List ℕ)) (lines : List LineView) (limit first : ℕ) (answer : Answer) → AreLinesOfFiles before.gives path paths lines
-      → PassesAll lines → IsBaseline before.gives (option_copied pairs.accept) baseline → (d : IsDiagnosis left_out (table_of lines) lines limit first baseline pairs answer) → (outcome_of d.left ≡ Unfinished → ⊥)
-      → FilesAfter before.gives after.gives answer.files → Prints before after (string_bytes answer.text) → WritesList before after path left_out pairs lines d.accepted
-  list_written path left_out pairs baseline paths lines limit first answer are passes read d decided files prints = record {
+  list_written : (path : List ℕ) (alphabet : AlphabetView) (pairs : PairFiles) (baseline : Option (List ℕ)) (paths : List (List ℕ)) (lines : List LineView) (limit first : ℕ) (answer : Answer) → AreLinesOfFiles before.gives path paths lines
+      → PassesAll lines → IsBaseline before.gives (option_copied pairs.accept) baseline → (d : IsDiagnosis alphabet (table_of lines) lines limit first baseline pairs answer) → (outcome_of d.left ≡ Unfinished → ⊥)
+      → FilesAfter before.gives after.gives answer.files → Prints before after (string_bytes answer.text) → WritesList before after path alphabet pairs lines d.accepted
+  list_written path alphabet pairs baseline paths lines limit first answer are passes read d decided files prints = record {
     lines_are = lines_of before.gives path paths lines are;
     passes = passes;
     limit = limit;
@@ -342,21 +346,24 @@ module _ (before after : World) (same_file : MayBeSame) where
   means (question.Rules path numbers) answer lists files prints =
       let (lines, at, (known, says)) = then_ok lists in
       ((λ done. tt), (λ refuted. let e = sym says.0 ∙ refuted in cc))
-  means (question.Unused path limit) answer lists files prints =
-      let (lines, (paths, are, passes), (found, rules, says)) = then_ok lists in
+  means (question.Unused path limit option) answer lists files prints =
+      let (alphabet, spelled, loads) = then_ok lists in
+      let (lines, (paths, are, passes), there) = then_ok loads in
+      let (all, (found, rules, says)) = then_ok there in
+      let left_out = left_out_by (table_of lines) alphabet in
       let table : IsTableOf before.gives path.now (table_of lines) = of_files before.gives path.now paths (table_of lines) (lines, are, passes, refl) in (
         (λ done.
-            let (none, all) = none_unused (table_of lines) lines limit found rules (sym says.0 ∙ done) in
-            (table_of lines, table, all, (lines, subst (Prints before after) (says.1 ∙ none) prints))),
+            let (none, used) = none_unused alphabet left_out (table_of lines) lines limit found rules (sym says.0 ∙ done) in
+            (alphabet, spelled, (table_of lines, table, used, (lines, subst (Prints before after) (says.1 ∙ none) prints)))),
         (λ refuted.
-            let (numbers, some, are_unused, text) = some_unused (table_of lines) lines limit found rules (sym says.0 ∙ refuted) in
-            ((path.now, table_of lines, table, (lines, numbers, some, are_unused, subst (Prints before after) (says.1 ∙ text) prints)), subst (FilesAfter before.gives after.gives) says.2 files)),
+            let (numbers, some, are_unused, text) = some_unused alphabet left_out (table_of lines) lines limit found rules (sym says.0 ∙ refuted) in
+            ((path.now, alphabet, table_of lines, table, (lines, numbers, some, are_unused, subst (Prints before after) (says.1 ∙ text) prints)), subst (FilesAfter before.gives after.gives) says.2 files)),
       )
   means (question.Explain line) answer explains files prints =
       let (text, is, (notes, seen, says)) = then_ok explains in
       ((λ done. tt), (λ refuted. let e = sym says.0 ∙ refuted in cc))
   means (question.Check path cert accept option) answer is files prints =
-      let (left_out, spelled, reads) = then_ok is.checks in
+      let (alphabet, spelled, reads) = then_ok is.checks in
       let (bytes, holds, loads) = then_ok reads in
       let (lines, (paths, are, passes), defines) = then_ok loads in
       let (defined, excuses) = then_ok defines in
@@ -364,13 +371,13 @@ module _ (before after : World) (same_file : MayBeSame) where
       elim judged [
         | inl (shown, (accepted, deserved, says)) ↦ (
           (λ done. (
-            left_out,
+            alphabet,
             spelled,
             (
               lines,
               excusal,
               (lines_of before.gives path.now paths lines are, passes, excused),
-              shown_but (option_copied accept) left_out lines excusal excused shown,
+              shown_but (option_copied accept) (left_out_by (table_of lines) alphabet) lines excusal excused shown,
               (accepted.states, accepted.pairs, subst (Prints before after) says.1 prints),
             ),
           )),
@@ -380,16 +387,16 @@ module _ (before after : World) (same_file : MayBeSame) where
             ((λ done. let e = sym says.0 ∙ done in cc), (λ refuted. ((rest, subst (Prints before after) says.1 prints), subst (FilesAfter before.gives after.gives) says.2 files)))
       ]
   means (question.Search path out limit accept option) answer is files prints =
-      let (left_out, spelled, loads) = then_ok is in
+      let (alphabet, spelled, loads) = then_ok is in
       let (read, are, stays) = then_ok loads in
       let (apart, checks) = then_ok stays in
       let (passes, defines) = then_ok checks in
       let (defined, excuses) = then_ok defines in
       let (excusal, excused, (found, searched, says)) = then_ok excuses in
-      found_means path.now out.now (option_copied accept) (option_copied option) limit left_out spelled read.paths read.lines are passes apart excusal excused answer files prints found searched says
+      found_means path.now out.now (option_copied accept) option limit alphabet spelled read.paths read.lines are passes apart excusal excused answer files prints found searched says
   means (question.Clashes path limit first option pairs) answer is files prints =
       let accept = option_copied pairs.accept in
-      let (left_out, spelled, loads) = then_ok is in
+      let (alphabet, spelled, loads) = then_ok is in
       let (loaded, are, stays) = then_ok loads in
       let (apart, checks) = then_ok stays in
       let (passes, defines) = then_ok checks in
@@ -397,15 +404,16 @@ module _ (before after : World) (same_file : MayBeSame) where
       let (baseline, read, d) = then_ok reads in
       let lines = loaded.lines in
       let t = table_of lines in
-      let list = list_written path.now left_out pairs baseline loaded.paths lines limit first answer are passes read d in (
+      let left_out = left_out_by t alphabet in
+      let list = list_written path.now alphabet pairs baseline loaded.paths lines limit first answer are passes read d in (
         (λ done.
             let none = no_pair d.taken (outcome_of d.left) (sym d.status ∙ done) in
             let written = list (λ e. let u = sym none ∙ e in cc) files prints in
-            (left_out, spelled, (lines, d.accepted, written, at_accepted accept baseline pairs.prune left_out lines d.found d.accepted d.taken read d.accepts (only_accepted t left_out limit d.accepted d.found d.left d.are d.beside none)))),
+            (alphabet, spelled, (lines, d.accepted, written, at_accepted accept baseline pairs.prune left_out lines d.found d.accepted d.taken read d.accepts (only_accepted t left_out limit d.accepted d.found d.left d.are d.beside none)))),
         (λ refuted.
             let some = some_pair d.taken (outcome_of d.left) (sym d.status ∙ refuted) in
             let written = list (λ e. let u = sym some ∙ e in cc) files prints in (
-              (left_out, spelled, (lines, d.accepted, written, other_clash t left_out limit d.accepted d.found d.left d.are d.beside some)),
+              (alphabet, spelled, (lines, d.accepted, written, other_clash t left_out limit d.accepted d.found d.left d.are d.beside some)),
               keeps_others (written_path pairs) (is_written pairs.prune d.taken d.left) (written_text pairs.prune baseline t lines d.found d.left) written.written,
             )),
       )
@@ -418,8 +426,8 @@ module _ (before after : World) (same_file : MayBeSame) where
     | inr (l, r, none, says) ↦ says.2
   ]
 
-  judgement_has_none : (left_out : List ℕ) (accept : Option (List ℕ)) (excusal : Excusal) (t : TableView) (bytes : List ℕ) (answer : Answer) → IsJudgement left_out accept excusal t bytes answer → answer.files ≡ Nothing
-  judgement_has_none left_out accept excusal t bytes answer is = elim is [
+  judgement_has_none : (alphabet : AlphabetView) (accept : Option (List ℕ)) (excusal : Excusal) (t : TableView) (bytes : List ℕ) (answer : Answer) → IsJudgement alphabet accept excusal t bytes answer → answer.files ≡ Nothing
+  judgement_has_none alphabet accept excusal t bytes answer is = elim is [
     | inl (shown, (accepted, deserved, says)) ↦ says.2
     | inr (fault, of, refused, (rest, says)) ↦ says.2
   ]
@@ -460,21 +468,23 @@ module _ (before after : World) (same_file : MayBeSame) where
   keeps (question.Rules path numbers) (Ok answer) status lists (written, writes, e) =
       let (lines, at, (known, says)) = then_ok lists in
       none_changes before after answer written says.2 writes
-  keeps (question.Unused path limit) (Ok answer) status lists (written, writes, e) =
-      let (lines, at, (found, rules, says)) = then_ok lists in
+  keeps (question.Unused path limit option) (Ok answer) status lists (written, writes, e) =
+      let (alphabet, spelled, loads) = then_ok lists in
+      let (lines, at, there) = then_ok loads in
+      let (all, (found, rules, says)) = then_ok there in
       none_changes before after answer written says.2 writes
   keeps (question.Explain line) (Ok answer) status explains (written, writes, e) =
       let (text, is, (notes, seen, says)) = then_ok explains in
       none_changes before after answer written says.2 writes
   keeps (question.Check path cert accept option) (Ok answer) status is (written, writes, e) =
-      let (left_out, spelled, reads) = then_ok is.checks in
+      let (alphabet, spelled, reads) = then_ok is.checks in
       let (bytes, holds, loads) = then_ok reads in
       let (lines, at, defines) = then_ok loads in
       let (defined, excuses) = then_ok defines in
       let (excusal, excused, judged) = then_ok excuses in
-      none_changes before after answer written (judgement_has_none left_out (option_copied accept) excusal (table_of lines) bytes answer judged) writes
+      none_changes before after answer written (judgement_has_none alphabet (option_copied accept) excusal (table_of lines) bytes answer judged) writes
   keeps (question.Clashes path limit first option pairs) (Ok answer) status is (written, writes, e) =
-      let (left_out, spelled, loads) = then_ok is in
+      let (alphabet, spelled, loads) = then_ok is in
       let (loaded, are, stays) = then_ok loads in
       let (apart, checks) = then_ok stays in
       let (passes, defines) = then_ok checks in

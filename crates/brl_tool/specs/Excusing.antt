@@ -5,17 +5,18 @@ use Rattle.brl_accepted.specs.Counting.{but_for_line, pair_count}
 use Rattle.brl_accepted.specs.FaultText.{FaultView, fault_view}
 use Rattle.brl_accepted.specs.Reading.{excused_by, sets_named, stale_lines}
 use Rattle.brl_accepted.specs.declared.reading.Excusal.{Excusal}
-use Rattle.brl_answers.specs.Answers.{EndsAs, Provided, Then, with_left_out_line}
+use Rattle.brl_answers.specs.Answers.{Then, with_alphabet_line}
 use Rattle.brl_answers.specs.declared.answer.Answer.{Answer}
 use Rattle.brl_answers.specs.declared.run_fault.RunFault.{RunFault}
-use Rattle.brl_answers.specs.declared.run_fault.RunFault.TheVariants.{Accept, Load, Memory, NotDefined}
+use Rattle.brl_answers.specs.declared.run_fault.RunFault.TheVariants.{Accept, Load, Memory}
 use Rattle.brl_lines.specs.Answer.{FileAnswers, Holds, MayAnswer}
 use Rattle.brl_lines.specs.Tokens.{LineView}
 use Rattle.brl_pairs.specs.declared.excused.Excused.{Excused}
 use Rattle.brl_rules.specs.TableView.{TableView}
 use Rattle.brl_tool.specs.Baselines.{IsFaultOfText, names_of_table}
+use Rattle.brl_tool.specs.Alphabets.{IfAllThere}
+use Rattle.brl_without.specs.Alphabet.{AlphabetView}
 use Rattle.brl_without.specs.Scope.{IsNothing}
-use Rattle.brl_without.specs.Tables.{AreDefined, IsUndefined}
 
 -- the stale lines of a file at this path with this text, beside a table of these lines
 abbrev pub stale_of : TableView → List LineView → List ℕ → List ℕ → List FaultView
@@ -54,18 +55,18 @@ IsFaultOfExcusal gives path t lines fault = ⊥
 abbrev pub IsFaultOfExcuses : FileAnswers → Option (List ℕ) → TableView → List LineView → RunFault → Type 0
 IsFaultOfExcuses gives accept t lines fault = (path : List ℕ) × (accept ≡ Some path) × IsFaultOfExcusal gives path t lines fault
 
--- what is answered by what is excused of a table of these lines, once the table defines what is
--- left out, or why one of both isn't so
-abbrev pub ByExcusal : List ℕ → FileAnswers → Option (List ℕ) → TableView → List LineView → (Excusal → Result Answer RunFault → Type 0) → Result Answer RunFault → Type 0
-ByExcusal left_out gives accept t lines answers outcome =
-    Provided (AreDefined t left_out) (EndsAs NotDefined (IsUndefined t left_out))
-    (Then (Excuses gives accept t lines) (IsFaultOfExcuses gives accept t lines) answers) outcome
+-- what is answered by what is excused of a table of these lines, once the table has the characters
+-- of an alphabet, or why one of both isn't so
+abbrev pub ByExcusal : AlphabetView → FileAnswers → Option (List ℕ) → TableView → List LineView → (Excusal → Result Answer RunFault → Type 0) → Result Answer RunFault → Type 0
+ByExcusal alphabet gives accept t lines answers outcome =
+    IfAllThere t alphabet (Then (Excuses gives accept t lines) (IsFaultOfExcuses gives accept t lines) answers) outcome
 
 -- the line that says how much a file excuses
 abbrev pub excused_text : Excusal → List ℕ
 excused_text excusal = but_for_line (record { pairs = pair_count excusal.excused.accepted; sets = excusal.sets })
 
--- a line of an answer, that of what is excused where a file says it, and that of what is left out
-abbrev pub lines_with : List ℕ → Option (List ℕ) → Excusal → List ℕ → List ℕ
-lines_with left_out None excusal line = with_left_out_line left_out line
-lines_with left_out (Some path) excusal line = with_left_out_line left_out (line ++ excused_text excusal)
+-- a line of an answer, that of what is excused where a file says it, and that of the characters of
+-- which texts are made
+abbrev pub lines_with : AlphabetView → Option (List ℕ) → Excusal → List ℕ → List ℕ
+lines_with alphabet None excusal line = with_alphabet_line alphabet line
+lines_with alphabet (Some path) excusal line = with_alphabet_line alphabet (line ++ excused_text excusal)

@@ -12,6 +12,7 @@ pub mod Tracing
 pub mod Verdicts
 pub mod Notices
 pub mod Remarks
+pub mod Alphabets
 pub mod Baselines
 pub mod Diagnosing
 pub mod Excusing

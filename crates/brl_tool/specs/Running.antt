@@ -24,6 +24,7 @@ use Rattle.brl_clashes.specs.Sections.{are_whole}
 use Rattle.brl_clashes.specs.ListedPairs.{has_pair}
 use Rattle.brl_clashes.specs.declared.section.Section.{Section}
 use Rattle.brl_lines.specs.Tokens.{LineView}
+use Rattle.brl_tool.specs.Alphabets.{spelled_by}
 use Rattle.brl_tool.specs.Baselines.{IsBaseline, is_written, pruned_text, text_of_pairs, written_path, written_text}
 use Rattle.brl_tool.specs.ByLines.{shown_lines}
 use Rattle.brl_tool.specs.Comparing.{ComparesByWords}
@@ -32,7 +33,7 @@ use Rattle.brl_cut.specs.Cuts.{IsCut, IsReadAs, written_root}
 use Rattle.brl_tool.specs.Cutting.{CutsByFile, new_file_view}
 use Rattle.brl_tool.specs.Explaining.{Explains}
 use Rattle.brl_tool.specs.Listing.{ListsByFile}
-use Rattle.brl_answers.specs.Answers.{HasTextAndStatus, spelled_by}
+use Rattle.brl_answers.specs.Answers.{HasTextAndStatus, with_alphabet_line}
 use Rattle.brl_tool.specs.Verdicts.{ChecksAll, Searches, accepted_line, certified_line}
 use Rattle.brl_answers.specs.Delivery.{World, IsDelivered, KeepsFiles, Prints, PrintsNothing}
 use Rattle.brl_answers.specs.Files.{GivesAlso, IsGivenBy, MayBeSame, OthersStay}
@@ -45,7 +46,7 @@ use Rattle.brl_tool.specs.Suspects.{has_unknown_opcode}
 use Rattle.brl_table.specs.Survey.{faulty_line_view}
 use Rattle.brl_table.specs.declared.readable.Cut.{Cut}
 use Rattle.brl_tool.specs.Tracing.{TracesByWord}
-use Rattle.brl_tool.specs.Unused.{ListsUnusedByFile}
+use Rattle.brl_tool.specs.Unused.{ListsUnused}
 use Rattle.brl_tool.specs.Excusing.{Excuses, lines_with}
 use Rattle.brl_answers.specs.declared.answer.Answer.{Answer}
 use Rattle.brl_answers.specs.declared.new_files.NewFile.{NewFile}
@@ -54,6 +55,7 @@ use Rattle.brl_answers.specs.declared.status.Status.{Status}
 use Rattle.brl_answers.specs.declared.status.Status.TheVariants.{Done, Faulty, Refuted, Undecided}
 use Rattle.brl_failure.specs.declared.failure.Failure.{Failure}
 use Rattle.brl_failure.specs.declared.failure.Failure.TheVariants as failures
+use Rattle.brl_cli.specs.declared.command.AlphabetOption.{AlphabetOption}
 use Rattle.brl_cli.specs.declared.command.NotATask.{NotATask}
 use Rattle.brl_cli.specs.declared.command.NotATask.TheVariants as not_a_task
 use Rattle.brl_cli.specs.declared.command.PairFiles.{PairFiles}
@@ -63,6 +65,7 @@ use Rattle.brl_cli.specs.declared.command.Task.{Task}
 use Rattle.brl_cli.specs.declared.command.Work.{Work}
 use Rattle.brl_cli.specs.declared.command.Task.TheVariants as task
 use Rattle.brl_traces.specs.Traces.{ClashesDivergeAtWithout}
+use Rattle.brl_without.specs.Alphabet.{AlphabetView, left_out_by}
 use Rattle.brl_without.specs.Tables.{IsUnambiguousWithout}
 
 -- ---- What a question is answered
@@ -73,16 +76,16 @@ Answers (question.Clash path left right options) gives same outcome = ComparesBy
 Answers (question.Survey paths brief) gives same outcome = SurveysByFiles brief gives (map (λ path. path.now) paths.items) outcome
 Answers (question.Trace path text options) gives same outcome = TracesByWord options gives path.now text.now outcome
 Answers (question.Rules path numbers) gives same outcome = ListsByFile gives path.now numbers.items outcome
-Answers (question.Unused path limit) gives same outcome = ListsUnusedByFile gives path.now limit outcome
+Answers (question.Unused path limit option) gives same outcome = ListsUnused option gives path.now limit outcome
 Answers (question.Slips path columns) gives same outcome = ListsSlips gives path.now outcome
 Answers (question.Explain line) gives same outcome = Explains gives line.now outcome
 Answers (question.Cut path dir rewrite) gives same outcome = CutsByFile rewrite gives path.now dir.now outcome
 Answers (question.Check path cert accept option) gives same outcome =
-    ChecksAll gives path.now cert.now (option_copied accept) (option_copied option) outcome
+    ChecksAll gives path.now cert.now (option_copied accept) option outcome
 Answers (question.Search path out limit accept option) gives same outcome =
-    Searches gives same path.now out.now (option_copied accept) limit (option_copied option) outcome
+    Searches gives same path.now out.now (option_copied accept) limit option outcome
 Answers (question.Clashes path limit first option pairs) gives same outcome =
-    Diagnoses (option_copied option) gives same path.now limit first pairs outcome
+    Diagnoses option gives same path.now limit first pairs outcome
 
 -- ---- What the status says of a question
 
@@ -100,11 +103,11 @@ IsShownBut (Some path) left_out excusal t = IsShown left_out excusal.excused t
 
 -- an acceptance was written, which says what is left out and what is excused, and this is shown of
 -- the table of the file at the path
-abbrev pub ReportsAcceptance : World → World → List ℕ → Option (List ℕ) → Option (List ℕ) → Type 0
+abbrev pub ReportsAcceptance : World → World → List ℕ → Option (List ℕ) → AlphabetOption → Type 0
 ReportsAcceptance before after path accept option =
-    (left_out : List ℕ) × (spelled_by option ≡ Ok left_out)
-    × ((lines : List LineView) × (excusal : Excusal) × IsExcusalOf before path accept lines excusal × IsShownBut accept left_out excusal (table_of lines)
-    × ((states pairs : ℕ) × Prints before after (lines_with left_out accept excusal (accepted_line states pairs))))
+    (alphabet : AlphabetView) × (spelled_by option ≡ Some alphabet)
+    × ((lines : List LineView) × (excusal : Excusal) × IsExcusalOf before path accept lines excusal × IsShownBut accept (left_out_by (table_of lines) alphabet) excusal (table_of lines)
+    × ((states pairs : ℕ) × Prints before after (lines_with alphabet accept excusal (accepted_line states pairs))))
 
 -- the refusal of a certificate was written
 abbrev pub ReportsRefusal : World → World → Type 0
@@ -128,7 +131,7 @@ WritesFile before after (Some path) true content = GivesAlso after.gives path co
 -- The text of a list of clashes of the table of these lines, which are those of the file at a path,
 -- was written, beside the pairs that a file accepts; the list is whole. The pairs of rules of the
 -- list were written, or stale lines taken out of that file, where that is asked for.
-pub record WritesList (before after : World) (path left_out : List ℕ) (pairs : PairFiles) (lines : List LineView) (accepted : List (ℕ × ℕ)) : Type 0 where
+pub record WritesList (before after : World) (path : List ℕ) (alphabet : AlphabetView) (pairs : PairFiles) (lines : List LineView) (accepted : List (ℕ × ℕ)) : Type 0 where
   pub lines_are : AreLinesOf before.gives path lines
   pub passes : PassesAll lines
   pub limit : ℕ
@@ -136,7 +139,7 @@ pub record WritesList (before after : World) (path left_out : List ℕ) (pairs :
   pub baseline : Option (List ℕ)
   pub read : IsBaseline before.gives (option_copied pairs.accept) baseline
   pub answer : Answer
-  pub is : IsDiagnosis left_out (table_of lines) lines limit first baseline pairs answer
+  pub is : IsDiagnosis alphabet (table_of lines) lines limit first baseline pairs answer
   pub accepted_are : accepted ≡ is.accepted
   pub whole : IsTrue (are_whole is.left)
   pub prints : Prints before after (string_bytes answer.text)
@@ -144,15 +147,15 @@ pub record WritesList (before after : World) (path left_out : List ℕ) (pairs :
 
 -- a list of clashes was written of the table of the file at the path, by which two texts clash that
 -- use none of what the option leaves out; they diverge at a pair of rules that isn't accepted
-abbrev pub ReportsOther : World → World → List ℕ → Option (List ℕ) → PairFiles → Type 0
+abbrev pub ReportsOther : World → World → List ℕ → AlphabetOption → PairFiles → Type 0
 ReportsOther before after path option pairs =
-    (left_out : List ℕ) × (spelled_by option ≡ Ok left_out)
-    × ((lines : List LineView) × (accepted : List (ℕ × ℕ)) × WritesList before after path left_out pairs lines accepted
-    × ((r s : ℕ) × ClashesDiverge left_out (table_of lines) r s × (has_pair accepted (r, s) ≡ false)))
+    (alphabet : AlphabetView) × (spelled_by option ≡ Some alphabet)
+    × ((lines : List LineView) × (accepted : List (ℕ × ℕ)) × WritesList before after path alphabet pairs lines accepted
+    × ((r s : ℕ) × ClashesDiverge (left_out_by (table_of lines) alphabet) (table_of lines) r s × (has_pair accepted (r, s) ≡ false)))
 
 -- another pair of rules of the table of the file at some path was listed, with some options
 abbrev pub ReportsClashes : World → World → Type 0
-ReportsClashes before after = (path : List ℕ) × (option : Option (List ℕ)) × (pairs : PairFiles) × ReportsOther before after path option pairs
+ReportsClashes before after = (path : List ℕ) × (option : AlphabetOption) × (pairs : PairFiles) × ReportsOther before after path option pairs
 
 -- what no other clashes mean: no texts clash; or, where pairs are accepted, texts that clash
 -- diverge at these
@@ -163,35 +166,38 @@ ClashAtAccepted (Some path) left_out accepted t = ClashesDivergeAtWithout left_o
 -- a list of no clashes was written, and by the table of the file at the path no texts clash that
 -- use none of what the option leaves out, but at pairs of rules that the file of accepted pairs
 -- names
-abbrev pub ReportsNoOther : World → World → List ℕ → Option (List ℕ) → PairFiles → Type 0
+abbrev pub ReportsNoOther : World → World → List ℕ → AlphabetOption → PairFiles → Type 0
 ReportsNoOther before after path option pairs =
-    (left_out : List ℕ) × (spelled_by option ≡ Ok left_out)
-    × ((lines : List LineView) × (accepted : List (ℕ × ℕ)) × WritesList before after path left_out pairs lines accepted
-    × ClashAtAccepted (option_copied pairs.accept) left_out accepted (table_of lines))
+    (alphabet : AlphabetView) × (spelled_by option ≡ Some alphabet)
+    × ((lines : List LineView) × (accepted : List (ℕ × ℕ)) × WritesList before after path alphabet pairs lines accepted
+    × ClashAtAccepted (option_copied pairs.accept) (left_out_by (table_of lines) alphabet) accepted (table_of lines))
 
--- the list of the rules that no text uses was written, of the table of the file at some path
+-- the list of the rules that no text uses was written, of the table of the file at some path, for
+-- texts made of the characters of some alphabet
 abbrev pub ReportsUnused : World → World → Type 0
 ReportsUnused before after =
-    (path : List ℕ) × (t : TableView) × IsTableOf before.gives path t
-    × ((lines : List LineView) × (numbers : List ℕ) × (numbers ≢ []) × AreUnused t numbers × Prints before after (unused_text t lines numbers))
+    (path : List ℕ) × (alphabet : AlphabetView) × (t : TableView) × IsTableOf before.gives path t
+    × ((lines : List LineView) × (numbers : List ℕ) × (numbers ≢ []) × AreUnused (left_out_by t alphabet) t numbers
+    × Prints before after (with_alphabet_line alphabet (unused_text t lines numbers)))
 
 -- a list of no rules was written, and each rule of the table of the file at the path is used by
--- some text
-abbrev pub ReportsNoUnused : World → World → List ℕ → Type 0
-ReportsNoUnused before after path =
-    (t : TableView) × IsTableOf before.gives path t × ((number : ℕ) → IsRule t number → IsUsed t number)
-    × ((lines : List LineView) × Prints before after (unused_text t lines []))
+-- some text of the characters of which the option says that texts are made
+abbrev pub ReportsNoUnused : World → World → List ℕ → AlphabetOption → Type 0
+ReportsNoUnused before after path option =
+    (alphabet : AlphabetView) × (spelled_by option ≡ Some alphabet)
+    × ((t : TableView) × IsTableOf before.gives path t × ((number : ℕ) → IsRule t number → IsUsed (left_out_by t alphabet) t number)
+    × ((lines : List LineView) × Prints before after (with_alphabet_line alphabet (unused_text t lines []))))
 
 -- a certificate was written that a judge accepts for the table of the file at the path, and what it
 -- shows holds of that table, both without what the option leaves out and but for what is excused;
 -- no other file changed
-abbrev pub ReportsCertificate : World → World → List ℕ → List ℕ → Option (List ℕ) → Option (List ℕ) → Type 0
+abbrev pub ReportsCertificate : World → World → List ℕ → List ℕ → Option (List ℕ) → AlphabetOption → Type 0
 ReportsCertificate before after path out accept option =
-    (left_out : List ℕ) × (spelled_by option ≡ Ok left_out)
-    × ((lines : List LineView) × (excusal : Excusal) × IsExcusalOf before path accept lines excusal × IsShownBut accept left_out excusal (table_of lines)
-    × ((body : BodyView State) × IsAcceptedUpTo left_out excusal.excused (table_of lines) (spelling (certificate_of body)) (counted (certificate_of body))
+    (alphabet : AlphabetView) × (spelled_by option ≡ Some alphabet)
+    × ((lines : List LineView) × (excusal : Excusal) × IsExcusalOf before path accept lines excusal × IsShownBut accept (left_out_by (table_of lines) alphabet) excusal (table_of lines)
+    × ((body : BodyView State) × IsAcceptedUpTo (left_out_by (table_of lines) alphabet) excusal.excused (table_of lines) (spelling (certificate_of body)) (counted (certificate_of body))
     × GivesAlso after.gives out (spelling (certificate_of body)) × OthersStay before.gives after.gives out × IsTableOf after.gives path (table_of lines)
-    × Prints before after (lines_with left_out accept excusal (certified_line (certificate_of body)))))
+    × Prints before after (lines_with alphabet accept excusal (certified_line (certificate_of body)))))
 
 -- new files were written, and no other file changed; these files define a table whose root is the
 -- file at the path, written into the folder
@@ -223,12 +229,12 @@ ReportsSlips before after = (path : List ℕ) × HasSlips before.gives path × (
 
 -- what it means that the work was done
 abbrev pub MeansDone : Question → World → World → Type 0
-MeansDone (question.Check path cert accept option) before after = ReportsAcceptance before after path.now (option_copied accept) (option_copied option)
+MeansDone (question.Check path cert accept option) before after = ReportsAcceptance before after path.now (option_copied accept) option
 MeansDone (question.Search path out limit accept option) before after =
-    ReportsCertificate before after path.now out.now (option_copied accept) (option_copied option)
+    ReportsCertificate before after path.now out.now (option_copied accept) option
 MeansDone (question.Clashes path limit first option pairs) before after =
-    ReportsNoOther before after path.now (option_copied option) pairs
-MeansDone (question.Unused path limit) before after = ReportsNoUnused before after path.now
+    ReportsNoOther before after path.now option pairs
+MeansDone (question.Unused path limit option) before after = ReportsNoUnused before after path.now option
 MeansDone (question.Cut path dir rewrite) before after = WritesTable before after path.now dir.now
 MeansDone asked before after = Unit {0}
 
@@ -239,8 +245,8 @@ MeansRefuted (question.Clash path left right options) before after = ReportsClas
 MeansRefuted (question.Check path cert accept option) before after = ReportsRefusal before after
 MeansRefuted (question.Search path out limit accept option) before after = ReportsClash before after
 MeansRefuted (question.Clashes path limit first option pairs) before after =
-    ReportsOther before after path.now (option_copied option) pairs
-MeansRefuted (question.Unused path limit) before after = ReportsUnused before after
+    ReportsOther before after path.now option pairs
+MeansRefuted (question.Unused path limit option) before after = ReportsUnused before after
 MeansRefuted (question.Survey paths brief) before after = ReportsSuspect before after
 MeansRefuted (question.Slips path columns) before after = ReportsSlips before after
 MeansRefuted (question.Cut path dir rewrite) before after = CutsUnknown before after path.now dir.now rewrite

@@ -5,20 +5,23 @@ ghost use Rattle.std.specs.Option.{option_copied};
 ghost use Rattle.brl_answers.specs.Answers.{UnlessMemory, load_outcome};
 ghost use Rattle.brl_tool.specs.Excusing.{ByExcusal};
 ghost use Rattle.brl_tool.specs.Verdicts.{AcceptsGood, Checks, IsAcceptance, IsRefusal, Judges, JudgesFile, RendersFailure};
+ghost use Rattle.brl_without.specs.Alphabet.{alphabet_view, left_out_by};
 ghost use Rattle.brl_without.specs.Tables.{AreDefined};
 
+use crate::alphabet::alphabet_of;
 use crate::excusing::{ButFor, excusal_by, lines_with};
 use crate::file_text::bytes_at;
 use crate::loaded_table::{LoadedTable, table_at};
 use brl_accept::{JudgeFault, judge_table};
-use brl_answers::{Answer, RunFault, Status, counts_text, left_out_of};
+use brl_answers::{Answer, RunFault, Status, counts_text};
+use brl_cli::AlphabetOption;
 use brl_closure::Accepted;
 use brl_failure::Failure;
 use brl_lines::Source;
 use brl_progress::Progress;
 use brl_rules::Table;
 use brl_table::one_table_law;
-use brl_without::{LeftOut, Scope, check_defined};
+use brl_without::{Alphabet, Scope, Undefined};
 use std::alloc::Global;
 use std::fmt::Display;
 
@@ -31,43 +34,43 @@ pub struct CheckedFiles<'a> {
     pub accept: Option<&'a str>,
 }
 
-/// Judges the certificate in a file for the table of another, without the characters that the
-/// option leaves out, but for what a third one excuses: the pairs of rules that it names are
-/// accepted, and the steps of characters of its sets may be exchanged. The option is parsed first,
-/// the certificate's file is read before the table's, and that of what is excused once the table
-/// defines what is left out. The answer is the lines of an acceptance or the line of a refusal.
-/// Progress is reported state by state.
+/// Judges the certificate in a file for the table of another, for texts of the characters of which
+/// the option says that they are made, but for what a third one excuses: the pairs of rules that it
+/// names are accepted, and the steps of characters of its sets may be exchanged. The option is
+/// parsed first, the certificate's file is read before the table's, and that of what is excused
+/// once the table has these characters. The answer is the lines of an acceptance or the line of a
+/// refusal. Progress is reported state by state.
 pub fn check_by_words<S: Source, W: Progress>(
     alloc: Global,
     source: &mut S,
     paths: CheckedFiles<'_>,
-    without: Option<&str>,
+    option: AlphabetOption<'_>,
     progress: &mut W,
 ) -> Result<Answer, RunFault>
-    ensures checks { Checks (S.gives source.old) paths.entry.table.now paths.entry.cert.now (option_copied paths.entry.accept) (option_copied without.entry) result }
-    ensures accepts { AcceptsGood (S.gives source.old) paths.entry.table.now paths.entry.cert.now (option_copied paths.entry.accept) (option_copied without.entry) result }
+    ensures checks { Checks (S.gives source.old) paths.entry.table.now paths.entry.cert.now (option_copied paths.entry.accept) option.entry result }
+    ensures accepts { AcceptsGood (S.gives source.old) paths.entry.table.now paths.entry.cert.now (option_copied paths.entry.accept) option.entry result }
     ensures count { CountsFailure (S.faults source.old) (S.faults source.new) (load_outcome result) }
     ensures same { S.gives source.new ≡ S.gives source.old }
 {
     one_table_law(&*source);
-    check_files(alloc, source, paths, without, progress)
+    check_files(alloc, source, paths, option, progress)
 }
 
-/// Reads what is left out and the certificate, and judges it.
+/// Reads the option and the certificate, and judges it.
 fn check_files<S: Source, W: Progress>(
     alloc: Global,
     source: &mut S,
     paths: CheckedFiles<'_>,
-    without: Option<&str>,
+    option: AlphabetOption<'_>,
     progress: &mut W,
 ) -> Result<Answer, RunFault>
-    ensures checks { Checks (S.gives source.old) paths.entry.table.now paths.entry.cert.now (option_copied paths.entry.accept) (option_copied without.entry) result }
+    ensures checks { Checks (S.gives source.old) paths.entry.table.now paths.entry.cert.now (option_copied paths.entry.accept) option.entry result }
     ensures count { CountsFailure (S.faults source.old) (S.faults source.new) (load_outcome result) }
     ensures same { S.gives source.new ≡ S.gives source.old }
 {
-    let left_out = left_out_of(alloc, without)?;
+    let alphabet = alphabet_of(alloc, option)?;
     let bytes = bytes_at(alloc, source, paths.cert)?;
-    check_bytes(alloc, source, paths, bytes.as_slice(), &left_out, progress)
+    check_bytes(alloc, source, paths, bytes.as_slice(), &alphabet, progress)
 }
 
 /// Judges a certificate with these bytes for the table of a file.
@@ -76,10 +79,10 @@ fn check_bytes<S: Source, W: Progress>(
     source: &mut S,
     paths: CheckedFiles<'_>,
     bytes: &[u8],
-    left_out: &LeftOut,
+    alphabet: &Alphabet,
     progress: &mut W,
 ) -> Result<Answer, RunFault>
-    ensures judges { JudgesFile left_out.now (S.gives source.old) paths.entry.table.now (option_copied paths.entry.accept) bytes.now result }
+    ensures judges { JudgesFile (alphabet_view alphabet.now) (S.gives source.old) paths.entry.table.now (option_copied paths.entry.accept) bytes.now result }
     ensures count { CountsFailure (S.faults source.old) (S.faults source.new) (load_outcome result) }
     ensures same { S.gives source.new ≡ S.gives source.old }
 {
@@ -90,7 +93,7 @@ fn check_bytes<S: Source, W: Progress>(
         &loaded,
         paths.accept,
         bytes,
-        left_out,
+        alphabet,
         progress,
     )
 }
@@ -102,18 +105,19 @@ fn check_loaded<S: Source, W: Progress>(
     loaded: &LoadedTable,
     accept: Option<&str>,
     bytes: &[u8],
-    left_out: &LeftOut,
+    alphabet: &Alphabet,
     progress: &mut W,
 ) -> Result<Answer, RunFault>
-    ensures judges { ByExcusal left_out.now (S.gives source.old) (option_copied accept.entry) loaded.now.table loaded.now.files.lines
-        (Judges left_out.now (option_copied accept.entry) loaded.now.table bytes.now) result }
+    ensures judges { ByExcusal (alphabet_view alphabet.now) (S.gives source.old) (option_copied accept.entry) loaded.now.table loaded.now.files.lines
+        (Judges (alphabet_view alphabet.now) (option_copied accept.entry) loaded.now.table bytes.now) result }
     ensures count { CountsFailure (S.faults source.old) (S.faults source.new) (load_outcome result) }
     ensures same { S.gives source.new ≡ S.gives source.old }
 {
-    check_defined(alloc, &loaded.table, left_out)?;
+    let left_out = alphabet.left_out(alloc, &loaded.table)?;
     let excusal = excusal_by(alloc, source, loaded, accept)?;
     let but_for = ButFor {
-        left_out,
+        alphabet,
+        left_out: &left_out,
         accept,
         excusal: &excusal,
     };
@@ -128,8 +132,9 @@ fn judgement<W: Progress>(
     but_for: ButFor<'_>,
     progress: &mut W,
 ) -> Result<Answer, RunFault>
-    requires { AreDefined table.now but_for.left_out.now }
-    ensures { Judges but_for.entry.left_out.now (option_copied but_for.entry.accept) table.now bytes.now but_for.entry.excusal.now result }
+    requires defined { AreDefined table.now (left_out_by table.now (alphabet_view but_for.alphabet.now)) }
+    requires left_out { but_for.left_out.now ≡ left_out_by table.now (alphabet_view but_for.alphabet.now) }
+    ensures { Judges (alphabet_view but_for.entry.alphabet.now) (option_copied but_for.entry.accept) table.now bytes.now but_for.entry.excusal.now result }
 {
     let scope = Scope {
         left_out: but_for.left_out,
@@ -149,7 +154,9 @@ fn answer_failure(alloc: Global, failure: Failure<JudgeFault>) -> Result<Answer,
 {
     match failure {
         Failure::Fault(JudgeFault::NoTable(fault)) => Err(Failure::Fault(fault).into()),
-        Failure::Fault(JudgeFault::NotDefined(fault)) => Err(RunFault::NotDefined(fault)),
+        Failure::Fault(JudgeFault::NotDefined(fault)) => Err(RunFault::NotDefined(
+            Undefined::LeftOut(fault),
+        )),
         Failure::Fault(JudgeFault::Cert(fault)) => refusal(alloc, &fault),
         Failure::Fault(JudgeFault::OldVersion) => refusal(alloc, &JudgeFault::OldVersion),
         Failure::Fault(JudgeFault::Wide(fault)) => Err(RunFault::Wide(fault)),
@@ -160,7 +167,7 @@ fn answer_failure(alloc: Global, failure: Failure<JudgeFault>) -> Result<Answer,
 
 /// The answer where a certificate is accepted.
 fn acceptance(alloc: Global, but_for: ButFor<'_>, accepted: Accepted) -> Result<Answer, RunFault>
-    ensures { UnlessMemory (IsAcceptance but_for.entry.left_out.now (option_copied but_for.entry.accept) but_for.entry.excusal.now accepted) result }
+    ensures { UnlessMemory (IsAcceptance (alphabet_view but_for.entry.alphabet.now) (option_copied but_for.entry.accept) but_for.entry.excusal.now accepted) result }
 {
     let states = u64::from(accepted.states);
     let pairs = u64::from(accepted.pairs);

@@ -5,82 +5,87 @@ ghost use Rattle.brl_lines.specs.Outcome.{CountsFailure};
 ghost use Rattle.brl_lines.specs.Views.{line_view};
 ghost use Rattle.brl_answers.specs.Answers.{UnlessMemory, load_outcome};
 ghost use Rattle.brl_clashes.specs.Sections.{AreSections};
+ghost use Rattle.brl_without.specs.Alphabet.{alphabet_view, left_out_by};
 ghost use Rattle.brl_tool.specs.Baselines.{AreExcused, leaves_stale as stale_stay, pruned_text};
 ghost use Rattle.brl_tool.specs.Diagnosing.{ByBaseline, Diagnoses, IsDiagnosis, status_of_sections};
 
+use crate::alphabet::alphabet_of;
 use crate::baselines::{Baseline, Exempt, excused_pairs, file_of_pairs, refuse_file_that_is_read};
 use crate::file_text::text_at;
 use crate::loaded_table::LoadedTable;
 use crate::notices::write_if_without_characters;
 use brl_accepted::StaleLines;
-use brl_answers::{Answer, Files, RunFault, Status, left_out_of};
+use brl_answers::{Answer, Files, RunFault, Status};
 use brl_clashes::{
     Extent, Outcome, Section, Taken, list_sections, outcome_of, sections_text, without_accepted,
 };
-use brl_cli::PairFiles;
+use brl_cli::{AlphabetOption, PairFiles};
 use brl_lines::{Line, load};
 use brl_progress::Progress;
 use brl_rules::Table;
-use brl_without::{LeftOut, check_defined};
+use brl_without::{Alphabet, LeftOut};
 use std::alloc::{AllocError, Global};
 use std::io::Write;
 
 /// What a list of clashes is asked for: the path of the table's file, how many states, pairs and
-/// pairs of rules a section may find, how many clashes of it are shown, where 0 means all, the word
-/// for the characters that are left out, and the files of pairs of rules.
+/// pairs of rules a section may find, how many clashes of it are shown, where 0 means all, the
+/// option of the characters of which texts are made, and the files of pairs of rules.
 #[derive(Clone, Copy)]
 pub struct ListedClashes<'a> {
     pub table: &'a str,
     pub limit: u32,
     pub first: u32,
-    pub without: Option<&'a str>,
+    pub option: AlphabetOption<'a>,
     pub pairs: PairFiles<'a>,
 }
 
-/// What is listed of the clashes of a table that is loaded.
+/// What is listed of the clashes of a table that is loaded: `left_out` is what the alphabet leaves
+/// out of it.
 #[derive(Clone, Copy)]
 struct Wanted<'a> {
     limit: u32,
     first: u32,
+    alphabet: &'a Alphabet,
     left_out: &'a LeftOut,
     pairs: PairFiles<'a>,
 }
 
 /// Lists the pairs of rules of the table whose file is at a path at which clashing texts diverge,
-/// without the characters that the option leaves out. What it spells is read first. The pairs that
+/// for texts of the characters of which the option says that they are made. It is read first. The
+/// pairs that
 /// the file at `pairs.accept` names are left out, and those that are left go to the file at
 /// `pairs.write`, unless there may be others. Its stale lines name none; with `pairs.prune` they
 /// are taken out of it. Standard error gets these lines, and reports of progress.
 /// `PairsWouldOverwrite` where the file that is written is one of the table's, or that of the
-/// accepted pairs and not its own; `NotDefined` where the table doesn't define a character that is
-/// left out.
+/// accepted pairs and not its own; `NotDefined` where the table lacks characters of the option.
 pub fn list_clashes_by_words<F: Files, E: Write + Progress>(
     alloc: Global,
     files: &mut F,
     asked: ListedClashes<'_>,
     err: &mut E,
 ) -> Result<Answer, RunFault>
-    ensures diagnoses { Diagnoses (option_copied asked.entry.without) (F.gives files.old) F.same_file asked.entry.table.now asked.entry.limit asked.entry.first
+    ensures diagnoses { Diagnoses asked.entry.option (F.gives files.old) F.same_file asked.entry.table.now asked.entry.limit asked.entry.first
         asked.entry.pairs result }
     ensures count { CountsFailure (F.faults files.old) (F.faults files.new) (load_outcome result) }
     ensures same { F.gives files.new ≡ F.gives files.old }
 {
-    let left_out = left_out_of(alloc, asked.without)?;
+    let alphabet = alphabet_of(alloc, asked.option)?;
     let read = load(alloc, files, asked.table)?;
     refuse_file_that_is_read(alloc, files, &read, asked.pairs)?;
     let loaded = LoadedTable::of(alloc, read)?;
-    check_defined(alloc, &loaded.table, &left_out)?;
+    let left_out = alphabet.left_out(alloc, &loaded.table)?;
     let wanted = Wanted {
         limit: asked.limit,
         first: asked.first,
+        alphabet: &alphabet,
         left_out: &left_out,
         pairs: asked.pairs,
     };
     list_clashes(alloc, files, &loaded, wanted, err)
 }
 
-/// Lists the clashes of a table that defines what is left out. The file of accepted pairs is read
-/// before the work.
+/// Lists the clashes of a table that has the characters of the alphabet. The file of accepted pairs
+/// is read before the work.
 fn list_clashes<F: Files, E: Write + Progress>(
     alloc: Global,
     files: &mut F,
@@ -88,8 +93,9 @@ fn list_clashes<F: Files, E: Write + Progress>(
     wanted: Wanted<'_>,
     err: &mut E,
 ) -> Result<Answer, RunFault>
+    requires { wanted.left_out.now ≡ left_out_by loaded.now.table (alphabet_view wanted.alphabet.now) }
     ensures diagnoses { ByBaseline (F.gives files.old) (option_copied wanted.entry.pairs.accept)
-        (λ baseline. UnlessMemory (IsDiagnosis wanted.entry.left_out.now loaded.now.table loaded.now.files.lines wanted.entry.limit wanted.entry.first
+        (λ baseline. UnlessMemory (IsDiagnosis (alphabet_view wanted.entry.alphabet.now) loaded.now.table loaded.now.files.lines wanted.entry.limit wanted.entry.first
         baseline wanted.entry.pairs)) result }
     ensures count { CountsFailure (F.faults files.old) (F.faults files.new) (load_outcome result) }
     ensures same { F.gives files.new ≡ F.gives files.old }
@@ -114,7 +120,8 @@ fn diagnosis<E: Write + Progress>(
     baseline: Option<Baseline<'_>>,
     err: &mut E,
 ) -> Result<Answer, AllocError>
-    ensures { IfOk result (IsDiagnosis wanted.entry.left_out.now loaded.now.table loaded.now.files.lines wanted.entry.limit wanted.entry.first
+    requires { wanted.left_out.now ≡ left_out_by loaded.now.table (alphabet_view wanted.alphabet.now) }
+    ensures { IfOk result (IsDiagnosis (alphabet_view wanted.entry.alphabet.now) loaded.now.table loaded.now.files.lines wanted.entry.limit wanted.entry.first
         (option_map (λ file. file.text.now) baseline.entry) wanted.entry.pairs) }
 {
     let table = &loaded.table;
@@ -146,16 +153,18 @@ fn answer_beside(
     exempt: &Exempt,
     sections: Vec<Section>,
 ) -> Result<Answer, AllocError>
-    requires sections { AreSections table.now wanted.left_out.now wanted.limit sections.items }
+    requires left_out { wanted.left_out.now ≡ left_out_by table.now (alphabet_view wanted.alphabet.now) }
+    requires sections { AreSections table.now (left_out_by table.now (alphabet_view wanted.alphabet.now)) wanted.limit sections.items }
     requires excused { AreExcused (option_map (λ file. file.text.now) baseline) wanted.pairs.prune table.now (map line_view lines.now) sections.items exempt.now.pairs.items exempt.now.taken }
     requires kept { string_bytes exempt.now.kept ≡ pruned_text (option_map (λ file. file.text.now) baseline) table.now (map line_view lines.now) sections.items }
-    ensures { IfOk result (IsDiagnosis wanted.entry.left_out.now table.now (map line_view lines.now) wanted.entry.limit wanted.entry.first
+    ensures { IfOk result (IsDiagnosis (alphabet_view wanted.entry.alphabet.now) table.now (map line_view lines.now) wanted.entry.limit wanted.entry.first
         (option_map (λ file. file.text.now) baseline.entry) wanted.entry.pairs) }
 {
     let left = without_accepted(alloc, exempt.pairs.as_slice(), sections)?;
     let status = status_of(exempt.taken, outcome_of(left.as_slice()));
     let files = file_of_pairs(alloc, table, lines, exempt, left.as_slice(), wanted.pairs)?;
     let shown = Extent {
+        alphabet: wanted.alphabet,
         left_out: wanted.left_out,
         first: wanted.first as usize,
         accepted: exempt.taken,

@@ -7,23 +7,26 @@ ghost use Rattle.brl_lines.specs.Outcome.{CountsFailure};
 ghost use Rattle.brl_lines.specs.Views.{line_view};
 ghost use Rattle.brl_tool.specs.Baselines.{names_of_table};
 ghost use Rattle.brl_tool.specs.Excusing.{Excuses, IsExcusedAt, IsFaultOfExcusal, IsFaultOfExcuses, IsFaultOfLines, excused_text, lines_with as whole_lines, stale_of};
+ghost use Rattle.brl_without.specs.Alphabet.{alphabet_view};
 ghost use Rattle.brl_without.specs.Scope.{IsNothing};
 
 use crate::file_text::text_at;
 use crate::loaded_table::LoadedTable;
 use brl_accepted::{Counts, Excusal, Nameable, StaleLines, but_for_line, pair_count, read_excusal};
-use brl_answers::{RunFault, with_left_out_line};
+use brl_answers::{RunFault, with_alphabet_line};
 use brl_clashes::character_sets;
 use brl_lines::{Line, Source};
 use brl_pairs::Excused;
 use brl_rules::Table;
-use brl_without::LeftOut;
+use brl_without::{Alphabet, LeftOut};
 use std::alloc::{AllocError, Global};
 
-/// What an answer doesn't speak of.
+/// Of which texts an answer speaks, and what it doesn't speak of.
 #[derive(Clone, Copy)]
 pub struct ButFor<'a> {
-    /// The characters that are left out.
+    /// The characters of which the texts are made.
+    pub alphabet: &'a Alphabet,
+    /// The characters of the table that are left out of these.
     pub left_out: &'a LeftOut,
     /// The path of the file that says what is excused, where there is one.
     pub accept: Option<&'a str>,
@@ -102,17 +105,18 @@ fn excusal_of(
     Ok(excusal)
 }
 
-/// A line of an answer, that of what is excused where a file says it, and that of what is left out.
+/// A line of an answer, that of what is excused where a file says it, and that of the characters of
+/// which texts are made.
 pub fn lines_with(alloc: Global, line: String, but_for: ButFor<'_>) -> Result<String, AllocError>
     ensures { IfOk result (λ text. string_bytes text
-        ≡ whole_lines but_for.entry.left_out.now (option_copied but_for.entry.accept) but_for.entry.excusal.now (string_bytes line)) }
+        ≡ whole_lines (alphabet_view but_for.entry.alphabet.now) (option_copied but_for.entry.accept) but_for.entry.excusal.now (string_bytes line)) }
 {
     let mut text = line;
     if but_for.accept.is_some() {
         let excused = excused_line(alloc, but_for.excusal)?;
         text.push_str(excused.as_str())?;
     }
-    with_left_out_line(alloc, text, but_for.left_out)
+    with_alphabet_line(alloc, text, but_for.alphabet)
 }
 
 /// The line that says how much a file excuses.

@@ -1,18 +1,20 @@
 //! `run`, the program over any files and streams.
 //!
-//! `program` has what each command's words lead to. `translate`, `clash`, `trace`, `rules`,
-//! `survey` and `cut` do the work of these commands by the files of a table, `search`, `clashes`,
-//! `unused` and `check` that of theirs, `slips` lists rules that look like typing errors, and
-//! `explain` has what a fault means. `loaded_table` has the table of a file with its lines,
-//! `notices` writes the notices of a table that is searched or surveyed, `remarks` the rules that
-//! are there again, `suspects` has what a survey or a cut finds that was hardly meant so, and
-//! `certificate` has the answer with a certificate that was found. `baselines` has the files of
-//! pairs of rules that `clashes` reads and writes, `excusing` what such a file excuses of a `check`
-//! or a `search`. Every command but `translate` gives an `Answer` (brl_answers).
+//! `alphabet` reads of which characters texts are made. `program` has what each command's words
+//! lead to. `translate`, `clash`, `trace`, `rules`, `survey` and `cut` do the work of these
+//! commands by the files of a table, `search`, `clashes`, `unused` and `check` that of theirs,
+//! `slips` lists rules that look like typing errors, and `explain` has what a fault means.
+//! `loaded_table` has the table of a file with its lines, `notices` writes the notices of a table
+//! that is searched or surveyed, `remarks` the rules that are there again, `suspects` has what a
+//! survey or a cut finds that was hardly meant so, and `certificate` has the answer with a
+//! certificate that was found. `baselines` has the files of pairs of rules that `clashes` reads and
+//! writes, `excusing` what such a file excuses of a `check` or a `search`. Every command but
+//! `translate` gives an `Answer` (brl_answers).
 //!
 //! Room 5, the program (docs/dev/ARCHITECTURE.md). The definitions begin in `specs/Running.antt`.
 #![tactic(auto)]
 
+mod alphabet;
 mod baselines;
 mod certificate;
 mod check;
@@ -54,4 +56,4 @@ pub use slips::list_slips_by_file;
 pub use survey::survey_by_files;
 pub use trace::trace_by_word;
 pub use translate::{Translation, translate_by_file};
-pub use unused::list_unused_by_file;
+pub use unused::list_unused_by_words;

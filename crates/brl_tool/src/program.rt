@@ -14,7 +14,7 @@ use crate::slips::list_slips_by_file;
 use crate::survey::survey_by_files;
 use crate::trace::trace_by_word;
 use crate::translate::{Translation, translate_by_file};
-use crate::unused::list_unused_by_file;
+use crate::unused::list_unused_by_words;
 use crate::{Files, Input, Output};
 use brl_answers::{Answer, RunFault, Status, deliver};
 use brl_cli::{NotATask, Question, Task, Words, Work};
@@ -195,7 +195,11 @@ fn answer<F: Files, E: Write + Progress>(
         Question::Rules { table, numbers } => {
             list_rules_by_file(alloc, files, table, numbers.as_slice())
         }
-        Question::Unused { table, limit } => list_unused_by_file(alloc, files, table, limit, err),
+        Question::Unused {
+            table,
+            limit,
+            alphabet,
+        } => list_unused_by_words(alloc, files, table, limit, alphabet, err),
         Question::Cut {
             table,
             dir,
@@ -206,37 +210,37 @@ fn answer<F: Files, E: Write + Progress>(
             table,
             cert,
             accept,
-            without,
+            alphabet,
         } => {
             let paths = CheckedFiles {
                 table,
                 cert,
                 accept,
             };
-            check_by_words(alloc, files, paths, without, err)
+            check_by_words(alloc, files, paths, alphabet, err)
         }
         Question::Search {
             table,
             cert: out,
             limit,
             accept,
-            without,
+            alphabet,
         } => {
             let paths = SearchedFiles { table, out, accept };
-            search_by_words(alloc, files, paths, limit, without, err)
+            search_by_words(alloc, files, paths, limit, alphabet, err)
         }
         Question::Clashes {
             table,
             limit,
             first,
-            without,
+            alphabet,
             pairs,
         } => {
             let asked = ListedClashes {
                 table,
                 limit,
                 first,
-                without,
+                option: alphabet,
                 pairs,
             };
             list_clashes_by_words(alloc, files, asked, err)

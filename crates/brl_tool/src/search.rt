@@ -8,15 +8,18 @@ ghost use Rattle.brl_tool.specs.Excusing.{ByExcusal};
 ghost use Rattle.brl_tool.specs.Verdicts.{IsCertificateAt, IsOverwriting, IsUnexchanged, IsVerdict, Searches};
 ghost use Rattle.brl_search.specs.Scoped.{IsSearched};
 ghost use Rattle.brl_search.specs.declared.scoped.Searched.TheVariants as searched;
+ghost use Rattle.brl_without.specs.Alphabet.{alphabet_view, left_out_by};
 ghost use Rattle.brl_without.specs.Tables.{AreDefined};
 
+use crate::alphabet::alphabet_of;
 use crate::baselines::read_paths;
 use crate::certificate::{certificate_with, certified_text};
 use crate::excusing::{ButFor, excusal_by, lines_with};
 use crate::loaded_table::LoadedTable;
 use crate::notices::write_notices;
 use crate::same_file::path_of_file;
-use brl_answers::{Answer, Files, RunFault, Status, counts_text, left_out_of};
+use brl_answers::{Answer, Files, RunFault, Status, counts_text};
+use brl_cli::AlphabetOption;
 use brl_closure::AcceptFault;
 use brl_lines::{Loaded, load};
 use brl_progress::Progress;
@@ -24,7 +27,7 @@ use brl_report::report;
 use brl_rules::Table;
 use brl_search::{Found, Searched, search_table};
 use brl_states::Cert;
-use brl_without::{LeftOut, Scope, check_defined};
+use brl_without::{Alphabet, Scope};
 use std::alloc::{AllocError, Global};
 use std::io::Write;
 
@@ -37,32 +40,33 @@ pub struct SearchedFiles<'a> {
     pub accept: Option<&'a str>,
 }
 
-/// Searches the table of a file, without the characters that the option leaves out, until more than
-/// `limit` states or pairs are found, but for what another file excuses: the pairs of rules that it
-/// names are accepted, and the steps of characters of its sets may be exchanged. The answer is a
+/// Searches the table of a file, for texts of the characters of which the option says that they are
+/// made, until more than `limit` states or pairs are found, but for what another file excuses: the
+/// pairs of rules that it names are accepted, and the steps of characters of its sets may be
+/// exchanged. The answer is a
 /// certificate for the file at `out`, with its numbers; or the report of a clash, at another pair
 /// of rules; or why some steps can't be exchanged; or the numbers at which the limit was passed.
 ///
 /// The option is parsed first. `WouldOverwrite` where `out` names a file that is read, `NotDefined`
-/// where the table doesn't define a character that is left out. What is excused is read after that.
+/// where the table lacks characters of the option. What is excused is read after that.
 /// Before the search standard error gets the table's notices, and then reports of progress.
 pub fn search_by_words<F: Files, E: Write + Progress>(
     alloc: Global,
     files: &mut F,
     paths: SearchedFiles<'_>,
     limit: u32,
-    without: Option<&str>,
+    option: AlphabetOption<'_>,
     err: &mut E,
 ) -> Result<Answer, RunFault>
-    ensures searches { Searches (F.gives files.old) F.same_file paths.entry.table.now paths.entry.out.now (option_copied paths.entry.accept) limit (option_copied without.entry) result }
+    ensures searches { Searches (F.gives files.old) F.same_file paths.entry.table.now paths.entry.out.now (option_copied paths.entry.accept) limit option.entry result }
     ensures count { CountsFailure (F.faults files.old) (F.faults files.new) (load_outcome result) }
     ensures same { F.gives files.new ≡ F.gives files.old }
 {
-    let left_out = left_out_of(alloc, without)?;
+    let alphabet = alphabet_of(alloc, option)?;
     let read = load(alloc, files, paths.table)?;
     refuse_file_that_is_read(alloc, files, &read, paths.accept, paths.out)?;
     let loaded = LoadedTable::of(alloc, read)?;
-    search_loaded(alloc, files, &loaded, paths, limit, &left_out, err)
+    search_loaded(alloc, files, &loaded, paths, limit, &alphabet, err)
 }
 
 /// Refuses a file for the certificate that is one of a table's files, or that of what is excused.
@@ -83,25 +87,27 @@ fn refuse_file_that_is_read<F: Files>(
     }
 }
 
-/// Searches a table, once it defines what is left out, but for what the file at a path excuses.
+/// Searches a table, once it has the characters of an alphabet, but for what the file at a path
+/// excuses.
 fn search_loaded<F: Files, E: Write + Progress>(
     alloc: Global,
     files: &mut F,
     loaded: &LoadedTable,
     paths: SearchedFiles<'_>,
     limit: u32,
-    left_out: &LeftOut,
+    alphabet: &Alphabet,
     err: &mut E,
 ) -> Result<Answer, RunFault>
-    ensures searches { ByExcusal left_out.now (F.gives files.old) (option_copied paths.entry.accept) loaded.now.table loaded.now.files.lines
-        (λ excusal. UnlessMemory (IsVerdict left_out.now (option_copied paths.entry.accept) excusal loaded.now.table paths.entry.out.now limit)) result }
+    ensures searches { ByExcusal (alphabet_view alphabet.now) (F.gives files.old) (option_copied paths.entry.accept) loaded.now.table loaded.now.files.lines
+        (λ excusal. UnlessMemory (IsVerdict (alphabet_view alphabet.now) (option_copied paths.entry.accept) excusal loaded.now.table paths.entry.out.now limit)) result }
     ensures count { CountsFailure (F.faults files.old) (F.faults files.new) (load_outcome result) }
     ensures same { F.gives files.new ≡ F.gives files.old }
 {
-    check_defined(alloc, &loaded.table, left_out)?;
+    let left_out = alphabet.left_out(alloc, &loaded.table)?;
     let excusal = excusal_by(alloc, files, loaded, paths.accept)?;
     let but_for = ButFor {
-        left_out,
+        alphabet,
+        left_out: &left_out,
         accept: paths.accept,
         excusal: &excusal,
     };
@@ -117,8 +123,9 @@ fn verdict<E: Write + Progress>(
     limit: u32,
     err: &mut E,
 ) -> Result<Answer, AllocError>
-    requires { AreDefined table.now but_for.left_out.now }
-    ensures { IfOk result (IsVerdict but_for.entry.left_out.now (option_copied but_for.entry.accept) but_for.entry.excusal.now table.now out.now limit) }
+    requires defined { AreDefined table.now (left_out_by table.now (alphabet_view but_for.alphabet.now)) }
+    requires left_out { but_for.left_out.now ≡ left_out_by table.now (alphabet_view but_for.alphabet.now) }
+    ensures { IfOk result (IsVerdict (alphabet_view but_for.entry.alphabet.now) (option_copied but_for.entry.accept) but_for.entry.excusal.now table.now out.now limit) }
 {
     write_notices(alloc, table, err)?;
     let found = found_but_for(alloc, table, limit, but_for, err)?;
@@ -133,7 +140,8 @@ fn found_but_for<P: Progress>(
     but_for: ButFor<'_>,
     progress: &mut P,
 ) -> Result<Searched, AllocError>
-    ensures { IfOk result (IsSearched but_for.entry.left_out.now but_for.entry.excusal.now.excused table.now limit) }
+    requires { but_for.left_out.now ≡ left_out_by table.now (alphabet_view but_for.alphabet.now) }
+    ensures { IfOk result (IsSearched (left_out_by table.now (alphabet_view but_for.entry.alphabet.now)) but_for.entry.excusal.now.excused table.now limit) }
 {
     let scope = Scope {
         left_out: but_for.left_out,
@@ -151,10 +159,10 @@ fn answer_found(
     out: &str,
     found: &Searched,
 ) -> Result<Answer, AllocError>
-    requires defined { AreDefined table.now but_for.left_out.now }
-    requires found { (limit : ℕ) × IsSearched but_for.left_out.now but_for.excusal.now.excused table.now limit found.now }
-    ensures { (limit : ℕ) → IsSearched but_for.entry.left_out.now but_for.entry.excusal.now.excused table.now limit found.now →
-        IfOk result (IsVerdict but_for.entry.left_out.now (option_copied but_for.entry.accept) but_for.entry.excusal.now table.now out.now limit) }
+    requires defined { AreDefined table.now (left_out_by table.now (alphabet_view but_for.alphabet.now)) }
+    requires found { (limit : ℕ) × IsSearched (left_out_by table.now (alphabet_view but_for.alphabet.now)) but_for.excusal.now.excused table.now limit found.now }
+    ensures { (limit : ℕ) → IsSearched (left_out_by table.now (alphabet_view but_for.entry.alphabet.now)) but_for.entry.excusal.now.excused table.now limit found.now →
+        IfOk result (IsVerdict (alphabet_view but_for.entry.alphabet.now) (option_copied but_for.entry.accept) but_for.entry.excusal.now table.now out.now limit) }
 {
     match found {
         Searched::Found(found) => answer_of(alloc, table, but_for, out, found),
@@ -170,10 +178,10 @@ fn answer_of(
     out: &str,
     found: &Found,
 ) -> Result<Answer, AllocError>
-    requires defined { AreDefined table.now but_for.left_out.now }
-    requires found { (limit : ℕ) × IsSearched but_for.left_out.now but_for.excusal.now.excused table.now limit (searched.Found found.now) }
-    ensures { (limit : ℕ) → IsSearched but_for.entry.left_out.now but_for.entry.excusal.now.excused table.now limit (searched.Found found.now) →
-        IfOk result (IsVerdict but_for.entry.left_out.now (option_copied but_for.entry.accept) but_for.entry.excusal.now table.now out.now limit) }
+    requires defined { AreDefined table.now (left_out_by table.now (alphabet_view but_for.alphabet.now)) }
+    requires found { (limit : ℕ) × IsSearched (left_out_by table.now (alphabet_view but_for.alphabet.now)) but_for.excusal.now.excused table.now limit (searched.Found found.now) }
+    ensures { (limit : ℕ) → IsSearched (left_out_by table.now (alphabet_view but_for.entry.alphabet.now)) but_for.entry.excusal.now.excused table.now limit (searched.Found found.now) →
+        IfOk result (IsVerdict (alphabet_view but_for.entry.alphabet.now) (option_copied but_for.entry.accept) but_for.entry.excusal.now table.now out.now limit) }
 {
     match found {
         Found::Certified(cert) => certificate(alloc, cert, but_for, out),
@@ -201,7 +209,7 @@ fn certificate(
     but_for: ButFor<'_>,
     path: &str,
 ) -> Result<Answer, AllocError>
-    ensures { IfOk result (IsCertificateAt but_for.entry.left_out.now (option_copied but_for.entry.accept) but_for.entry.excusal.now path.now cert.now) }
+    ensures { IfOk result (IsCertificateAt (alphabet_view but_for.entry.alphabet.now) (option_copied but_for.entry.accept) but_for.entry.excusal.now path.now cert.now) }
 {
     let line = certified_text(alloc, cert)?;
     let text = lines_with(alloc, line, but_for)?;

@@ -15,6 +15,17 @@ use thiserror::Error;
 #[error("U8 UndefinedLeftOut {0}")]
 pub struct UndefinedLeftOut(pub String);
 
+/// A table doesn't define the characters of which texts are to be made.
+#[derive(Debug, Drop, Error)]
+pub enum Undefined {
+    /// A character that is left out isn't one of the table's.
+    #[error("{0}")]
+    LeftOut(UndefinedLeftOut),
+    /// None of the characters of a span, which is named as it is spelled, is one of the table's.
+    #[error("U10 UndefinedOnly {0}")]
+    Only(String),
+}
+
 /// Checks that the table defines each of the characters. The fault names the first that it doesn't
 /// define.
 pub fn check_defined(

@@ -4,6 +4,7 @@ use Rattle.brl_answers.specs.Making.{AreMade, IsThereAlready}
 use Rattle.brl_answers.specs.declared.new_files.NewFile.{NewFile}
 use Rattle.brl_answers.specs.declared.run_fault.RunFault.{RunFault}
 use Rattle.brl_answers.specs.declared.run_fault.RunFault.TheVariants.{AlreadyThere, Memory}
+use Rattle.brl_answers.proofs.MakingLemmas.{named_made}
 use Rattle.brl_answers.proofs.making.make_new_files.Goals as goal
 
 module _ (files : List NewFile) (gives : FileAnswers) where
@@ -23,3 +24,9 @@ returns-in_err-refuse_what_is_there g c =
     let gives = g.F.Source.gives c.args.files.now in
     let fault = c.in_err-refuse_what_is_there.field-0.0 in
     stopped c.args.new.items gives fault c.from_residual.result c.from_residual.ensures.1 (subst (λ (files : List NewFile). IsThereAlready gives files fault) c.as_slice.ensures.value c.in_err-refuse_what_is_there.ensures.refused)
+
+pub returns-in-Err-Fault : goal.returns-in-Err-Fault
+returns-in-Err-Fault g c =
+    let gives = g.F.Source.gives in
+    named_made c.args.new.items (gives c.args.files.now) (gives c.make_files.new.files) c.in-Err-Fault.place c.cannot_write.result (rw c.as_slice.ensures.value at c.in_ok-refuse_what_is_there.ensures.new) c.cannot_write.ensures
+    (rw (c.as_slice-2.ensures.value, c.in-Err-Fault.field-0-is) at c.in-Err-Fault.ensures.stopped).1

@@ -1,6 +1,6 @@
 use Rattle.std.proofs.Common.{◌≡◌, ℕ, List, [], fold, map, string_bytes}
 use Rattle.brl_clashes.specs.ClashesText.{AreSectionTexts}
-use Rattle.brl_clashes.specs.Kinds.{table_characters}
+use Rattle.brl_without.specs.Alphabet.{table_characters}
 use Rattle.brl_clashes.specs.Sections.{listed_after}
 use Rattle.brl_clashes.specs.Sets.{first_number}
 use Rattle.brl_lines.specs.Views.{line_view}

@@ -1,10 +1,11 @@
 use Rattle.std.proofs.Common.{◌≡◌, ◌∙◌, ◌++◌, ℕ, Bool, List, [], ap, length, map, string_bytes, subst}
-use Rattle.brl_answers.specs.Answers.{with_left_out_line}
+use Rattle.brl_answers.specs.Answers.{with_alphabet_line}
 use Rattle.std.specs.Prelude.{nat_lt}
 use Rattle.brl_clashes.specs.Accepted.{accepted_count, are_taken, outcome_beside}
 use Rattle.brl_lines.specs.Views.{line_view}
 use Rattle.brl_clashes.specs.ClashesText.{AreSectionTexts, outcome_text, sets_text, verdict_counts, verdict_pairs, verdict_text}
-use Rattle.brl_clashes.specs.Kinds.{table_characters}
+use Rattle.brl_clashes.specs.Kinds.{kept}
+use Rattle.brl_without.specs.Alphabet.{alphabet_view, left_out_by, table_characters}
 use Rattle.brl_clashes.specs.Sections.{listed_pairs, outcome_of}
 use Rattle.brl_clashes.specs.Sets.{first_number, is_plain, plain}
 use Rattle.std.specs.List.{filter}
@@ -17,12 +18,13 @@ joined sets parts verdict first second third first_is second_is third_is = third
 pub returns : goal.returns
 returns c =
     let t = c.args.table.now in
-    let left_out = c.args.shown.left_out.now in
+    let alphabet = alphabet_view c.args.shown.alphabet.now in
+    let left_out = left_out_by t alphabet in
     let first = c.args.shown.first in
     let accepted = c.args.shown.accepted in
     let taken = are_taken accepted in
     let sections = c.args.sections.items in
-    let plain_are : c.in_ok-plain.plain.items ≡ plain t left_out = c.in_ok-plain.ensures ∙ ap (filter (is_plain t)) c.in_ok-kept.ensures in
+    let plain_are : c.in_ok-plain.plain.items ≡ plain t left_out = c.in_ok-plain.ensures ∙ ap (filter (is_plain t)) (c.in_ok-kept.ensures ∙ ap (kept t) c.requires.left_out) in
     let said = outcome_beside (accepted_count accepted) (outcome_of sections) in
     let taken_is : nat_lt 0 c.accepted_count-listed.result ≡ taken = ap (nat_lt 0) c.accepted_count-listed.ensures in
     let outcome_is : c.outcome_beside-outcome.result ≡ said =
@@ -37,10 +39,10 @@ returns c =
     c.in_ok-push_str-3.ensures.bytes ∙ (λ i. outcome i ++ (c.as_str-3.ensures.value ∙ c.in_ok-accepted_lines.ensures) i) in
     let sets = c.in_ok-text.ensures ∙ ap (sets_text t) (c.as_slice-3.ensures.value ∙ plain_are) in
     let after_parts = c.in_ok-push_str.ensures.bytes ∙ ap (λ (part : List ℕ). string_bytes c.in_ok-text.text ++ part) c.as_str.ensures.value in
-    let after_verdict = c.in_ok-push_str-4.ensures.bytes ∙ ap (λ (part : List ℕ). string_bytes c.push_str.new.self ++ part) (c.as_str-4.ensures.value ∙ c.in_ok-with_left_out_line.ensures ∙ ap (with_left_out_line left_out) verdict) in
+    let after_verdict = c.in_ok-push_str-4.ensures.bytes ∙ ap (λ (part : List ℕ). string_bytes c.push_str.new.self ++ part) (c.as_str-4.ensures.value ∙ c.in_ok-with_alphabet_line.ensures ∙ ap (with_alphabet_line alphabet) verdict) in
     let firsts = c.as_slice-5.ensures.value ∙ c.in_ok-firsts.ensures ∙ ap (λ (cs : List ℕ). map (first_number t cs) (table_characters t)) (c.as_slice-4.ensures.value ∙ plain_are) in (
       string_bytes c.in_ok-parts.parts,
       subst (λ (b : Bool). AreSectionTexts t (map line_view c.args.lines.now) (plain t left_out) b first [] sections (string_bytes c.in_ok-parts.parts)) taken_is (c.in_ok-parts.ensures.text (plain t left_out) firsts),
-      joined (sets_text t (plain t left_out)) (string_bytes c.in_ok-parts.parts) (with_left_out_line left_out (verdict_text accepted sections)) (string_bytes c.in_ok-text.text) (string_bytes c.push_str.new.self)
+      joined (sets_text t (plain t left_out)) (string_bytes c.in_ok-parts.parts) (with_alphabet_line alphabet (verdict_text accepted sections)) (string_bytes c.in_ok-text.text) (string_bytes c.push_str.new.self)
           (string_bytes c.push_str-4.new.self) sets after_parts after_verdict,
     )

@@ -3,7 +3,7 @@ use Rattle.std.specs.Option.{option_map, option_map_or, unwrap_or}
 use Rattle.std.specs.Prelude.{if◌then◌else◌, nat_le}
 use Rattle.std.proofs.lemmas.Bool.Decides.{nat_tests}
 use Rattle.std.proofs.lemmas.Option.{slice_get-map, unwrap_or-slice_get}
-use Rattle.brl_clashes.specs.Kinds.{table_characters}
+use Rattle.brl_without.specs.Alphabet.{table_characters}
 use Rattle.brl_clashes.specs.Sets.{first_number}
 use Rattle.brl_clashes.proofs.representatives.representative.Goals as goal
 

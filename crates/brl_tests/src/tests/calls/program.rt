@@ -13,7 +13,7 @@ use brl_tool::{
     Counting, CreateFault, Files, Form, Lacking, SinkFault, StreamFault, run,
     translate_defined_lines, translate_lines,
 };
-use brl_without::LeftOut;
+use brl_without::{Alphabet, LeftOut};
 use std::alloc::{AllocError, Global};
 use std::test::Fail;
 
@@ -119,7 +119,9 @@ fn clashes_text(alloc: Global, table: &Table, accepts: bool) -> Result<String, A
     }
     let mut pairs = pairs_of_sections(alloc, sections.as_slice())?;
     pairs.truncate(usize::from(accepts));
+    let alphabet = Alphabet::Without(Vec::new(alloc));
     let shown = Extent {
+        alphabet: &alphabet,
         left_out: &left_out,
         first: 0,
         accepted: accepts.then_some(Taken {

@@ -288,7 +288,7 @@ t.ctb: letter a 1; noback sign x 1|brl,explain,B1 OutsideProfile sign at t.ctb:2
 |brl,explain,notice DefinedAgain a at t.ctb:2||notice DefinedAgain CHARACTER; When: a line defines a character again, which is no fault: the first line gives its cells, as in liblouis; Named: the character; What to do: Nothing, if the first line is meant. If not, take it out.||0
 |brl,explain,remark RuleAgain always ab 4 / always ab 3||remark RuleAgain RULE / RULE; When: a rule is for the characters of another, at the same places, with other dots, which is no fault: the other is used; Named: the rule, and the one that is used; What to do: Take the one out that isn't meant.||0
 |brl,explain,P1 NoSuchRules letter a 1 / letter b 1 at p:2||P1 NoSuchRules; When: the line isn't what two rules of the table say, with ` / ` between them; Named: the line; What to do: Read what `brl clashes --accept` lists: the rule may have changed. Then take the line out by `--prune`.||0
-|brl,explain,U10|||error: no fault is written as U10|2
+|brl,explain,U12|||error: no fault is written as U12|2
 |brl,explain,|||error: no fault is written as |2
 |brl,explain,refused:|||error: no fault is written as refused:|2
 |brl,explain,no clash|||error: no fault is written as no clash|2
@@ -405,6 +405,56 @@ t.ctb: letter a 1 & c: BRLCERT 9|brl,check,t.ctb,c,--without,a||refused: K1 Vers
 t.ctb: uplow Aa 1; begcapsword 6-6 & c: BRLCERT 2; end 0 0|brl,check,t.ctb,c,--without,A||refused: K9 OldVersion line 1||1
 ";
 
+/// Searches, checks and lists of texts that are made of some characters, in the same form.
+pub const ONLY: &str = "\
+t.ctb: letter a 1; letter b 12; letter x 1-12|brl,search,t.ctb,o,--only,ab||certified: 2 states, 0 pairs; only: ab||0
+t.ctb: letter a 1; letter b 12; letter x 1-12|brl,search,t.ctb,o,--only,ba||certified: 2 states, 0 pairs; only: ba||0
+t.ctb: letter a 1; letter b 12; letter x 1-12|brl,search,t.ctb,o,--only,a..w||certified: 2 states, 0 pairs; only: a..w||0
+t.ctb: letter a 1; letter b 12; letter x 1-12|brl,search,t.ctb,o,--only,a..z||left: x; right: ab; cells: 1-12; left from 0:;   x  1-12  t.ctb:3; right from 0:;   a  1   t.ctb:1;   b  12  t.ctb:2||1
+t.ctb: letter a 1; letter b 12; letter x 1-12|brl,search,t.ctb,o,--only,xab||left: x; right: ab; cells: 1-12; left from 0:;   x  1-12  t.ctb:3; right from 0:;   a  1   t.ctb:1;   b  12  t.ctb:2||1
+t.ctb: letter a 1; letter b 12; letter x 1-12|brl,search,t.ctb,o,--only,b..x||certified: 2 states, 0 pairs; only: b..x||0
+t.ctb: letter a 1; letter b 12; letter c 14; letter d 145|brl,search,t.ctb,o,--only,abc||certified: 2 states, 0 pairs; only: a..c||0
+t.ctb: letter a 1; letter b 12; letter c 14; letter d 145|brl,search,t.ctb,o,--only,abd||certified: 2 states, 0 pairs; only: abd||0
+t.ctb: letter a 1; letter b 12; letter c 14; letter d 145|brl,search,t.ctb,o,--only,a..bc..d||certified: 2 states, 0 pairs; only: a..d||0
+t.ctb: letter a 1; letter b 12; letter c 14; letter d 145|brl,search,t.ctb,o,--only,d..da||certified: 2 states, 0 pairs; only: da||0
+t.ctb: letter a 1; letter b 12; letter c 14; letter d 145; always abc 145|brl,search,t.ctb,o,--only,acd||certified: 3 states, 0 pairs; only: acd||0
+t.ctb: letter a 1; letter b 12|brl,search,t.ctb,o,--only,ab||certified: 2 states, 0 pairs; only: ab||0
+t.ctb: letter a 1; letter b 12|brl,search,t.ctb,o,--only,aa||certified: 2 states, 0 pairs; only: aa||0
+t.ctb: space \\s 0; space \\x00a0 0; letter a 1; letter b 12; letter x 1-12|brl,search,t.ctb,o,--only,a..b\\s||certified: 2 states, 0 pairs; only: ab\\s||0
+t.ctb: space \\s 0; space \\x00a0 0; letter a 1; letter b 12|brl,search,t.ctb,o,--only,\\x0020..b||certified: 2 states, 0 pairs; only: \\s..b||0
+t.ctb: space \\s 0; letter a 1; letter b 12; letter x 1-12|brl,search,t.ctb,o,--only,\\x0020..x||left: x; right: ab; cells: 1-12; left from 0:;   x  1-12  t.ctb:4; right from 0:;   a  1   t.ctb:2;   b  12  t.ctb:3||1
+t.ctb: letter a 1; letter . 3; letter c 14|brl,search,t.ctb,o,--only,c.||certified: 2 states, 0 pairs; only: c.||0
+t.ctb: letter a 1; letter . 3; letter c 14|brl,search,t.ctb,o,--only,c..||certified: 2 states, 0 pairs; only: c..||0
+t.ctb: letter a 1; letter b 12; letter x 1-12|brl,search,t.ctb,o,--limit,0,--only,ab||limit: 1 states, 0 pairs||3
+t.ctb: letter a 1|brl,search,t.ctb,o,--only,b|||U10 UndefinedOnly b|2
+t.ctb: letter a 1; letter c 14|brl,search,t.ctb,o,--only,abc|||U10 UndefinedOnly b|2
+t.ctb: letter a 1; letter c 14|brl,search,t.ctb,o,--only,a..c||certified: 2 states, 0 pairs; only: a..c||0
+t.ctb: letter a 1|brl,search,t.ctb,o,--only,ab..z|||U10 UndefinedOnly b..z|2
+t.ctb: letter a 1|brl,search,t.ctb,o,--only,z..a|||U10 UndefinedOnly z..a|2
+t.ctb: letter a 1|brl,search,t.ctb,o,--only,\\n|||U10 UndefinedOnly \\n|2
+t.ctb: letter a 19|brl,search,t.ctb,o,--only,b|||B4 BadDots 19 at t.ctb:1|2
+|brl,search,t.ctb,o,--only,a\\q|||U11 BadOnly a\\q|2
+|brl,search,t.ctb,o,--only,|||U11 BadOnly |2
+|brl,check,t.ctb,c,--only,\\x12|||U11 BadOnly \\x12|2
+|brl,unused,t.ctb,--only,\\|||U11 BadOnly \\|2
+t.ctb: letter a 1; letter b 12; letter x 1-12 & c: BRLCERT 3; state 1 0 0; state 8 0 0; end 2 0|brl,check,t.ctb,c,--only,ab||accepted: 2 states, 0 pairs; only: ab||0
+t.ctb: letter a 1; letter b 12; letter x 1-12 & c: BRLCERT 3; state 1 0 0; state 8 0 0; end 2 0|brl,check,t.ctb,c,--only,a..x||refused: A3 SplitMissing state 0 rules 0 2||1
+t.ctb: letter a 1; letter b 12; letter x 1-12 & c: BRLCERT 3; state 1 0 0; state 8 0 0; end 2 0|brl,check,t.ctb,c||refused: A3 SplitMissing state 0 rules 0 2||1
+t.ctb: letter a 1 & c: BRLCERT 9|brl,check,t.ctb,c,--only,ab|||U10 UndefinedOnly b|2
+t.ctb: letter a 1; letter b 12; letter x 1-12 & p: letter a 1 / letter x 1-12|brl,search,t.ctb,o,--accept,p,--only,z|||U10 UndefinedOnly z|2
+t.ctb: letter a 1; letter b 12; letter x 1-12|brl,clashes,t.ctb,--only,ab||small letters: 0 pairs of rules diverge, and no others; unambiguous: 2 states, 0 pairs; only: ab||0
+t.ctb: letter a 1; letter b 12; letter x 1-12|brl,clashes,t.ctb,--only,a..z||small letters: 1 pair of rules diverges, and no others;   x / ab  1-12  t.ctb:3 letter x  t.ctb:1 letter a; 1 pair of rules diverges, and no others; only: a..z||1
+t.ctb: letter a 1; punctuation . 1|brl,clashes,t.ctb,--only,a||small letters: 0 pairs of rules diverge, and no others; unambiguous: 2 states, 0 pairs; only: a||0
+t.ctb: letter a 1|brl,clashes,t.ctb,--only,b|||U10 UndefinedOnly b|2
+t.ctb: letter a 1; letter b 12; always ab 3|brl,unused,t.ctb,--only,a||0  always  ab  3  t.ctb:3; 2  letter  b  12  t.ctb:2; 2 of 3 rules are used by no text; only: a||1
+t.ctb: letter a 1; letter b 12; always ab 3; always ab 4|brl,unused,t.ctb,--only,a..b||1  always  ab  4  t.ctb:4  in its place:  t.ctb:3 always ab; 1 of 4 rules is used by no text; only: ab||1
+t.ctb: letter a 1; letter b 12; always ab 3|brl,unused,t.ctb,--without,b||0  always  ab  3  t.ctb:3; 2  letter  b  12  t.ctb:2; 2 of 3 rules are used by no text; without: b||1
+t.ctb: letter a 1; letter b 12|brl,unused,t.ctb,--only,ab||each of 2 rules is used by some text; only: ab||0
+t.ctb: letter a 1|brl,unused,t.ctb,--without,b|||U8 UndefinedLeftOut b|2
+t.ctb: letter a 1|brl,unused,t.ctb,--only,b|||U10 UndefinedOnly b|2
+t.ctb: letter a 1|brl,unused,t.ctb,--limit,1,--only,a||limit: 2 states||3
+";
+
 /// Tables for which a search finds a certificate, each with its notices.
 pub const CERTIFIED: &str = "\
 letter a 1; letter b 12; letter x 1-12; always ab 14|
@@ -444,6 +494,10 @@ brl,translate,--form,latin,t.ctb||invalid value 'latin' for '--form <FORM>'|2
 brl,translate,--help|[possible values: ascii, unicode]||0
 brl,search,--help|--without <CHARS>||0
 brl,check,--help|--without <CHARS>||0
+brl,unused,--help|--only <CHARS>||0
+brl,search,t.ctb,o,--only,a,--without,b||the argument '--only <CHARS>' cannot be used with '--without <CHARS>'|2
+brl,check,t.ctb,c,--only||a value is required for '--only <CHARS>'|2
+brl,clash,t.ctb,a,b,--only,a||unexpected argument '--only'|2
 brl,check,t.ctb,c,--without||a value is required for '--without <CHARS>'|2
 brl,clash,t.ctb,a,b,--without,a||unexpected argument '--without'|2
 brl,clash,--help|--escapes||0

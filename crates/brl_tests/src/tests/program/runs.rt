@@ -99,6 +99,7 @@ fn worked_runs(rt: HostRuntime) -> Result<(), Fail> {
         cases::EXPLANATIONS,
         cases::CLASHES,
         cases::WITHOUT,
+        cases::ONLY,
     ] {
         for_rows_of_4(alloc, rows, answer_of)?;
     }

@@ -9,6 +9,7 @@ use Rattle.brl_rules.specs.TableView.{TableView}
 use Rattle.brl_tool.specs.Baselines.{AreFilesWith, is_written, pruned_text, text_of_pairs, written_path, written_text}
 use Rattle.brl_tool.specs.declared.baselines.Baseline.{Baseline}
 use Rattle.brl_tool.specs.Diagnosing.{status_of_sections}
+use Rattle.brl_without.specs.Alphabet.{alphabet_view, left_out_by}
 use Rattle.brl_tool.proofs.clashes.answer_beside.Goals as goal
 
 -- what is written, where the text without stale lines is kept
@@ -17,10 +18,10 @@ content_is : (baseline : Option (List ℕ)) (prune : Bool) (t : TableView) (line
 content_is baseline true t lines found left kept is = is
 content_is baseline false t lines found left kept is = refl
 
-pub sections_text-requires : goal.sections_text-requires
-sections_text-requires c =
+pub sections_text-requires-clause-clashes : goal.sections_text-requires-clause-clashes
+sections_text-requires-clause-clashes c =
     let beside = subst (λ (accepted : List (ℕ × ℕ)). AreLeftOf accepted c.args.sections.items c.in_ok-left.left.items) c.as_slice.ensures.value c.in_ok-left.ensures in
-    left_are_clashes c.args.table.now c.args.wanted.left_out.now c.args.wanted.limit c.args.exempt.now.pairs.items c.args.sections.items c.in_ok-left.left.items c.requires.sections beside
+    left_are_clashes c.args.table.now (left_out_by c.args.table.now (alphabet_view c.args.wanted.alphabet.now)) c.args.wanted.limit c.args.exempt.now.pairs.items c.args.sections.items c.in_ok-left.left.items c.requires.sections beside
 
 pub returns : goal.returns
 returns c =

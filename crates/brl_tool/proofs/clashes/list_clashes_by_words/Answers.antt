@@ -8,20 +8,21 @@ use Rattle.brl_answers.specs.declared.run_fault.RunFault.TheVariants.{NotDefined
 use Rattle.brl_failure.specs.declared.failure.Failure.{Failure}
 use Rattle.brl_failure.specs.declared.failure.Failure.TheVariants as failures
 use Rattle.brl_lines.specs.Outcome.{CountsFailure}
-use Rattle.brl_without.specs.declared.undefined.UndefinedLeftOut.{UndefinedLeftOut}
+use Rattle.brl_without.specs.declared.undefined.Undefined.{Undefined}
+use Rattle.brl_without.specs.Alphabet.{alphabet_view}
 use Rattle.brl_tool.proofs.clashes.list_clashes_by_words.Goals as goal
 
--- it is known what is left out, and the files aren't loaded
+-- the option is read, and the files aren't loaded
 pub returns-in_err-read-clause-diagnoses : goal.returns-in_err-read-clause-diagnoses
 returns-in_err-read-clause-diagnoses g c =
-    inl (c.in_ok-left_out.left_out, c.in_ok-left_out.ensures.spelled, failed _ _ c.from_residual-in_err-read.ensures.1 c.in_err-read.ensures.fault)
+    inl (alphabet_view c.in_ok-alphabet.alphabet, c.in_ok-alphabet.ensures.spelled, failed _ _ c.from_residual-in_err-read.ensures.1 c.in_err-read.ensures.fault)
 
 -- the files are loaded, and one would be overwritten
 pub returns-in_err-refuse_file_that_is_read-clause-diagnoses : goal.returns-in_err-refuse_file_that_is_read-clause-diagnoses
 returns-in_err-refuse_file_that_is_read-clause-diagnoses g c =
     inl (
-      c.in_ok-left_out.left_out,
-      c.in_ok-left_out.ensures.spelled,
+      alphabet_view c.in_ok-alphabet.alphabet,
+      c.in_ok-alphabet.ensures.spelled,
       inl (
         c.in_ok-read.read,
         c.in_ok-read.ensures.lines,
@@ -33,8 +34,8 @@ returns-in_err-refuse_file_that_is_read-clause-diagnoses g c =
 pub returns-in_err-loaded-clause-diagnoses : goal.returns-in_err-loaded-clause-diagnoses
 returns-in_err-loaded-clause-diagnoses g c =
     inl (
-      c.in_ok-left_out.left_out,
-      c.in_ok-left_out.ensures.spelled,
+      alphabet_view c.in_ok-alphabet.alphabet,
+      c.in_ok-alphabet.ensures.spelled,
       inl (
         c.in_ok-read.read,
         c.in_ok-read.ensures.lines,
@@ -42,12 +43,12 @@ returns-in_err-loaded-clause-diagnoses g c =
       ),
     )
 
--- no line has one, and what is left out isn't defined
-pub returns-in_err-check_defined-clause-diagnoses : goal.returns-in_err-check_defined-clause-diagnoses
-returns-in_err-check_defined-clause-diagnoses g c =
+-- no line has one, and the table lacks characters of the alphabet
+pub returns-in_err-left_out-clause-diagnoses : goal.returns-in_err-left_out-clause-diagnoses
+returns-in_err-left_out-clause-diagnoses g c =
     inl (
-      c.in_ok-left_out.left_out,
-      c.in_ok-left_out.ensures.spelled,
+      alphabet_view c.in_ok-alphabet.alphabet,
+      c.in_ok-alphabet.ensures.spelled,
       inl (
         c.in_ok-read.read,
         c.in_ok-read.ensures.lines,
@@ -55,7 +56,7 @@ returns-in_err-check_defined-clause-diagnoses g c =
           c.in_ok-refuse_file_that_is_read.ensures.apart,
           inl (
             c.in_ok-loaded.ensures.passes,
-            failed _ _ c.from_residual-in_err-check_defined.ensures.1 (rw c.in_ok-loaded.ensures.table at c.in_err-check_defined.ensures.fault),
+            failed _ _ c.from_residual-in_err-left_out.ensures.1 (rw c.in_ok-loaded.ensures.table at c.in_err-left_out.ensures.fault),
           ),
         ),
       ),
@@ -65,8 +66,8 @@ pub returns-clause-diagnoses : goal.returns-clause-diagnoses
 returns-clause-diagnoses g c =
     let of = c.in_ok-loaded.ensures in
     inl (
-      c.in_ok-left_out.left_out,
-      c.in_ok-left_out.ensures.spelled,
+      alphabet_view c.in_ok-alphabet.alphabet,
+      c.in_ok-alphabet.ensures.spelled,
       inl (
         c.in_ok-read.read,
         c.in_ok-read.ensures.lines,
@@ -74,18 +75,18 @@ returns-clause-diagnoses g c =
           c.in_ok-refuse_file_that_is_read.ensures.apart,
           inl (
             of.passes,
-            inl (rw of.table at c.in_ok-check_defined.ensures.defined, rw (c.in_ok-read.ensures.same, of.files, of.table) at c.list_clashes.ensures.diagnoses),
+            inl (rw of.table at c.in_ok-left_out.ensures.all, rw (c.in_ok-read.ensures.same, of.files, of.table) at c.list_clashes.ensures.diagnoses),
           ),
         ),
       ),
     )
 
--- no file fails where what is left out isn't defined
-no_file : (before now : ℕ) → now ≡ before → (failure : Failure UndefinedLeftOut) → CountsFailure before now (load_outcome {T = Answer} (Err (of_failure NotDefined failure)))
+-- no file fails where the table lacks characters
+no_file : (before now : ℕ) → now ≡ before → (failure : Failure Undefined) → CountsFailure before now (load_outcome {T = Answer} (Err (of_failure NotDefined failure)))
 no_file before now stays (failures.Fault fault) = stays
 no_file before now stays failures.Memory = inl stays
 
-pub returns-in_err-check_defined-clause-count : goal.returns-in_err-check_defined-clause-count
-returns-in_err-check_defined-clause-count g c =
-    let p = err_from_is_err_and c.from_residual-in_err-check_defined.result c.from_residual-in_err-check_defined.ensures.1 in
+pub returns-in_err-left_out-clause-count : goal.returns-in_err-left_out-clause-count
+returns-in_err-left_out-clause-count g c =
+    let p = err_from_is_err_and c.from_residual-in_err-left_out.result c.from_residual-in_err-left_out.ensures.1 in
     rw (p.1 ∙ ap Err p.2) (no_file _ _ c.in_ok-read.ensures.count _)

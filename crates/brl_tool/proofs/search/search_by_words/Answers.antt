@@ -1,17 +1,18 @@
 use Rattle.std.proofs.Common.{inl}
 use Rattle.brl_answers.proofs.StepLemmas.{ended, failed}
+use Rattle.brl_without.specs.Alphabet.{alphabet_view}
 use Rattle.brl_tool.proofs.search.search_by_words.Goals as goal
 
--- it is known what is left out, and the files aren't loaded
+-- the option is read, and the files aren't loaded
 pub returns-in_err-read-clause-searches : goal.returns-in_err-read-clause-searches
-returns-in_err-read-clause-searches g c = inl (c.in_ok-left_out.left_out, c.in_ok-left_out.ensures.spelled, failed _ _ c.from_residual-in_err-read.ensures.1 c.in_err-read.ensures.fault)
+returns-in_err-read-clause-searches g c = inl (alphabet_view c.in_ok-alphabet.alphabet, c.in_ok-alphabet.ensures.spelled, failed _ _ c.from_residual-in_err-read.ensures.1 c.in_err-read.ensures.fault)
 
 -- the files are loaded, and the certificate would overwrite one that is read
 pub returns-in_err-refuse_file_that_is_read-clause-searches : goal.returns-in_err-refuse_file_that_is_read-clause-searches
 returns-in_err-refuse_file_that_is_read-clause-searches g c =
     inl (
-      c.in_ok-left_out.left_out,
-      c.in_ok-left_out.ensures.spelled,
+      alphabet_view c.in_ok-alphabet.alphabet,
+      c.in_ok-alphabet.ensures.spelled,
       inl (
         c.in_ok-read.read,
         c.in_ok-read.ensures.lines,
@@ -23,8 +24,8 @@ returns-in_err-refuse_file_that_is_read-clause-searches g c =
 pub returns-in_err-loaded-clause-searches : goal.returns-in_err-loaded-clause-searches
 returns-in_err-loaded-clause-searches g c =
     inl (
-      c.in_ok-left_out.left_out,
-      c.in_ok-left_out.ensures.spelled,
+      alphabet_view c.in_ok-alphabet.alphabet,
+      c.in_ok-alphabet.ensures.spelled,
       inl (
         c.in_ok-read.read,
         c.in_ok-read.ensures.lines,
@@ -36,8 +37,8 @@ pub returns-clause-searches : goal.returns-clause-searches
 returns-clause-searches g c =
     let of = c.in_ok-loaded.ensures in
     inl (
-      c.in_ok-left_out.left_out,
-      c.in_ok-left_out.ensures.spelled,
+      alphabet_view c.in_ok-alphabet.alphabet,
+      c.in_ok-alphabet.ensures.spelled,
       inl (
         c.in_ok-read.read,
         c.in_ok-read.ensures.lines,

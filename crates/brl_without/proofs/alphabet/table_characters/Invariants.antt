@@ -1,6 +1,6 @@
 use Rattle.std.proofs.Common.{◌≡◌, take}
-use Rattle.brl_clashes.specs.Kinds.{table_characters as characters_of}
-use Rattle.brl_clashes.proofs.kind.table_characters.Given as goal
+use Rattle.brl_without.specs.Alphabet.{table_characters as characters_of}
+use Rattle.brl_without.proofs.alphabet.table_characters.Given as goal
 
 -- the characters so far
 abbrev pub invariant-loop-number : goal.invariant-loop-number

@@ -1,8 +1,8 @@
 use Rattle.std.proofs.Common.{◌∙◌, ◌++◌, ◌∷◌, [], ap, sym, take}
 use Rattle.std.proofs.lemmas.List.{take_more}
 use Rattle.std.proofs.lemmas.Option.{get_or_from_slice_get, slice_get_within}
-use Rattle.brl_clashes.specs.Kinds.{table_characters}
-use Rattle.brl_clashes.proofs.kind.table_characters.Goals as goal
+use Rattle.brl_without.specs.Alphabet.{table_characters}
+use Rattle.brl_without.proofs.alphabet.table_characters.Goals as goal
 
 pub loop-number-preserved : goal.loop-number-preserved
 loop-number-preserved c =

@@ -1,7 +1,7 @@
 use Rattle.std.proofs.Common.{◌≡◌, take}
 use Rattle.std.specs.Prelude.{flat_map, string_bytes}
 use Rattle.brl_answers.specs.Answers.{spelled_after_blank}
-use Rattle.brl_answers.proofs.left_out.spell_one_by_one.Given as goal
+use Rattle.brl_answers.proofs.alphabet.spell_one_by_one.Given as goal
 
 -- the characters so far are spelled
 abbrev pub invariant-loop-character : goal.invariant-loop-character
